@@ -1,0 +1,16 @@
+pub mod Sameness
+pub mod Occurrence
+pub mod Search
+pub mod Listing
+pub mod Pick
+pub mod Walk
+pub mod Replaced
+pub mod Steps
+pub mod Refusal
+pub mod Stream
+pub mod Text
+pub mod Node
+pub mod Matches
+pub mod Looks
+pub mod Classes
+pub mod Sizes

@@ -1,0 +1,23 @@
+-- How many states a step looks at: a look is one use of a state's own transitions.
+use Rattle.std.specs.Prelude.{ℕ, zero, suc, true, false, ◌∷◌, [], ◌++◌, List, None, Some}
+use Rattle.ac_util.specs.declared.search.MatchKind.{MatchKind}
+use Rattle.ac_util.specs.declared.search.Anchored.{Anchored}
+use Rattle.ac_util.specs.declared.search.Anchored.TheVariants.{No, Yes}
+use Rattle.ac_util.specs.Node.{Node, is_node, failure, depth}
+
+-- the nodes from this one, of at most n bytes, along the failure targets up to the first with an own transition by b,
+-- that one counted. The start and the dead node have one by every byte
+abbrev pub looks_within : MatchKind → List (List ℕ) → ℕ → Node → ℕ → ℕ
+looks_within kind patterns n None b = 1
+looks_within kind patterns n (Some []) b = 1
+looks_within kind patterns zero (Some (x ∷ u)) b = 1
+looks_within kind patterns (suc n) (Some (x ∷ u)) b =
+    elim (is_node kind patterns (x ∷ u ++ b ∷ [])) [
+      | true ↦ 1
+      | false ↦ suc (looks_within kind patterns n (failure kind patterns (x ∷ u)) b)
+    ]
+
+-- the looks of a step by b in an automaton with failure targets; an anchored step follows none
+abbrev pub looks : MatchKind → List (List ℕ) → Anchored → Node → ℕ → ℕ
+looks kind patterns No u b = looks_within kind patterns (depth u) u b
+looks kind patterns Yes u b = 1

@@ -1,0 +1,61 @@
+-- Which searches are refused before anything is read, and with which error.
+use Rattle.std.specs.Prelude.{Bool, true, false, Option, None, Some, List, [], ◌∷◌}
+use Rattle.ac_util.specs.declared.search.MatchKind.{MatchKind}
+use Rattle.ac_util.specs.declared.search.MatchKind.TheVariants.{Standard}
+use Rattle.ac_util.specs.declared.search.StartKind.{StartKind}
+use Rattle.ac_util.specs.declared.search.StartKind.TheVariants.{Both, Unanchored, Anchored as AnchoredAlone}
+use Rattle.ac_util.specs.declared.search.Anchored.{Anchored}
+use Rattle.ac_util.specs.declared.search.Anchored.TheVariants.{No, Yes}
+use Rattle.ac_util.specs.declared.error.MatchError.{MatchError}
+use Rattle.ac_util.specs.declared.error.MatchError.TheVariants.{InvalidInputAnchored, InvalidInputUnanchored, UnsupportedOverlapping, UnsupportedStream, UnsupportedEmpty}
+
+-- the calls that differ in what they refuse; replacing and stream calls are always unanchored
+pub data Call : Type 0 where
+  Find : Call
+  Replace : Call
+  OverlappingByState : Call
+  OverlappingIterator : Call
+  Stream : Call
+
+-- the searcher lacks the start that the search begins at
+abbrev pub start_refusal : StartKind → Anchored → Option MatchError
+start_refusal Both anchored = None
+start_refusal Unanchored No = None
+start_refusal Unanchored Yes = Some InvalidInputAnchored
+start_refusal AnchoredAlone No = Some InvalidInputUnanchored
+start_refusal AnchoredAlone Yes = None
+
+-- the call wants the match kind Standard
+abbrev pub kind_refusal : MatchKind → Call → Option MatchError
+kind_refusal Standard call = None
+kind_refusal kind Find = None
+kind_refusal kind Replace = None
+kind_refusal kind OverlappingByState = Some (UnsupportedOverlapping kind)
+kind_refusal kind OverlappingIterator = Some (UnsupportedOverlapping kind)
+kind_refusal kind Stream = Some (UnsupportedStream kind)
+
+-- the overlapping iterator has no anchored form
+abbrev pub form_refusal : Call → Anchored → Option MatchError
+form_refusal OverlappingIterator Yes = Some InvalidInputAnchored
+form_refusal call anchored = None
+
+-- a stream is searched for no empty pattern
+abbrev pub empty_refusal : Call → Bool → Option MatchError
+empty_refusal Stream true = Some UnsupportedEmpty
+empty_refusal call has_empty = None
+
+-- the first refusal of the list
+abbrev pub first_refusal : List (Option MatchError) → Option MatchError
+first_refusal [] = None
+first_refusal (None ∷ later) = first_refusal later
+first_refusal (Some e ∷ later) = Some e
+
+-- why the call is refused, if it is: the tests come in this order. has_empty says whether some pattern is empty
+abbrev pub refusal : StartKind → MatchKind → Anchored → Call → Bool → Option MatchError
+refusal start kind anchored call has_empty =
+    first_refusal (
+    start_refusal start anchored
+    ∷ kind_refusal kind call
+    ∷ form_refusal call anchored
+    ∷ empty_refusal call has_empty
+    ∷ [])

@@ -1,0 +1,22 @@
+-- A haystack in which matches are exchanged for texts.
+use Rattle.std.specs.Prelude.{ℕ, Bool, not, ◌&&◌, ◌||◌, nat_le, nat_lt, List, [], ◌∷◌, ◌++◌, length, drop, filter, slice_range, slice_index, slice_index_or}
+use Rattle.ac_util.specs.Occurrence.{Occurrence}
+
+-- what stands from a place on: each gap as it is, each match exchanged for the text of its pattern
+abbrev pub replaced_from : List ℕ → List (List ℕ) → ℕ → List Occurrence → List ℕ
+replaced_from haystack texts place [] = drop place haystack
+replaced_from haystack texts place (m ∷ ms) =
+    slice_range haystack place m.start ++ slice_index_or texts m.pattern [] ++ replaced_from haystack texts m.end ms
+
+-- the whole haystack so
+abbrev pub replaced : List ℕ → List (List ℕ) → List Occurrence → List ℕ
+replaced haystack texts ms = replaced_from haystack texts 0 ms
+
+-- whether a character of the text begins at this place, or the text ends there: `IsCharBoundary` as a test
+abbrev pub is_char_boundary : List ℕ → ℕ → Bool
+is_char_boundary text i =
+    nat_le i (length text) && (nat_le (length text) i || nat_lt (slice_index text i) 128 || nat_le 192 (slice_index text i))
+
+-- those of the matches of a walk that cut no character; the walk isn't taken again
+abbrev pub whole_characters : List ℕ → List Occurrence → List Occurrence
+whole_characters text ms = filter (λ m. is_char_boundary text m.start && is_char_boundary text m.end) ms

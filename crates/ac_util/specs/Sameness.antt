@@ -1,0 +1,23 @@
+-- When two strings of bytes count as the same: exactly, or without regard to the case of ASCII letters.
+use Rattle.std.specs.Prelude.{◌≡◌, ℕ, Bool, ◌==◌, List, map, bytes_eq, if◌then◌else◌}
+use Rattle.std.specs.Char.{to_ascii_lowercase}
+
+-- the byte, or the small letter where case is ignored and the byte is a capital one
+abbrev pub plain_byte : Bool → ℕ → ℕ
+plain_byte fold b = if fold then to_ascii_lowercase b else b
+
+-- each byte so
+abbrev pub plain : Bool → List ℕ → List ℕ
+plain fold bytes = map (plain_byte fold) bytes
+
+-- two bytes are the same: they are equal, or one letter in its two cases where case is ignored
+abbrev pub same_byte : Bool → ℕ → ℕ → Bool
+same_byte fold a b = plain_byte fold a == plain_byte fold b
+
+-- two strings are the same: they have one length, and are the same byte by byte
+abbrev pub IsSame : Bool → List ℕ → List ℕ → Type 0
+IsSame fold s t = plain fold s ≡ plain fold t
+
+-- the same as a test
+abbrev pub same_string : Bool → List ℕ → List ℕ → Bool
+same_string fold s t = bytes_eq (plain fold s) (plain fold t)

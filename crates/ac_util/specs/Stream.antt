@@ -1,0 +1,33 @@
+-- A stream of bytes: what is searched of it, and how many of its bytes may be kept back for a match to come.
+use Rattle.std.specs.Prelude.{ℕ, ◌-◌, Bool, List, [], ◌∷◌, length, fold, min, max}
+use Rattle.ac_util.specs.declared.search.MatchKind.{MatchKind}
+use Rattle.ac_util.specs.declared.search.Anchored.TheVariants.{No}
+use Rattle.ac_util.specs.Occurrence.{Occurrence}
+use Rattle.ac_util.specs.Search.{Search}
+use Rattle.ac_util.specs.Walk.{walk}
+
+-- the search over all bytes that the reader has given: places count from 0 over the whole stream
+abbrev pub stream_search : List (List ℕ) → Bool → List ℕ → Search
+stream_search patterns fold bytes = record {
+  patterns = patterns;
+  fold = fold;
+  haystack = bytes;
+  anchored = No;
+  low = 0;
+  high = length bytes;
+}
+
+-- the length of the longest pattern, 0 without patterns
+abbrev pub longest_len : List (List ℕ) → ℕ
+longest_len [] = 0
+longest_len (p ∷ ps) = max (length p) (longest_len ps)
+
+-- where the last of the matches ends, 0 without matches
+abbrev pub last_end : List Occurrence → ℕ
+last_end ms = fold (λ _ m. m.end) 0 ms
+
+-- how many of the bytes read so far may be kept back before the next read: fewer than the longest pattern has, and none
+-- of a match
+abbrev pub held : MatchKind → List (List ℕ) → Bool → List ℕ → ℕ
+held kind patterns fold bytes =
+    min (max 1 (longest_len patterns) - 1) (length bytes - last_end (walk kind (stream_search patterns fold bytes)))

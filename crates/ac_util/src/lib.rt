@@ -1,0 +1,6 @@
+//! The words that all layers share: what a search is asked, what it answers, and why it is refused.
+#![tactic(auto)]
+
+pub mod error;
+pub mod primitives;
+pub mod search;

@@ -1,0 +1,97 @@
+//! The numbers of patterns and states.
+//!
+//! They stop well below what 32 bits hold, so that sums of two of them never wrap.
+ghost use Rattle.std.specs.Prelude.{◌≡◌, ◌<◌, ◌≤◌, IfOk, IfErr};
+
+use std::marker::{Model, PhantomData};
+
+/// The greatest number that a pattern or a state may have.
+pub const GREATEST: usize = 2147483646;
+
+/// A number above `SmallIndex::MAX` was handed in.
+#[derive(Clone, Copy, PartialEq, Eq, Debug)]
+pub struct TooLarge {
+    /// The number that was handed in.
+    pub attempted: usize,
+}
+
+/// The kind of a plain `SmallIndex`.
+#[derive(Clone, Copy, PartialEq, Eq, PartialOrd, Ord, Hash, Default, Debug)]
+pub struct Plain;
+
+/// The kind of a `PatternID`.
+#[derive(Clone, Copy, PartialEq, Eq, PartialOrd, Ord, Hash, Default, Debug)]
+pub struct OfPattern;
+
+/// The kind of a `StateID`.
+#[derive(Clone, Copy, PartialEq, Eq, PartialOrd, Ord, Hash, Default, Debug)]
+pub struct OfState;
+
+/// A number up to and with `MAX`, seen by contracts as that number.
+///
+/// Its kind keeps the number of a pattern from being taken for that of a state.
+#[derive(Clone, Copy, PartialEq, Eq, PartialOrd, Ord, Hash, Default, Debug)]
+pub struct SmallIndex<K = Plain> {
+    number: u32,
+    kind: PhantomData<K>,
+}
+
+/// The number of a pattern: its place in the list that a searcher was built from, from 0.
+pub type PatternID = SmallIndex<OfPattern>;
+
+/// The number of a state of an automaton. Which state has which number is each engine's own matter.
+pub type StateID = SmallIndex<OfState>;
+
+impl<K> Model for SmallIndex<K> {
+    ghost use Rattle.std.specs.Prelude.{ℕ, ◌≤◌};
+    ghost use Rattle.ac_util.specs.declared.primitives.TheConstants.{GREATEST};
+
+    ghost Value = { ℕ };
+
+    ghost view = { λ i. i.number };
+
+    ghost invariant = { λ i. i.number ≤ GREATEST };
+
+    ghost inverse = { λ n. record { number = n; kind = record {} } };
+}
+
+impl<K> SmallIndex<K> {
+    /// The greatest number.
+    pub const MAX: usize = GREATEST;
+
+    /// How many numbers there are.
+    pub const LIMIT: usize = GREATEST + 1;
+
+    /// Returns the number as an index.
+    ///
+    /// # Errors
+    /// `TooLarge` exactly where the number is above `MAX`.
+    pub fn new(number: usize) -> Result<SmallIndex<K>, TooLarge>
+        ensures ok { IfOk result (λ index. (index ≡ number) × (number ≤ GREATEST)) }
+        ensures err { IfErr result (λ e. (e.attempted ≡ number) × (GREATEST < number)) }
+    {
+        if number > GREATEST {
+            return Err(TooLarge { attempted: number });
+        }
+        Ok(SmallIndex::must(number))
+    }
+
+    /// Returns the number as an index, for a caller that knows that it is small enough.
+    pub fn must(number: usize) -> SmallIndex<K>
+        requires small { number ≤ GREATEST }
+        ensures value { result ≡ number }
+    {
+        SmallIndex {
+            number: number as u32,
+            kind: PhantomData,
+        }
+    }
+
+    /// Returns the number.
+    pub fn as_usize(self) -> usize
+        ensures value { result ≡ self }
+        ensures small { result ≤ GREATEST }
+    {
+        self.number as usize
+    }
+}

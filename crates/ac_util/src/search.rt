@@ -1,0 +1,177 @@
+//! What a search is asked, and what it answers.
+ghost use Rattle.std.specs.Prelude.{◌≡◌, ◌+◌, ◌-◌, ◌≤◌, ◌↔◌, IsTrue};
+ghost use Rattle.ac_util.specs.Occurrence.{occurrence};
+
+use crate::primitives::{GREATEST, PatternID};
+use std::marker::Model;
+use std::ops::Range;
+
+/// Which of the occurrences in a span a search answers.
+#[derive(Clone, Copy, PartialEq, Eq, Default, Debug)]
+pub enum MatchKind {
+    /// The one that ends first; of these the one that starts first, then the least pattern number.
+    #[default]
+    Standard,
+    /// The one that starts first; of these the least pattern number.
+    LeftmostFirst,
+    /// The one that starts first; of these the longest, then the least pattern number.
+    LeftmostLongest,
+}
+
+/// Which searches a searcher can serve.
+#[derive(Clone, Copy, PartialEq, Eq, Default, Debug)]
+pub enum StartKind {
+    /// Unanchored and anchored searches.
+    Both,
+    /// Unanchored searches alone.
+    #[default]
+    Unanchored,
+    /// Anchored searches alone.
+    Anchored,
+}
+
+/// Whether a match must start where the span of the search starts.
+#[derive(Clone, Copy, PartialEq, Eq, Debug)]
+pub enum Anchored {
+    /// A match may start anywhere in the span.
+    No,
+    /// A match starts where the span starts.
+    Yes,
+}
+
+/// A part of a haystack: the bytes from `start` up to, and without, `end`.
+#[derive(Clone, Copy, PartialEq, Eq, Hash, Debug)]
+pub struct Span {
+    /// The place of the first byte, from 0.
+    pub start: usize,
+    /// One past the place of the last byte.
+    pub end: usize,
+}
+
+impl Span {
+    /// Returns the span as a range, for indexing.
+    pub fn range(&self) -> Range<usize>
+        ensures start { result.start ≡ self.now.start }
+        ensures end { result.end ≡ self.now.end }
+    {
+        self.start..self.end
+    }
+
+    /// Returns whether the span has no bytes.
+    pub fn is_empty(&self) -> bool
+        ensures { IsTrue result ↔ (self.now.end ≤ self.now.start) }
+    {
+        self.start >= self.end
+    }
+
+    /// Returns how many bytes the span has.
+    pub fn len(&self) -> usize
+        ensures { result ≡ self.now.end - self.now.start }
+    {
+        self.end.saturating_sub(self.start)
+    }
+}
+
+/// A pattern, and where it stands in the haystack.
+///
+/// Contracts see it as an `Occurrence`: the pattern's number, the start and the end.
+#[derive(Clone, Copy, PartialEq, Eq, Hash, Debug)]
+pub struct Match {
+    pattern: PatternID,
+    span: Span,
+}
+
+impl Model for Match {
+    ghost use Rattle.std.specs.Prelude.{◌≤◌};
+    ghost use Rattle.ac_util.specs.Occurrence.{Occurrence, occurrence};
+
+    ghost Value = { Occurrence };
+
+    ghost view = { λ m. occurrence m.pattern m.span.start m.span.end };
+
+    ghost invariant = { λ m. m.span.start ≤ m.span.end };
+
+    ghost inverse = { λ o. record { pattern = o.pattern; span = record { start = o.start; end = o.end } } };
+}
+
+impl Match {
+    /// Returns the match of a pattern at a span.
+    pub fn new(pattern: PatternID, span: Span) -> Match
+        requires ordered { span.start ≤ span.end }
+        ensures value { result ≡ occurrence pattern span.start span.end }
+    {
+        Match { pattern, span }
+    }
+
+    /// Returns the match of a pattern, told by its number, at a range of places.
+    pub fn must(pattern: usize, range: Range<usize>) -> Match
+        requires small { pattern ≤ GREATEST }
+        requires ordered { range.start ≤ range.end }
+        ensures value { result ≡ occurrence pattern range.start range.end }
+    {
+        let span = Span {
+            start: range.start,
+            end: range.end,
+        };
+        Match::new(PatternID::must(pattern), span)
+    }
+
+    /// Returns the number of the pattern.
+    pub fn pattern(&self) -> PatternID
+        ensures { result ≡ self.now.pattern }
+    {
+        self.pattern
+    }
+
+    /// Returns the place of the first byte.
+    pub fn start(&self) -> usize
+        ensures { result ≡ self.now.start }
+    {
+        self.span.start
+    }
+
+    /// Returns one past the place of the last byte.
+    pub fn end(&self) -> usize
+        ensures { result ≡ self.now.end }
+    {
+        self.span.end
+    }
+
+    /// Returns where the match stands, as a range for indexing.
+    pub fn range(&self) -> Range<usize>
+        ensures start { result.start ≡ self.now.start }
+        ensures end { result.end ≡ self.now.end }
+    {
+        self.span.range()
+    }
+
+    /// Returns where the match stands.
+    pub fn span(&self) -> Span
+        ensures { result ≡ record { start = self.now.start; end = self.now.end } }
+    {
+        self.span
+    }
+
+    /// Returns how many bytes the match has, which is the length of its pattern.
+    pub fn len(&self) -> usize
+        ensures { self.now.start + result ≡ self.now.end }
+    {
+        self.span.len()
+    }
+
+    /// Returns whether the match has no bytes, as that of an empty pattern.
+    pub fn is_empty(&self) -> bool
+        ensures { IsTrue result ↔ (self.now.start ≡ self.now.end) }
+    {
+        self.span.is_empty()
+    }
+}
+
+impl Anchored {
+    /// Returns whether matches must start where the span starts.
+    pub fn is_anchored(&self) -> bool
+        ensures { IsTrue result ↔ (self.now ≡ Anchored.Yes) }
+    {
+        matches!(self, Anchored::Yes)
+    }
+}
