@@ -1,0 +1,5 @@
+pub mod Lists
+pub mod Listing
+pub mod Picks
+pub mod Walks
+pub mod Beginning
