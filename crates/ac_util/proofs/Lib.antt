@@ -3,3 +3,13 @@ pub mod Listing
 pub mod Picks
 pub mod Walks
 pub mod Beginning
+pub mod Fronts
+pub mod Participants
+pub mod Reached
+pub mod Failures
+pub mod Found
+pub mod Standing
+pub mod Advance
+pub mod Spans
+pub mod OneLonger
+pub mod ListingLonger

@@ -153,3 +153,13 @@ pub filter-none : {X : Type 0} (p : X → Bool) (xs : List X) → ((x : X) → I
 filter-none p [] h = refl
 filter-none p (x ∷ xs) h =
     cond-false (p x) (x ∷ filter p xs) (filter p xs) (h x (inl refl)) ∙ filter-none p xs (λ y i. h y (inr i))
+
+-- a list that has no element is empty
+pub nil-from_none : {X : Type 0} (xs : List X) → ((x : X) → IsIn x xs → ⊥) → xs ≡ []
+nil-from_none [] none = refl
+nil-from_none (x ∷ xs) none = absurd (none x (inl refl))
+
+-- an empty list has no element
+pub none-from_nil : {X : Type 0} (x : X) (xs : List X) → xs ≡ [] → IsIn x xs → ⊥
+none-from_nil x [] e h = h
+none-from_nil x (y ∷ ys) e h = absurd (cc)

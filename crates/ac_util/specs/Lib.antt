@@ -8,9 +8,9 @@ pub mod Replaced
 pub mod Steps
 pub mod Refusal
 pub mod Stream
-pub mod Text
 pub mod Node
 pub mod Matches
 pub mod Looks
+pub mod Text
 pub mod Classes
 pub mod Sizes

@@ -1,5 +1,5 @@
 -- Which searches are refused before anything is read, and with which error.
-use Rattle.std.specs.Prelude.{Bool, true, false, Option, None, Some, List, [], ◌∷◌}
+use Rattle.std.specs.Prelude.{Bool, true, Option, None, Some, List, [], ◌∷◌}
 use Rattle.ac_util.specs.declared.search.MatchKind.{MatchKind}
 use Rattle.ac_util.specs.declared.search.MatchKind.TheVariants.{Standard}
 use Rattle.ac_util.specs.declared.search.StartKind.{StartKind}

@@ -1,5 +1,5 @@
 -- A haystack in which matches are exchanged for texts.
-use Rattle.std.specs.Prelude.{ℕ, Bool, not, ◌&&◌, ◌||◌, nat_le, nat_lt, List, [], ◌∷◌, ◌++◌, length, drop, filter, slice_range, slice_index, slice_index_or}
+use Rattle.std.specs.Prelude.{ℕ, Bool, ◌&&◌, ◌||◌, nat_le, nat_lt, List, [], ◌∷◌, ◌++◌, length, drop, filter, slice_range, slice_index, slice_index_or}
 use Rattle.ac_util.specs.Occurrence.{Occurrence}
 
 -- what stands from a place on: each gap as it is, each match exchanged for the text of its pattern

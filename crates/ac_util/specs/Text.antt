@@ -1,7 +1,11 @@
 -- What an automaton sees of a search: plain patterns, and the plain bytes of the span.
-use Rattle.std.specs.Prelude.{ℕ, ◌+◌, List, map, slice_range}
+use Rattle.std.specs.Prelude.{ℕ, ◌+◌, ◌-◌, List, length, map, slice_range}
+use Rattle.ac_util.specs.declared.search.MatchKind.{MatchKind}
+use Rattle.ac_util.specs.Occurrence.{Occurrence, occurrence}
 use Rattle.ac_util.specs.Sameness.{plain}
-use Rattle.ac_util.specs.Search.{Search}
+use Rattle.ac_util.specs.Search.{Search, pattern_of}
+use Rattle.ac_util.specs.Node.{reached}
+use Rattle.ac_util.specs.Matches.{matches}
 
 -- the patterns as plain strings
 abbrev pub plain_patterns : Search → List (List ℕ)
@@ -14,3 +18,12 @@ text q = plain q.fold (slice_range q.haystack q.low q.high)
 -- the same search in a span that ends one place later
 abbrev pub one_longer : Search → Search
 one_longer q = record q { high = q.high + 1 }
+
+-- the matches of the node that an automaton of this kind has reached at the end of the span
+abbrev pub found_at_end : MatchKind → Search → List ℕ
+found_at_end kind q =
+    matches kind (plain_patterns q) q.anchored (reached kind (plain_patterns q) q.anchored (text q))
+
+-- the place of a pattern that ends where the span does
+abbrev pub ending : Search → ℕ → Occurrence
+ending q number = occurrence number (q.high - length (pattern_of q.patterns number)) q.high

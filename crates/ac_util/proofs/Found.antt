@@ -1,0 +1,100 @@
+-- The matches of the node reached are those of all that was read, and those of a node are its own and its failure target's.
+use Rattle.std.proofs.Common.{◌≡◌, ℕ, suc, Bool, true, false, ◌&&◌, cond, List, [], ◌∷◌, ◌++◌, drop, refl, ap, sym, ◌∙◌, Option, Some, None}
+use Rattle.std.specs.Prelude.{flat_map, option_map}
+use Rattle.std.proofs.lemmas.Bool.{cond-false, cond-true}
+use Rattle.std.proofs.lemmas.List.{append-nil}
+use Rattle.ac_util.specs.declared.search.MatchKind.{MatchKind}
+use Rattle.ac_util.specs.declared.search.Anchored.{Anchored}
+use Rattle.ac_util.specs.declared.search.Anchored.TheVariants.{No, Yes}
+use Rattle.ac_util.specs.Node.{Node, is_leftmost, is_node, suffixes, open_suffixes, begins_with_pattern, least_start, reached, failure}
+use Rattle.ac_util.specs.Matches.{equal_to, matches}
+use Rattle.ac_util.proofs.Participants.{equal_to-none, equal_to-none_begins}
+use Rattle.ac_util.proofs.Reached.{stops, starting_by-cons, open_suffixes-nil, reached-nil, reached-cons}
+use Rattle.ac_util.proofs.Failures.{failure-cons}
+
+flat_map-cond : (f : List ℕ → List ℕ) (t : Bool) (y : List ℕ) (ws : List (List ℕ))
+    → flat_map f (cond t (y ∷ []) (y ∷ ws)) ≡ f y ++ cond t [] (flat_map f ws)
+flat_map-cond f true y ws = refl
+flat_map-cond f false y ws = refl
+
+module _ (kind : MatchKind) (patterns : List (List ℕ)) where
+  abbrev own : List ℕ → List ℕ
+  own u = equal_to kind patterns u
+
+  abbrev found : Node → List ℕ
+  found v = matches kind patterns No v
+
+  -- the matches of a string, by recursion on it
+  pub matches-nil : found (Some []) ≡ own []
+  matches-nil = ap (flat_map own) (open_suffixes-nil kind patterns) ∙ append-nil (own [])
+
+  pub matches-cons : (x : ℕ) (u : List ℕ) → found (Some (x ∷ u)) ≡ own (x ∷ u) ++ cond (stops kind patterns (x ∷ u)) [] (found (Some u))
+  matches-cons x u =
+      ap (flat_map own) (starting_by-cons kind patterns x u (x ∷ u) (suffixes u))
+      ∙ flat_map-cond own (stops kind patterns (x ∷ u)) (x ∷ u) (open_suffixes kind patterns u)
+
+  found_by : (x : ℕ) (w : List ℕ) (t s : Bool) → is_node kind patterns (x ∷ w) ≡ t → stops kind patterns (x ∷ w) ≡ s
+      → found (reached kind patterns No w) ≡ found (Some w)
+      → found (cond t (Some (x ∷ w)) (cond s None (reached kind patterns No w))) ≡ found (Some (x ∷ w))
+  found_by x w true s node stop later = refl
+  found_by x w false true node stop later =
+      sym (matches-cons x w
+      ∙ ap (λ (ns : List ℕ). ns ++ cond (stops kind patterns (x ∷ w)) [] (found (Some w))) (equal_to-none kind patterns (x ∷ w) node)
+      ∙ cond-true (stops kind patterns (x ∷ w)) [] (found (Some w)) stop)
+  found_by x w false false node stop later =
+      later ∙ sym (matches-cons x w
+      ∙ ap (λ (ns : List ℕ). ns ++ cond (stops kind patterns (x ∷ w)) [] (found (Some w))) (equal_to-none kind patterns (x ∷ w) node)
+      ∙ cond-false (stops kind patterns (x ∷ w)) [] (found (Some w)) stop)
+
+  found_free : (w : List ℕ) → found (reached kind patterns No w) ≡ found (Some w)
+  found_free [] = ap found (reached-nil kind patterns No)
+  found_free (x ∷ w) =
+      ap found (reached-cons kind patterns x w)
+      ∙ found_by x w (is_node kind patterns (x ∷ w)) (stops kind patterns (x ∷ w)) refl refl (found_free w)
+
+  found_held : (w : List ℕ) (t : Bool) → is_node kind patterns w ≡ t → matches kind patterns Yes (cond t (Some w) None) ≡ own w
+  found_held w true node = refl
+  found_held w false node = sym (equal_to-none kind patterns w node)
+
+  -- the matches of the node reached are those of all that was read
+  pub matches-reached : (anchored : Anchored) (w : List ℕ) → matches kind patterns anchored (reached kind patterns anchored w) ≡ matches kind patterns anchored (Some w)
+  matches-reached No w = found_free w
+  matches-reached Yes w = found_held w (is_node kind patterns w) refl
+
+  found_after : (u : List ℕ) (s : Bool) → cond s [] (found (Some u)) ≡ found (cond s None (reached kind patterns No u))
+  found_after u true = refl
+  found_after u false = sym (found_free u)
+
+  -- those of a node are its own and then those of its failure target
+  pub matches-failure : (x : ℕ) (u : List ℕ) → found (Some (x ∷ u)) ≡ own (x ∷ u) ++ found (failure kind patterns (x ∷ u))
+  matches-failure x u =
+      matches-cons x u
+      ∙ ap (λ (ns : List ℕ). own (x ∷ u) ++ ns) (found_after u (stops kind patterns (x ∷ u)) ∙ ap found (sym (failure-cons kind patterns x u)))
+
+  -- what stands at the least start of an occurrence
+  abbrev pub own_from : List ℕ → Option ℕ → List ℕ
+  own_from u None = []
+  own_from u (Some c) = own (drop c u)
+
+  own_from-suc : (x : ℕ) (u : List ℕ) (r : Option ℕ) → own_from (x ∷ u) (option_map suc r) ≡ own_from u r
+  own_from-suc x u None = refl
+  own_from-suc x u (Some c) = refl
+
+  first_of_nil : (t : Bool) → begins_with_pattern patterns [] ≡ t → own [] ≡ own_from [] (cond t (Some 0) None)
+  first_of_nil true begins = refl
+  first_of_nil false begins = equal_to-none_begins kind patterns [] begins
+
+  first_of_cons : (x : ℕ) (u : List ℕ) (t : Bool) → begins_with_pattern patterns (x ∷ u) ≡ t → found (Some u) ≡ own_from u (least_start patterns u)
+      → own (x ∷ u) ++ cond t [] (found (Some u)) ≡ own_from (x ∷ u) (cond t (Some 0) (option_map suc (least_start patterns u)))
+  first_of_cons x u true begins later = append-nil (own (x ∷ u))
+  first_of_cons x u false begins later =
+      ap (λ (ns : List ℕ). ns ++ found (Some u)) (equal_to-none_begins kind patterns (x ∷ u) begins)
+      ∙ later ∙ sym (own_from-suc x u (least_start patterns u))
+
+  -- under a leftmost kind the matches of a string are those of its patterns that start at its first occurrence
+  pub matches-leftmost : is_leftmost kind ≡ true → (u : List ℕ) → found (Some u) ≡ own_from u (least_start patterns u)
+  matches-leftmost leftmost [] = matches-nil ∙ first_of_nil (begins_with_pattern patterns []) refl
+  matches-leftmost leftmost (x ∷ u) =
+      matches-cons x u
+      ∙ ap (λ (l : Bool). own (x ∷ u) ++ cond (l && begins_with_pattern patterns (x ∷ u)) [] (found (Some u))) leftmost
+      ∙ first_of_cons x u (begins_with_pattern patterns (x ∷ u)) refl (matches-leftmost leftmost u)
