@@ -7,7 +7,7 @@ use Rattle.ac_util.specs.declared.search.MatchKind.{MatchKind}
 use Rattle.ac_util.specs.declared.search.Anchored.{Anchored}
 use Rattle.ac_util.specs.declared.search.Anchored.TheVariants.{No, Yes}
 use Rattle.ac_util.specs.Node.{Node, is_leftmost, is_node, suffixes, open_suffixes, begins_with_pattern, least_start, reached, failure}
-use Rattle.ac_util.specs.Matches.{equal_to, matches}
+use Rattle.ac_util.specs.Matches.{equal_to, matches, matches_at}
 use Rattle.ac_util.proofs.Participants.{equal_to-none, equal_to-none_begins}
 use Rattle.ac_util.proofs.Reached.{stops, starting_by-cons, open_suffixes-nil, reached-nil, reached-cons}
 use Rattle.ac_util.proofs.Failures.{failure-cons}
@@ -71,28 +71,23 @@ module _ (kind : MatchKind) (patterns : List (List ℕ)) where
       matches-cons x u
       ∙ ap (λ (ns : List ℕ). own (x ∷ u) ++ ns) (found_after u (stops kind patterns (x ∷ u)) ∙ ap found (sym (failure-cons kind patterns x u)))
 
-  -- what stands at the least start of an occurrence
-  abbrev pub own_from : List ℕ → Option ℕ → List ℕ
-  own_from u None = []
-  own_from u (Some c) = own (drop c u)
+  matches_at-suc : (x : ℕ) (u : List ℕ) (r : Option ℕ) → matches_at kind patterns (x ∷ u) (option_map suc r) ≡ matches_at kind patterns u r
+  matches_at-suc x u None = refl
+  matches_at-suc x u (Some c) = refl
 
-  own_from-suc : (x : ℕ) (u : List ℕ) (r : Option ℕ) → own_from (x ∷ u) (option_map suc r) ≡ own_from u r
-  own_from-suc x u None = refl
-  own_from-suc x u (Some c) = refl
-
-  first_of_nil : (t : Bool) → begins_with_pattern patterns [] ≡ t → own [] ≡ own_from [] (cond t (Some 0) None)
+  first_of_nil : (t : Bool) → begins_with_pattern patterns [] ≡ t → own [] ≡ matches_at kind patterns [] (cond t (Some 0) None)
   first_of_nil true begins = refl
   first_of_nil false begins = equal_to-none_begins kind patterns [] begins
 
-  first_of_cons : (x : ℕ) (u : List ℕ) (t : Bool) → begins_with_pattern patterns (x ∷ u) ≡ t → found (Some u) ≡ own_from u (least_start patterns u)
-      → own (x ∷ u) ++ cond t [] (found (Some u)) ≡ own_from (x ∷ u) (cond t (Some 0) (option_map suc (least_start patterns u)))
+  first_of_cons : (x : ℕ) (u : List ℕ) (t : Bool) → begins_with_pattern patterns (x ∷ u) ≡ t → found (Some u) ≡ matches_at kind patterns u (least_start patterns u)
+      → own (x ∷ u) ++ cond t [] (found (Some u)) ≡ matches_at kind patterns (x ∷ u) (cond t (Some 0) (option_map suc (least_start patterns u)))
   first_of_cons x u true begins later = append-nil (own (x ∷ u))
   first_of_cons x u false begins later =
       ap (λ (ns : List ℕ). ns ++ found (Some u)) (equal_to-none_begins kind patterns (x ∷ u) begins)
-      ∙ later ∙ sym (own_from-suc x u (least_start patterns u))
+      ∙ later ∙ sym (matches_at-suc x u (least_start patterns u))
 
   -- under a leftmost kind the matches of a string are those of its patterns that start at its first occurrence
-  pub matches-leftmost : is_leftmost kind ≡ true → (u : List ℕ) → found (Some u) ≡ own_from u (least_start patterns u)
+  pub matches-leftmost : is_leftmost kind ≡ true → (u : List ℕ) → found (Some u) ≡ matches_at kind patterns u (least_start patterns u)
   matches-leftmost leftmost [] = matches-nil ∙ first_of_nil (begins_with_pattern patterns []) refl
   matches-leftmost leftmost (x ∷ u) =
       matches-cons x u

@@ -13,3 +13,5 @@ pub mod Advance
 pub mod Spans
 pub mod OneLonger
 pub mod ListingLonger
+pub mod SamenessLemmas
+pub mod Characters

@@ -5,17 +5,17 @@ use Rattle.ac_util.specs.declared.search.MatchKind.{MatchKind}
 use Rattle.ac_util.specs.declared.search.MatchKind.TheVariants.{Standard}
 use Rattle.ac_util.specs.Occurrence.{Occurrence}
 use Rattle.ac_util.specs.Sameness.{plain, plain_byte}
-use Rattle.ac_util.specs.Search.{Search}
+use Rattle.ac_util.specs.Search.{Search, outward}
 use Rattle.ac_util.specs.Pick.{IsFirst, order_of, pick}
 use Rattle.ac_util.specs.Node.{Node, is_leftmost, reached, step}
 use Rattle.ac_util.specs.Matches.{matches}
-use Rattle.ac_util.specs.Text.{plain_patterns, text, one_longer, found_at_end, ending}
+use Rattle.ac_util.specs.Text.{plain_patterns, text, one_longer, longer_by, found_at_end, ending}
 use Rattle.ac_util.proofs.Picks.{same_occurrence}
 use Rattle.ac_util.proofs.Reached.{step-reached}
 use Rattle.ac_util.proofs.Found.{matches-reached}
 use Rattle.ac_util.proofs.Standing.{Stands, place_of, IsPickIn, first-at_one_end}
 use Rattle.ac_util.proofs.Advance.{IsHead, head, pick-stays, pick-becomes, first-becomes, start-stays, start-becomes}
-use Rattle.ac_util.proofs.Spans.{inward, outward, pattern_length, text_length, text_longer, pick-from_text, pick-in_text, pick-out_again}
+use Rattle.ac_util.proofs.Spans.{inward, pattern_length, text_length, text_longer, pick-from_text, pick-in_text, pick-out_again}
 
 -- a head of the text, told from the haystack's front, ends where the span does
 ending-head : (kind : MatchKind) (q : Search) (i k : ℕ) → q.low ≤ q.high → q.high ≤ length q.haystack
@@ -136,10 +136,6 @@ module _ (kind : MatchKind) (q : Search) (empty : q.low ≡ q.high) (inside : q.
       (subst (λ (w : List ℕ). IsPickIn (order_of kind earliest) (plain_patterns q) q.anchored w (Some (place_of (plain_patterns q) i h.0))) (sym (text-empty q empty))
       (start-becomes kind (plain_patterns q) (order_of kind earliest) q.anchored i h.0 h.1 (same_order earliest))))
       ∙ ap (λ (o : Occurrence). Some o) (ending-head kind q i h.0 (omega arith) inside there)
-
--- the same search in a span that ends n places later
-abbrev pub longer_by : Search → ℕ → Search
-longer_by q n = record q { high = q.high + n }
 
 -- what an automaton that has reached the dead node has picked is picked from any longer span
 module _ (kind : MatchKind) (q : Search) (order : q.low ≤ q.high) (dead : reached kind (plain_patterns q) q.anchored (text q) ≡ None) where

@@ -7,7 +7,7 @@ use Rattle.ac_util.specs.declared.search.MatchKind.{MatchKind}
 use Rattle.ac_util.specs.declared.search.MatchKind.TheVariants.{Standard, LeftmostFirst, LeftmostLongest}
 use Rattle.ac_util.specs.Occurrence.{Occurrence, occurrence}
 use Rattle.ac_util.specs.Sameness.{plain_byte, plain}
-use Rattle.ac_util.specs.Search.{Search, Occurs, pattern_of}
+use Rattle.ac_util.specs.Search.{Search, Occurs, pattern_of, cut, outward}
 use Rattle.ac_util.specs.Pick.{IsPick, IsFirst, pick}
 use Rattle.ac_util.specs.Text.{plain_patterns, text, one_longer}
 use Rattle.ac_util.proofs.Picks.{pick-IsPick, pick-from_IsPick, same_occurrence}
@@ -29,12 +29,16 @@ get_or-map f [] k d = refl
 get_or-map f (x ∷ xs) zero d = refl
 get_or-map f (x ∷ xs) (suc k) d = get_or-map f xs k d
 
--- an occurrence told from the span's low end, and one told from the haystack's front
+-- a part of the haystack that lies in a span is a part of the haystack cut there
+slice_range-cut : (h : List ℕ) (low high s e : ℕ) → s ≤ e → low + e ≤ high → slice_range (slice_range h low high) s e ≡ slice_range h (low + s) (low + e)
+slice_range-cut h low high s e ordered within =
+    take_drop_take (e - s) s (high - low) (drop low h) (omega arith)
+    ∙ ap (take (e - s)) (drop-drop s low h)
+    ∙ ap (λ (n : ℕ). take n (drop (low + s) h)) (omega arith)
+
+-- an occurrence told from the span's low end
 abbrev pub inward : ℕ → Occurrence → Occurrence
 inward low o = occurrence o.pattern (o.start - low) (o.end - low)
-
-abbrev pub outward : ℕ → Occurrence → Occurrence
-outward low o = occurrence o.pattern (low + o.start) (low + o.end)
 
 -- the order of preference doesn't depend on where places are told from
 pub first-outward : (kind : MatchKind) (low : ℕ) (a b : Occurrence) → IsFirst kind a b → IsFirst kind (outward low a) (outward low b)
@@ -62,6 +66,43 @@ first-from_outward LeftmostLongest low a b f = record {
   ends = (λ s. let g = f.ends (omega arith) in omega arith);
   patterns = (λ s e. f.patterns (omega arith) (omega arith));
 }
+
+-- what occurs in the haystack cut to the span occurs in the span, and the other way round
+pub Occurs-from_cut : (q : Search) (m : Occurrence) → q.low ≤ q.high → Occurs (cut q) m → Occurs q (outward q.low m)
+Occurs-from_cut q m order o =
+    let a = o.as_long in let c = o.to_high in
+    record {
+      numbered = o.numbered;
+      from_low = omega arith;
+      as_long = omega arith;
+      to_high = omega arith;
+      reads = o.reads ∙ ap (plain q.fold) (slice_range-cut q.haystack q.low q.high m.start m.end (omega arith) (omega arith));
+      at_low = (λ e. let z = o.at_low e in omega arith);
+    }
+
+pub Occurs-to_cut : (q : Search) (m : Occurrence) → q.low ≤ q.high → Occurs q (outward q.low m) → Occurs (cut q) m
+Occurs-to_cut q m order o =
+    let a = o.as_long in let c = o.to_high in
+    record {
+      numbered = o.numbered;
+      from_low = omega arith;
+      as_long = omega arith;
+      to_high = omega arith;
+      reads = o.reads ∙ sym (ap (plain q.fold) (slice_range-cut q.haystack q.low q.high m.start m.end (omega arith) (omega arith)));
+      at_low = (λ e. let z = o.at_low e in omega arith);
+    }
+
+-- where the span begins past its end nothing occurs
+pub nothing-past_end : (q : Search) (m : Occurrence) → q.high < q.low → ¬ Occurs q m
+nothing-past_end q m past = λ o. let a = o.as_long in let b = o.from_low in let c = o.to_high in absurd (omega arith)
+
+-- in a span without bytes only empty patterns do
+pub only_empty-in_empty : (q : Search) (m : Occurrence) → q.low ≡ q.high → Occurs q m → pattern_of q.patterns m.pattern ≡ []
+only_empty-in_empty q m empty o = length-zero (pattern_of q.patterns m.pattern) (let a = o.as_long in let b = o.from_low in let c = o.to_high in omega arith)
+  where
+    length-zero : (w : List ℕ) → length w ≡ 0 → w ≡ []
+    length-zero [] e = refl
+    length-zero (x ∷ w) e = absurd (omega arith)
 
 module _ (q : Search) (order : q.low ≤ q.high) (inside : q.high ≤ length q.haystack) where
   pattern_plain : (n : ℕ) → pattern_of (plain_patterns q) n ≡ plain q.fold (pattern_of q.patterns n)

@@ -1,5 +1,5 @@
 -- The patterns that an automaton finds at a node.
-use Rattle.std.specs.Prelude.{ℕ, List, [], None, Some, filter, flat_map, bytes_eq}
+use Rattle.std.specs.Prelude.{ℕ, List, [], Option, None, Some, drop, filter, flat_map, bytes_eq}
 use Rattle.ac_util.specs.declared.search.MatchKind.{MatchKind}
 use Rattle.ac_util.specs.declared.search.Anchored.{Anchored}
 use Rattle.ac_util.specs.declared.search.Anchored.TheVariants.{No, Yes}
@@ -16,3 +16,8 @@ abbrev pub matches : MatchKind → List (List ℕ) → Anchored → Node → Lis
 matches kind patterns anchored None = []
 matches kind patterns No (Some u) = flat_map (equal_to kind patterns) (open_suffixes kind patterns u)
 matches kind patterns Yes (Some u) = equal_to kind patterns u
+
+-- the patterns that take part, start at a place of the string and end with it
+abbrev pub matches_at : MatchKind → List (List ℕ) → List ℕ → Option ℕ → List ℕ
+matches_at kind patterns u None = []
+matches_at kind patterns u (Some place) = equal_to kind patterns (drop place u)

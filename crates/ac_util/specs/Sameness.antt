@@ -1,5 +1,5 @@
 -- When two strings of bytes count as the same: exactly, or without regard to the case of ASCII letters.
-use Rattle.std.specs.Prelude.{◌≡◌, ℕ, Bool, ◌==◌, List, map, bytes_eq, if◌then◌else◌}
+use Rattle.std.specs.Prelude.{◌≡◌, ℕ, ◌+◌, ◌≤◌, ◌⊎◌, Bool, ◌==◌, List, map, bytes_eq, if◌then◌else◌}
 use Rattle.std.specs.Char.{to_ascii_lowercase}
 
 -- the byte, or the small letter where case is ignored and the byte is a capital one
@@ -13,6 +13,16 @@ plain fold bytes = map (plain_byte fold) bytes
 -- two bytes are the same: they are equal, or one letter in its two cases where case is ignored
 abbrev pub same_byte : Bool → ℕ → ℕ → Bool
 same_byte fold a b = plain_byte fold a == plain_byte fold b
+
+-- a is an ASCII capital letter, and b is its small one
+pub record IsCapitalOf (a b : ℕ) : Type 0 where
+  pub from_A : 65 ≤ a
+  pub to_Z : a ≤ 90
+  pub small : b ≡ a + 32
+
+-- a and b are one ASCII letter in its two cases
+abbrev pub AreOneLetter : ℕ → ℕ → Type 0
+AreOneLetter a b = IsCapitalOf a b ⊎ IsCapitalOf b a
 
 -- two strings are the same: they have one length, and are the same byte by byte
 abbrev pub IsSame : Bool → List ℕ → List ℕ → Type 0

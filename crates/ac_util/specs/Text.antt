@@ -19,6 +19,10 @@ text q = plain q.fold (slice_range q.haystack q.low q.high)
 abbrev pub one_longer : Search → Search
 one_longer q = record q { high = q.high + 1 }
 
+-- the same search in a span that ends n places later
+abbrev pub longer_by : Search → ℕ → Search
+longer_by q n = record q { high = q.high + n }
+
 -- the matches of the node that an automaton of this kind has reached at the end of the span
 abbrev pub found_at_end : MatchKind → Search → List ℕ
 found_at_end kind q =

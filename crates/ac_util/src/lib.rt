@@ -2,5 +2,6 @@
 #![tactic(auto)]
 
 pub mod error;
+pub mod laws;
 pub mod primitives;
 pub mod search;
