@@ -15,3 +15,6 @@ pub mod OneLonger
 pub mod ListingLonger
 pub mod SamenessLemmas
 pub mod Characters
+mod SearchRows
+mod TextRows
+mod NodeRows

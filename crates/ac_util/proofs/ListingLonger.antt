@@ -16,7 +16,7 @@ use Rattle.ac_util.proofs.Fronts.{starts_with-itself}
 use Rattle.ac_util.proofs.Participants.{IsIn-equal_to, IsIn-from_equal_to, equal_to-ordered}
 use Rattle.ac_util.proofs.Found.{matches-nil, matches-cons}
 use Rattle.ac_util.proofs.Standing.{Stands, place_of, Fronts-equal, Stands-behind, Stands-from_behind, Stands-from_Fronts}
-use Rattle.ac_util.proofs.Spans.{ pattern_length, text_length, Stands-from_Occurs, Occurs-from_Stands}
+use Rattle.ac_util.proofs.Spans.{pattern_length, text_length, Stands-from_Occurs, Occurs-from_Stands}
 use Rattle.ac_util.proofs.OneLonger.{found-text}
 use Rattle.std.specs.Prelude.{nat_eq}
 use Rattle.std.specs.List.{starts_with}

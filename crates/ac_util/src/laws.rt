@@ -20,203 +20,139 @@ ghost use Rattle.ac_util.specs.Walk.{IsAfter, next_match, walk, walk_after};
 pub fn sameness_is_by_letter()
     ensures bytes { (a b : ℕ) → (same_byte false a b ≡ true) ↔ (a ≡ b) }
     ensures letters { (a b : ℕ) → (same_byte true a b ≡ true) ↔ ((a ≡ b) ⊎ AreOneLetter a b) }
-    ensures strings {
-        (fold : Bool) (s t : List ℕ) → IsSame fold s t ↔ ((length s ≡ length t)
-        × ((k : ℕ) → k < length s → same_byte fold (slice_index s k) (slice_index t k) ≡ true))
-    }
-{
-}
+    ensures strings { (fold : Bool) (s t : List ℕ) → IsSame fold s t ↔ ((length s ≡ length t)
+        × ((k : ℕ) → k < length s → same_byte fold (slice_index s k) (slice_index t k) ≡ true)) }
+{}
 
 /// The tests of the definitions decide the facts of the same names.
 pub fn tests_decide()
     ensures strings { (fold : Bool) (s t : List ℕ) → (same_string fold s t ≡ true) ↔ IsSame fold s t }
     ensures occurrences { (q : Search) (m : Occurrence) → (occurs q m ≡ true) ↔ Occurs q m }
     ensures boundaries { (text : List ℕ) (i : ℕ) → (is_char_boundary text i ≡ true) ↔ IsCharBoundary text i }
-{
-}
+{}
 
 /// The listing has exactly the occurrences, in strict order and so each once.
 pub fn listing_is_exact()
     ensures exact { (q : Search) (m : Occurrence) → Contains (all q) m ↔ Occurs q m }
     ensures in_order { (q : Search) → AllPairs IsBefore (all q) }
-{
-}
+{}
 
 /// Bytes outside the span never count: what occurs in it is what occurs in the haystack cut to it.
 pub fn only_the_span_counts()
     ensures cut { (q : Search) (m : Occurrence) → q.low ≤ q.high → Occurs (cut q) m ↔ Occurs q (outward q.low m) }
-    ensures empty {
-        (q : Search) (m : Occurrence) → q.low ≡ q.high → Occurs q m → pattern_of q.patterns m.pattern ≡ []
-    }
+    ensures empty { (q : Search) (m : Occurrence) → q.low ≡ q.high → Occurs q m → pattern_of q.patterns m.pattern ≡ [] }
     ensures past_end { (q : Search) (m : Occurrence) → q.high < q.low → ¬ Occurs q m }
-{
-}
+{}
 
 /// The pick is the one answer that its relation allows; under Standard it is the first of the listing.
 pub fn pick_comes_first()
     ensures first { (kind : MatchKind) (q : Search) → IsPick kind q (pick kind q) }
     ensures only { (kind : MatchKind) (q : Search) (r : Option Occurrence) → IsPick kind q r → r ≡ pick kind q }
     ensures standard { (q : Search) → pick MatchKind.Standard q ≡ slice_get (all q) 0 }
-{
-}
+{}
 
 /// `earliest` changes nothing under Standard, and gives what Standard picks under every kind.
 pub fn earliest_is_standard()
     ensures standard { (earliest : Bool) → order_of MatchKind.Standard earliest ≡ MatchKind.Standard }
     ensures others { (kind : MatchKind) → order_of kind true ≡ MatchKind.Standard }
     ensures unasked { (kind : MatchKind) → order_of kind false ≡ kind }
-{
-}
+{}
 
 /// The walk ends where there is no next match; else it is that match, and then the walk from its end on.
 pub fn walk_goes_on()
-    ensures ends {
-        (kind : MatchKind) (q : Search) (last : Option ℕ) → next_match kind q last ≡ None → walk_after kind q last ≡ []
-    }
-    ensures goes_on {
-        (kind : MatchKind) (q : Search) (last : Option ℕ) (m : Occurrence) → next_match kind q last ≡ Some m
-        → walk_after kind q last ≡ m ∷ walk_after kind (from q m.end) (Some m.end)
-    }
-{
-}
+    ensures ends { (kind : MatchKind) (q : Search) (last : Option ℕ) → next_match kind q last ≡ None → walk_after kind q last ≡ [] }
+    ensures goes_on { (kind : MatchKind) (q : Search) (last : Option ℕ) (m : Occurrence) → next_match kind q last ≡ Some m
+        → walk_after kind q last ≡ m ∷ walk_after kind (from q m.end) (Some m.end) }
+{}
 
 /// The matches of a walk are in order and never overlap, and their ends rise: no empty one ends where the one before it did.
 pub fn walk_is_in_order()
     ensures { (kind : MatchKind) (q : Search) → AllPairs IsAfter (walk kind q) }
-{
-}
+{}
 
 /// Under Standard the walk over a beginning of the span is those matches of the whole walk that end within it.
 pub fn walk_has_beginnings()
-    ensures {
-        (q : Search) (end : ℕ) → end ≤ q.high
-        → walk MatchKind.Standard (record q { high = end }) ≡ filter (λ m. nat_le m.end end) (walk MatchKind.Standard q)
-    }
-{
-}
+    ensures { (q : Search) (end : ℕ) → end ≤ q.high
+        → walk MatchKind.Standard (record q { high = end }) ≡ filter (λ m. nat_le m.end end) (walk MatchKind.Standard q) }
+{}
 
 /// A step leads from the node that an automaton has reached to the one that it reaches with one more byte.
 pub fn steps_follow()
-    ensures begins {
-        (kind : MatchKind) (patterns : List (List ℕ)) (anchored : Anchored) → reached kind patterns anchored [] ≡ Some []
-    }
-    ensures follows {
-        (kind : MatchKind) (patterns : List (List ℕ)) (anchored : Anchored) (w : List ℕ) (b : ℕ)
-        → step kind patterns anchored (reached kind patterns anchored w) b ≡ reached kind patterns anchored (w ++ b ∷ [])
-    }
-{
-}
+    ensures begins { (kind : MatchKind) (patterns : List (List ℕ)) (anchored : Anchored) → reached kind patterns anchored [] ≡ Some [] }
+    ensures follows { (kind : MatchKind) (patterns : List (List ℕ)) (anchored : Anchored) (w : List ℕ) (b : ℕ)
+        → step kind patterns anchored (reached kind patterns anchored w) b ≡ reached kind patterns anchored (w ++ b ∷ []) }
+{}
 
 /// An unanchored step goes by the node's own transition, or else as the step from its failure target.
 pub fn failures_step_alike()
-    ensures own {
-        (kind : MatchKind) (patterns : List (List ℕ)) (x : ℕ) (u : List ℕ) (b : ℕ)
+    ensures own { (kind : MatchKind) (patterns : List (List ℕ)) (x : ℕ) (u : List ℕ) (b : ℕ)
         → is_node kind patterns (x ∷ u ++ b ∷ []) ≡ true
-        → step kind patterns Anchored.No (Some (x ∷ u)) b ≡ Some (x ∷ u ++ b ∷ [])
-    }
-    ensures failed {
-        (kind : MatchKind) (patterns : List (List ℕ)) (x : ℕ) (u : List ℕ) (b : ℕ)
+        → step kind patterns Anchored.No (Some (x ∷ u)) b ≡ Some (x ∷ u ++ b ∷ []) }
+    ensures failed { (kind : MatchKind) (patterns : List (List ℕ)) (x : ℕ) (u : List ℕ) (b : ℕ)
         → is_node kind patterns (x ∷ u ++ b ∷ []) ≡ false
         → step kind patterns Anchored.No (Some (x ∷ u)) b
-        ≡ step kind patterns Anchored.No (failure kind patterns (x ∷ u)) b
-    }
-{
-}
+        ≡ step kind patterns Anchored.No (failure kind patterns (x ∷ u)) b }
+{}
 
 /// The looks of a step are paid by the length of the node: they and the new node's length are at most the old one's and two.
 pub fn looks_are_paid()
-    ensures {
-        (kind : MatchKind) (patterns : List (List ℕ)) (anchored : Anchored) (u : Node) (b : ℕ)
-        → looks kind patterns anchored u b + depth (step kind patterns anchored u b) ≤ depth u + 2
-    }
-{
-}
+    ensures { (kind : MatchKind) (patterns : List (List ℕ)) (anchored : Anchored) (u : Node) (b : ℕ)
+        → looks kind patterns anchored u b + depth (step kind patterns anchored u b) ≤ depth u + 2 }
+{}
 
 /// The matches of the node reached are those of all that was read. Those of a node are the patterns that equal it and then
 /// those of its failure target. Under a leftmost kind they start at the least start of any occurrence.
 pub fn matches_follow()
-    ensures reached {
-        (kind : MatchKind) (patterns : List (List ℕ)) (anchored : Anchored) (w : List ℕ)
-        → matches kind patterns anchored (reached kind patterns anchored w) ≡ matches kind patterns anchored (Some w)
-    }
-    ensures inherited {
-        (kind : MatchKind) (patterns : List (List ℕ)) (x : ℕ) (u : List ℕ)
+    ensures reached { (kind : MatchKind) (patterns : List (List ℕ)) (anchored : Anchored) (w : List ℕ)
+        → matches kind patterns anchored (reached kind patterns anchored w) ≡ matches kind patterns anchored (Some w) }
+    ensures inherited { (kind : MatchKind) (patterns : List (List ℕ)) (x : ℕ) (u : List ℕ)
         → matches kind patterns Anchored.No (Some (x ∷ u))
-        ≡ equal_to kind patterns (x ∷ u) ++ matches kind patterns Anchored.No (failure kind patterns (x ∷ u))
-    }
-    ensures leftmost {
-        (kind : MatchKind) (patterns : List (List ℕ)) (u : List ℕ) → is_leftmost kind ≡ true
-        → matches kind patterns Anchored.No (Some u) ≡ matches_at kind patterns u (least_start patterns u)
-    }
-{
-}
+        ≡ equal_to kind patterns (x ∷ u) ++ matches kind patterns Anchored.No (failure kind patterns (x ∷ u)) }
+    ensures leftmost { (kind : MatchKind) (patterns : List (List ℕ)) (u : List ℕ) → is_leftmost kind ≡ true
+        → matches kind patterns Anchored.No (Some u) ≡ matches_at kind patterns u (least_start patterns u) }
+{}
 
 /// With one more byte the pick stays where the node reached has no match; under a leftmost kind it is else the first of its
 /// matches.
 pub fn pick_follows()
-    ensures stays {
-        (kind : MatchKind) (q : Search) → q.low ≤ q.high → q.high < length q.haystack
-        → found_at_end kind (one_longer q) ≡ [] → pick kind (one_longer q) ≡ pick kind q
-    }
-    ensures becomes {
-        (kind : MatchKind) (q : Search) → q.low ≤ q.high → q.high < length q.haystack → is_leftmost kind ≡ true
+    ensures stays { (kind : MatchKind) (q : Search) → q.low ≤ q.high → q.high < length q.haystack
+        → found_at_end kind (one_longer q) ≡ [] → pick kind (one_longer q) ≡ pick kind q }
+    ensures becomes { (kind : MatchKind) (q : Search) → q.low ≤ q.high → q.high < length q.haystack → is_leftmost kind ≡ true
         → (i : ℕ) (rest : List ℕ) → found_at_end kind (one_longer q) ≡ i ∷ rest
-        → pick kind (one_longer q) ≡ Some (ending (one_longer q) i)
-    }
-{
-}
+        → pick kind (one_longer q) ≡ Some (ending (one_longer q) i) }
+{}
 
 /// As long as nothing was picked, an automaton of any kind finds with one more byte what Standard picks.
 pub fn first_pick_follows()
-    ensures stays {
-        (kind : MatchKind) (q : Search) → q.low ≤ q.high → q.high < length q.haystack → pick MatchKind.Standard q ≡ None
-        → found_at_end kind (one_longer q) ≡ [] → pick MatchKind.Standard (one_longer q) ≡ None
-    }
-    ensures becomes {
-        (kind : MatchKind) (q : Search) → q.low ≤ q.high → q.high < length q.haystack → pick MatchKind.Standard q ≡ None
+    ensures stays { (kind : MatchKind) (q : Search) → q.low ≤ q.high → q.high < length q.haystack → pick MatchKind.Standard q ≡ None
+        → found_at_end kind (one_longer q) ≡ [] → pick MatchKind.Standard (one_longer q) ≡ None }
+    ensures becomes { (kind : MatchKind) (q : Search) → q.low ≤ q.high → q.high < length q.haystack → pick MatchKind.Standard q ≡ None
         → (i : ℕ) (rest : List ℕ) → found_at_end kind (one_longer q) ≡ i ∷ rest
-        → pick MatchKind.Standard (one_longer q) ≡ Some (ending (one_longer q) i)
-    }
-{
-}
+        → pick MatchKind.Standard (one_longer q) ≡ Some (ending (one_longer q) i) }
+{}
 
 /// In a span without bytes the pick is the first match of the start, if it has one.
 pub fn pick_begins()
-    ensures none {
-        (kind order : MatchKind) (q : Search) → q.low ≡ q.high → q.high ≤ length q.haystack
-        → found_at_end kind q ≡ [] → pick order q ≡ None
-    }
-    ensures some {
-        (kind : MatchKind) (earliest : Bool) (q : Search) → q.low ≡ q.high → q.high ≤ length q.haystack
+    ensures none { (kind order : MatchKind) (q : Search) → q.low ≡ q.high → q.high ≤ length q.haystack
+        → found_at_end kind q ≡ [] → pick order q ≡ None }
+    ensures some { (kind : MatchKind) (earliest : Bool) (q : Search) → q.low ≡ q.high → q.high ≤ length q.haystack
         → (i : ℕ) (rest : List ℕ) → found_at_end kind q ≡ i ∷ rest
-        → pick (order_of kind earliest) q ≡ Some (ending q i)
-    }
-{
-}
+        → pick (order_of kind earliest) q ≡ Some (ending q i) }
+{}
 
 /// Once the dead node is reached, more bytes change no pick.
 pub fn dead_is_the_end()
-    ensures pick {
-        (kind : MatchKind) (q : Search) (n : ℕ) → q.low ≤ q.high → q.high + n ≤ length q.haystack
-        → reached kind (plain_patterns q) q.anchored (text q) ≡ None → pick kind (longer_by q n) ≡ pick kind q
-    }
-    ensures first_pick {
-        (kind : MatchKind) (q : Search) (n : ℕ) → q.low ≤ q.high → q.high + n ≤ length q.haystack
+    ensures pick { (kind : MatchKind) (q : Search) (n : ℕ) → q.low ≤ q.high → q.high + n ≤ length q.haystack
+        → reached kind (plain_patterns q) q.anchored (text q) ≡ None → pick kind (longer_by q n) ≡ pick kind q }
+    ensures first_pick { (kind : MatchKind) (q : Search) (n : ℕ) → q.low ≤ q.high → q.high + n ≤ length q.haystack
         → reached kind (plain_patterns q) q.anchored (text q) ≡ None → pick MatchKind.Standard q ≡ None
-        → pick MatchKind.Standard (longer_by q n) ≡ None
-    }
-{
-}
+        → pick MatchKind.Standard (longer_by q n) ≡ None }
+{}
 
 /// With one more byte the listing goes on with the matches of the node reached; it begins with those of the start.
 pub fn listing_follows()
-    ensures begins {
-        (q : Search) → q.low ≡ q.high → q.high ≤ length q.haystack
-        → all q ≡ map (ending q) (found_at_end MatchKind.Standard q)
-    }
-    ensures follows {
-        (q : Search) → q.low ≤ q.high → q.high < length q.haystack
-        → all (one_longer q) ≡ all q ++ map (ending (one_longer q)) (found_at_end MatchKind.Standard (one_longer q))
-    }
-{
-}
+    ensures begins { (q : Search) → q.low ≡ q.high → q.high ≤ length q.haystack
+        → all q ≡ map (ending q) (found_at_end MatchKind.Standard q) }
+    ensures follows { (q : Search) → q.low ≤ q.high → q.high < length q.haystack
+        → all (one_longer q) ≡ all q ++ map (ending (one_longer q)) (found_at_end MatchKind.Standard (one_longer q)) }
+{}
