@@ -12,5 +12,8 @@ pub mod Node
 pub mod Matches
 pub mod Looks
 pub mod Text
+pub mod Input
+pub mod Inputs
+pub mod Counts
 pub mod Classes
 pub mod Sizes

@@ -26,9 +26,11 @@ pub fn sameness_is_by_letter()
 
 /// The tests of the definitions decide the facts of the same names.
 pub fn tests_decide()
-    ensures strings { (fold : Bool) (s t : List ℕ) → (same_string fold s t ≡ true) ↔ IsSame fold s t }
+    ensures strings { (fold : Bool) (s t : List ℕ)
+        → (same_string fold s t ≡ true) ↔ IsSame fold s t }
     ensures occurrences { (q : Search) (m : Occurrence) → (occurs q m ≡ true) ↔ Occurs q m }
-    ensures boundaries { (text : List ℕ) (i : ℕ) → (is_char_boundary text i ≡ true) ↔ IsCharBoundary text i }
+    ensures boundaries { (text : List ℕ) (i : ℕ)
+        → (is_char_boundary text i ≡ true) ↔ IsCharBoundary text i }
 {}
 
 /// The listing has exactly the occurrences, in strict order and so each once.
@@ -39,29 +41,35 @@ pub fn listing_is_exact()
 
 /// Bytes outside the span never count: what occurs in it is what occurs in the haystack cut to it.
 pub fn only_the_span_counts()
-    ensures cut { (q : Search) (m : Occurrence) → q.low ≤ q.high → Occurs (cut q) m ↔ Occurs q (outward q.low m) }
-    ensures empty { (q : Search) (m : Occurrence) → q.low ≡ q.high → Occurs q m → pattern_of q.patterns m.pattern ≡ [] }
+    ensures cut { (q : Search) (m : Occurrence) → q.low ≤ q.high
+        → Occurs (cut q) m ↔ Occurs q (outward q.low m) }
+    ensures empty { (q : Search) (m : Occurrence) → q.low ≡ q.high → Occurs q m
+        → pattern_of q.patterns m.pattern ≡ [] }
     ensures past_end { (q : Search) (m : Occurrence) → q.high < q.low → ¬ Occurs q m }
 {}
 
 /// The pick is the one answer that its relation allows; under Standard it is the first of the listing.
 pub fn pick_comes_first()
     ensures first { (kind : MatchKind) (q : Search) → IsPick kind q (pick kind q) }
-    ensures only { (kind : MatchKind) (q : Search) (r : Option Occurrence) → IsPick kind q r → r ≡ pick kind q }
+    ensures only { (kind : MatchKind) (q : Search) (r : Option Occurrence) → IsPick kind q r
+        → r ≡ pick kind q }
     ensures standard { (q : Search) → pick MatchKind.Standard q ≡ slice_get (all q) 0 }
 {}
 
 /// `earliest` changes nothing under Standard, and gives what Standard picks under every kind.
 pub fn earliest_is_standard()
-    ensures standard { (earliest : Bool) → order_of MatchKind.Standard earliest ≡ MatchKind.Standard }
+    ensures standard { (earliest : Bool)
+        → order_of MatchKind.Standard earliest ≡ MatchKind.Standard }
     ensures others { (kind : MatchKind) → order_of kind true ≡ MatchKind.Standard }
     ensures unasked { (kind : MatchKind) → order_of kind false ≡ kind }
 {}
 
 /// The walk ends where there is no next match; else it is that match, and then the walk from its end on.
 pub fn walk_goes_on()
-    ensures ends { (kind : MatchKind) (q : Search) (last : Option ℕ) → next_match kind q last ≡ None → walk_after kind q last ≡ [] }
-    ensures goes_on { (kind : MatchKind) (q : Search) (last : Option ℕ) (m : Occurrence) → next_match kind q last ≡ Some m
+    ensures ends { (kind : MatchKind) (q : Search) (last : Option ℕ)
+        → next_match kind q last ≡ None → walk_after kind q last ≡ [] }
+    ensures goes_on { (kind : MatchKind) (q : Search) (last : Option ℕ) (m : Occurrence)
+        → next_match kind q last ≡ Some m
         → walk_after kind q last ≡ m ∷ walk_after kind (from q m.end) (Some m.end) }
 {}
 
@@ -73,14 +81,17 @@ pub fn walk_is_in_order()
 /// Under Standard the walk over a beginning of the span is those matches of the whole walk that end within it.
 pub fn walk_has_beginnings()
     ensures { (q : Search) (end : ℕ) → end ≤ q.high
-        → walk MatchKind.Standard (record q { high = end }) ≡ filter (λ m. nat_le m.end end) (walk MatchKind.Standard q) }
+        → walk MatchKind.Standard (record q { high = end })
+        ≡ filter (λ m. nat_le m.end end) (walk MatchKind.Standard q) }
 {}
 
 /// A step leads from the node that an automaton has reached to the one that it reaches with one more byte.
 pub fn steps_follow()
-    ensures begins { (kind : MatchKind) (patterns : List (List ℕ)) (anchored : Anchored) → reached kind patterns anchored [] ≡ Some [] }
+    ensures begins { (kind : MatchKind) (patterns : List (List ℕ)) (anchored : Anchored)
+        → reached kind patterns anchored [] ≡ Some [] }
     ensures follows { (kind : MatchKind) (patterns : List (List ℕ)) (anchored : Anchored) (w : List ℕ) (b : ℕ)
-        → step kind patterns anchored (reached kind patterns anchored w) b ≡ reached kind patterns anchored (w ++ b ∷ []) }
+        → step kind patterns anchored (reached kind patterns anchored w) b
+        ≡ reached kind patterns anchored (w ++ b ∷ []) }
 {}
 
 /// An unanchored step goes by the node's own transition, or else as the step from its failure target.
@@ -104,12 +115,16 @@ pub fn looks_are_paid()
 /// those of its failure target. Under a leftmost kind they start at the least start of any occurrence.
 pub fn matches_follow()
     ensures reached { (kind : MatchKind) (patterns : List (List ℕ)) (anchored : Anchored) (w : List ℕ)
-        → matches kind patterns anchored (reached kind patterns anchored w) ≡ matches kind patterns anchored (Some w) }
+        → matches kind patterns anchored (reached kind patterns anchored w)
+        ≡ matches kind patterns anchored (Some w) }
     ensures inherited { (kind : MatchKind) (patterns : List (List ℕ)) (x : ℕ) (u : List ℕ)
         → matches kind patterns Anchored.No (Some (x ∷ u))
-        ≡ equal_to kind patterns (x ∷ u) ++ matches kind patterns Anchored.No (failure kind patterns (x ∷ u)) }
-    ensures leftmost { (kind : MatchKind) (patterns : List (List ℕ)) (u : List ℕ) → is_leftmost kind ≡ true
-        → matches kind patterns Anchored.No (Some u) ≡ matches_at kind patterns u (least_start patterns u) }
+        ≡ equal_to kind patterns (x ∷ u)
+        ++ matches kind patterns Anchored.No (failure kind patterns (x ∷ u)) }
+    ensures leftmost { (kind : MatchKind) (patterns : List (List ℕ)) (u : List ℕ)
+        → is_leftmost kind ≡ true
+        → matches kind patterns Anchored.No (Some u)
+        ≡ matches_at kind patterns u (least_start patterns u) }
 {}
 
 /// With one more byte the pick stays where the node reached has no match; under a leftmost kind it is else the first of its
@@ -117,35 +132,44 @@ pub fn matches_follow()
 pub fn pick_follows()
     ensures stays { (kind : MatchKind) (q : Search) → q.low ≤ q.high → q.high < length q.haystack
         → found_at_end kind (one_longer q) ≡ [] → pick kind (one_longer q) ≡ pick kind q }
-    ensures becomes { (kind : MatchKind) (q : Search) → q.low ≤ q.high → q.high < length q.haystack → is_leftmost kind ≡ true
+    ensures becomes { (kind : MatchKind) (q : Search) → q.low ≤ q.high → q.high < length q.haystack
+        → is_leftmost kind ≡ true
         → (i : ℕ) (rest : List ℕ) → found_at_end kind (one_longer q) ≡ i ∷ rest
         → pick kind (one_longer q) ≡ Some (ending (one_longer q) i) }
 {}
 
 /// As long as nothing was picked, an automaton of any kind finds with one more byte what Standard picks.
 pub fn first_pick_follows()
-    ensures stays { (kind : MatchKind) (q : Search) → q.low ≤ q.high → q.high < length q.haystack → pick MatchKind.Standard q ≡ None
+    ensures stays { (kind : MatchKind) (q : Search) → q.low ≤ q.high → q.high < length q.haystack
+        → pick MatchKind.Standard q ≡ None
         → found_at_end kind (one_longer q) ≡ [] → pick MatchKind.Standard (one_longer q) ≡ None }
-    ensures becomes { (kind : MatchKind) (q : Search) → q.low ≤ q.high → q.high < length q.haystack → pick MatchKind.Standard q ≡ None
+    ensures becomes { (kind : MatchKind) (q : Search) → q.low ≤ q.high → q.high < length q.haystack
+        → pick MatchKind.Standard q ≡ None
         → (i : ℕ) (rest : List ℕ) → found_at_end kind (one_longer q) ≡ i ∷ rest
         → pick MatchKind.Standard (one_longer q) ≡ Some (ending (one_longer q) i) }
 {}
 
 /// In a span without bytes the pick is the first match of the start, if it has one.
 pub fn pick_begins()
-    ensures none { (kind order : MatchKind) (q : Search) → q.low ≡ q.high → q.high ≤ length q.haystack
+    ensures none { (kind order : MatchKind) (q : Search) → q.low ≡ q.high
+        → q.high ≤ length q.haystack
         → found_at_end kind q ≡ [] → pick order q ≡ None }
-    ensures some { (kind : MatchKind) (earliest : Bool) (q : Search) → q.low ≡ q.high → q.high ≤ length q.haystack
+    ensures some { (kind : MatchKind) (earliest : Bool) (q : Search) → q.low ≡ q.high
+        → q.high ≤ length q.haystack
         → (i : ℕ) (rest : List ℕ) → found_at_end kind q ≡ i ∷ rest
         → pick (order_of kind earliest) q ≡ Some (ending q i) }
 {}
 
 /// Once the dead node is reached, more bytes change no pick.
 pub fn dead_is_the_end()
-    ensures pick { (kind : MatchKind) (q : Search) (n : ℕ) → q.low ≤ q.high → q.high + n ≤ length q.haystack
-        → reached kind (plain_patterns q) q.anchored (text q) ≡ None → pick kind (longer_by q n) ≡ pick kind q }
-    ensures first_pick { (kind : MatchKind) (q : Search) (n : ℕ) → q.low ≤ q.high → q.high + n ≤ length q.haystack
-        → reached kind (plain_patterns q) q.anchored (text q) ≡ None → pick MatchKind.Standard q ≡ None
+    ensures pick { (kind : MatchKind) (q : Search) (n : ℕ) → q.low ≤ q.high
+        → q.high + n ≤ length q.haystack
+        → reached kind (plain_patterns q) q.anchored (text q) ≡ None
+        → pick kind (longer_by q n) ≡ pick kind q }
+    ensures first_pick { (kind : MatchKind) (q : Search) (n : ℕ) → q.low ≤ q.high
+        → q.high + n ≤ length q.haystack
+        → reached kind (plain_patterns q) q.anchored (text q) ≡ None
+        → pick MatchKind.Standard q ≡ None
         → pick MatchKind.Standard (longer_by q n) ≡ None }
 {}
 
@@ -154,5 +178,6 @@ pub fn listing_follows()
     ensures begins { (q : Search) → q.low ≡ q.high → q.high ≤ length q.haystack
         → all q ≡ map (ending q) (found_at_end MatchKind.Standard q) }
     ensures follows { (q : Search) → q.low ≤ q.high → q.high < length q.haystack
-        → all (one_longer q) ≡ all q ++ map (ending (one_longer q)) (found_at_end MatchKind.Standard (one_longer q)) }
+        → all (one_longer q) ≡ all q
+        ++ map (ending (one_longer q)) (found_at_end MatchKind.Standard (one_longer q)) }
 {}

@@ -3,5 +3,7 @@
 
 pub mod error;
 pub mod laws;
+pub mod looks;
 pub mod primitives;
 pub mod search;
+pub mod tally;

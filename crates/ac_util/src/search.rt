@@ -2,9 +2,13 @@
 ghost use Rattle.std.specs.Prelude.{◌≡◌, ◌+◌, ◌-◌, ◌≤◌, ◌↔◌, IsTrue};
 ghost use Rattle.ac_util.specs.Occurrence.{occurrence};
 
+mod input;
+
 use crate::primitives::{GREATEST, PatternID};
 use std::marker::Model;
 use std::ops::Range;
+
+pub use input::Input;
 
 /// Which of the occurrences in a span a search answers.
 #[derive(Clone, Copy, PartialEq, Eq, Default, Debug)]

@@ -1,0 +1,22 @@
+-- What a search has done, as counts that only contracts see; and a haystack with how far it was read.
+use Rattle.std.specs.Prelude.{ℕ, ◌+◌, List}
+
+-- bytes read, states looked at, and calls of a prefilter
+pub record Counts : Type 0 where
+  pub reads : ℕ
+  pub looks : ℕ
+  pub calls : ℕ
+
+abbrev pub no_counts : Counts
+no_counts = record { reads = 0; looks = 0; calls = 0 }
+
+abbrev pub one_more_read : Counts → Counts
+one_more_read counts = record counts { reads = counts.reads + 1 }
+
+abbrev pub more_looks : ℕ → Counts → Counts
+more_looks n counts = record counts { looks = counts.looks + n }
+
+-- the bytes that a tape lends, and the place after the last one that was read
+pub record Taped : Type 0 where
+  pub bytes : List ℕ
+  pub place : ℕ

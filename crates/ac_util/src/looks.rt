@@ -1,0 +1,138 @@
+//! What a search does: the bytes that it reads, and how often it looks at states.
+ghost use Rattle.std.specs.Prelude.{◌≡◌, ◌+◌, ◌<◌, ◌≤◌, length, slice_index};
+ghost use Rattle.ac_util.specs.Counts.{no_counts, one_more_read, more_looks};
+ghost use Rattle.ac_util.specs.Inputs.{asked};
+
+use crate::search::Input;
+use crate::tally::Tally;
+use std::marker::Model;
+use std::snapshot::Snapshot;
+
+/// How many bytes a search has read, how many states it has looked at, and how often it has called a prefilter.
+///
+/// Contracts alone see these counts: at run time they take no bytes and no work. There is no way to copy them or to set them
+/// back, so what a contract says of them holds of all that was done.
+#[derive(Drop)]
+pub struct Looks {
+    reads: Tally,
+    looks: Tally,
+    calls: Tally,
+}
+
+impl Model for Looks {
+    ghost use Rattle.ac_util.specs.Counts.{Counts};
+
+    ghost Value = { Counts };
+
+    ghost view = { λ l. record { reads = l.reads.number; looks = l.looks.number; calls = l.calls.number } };
+}
+
+impl Looks {
+    /// Returns counts of 0.
+    #[inline]
+    pub fn new() -> Looks
+        ensures { result ≡ no_counts }
+    {
+        Looks {
+            reads: Tally::zero(),
+            looks: Tally::zero(),
+            calls: Tally::zero(),
+        }
+    }
+
+    /// Counts one look at a state: one use of its own transitions for a byte of the haystack.
+    #[inline]
+    pub fn look(&mut self)
+        ensures { self.new ≡ more_looks 1 self.old }
+    {
+        self.looks = Tally::after(&self.looks);
+    }
+
+    /// Counts one byte read.
+    #[inline]
+    fn read(&mut self)
+        ensures { self.new ≡ one_more_read self.old }
+    {
+        self.reads = Tally::after(&self.reads);
+    }
+}
+
+/// Lends the bytes of a haystack one at a time, each at most once and in rising order.
+///
+/// Contracts see it as its bytes and the place after the last one that was read; at run time it is the slice alone.
+#[derive(Drop)]
+pub struct Tape<'h> {
+    haystack: &'h [u8],
+    place: Snapshot<usize>,
+}
+
+impl<'h> Model for Tape<'h> {
+    ghost use Rattle.ac_util.specs.Counts.{Taped};
+
+    ghost Value = { Taped };
+
+    ghost view = { λ t. record { bytes = t.haystack.now; place = t.place.value } };
+}
+
+impl<'h> Tape<'h> {
+    /// Returns a tape over a haystack of which nothing was read.
+    #[inline]
+    pub fn new(haystack: &'h [u8]) -> Tape<'h>
+        ensures { result ≡ record { bytes = haystack.now; place = 0 } }
+    {
+        Tape {
+            haystack,
+            place: Snapshot::of(&0),
+        }
+    }
+
+    /// Returns the byte at a place, and counts it as read.
+    ///
+    /// The place has to lie in the haystack, and not before the one after the last read.
+    #[inline]
+    pub fn read(&mut self, at: usize, looks: &mut Looks) -> u8
+        requires inside { at < length self.old.bytes }
+        requires onward { self.old.place ≤ at }
+        ensures byte { result ≡ slice_index self.old.bytes at }
+        ensures place { self.new ≡ record { bytes = self.old.bytes; place = at + 1 } }
+        ensures counted { looks.new ≡ one_more_read looks.old }
+    {
+        looks.read();
+        let haystack = self.haystack;
+        let _len = haystack.len();
+        self.place = Snapshot::of(&(at + 1));
+        haystack[at]
+    }
+}
+
+/// Returns a tape over the haystack of an input, and counts of 0.
+#[inline]
+pub fn open<'h>(input: &Input<'h>) -> (Tape<'h>, Looks)
+    ensures tape { result.0 ≡ record { bytes = (asked input.now).haystack; place = 0 } }
+    ensures looks { result.1 ≡ no_counts }
+{
+    (Tape::new(input.haystack()), Looks::new())
+}
+
+#[cfg(test)]
+mod tests {
+    use super::*;
+    use std::test::Fail;
+
+    #[test]
+    fn counts_take_no_bytes(rt: HostRuntime) -> Result<(), Fail> {
+        assert_eq!(rt; size_of::<Looks>(), 0);
+        assert_eq!(rt; size_of::<Tape<'static>>(), size_of::<&'static [u8]>());
+        Ok(())
+    }
+
+    #[test]
+    fn lends_each_byte(rt: HostRuntime) -> Result<(), Fail> {
+        let input = Input::new(b"abc");
+        let (mut tape, mut looks) = open(&input);
+        assert_eq!(rt; tape.read(0, &mut looks), b'a');
+        assert_eq!(rt; tape.read(2, &mut looks), b'c');
+        looks.look();
+        Ok(())
+    }
+}

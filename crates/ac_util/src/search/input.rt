@@ -1,0 +1,232 @@
+//! The input of a search.
+ghost use Rattle.std.specs.Prelude.{◌≡◌, ◌+◌, ◌<◌, ◌≤◌, ◌↔◌, length, IsTrue, false};
+
+use super::{Anchored, Span};
+use std::ops::Range;
+
+/// A haystack with the span of it that is searched, whether a match must start where the span does, and whether the search
+/// ends at the earliest place at which some match is known.
+///
+/// Bytes outside the span never count. The span ends within the haystack, and may begin one past its end: then nothing is
+/// found in it, not even an empty match. Contracts see an input as the record `asked`.
+///
+/// ```
+/// let input = Input::new(b"foobar").range(3..6).anchored(Anchored::Yes);
+/// ```
+#[derive(Clone, Copy)]
+pub struct Input<'h> {
+    haystack: &'h [u8],
+    start: usize,
+    end: usize,
+    anchored: Anchored,
+    earliest: bool,
+    ghost end_within: { end ≤ length haystack.now },
+    ghost start_within: { start ≤ end + 1 },
+}
+
+impl<'h> Input<'h> {
+    ghost use Rattle.ac_util.specs.Input.{IsLegal, asked_whole};
+    ghost use Rattle.ac_util.specs.Inputs.{asked};
+
+    /// Returns an input that searches all of a haystack, unanchored and not for the earliest end.
+    #[inline]
+    pub fn new(haystack: &'h [u8]) -> Input<'h>
+        ensures value { asked result ≡ asked_whole haystack.now }
+    {
+        Input {
+            haystack,
+            start: 0,
+            end: haystack.len(),
+            anchored: Anchored::No,
+            earliest: false,
+        }
+    }
+
+    /// Returns the same for the bytes of a text.
+    #[inline]
+    pub fn of_text(text: &'h str) -> Input<'h>
+        ensures value { asked result ≡ asked_whole text.now }
+    {
+        Input::new(text.as_bytes())
+    }
+
+    /// Returns the input with this span.
+    ///
+    /// The span has to end within the haystack, and to start no later than one past its end.
+    #[inline]
+    pub fn span(mut self, span: Span) -> Input<'h>
+        requires legal { IsLegal (asked self).haystack span.start span.end }
+        ensures value { asked result ≡ record (asked self.entry) { start = span.start; end = span.end } }
+    {
+        self.set_span(span);
+        self
+    }
+
+    /// Returns the input with the span of this range.
+    #[inline]
+    pub fn range(mut self, range: Range<usize>) -> Input<'h>
+        requires legal { IsLegal (asked self).haystack range.start range.end }
+        ensures value { asked result ≡ record (asked self.entry) { start = range.start; end = range.end } }
+    {
+        self.set_range(range);
+        self
+    }
+
+    /// Returns the input anchored, or not. Unanchored unless set.
+    #[inline]
+    pub fn anchored(mut self, mode: Anchored) -> Input<'h>
+        ensures value { asked result ≡ record (asked self.entry) { anchored = mode } }
+    {
+        self.set_anchored(mode);
+        self
+    }
+
+    /// Returns the input asking for the earliest end, or not. Not unless set.
+    ///
+    /// A search that asks for it answers what `MatchKind::Standard` picks, under every match kind.
+    #[inline]
+    pub fn earliest(mut self, yes: bool) -> Input<'h>
+        ensures value { asked result ≡ record (asked self.entry) { earliest = yes } }
+    {
+        self.set_earliest(yes);
+        self
+    }
+
+    /// Sets the span, which has to end within the haystack and to start no later than one past its end.
+    #[inline]
+    pub fn set_span(&mut self, span: Span)
+        requires legal { IsLegal (asked self.old).haystack span.start span.end }
+        ensures value { asked self.new ≡ record (asked self.old) { start = span.start; end = span.end } }
+    {
+        let Input {
+            haystack,
+            anchored,
+            earliest,
+            ..
+        } = *self;
+        *self = Input {
+            haystack,
+            start: span.start,
+            end: span.end,
+            anchored,
+            earliest,
+        };
+    }
+
+    /// Sets the span to that of this range.
+    #[inline]
+    pub fn set_range(&mut self, range: Range<usize>)
+        requires legal { IsLegal (asked self.old).haystack range.start range.end }
+        ensures value { asked self.new ≡ record (asked self.old) { start = range.start; end = range.end } }
+    {
+        self.set_span(Span {
+            start: range.start,
+            end: range.end,
+        });
+    }
+
+    /// Sets where the span starts: no later than one past its end.
+    #[inline]
+    pub fn set_start(&mut self, start: usize)
+        requires legal { start ≤ (asked self.old).end + 1 }
+        ensures value { asked self.new ≡ record (asked self.old) { start = start } }
+    {
+        self.start = start;
+    }
+
+    /// Sets where the span ends: within the haystack, and no earlier than one before its start.
+    #[inline]
+    pub fn set_end(&mut self, end: usize)
+        requires legal { IsLegal (asked self.old).haystack (asked self.old).start end }
+        ensures value { asked self.new ≡ record (asked self.old) { end = end } }
+    {
+        self.set_span(Span {
+            start: self.start,
+            end,
+        });
+    }
+
+    /// Sets whether a match must start where the span does.
+    #[inline]
+    pub fn set_anchored(&mut self, mode: Anchored)
+        ensures value { asked self.new ≡ record (asked self.old) { anchored = mode } }
+    {
+        self.anchored = mode;
+    }
+
+    /// Sets whether the search ends at the earliest place at which some match is known.
+    #[inline]
+    pub fn set_earliest(&mut self, yes: bool)
+        ensures value { asked self.new ≡ record (asked self.old) { earliest = yes } }
+    {
+        self.earliest = yes;
+    }
+
+    /// Returns the whole haystack, also what lies outside the span.
+    #[inline]
+    pub fn haystack(&self) -> &'h [u8]
+        ensures { result.now ≡ (asked self.now).haystack }
+    {
+        self.haystack
+    }
+
+    /// Returns where the span starts.
+    #[inline]
+    pub fn start(&self) -> usize
+        ensures { result ≡ (asked self.now).start }
+    {
+        self.start
+    }
+
+    /// Returns where the span ends.
+    #[inline]
+    pub fn end(&self) -> usize
+        ensures { result ≡ (asked self.now).end }
+    {
+        self.end
+    }
+
+    /// Returns the span.
+    #[inline]
+    pub fn get_span(&self) -> Span
+        ensures { result ≡ record { start = (asked self.now).start; end = (asked self.now).end } }
+    {
+        Span {
+            start: self.start,
+            end: self.end,
+        }
+    }
+
+    /// Returns the span as a range.
+    #[inline]
+    pub fn get_range(&self) -> Range<usize>
+        ensures start { result.start ≡ (asked self.now).start }
+        ensures end { result.end ≡ (asked self.now).end }
+    {
+        self.start..self.end
+    }
+
+    /// Returns whether a match must start where the span does.
+    #[inline]
+    pub fn get_anchored(&self) -> Anchored
+        ensures { result ≡ (asked self.now).anchored }
+    {
+        self.anchored
+    }
+
+    /// Returns whether the search ends at the earliest place at which some match is known.
+    #[inline]
+    pub fn get_earliest(&self) -> bool
+        ensures { result ≡ (asked self.now).earliest }
+    {
+        self.earliest
+    }
+
+    /// Returns whether the span starts past its end, so that nothing can be found.
+    #[inline]
+    pub fn is_done(&self) -> bool
+        ensures { IsTrue result ↔ ((asked self.now).end < (asked self.now).start) }
+    {
+        self.start > self.end
+    }
+}
