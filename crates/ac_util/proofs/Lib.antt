@@ -15,6 +15,8 @@ pub mod OneLonger
 pub mod ListingLonger
 pub mod SamenessLemmas
 pub mod Characters
+pub mod PiecesLemmas
+pub mod LimitLemmas
 mod SearchRows
 mod TextRows
 mod NodeRows

@@ -5,10 +5,10 @@ use Rattle.ac_util.specs.declared.search.MatchKind.TheVariants.{Standard}
 use Rattle.ac_util.specs.declared.search.Anchored.{Anchored}
 use Rattle.ac_util.specs.declared.search.Anchored.TheVariants.{No, Yes}
 use Rattle.ac_util.specs.Occurrence.{Occurrence}
-use Rattle.ac_util.specs.Search.{Search, Occurs, pattern_of, outward}
+use Rattle.ac_util.specs.Search.{Search, Occurs, pattern_of}
 use Rattle.ac_util.specs.Listing.{IsBefore, all}
 use Rattle.ac_util.specs.Matches.{equal_to, matches}
-use Rattle.ac_util.specs.Text.{plain_patterns, text, one_longer, found_at_end, ending}
+use Rattle.ac_util.specs.Text.{outward, plain_patterns, text, one_longer, found_at_end, ending}
 use Rattle.ac_util.proofs.Lists.{IsIn, IsIn-append_left, IsIn-append_right, IsIn-append_cases, IsIn-map, IsIn-from_map, IsOrdered, IsOrdered-append}
 use Rattle.ac_util.proofs.Listing.{all-has, all-only, all-ordered, all-unique}
 use Rattle.ac_util.proofs.Picks.{same_occurrence}

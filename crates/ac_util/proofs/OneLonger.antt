@@ -5,11 +5,11 @@ use Rattle.ac_util.specs.declared.search.MatchKind.{MatchKind}
 use Rattle.ac_util.specs.declared.search.MatchKind.TheVariants.{Standard}
 use Rattle.ac_util.specs.Occurrence.{Occurrence}
 use Rattle.ac_util.specs.Sameness.{plain, plain_byte}
-use Rattle.ac_util.specs.Search.{Search, outward}
+use Rattle.ac_util.specs.Search.{Search}
 use Rattle.ac_util.specs.Pick.{IsFirst, order_of, pick}
 use Rattle.ac_util.specs.Node.{Node, is_leftmost, reached, step}
 use Rattle.ac_util.specs.Matches.{matches}
-use Rattle.ac_util.specs.Text.{plain_patterns, text, one_longer, longer_by, found_at_end, ending}
+use Rattle.ac_util.specs.Text.{outward, plain_patterns, text, one_longer, longer_by, found_at_end, ending}
 use Rattle.ac_util.proofs.Picks.{same_occurrence}
 use Rattle.ac_util.proofs.Reached.{step-reached}
 use Rattle.ac_util.proofs.Found.{matches-reached}

@@ -7,9 +7,9 @@ use Rattle.ac_util.specs.declared.search.MatchKind.{MatchKind}
 use Rattle.ac_util.specs.declared.search.MatchKind.TheVariants.{Standard, LeftmostFirst, LeftmostLongest}
 use Rattle.ac_util.specs.Occurrence.{Occurrence, occurrence}
 use Rattle.ac_util.specs.Sameness.{plain_byte, plain}
-use Rattle.ac_util.specs.Search.{Search, Occurs, pattern_of, cut, outward}
+use Rattle.ac_util.specs.Search.{Search, Occurs, pattern_of}
 use Rattle.ac_util.specs.Pick.{IsPick, IsFirst, pick}
-use Rattle.ac_util.specs.Text.{plain_patterns, text, one_longer}
+use Rattle.ac_util.specs.Text.{cut, outward, plain_patterns, text, one_longer}
 use Rattle.ac_util.proofs.Picks.{pick-IsPick, pick-from_IsPick, same_occurrence}
 use Rattle.ac_util.proofs.Standing.{Stands, place_of, IsPickIn, Stands-end}
 

@@ -191,59 +191,59 @@ unfolding walk_after pick all
 fox-written-after-20 = refl
 
 -- an overlapping search wants the kind Standard
-overlapping-by-state-wants-standard : refusal Unanchored LeftmostFirst No OverlappingByState false
+overlapping-by-state-wants-standard : refusal Unanchored LeftmostFirst (OverlappingByState No) false
     ≡ Some (UnsupportedOverlapping LeftmostFirst)
 overlapping-by-state-wants-standard = refl
 
-overlapping-iterator-wants-standard : refusal Unanchored LeftmostFirst No OverlappingIterator false
+overlapping-iterator-wants-standard : refusal Unanchored LeftmostFirst (OverlappingIterator No) false
     ≡ Some (UnsupportedOverlapping LeftmostFirst)
 overlapping-iterator-wants-standard = refl
 
 -- a stream wants the kind Standard, which is asked first, and no empty pattern
-stream-wants-standard : refusal Unanchored LeftmostFirst No Stream false ≡ Some (UnsupportedStream LeftmostFirst)
+stream-wants-standard : refusal Unanchored LeftmostFirst Stream false ≡ Some (UnsupportedStream LeftmostFirst)
 stream-wants-standard = refl
 
-stream-wants-standard-first : refusal Unanchored LeftmostFirst No Stream true ≡ Some (UnsupportedStream LeftmostFirst)
+stream-wants-standard-first : refusal Unanchored LeftmostFirst Stream true ≡ Some (UnsupportedStream LeftmostFirst)
 stream-wants-standard-first = refl
 
-stream-wants-no-empty-pattern : refusal Unanchored Standard No Stream true ≡ Some UnsupportedEmpty
+stream-wants-no-empty-pattern : refusal Unanchored Standard Stream true ≡ Some UnsupportedEmpty
 stream-wants-no-empty-pattern = refl
 
 -- the start is asked before the kind, and the iterator has no anchored form
-overlapping-wants-its-start-first : refusal Unanchored LeftmostFirst Yes OverlappingByState false
+overlapping-wants-its-start-first : refusal Unanchored LeftmostFirst (OverlappingByState Yes) false
     ≡ Some InvalidInputAnchored
 overlapping-wants-its-start-first = refl
 
-overlapping-iterator-never-anchored : refusal Both Standard Yes OverlappingIterator false ≡ Some InvalidInputAnchored
+overlapping-iterator-never-anchored : refusal Both Standard (OverlappingIterator Yes) false ≡ Some InvalidInputAnchored
 overlapping-iterator-never-anchored = refl
 
-stream-wants-its-start-first : refusal AnchoredAlone LeftmostFirst No Stream false ≡ Some InvalidInputUnanchored
+stream-wants-its-start-first : refusal AnchoredAlone LeftmostFirst Stream false ≡ Some InvalidInputUnanchored
 stream-wants-its-start-first = refl
 
-replacement-wants-its-start : refusal AnchoredAlone Standard No Replace false ≡ Some InvalidInputUnanchored
+replacement-wants-its-start : refusal AnchoredAlone Standard Replace false ≡ Some InvalidInputUnanchored
 replacement-wants-its-start = refl
 
 -- a find wants its start, whatever its span
-anchored-find-wants-its-start : refusal Unanchored Standard Yes Find false ≡ Some InvalidInputAnchored
+anchored-find-wants-its-start : refusal Unanchored Standard (Find Yes) false ≡ Some InvalidInputAnchored
 anchored-find-wants-its-start = refl
 
-unanchored-find-wants-its-start : refusal AnchoredAlone Standard No Find false ≡ Some InvalidInputUnanchored
+unanchored-find-wants-its-start : refusal AnchoredAlone Standard (Find No) false ≡ Some InvalidInputUnanchored
 unanchored-find-wants-its-start = refl
 
 -- what is not refused
-anchored-find-served-standard : refusal Both Standard Yes Find false ≡ None
+anchored-find-served-standard : refusal Both Standard (Find Yes) false ≡ None
 anchored-find-served-standard = refl
 
-anchored-find-served-first : refusal Both LeftmostFirst Yes Find false ≡ None
+anchored-find-served-first : refusal Both LeftmostFirst (Find Yes) false ≡ None
 anchored-find-served-first = refl
 
-anchored-find-served-longest : refusal Both LeftmostLongest Yes Find false ≡ None
+anchored-find-served-longest : refusal Both LeftmostLongest (Find Yes) false ≡ None
 anchored-find-served-longest = refl
 
-anchored-overlapping-served-by-state : refusal AnchoredAlone Standard Yes OverlappingByState false ≡ None
+anchored-overlapping-served-by-state : refusal AnchoredAlone Standard (OverlappingByState Yes) false ≡ None
 anchored-overlapping-served-by-state = refl
 
-stream-served : refusal Unanchored Standard No Stream false ≡ None
+stream-served : refusal Unanchored Standard Stream false ≡ None
 stream-served = refl
 
 -- the places of an overlapping search: six items, then none, and the place stays

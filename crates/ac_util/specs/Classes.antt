@@ -1,5 +1,5 @@
 -- Classes of bytes that an automaton need not tell apart.
-use Rattle.std.specs.Prelude.{◌≡◌, ℕ, ◌+◌, ◌<◌, ◌≤◌, Bool, true, List, map, None, Some}
+use Rattle.std.specs.Prelude.{◌≡◌, ℕ, ◌+◌, ◌<◌, ◌≤◌, Bool, true, List, map, None, Some, ⊤}
 use Rattle.ac_util.specs.declared.search.MatchKind.{MatchKind}
 use Rattle.ac_util.specs.declared.search.Anchored.{Anchored}
 use Rattle.ac_util.specs.Sameness.{plain_byte, plain}
@@ -7,7 +7,7 @@ use Rattle.ac_util.specs.Node.{Node, is_node, step}
 
 -- u is a node of the automaton
 abbrev pub IsNode : MatchKind → List (List ℕ) → Node → Type 0
-IsNode kind patterns None = Unit {0}
+IsNode kind patterns None = ⊤
 IsNode kind patterns (Some u) = is_node kind patterns u ≡ true
 
 -- an automaton may step by the class of a byte in place of the byte: byte 0 has class 0, classes rise by at most one along

@@ -15,5 +15,8 @@ pub mod Text
 pub mod Input
 pub mod Inputs
 pub mod Counts
+pub mod Device
+pub mod Limits
+pub mod Pieces
 pub mod Classes
 pub mod Sizes

@@ -6,7 +6,8 @@ use Rattle.ac_util.specs.declared.search.Anchored.TheVariants.{No, Yes}
 use Rattle.ac_util.specs.Node.{Node, is_node, failure, depth}
 
 -- the nodes from this one, of at most n bytes, along the failure targets up to the first with an own transition by b,
--- that one counted. The start and the dead node have one by every byte
+-- that one counted. The start and the dead node have one by every byte. A failure target is shorter than its node, so n is
+-- never too small
 abbrev pub looks_within : MatchKind → List (List ℕ) → ℕ → Node → ℕ → ℕ
 looks_within kind patterns n None b = 1
 looks_within kind patterns n (Some []) b = 1

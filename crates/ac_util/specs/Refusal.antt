@@ -9,13 +9,22 @@ use Rattle.ac_util.specs.declared.search.Anchored.TheVariants.{No, Yes}
 use Rattle.ac_util.specs.declared.error.MatchError.{MatchError}
 use Rattle.ac_util.specs.declared.error.MatchError.TheVariants.{InvalidInputAnchored, InvalidInputUnanchored, UnsupportedOverlapping, UnsupportedStream, UnsupportedEmpty}
 
--- the calls that differ in what they refuse; replacing and stream calls are always unanchored
+-- the calls that differ in what they refuse: finds and walks, replacement, overlapping search by a state and by an iterator,
+-- and streams. Replacement and streams have no anchored form
 pub data Call : Type 0 where
-  Find : Call
+  Find : Anchored → Call
   Replace : Call
-  OverlappingByState : Call
-  OverlappingIterator : Call
+  OverlappingByState : Anchored → Call
+  OverlappingIterator : Anchored → Call
   Stream : Call
+
+-- whether the call is anchored
+abbrev pub anchoring : Call → Anchored
+anchoring (Find anchored) = anchored
+anchoring Replace = No
+anchoring (OverlappingByState anchored) = anchored
+anchoring (OverlappingIterator anchored) = anchored
+anchoring Stream = No
 
 -- the searcher lacks the start that the search begins at
 abbrev pub start_refusal : StartKind → Anchored → Option MatchError
@@ -28,16 +37,16 @@ start_refusal AnchoredAlone Yes = None
 -- the call wants the match kind Standard
 abbrev pub kind_refusal : MatchKind → Call → Option MatchError
 kind_refusal Standard call = None
-kind_refusal kind Find = None
+kind_refusal kind (Find anchored) = None
 kind_refusal kind Replace = None
-kind_refusal kind OverlappingByState = Some (UnsupportedOverlapping kind)
-kind_refusal kind OverlappingIterator = Some (UnsupportedOverlapping kind)
+kind_refusal kind (OverlappingByState anchored) = Some (UnsupportedOverlapping kind)
+kind_refusal kind (OverlappingIterator anchored) = Some (UnsupportedOverlapping kind)
 kind_refusal kind Stream = Some (UnsupportedStream kind)
 
 -- the overlapping iterator has no anchored form
-abbrev pub form_refusal : Call → Anchored → Option MatchError
-form_refusal OverlappingIterator Yes = Some InvalidInputAnchored
-form_refusal call anchored = None
+abbrev pub form_refusal : Call → Option MatchError
+form_refusal (OverlappingIterator Yes) = Some InvalidInputAnchored
+form_refusal call = None
 
 -- a stream is searched for no empty pattern
 abbrev pub empty_refusal : Call → Bool → Option MatchError
@@ -51,11 +60,11 @@ first_refusal (None ∷ later) = first_refusal later
 first_refusal (Some e ∷ later) = Some e
 
 -- why the call is refused, if it is: the tests come in this order. has_empty says whether some pattern is empty
-abbrev pub refusal : StartKind → MatchKind → Anchored → Call → Bool → Option MatchError
-refusal start kind anchored call has_empty =
+abbrev pub refusal : StartKind → MatchKind → Call → Bool → Option MatchError
+refusal start kind call has_empty =
     first_refusal (
-    start_refusal start anchored
+    start_refusal start (anchoring call)
     ∷ kind_refusal kind call
-    ∷ form_refusal call anchored
+    ∷ form_refusal call
     ∷ empty_refusal call has_empty
     ∷ [])

@@ -1,12 +1,12 @@
 -- What a search looks for and where, and what occurs there.
-use Rattle.std.specs.Prelude.{◌≡◌, ℕ, ◌+◌, ◌-◌, ◌<◌, ◌≤◌, Bool, true, ◌&&◌, ◌==◌, nat_lt, nat_le, List, [], length, slice_range, slice_index_or}
+use Rattle.std.specs.Prelude.{◌≡◌, ℕ, ◌+◌, ◌<◌, ◌≤◌, Bool, true, ◌&&◌, ◌==◌, nat_lt, nat_le, List, [], length, slice_range, slice_index_or}
 use Rattle.ac_util.specs.declared.search.Anchored.{Anchored}
 use Rattle.ac_util.specs.declared.search.Anchored.TheVariants.{No, Yes}
-use Rattle.ac_util.specs.Occurrence.{Occurrence, occurrence}
+use Rattle.ac_util.specs.Occurrence.{Occurrence}
 use Rattle.ac_util.specs.Sameness.{IsSame, same_string}
 
 -- these patterns, in the bytes of the haystack from low up to high, and if anchored only at low;
--- with fold the case of ASCII letters is ignored
+-- with fold the case of ASCII letters is ignored. Whoever asks for a search sees to it that high lies in the haystack
 pub record Search : Type 0 where
   pub patterns : List (List ℕ)
   pub fold : Bool
@@ -46,11 +46,3 @@ occurs q m =
     && nat_le m.end q.high
     && same_string q.fold (pattern_of q.patterns m.pattern) (slice_range q.haystack m.start m.end)
     && may_start q.anchored q.low m.start
-
--- the same search in a haystack of the span's bytes alone
-abbrev pub cut : Search → Search
-cut q = record q { haystack = slice_range q.haystack q.low q.high; low = 0; high = q.high - q.low }
-
--- an occurrence whose places are told from `low` on, told from the haystack's front
-abbrev pub outward : ℕ → Occurrence → Occurrence
-outward low m = occurrence m.pattern (low + m.start) (low + m.end)

@@ -1,27 +1,30 @@
 -- Replacement by a closure, as what it does to the closure and to a destination.
-use Rattle.std.specs.Prelude.{◌≡◌, ℕ, Bool, MatchBool, List, [], ◌∷◌, drop, slice_range}
+use Rattle.std.specs.Prelude.{◌≡◌, ◌⊎◌, ℕ, Bool, MatchBool, List, [], ◌∷◌, drop, slice_range}
 use Rattle.ac_util.specs.Occurrence.{Occurrence}
 
 -- F is the closure's type, D the destination's.
 -- `appends bytes d e`: appending the bytes to d leaves e.
 -- `calls f m slice d answer g e`: a call of f with the match, its slice and d may give the answer, and leave g and e.
-module _ (F D : Type 0) (appends : List ℕ → D → D → Type 0) (calls : F → Occurrence → List ℕ → D → Bool → F → D → Type 0) (haystack : List ℕ) where
-  -- from a place on, the matches that are left take f and d to g and e. For each the gap before it is appended and f is
-  -- called; after an answer false, or the last match, what is left of the haystack is appended
+module _ (F D : Type 0) (appends : List ℕ → D → D → Type 0)
+    (calls : F → Occurrence → List ℕ → D → Bool → F → D → Type 0) (haystack : List ℕ) where
+  -- the gap from a place up to the match is appended, and f is called with the match: it answers, and leaves g and e
+  pub record Turn (place : ℕ) (m : Occurrence) (f : F) (d : D) (answer : Bool) (g : F) (e : D) : Type 0 where
+    pub at_match : D
+    pub gap : appends (slice_range haystack place m.start) d at_match
+    pub call : calls f m (slice_range haystack m.start m.end) at_match answer g e
+
+  -- from a place on, the matches that are left take f and d to g and e: a turn for each, up to the first that answers false;
+  -- then what is left of the haystack is appended
   abbrev pub Steps : ℕ → List Occurrence → F → D → F → D → Type 0
   Steps place [] f d g e = (g ≡ f) × appends (drop place haystack) d e
   Steps place (m ∷ ms) f d g e =
-      (at_match : D) × (answer : Bool) × (f' : F) × (after_call : D)
-      × appends (slice_range haystack place m.start) d at_match
-      × calls f m (slice_range haystack m.start m.end) at_match answer f' after_call
-      × MatchBool answer (Steps m.end ms f' after_call g e) ((g ≡ f') × appends (drop m.end haystack) after_call e)
+      (answer : Bool) × (f' : F) × (d' : D) × Turn place m f d answer f' d'
+      × MatchBool answer (Steps m.end ms f' d' g e) ((g ≡ f') × appends (drop m.end haystack) d' e)
 
   -- the same steps as far as an append that was refused: it adds nothing, and nothing follows
   abbrev pub StepsSoFar : ℕ → List Occurrence → F → D → F → D → Type 0
   StepsSoFar place [] f d g e = (g ≡ f) × (e ≡ d)
   StepsSoFar place (m ∷ ms) f d g e =
-      (refused_here : Bool) × MatchBool refused_here ((g ≡ f) × (e ≡ d))
-      ((at_match : D) × (answer : Bool) × (f' : F) × (after_call : D)
-      × appends (slice_range haystack place m.start) d at_match
-      × calls f m (slice_range haystack m.start m.end) at_match answer f' after_call
-      × MatchBool answer (StepsSoFar m.end ms f' after_call g e) ((g ≡ f') × (e ≡ after_call)))
+      ((g ≡ f) × (e ≡ d))
+      ⊎ ((answer : Bool) × (f' : F) × (d' : D) × Turn place m f d answer f' d'
+      × MatchBool answer (StepsSoFar m.end ms f' d' g e) ((g ≡ f') × (e ≡ d')))

@@ -31,3 +31,11 @@ found_at_end kind q =
 -- the place of a pattern that ends where the span does
 abbrev pub ending : Search → ℕ → Occurrence
 ending q number = occurrence number (q.high - length (pattern_of q.patterns number)) q.high
+
+-- the same search in a haystack of the span's bytes alone
+abbrev pub cut : Search → Search
+cut q = record q { haystack = slice_range q.haystack q.low q.high; low = 0; high = q.high - q.low }
+
+-- an occurrence whose places are told from `low` on, told from the haystack's front
+abbrev pub outward : ℕ → Occurrence → Occurrence
+outward low m = occurrence m.pattern (low + m.start) (low + m.end)

@@ -11,8 +11,8 @@ ghost use Rattle.ac_util.specs.Occurrence.{Occurrence};
 ghost use Rattle.ac_util.specs.Pick.{IsPick, order_of, pick};
 ghost use Rattle.ac_util.specs.Replaced.{is_char_boundary};
 ghost use Rattle.ac_util.specs.Sameness.{AreOneLetter, IsSame, same_byte, same_string};
-ghost use Rattle.ac_util.specs.Search.{Occurs, Search, cut, from, occurs, outward, pattern_of};
-ghost use Rattle.ac_util.specs.Text.{ending, found_at_end, longer_by, one_longer, plain_patterns, text};
+ghost use Rattle.ac_util.specs.Search.{Occurs, Search, from, occurs, pattern_of};
+ghost use Rattle.ac_util.specs.Text.{cut, outward, ending, found_at_end, longer_by, one_longer, plain_patterns, text};
 ghost use Rattle.ac_util.specs.Walk.{IsAfter, next_match, walk, walk_after};
 
 /// Two bytes are the same if they are equal or, where case is ignored, one ASCII letter in its two cases; two strings are the

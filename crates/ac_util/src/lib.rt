@@ -1,9 +1,11 @@
 //! The words that all layers share: what a search is asked, what it answers, and why it is refused.
 #![tactic(auto)]
 
+pub mod device;
 pub mod error;
 pub mod laws;
 pub mod looks;
+pub mod patterns;
 pub mod primitives;
 pub mod search;
 pub mod tally;

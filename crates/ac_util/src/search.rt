@@ -156,7 +156,7 @@ impl Match {
         self.span
     }
 
-    /// Returns how many bytes the match has, which is the length of its pattern.
+    /// Returns how many bytes the match has.
     pub fn len(&self) -> usize
         ensures { self.now.start + result ≡ self.now.end }
     {

@@ -1,0 +1,84 @@
+-- Pieces of a list of bytes: how many there are, where each stands, and how one more is added.
+use Rattle.std.proofs.Common.{◌≡◌, ℕ, zero, suc, ◌+◌, ◌-◌, ◌<◌, ◌≤◌, List, [], ◌∷◌, ◌++◌, length, take, drop, get_or, refl, ap, sym, subst, ◌∙◌, arith, Some, length-append, length-drop}
+use Rattle.std.specs.Prelude.{slice_get, slice_range}
+use Rattle.std.proofs.lemmas.List.{drop-append-le, take-append-le}
+use Rattle.std.proofs.lemmas.Grind.{common_steps}
+use Rattle.ac_util.specs.Pieces.{AreBounds, pieces}
+
+-- a list that bounds has one more than there are pieces
+pub length-pieces : (bytes bounds : List ℕ) (last : ℕ) → AreBounds bounds last → length (pieces bytes bounds) + 1 ≡ length bounds
+length-pieces bytes [] last h = absurd h
+length-pieces bytes (b ∷ []) last h = omega arith
+length-pieces bytes (b ∷ e ∷ es) last h = let l = length-pieces bytes (e ∷ es) last h.1 in omega arith
+
+-- a piece ends no earlier than it starts, and within the last place
+pub record IsPiece (bounds : List ℕ) (last i j : ℕ) : Type 0 where
+  pub ordered : get_or bounds i 0 ≤ get_or bounds j 0
+  pub within : get_or bounds j 0 ≤ last
+
+pub bounds-rise : (bounds : List ℕ) (last i j : ℕ) → AreBounds bounds last → j ≡ suc i → j < length bounds → IsPiece bounds last i j
+bounds-rise [] last i j h next within = absurd h
+bounds-rise (b ∷ []) last i j h next within = absurd (omega arith)
+bounds-rise (b ∷ e ∷ []) last zero (suc zero) h next within = record { ordered = h.0; within = (let s = h.1 in omega arith) }
+bounds-rise (b ∷ e ∷ f ∷ es) last zero (suc zero) h next within =
+    let r = bounds-rise (e ∷ f ∷ es) last 0 1 h.1 refl (omega arith) in
+    record { ordered = h.0; within = (let o = r.ordered in let w = r.within in omega arith) }
+bounds-rise (b ∷ e ∷ es) last zero zero h next within = absurd (omega arith)
+bounds-rise (b ∷ e ∷ es) last zero (suc (suc j)) h next within = absurd (omega arith)
+bounds-rise (b ∷ e ∷ es) last (suc i) zero h next within = absurd (omega arith)
+bounds-rise (b ∷ e ∷ es) last (suc i) (suc j) h next within =
+    let r = bounds-rise (e ∷ es) last i j h.1 (omega arith) (omega arith) in
+    record { ordered = r.ordered; within = r.within }
+
+-- the piece of a number stands from its bound up to the next
+pub piece-at : (bytes bounds : List ℕ) (last i j : ℕ) → AreBounds bounds last → j ≡ suc i → j < length bounds
+    → slice_get (pieces bytes bounds) i ≡ Some (slice_range bytes (get_or bounds i 0) (get_or bounds j 0))
+piece-at bytes [] last i j h next within = absurd h
+piece-at bytes (b ∷ []) last i j h next within = absurd (omega arith)
+piece-at bytes (b ∷ e ∷ es) last zero (suc zero) h next within = refl
+piece-at bytes (b ∷ e ∷ es) last zero zero h next within = absurd (omega arith)
+piece-at bytes (b ∷ e ∷ es) last zero (suc (suc j)) h next within = absurd (omega arith)
+piece-at bytes (b ∷ e ∷ es) last (suc i) zero h next within = absurd (omega arith)
+piece-at bytes (b ∷ e ∷ es) last (suc i) (suc j) h next within = piece-at bytes (e ∷ es) last i j h.1 (omega arith) (omega arith)
+
+-- a part of the front isn't changed by what is added behind
+slice_range-append : (bytes more : List ℕ) (s e : ℕ) → s ≤ e → e ≤ length bytes → slice_range (bytes ++ more) s e ≡ slice_range bytes s e
+slice_range-append bytes more s e ordered within =
+    let d = length-drop s bytes in
+    ap (take (e - s)) (drop-append-le s bytes more (omega arith)) ∙ take-append-le (e - s) (drop s bytes) more (omega arith)
+
+-- what is added behind stands there
+slice_range-behind : (bytes more : List ℕ) → slice_range (bytes ++ more) (length bytes) (length bytes + length more) ≡ more
+slice_range-behind bytes more = grind (arith, common_steps)
+
+-- one more bound after the last adds one more piece
+pub AreBounds-push : (bounds : List ℕ) (last more : ℕ) → AreBounds bounds last → AreBounds (bounds ++ (last + more) ∷ []) (last + more)
+AreBounds-push [] last more h = absurd h
+AreBounds-push (b ∷ []) last more h = (omega arith, refl)
+AreBounds-push (b ∷ e ∷ es) last more h = (h.0, AreBounds-push (e ∷ es) last more h.1)
+
+pub pieces-push : (bytes more bounds : List ℕ) → AreBounds bounds (length bytes)
+    → pieces (bytes ++ more) (bounds ++ (length bytes + length more) ∷ []) ≡ pieces bytes bounds ++ more ∷ []
+pieces-push bytes more [] h = absurd h
+pieces-push bytes more (b ∷ []) h =
+    ap (λ (s : ℕ). slice_range (bytes ++ more) s (length bytes + length more) ∷ []) h
+    ∙ ap (λ (p : List ℕ). p ∷ []) (slice_range-behind bytes more)
+pieces-push bytes more (b ∷ e ∷ es) h =
+    let r = bounds-rise (b ∷ e ∷ es) (length bytes) 0 1 h refl (omega arith) in
+    let first = slice_range-append bytes more b e r.ordered r.within in
+    let rest = pieces-push bytes more (e ∷ es) h.1 in
+    λ i. first i ∷ rest i
+
+-- bytes and a bound are added: there is one piece more
+pub one_more_piece : (bytes bounds more bytes' bounds' : List ℕ) (last : ℕ) → AreBounds bounds (length bytes)
+    → bytes' ≡ bytes ++ more → last ≡ length bytes' → bounds' ≡ bounds ++ last ∷ []
+    → AreBounds bounds' (length bytes') × (pieces bytes' bounds' ≡ pieces bytes bounds ++ more ∷ [])
+one_more_piece bytes bounds more bytes' bounds' last h added last_is bounded =
+    let whole : length bytes' ≡ length bytes + length more = ap length added ∙ length-append bytes more in
+    let here : bounds' ≡ bounds ++ (length bytes + length more) ∷ [] = bounded ∙ ap (λ (n : ℕ). bounds ++ n ∷ []) (last_is ∙ whole) in (
+      subst (λ (n : ℕ). AreBounds bounds' n) (sym whole)
+      (subst (λ (bs : List ℕ). AreBounds bs (length bytes + length more)) (sym here) (AreBounds-push bounds (length bytes) (length more) h)),
+      ap (λ (bs : List ℕ). pieces bytes' bs) here
+      ∙ ap (λ (xs : List ℕ). pieces xs (bounds ++ (length bytes + length more) ∷ [])) added
+      ∙ pieces-push bytes more bounds h,
+    )

@@ -1,0 +1,7 @@
+use Rattle.std.proofs.Common.{◌≡◌, drop, map}
+use Rattle.ac_util.specs.Limits.{limit_refusal, too_long_from}
+use Rattle.ac_util.proofs.patterns.check_limits.Given as goal
+
+-- what is refused is refused for a pattern from here on
+abbrev pub invariant-loop-number : goal.invariant-loop-number
+invariant-loop-number l = limit_refusal (map (λ p. p.now) l.patterns) ≡ too_long_from l.number (drop l.number (map (λ p. p.now) l.patterns))

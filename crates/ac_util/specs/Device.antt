@@ -1,0 +1,48 @@
+-- What a read and a write do: which bytes move, and which counts rise.
+use Rattle.std.specs.Prelude.{◌≡◌, ℕ, ◌+◌, ◌<◌, ◌≤◌, Bool, ◌&&◌, ◌==◌, nat_lt, List, length, take, Option, IfSome, Result, Ok, MatchResult, min, if◌then◌else◌}
+use Rattle.std.specs.Io.KnownBytes.{Consumes, IsAtEnd, Appends}
+
+-- the bytes that a reader has left, if it tells them; how many of its calls failed; and how many reads into a slice that
+-- isn't empty gave no byte
+pub record Reading : Type 0 where
+  pub left : Option (List ℕ)
+  pub failed : ℕ
+  pub empties : ℕ
+
+-- the bytes that a writer holds, if it tells them; how many of its calls failed; and how many writes of a piece that isn't
+-- empty took no byte
+pub record Writing : Type 0 where
+  pub held : Option (List ℕ)
+  pub failed : ℕ
+  pub idles : ℕ
+
+-- 1 where nothing moved though there was room, else 0
+abbrev pub idle : ℕ → ℕ → ℕ
+idle moved room = if moved == 0 && nat_lt 0 room then 1 else 0
+
+-- n bytes came and stand at the front of `into`; none comes into a slice that isn't empty only at the end
+pub record Took (old new : Reading) (into : List ℕ) (n : ℕ) : Type 0 where
+  pub within : n ≤ length into
+  pub moved : Consumes old.left new.left (take n into)
+  pub ends : n ≡ 0 → 0 < length into → IsAtEnd new.left
+  pub failed : new.failed ≡ old.failed
+  pub empties : new.empties ≡ old.empties + idle n (length into)
+
+-- a read answered r: it took what r says, or it failed and the one thing that changed is the count of failures
+abbrev pub Reads : {E : Type 0} → Reading → Reading → Result ℕ E → List ℕ → Type 0
+Reads old new r into = MatchResult r (Took old new into) (λ _. new ≡ record old { failed = old.failed + 1 })
+
+-- the first n bytes of the piece went over
+pub record Gave (old new : Writing) (piece : List ℕ) (n : ℕ) : Type 0 where
+  pub within : n ≤ length piece
+  pub moved : Appends old.held new.held (take n piece)
+  pub failed : new.failed ≡ old.failed
+  pub idles : new.idles ≡ old.idles + idle n (length piece)
+
+-- a write answered r: it gave what r says, or it failed and the one thing that changed is the count of failures
+abbrev pub Writes : {E : Type 0} → Writing → Writing → Result ℕ E → List ℕ → Type 0
+Writes old new r piece = MatchResult r (Gave old new piece) (λ _. new ≡ record old { failed = old.failed + 1 })
+
+-- a read of these bytes answered r: it gave all, or as many as the slice has room for
+abbrev pub GivesAll : {E : Type 0} → Option (List ℕ) → Result ℕ E → List ℕ → Type 0
+GivesAll left r into = IfSome left (λ bytes. r ≡ Ok (min (length bytes) (length into)))

@@ -1,0 +1,240 @@
+//! Where the bytes of a stream come from and go to.
+ghost use Rattle.std.specs.Prelude.{◌≡◌, [], Some, None, IfOk, length};
+ghost use Rattle.ac_util.specs.Device.{GivesAll, Reading, Reads, Writing, Writes};
+
+use crate::tally::Tally;
+use std::alloc::Allocator;
+use std::io;
+use std::io::{Read, Write};
+use std::marker::Model;
+
+/// A reader of bytes.
+///
+/// Contracts see the bytes that it has left, where it tells them, and how often a call failed or gave nothing. These counts
+/// only rise, and have no greatest number.
+pub trait Source {
+    ghost told: { Self → Reading };
+
+    /// Reads bytes to the front of `into` and returns how many came. None into a slice that isn't empty means the end.
+    ///
+    /// # Errors
+    /// Its own. A call that fails leaves the bytes where they were, and `into` holds nothing of use.
+    fn read_some(&mut self, into: &mut [u8]) -> io::Result<usize>
+        ensures { Reads (told self.old) (told self.new) result into.new };
+}
+
+/// A writer of bytes.
+///
+/// Contracts see the bytes that it holds, where it tells them, and how often a call failed or took nothing.
+pub trait Sink {
+    ghost told: { Self → Writing };
+
+    /// Writes bytes from the front of `piece` and returns how many it took.
+    ///
+    /// # Errors
+    /// Its own. A call that fails has taken nothing.
+    fn write_some(&mut self, piece: &[u8]) -> io::Result<usize>
+        ensures { Writes (told self.old) (told self.new) result piece.now };
+}
+
+/// Reads a slice of bytes. It never fails.
+#[derive(Drop)]
+pub struct Bytes<'a> {
+    left: &'a [u8],
+    failed: Tally,
+    empties: Tally,
+}
+
+impl<'a> Model for Bytes<'a> {
+    ghost use Rattle.std.specs.Prelude.{Some};
+    ghost use Rattle.ac_util.specs.Device.{Reading};
+
+    ghost Value = { Reading };
+
+    ghost view = { λ b. record { left = Some b.left.now; failed = b.failed.number; empties = b.empties.number } };
+}
+
+impl<'a> Bytes<'a> {
+    /// Returns a reader of these bytes.
+    pub fn new(bytes: &'a [u8]) -> Bytes<'a>
+        ensures { result ≡ record { left = Some bytes.now; failed = 0; empties = 0 } }
+    {
+        Bytes {
+            left: bytes,
+            failed: Tally::zero(),
+            empties: Tally::zero(),
+        }
+    }
+}
+
+impl<'a> Source for Bytes<'a> {
+    ghost told = { λ b. b };
+
+    // Never fails, and gives as many bytes as there are and as fit.
+    fn read_some(&mut self, into: &mut [u8]) -> io::Result<usize>
+        ensures reads { Reads self.old self.new result into.new }
+        ensures full { GivesAll self.old.left result into.old }
+    {
+        let left = self.left;
+        let n = left.len().min(into.len());
+        into[..n].copy_from_slice(&left[..n]);
+        if n == 0 && !into.is_empty() {
+            self.empties = Tally::after(&self.empties);
+        }
+        self.left = &left[n..];
+        Ok(n)
+    }
+}
+
+/// Reads from any `Read`, and tells counts alone.
+#[derive(Drop)]
+pub struct FromRead<R: Read + Drop> {
+    inner: R,
+    failed: Tally,
+    empties: Tally,
+}
+
+impl<R: Read + Drop> Model for FromRead<R> {
+    ghost use Rattle.std.specs.Prelude.{None};
+    ghost use Rattle.ac_util.specs.Device.{Reading};
+
+    ghost Value = { Reading };
+
+    ghost view = { λ b. record { left = None; failed = b.failed.number; empties = b.empties.number } };
+}
+
+impl<R: Read + Drop> FromRead<R> {
+    /// Returns a reader over `inner`.
+    pub fn new(inner: R) -> FromRead<R>
+        ensures { result ≡ record { left = None; failed = 0; empties = 0 } }
+    {
+        FromRead {
+            inner,
+            failed: Tally::zero(),
+            empties: Tally::zero(),
+        }
+    }
+}
+
+impl<R: Read + Drop> Source for FromRead<R> {
+    ghost told = { λ b. b };
+
+    fn read_some(&mut self, into: &mut [u8]) -> io::Result<usize> {
+        match self.inner.read(into) {
+            Ok(n) => {
+                if n == 0 && !into.is_empty() {
+                    self.empties = Tally::after(&self.empties);
+                }
+                Ok(n)
+            }
+            Err(e) => {
+                self.failed = Tally::after(&self.failed);
+                Err(e)
+            }
+        }
+    }
+}
+
+/// Holds what is written to it, on an allocator.
+#[derive(Drop)]
+pub struct Written<A: Allocator> {
+    held: Vec<u8, A>,
+    failed: Tally,
+    idles: Tally,
+}
+
+impl<A: Allocator> Model for Written<A> {
+    ghost use Rattle.std.specs.Prelude.{Some};
+    ghost use Rattle.ac_util.specs.Device.{Writing};
+
+    ghost Value = { Writing };
+
+    ghost view = { λ w. record { held = Some w.held.items; failed = w.failed.number; idles = w.idles.number } };
+}
+
+impl<A: Allocator> Written<A> {
+    /// Returns a writer that holds nothing yet, and takes no memory for it.
+    pub fn new(alloc: A) -> Written<A>
+        ensures { result ≡ record { held = Some []; failed = 0; idles = 0 } }
+    {
+        Written {
+            held: Vec::new(alloc),
+            failed: Tally::zero(),
+            idles: Tally::zero(),
+        }
+    }
+
+    /// Returns what was written so far.
+    pub fn bytes(&self) -> &[u8]
+        ensures { self.now.held ≡ Some result.now }
+    {
+        self.held.as_slice()
+    }
+}
+
+impl<A: Allocator> Sink for Written<A> {
+    ghost told = { λ w. w };
+
+    // Fails only where growth is refused, and else takes all.
+    fn write_some(&mut self, piece: &[u8]) -> io::Result<usize>
+        ensures writes { Writes self.old self.new result piece.now }
+        ensures whole { IfOk result (λ n. n ≡ length piece.now) }
+    {
+        match self.held.extend_from_slice(piece) {
+            Ok(()) => Ok(piece.len()),
+            Err(e) => {
+                self.failed = Tally::after(&self.failed);
+                Err(e.into())
+            }
+        }
+    }
+}
+
+/// Writes to any `Write`, and tells counts alone.
+#[derive(Drop)]
+pub struct IntoWrite<W: Write + Drop> {
+    inner: W,
+    failed: Tally,
+    idles: Tally,
+}
+
+impl<W: Write + Drop> Model for IntoWrite<W> {
+    ghost use Rattle.std.specs.Prelude.{None};
+    ghost use Rattle.ac_util.specs.Device.{Writing};
+
+    ghost Value = { Writing };
+
+    ghost view = { λ w. record { held = None; failed = w.failed.number; idles = w.idles.number } };
+}
+
+impl<W: Write + Drop> IntoWrite<W> {
+    /// Returns a writer over `inner`.
+    pub fn new(inner: W) -> IntoWrite<W>
+        ensures { result ≡ record { held = None; failed = 0; idles = 0 } }
+    {
+        IntoWrite {
+            inner,
+            failed: Tally::zero(),
+            idles: Tally::zero(),
+        }
+    }
+}
+
+impl<W: Write + Drop> Sink for IntoWrite<W> {
+    ghost told = { λ w. w };
+
+    fn write_some(&mut self, piece: &[u8]) -> io::Result<usize> {
+        match self.inner.write(piece) {
+            Ok(n) => {
+                if n == 0 && !piece.is_empty() {
+                    self.idles = Tally::after(&self.idles);
+                }
+                Ok(n)
+            }
+            Err(e) => {
+                self.failed = Tally::after(&self.failed);
+                Err(e)
+            }
+        }
+    }
+}

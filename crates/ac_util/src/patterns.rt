@@ -1,0 +1,112 @@
+//! The patterns of a searcher, stored once.
+ghost use Rattle.std.specs.Prelude.{◌≡◌, ◌+◌, ◌<◌, ◌≤◌, List, ℕ, length, map, slice_get, MatchOption, MatchResult, OnOk, Ok, Err, None, Some, IfSome};
+ghost use Rattle.ac_util.specs.declared.error.BuildError.{BuildError};
+ghost use Rattle.ac_util.specs.declared.error.BuildError.TheVariants.{Memory};
+ghost use Rattle.ac_util.specs.Limits.{limit_refusal};
+ghost use Rattle.ac_util.specs.Pieces.{AreBounds, pieces};
+
+use crate::error::BuildError;
+use crate::primitives::{GREATEST, PatternID};
+use std::alloc::Allocator;
+use std::marker::Model;
+
+/// A list of patterns: all their bytes in one list, and the places in it where each pattern starts and the last one ends.
+///
+/// Contracts see it as the list of the patterns. There are never more of them than `PatternID` has numbers for.
+#[derive(Drop)]
+pub struct Patterns<A: Allocator> {
+    bytes: Vec<u8, A>,
+    bounds: Vec<usize, A>,
+}
+
+impl<A: Allocator> Model for Patterns<A> {
+    ghost use Rattle.std.specs.Prelude.{List, ℕ, length};
+    ghost use Rattle.ac_util.specs.Limits.{IsWithinLimits};
+    ghost use Rattle.ac_util.specs.Pieces.{AreBounds, pieces};
+
+    ghost Value = { List (List ℕ) };
+
+    ghost view = { λ p. pieces p.bytes.items p.bounds.items };
+
+    ghost invariant = { λ p. record {
+        bounds : AreBounds p.bounds.items (length p.bytes.items);
+        limits : IsWithinLimits (pieces p.bytes.items p.bounds.items);
+    } };
+}
+
+impl<A: Allocator> Patterns<A> {
+    /// Returns how many patterns there are.
+    #[inline]
+    pub fn len(&self) -> usize
+        ensures value { result ≡ length self.now }
+        ensures numbered { result ≤ GREATEST + 1 }
+    {
+        self.bounds.len() - 1
+    }
+
+    /// Returns a pattern by its number.
+    #[inline]
+    pub fn get(&self, number: usize) -> &[u8]
+        requires numbered { number < length self.now }
+        ensures value { slice_get self.now number ≡ Some result.now }
+        ensures short { length result.now ≤ GREATEST }
+    {
+        piece(&self.bytes, &self.bounds, number)
+    }
+}
+
+impl<A: Allocator + Clone> Patterns<A> {
+    /// Copies a list of patterns.
+    ///
+    /// # Errors
+    /// `PatternIdOverflow` and `PatternTooLong` exactly where a limit is passed, tested over the whole list in this order
+    /// before any memory is asked for; else `Memory` where a request for memory is refused.
+    pub fn new(alloc: A, patterns: &[&[u8]]) -> Result<Patterns<A>, BuildError>
+        ensures { MatchOption (limit_refusal (map (λ p. p.now) patterns.now))
+            (MatchResult result (λ stored. stored ≡ map (λ p. p.now) patterns.now) (λ e. e ≡ Memory))
+            (λ refusal. result ≡ Err refusal) }
+    {
+        check_limits(patterns)?;
+        let mut bytes = Vec::new(alloc.clone()?);
+        let mut bounds = Vec::new(alloc);
+        bounds.push(0)?;
+        for pattern in patterns {
+            bytes.extend_from_slice(pattern)?;
+            bounds.push(bytes.len())?;
+        }
+        Ok(Patterns { bytes, bounds })
+    }
+}
+
+/// Returns a piece of a list of bytes by its number.
+#[inline]
+fn piece<'a>(bytes: &'a [u8], bounds: &[usize], number: usize) -> &'a [u8]
+    requires bounds { AreBounds bounds.now (length bytes.now) }
+    requires numbered { number + 1 < length bounds.now }
+    ensures { slice_get (pieces bytes.now bounds.now) number ≡ Some result.now }
+{
+    let start = bounds[number];
+    let end = bounds[number + 1];
+    &bytes[start..end]
+}
+
+/// Tests that each pattern can have a number and that none is too long.
+fn check_limits(patterns: &[&[u8]]) -> Result<(), BuildError>
+    ensures { MatchOption (limit_refusal (map (λ p. p.now) patterns.now)) (result ≡ Ok tt) (λ refusal. result ≡ Err refusal) }
+{
+    if patterns.len() > GREATEST + 1 {
+        return Err(BuildError::PatternIdOverflow {
+            max: GREATEST as u64,
+            requested: patterns.len() as u64 - 1,
+        });
+    }
+    for (number, pattern) in patterns.iter().enumerate() {
+        if pattern.len() > GREATEST {
+            return Err(BuildError::PatternTooLong {
+                pattern: PatternID::must(number),
+                len: pattern.len(),
+            });
+        }
+    }
+    Ok(())
+}
