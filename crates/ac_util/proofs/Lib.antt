@@ -20,3 +20,7 @@ pub mod LimitLemmas
 mod SearchRows
 mod TextRows
 mod NodeRows
+pub mod PlainFind
+pub mod PlainListing
+pub mod PlainWalk
+pub mod PlainReplaced

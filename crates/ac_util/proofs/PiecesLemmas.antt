@@ -77,8 +77,8 @@ one_more_piece bytes bounds more bytes' bounds' last h added last_is bounded =
     let whole : length bytes' ≡ length bytes + length more = ap length added ∙ length-append bytes more in
     let here : bounds' ≡ bounds ++ (length bytes + length more) ∷ [] = bounded ∙ ap (λ (n : ℕ). bounds ++ n ∷ []) (last_is ∙ whole) in (
       subst (λ (n : ℕ). AreBounds bounds' n) (sym whole)
-      (subst (λ (bs : List ℕ). AreBounds bs (length bytes + length more)) (sym here) (AreBounds-push bounds (length bytes) (length more) h)),
+          (subst (λ (bs : List ℕ). AreBounds bs (length bytes + length more)) (sym here) (AreBounds-push bounds (length bytes) (length more) h)),
       ap (λ (bs : List ℕ). pieces bytes' bs) here
-      ∙ ap (λ (xs : List ℕ). pieces xs (bounds ++ (length bytes + length more) ∷ [])) added
-      ∙ pieces-push bytes more bounds h,
+          ∙ ap (λ (xs : List ℕ). pieces xs (bounds ++ (length bytes + length more) ∷ [])) added
+          ∙ pieces-push bytes more bounds h,
     )

@@ -1,8 +1,8 @@
 -- The sameness of bytes, strings and places of characters in other words.
-use Rattle.std.proofs.Common.{◌≡◌, ℕ, zero, suc, ◌+◌, ◌<◌, ◌≤◌, Bool, true, List, [], ◌∷◌, map, length, get_or, ◌⊎◌, inl, inr, refl, ap, sym, ◌∙◌, arith}
+use Rattle.std.proofs.Common.{◌≡◌, ℕ, suc, ◌+◌, ◌<◌, ◌≤◌, Bool, true, List, [], ◌∷◌, length, get_or, ◌⊎◌, inl, inr, refl, ap, sym, ◌∙◌, arith}
 use Rattle.std.specs.Char.{to_ascii_lowercase}
 use Rattle.std.proofs.lemmas.Bool.{eqb-true, eq-eqb, cases_lt}
-use Rattle.std.proofs.lemmas.List.{length-map}
+use Rattle.std.proofs.lemmas.List.{length-map, get_or-map}
 use Rattle.std.proofs.lemmas.Str.Ascii.{lowercase_is}
 use Rattle.ac_util.specs.Sameness.{plain_byte, same_byte, IsSame, IsCapitalOf, AreOneLetter}
 
@@ -39,31 +39,35 @@ same_byte-from_letters a b (inl e) = eq-eqb (to_ascii_lowercase a) (to_ascii_low
 same_byte-from_letters a b (inr (inl c)) = eq-eqb (to_ascii_lowercase a) (to_ascii_lowercase b) (small-stays a b c)
 same_byte-from_letters a b (inr (inr c)) = eq-eqb (to_ascii_lowercase a) (to_ascii_lowercase b) (sym (small-stays b a c))
 
--- strings that are the same have one length and are the same at each place
+-- strings that are the same have one length
 pub IsSame-length : (fold : Bool) (s t : List ℕ) → IsSame fold s t → length s ≡ length t
 IsSame-length fold s t h = sym (length-map s (plain_byte fold)) ∙ ap length h ∙ length-map t (plain_byte fold)
 
--- what stands at a place of a list after f
-pub get_or-map_within : (f : ℕ → ℕ) (xs : List ℕ) (k d : ℕ) → k < length xs → get_or (map f xs) k d ≡ f (get_or xs k 0)
-get_or-map_within f [] k d h = absurd (omega arith)
-get_or-map_within f (x ∷ xs) zero d h = refl
-get_or-map_within f (x ∷ xs) (suc k) d h = get_or-map_within f xs k d (omega arith)
-
-pub IsSame-at : (fold : Bool) (s t : List ℕ) → IsSame fold s t → (k : ℕ) → k < length s → same_byte fold (get_or s k 0) (get_or t k 0) ≡ true
+-- and they are the same at each place
+pub IsSame-at : (fold : Bool) (s t : List ℕ) → IsSame fold s t → (k : ℕ) → k < length s
+    → plain_byte fold (get_or s k 0) ≡ plain_byte fold (get_or t k 0)
 IsSame-at fold s t h k within =
     let l = IsSame-length fold s t h in
-    eq-eqb (plain_byte fold (get_or s k 0)) (plain_byte fold (get_or t k 0))
-    (sym (get_or-map_within (plain_byte fold) s k 0 within)
+    sym (get_or-map (plain_byte fold) s k 0 0 within)
     ∙ ap (λ (zs : List ℕ). get_or zs k 0) h
-    ∙ get_or-map_within (plain_byte fold) t k 0 (omega arith))
+    ∙ get_or-map (plain_byte fold) t k 0 0 (omega arith)
 
 -- and the other way round
 pub IsSame-from_places : (fold : Bool) (s t : List ℕ) → length s ≡ length t
-    → ((k : ℕ) → k < length s → same_byte fold (get_or s k 0) (get_or t k 0) ≡ true) → IsSame fold s t
+    → ((k : ℕ) → k < length s → plain_byte fold (get_or s k 0) ≡ plain_byte fold (get_or t k 0)) → IsSame fold s t
 IsSame-from_places fold [] [] l each = refl
 IsSame-from_places fold [] (y ∷ t) l each = absurd (omega arith)
 IsSame-from_places fold (x ∷ s) [] l each = absurd (omega arith)
 IsSame-from_places fold (x ∷ s) (y ∷ t) l each =
-    let first = eqb-true (plain_byte fold x) (plain_byte fold y) (each 0 (omega arith)) in
+    let first = each 0 (omega arith) in
     let rest = IsSame-from_places fold s t (omega arith) (λ k h. each (suc k) (omega arith)) in
     λ i. first i ∷ rest i
+
+-- the same in the words of the test
+pub IsSame-tested : (fold : Bool) (s t : List ℕ) → IsSame fold s t → (k : ℕ) → k < length s → same_byte fold (get_or s k 0) (get_or t k 0) ≡ true
+IsSame-tested fold s t h k within = eq-eqb (plain_byte fold (get_or s k 0)) (plain_byte fold (get_or t k 0)) (IsSame-at fold s t h k within)
+
+pub IsSame-from_tests : (fold : Bool) (s t : List ℕ) → length s ≡ length t
+    → ((k : ℕ) → k < length s → same_byte fold (get_or s k 0) (get_or t k 0) ≡ true) → IsSame fold s t
+IsSame-from_tests fold s t l each =
+    IsSame-from_places fold s t l (λ k within. eqb-true (plain_byte fold (get_or s k 0)) (plain_byte fold (get_or t k 0)) (each k within))

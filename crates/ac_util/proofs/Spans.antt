@@ -1,7 +1,8 @@
 -- What occurs in the span of a search is what stands in the span's text: bytes outside the span never count.
-use Rattle.std.proofs.Common.{◌≡◌, ℕ, zero, suc, ◌+◌, ◌-◌, ◌<◌, ◌≤◌, List, [], ◌∷◌, ◌++◌, map, length, take, drop, get_or, refl, ap, sym, ◌∙◌, subst, arith, Option, Some, None, length-drop, length-take}
+use Rattle.std.proofs.Common.{◌≡◌, ℕ, zero, suc, ◌+◌, ◌-◌, ◌<◌, ◌≤◌, List, [], ◌∷◌, ◌++◌, length, take, drop, get_or, refl, ap, sym, ◌∙◌, subst, arith, Option, Some, None, length-drop, length-take}
 use Rattle.std.specs.Prelude.{slice_range, option_map}
-use Rattle.std.proofs.lemmas.List.{length-map, take-map, take-take, drop-drop, take_more, map-append, get_or-drop}
+use Rattle.std.proofs.lemmas.List.{length-map, take-map, take-take, drop-drop, take_more, map-append, get_or-drop, drop-map}
+use Rattle.std.proofs.Math.ListN.{get_or-map}
 use Rattle.std.proofs.lemmas.Slice.Eq.{bytes_eq-Decides}
 use Rattle.ac_util.specs.declared.search.MatchKind.{MatchKind}
 use Rattle.ac_util.specs.declared.search.MatchKind.TheVariants.{Standard, LeftmostFirst, LeftmostLongest}
@@ -13,21 +14,11 @@ use Rattle.ac_util.specs.Text.{cut, outward, plain_patterns, text, one_longer}
 use Rattle.ac_util.proofs.Picks.{pick-IsPick, pick-from_IsPick, same_occurrence}
 use Rattle.ac_util.proofs.Standing.{Stands, place_of, IsPickIn, Stands-end}
 
-drop-map : {X Y : Type 0} (f : X → Y) (n : ℕ) (xs : List X) → drop n (map f xs) ≡ map f (drop n xs)
-drop-map f zero xs = refl
-drop-map f (suc n) [] = refl
-drop-map f (suc n) (x ∷ xs) = drop-map f n xs
-
 take_drop_take : {X : Type 0} (n k m : ℕ) (xs : List X) → k + n ≤ m → take n (drop k (take m xs)) ≡ take n (drop k xs)
 take_drop_take n zero m xs h = take-take n m xs (omega arith)
 take_drop_take n (suc k) zero xs h = absurd (omega arith)
 take_drop_take n (suc k) (suc m) [] h = refl
 take_drop_take n (suc k) (suc m) (x ∷ xs) h = take_drop_take n k m xs (omega arith)
-
-pub get_or-map : {X Y : Type 0} (f : X → Y) (xs : List X) (k : ℕ) (d : X) → get_or (map f xs) k (f d) ≡ f (get_or xs k d)
-get_or-map f [] k d = refl
-get_or-map f (x ∷ xs) zero d = refl
-get_or-map f (x ∷ xs) (suc k) d = get_or-map f xs k d
 
 -- a part of the haystack that lies in a span is a part of the haystack cut there
 slice_range-cut : (h : List ℕ) (low high s e : ℕ) → s ≤ e → low + e ≤ high → slice_range (slice_range h low high) s e ≡ slice_range h (low + s) (low + e)

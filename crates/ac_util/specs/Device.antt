@@ -1,5 +1,5 @@
 -- What a read and a write do: which bytes move, and which counts rise.
-use Rattle.std.specs.Prelude.{◌≡◌, ℕ, ◌+◌, ◌<◌, ◌≤◌, Bool, ◌&&◌, ◌==◌, nat_lt, List, length, take, Option, IfSome, Result, Ok, MatchResult, min, if◌then◌else◌}
+use Rattle.std.specs.Prelude.{◌≡◌, ℕ, ◌+◌, ◌<◌, ◌≤◌, ◌&&◌, ◌==◌, nat_lt, List, length, take, Option, IfSome, Result, Ok, MatchResult, min, if◌then◌else◌}
 use Rattle.std.specs.Io.KnownBytes.{Consumes, IsAtEnd, Appends}
 
 -- the bytes that a reader has left, if it tells them; how many of its calls failed; and how many reads into a slice that

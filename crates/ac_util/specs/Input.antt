@@ -1,5 +1,5 @@
 -- What is seen of an input: a haystack, the span of it that is searched, and two options.
-use Rattle.std.specs.Prelude.{◌≡◌, ℕ, ◌+◌, ◌≤◌, Bool, false, List, length}
+use Rattle.std.specs.Prelude.{ℕ, ◌+◌, ◌≤◌, Bool, false, List, length}
 use Rattle.ac_util.specs.declared.search.Anchored.{Anchored}
 use Rattle.ac_util.specs.declared.search.Anchored.TheVariants.{No}
 use Rattle.ac_util.specs.Search.{Search}

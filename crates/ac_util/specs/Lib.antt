@@ -20,3 +20,4 @@ pub mod Limits
 pub mod Pieces
 pub mod Classes
 pub mod Sizes
+pub mod Plain

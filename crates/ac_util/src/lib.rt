@@ -6,6 +6,7 @@ pub mod error;
 pub mod laws;
 pub mod looks;
 pub mod patterns;
+pub mod plain;
 pub mod primitives;
 pub mod search;
 pub mod tally;

@@ -29,8 +29,8 @@ impl<A: Allocator> Model for Patterns<A> {
     ghost view = { λ p. pieces p.bytes.items p.bounds.items };
 
     ghost invariant = { λ p. record {
-        bounds : AreBounds p.bounds.items (length p.bytes.items);
-        limits : IsWithinLimits (pieces p.bytes.items p.bounds.items);
+      bounds : AreBounds p.bounds.items (length p.bytes.items);
+      limits : IsWithinLimits (pieces p.bytes.items p.bounds.items);
     } };
 }
 

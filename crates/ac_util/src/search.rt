@@ -5,10 +5,9 @@ ghost use Rattle.ac_util.specs.Occurrence.{occurrence};
 mod input;
 
 use crate::primitives::{GREATEST, PatternID};
+pub use input::Input;
 use std::marker::Model;
 use std::ops::Range;
-
-pub use input::Input;
 
 /// Which of the occurrences in a span a search answers.
 #[derive(Clone, Copy, PartialEq, Eq, Default, Debug)]

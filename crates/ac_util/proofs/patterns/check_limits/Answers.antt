@@ -1,8 +1,6 @@
-use Rattle.std.proofs.Common.{◌≡◌, ◌+◌, ◌<◌, ◌≤◌, List, ℕ, [], length, map, drop, get_or, refl, ap, sym, subst, ◌∙◌, arith, Some}
+use Rattle.std.proofs.Common.{◌+◌, ◌<◌, ◌≤◌, List, ℕ, [], length, map, refl, sym, subst, ◌∙◌, arith}
 use Rattle.std.specs.Borrow.{Bor}
 use Rattle.std.proofs.lemmas.List.{length-map, get_or-map}
-use Rattle.ac_util.specs.declared.error.BuildError.TheVariants.{PatternTooLong}
-use Rattle.ac_util.specs.Limits.{limit_refusal}
 use Rattle.ac_util.proofs.LimitLemmas.{too_long-next, too_long-here}
 use Rattle.ac_util.proofs.patterns.check_limits.Goals as goal
 

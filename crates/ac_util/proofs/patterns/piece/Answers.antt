@@ -1,5 +1,5 @@
 use Rattle.std.proofs.Common.{◌+◌, length, arith}
-use Rattle.ac_util.proofs.PiecesLemmas.{IsPiece, bounds-rise, piece-at}
+use Rattle.ac_util.proofs.PiecesLemmas.{bounds-rise, piece-at}
 use Rattle.ac_util.proofs.patterns.piece.Goals as goal
 
 -- the piece lies within the bytes

@@ -1,4 +1,4 @@
-use Rattle.std.proofs.Common.{◌+◌, ◌≤◌, length, ap, sym, ◌∙◌, subst, arith}
+use Rattle.std.proofs.Common.{◌≤◌, length, ap, ◌∙◌, arith}
 use Rattle.ac_util.proofs.PiecesLemmas.{length-pieces}
 use Rattle.ac_util.proofs.LimitLemmas.{All-slice_get}
 use Rattle.ac_util.specs.Pieces.{pieces}

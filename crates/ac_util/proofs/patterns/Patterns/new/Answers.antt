@@ -1,7 +1,6 @@
-use Rattle.std.proofs.Common.{◌≡◌, ◌+◌, ◌<◌, ◌++◌, ◌∷◌, [], List, ℕ, length, map, take, get_or, refl, ap, sym, subst, ◌∙◌, arith, take_all}
+use Rattle.std.proofs.Common.{◌≡◌, ◌<◌, ◌++◌, ◌∷◌, [], List, ℕ, length, map, take, get_or, ap, sym, subst, ◌∙◌, arith, take_all}
 use Rattle.std.specs.Borrow.{Bor}
 use Rattle.std.proofs.lemmas.List.{length-map, get_or-map, take_more}
-use Rattle.ac_util.specs.Pieces.{AreBounds, pieces}
 use Rattle.ac_util.specs.Limits.{IsWithinLimits}
 use Rattle.ac_util.proofs.PiecesLemmas.{one_more_piece}
 use Rattle.ac_util.proofs.LimitLemmas.{limits-from_refusal, not_refused}

@@ -1,0 +1,189 @@
+//! A plain and slow search, whose contracts are the definitions themselves.
+//!
+//! Every faster search is held against it.
+ghost use Rattle.std.specs.Prelude.{◌≡◌, ◌↔◌, ◌+◌, ◌≤◌, ◌<◌, IsTrue, length};
+ghost use Rattle.ac_util.specs.Occurrence.{occurrence};
+ghost use Rattle.ac_util.specs.Pick.{beats, better, pick};
+ghost use Rattle.ac_util.specs.Plain.{bytes_of};
+ghost use Rattle.ac_util.specs.Sameness.{plain_byte, IsSame};
+ghost use Rattle.ac_util.specs.Search.{Occurs, from};
+
+use crate::primitives::GREATEST;
+use crate::search::{Anchored, Match, MatchKind, Span};
+use std::marker::Model;
+
+mod exchange;
+mod list;
+#[cfg(test)]
+mod tests;
+mod walks;
+
+pub use exchange::{replace_walk, replaced};
+pub use list::listing;
+pub use walks::{next_match, walk};
+
+/// What a search looks for, and where: contracts see it as a `Search`.
+#[derive(Drop)]
+pub struct Query<'a> {
+    patterns: &'a [&'a [u8]],
+    fold: bool,
+    haystack: &'a [u8],
+    anchored: Anchored,
+    low: usize,
+    high: usize,
+}
+
+impl<'a> Model for Query<'a> {
+    ghost use Rattle.std.specs.Prelude.{◌+◌, ◌≤◌, length};
+    ghost use Rattle.ac_util.specs.declared.primitives.TheConstants.{GREATEST};
+    ghost use Rattle.ac_util.specs.Plain.{bytes_of};
+    ghost use Rattle.ac_util.specs.Search.{Search};
+
+    ghost Value = { Search };
+
+    ghost view = { λ q. record {
+      patterns = bytes_of q.patterns.now;
+      fold = q.fold;
+      haystack = q.haystack.now;
+      anchored = q.anchored;
+      low = q.low;
+      high = q.high;
+    } };
+
+    ghost invariant = { λ q. record {
+      within : q.high ≤ length q.haystack.now;
+      numbers : length q.patterns.now ≤ GREATEST + 1;
+    } };
+}
+
+impl<'a> Query<'a> {
+    /// Returns the search for these patterns in a span of the haystack.
+    ///
+    /// With `fold` the case of ASCII letters is ignored. Places count bytes of the whole haystack.
+    /// In a span that starts after its end nothing is found.
+    pub fn new(
+        patterns: &'a [&'a [u8]],
+        fold: bool,
+        haystack: &'a [u8],
+        anchored: Anchored,
+        span: Span,
+    ) -> Query<'a>
+        requires numbers { length patterns.now ≤ GREATEST + 1 }
+        requires within { span.end ≤ length haystack.now }
+        ensures { result ≡ record {
+          patterns = bytes_of patterns.now;
+          fold = fold;
+          haystack = haystack.now;
+          anchored = anchored;
+          low = span.start;
+          high = span.end;
+        } }
+    {
+        Query {
+            patterns,
+            fold,
+            haystack,
+            anchored,
+            low: span.start,
+            high: span.end,
+        }
+    }
+
+    /// Returns the same search in a span that starts at this place.
+    pub fn from(&self, place: usize) -> Query<'a>
+        ensures { result ≡ from self.now place }
+    {
+        Query {
+            patterns: self.patterns,
+            fold: self.fold,
+            haystack: self.haystack,
+            anchored: self.anchored,
+            low: place,
+            high: self.high,
+        }
+    }
+
+    /// Returns whether the pattern of this number occurs from `start` to `end`.
+    fn occurs(&self, number: usize, start: usize, end: usize) -> bool
+        requires { number < length self.now.patterns }
+        ensures { IsTrue result ↔ Occurs self.now (occurrence number start end) }
+    {
+        let patterns = self.patterns;
+        let pattern = patterns[number];
+        self.low <= start
+            && start <= end
+            && end <= self.high
+            && end - start == pattern.len()
+            && (!self.anchored.is_anchored() || start == self.low)
+            && same_string(self.fold, pattern, &self.haystack[start..end])
+    }
+}
+
+/// Returns the match that the kind picks, found by trying each pattern at each place.
+pub fn find(kind: MatchKind, query: &Query) -> Option<Match>
+    ensures { result ≡ pick kind query.now }
+{
+    let mut best = None;
+    for number in 0..query.patterns.len() {
+        let pattern = query.patterns[number];
+        for start in query.low..query.high + 1 {
+            // Where the sum doesn't fit, the pattern has no room, and `occurs` says so.
+            let end = start.saturating_add(pattern.len());
+            if query.occurs(number, start, end) {
+                best = Some(better(kind, Match::must(number, start..end), best));
+            }
+        }
+    }
+    best
+}
+
+/// Returns the new match or the best one so far, as the kind prefers.
+fn better(kind: MatchKind, new: Match, best: Option<Match>) -> Match
+    ensures { result ≡ better kind new best }
+{
+    match best {
+        None => new,
+        Some(old) => if beats(kind, old, new) { old } else { new },
+    }
+}
+
+/// Returns whether the kind prefers the left match.
+fn beats(kind: MatchKind, left: Match, right: Match) -> bool
+    ensures { result ≡ beats kind left right }
+{
+    let same_start = left.start() == right.start();
+    let same_end = left.end() == right.end();
+    let less_number = left.pattern().as_usize() < right.pattern().as_usize();
+    match kind {
+        MatchKind::Standard if !same_end => left.end() < right.end(),
+        _ if !same_start => left.start() < right.start(),
+        MatchKind::LeftmostLongest if !same_end => right.end() < left.end(),
+        _ => less_number,
+    }
+}
+
+/// Returns whether two strings are the same, where `fold` ignores the case of ASCII letters.
+fn same_string(fold: bool, left: &[u8], right: &[u8]) -> bool
+    ensures { IsTrue result ↔ IsSame fold left.now right.now }
+{
+    if left.len() != right.len() {
+        return false;
+    }
+    for i in 0..left.len() {
+        if plain_byte(fold, left[i]) != plain_byte(fold, right[i]) {
+            return false;
+        }
+    }
+    true
+}
+
+/// Returns the byte, or the small letter where `fold` ignores case and the byte is a capital one.
+fn plain_byte(fold: bool, byte: u8) -> u8
+    ensures { result ≡ plain_byte fold byte }
+{
+    if fold {
+        byte.to_ascii_lowercase()
+    } else {
+        byte
+    }
+}

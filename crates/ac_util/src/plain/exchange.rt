@@ -1,0 +1,57 @@
+//! Matches exchanged for texts.
+ghost use Rattle.std.specs.Prelude.{◌≡◌, ◌≤◌, length, All, AllPairs, IfOk};
+ghost use Rattle.ac_util.specs.Plain.{bytes_of, IsReplaceable, EndsBy};
+ghost use Rattle.ac_util.specs.Replaced.{replaced};
+ghost use Rattle.ac_util.specs.Walk.{walk};
+
+use super::{Query, walk};
+use crate::search::{Match, MatchKind};
+use std::alloc::{AllocError, Global};
+
+/// Returns the haystack with each match exchanged for the text that its pattern's number names.
+///
+/// The matches lie in the haystack in order, none overlaps another, and each number has a text.
+///
+/// # Errors
+/// Where memory runs out.
+pub fn replaced(
+    alloc: Global,
+    haystack: &[u8],
+    texts: &[&[u8]],
+    matches: &[Match],
+) -> Result<Vec<u8>, AllocError>
+    requires each { All (IsReplaceable (length haystack.now) (length texts.now)) matches.now }
+    requires apart { AllPairs EndsBy matches.now }
+    ensures { let whole = replaced haystack.now (bytes_of texts.now) matches.now in
+        IfOk result (λ bytes. bytes.items ≡ whole) }
+{
+    let mut bytes = Vec::new(alloc);
+    let mut place = 0;
+    for found in matches {
+        bytes.extend_from_slice(&haystack[place..found.start()])?;
+        bytes.extend_from_slice(texts[found.pattern().as_usize()])?;
+        place = found.end();
+    }
+    bytes.extend_from_slice(&haystack[place..])?;
+    Ok(bytes)
+}
+
+/// Returns the whole haystack with each match of a walk exchanged for the text of its pattern.
+///
+/// There is a text for each pattern. The walk is that of the span; what lies outside it stays.
+///
+/// # Errors
+/// Where memory runs out.
+pub fn replace_walk(
+    alloc: Global,
+    kind: MatchKind,
+    query: &Query,
+    texts: &[&[u8]],
+) -> Result<Vec<u8>, AllocError>
+    requires { length query.now.patterns ≤ length texts.now }
+    ensures { let whole = replaced query.now.haystack (bytes_of texts.now) (walk kind query.now) in
+        IfOk result (λ bytes. bytes.items ≡ whole) }
+{
+    let matches = walk(alloc, kind, query)?;
+    replaced(alloc, query.haystack, texts, &matches)
+}

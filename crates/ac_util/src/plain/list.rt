@@ -1,0 +1,47 @@
+//! All occurrences of a search, by trying each place that its span has room for.
+ghost use Rattle.std.specs.Prelude.{◌≡◌, ◌≤◌, ◌++◌, filter, IfOk};
+ghost use Rattle.ac_util.specs.Listing.{all, places_at, places_ending_at};
+ghost use Rattle.ac_util.specs.Search.{occurs};
+
+use super::Query;
+use crate::search::Match;
+use std::alloc::{AllocError, Global};
+
+/// Returns all occurrences: by end, then by start, then by pattern number.
+///
+/// # Errors
+/// Where memory runs out.
+pub fn listing(alloc: Global, query: &Query) -> Result<Vec<Match>, AllocError>
+    ensures { IfOk result (λ ms. ms.items ≡ all query.now) }
+{
+    let mut found = Vec::new(alloc);
+    for end in query.low..query.high + 1 {
+        add_ending_at(query, end, &mut found)?;
+    }
+    Ok(found)
+}
+
+/// Adds the occurrences that end at a place, by start and then by pattern number.
+fn add_ending_at(query: &Query, end: usize, found: &mut Vec<Match>) -> Result<(), AllocError>
+    requires { end ≤ query.now.high }
+    ensures { let added = filter (occurs query.now) (places_ending_at query.now end) in
+        IfOk result (λ _. found.new.items ≡ found.old.items ++ added) }
+{
+    for start in query.low..end + 1 {
+        add_at(query, start, end, found)?;
+    }
+    Ok(())
+}
+
+/// Adds the occurrences from a start to an end, by pattern number.
+fn add_at(query: &Query, start: usize, end: usize, found: &mut Vec<Match>) -> Result<(), AllocError>
+    ensures { let added = filter (occurs query.now) (places_at query.now end start) in
+        IfOk result (λ _. found.new.items ≡ found.old.items ++ added) }
+{
+    for number in 0..query.patterns.len() {
+        if query.occurs(number, start, end) {
+            found.push(Match::must(number, start..end))?;
+        }
+    }
+    Ok(())
+}
