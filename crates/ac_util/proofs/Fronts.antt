@@ -1,5 +1,5 @@
 -- Fronts of strings: `starts_with nat_eq w p` says that p is a front of w.
-use Rattle.std.proofs.Common.{◌≡◌, ℕ, suc, ◌<◌, ◌≤◌, Bool, true, false, ◌||◌, List, [], ◌∷◌, ◌++◌, length, take, get_or, inl, inr, refl, ap, sym, ◌∙◌, arith, eqb}
+use Rattle.std.proofs.Common.{◌≡◌, ℕ, zero, suc, ◌<◌, ◌≤◌, Bool, true, false, ◌||◌, List, [], ◌∷◌, ◌++◌, length, take, get_or, inl, inr, refl, ap, sym, ◌∙◌, arith, eqb}
 use Rattle.std.specs.Prelude.{nat_eq}
 use Rattle.std.specs.List.{list_any, starts_with}
 use Rattle.std.proofs.lemmas.Bool.{or_cases, or_left, or_right, and_parts, and_from, eqb-true, eq-eqb, false≢true, false_from_ne_true}
@@ -42,6 +42,12 @@ pub starts_with-length : (w p : List ℕ) → starts_with nat_eq w p ≡ true �
 starts_with-length w [] h = omega arith
 starts_with-length [] (y ∷ p) h = absurd (false≢true h)
 starts_with-length (x ∷ w) (y ∷ p) h = let l = starts_with-length w p (and_parts _ _ h).1 in omega arith
+
+-- the first bytes of a string are a front of it
+pub starts_with-take : (n : ℕ) (w : List ℕ) → starts_with nat_eq w (take n w) ≡ true
+starts_with-take zero w = refl
+starts_with-take (suc n) [] = refl
+starts_with-take (suc n) (x ∷ w) = and_from _ _ (eq-eqb x x refl) (starts_with-take n w)
 
 -- a front as long as the string is the string
 pub starts_with-equal : (w p : List ℕ) → starts_with nat_eq w p ≡ true → length p ≡ length w → p ≡ w

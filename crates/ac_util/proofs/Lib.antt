@@ -17,6 +17,8 @@ pub mod SamenessLemmas
 pub mod Characters
 pub mod PiecesLemmas
 pub mod LimitLemmas
+pub mod NodeCount
+pub mod StepsLemmas
 mod SearchRows
 mod TextRows
 mod NodeRows

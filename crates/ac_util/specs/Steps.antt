@@ -1,5 +1,5 @@
 -- Replacement by a closure, as what it does to the closure and to a destination.
-use Rattle.std.specs.Prelude.{◌≡◌, ◌⊎◌, ℕ, Bool, MatchBool, List, [], ◌∷◌, drop, slice_range}
+use Rattle.std.specs.Prelude.{◌≡◌, ◌⊎◌, ◌++◌, ℕ, Bool, true, MatchBool, List, [], ◌∷◌, drop, slice_range, slice_index_or}
 use Rattle.ac_util.specs.Occurrence.{Occurrence}
 
 -- F is the closure's type, D the destination's.
@@ -28,3 +28,10 @@ module _ (F D : Type 0) (appends : List ℕ → D → D → Type 0)
       ((g ≡ f) × (e ≡ d))
       ⊎ ((answer : Bool) × (f' : F) × (d' : D) × Turn place m f d answer f' d'
       × MatchBool answer (StepsSoFar m.end ms f' d' g e) ((g ≡ f') × (e ≡ d')))
+
+-- appending to a list of bytes, and a closure that appends the text of the match's pattern and answers true
+abbrev pub Appends : List ℕ → List ℕ → List ℕ → Type 0
+Appends bytes d e = e ≡ d ++ bytes
+
+abbrev pub WritesText : List (List ℕ) → ℕ → Occurrence → List ℕ → List ℕ → Bool → ℕ → List ℕ → Type 0
+WritesText texts f m slice d answer g e = (answer ≡ true) × (e ≡ d ++ slice_index_or texts m.pattern [])

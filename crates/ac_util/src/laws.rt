@@ -1,5 +1,5 @@
 //! Laws of the definitions. Each is the contract of a function that does nothing: nothing is called, nothing is assumed.
-ghost use Rattle.std.specs.Prelude.{◌≡◌, ℕ, ◌+◌, ◌<◌, ◌≤◌, ◌++◌, ◌↔◌, ◌⊎◌, Bool, true, false, nat_le, IsTrue, List, [], ◌∷◌, Option, None, Some, MatchOption, Contains, AllPairs, length, map, filter, slice_get, slice_index};
+ghost use Rattle.std.specs.Prelude.{◌≡◌, ◌≢◌, ℕ, ◌+◌, ◌<◌, ◌≤◌, ◌++◌, ◌↔◌, ◌⊎◌, Bool, true, false, nat_le, IsTrue, List, [], ◌∷◌, Option, None, Some, MatchOption, Contains, AllPairs, length, map, filter, slice_get, slice_index};
 ghost use Rattle.std.specs.Str.{IsCharBoundary};
 ghost use Rattle.ac_util.specs.declared.search.Anchored.{Anchored};
 ghost use Rattle.ac_util.specs.declared.search.MatchKind.{MatchKind};
@@ -9,9 +9,11 @@ ghost use Rattle.ac_util.specs.Matches.{equal_to, matches, matches_at};
 ghost use Rattle.ac_util.specs.Node.{Node, depth, failure, is_leftmost, is_node, least_start, reached, step};
 ghost use Rattle.ac_util.specs.Occurrence.{Occurrence};
 ghost use Rattle.ac_util.specs.Pick.{IsPick, order_of, pick};
-ghost use Rattle.ac_util.specs.Replaced.{is_char_boundary};
+ghost use Rattle.ac_util.specs.Replaced.{is_char_boundary, replaced};
 ghost use Rattle.ac_util.specs.Sameness.{AreOneLetter, IsSame, same_byte, same_string};
 ghost use Rattle.ac_util.specs.Search.{Occurs, Search, from, occurs, pattern_of};
+ghost use Rattle.ac_util.specs.Sizes.{inner_nodes};
+ghost use Rattle.ac_util.specs.Steps.{Appends, Steps, WritesText};
 ghost use Rattle.ac_util.specs.Text.{cut, outward, ending, found_at_end, longer_by, one_longer, plain_patterns, text};
 ghost use Rattle.ac_util.specs.Walk.{IsAfter, next_match, walk, walk_after};
 
@@ -125,6 +127,21 @@ pub fn matches_follow()
         → is_leftmost kind ≡ true
         → matches kind patterns Anchored.No (Some u)
         ≡ matches_at kind patterns u (least_start patterns u) }
+{}
+
+/// The strings that are counted as states are those that lead to a node and aren't empty, each once.
+pub fn nodes_are_counted()
+    ensures counted { (kind : MatchKind) (patterns : List (List ℕ)) (u : List ℕ)
+        → Contains (inner_nodes kind patterns) u ↔ ((is_node kind patterns u ≡ true) × (u ≢ [])) }
+    ensures once { (kind : MatchKind) (patterns : List (List ℕ))
+        → AllPairs (λ u w. u ≢ w) (inner_nodes kind patterns) }
+{}
+
+/// A closure that appends the text of each pattern and goes on leaves the replaced text behind what was there.
+pub fn steps_replace()
+    ensures { (haystack : List ℕ) (texts : List (List ℕ)) (ms : List Occurrence) (f g : ℕ) (d e : List ℕ)
+        → Steps ℕ (List ℕ) Appends (WritesText texts) haystack 0 ms f d g e
+        → e ≡ d ++ replaced haystack texts ms }
 {}
 
 /// With one more byte the pick stays where the node reached has no match; under a leftmost kind it is else the first of its
