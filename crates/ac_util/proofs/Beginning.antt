@@ -27,7 +27,7 @@ narrow : (q : Search) (h : ℕ) (o : Occurrence) → o.end ≤ h → Occurs q o 
 narrow q h o l x = record { numbered = x.numbered; from_low = x.from_low; as_long = x.as_long; to_high = l; reads = x.reads; at_low = x.at_low }
 
 -- the pick of the shorter span
-abbrev within : ℕ → Option Occurrence → Option Occurrence
+abbrev pub within : ℕ → Option Occurrence → Option Occurrence
 within h None = None
 within h (Some m) = cond (ends_by h m) (Some m) None
 

@@ -1,5 +1,5 @@
 -- The matches of the node reached are those of all that was read, and those of a node are its own and its failure target's.
-use Rattle.std.proofs.Common.{◌≡◌, ℕ, suc, Bool, true, false, ◌&&◌, cond, List, [], ◌∷◌, ◌++◌, refl, ap, sym, ◌∙◌, Option, Some, None}
+use Rattle.std.proofs.Common.{◌≡◌, ℕ, suc, Bool, true, false, ◌&&◌, cond, List, [], ◌∷◌, ◌++◌, refl, ap, sym, ◌∙◌, Option, Some, None, ◌<◌, ◌≤◌, length, inl, inr, arith}
 use Rattle.std.specs.Prelude.{flat_map, option_map}
 use Rattle.std.proofs.lemmas.Bool.{cond-false, cond-true}
 use Rattle.std.proofs.lemmas.List.{append-nil}
@@ -8,7 +8,9 @@ use Rattle.ac_util.specs.declared.search.Anchored.{Anchored}
 use Rattle.ac_util.specs.declared.search.Anchored.TheVariants.{No, Yes}
 use Rattle.ac_util.specs.Node.{Node, is_leftmost, is_node, suffixes, open_suffixes, begins_with_pattern, least_start, reached, failure}
 use Rattle.ac_util.specs.Matches.{equal_to, matches, matches_at}
-use Rattle.ac_util.proofs.Participants.{equal_to-none, equal_to-none_begins}
+use Rattle.ac_util.proofs.Participants.{IsIn-from_equal_to, equal_to-none, equal_to-none_begins}
+use Rattle.ac_util.proofs.Lists.{IsIn, IsIn-append_cases}
+use Rattle.ac_util.specs.Search.{pattern_of}
 use Rattle.ac_util.proofs.Reached.{stops, starting_by-cons, open_suffixes-nil, reached-nil, reached-cons}
 use Rattle.ac_util.proofs.Failures.{failure-cons}
 
@@ -93,3 +95,36 @@ module _ (kind : MatchKind) (patterns : List (List ℕ)) where
       matches-cons x u
       ∙ ap (λ (l : Bool). own (x ∷ u) ++ cond (l && begins_with_pattern patterns (x ∷ u)) [] (found (Some u))) leftmost
       ∙ first_of_cons x u (begins_with_pattern patterns (x ∷ u)) refl (matches-leftmost leftmost u)
+
+  -- a match of a string is a pattern that isn't longer than the string
+  pub record Fits (u : List ℕ) (n : ℕ) : Type 0 where
+    pub numbered : n < length patterns
+    pub short : length (pattern_of patterns n) ≤ length u
+
+  own-fits : (u : List ℕ) (n : ℕ) → IsIn n (own u) → Fits u n
+  own-fits u n h =
+      let e = IsIn-from_equal_to kind patterns u n h in
+      record { numbered = e.numbered; short = (let l = ap length e.same in omega arith) }
+
+  behind-fits : (x : ℕ) (u : List ℕ) (n : ℕ) (s : Bool) → (IsIn n (found (Some u)) → Fits u n) → IsIn n (cond s [] (found (Some u))) → Fits u n
+  behind-fits x u n true later h = absurd h
+  behind-fits x u n false later h = later h
+
+  pub matches-fits : (u : List ℕ) (n : ℕ) → IsIn n (found (Some u)) → Fits u n
+  matches-fits [] n h = own-fits [] n (rw matches-nil at h)
+  matches-fits (x ∷ u) n h =
+      elim (IsIn-append_cases n (own (x ∷ u)) (cond (stops kind patterns (x ∷ u)) [] (found (Some u))) (rw (matches-cons x u) at h)) [
+        | inl here ↦ own-fits (x ∷ u) n here
+        | inr later ↦
+            let f = behind-fits x u n (stops kind patterns (x ∷ u)) (matches-fits u n) later in
+            record { numbered = f.numbered; short = (let s = f.short in omega arith) }
+      ]
+
+  -- one that is as long is the whole string
+  pub matches-whole : (u : List ℕ) (n : ℕ) → IsIn n (found (Some u)) → length (pattern_of patterns n) ≡ length u → IsIn n (own u)
+  matches-whole [] n h l = rw matches-nil at h
+  matches-whole (x ∷ u) n h l =
+      elim (IsIn-append_cases n (own (x ∷ u)) (cond (stops kind patterns (x ∷ u)) [] (found (Some u))) (rw (matches-cons x u) at h)) [
+        | inl here ↦ here
+        | inr later ↦ absurd (let f = behind-fits x u n (stops kind patterns (x ∷ u)) (matches-fits u n) later in let s = f.short in omega arith)
+      ]

@@ -19,6 +19,7 @@ pub mod PiecesLemmas
 pub mod LimitLemmas
 pub mod NodeCount
 pub mod StepsLemmas
+pub mod SearchLoop
 mod SearchRows
 mod TextRows
 mod NodeRows

@@ -10,12 +10,12 @@ use Rattle.ac_util.specs.Pick.{IsFirst, order_of, pick}
 use Rattle.ac_util.specs.Node.{Node, is_leftmost, reached, step}
 use Rattle.ac_util.specs.Matches.{matches}
 use Rattle.ac_util.specs.Text.{outward, plain_patterns, text, one_longer, longer_by, found_at_end, ending}
-use Rattle.ac_util.proofs.Picks.{same_occurrence}
+use Rattle.ac_util.proofs.Picks.{same_occurrence, pick-from_IsPick}
 use Rattle.ac_util.proofs.Reached.{step-reached}
 use Rattle.ac_util.proofs.Found.{matches-reached}
 use Rattle.ac_util.proofs.Standing.{Stands, place_of, IsPickIn, first-at_one_end}
 use Rattle.ac_util.proofs.Advance.{IsHead, head, pick-stays, pick-becomes, first-becomes, start-stays, start-becomes}
-use Rattle.ac_util.proofs.Spans.{inward, pattern_length, text_length, text_longer, pick-from_text, pick-in_text, pick-out_again}
+use Rattle.ac_util.proofs.Spans.{inward, pattern_length, text_length, text_longer, pick-from_text, pick-in_text, pick-out_again, nothing-past_end}
 
 -- a head of the text, told from the haystack's front, ends where the span does
 ending-head : (kind : MatchKind) (q : Search) (i k : ℕ) → q.low ≤ q.high → q.high ≤ length q.haystack
@@ -105,7 +105,7 @@ module _ (kind : MatchKind) (q : Search) (order : q.low ≤ q.high) (room : q.hi
       ∙ ap (reached kind (plain_patterns q) q.anchored) (sym (text_longer q order room))
 
 -- a span without bytes has the empty text
-text-empty : (q : Search) → q.low ≡ q.high → text q ≡ []
+pub text-empty : (q : Search) → q.low ≡ q.high → text q ≡ []
 text-empty q e = ap (plain q.fold) (ap (λ (n : ℕ). slice_range q.haystack q.low n) (sym e) ∙ nothing)
   where
     nothing : slice_range q.haystack q.low q.low ≡ []
@@ -166,3 +166,7 @@ module _ (kind : MatchKind) (q : Search) (order : q.low ≤ q.high) (dead : reac
       ap (pick Standard) (longer-suc n)
       ∙ first-longer_stays kind (longer_by q n) (omega arith) (omega arith) (first-dead none n (omega arith))
       (sym (ap (found_at_end kind) (longer-suc n)) ∙ nothing_found (suc n) room)
+
+-- a span that begins past its end has no pick
+pub none-past_end : (kind : MatchKind) (q : Search) → q.high < q.low → pick kind q ≡ None
+none-past_end kind q past = sym (pick-from_IsPick kind q None (λ o occurs. nothing-past_end q o past occurs))

@@ -21,3 +21,4 @@ pub mod Pieces
 pub mod Classes
 pub mod Sizes
 pub mod Plain
+pub mod Built

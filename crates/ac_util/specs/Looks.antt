@@ -1,5 +1,5 @@
 -- How many states a step looks at: a look is one use of a state's own transitions.
-use Rattle.std.specs.Prelude.{ℕ, zero, suc, true, false, ◌∷◌, [], ◌++◌, List, None, Some}
+use Rattle.std.specs.Prelude.{ℕ, zero, suc, true, false, ◌∷◌, [], ◌++◌, List, None, Some, ◌==◌, if◌then◌else◌}
 use Rattle.ac_util.specs.declared.search.MatchKind.{MatchKind}
 use Rattle.ac_util.specs.declared.search.Anchored.{Anchored}
 use Rattle.ac_util.specs.declared.search.Anchored.TheVariants.{No, Yes}
@@ -22,3 +22,8 @@ looks_within kind patterns (suc n) (Some (x ∷ u)) b =
 abbrev pub looks : MatchKind → List (List ℕ) → Anchored → Node → ℕ → ℕ
 looks kind patterns No u b = looks_within kind patterns (depth u) u b
 looks kind patterns Yes u b = 1
+
+-- the looks of a step in an automaton that is allowed `most` of them for each byte: one that is allowed a single one has no
+-- failure targets to follow
+abbrev pub looks_by : ℕ → MatchKind → List (List ℕ) → Anchored → Node → ℕ → ℕ
+looks_by most kind patterns anchored u b = if most == 1 then 1 else looks kind patterns anchored u b

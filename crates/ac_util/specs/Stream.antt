@@ -22,6 +22,11 @@ abbrev pub longest_len : List (List ℕ) → ℕ
 longest_len [] = 0
 longest_len (p ∷ ps) = max (length p) (longest_len ps)
 
+-- the length of the shortest pattern, the greatest usize without patterns
+abbrev pub shortest_len : List (List ℕ) → ℕ
+shortest_len [] = 18446744073709551615
+shortest_len (p ∷ ps) = min (length p) (shortest_len ps)
+
 -- where the last of the matches ends, 0 without matches
 abbrev pub last_end : List Occurrence → ℕ
 last_end [] = 0

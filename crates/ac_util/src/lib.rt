@@ -7,6 +7,7 @@ pub mod laws;
 pub mod looks;
 pub mod patterns;
 pub mod plain;
+pub mod prefilter;
 pub mod primitives;
 pub mod search;
 pub mod tally;

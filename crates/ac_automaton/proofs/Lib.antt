@@ -1,0 +1,3 @@
+pub mod FindLoop
+pub mod Heads
+pub mod ReadOn

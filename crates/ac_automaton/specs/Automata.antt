@@ -1,0 +1,39 @@
+-- What contracts say of the states of an automaton, by the node that a state stands for.
+use Rattle.std.specs.Prelude.{◌≡◌, ℕ, Bool, List, ◌++◌, map}
+use Rattle.ac_util.specs.declared.search.Anchored.{Anchored}
+use Rattle.ac_util.specs.declared.search.Anchored.TheVariants.{No, Yes}
+use Rattle.ac_util.specs.Sameness.{plain_byte, plain}
+use Rattle.ac_util.specs.Built.{Built}
+use Rattle.ac_util.specs.Node.{Node, step}
+use Rattle.ac_util.specs.Matches.{matches}
+use Rattle.ac_util.specs.Looks.{looks_by}
+
+-- the patterns as the nodes know them
+abbrev pub plain_of : Built → List (List ℕ)
+plain_of built = map (plain built.fold) built.patterns
+
+-- where a byte leads from a node, the looks that this takes, and the matches of a node
+abbrev pub step_of : Built → Anchored → Node → ℕ → Node
+step_of built anchored u byte = step built.kind (plain_of built) anchored u (plain_byte built.fold byte)
+
+abbrev pub looks_of : ℕ → Built → Anchored → Node → ℕ → ℕ
+looks_of most built anchored u byte = looks_by most built.kind (plain_of built) anchored u (plain_byte built.fold byte)
+
+abbrev pub matches_of : Built → Anchored → Node → List ℕ
+matches_of built anchored u = matches built.kind (plain_of built) anchored u
+
+-- the number stands for some node
+abbrev pub IsState : (ℕ → Node → Type 0) → ℕ → Type 0
+IsState stands s = (u : Node) × stands s u
+
+-- the list has the matches that count in an anchored search in front, and is itself a front of all matches of the node
+pub record ListsOwn (built : Built) (u : Node) (listed : List ℕ) : Type 0 where
+  pub passed_over : List ℕ
+  pub own : listed ≡ matches_of built Yes u ++ passed_over
+  pub left_out : List ℕ
+  pub front : matches_of built No u ≡ listed ++ left_out
+
+-- a state that stands for the node may list these matches
+abbrev pub Lists : Built → Anchored → Node → List ℕ → Type 0
+Lists built No u listed = listed ≡ matches_of built No u
+Lists built Yes u listed = ListsOwn built u listed

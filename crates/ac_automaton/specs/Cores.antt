@@ -1,0 +1,59 @@
+-- What a search core does to the tape that it reads and to its counts.
+use Rattle.std.specs.Prelude.{◌≡◌, ◌≢◌, ℕ, ◌+◌, ◌-◌, ◌*◌, ◌≤◌, Bool, List, Option, None, Some, IfSome, option_map, slice_get, length, max}
+use Rattle.ac_util.specs.declared.search.Anchored.{Anchored}
+use Rattle.ac_util.specs.declared.search.Anchored.TheVariants.{Yes}
+use Rattle.ac_util.specs.declared.search.MatchKind.{MatchKind}
+use Rattle.ac_util.specs.declared.search.MatchKind.TheVariants.{Standard}
+use Rattle.ac_util.specs.Occurrence.{Occurrence, occurrence}
+use Rattle.ac_util.specs.Search.{pattern_of}
+use Rattle.ac_util.specs.Built.{Built}
+use Rattle.ac_util.specs.Pick.{order_of}
+use Rattle.ac_util.specs.Node.{Node, depth}
+use Rattle.ac_automaton.specs.Automata.{matches_of}
+use Rattle.ac_util.specs.Counts.{Counts, Taped}
+use Rattle.ac_util.specs.Input.{Asked}
+
+-- what a core is asked: a span of the bytes of a tape, and two options
+abbrev pub asked_of : List ℕ → ℕ → ℕ → Anchored → Bool → Asked
+asked_of bytes start end anchored earliest = record {
+  haystack = bytes;
+  start = start;
+  end = end;
+  anchored = anchored;
+  earliest = earliest;
+}
+
+-- a search of start..end has read on from the start, each byte once and none past the end; it has looked at states at most
+-- `most` times for each byte read, and has called the prefilter at most once for each byte of the span
+pub record Reads (most start end : ℕ) (tape new_tape : Taped) (counts new_counts : Counts) : Type 0 where
+  pub bytes : new_tape.bytes ≡ tape.bytes
+  pub onward : tape.place ≤ new_tape.place
+  pub within : new_tape.place ≤ max tape.place end
+  pub more : counts.reads ≤ new_counts.reads
+  pub reads : new_counts.reads ≤ counts.reads + (new_tape.place - start)
+  pub looks : new_counts.looks ≤ counts.looks + most * (new_counts.reads - counts.reads)
+  pub calls : new_counts.calls ≤ counts.calls + (end - start)
+
+-- nothing past the end of the match was read, and the prefilter was called at most once for each byte up to it
+pub record ReadsTo (m : Occurrence) (start : ℕ) (tape new_tape : Taped) (counts new_counts : Counts) : Type 0 where
+  pub place : new_tape.place ≤ max tape.place m.end
+  pub calls : new_counts.calls ≤ counts.calls + (m.end - start)
+
+-- under Standard, or with `earliest`, a search that answers a match has read nothing past its end
+abbrev pub StopsAtMatch : MatchKind → Bool → ℕ → Option Occurrence → Taped → Taped → Counts → Counts → Type 0
+StopsAtMatch kind earliest start r tape new_tape counts new_counts =
+    order_of kind earliest ≡ Standard → IfSome r (λ m. ReadsTo m start tape new_tape counts new_counts)
+
+-- where a pattern stands that ends at a place
+abbrev pub place_of : Built → ℕ → ℕ → Occurrence
+place_of built end number = occurrence number (end - length (pattern_of built.patterns number)) end
+
+-- the node fits into what was read from start to end, and in an anchored search is the whole of it or dead
+pub record FitsIn (anchored : Anchored) (u : Node) (start end : ℕ) : Type 0 where
+  pub ordered : start ≤ end
+  pub short : depth u ≤ end - start
+  pub whole : anchored ≡ Yes → u ≢ None → depth u ≡ end - start
+
+-- what a state that stands for the node finds where the text read ends: the first of the matches that count
+abbrev pub found_at : Built → Anchored → Node → ℕ → Option Occurrence
+found_at built anchored u end = option_map (place_of built end) (slice_get (matches_of built anchored u) 0)

@@ -1,0 +1,123 @@
+//! What an engine offers, and the searches over any engine.
+ghost use Rattle.std.specs.Prelude.{◌≡◌, ◌≢◌, ◌↔◌, ◌⊎◌, ℕ, ◌<◌, List, [], length, slice_get, Some, None, IsTrue, IsNone, MatchResult};
+ghost use Rattle.ac_util.specs.declared.search.Anchored.{Anchored};
+ghost use Rattle.ac_util.specs.Built.{Built};
+ghost use Rattle.ac_util.specs.Counts.{more_looks};
+ghost use Rattle.ac_util.specs.Node.{Node};
+ghost use Rattle.ac_util.specs.Refusal.{start_refusal};
+ghost use Rattle.ac_util.specs.Search.{pattern_of};
+ghost use Rattle.ac_util.specs.Stream.{longest_len, shortest_len};
+ghost use Rattle.ac_automaton.specs.Automata.{IsState, Lists, looks_of, step_of};
+
+use ac_util::error::MatchError;
+use ac_util::looks::Looks;
+use ac_util::prefilter::Prefilter;
+use ac_util::primitives::{PatternID, StateID};
+use ac_util::search::{Anchored, MatchKind};
+
+mod find;
+
+pub use find::find_core;
+
+/// An automaton that finds patterns: states, and where each byte leads from a state.
+///
+/// A state is told by its number. Contracts see which node a number stands for, in an unanchored or in an anchored search: a
+/// string of bytes, or the dead node from which nothing is found any more. State numbers that are handed in have to stand for
+/// some node: `start_state` gives such a number, and `next_state` gives one where it was handed one, under the same anchoring.
+pub trait Automaton {
+    /// How many looks at states a search may take for each byte that it reads, on the whole: 2 where failed transitions are
+    /// followed one after another, 1 in a table.
+    const LOOKS: usize;
+
+    ghost LOOKS: { ℕ };
+
+    ghost built: { Self → Built };
+
+    ghost stands: { Self → Anchored → ℕ → Node → Type 0 };
+
+    ghost listed: { Self → ℕ → List ℕ };
+
+    /// Returns the state at which a search begins.
+    ///
+    /// # Errors
+    /// `InvalidInputAnchored` or `InvalidInputUnanchored` where the automaton has no such start.
+    fn start_state(&self, anchored: Anchored) -> Result<StateID, MatchError>
+        ensures { MatchResult result
+            (λ sid. (start_refusal (built self.now).start_kind anchored ≡ None) × stands self.now anchored sid (Some []))
+            (λ e. start_refusal (built self.now).start_kind anchored ≡ Some e) };
+
+    /// Returns the state after a byte, and counts the looks that this takes.
+    fn next_state(&self, anchored: Anchored, sid: StateID, byte: u8, looks: &mut Looks) -> StateID
+        requires state { IsState (stands self.now anchored) sid }
+        ensures steps { (u : Node) → stands self.now anchored sid u
+            → stands self.now anchored result (step_of (built self.now) anchored u byte) }
+        ensures looks { (u : Node) → stands self.now anchored sid u
+            → looks.new ≡ more_looks (looks_of LOOKS (built self.now) anchored u byte) looks.old };
+
+    /// Returns whether the state may be dead, a match state or a start. Where it is none of them, most searches have nothing to
+    /// do but to go on.
+    fn is_special(&self, sid: StateID) -> bool
+        requires state { (anchored : Anchored) × IsState (stands self.now anchored) sid }
+        ensures { (anchored : Anchored) (u : Node) → stands self.now anchored sid u
+            → (u ≡ None) ⊎ (u ≡ Some []) ⊎ (listed self.now sid ≢ []) → IsTrue result };
+
+    /// Returns whether the state is dead: nothing is found from it on.
+    fn is_dead(&self, sid: StateID) -> bool
+        requires state { (anchored : Anchored) × IsState (stands self.now anchored) sid }
+        ensures { (anchored : Anchored) (u : Node) → stands self.now anchored sid u → IsTrue result ↔ (u ≡ None) };
+
+    /// Returns whether the state has matches.
+    fn is_match(&self, sid: StateID) -> bool
+        requires state { (anchored : Anchored) × IsState (stands self.now anchored) sid }
+        ensures { IsTrue result ↔ (listed self.now sid ≢ []) };
+
+    /// Returns whether the state is one at which a search begins.
+    fn is_start(&self, sid: StateID) -> bool
+        requires state { (anchored : Anchored) × IsState (stands self.now anchored) sid }
+        ensures { (anchored : Anchored) (u : Node) → stands self.now anchored sid u → IsTrue result ↔ (u ≡ Some []) };
+
+    /// Returns how many matches a match state has.
+    fn match_len(&self, sid: StateID) -> usize
+        requires state { (anchored : Anchored) × IsState (stands self.now anchored) sid }
+        requires matches { listed self.now sid ≢ [] }
+        ensures { result ≡ length (listed self.now sid) };
+
+    /// Returns the pattern of one of the matches of a match state.
+    fn match_pattern(&self, sid: StateID, index: usize) -> PatternID
+        requires state { (anchored : Anchored) × IsState (stands self.now anchored) sid }
+        requires within { index < length (listed self.now sid) }
+        ensures { slice_get (listed self.now sid) index ≡ Some result };
+
+    /// Returns which of the occurrences in a span a search answers.
+    fn match_kind(&self) -> MatchKind
+        ensures { result ≡ (built self.now).kind };
+
+    /// Returns how many patterns there are.
+    fn patterns_len(&self) -> usize
+        ensures { result ≡ length (built self.now).patterns };
+
+    /// Returns how many bytes a pattern has.
+    fn pattern_len(&self, pattern: PatternID) -> usize
+        requires numbered { pattern < length (built self.now).patterns }
+        ensures { result ≡ length (pattern_of (built self.now).patterns pattern) };
+
+    /// Returns how many bytes the shortest pattern has, or `usize::MAX` without patterns.
+    fn min_pattern_len(&self) -> usize
+        ensures { result ≡ shortest_len (built self.now).patterns };
+
+    /// Returns how many bytes the longest pattern has, or 0 without patterns.
+    fn max_pattern_len(&self) -> usize
+        ensures { result ≡ longest_len (built self.now).patterns };
+
+    /// Returns about how many bytes of memory the automaton takes. Nothing is promised of the number.
+    fn memory_usage(&self) -> usize;
+
+    /// Returns the prefilter of the automaton. There is none yet.
+    fn prefilter(&self) -> Option<&Prefilter>
+        ensures { IsNone result };
+
+    ghost one_or_two: { (LOOKS ≡ 1) ⊎ (LOOKS ≡ 2) };
+
+    ghost lists: { (automaton : Self) (anchored : Anchored) (s : ℕ) (u : Node)
+        → stands automaton anchored s u → Lists (built automaton) anchored u (listed automaton s) };
+}

@@ -1,0 +1,4 @@
+//! Automata over a list of patterns, and the searches that run on any of them.
+#![tactic(auto)]
+
+pub mod automaton;

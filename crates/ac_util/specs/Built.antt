@@ -1,0 +1,38 @@
+-- What an automaton or a searcher was built from, and what it answers: this and nothing else decides every answer.
+use Rattle.std.specs.Prelude.{ℕ, Bool, ◌==◌, List, Option, length, map}
+use Rattle.std.specs.List.{list_any}
+use Rattle.ac_util.specs.declared.search.MatchKind.{MatchKind}
+use Rattle.ac_util.specs.declared.search.StartKind.{StartKind}
+use Rattle.ac_util.specs.declared.error.MatchError.{MatchError}
+use Rattle.ac_util.specs.Occurrence.{Occurrence}
+use Rattle.ac_util.specs.Search.{Search}
+use Rattle.ac_util.specs.Pick.{order_of, pick}
+use Rattle.ac_util.specs.Walk.{walk}
+use Rattle.ac_util.specs.Refusal.{refusal, Find}
+use Rattle.ac_util.specs.Input.{Asked, search_for}
+
+-- the patterns, whether case is ignored, the match kind, and which starts there are
+pub record Built : Type 0 where
+  pub patterns : List (List ℕ)
+  pub fold : Bool
+  pub kind : MatchKind
+  pub start_kind : StartKind
+
+-- whether some pattern is empty
+abbrev pub has_empty : Built → Bool
+has_empty built = list_any (λ p. length p == 0) built.patterns
+
+-- the search that an input asks for
+abbrev pub search_in : Built → Asked → Search
+search_in built asked = search_for built.patterns built.fold asked
+
+-- what a find answers, and which matches a walk gives
+abbrev pub found : Built → Asked → Option Occurrence
+found built asked = pick (order_of built.kind asked.earliest) (search_in built asked)
+
+abbrev pub walked : Built → Asked → List Occurrence
+walked built asked = walk (order_of built.kind asked.earliest) (search_in built asked)
+
+-- why a find or a walk is refused, if it is
+abbrev pub find_refusal : Built → Asked → Option MatchError
+find_refusal built asked = refusal built.start_kind built.kind (Find asked.anchored) (has_empty built)
