@@ -1,3 +1,4 @@
 pub mod FindLoop
 pub mod Heads
 pub mod ReadOn
+pub mod WalkLoop

@@ -11,6 +11,7 @@ pub record ReadOn (most start at saved : ℕ) (tape new_tape : Taped) (counts ne
   pub reached : at ≤ max start new_tape.place
   pub reads : new_counts.reads ≡ counts.reads + (at - start)
   pub paid : new_counts.looks + saved ≤ counts.looks + most * (at - start)
+  pub looks : counts.looks ≤ new_counts.looks
   pub calls : new_counts.calls ≡ counts.calls
 
 module _ (most start at saved : ℕ) (tape new_tape : Taped) (counts new_counts : Counts) (ordered : start ≤ at)
@@ -20,7 +21,7 @@ module _ (most start at saved : ℕ) (tape new_tape : Taped) (counts new_counts 
       → tape_then ≡ record { bytes = new_tape.bytes; place = at + 1 } → counts_read ≡ one_more_read new_counts
       → counts_then ≡ more_looks n counts_read → n + saved_then ≤ saved + most → ReadOn most start (at + 1) saved_then tape tape_then counts counts_then
   read-more n saved_then tape_then counts_read counts_then unread place counted looked paid =
-      let b = read.bytes in let o = read.onward in let r = read.reads in let p = read.paid in let k = read.calls in
+      let b = read.bytes in let l = read.looks in let o = read.onward in let r = read.reads in let p = read.paid in let k = read.calls in
       let there = ap (λ (t : Taped). t.place) place in
       let reads = ap (λ (c : Counts). c.reads) looked in let one = ap (λ (c : Counts). c.reads) counted in
       let looks = ap (λ (c : Counts). c.looks) looked in let same = ap (λ (c : Counts). c.looks) counted in
@@ -32,6 +33,7 @@ module _ (most start at saved : ℕ) (tape new_tape : Taped) (counts new_counts 
         reached = omega arith;
         reads = omega arith;
         paid = rw further (omega arith);
+        looks = omega arith;
         calls = calls ∙ none ∙ k;
       }
 
@@ -43,7 +45,7 @@ module _ (most start at saved : ℕ) (tape new_tape : Taped) (counts new_counts 
         bytes = read.bytes;
         onward = o;
         within = omega arith;
-        more = omega arith;
+        grows = record { reads = omega arith; looks = read.looks; calls = omega arith };
         reads = omega arith;
         looks = rw all (omega arith);
         calls = omega arith;

@@ -23,13 +23,19 @@ asked_of bytes start end anchored earliest = record {
   earliest = earliest;
 }
 
+-- nothing counted was taken back
+pub record Grows (counts new_counts : Counts) : Type 0 where
+  pub reads : counts.reads ≤ new_counts.reads
+  pub looks : counts.looks ≤ new_counts.looks
+  pub calls : counts.calls ≤ new_counts.calls
+
 -- a search of start..end has read on from the start, each byte once and none past the end; it has looked at states at most
 -- `most` times for each byte read, and has called the prefilter at most once for each byte of the span
 pub record Reads (most start end : ℕ) (tape new_tape : Taped) (counts new_counts : Counts) : Type 0 where
   pub bytes : new_tape.bytes ≡ tape.bytes
   pub onward : tape.place ≤ new_tape.place
   pub within : new_tape.place ≤ max tape.place end
-  pub more : counts.reads ≤ new_counts.reads
+  pub grows : Grows counts new_counts
   pub reads : new_counts.reads ≤ counts.reads + (new_tape.place - start)
   pub looks : new_counts.looks ≤ counts.looks + most * (new_counts.reads - counts.reads)
   pub calls : new_counts.calls ≤ counts.calls + (end - start)

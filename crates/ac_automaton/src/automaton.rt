@@ -1,23 +1,27 @@
 //! What an engine offers, and the searches over any engine.
 ghost use Rattle.std.specs.Prelude.{◌≡◌, ◌≢◌, ◌↔◌, ◌⊎◌, ℕ, ◌<◌, List, [], length, slice_get, Some, None, IsTrue, IsNone, MatchResult};
 ghost use Rattle.ac_util.specs.declared.search.Anchored.{Anchored};
-ghost use Rattle.ac_util.specs.Built.{Built};
+ghost use Rattle.ac_util.specs.Built.{Built, find_refusal, found};
+ghost use Rattle.ac_util.specs.Inputs.{asked};
 ghost use Rattle.ac_util.specs.Counts.{more_looks};
 ghost use Rattle.ac_util.specs.Node.{Node};
 ghost use Rattle.ac_util.specs.Refusal.{start_refusal};
 ghost use Rattle.ac_util.specs.Search.{pattern_of};
 ghost use Rattle.ac_util.specs.Stream.{longest_len, shortest_len};
+ghost use Rattle.ac_automaton.specs.Iterators.{begun};
 ghost use Rattle.ac_automaton.specs.Automata.{IsState, Lists, looks_of, step_of};
 
 use ac_util::error::MatchError;
-use ac_util::looks::Looks;
+use ac_util::looks::{Looks, open};
 use ac_util::prefilter::Prefilter;
 use ac_util::primitives::{PatternID, StateID};
-use ac_util::search::{Anchored, MatchKind};
+use ac_util::search::{Anchored, Input, Match, MatchKind};
 
 mod find;
+mod iter;
 
 pub use find::find_core;
+pub use iter::FindIter;
 
 /// An automaton that finds patterns: states, and where each byte leads from a state.
 ///
@@ -120,4 +124,50 @@ pub trait Automaton {
 
     ghost lists: { (automaton : Self) (anchored : Anchored) (s : ℕ) (u : Node)
         → stands automaton anchored s u → Lists (built automaton) anchored u (listed automaton s) };
+
+    /// Returns the match that the match kind picks of all that occur in the span of an input, or with `earliest` the one that
+    /// `MatchKind::Standard` picks. This ports `Automaton::try_find`.
+    ///
+    /// # Errors
+    /// `InvalidInputAnchored` or `InvalidInputUnanchored` where the automaton has no start for the input's anchoring.
+    #[inline]
+    final fn try_find(&self, input: Input<'_>) -> Result<Option<Match>, MatchError>
+    where
+        Self: Sized,
+        ensures { MatchResult result
+            (λ r. (find_refusal (built self.now) (asked input.entry) ≡ None) × (r ≡ found (built self.now) (asked input.entry)))
+            (λ e. find_refusal (built self.now) (asked input.entry) ≡ Some e) }
+    {
+        let _start = self.start_state(input.get_anchored())?;
+        let (mut tape, mut looks) = open(&input);
+        Ok(find_core(
+            self,
+            input.get_anchored(),
+            input.get_earliest(),
+            input.start(),
+            input.end(),
+            &mut tape,
+            &mut looks,
+        ))
+    }
+
+    /// Returns an iterator over the matches of an input that don't overlap, each picked from where the one before it ended. This
+    /// ports `Automaton::try_find_iter`.
+    ///
+    /// # Errors
+    /// As `try_find`.
+    #[inline]
+    final fn try_find_iter<'a, 'h>(
+        &'a self,
+        input: Input<'h>,
+    ) -> Result<FindIter<'a, 'h, Self>, MatchError>
+    where
+        Self: Sized,
+        ensures { MatchResult result
+            (λ matches. (find_refusal (built self.now) (asked input.entry) ≡ None) × (matches ≡ begun (built self.now) (asked input.entry)))
+            (λ e. find_refusal (built self.now) (asked input.entry) ≡ Some e) }
+    {
+        let _start = self.start_state(input.get_anchored())?;
+        Ok(FindIter::new(self, input))
+    }
 }

@@ -69,7 +69,7 @@ pub fn find_core<A: Automaton>(
 
 /// Returns whether a search is over at the first match: under `MatchKind::Standard`, or with `earliest`.
 #[inline]
-fn stops_at_match(kind: MatchKind, earliest: bool) -> bool
+pub(super) fn stops_at_match(kind: MatchKind, earliest: bool) -> bool
     ensures { IsTrue result ↔ (order_of kind earliest ≡ MatchKind.Standard) }
 {
     earliest || matches!(kind, MatchKind::Standard)

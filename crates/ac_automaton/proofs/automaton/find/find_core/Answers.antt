@@ -53,10 +53,10 @@ loop-at-init g c =
       stands = stands;
       picked = c.match_at-last.ensures (node_at built asked c.args.start) stands (node-fits built asked c.args.start (omega arith) inside) ∙ sym (picked-start built asked inside);
       goes_on = goes_on-while built.kind c.args.earliest c.match_at-last.result
-      (λ standard. elim c.else-stops.branch [
-        | else-stops-via-then-stops+else-is_some w ↦ none-from c.match_at-last.result (sym w.is_some.ensures ∙ w.if-is_some.false)
-        | else-stops-via-else-stops w ↦ absurd (false≢true (sym w.if-stops.false ∙ c.stops_at_match-stops.ensures.1 (ap (λ (k : MatchKind). order_of k c.args.earliest) c.match_kind.ensures ∙ standard)))
-      ]);
+          (λ standard. elim c.else-stops.branch [
+            | else-stops-via-then-stops+else-is_some w ↦ none-from c.match_at-last.result (sym w.is_some.ensures ∙ w.if-is_some.false)
+            | else-stops-via-else-stops w ↦ absurd (false≢true (sym w.if-stops.false ∙ c.stops_at_match-stops.ensures.1 (ap (λ (k : MatchKind). order_of k c.args.earliest) c.match_kind.ensures ∙ standard)))
+          ]);
       read = record {
         bytes = refl;
         onward = omega arith;
@@ -64,6 +64,7 @@ loop-at-init g c =
         reached = omega arith;
         reads = omega arith;
         paid = rw worthless (omega arith);
+        looks = omega arith;
         calls = refl;
       };
     }

@@ -15,8 +15,8 @@ returns-then-not-is_match g c =
     let listed = A.listed c.args.automaton.now c.args.sid in
     let none = nil-from_not listed (λ some. false≢true (sym c.if-not-is_match.true ∙ c.is_match.ensures.1 some)) in
     λ u stands fits.
-        sym (found-none (A.built c.args.automaton.now) listed c.args.start c.args.end c.args.anchored u
-        (g.met.A.Automaton.lists c.args.automaton.now c.args.anchored c.args.sid u stands) none)
+    sym (found-none (A.built c.args.automaton.now) listed c.args.start c.args.end c.args.anchored u
+    (g.met.A.Automaton.lists c.args.automaton.now c.args.anchored c.args.sid u stands) none)
 
 pub pattern_len-len-requires : goal.pattern_len-len-requires
 pattern_len-len-requires g c =
@@ -32,9 +32,9 @@ pub returns-then-len-end : goal.returns-then-len-end
 returns-then-len-end g c =
     let A = g.A.Automaton in
     λ u stands fits.
-        sym (found-short (A.built c.args.automaton.now) (A.listed c.args.automaton.now c.args.sid) c.args.start c.args.end c.args.anchored u c.match_pattern-pattern.result
-        (c.is_anchored.ensures.0 c.if-is_anchored.true) (g.met.A.Automaton.lists c.args.automaton.now c.args.anchored c.args.sid u stands) fits
-        c.match_pattern-pattern.ensures (λ e. c.if-len-end.true (c.pattern_len-len.ensures ∙ e)))
+    sym (found-short (A.built c.args.automaton.now) (A.listed c.args.automaton.now c.args.sid) c.args.start c.args.end c.args.anchored u c.match_pattern-pattern.result
+    (c.is_anchored.ensures.0 c.if-is_anchored.true) (g.met.A.Automaton.lists c.args.automaton.now c.args.anchored c.args.sid u stands) fits
+    c.match_pattern-pattern.ensures (λ e. c.if-len-end.true (c.pattern_len-len.ensures ∙ e)))
 
 pub overflow_sub-end-2 : goal.overflow_sub-end-2
 overflow_sub-end-2 g c =
@@ -58,6 +58,6 @@ returns g c =
       | else-is_anchored-via-else-is_anchored w ↦ absurd (false≢true (sym w.if-is_anchored.false ∙ c.is_anchored.ensures.1 e))
     ] in
     λ u stands fits.
-        ap (λ (o : Occurrence). Some o) (c.new.ensures.value ∙ ap (λ (n : ℕ). place_of_len p n c.args.end) len)
-        ∙ sym (found-first built (A.listed c.args.automaton.now c.args.sid) c.args.start c.args.end c.args.anchored u p
-        (g.met.A.Automaton.lists c.args.automaton.now c.args.anchored c.args.sid u stands) fits c.match_pattern-pattern.ensures whole)
+    ap (λ (o : Occurrence). Some o) (c.new.ensures.value ∙ ap (λ (n : ℕ). place_of_len p n c.args.end) len)
+    ∙ sym (found-first built (A.listed c.args.automaton.now c.args.sid) c.args.start c.args.end c.args.anchored u p
+    (g.met.A.Automaton.lists c.args.automaton.now c.args.anchored c.args.sid u stands) fits c.match_pattern-pattern.ensures whole)

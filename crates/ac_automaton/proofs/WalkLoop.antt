@@ -1,0 +1,109 @@
+-- A walk that finds match after match: what it has counted.
+use Rattle.std.proofs.Common.{◌≡◌, ℕ, ◌+◌, ◌-◌, ◌*◌, ◌<◌, ◌≤◌, Bool, List, min, refl, ap, sym, ◌∙◌, subst, arith, Option, Some, None}
+use Rattle.ac_util.specs.declared.search.Anchored.{Anchored}
+use Rattle.ac_util.specs.declared.search.MatchKind.TheVariants.{Standard}
+use Rattle.ac_util.specs.Occurrence.{Occurrence}
+use Rattle.ac_util.specs.Counts.{Counts, Taped, no_counts}
+use Rattle.ac_util.specs.Pick.{order_of}
+use Rattle.ac_util.specs.Refusal.{start_refusal}
+use Rattle.ac_util.specs.Input.{Asked}
+use Rattle.ac_util.specs.Built.{Built, search_in, found}
+use Rattle.ac_util.proofs.Walks.{IsInSpan, pick-in_span}
+use Rattle.ac_automaton.specs.Cores.{Reads, StopsAtMatch, asked_of}
+use Rattle.ac_automaton.specs.Iterators.{Left, after}
+
+paid_total : (most r n looks looks_then : ℕ) → r ≤ n → looks ≤ most * r → looks_then ≤ looks + most * (n - r) → looks_then ≤ most * n
+paid_total most r n looks looks_then l a b =
+    let e : n ≡ r + (n - r) = omega arith in
+    subst (λ (k : ℕ). looks_then ≤ most * k) (sym e) (let h : looks_then ≤ most * r + most * (n - r) = omega arith in omega arith)
+
+-- an input is what a core is asked with its parts
+pub asked-same : (i : Asked) (bytes : List ℕ) (start end : ℕ) (anchored : Anchored) (earliest : Bool)
+    → bytes ≡ i.haystack → start ≡ i.start → end ≡ i.end → anchored ≡ i.anchored → earliest ≡ i.earliest
+    → asked_of bytes start end anchored earliest ≡ i
+asked-same i bytes start end anchored earliest b s e a x =
+    ap (λ (h : List ℕ). asked_of h start end anchored earliest) b
+    ∙ ap (λ (n : ℕ). asked_of i.haystack n end anchored earliest) s
+    ∙ ap (λ (n : ℕ). asked_of i.haystack i.start n anchored earliest) e
+    ∙ ap (λ (y : Anchored). asked_of i.haystack i.start i.end y earliest) a
+    ∙ ap (λ (t : Bool). asked_of i.haystack i.start i.end i.anchored t) x
+
+module _ (most : ℕ) (built : Built) (asked : Asked) (from : ℕ) where
+  -- before anything was read
+  pub Left-anew : start_refusal built.start_kind asked.anchored ≡ None → from ≤ asked.start
+      → Left most built asked from (record { bytes = asked.haystack; place = 0 }) no_counts
+  Left-anew supported begun = record {
+    supported = supported;
+    bytes = refl;
+    unread = λ _. omega arith;
+    within = omega arith;
+    begun = begun;
+    reads = omega arith;
+    looks = omega arith;
+    calls = omega arith;
+    called = λ _. omega arith;
+  }
+
+  -- a span that starts later
+  pub Left-later : (place : ℕ) (tape : Taped) (counts : Counts) → asked.start ≤ place → Left most built asked from tape counts
+      → Left most built (record asked { start = place }) from tape counts
+  Left-later place tape counts later left =
+      let w = left.within in let b = left.begun in let r = left.reads in let l = left.looks in let c = left.calls in record {
+        supported = left.supported;
+        bytes = left.bytes;
+        unread = λ standard. let u = left.unread standard in omega arith;
+        within = w;
+        begun = omega arith;
+        reads = r;
+        looks = l;
+        calls = c;
+        called = λ standard. let d = left.called standard in omega arith;
+      }
+
+  -- after a find
+  pub Left-found : (tape tape_then : Taped) (counts counts_then : Counts) (r : Option Occurrence) → asked.start ≤ asked.end + 1
+      → Left most built asked from tape counts → tape.place ≤ asked.start → counts.calls ≤ min asked.start asked.end - from
+      → r ≡ found built asked → Reads most asked.start asked.end tape tape_then counts counts_then
+      → StopsAtMatch built.kind asked.earliest asked.start r tape tape_then counts counts_then
+      → Left most built (record asked { start = after asked r }) from tape_then counts_then
+  Left-found tape tape_then counts counts_then None legal left unread called picked reads stops =
+      let w = left.within in let b = left.begun in let r = left.reads in let l = left.looks in
+      let on = reads.onward in let to = reads.within in let n = reads.reads in let g = reads.grows.reads in let c = reads.calls in record {
+        supported = left.supported;
+        bytes = reads.bytes ∙ left.bytes;
+        unread = λ _. omega arith;
+        within = omega arith;
+        begun = omega arith;
+        reads = omega arith;
+        looks = paid_total most counts.reads counts_then.reads counts.looks counts_then.looks g l reads.looks;
+        calls = omega arith;
+        called = λ _. omega arith;
+      }
+  Left-found tape tape_then counts counts_then (Some m) legal left unread called picked reads stops =
+      let span : IsInSpan (search_in built asked) m = pick-in_span (order_of built.kind asked.earliest) (search_in built asked) m (sym picked) in
+      let from_low = span.from_low in let in_order = span.in_order in let to_high = span.to_high in
+      let w = left.within in let b = left.begun in let r = left.reads in let l = left.looks in
+      let on = reads.onward in let to = reads.within in let n = reads.reads in let g = reads.grows.reads in let c = reads.calls in record {
+        supported = left.supported;
+        bytes = reads.bytes ∙ left.bytes;
+        unread = λ standard. let s = (stops standard).place in omega arith;
+        within = omega arith;
+        begun = omega arith;
+        reads = omega arith;
+        looks = paid_total most counts.reads counts_then.reads counts.looks counts_then.looks g l reads.looks;
+        calls = omega arith;
+        called = λ standard. let s = (stops standard).calls in omega arith;
+      }
+
+  -- the same, told of the parts of an input that a core is handed
+  pub Left-found_in : (tape tape_then : Taped) (counts counts_then : Counts) (r : Option Occurrence) (bytes : List ℕ) (start end : ℕ)
+      (anchored : Anchored) (earliest : Bool) → asked_of bytes start end anchored earliest ≡ asked → asked.start ≤ asked.end + 1
+      → Left most built asked from tape counts → tape.place ≤ asked.start → counts.calls ≤ min asked.start asked.end - from
+      → r ≡ found built (asked_of bytes start end anchored earliest) → Reads most start end tape tape_then counts counts_then
+      → StopsAtMatch built.kind earliest start r tape tape_then counts counts_then
+      → Left most built (record asked { start = after asked r }) from tape_then counts_then
+  Left-found_in tape tape_then counts counts_then r bytes start end anchored earliest same legal left unread called picked reads stops =
+      Left-found tape tape_then counts counts_then r legal left unread called
+      (subst (λ (i : Asked). r ≡ found built i) same picked)
+      (subst (λ (i : Asked). Reads most i.start i.end tape tape_then counts counts_then) same reads)
+      (subst (λ (i : Asked). StopsAtMatch built.kind i.earliest i.start r tape tape_then counts counts_then) same stops)

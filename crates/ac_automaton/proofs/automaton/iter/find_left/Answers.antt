@@ -1,0 +1,60 @@
+use Rattle.std.proofs.Common.{◌≡◌, ℕ, ◌+◌, ◌-◌, ◌≤◌, Bool, List, min, ap, sym, ◌∙◌, subst, arith}
+use Rattle.std.proofs.lemmas.Bool.{false≢true}
+use Rattle.ac_util.specs.declared.search.MatchKind.{MatchKind}
+use Rattle.ac_util.specs.declared.search.MatchKind.TheVariants.{Standard}
+use Rattle.ac_util.specs.Occurrence.{Occurrence}
+use Rattle.ac_util.specs.Counts.{Counts, Taped}
+use Rattle.ac_util.specs.Built.{found}
+use Rattle.ac_util.specs.Inputs.{asked}
+use Rattle.ac_util.specs.Pick.{order_of}
+use Rattle.ac_automaton.specs.Cores.{Grows}
+use Rattle.ac_automaton.specs.Iterators.{Left}
+use Rattle.ac_automaton.proofs.WalkLoop.{asked-same, Left-anew, Left-found_in}
+use Rattle.ac_automaton.proofs.automaton.iter.find_left.Goals as goal
+use Rattle.ac_automaton.proofs.automaton.iter.find_left.Goals.{then-not-stops_at_match, else-not-stops_at_match}
+
+pub returns-clause-left : goal.returns-clause-left
+returns-clause-left g c =
+    let A = g.A.Automaton in
+    let built = A.built c.args.automaton.now in
+    let i = asked c.args.input.now in
+    let t = c.if-not-stops_at_match.tape in
+    let l = c.if-not-stops_at_match.looks in
+    let given = c.requires.left.1 in
+    λ from left. elim c.if-not-stops_at_match.branch [
+      | then-not-stops_at_match w ↦
+          let anew = w.tape-is ∙ w.open.ensures.tape in
+          let none = w.looks-is ∙ w.open.ensures.looks in
+          let place = ap (λ (x : Taped). x.place) anew in
+          let calls = ap (λ (x : Counts). x.calls) none in
+          Left-found_in A.LOOKS built i from t c.find_core.new.tape l c.find_core.new.looks c.find_core.result
+          t.bytes c.start.result c.end.result c.get_anchored.result c.get_earliest-earliest.result
+          (asked-same i t.bytes c.start.result c.end.result c.get_anchored.result c.get_earliest-earliest.result
+          (ap (λ (x : Taped). x.bytes) anew) c.start.ensures c.end.ensures c.get_anchored.ensures c.get_earliest-earliest.ensures)
+          (omega arith)
+          (subst (λ (x : Taped). Left A.LOOKS built i from x l) (sym anew) (subst (λ (x : Counts). Left A.LOOKS built i from (record { bytes = i.haystack; place = 0 }) x) (sym none) (Left-anew A.LOOKS built i from left.supported left.begun)))
+          (omega arith) (omega arith) c.find_core.ensures.pick c.find_core.ensures.reads c.find_core.ensures.stops
+      | else-not-stops_at_match w ↦
+          let tape = w.tape-is in
+          let place = ap (λ (x : Taped). x.place) tape in
+          let calls = ap (λ (x : Counts). x.calls) w.looks-is in
+          let standard = ap (λ (k : MatchKind). order_of k c.args.input.now.earliest) (sym c.match_kind.ensures) ∙ ap (λ (e : Bool). order_of c.match_kind.result e) (sym c.get_earliest-earliest.ensures) ∙ c.stops_at_match.ensures.0 w.if-not-stops_at_match.false in
+          let unread = left.unread standard in
+          let called = left.called standard in
+          Left-found_in A.LOOKS built i from t c.find_core.new.tape l c.find_core.new.looks c.find_core.result
+          t.bytes c.start.result c.end.result c.get_anchored.result c.get_earliest-earliest.result
+          (asked-same i t.bytes c.start.result c.end.result c.get_anchored.result c.get_earliest-earliest.result
+          (ap (λ (x : Taped). x.bytes) tape ∙ left.bytes) c.start.ensures c.end.ensures c.get_anchored.ensures c.get_earliest-earliest.ensures)
+          (omega arith)
+          (subst (λ (x : Taped). Left A.LOOKS built i from x l) (sym tape) (subst (λ (x : Counts). Left A.LOOKS built i from c.args.tape.now x) (sym w.looks-is) left))
+          (omega arith) (omega arith) c.find_core.ensures.pick c.find_core.ensures.reads c.find_core.ensures.stops
+    ]
+
+-- counts are only set back where the search does not stop at the first match
+pub returns-clause-grows : goal.returns-clause-grows
+returns-clause-grows g c =
+    λ standard. elim c.if-not-stops_at_match.branch [
+      | then-not-stops_at_match w ↦
+          absurd (false≢true (sym w.if-not-stops_at_match.true ∙ c.stops_at_match.ensures.1 (ap (λ (k : MatchKind). order_of k c.get_earliest-earliest.result) c.match_kind.ensures ∙ ap (λ (e : Bool). order_of (g.A.Automaton.built c.args.automaton.now).kind e) c.get_earliest-earliest.ensures ∙ standard)))
+      | else-not-stops_at_match w ↦ subst (λ (x : Counts). Grows x c.find_core.new.looks) w.looks-is c.find_core.ensures.reads.grows
+    ]
