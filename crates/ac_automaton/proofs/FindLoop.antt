@@ -1,5 +1,5 @@
 -- A find that reads byte by byte: where the automaton stands, and what is picked so far.
-use Rattle.std.proofs.Common.{◌≡◌, ◌≢◌, ℕ, zero, suc, ◌+◌, ◌-◌, ◌<◌, ◌≤◌, Bool, true, false, cond, List, [], ◌∷◌, ◌++◌, length, get_or, ◌⊎◌, inl, inr, refl, ap, sym, ◌∙◌, subst, arith, Option, Some, None}
+use Rattle.std.proofs.Common.{◌≡◌, ◌≢◌, ℕ, ◌+◌, ◌-◌, ◌<◌, ◌≤◌, Bool, true, false, cond, List, [], ◌∷◌, length, ◌⊎◌, refl, ap, sym, ◌∙◌, subst, arith, Option, Some, None}
 use Rattle.std.specs.Prelude.{option_map, slice_get, slice_index}
 use Rattle.std.specs.Option.{is_some}
 use Rattle.ac_util.specs.declared.search.MatchKind.{MatchKind}
@@ -10,7 +10,7 @@ use Rattle.ac_util.specs.Occurrence.{Occurrence}
 use Rattle.ac_util.specs.Search.{Search}
 use Rattle.ac_util.specs.Pick.{order_of, pick}
 use Rattle.ac_util.specs.Node.{Node, depth, is_node, reached}
-use Rattle.ac_util.specs.Text.{text, one_longer, longer_by, found_at_end, ending}
+use Rattle.ac_util.specs.Text.{text}
 use Rattle.ac_util.specs.Input.{Asked}
 use Rattle.ac_util.specs.Built.{Built, search_in}
 use Rattle.ac_util.proofs.Beginning.{within, ends_by, pick-within}

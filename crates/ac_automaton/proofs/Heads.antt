@@ -1,5 +1,5 @@
 -- The first of the matches that a state lists, and whether it counts.
-use Rattle.std.proofs.Common.{◌≡◌, ◌≢◌, ℕ, ◌+◌, ◌-◌, ◌<◌, ◌≤◌, List, [], ◌∷◌, ◌++◌, map, length, get_or, inl, inr, refl, ap, sym, ◌∙◌, subst, arith, Option, Some, None}
+use Rattle.std.proofs.Common.{◌≡◌, ◌≢◌, ℕ, ◌-◌, ◌<◌, ◌≤◌, List, [], ◌∷◌, ◌++◌, length, inl, refl, ap, sym, ◌∙◌, subst, arith, Option, Some, None}
 use Rattle.std.specs.Prelude.{option_map, slice_get}
 use Rattle.std.proofs.lemmas.List.{length-map}
 use Rattle.std.proofs.Math.ListN.{get_or-map}
@@ -8,7 +8,7 @@ use Rattle.ac_util.specs.declared.search.Anchored.TheVariants.{No, Yes}
 use Rattle.ac_util.specs.Sameness.{plain_byte, plain}
 use Rattle.ac_util.specs.Occurrence.{Occurrence, occurrence}
 use Rattle.ac_util.specs.Search.{pattern_of}
-use Rattle.ac_util.specs.Node.{Node, depth}
+use Rattle.ac_util.specs.Node.{Node}
 use Rattle.ac_util.specs.Built.{Built}
 use Rattle.ac_util.proofs.Lists.{IsIn, IsIn-append_left}
 use Rattle.ac_util.proofs.Participants.{IsIn-from_equal_to}

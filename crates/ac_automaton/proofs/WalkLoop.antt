@@ -1,16 +1,19 @@
 -- A walk that finds match after match: what it has counted.
-use Rattle.std.proofs.Common.{◌≡◌, ℕ, ◌+◌, ◌-◌, ◌*◌, ◌<◌, ◌≤◌, Bool, List, min, refl, ap, sym, ◌∙◌, subst, arith, Option, Some, None}
+use Rattle.std.specs.Prelude.{IfSome, ◌==◌}
+use Rattle.std.proofs.lemmas.Bool.{and_parts, eqb-true}
+use Rattle.ac_util.specs.Walk.{repeats, unless_repeated, walk_after}
+use Rattle.ac_util.proofs.OneLonger.{none-past_end}
+use Rattle.std.proofs.Common.{◌≡◌, ℕ, ◌+◌, ◌-◌, ◌*◌, ◌<◌, ◌≤◌, Bool, true, List, [], min, refl, ap, sym, ◌∙◌, subst, arith, Option, Some, None}
 use Rattle.ac_util.specs.declared.search.Anchored.{Anchored}
-use Rattle.ac_util.specs.declared.search.MatchKind.TheVariants.{Standard}
 use Rattle.ac_util.specs.Occurrence.{Occurrence}
 use Rattle.ac_util.specs.Counts.{Counts, Taped, no_counts}
 use Rattle.ac_util.specs.Pick.{order_of}
 use Rattle.ac_util.specs.Refusal.{start_refusal}
 use Rattle.ac_util.specs.Input.{Asked}
 use Rattle.ac_util.specs.Built.{Built, search_in, found}
-use Rattle.ac_util.proofs.Walks.{IsInSpan, pick-in_span}
+use Rattle.ac_util.proofs.Walks.{IsInSpan, pick-in_span, walk_after-None}
 use Rattle.ac_automaton.specs.Cores.{Reads, StopsAtMatch, asked_of}
-use Rattle.ac_automaton.specs.Iterators.{Left, after}
+use Rattle.ac_automaton.specs.Iterators.{Left, IsPaid, after}
 
 paid_total : (most r n looks looks_then : ℕ) → r ≤ n → looks ≤ most * r → looks_then ≤ looks + most * (n - r) → looks_then ≤ most * n
 paid_total most r n looks looks_then l a b =
@@ -28,7 +31,47 @@ asked-same i bytes start end anchored earliest b s e a x =
     ∙ ap (λ (y : Anchored). asked_of i.haystack i.start i.end y earliest) a
     ∙ ap (λ (t : Bool). asked_of i.haystack i.start i.end i.anchored t) x
 
+-- a match that repeats is empty and ends where the one before it did
+record Repeats (m : Occurrence) (e : ℕ) : Type 0 where
+  empty : m.start ≡ m.end
+  ends : m.end ≡ e
+
+repeats-from : (m : Occurrence) (e : ℕ) → repeats (Some m) (Some e) ≡ true → Repeats m e
+repeats-from m e h =
+    let both = and_parts (m.start == m.end) (m.end == e) h in
+    record { empty = eqb-true m.start m.end both.0; ends = eqb-true m.end e both.1 }
+
+-- a walk in a span that starts past its end has no match
+pub walked-past_end : (built : Built) (i : Asked) (last : Option ℕ) → i.end < i.start
+    → walk_after (order_of built.kind i.earliest) (search_in built i) last ≡ []
+walked-past_end built i last past =
+    let order = order_of built.kind i.earliest in
+    let q = search_in built i in
+    walk_after-None order q last (ap (λ (m : Option Occurrence). unless_repeated order q m (repeats m last)) (none-past_end order q past))
+
 module _ (most : ℕ) (built : Built) (asked : Asked) (from : ℕ) where
+  -- what is found ends within the span
+  pub after-within : (r : Option Occurrence) → r ≡ found built asked → after asked r ≤ asked.end + 1
+  after-within None e = omega arith
+  after-within (Some m) e =
+      let span = pick-in_span (order_of built.kind asked.earliest) (search_in built asked) m (sym e) in
+      let h = span.to_high in omega arith
+
+  -- where the pick repeats the match before, which ended no later than the span starts, it is at that start
+  pub after-repeated : (r : Option Occurrence) (last : Option ℕ) → r ≡ found built asked → IfSome last (λ e. e ≤ asked.start) → repeats r last ≡ true
+      → after asked r ≡ asked.start
+  after-repeated None last e le again = absurd (cc)
+  after-repeated (Some m) None e le again = absurd (cc)
+  after-repeated (Some m) (Some n) e le again =
+      let span = pick-in_span (order_of built.kind asked.earliest) (search_in built asked) m (sym e) in
+      let l = span.from_low in let o = span.in_order in let h = repeats-from m n again in let n = h.ends in omega arith
+
+  pub room-repeated : (r : Option Occurrence) (last : Option ℕ) → r ≡ found built asked → repeats r last ≡ true → asked.start ≤ asked.end
+  room-repeated None last e again = absurd (cc)
+  room-repeated (Some m) last e again =
+      let span = pick-in_span (order_of built.kind asked.earliest) (search_in built asked) m (sym e) in
+      let l = span.from_low in let o = span.in_order in let h = span.to_high in omega arith
+
   -- before anything was read
   pub Left-anew : start_refusal built.start_kind asked.anchored ≡ None → from ≤ asked.start
       → Left most built asked from (record { bytes = asked.haystack; place = 0 }) no_counts
@@ -59,6 +102,21 @@ module _ (most : ℕ) (built : Built) (asked : Asked) (from : ℕ) where
         calls = c;
         called = λ standard. let d = left.called standard in omega arith;
       }
+
+  -- the next match is looked for one place further on, where the pick repeats the one before
+  pub Left-repeated : (tape : Taped) (counts : Counts) (r : Option Occurrence) (last : Option ℕ) (then : Asked) → then ≡ record asked { start = asked.start + 1 }
+      → r ≡ found built asked → IfSome last (λ e. e ≤ asked.start) → repeats r last ≡ true
+      → Left most built (record asked { start = after asked r }) from tape counts → Left most built then from tape counts
+  Left-repeated tape counts r last then same e le again left =
+      subst (λ (i : Asked). Left most built i from tape counts) (sym same)
+      (Left-later (asked.start + 1) tape counts (omega arith) (subst (λ (n : ℕ). Left most built (record asked { start = n }) from tape counts) (after-repeated r last e le again) left))
+
+  -- what was counted is paid
+  pub Left-paid : (tape : Taped) (counts : Counts) → Left most built asked from tape counts
+      → IsPaid most (record { rest = []; order = order_of built.kind asked.earliest; span = asked.end - from; counts = counts })
+  Left-paid tape counts left =
+      let w = left.within in let r = left.reads in
+      record { reads = omega arith; looks = left.looks; calls = left.calls }
 
   -- after a find
   pub Left-found : (tape tape_then : Taped) (counts counts_then : Counts) (r : Option Occurrence) → asked.start ≤ asked.end + 1

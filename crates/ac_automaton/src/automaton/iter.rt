@@ -1,5 +1,5 @@
 //! The matches of a walk, one after another.
-ghost use Rattle.std.specs.Prelude.{◌≡◌, ℕ, [], ◌∷◌, None, MatchOption};
+ghost use Rattle.std.specs.Prelude.{◌≡◌, ◌+◌, ◌≤◌, ℕ, [], ◌∷◌, ⊤, IfSome, None, MatchOption};
 ghost use Rattle.std.specs.Iterator.{MakesProgress, YieldsFirst, item_count};
 ghost use Rattle.ac_util.specs.declared.search.MatchKind.TheVariants.{Standard};
 ghost use Rattle.ac_util.specs.Built.{found, search_in};
@@ -36,7 +36,7 @@ pub struct FindIter<'a, 'h, A: Automaton> {
 }
 
 impl<'a, 'h, A: Automaton> Model for FindIter<'a, 'h, A> {
-    ghost use Rattle.std.specs.Prelude.{◌-◌};
+    ghost use Rattle.std.specs.Prelude.{◌-◌, ◌≤◌, IfSome};
     ghost use Rattle.ac_util.specs.Built.{search_in};
     ghost use Rattle.ac_util.specs.Inputs.{asked};
     ghost use Rattle.ac_util.specs.Pick.{order_of};
@@ -52,7 +52,7 @@ impl<'a, 'h, A: Automaton> Model for FindIter<'a, 'h, A> {
       counts = s.looks;
     } };
 
-    ghost invariant = { λ s. Left A.LOOKS (A.built s.automaton.now) (asked s.input) s.from.value s.tape s.looks };
+    ghost invariant = { λ s. Left A.LOOKS (A.built s.automaton.now) (asked s.input) s.from.value s.tape s.looks × IfSome s.last (λ e. e ≤ s.input.start) };
 }
 
 impl<'a, 'h, A: Automaton> FindIter<'a, 'h, A> {
@@ -78,6 +78,7 @@ impl<'a, 'h, A: Automaton> FindIter<'a, 'h, A> {
     fn advance(&mut self) -> Option<Match>
         ensures steps { MatchOption result ((self.old.rest ≡ []) × (self.new.rest ≡ [])) (λ found. self.old.rest ≡ found ∷ self.new.rest) }
         ensures goes_on { GoesOn self.old self.new }
+        ensures paid { IsPaid A.LOOKS self.new }
     {
         let found = next_left(
             self.automaton,
@@ -104,6 +105,7 @@ fn next_left<'h, A: Automaton>(
     looks: &mut Looks,
 ) -> Option<Match>
     requires left { (from : ℕ) × Left A.LOOKS (A.built automaton.now) (asked input.old) from tape.old looks.old }
+    requires behind { IfSome last (λ e. e ≤ (asked input.old).start) }
     ensures next { result ≡ next_match (order_of (A.built automaton.now).kind (asked input.old).earliest) (search_in (A.built automaton.now) (asked input.old)) last }
     ensures moves { asked input.new ≡ record (asked input.old) { start = after (asked input.old) result } }
     ensures left { (from : ℕ) → Left A.LOOKS (A.built automaton.now) (asked input.old) from tape.old looks.old
@@ -111,21 +113,33 @@ fn next_left<'h, A: Automaton>(
     ensures grows { order_of (A.built automaton.now).kind (asked input.old).earliest ≡ Standard → Grows looks.old looks.new }
 {
     let first = find_left(automaton, input, tape, looks);
-    let found = if repeats(first, last) {
+    if repeats(&first, last) {
         input.set_start(input.start() + 1);
-        find_left(automaton, input, tape, looks)
-    } else {
-        first
+        let second = find_left(automaton, input, tape, looks);
+        go_on(input, &second);
+        return second;
+    }
+    go_on(input, &first);
+    first
+}
+
+/// Moves the span on to the end of a match that was found in it, or past its own end where there is none.
+#[inline]
+fn go_on(input: &mut Input<'_>, found: &Option<Match>)
+    requires within { after (asked input.old) found.now ≤ (asked input.old).end + 1 }
+    ensures { asked input.new ≡ record (asked input.old) { start = after (asked input.old) found.now } }
+{
+    let start = match found {
+        Some(found) => found.end(),
+        None => input.end() + 1,
     };
-    let end = input.end();
-    input.set_start(found.map_or(end + 1, |found| found.end()));
-    found
+    input.set_start(start);
 }
 
 /// Returns whether a match is empty and ends where the one before it did.
 #[inline]
-fn repeats(found: Option<Match>, last: Option<usize>) -> bool
-    ensures { result ≡ repeats found last }
+fn repeats(found: &Option<Match>, last: Option<usize>) -> bool
+    ensures { result ≡ repeats found.now last }
 {
     match found {
         Some(found) => found.is_empty() && last == Some(found.end()),
@@ -170,7 +184,12 @@ impl<'a, 'h, A: Automaton> Iterator for FindIter<'a, 'h, A> {
     ghost remaining = { item_count (λ s. s.rest) };
 
     #[inline]
-    fn next(&mut self) -> Option<Match> {
+    fn next(&mut self) -> Option<Match>
+        ensures steps { YieldsFirst (λ s. s.rest) self.old result self.new }
+        ensures goes { MakesProgress (λ _. ⊤) (item_count (λ s. s.rest)) self.old result self.new }
+        ensures goes_on { GoesOn self.old self.new }
+        ensures paid { IsPaid A.LOOKS self.new }
+    {
         self.advance()
     }
 }

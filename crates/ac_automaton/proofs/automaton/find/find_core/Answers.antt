@@ -1,19 +1,15 @@
-use Rattle.std.proofs.Common.{◌≡◌, ℕ, ◌+◌, ◌≤◌, ◌<◌, List, [], length, slice_index, true, false, sym, ap, subst, ◌∙◌, inl, inr, refl, arith, Option, Some, None}
+use Rattle.std.proofs.Common.{◌≡◌, ℕ, ◌+◌, ◌≤◌, ◌<◌, List, length, slice_index, false, sym, ap, subst, ◌∙◌, inr, refl, arith, Option, Some, None}
 use Rattle.std.specs.Option.{is_some}
 use Rattle.std.proofs.lemmas.Bool.{false≢true}
 use Rattle.ac_util.specs.declared.search.MatchKind.{MatchKind}
-use Rattle.ac_util.specs.declared.search.MatchKind.TheVariants.{Standard}
-use Rattle.ac_util.specs.Sameness.{plain_byte}
-use Rattle.ac_util.specs.Counts.{Taped, more_looks}
-use Rattle.ac_util.specs.Pick.{order_of, pick}
-use Rattle.ac_util.specs.Node.{Node}
+use Rattle.ac_util.specs.Pick.{order_of}
 use Rattle.ac_util.specs.Occurrence.{Occurrence}
-use Rattle.ac_util.proofs.SearchLoop.{GoesOn, goes_on-while, credit, credit-nil, step-paid}
-use Rattle.ac_automaton.specs.Automata.{plain_of, step_of, looks_of}
-use Rattle.ac_automaton.specs.Cores.{asked_of, found_at}
+use Rattle.ac_util.proofs.SearchLoop.{GoesOn, goes_on-while, credit, credit-nil}
+use Rattle.ac_automaton.specs.Automata.{looks_of}
+use Rattle.ac_automaton.specs.Cores.{asked_of}
 use Rattle.ac_automaton.proofs.Heads.{nil-from_not, found-none}
-use Rattle.ac_automaton.proofs.FindLoop.{up_to, node_at, order, node-start, node-step, node-paid, node-fits, picked-start, picked-final, picked-final_if, picked-past_end, picked-still, picked-newly, picked-dead, found-end}
-use Rattle.ac_automaton.proofs.ReadOn.{ReadOn, read-more, reads-so_far}
+use Rattle.ac_automaton.proofs.FindLoop.{node_at, order, node-start, node-step, node-paid, node-fits, picked-start, picked-final, picked-final_if, picked-past_end, picked-still, picked-newly, picked-dead, found-end}
+use Rattle.ac_automaton.proofs.ReadOn.{read-more, reads-so_far}
 use Rattle.ac_automaton.proofs.automaton.find.find_core.Goals as goal
 use Rattle.ac_automaton.proofs.automaton.find.find_core.Goals.{else-stops-via-then-stops+else-is_some, else-stops-via-else-stops, then-is_special+else-is_dead+in-Some+else-stops-2, then-is_special+else-is_dead+in_default-match_at, else-is_special}
 

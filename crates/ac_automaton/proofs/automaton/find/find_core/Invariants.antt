@@ -1,4 +1,4 @@
-use Rattle.std.proofs.Common.{◌≡◌, ◌-◌}
+use Rattle.std.proofs.Common.{◌≡◌}
 use Rattle.ac_util.specs.Pick.{pick}
 use Rattle.ac_util.proofs.SearchLoop.{GoesOn, credit}
 use Rattle.ac_automaton.specs.Cores.{asked_of}

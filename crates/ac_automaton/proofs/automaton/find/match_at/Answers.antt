@@ -1,7 +1,6 @@
-use Rattle.std.proofs.Common.{◌≡◌, ◌-◌, ℕ, [], length, refl, ap, sym, ◌∙◌, arith, Some}
-use Rattle.std.specs.Prelude.{slice_get}
+use Rattle.std.proofs.Common.{◌≡◌, ◌-◌, ℕ, length, ap, sym, ◌∙◌, arith, Some}
 use Rattle.std.proofs.lemmas.Bool.{false≢true}
-use Rattle.ac_util.specs.declared.search.Anchored.TheVariants.{No, Yes}
+use Rattle.ac_util.specs.declared.search.Anchored.TheVariants.{Yes}
 use Rattle.ac_automaton.proofs.Heads.{nil-from_not, found-none, head-fits, found-first, found-short, place_of_len}
 use Rattle.ac_util.specs.Occurrence.{Occurrence}
 use Rattle.ac_util.specs.Search.{pattern_of}

@@ -1,10 +1,7 @@
-use Rattle.std.proofs.Common.{◌≡◌, ℕ, ◌+◌, ◌-◌, ◌≤◌, Bool, List, min, ap, sym, ◌∙◌, subst, arith}
+use Rattle.std.proofs.Common.{Bool, ap, sym, ◌∙◌, subst, arith}
 use Rattle.std.proofs.lemmas.Bool.{false≢true}
 use Rattle.ac_util.specs.declared.search.MatchKind.{MatchKind}
-use Rattle.ac_util.specs.declared.search.MatchKind.TheVariants.{Standard}
-use Rattle.ac_util.specs.Occurrence.{Occurrence}
 use Rattle.ac_util.specs.Counts.{Counts, Taped}
-use Rattle.ac_util.specs.Built.{found}
 use Rattle.ac_util.specs.Inputs.{asked}
 use Rattle.ac_util.specs.Pick.{order_of}
 use Rattle.ac_automaton.specs.Cores.{Grows}

@@ -1,0 +1,49 @@
+use Rattle.std.proofs.Common.{ℕ, ◌+◌, ap, sym, ◌∙◌, subst, arith}
+use Rattle.ac_util.specs.Input.{Asked}
+use Rattle.ac_util.specs.Inputs.{asked}
+use Rattle.ac_automaton.specs.Iterators.{Left}
+use Rattle.ac_automaton.proofs.WalkLoop.{Left-repeated, after-within, room-repeated}
+use Rattle.ac_automaton.proofs.automaton.iter.next_left.Goals as goal
+
+pub set_start-requires : goal.set_start-requires
+set_start-requires g c =
+    let A = g.A.Automaton in
+    let room = room-repeated A.LOOKS (A.built c.args.automaton.now) (asked c.args.input.now) 0 c.find_left-first.result c.args.last c.find_left-first.ensures.pick (sym c.repeats.ensures ∙ c.if-repeats.true) in
+    record { legal = omega (arith, c.start.ensures) }
+
+-- the second find begins with what the first has left
+pub find_left-second-requires : goal.find_left-second-requires
+find_left-second-requires g c =
+    let A = g.A.Automaton in
+    let i = asked c.args.input.now in
+    let given = c.requires.left in
+    let moved = c.set_start.ensures.value ∙ ap (λ (n : ℕ). record i { start = n + 1 }) c.start.ensures in
+    record {
+      left = (
+        given.0,
+        Left-repeated A.LOOKS (A.built c.args.automaton.now) i given.0 c.find_left-first.new.tape c.find_left-first.new.looks c.find_left-first.result c.args.last (asked c.set_start.new.self) moved
+            c.find_left-first.ensures.pick c.requires.behind (sym c.repeats.ensures ∙ c.if-repeats.true) (c.find_left-first.ensures.left given.0 given.1),
+      );
+    }
+
+pub go_on-requires : goal.go_on-requires
+go_on-requires g c =
+    let A = g.A.Automaton in
+    record { within = after-within A.LOOKS (A.built c.args.automaton.now) (asked c.set_start.new.self) 0 c.find_left-second.result c.find_left-second.ensures.pick }
+
+pub returns-then-repeats-clause-left : goal.returns-then-repeats-clause-left
+returns-then-repeats-clause-left g c =
+    let A = g.A.Automaton in
+    let built = A.built c.args.automaton.now in
+    let i = asked c.args.input.now in
+    let moved = c.set_start.ensures.value ∙ ap (λ (n : ℕ). record i { start = n + 1 }) c.start.ensures in
+    λ from left.
+    subst (λ (j : Asked). Left A.LOOKS built j from c.find_left-second.new.tape c.find_left-second.new.looks) (sym c.go_on.ensures)
+    (c.find_left-second.ensures.left from
+    (Left-repeated A.LOOKS built i from c.find_left-first.new.tape c.find_left-first.new.looks c.find_left-first.result c.args.last (asked c.set_start.new.self) moved
+    c.find_left-first.ensures.pick c.requires.behind (sym c.repeats.ensures ∙ c.if-repeats.true) (c.find_left-first.ensures.left from left)))
+
+pub go_on-requires-2 : goal.go_on-requires-2
+go_on-requires-2 g c =
+    let A = g.A.Automaton in
+    record { within = after-within A.LOOKS (A.built c.args.automaton.now) (asked c.args.input.now) 0 c.find_left-first.result c.find_left-first.ensures.pick }
