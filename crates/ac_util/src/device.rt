@@ -266,3 +266,6 @@ impl<W: Write + Drop> Sink for IntoWrite<W> {
         }
     }
 }
+
+#[cfg(test)]
+mod tests;
