@@ -41,7 +41,8 @@ starts_with-whole (x ∷ w) (y ∷ p) b h n =
 pub starts_with-length : (w p : List ℕ) → starts_with nat_eq w p ≡ true → length p ≤ length w
 starts_with-length w [] h = omega arith
 starts_with-length [] (y ∷ p) h = absurd (false≢true h)
-starts_with-length (x ∷ w) (y ∷ p) h = let l = starts_with-length w p (and_parts _ _ h).1 in omega arith
+starts_with-length (x ∷ w) (y ∷ p) h =
+    let l = starts_with-length w p (and_parts (eqb y x) (starts_with nat_eq w p) h).1 in omega arith
 
 -- the first bytes of a string are a front of it
 pub starts_with-take : (n : ℕ) (w : List ℕ) → starts_with nat_eq w (take n w) ≡ true

@@ -1,5 +1,7 @@
 //! Where the bytes of a stream come from and go to.
-ghost use Rattle.std.specs.Prelude.{◌≡◌, [], Some, None, IfOk, length};
+ghost use Rattle.std.specs.Prelude.{◌≡◌, [], Some, IfErr, IfOk, length};
+ghost use Rattle.std.specs.IoError.{error_kind};
+ghost use Rattle.std.specs.declared.io.ErrorKind.TheVariants.{OutOfMemory};
 ghost use Rattle.ac_util.specs.Device.{GivesAll, Reading, Reads, Writing, Writes};
 
 use crate::tally::Tally;
@@ -7,6 +9,7 @@ use std::alloc::Allocator;
 use std::io;
 use std::io::{Read, Write};
 use std::marker::Model;
+use std::snapshot::Snapshot;
 
 /// A reader of bytes.
 ///
@@ -86,30 +89,41 @@ impl<'a> Source for Bytes<'a> {
     }
 }
 
-/// Reads from any `Read`, and tells counts alone.
+/// Reads from any `Read`, and tells the bytes that it has left where it tells them. A reader that is lent to it stays lent
+/// until this is dropped.
 #[derive(Drop)]
 pub struct FromRead<R: Read + Drop> {
     inner: R,
+    // The reader as the last read that didn't fail left it. A failed read leaves the bytes that it tells.
+    known: Snapshot<R>,
     failed: Tally,
     empties: Tally,
 }
 
 impl<R: Read + Drop> Model for FromRead<R> {
-    ghost use Rattle.std.specs.Prelude.{None};
+    ghost use Rattle.std.specs.Io.KnownBytes.{Keeps};
     ghost use Rattle.ac_util.specs.Device.{Reading};
 
     ghost Value = { Reading };
 
-    ghost view = { λ b. record { left = None; failed = b.failed.number; empties = b.empties.number } };
+    ghost view = { λ b. record {
+      left = R.remaining b.known.value;
+      failed = b.failed.number;
+      empties = b.empties.number;
+    } };
+
+    ghost invariant = { λ b. Keeps (R.remaining b.known.value) (R.remaining b.inner) };
 }
 
 impl<R: Read + Drop> FromRead<R> {
     /// Returns a reader over `inner`.
     pub fn new(inner: R) -> FromRead<R>
-        ensures { result ≡ record { left = None; failed = 0; empties = 0 } }
+        ensures { result ≡ record { left = R.remaining inner; failed = 0; empties = 0 } }
     {
+        let known = Snapshot::of(&inner);
         FromRead {
             inner,
+            known,
             failed: Tally::zero(),
             empties: Tally::zero(),
         }
@@ -122,6 +136,7 @@ impl<R: Read + Drop> Source for FromRead<R> {
     fn read_some(&mut self, into: &mut [u8]) -> io::Result<usize> {
         match self.inner.read(into) {
             Ok(n) => {
+                self.known = Snapshot::of(&self.inner);
                 if n == 0 && !into.is_empty() {
                     self.empties = Tally::after(&self.empties);
                 }
@@ -179,6 +194,7 @@ impl<A: Allocator> Sink for Written<A> {
     fn write_some(&mut self, piece: &[u8]) -> io::Result<usize>
         ensures writes { Writes self.old self.new result piece.now }
         ensures whole { IfOk result (λ n. n ≡ length piece.now) }
+        ensures refused { IfErr result (λ e. error_kind e ≡ OutOfMemory) }
     {
         match self.held.extend_from_slice(piece) {
             Ok(()) => Ok(piece.len()),
@@ -190,30 +206,41 @@ impl<A: Allocator> Sink for Written<A> {
     }
 }
 
-/// Writes to any `Write`, and tells counts alone.
+/// Writes to any `Write`, and tells the bytes that it holds where it tells them. A writer that is lent to it stays lent
+/// until this is dropped.
 #[derive(Drop)]
 pub struct IntoWrite<W: Write + Drop> {
     inner: W,
+    // The writer as the last write that didn't fail left it. A failed write leaves the bytes that it tells.
+    known: Snapshot<W>,
     failed: Tally,
     idles: Tally,
 }
 
 impl<W: Write + Drop> Model for IntoWrite<W> {
-    ghost use Rattle.std.specs.Prelude.{None};
+    ghost use Rattle.std.specs.Io.KnownBytes.{Keeps};
     ghost use Rattle.ac_util.specs.Device.{Writing};
 
     ghost Value = { Writing };
 
-    ghost view = { λ w. record { held = None; failed = w.failed.number; idles = w.idles.number } };
+    ghost view = { λ w. record {
+      held = W.contents w.known.value;
+      failed = w.failed.number;
+      idles = w.idles.number;
+    } };
+
+    ghost invariant = { λ w. Keeps (W.contents w.known.value) (W.contents w.inner) };
 }
 
 impl<W: Write + Drop> IntoWrite<W> {
     /// Returns a writer over `inner`.
     pub fn new(inner: W) -> IntoWrite<W>
-        ensures { result ≡ record { held = None; failed = 0; idles = 0 } }
+        ensures { result ≡ record { held = W.contents inner; failed = 0; idles = 0 } }
     {
+        let known = Snapshot::of(&inner);
         IntoWrite {
             inner,
+            known,
             failed: Tally::zero(),
             idles: Tally::zero(),
         }
@@ -226,6 +253,7 @@ impl<W: Write + Drop> Sink for IntoWrite<W> {
     fn write_some(&mut self, piece: &[u8]) -> io::Result<usize> {
         match self.inner.write(piece) {
             Ok(n) => {
+                self.known = Snapshot::of(&self.inner);
                 if n == 0 && !piece.is_empty() {
                     self.idles = Tally::after(&self.idles);
                 }
@@ -238,3 +266,6 @@ impl<W: Write + Drop> Sink for IntoWrite<W> {
         }
     }
 }
+
+#[cfg(test)]
+mod tests;

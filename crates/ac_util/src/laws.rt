@@ -1,8 +1,15 @@
 //! Laws of the definitions. Each is the contract of a function that does nothing: nothing is called, nothing is assumed.
 ghost use Rattle.std.specs.Prelude.{◌≡◌, ◌≢◌, ℕ, ◌+◌, ◌<◌, ◌≤◌, ◌++◌, ◌↔◌, ◌⊎◌, Bool, true, false, nat_le, IsTrue, List, [], ◌∷◌, Option, None, Some, MatchOption, Contains, AllPairs, length, map, filter, slice_get, slice_index};
+ghost use Rattle.std.specs.Hash as fed;
+ghost use Rattle.std.specs.Ordering.{nat_cmp};
 ghost use Rattle.std.specs.Str.{IsCharBoundary};
+ghost use Rattle.ac_util.specs.declared.error.BuildError.{BuildError};
+ghost use Rattle.ac_util.specs.declared.error.MatchError.{MatchError};
+ghost use Rattle.ac_util.specs.declared.primitives.TooLarge.{TooLarge};
 ghost use Rattle.ac_util.specs.declared.search.Anchored.{Anchored};
 ghost use Rattle.ac_util.specs.declared.search.MatchKind.{MatchKind};
+ghost use Rattle.ac_util.specs.declared.search.Span.{Span};
+ghost use Rattle.ac_util.specs.declared.search.StartKind.{StartKind};
 ghost use Rattle.ac_util.specs.Listing.{all, IsBefore};
 ghost use Rattle.ac_util.specs.Looks.{looks};
 ghost use Rattle.ac_util.specs.Matches.{equal_to, matches, matches_at};
@@ -16,6 +23,11 @@ ghost use Rattle.ac_util.specs.Sizes.{inner_nodes};
 ghost use Rattle.ac_util.specs.Steps.{Appends, Steps, WritesText};
 ghost use Rattle.ac_util.specs.Text.{cut, outward, ending, found_at_end, longer_by, one_longer, plain_patterns, text};
 ghost use Rattle.ac_util.specs.Walk.{IsAfter, next_match, walk, walk_after};
+
+use crate::error::{BuildError, MatchError};
+use crate::primitives::{PatternID, SmallIndex, StateID, TooLarge};
+use crate::search::{Anchored, Match, MatchKind, Span, StartKind};
+use std::hash::Hash;
 
 /// Two bytes are the same if they are equal or, where case is ignored, one ASCII letter in its two cases; two strings are the
 /// same if they have one length and are the same place by place.
@@ -197,4 +209,53 @@ pub fn listing_follows()
     ensures follows { (q : Search) → q.low ≤ q.high → q.high < length q.haystack
         → all (one_longer q) ≡ all q
         ++ map (ending (one_longer q)) (found_at_end MatchKind.Standard (one_longer q)) }
+{}
+
+/// The numbers of patterns and of states are equal, and are in order, as numbers are.
+pub fn numbers_compare_as_numbers()
+    ensures patterns { (a b : ℕ) → (⟦<PatternID as PartialEq>⟧.eq a b ≡ true) ↔ (a ≡ b) }
+    ensures patterns_order { (a b : ℕ) → ⟦<PatternID as Ord>⟧.cmp a b ≡ nat_cmp a b }
+    ensures states { (a b : ℕ) → (⟦<StateID as PartialEq>⟧.eq a b ≡ true) ↔ (a ≡ b) }
+    ensures states_order { (a b : ℕ) → ⟦<StateID as Ord>⟧.cmp a b ≡ nat_cmp a b }
+    ensures plain { (a b : ℕ) → (⟦<SmallIndex as PartialEq>⟧.eq a b ≡ true) ↔ (a ≡ b) }
+    ensures plain_order { (a b : ℕ) → ⟦<SmallIndex as Ord>⟧.cmp a b ≡ nat_cmp a b }
+{}
+
+/// What a search is asked and what it answers are equal where all of their parts are.
+pub fn values_compare_by_their_fields()
+    ensures matches { (a b : Occurrence)
+        → (⟦<Match as PartialEq>⟧.eq a b ≡ true) ↔ (a ≡ b) }
+    ensures spans { (a b : Span) → (⟦<Span as PartialEq>⟧.eq a b ≡ true) ↔ (a ≡ b) }
+    ensures kinds { (a b : MatchKind) → (⟦<MatchKind as PartialEq>⟧.eq a b ≡ true) ↔ (a ≡ b) }
+    ensures starts { (a b : StartKind) → (⟦<StartKind as PartialEq>⟧.eq a b ≡ true) ↔ (a ≡ b) }
+    ensures anchorings { (a b : Anchored)
+        → (⟦<Anchored as PartialEq>⟧.eq a b ≡ true) ↔ (a ≡ b) }
+{}
+
+/// Errors are equal where they are of one case, with the same numbers in it.
+pub fn errors_compare_by_their_fields()
+    ensures builds { (a b : BuildError)
+        → (⟦<BuildError as PartialEq>⟧.eq a b ≡ true) ↔ (a ≡ b) }
+    ensures searches { (a b : MatchError)
+        → (⟦<MatchError as PartialEq>⟧.eq a b ≡ true) ↔ (a ≡ b) }
+    ensures numbers { (a b : TooLarge) → (⟦<TooLarge as PartialEq>⟧.eq a b ≡ true) ↔ (a ≡ b) }
+{}
+
+/// A hasher is handed the number of a pattern, the two ends of a span, and all three of a match.
+pub fn values_hash_by_their_fields()
+    ensures patterns { (n : ℕ) → ⟦<PatternID as Hash>⟧.hash_input n ≡ fed.u32 n }
+    ensures spans { (s : Span)
+        → ⟦<Span as Hash>⟧.hash_input s ≡ fed.usize s.start ++ fed.usize s.end }
+    ensures matches { (m : Occurrence) → ⟦<Match as Hash>⟧.hash_input m
+        ≡ fed.u32 m.pattern ++ fed.usize m.start ++ fed.usize m.end }
+{}
+
+/// Values that compare as equal hand a hasher the same.
+pub fn equal_values_hash_equally()
+    ensures patterns { (a b : ℕ) → ⟦<PatternID as PartialEq>⟧.eq a b ≡ true
+        → ⟦<PatternID as Hash>⟧.hash_input a ≡ ⟦<PatternID as Hash>⟧.hash_input b }
+    ensures spans { (a b : Span) → ⟦<Span as PartialEq>⟧.eq a b ≡ true
+        → ⟦<Span as Hash>⟧.hash_input a ≡ ⟦<Span as Hash>⟧.hash_input b }
+    ensures matches { (a b : Occurrence) → ⟦<Match as PartialEq>⟧.eq a b ≡ true
+        → ⟦<Match as Hash>⟧.hash_input a ≡ ⟦<Match as Hash>⟧.hash_input b }
 {}

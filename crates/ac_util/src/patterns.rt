@@ -110,3 +110,6 @@ fn check_limits(patterns: &[&[u8]]) -> Result<(), BuildError>
     }
     Ok(())
 }
+
+#[cfg(test)]
+mod tests;

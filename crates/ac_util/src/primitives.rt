@@ -95,3 +95,6 @@ impl<K> SmallIndex<K> {
         self.number as usize
     }
 }
+
+#[cfg(test)]
+mod tests;

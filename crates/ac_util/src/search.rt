@@ -178,3 +178,6 @@ impl Anchored {
         matches!(self, Anchored::Yes)
     }
 }
+
+#[cfg(test)]
+mod tests;

@@ -230,3 +230,6 @@ impl<'h> Input<'h> {
         self.start > self.end
     }
 }
+
+#[cfg(test)]
+mod tests;

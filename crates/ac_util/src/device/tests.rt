@@ -1,0 +1,218 @@
+use super::{Bytes, FromRead, IntoWrite, Sink, Source, Written};
+use std::alloc::Global;
+use std::io;
+use std::io::{ErrorKind, Read, Write};
+use std::test::Fail;
+
+/// How many bytes a call moved, or the kind of its error.
+type Outcome = Result<usize, ErrorKind>;
+
+/// A name, how many bytes are left at the failure, and what each read into two places is to answer.
+type Reads = (&'static str, Option<usize>, &'static [Outcome]);
+
+/// A name, how many bytes are held at the failure, and what each write of `abc` is to answer.
+type Writes = (&'static str, Option<usize>, &'static [Outcome]);
+
+const BROKEN: Outcome = Err(ErrorKind::BrokenPipe);
+
+const READS: &[Reads] = &[
+    ("no failure", None, &[Ok(1), Ok(1), Ok(1), Ok(0), Ok(0)]),
+    (
+        "the first read fails",
+        Some(3),
+        &[BROKEN, Ok(1), Ok(1), Ok(1), Ok(0)],
+    ),
+    (
+        "a read in between fails",
+        Some(1),
+        &[Ok(1), Ok(1), BROKEN, Ok(1), Ok(0)],
+    ),
+    (
+        "a read at the end fails",
+        Some(0),
+        &[Ok(1), Ok(1), Ok(1), BROKEN, Ok(0)],
+    ),
+];
+
+const WRITES: &[Writes] = &[
+    ("no failure", None, &[Ok(1), Ok(1), Ok(1), Ok(0), Ok(0)]),
+    (
+        "the first write fails",
+        Some(0),
+        &[BROKEN, Ok(1), Ok(1), Ok(1), Ok(0)],
+    ),
+    (
+        "a write in between fails",
+        Some(2),
+        &[Ok(1), Ok(1), BROKEN, Ok(1), Ok(0)],
+    ),
+];
+
+/// Gives its bytes one a call, and fails once where `cut` bytes are left.
+#[derive(Drop)]
+struct Drops<'a> {
+    left: &'a [u8],
+    cut: Option<usize>,
+}
+
+impl<'a> Read for Drops<'a> {
+    fn read(&mut self, into: &mut [u8]) -> io::Result<usize> {
+        if self.cut == Some(self.left.len()) {
+            self.cut = None;
+            return Err(io::Error::from(ErrorKind::BrokenPipe));
+        }
+        match (self.left.split_first(), into.first_mut()) {
+            (Some((byte, rest)), Some(place)) => {
+                *place = *byte;
+                self.left = rest;
+                Ok(1)
+            }
+            _ => Ok(0),
+        }
+    }
+}
+
+/// Takes one byte a call and three in all, and fails once where it holds `cut` bytes.
+#[derive(Drop)]
+struct Narrow<'a> {
+    held: &'a mut Vec<u8>,
+    cut: Option<usize>,
+}
+
+impl<'a> Write for Narrow<'a> {
+    fn write(&mut self, piece: &[u8]) -> io::Result<usize> {
+        if self.cut == Some(self.held.len()) {
+            self.cut = None;
+            return Err(io::Error::from(ErrorKind::BrokenPipe));
+        }
+        match piece.first() {
+            Some(byte) if self.held.len() < 3 => {
+                self.held.push(*byte)?;
+                Ok(1)
+            }
+            _ => Ok(0),
+        }
+    }
+
+    fn flush(&mut self) -> io::Result<()> {
+        Ok(())
+    }
+}
+
+/// Reads from any source.
+fn read<S: Source>(source: &mut S, into: &mut [u8]) -> Outcome {
+    source.read_some(into).map_err(|e| e.kind())
+}
+
+/// Writes to any sink.
+fn write<S: Sink>(sink: &mut S, piece: &[u8]) -> Outcome {
+    sink.write_some(piece).map_err(|e| e.kind())
+}
+
+#[test]
+fn bytes_come_in_order(rt: HostRuntime) -> Result<(), Fail> {
+    let rows: [(&str, usize, &[u8]); 7] = [
+        ("into nothing", 0, b""),
+        ("into two places", 2, b"ab"),
+        ("into nothing, in between", 0, b""),
+        ("into four places", 4, b"cd"),
+        ("at the end", 3, b""),
+        ("at the end again", 1, b""),
+        ("into nothing, at the end", 0, b""),
+    ];
+    let mut source = Bytes::new(b"abcd");
+    for (name, room, wanted) in rows {
+        println!(rt; "bytes: {name}")?;
+        let mut into = [b'-'; 4];
+        assert!(rt; room <= 4 && wanted.len() <= 4);
+        assert_eq!(rt;
+            read(&mut source, &mut into[..room]),
+            Ok(wanted.len()),
+            "{name}"
+        );
+        assert_eq!(rt; &into[..wanted.len()], wanted, "{name}");
+    }
+    Ok(())
+}
+
+#[test]
+fn reads_go_through(rt: HostRuntime) -> Result<(), Fail> {
+    for &(name, cut, wanted) in READS {
+        println!(rt; "reads: {name}")?;
+        let mut source = FromRead::new(Drops { left: b"abc", cut });
+        let mut came = Vec::new(rt.alloc());
+        for outcome in wanted {
+            let mut into = [b'-'; 2];
+            let answer = read(&mut source, &mut into);
+            assert_eq!(rt; answer, *outcome, "{name}");
+            if answer == Ok(1) {
+                came.push(into[0])?;
+            }
+        }
+        assert_eq!(rt; came.as_slice(), b"abc".as_slice(), "{name}");
+        assert_eq!(rt; read(&mut source, &mut []), Ok(0), "{name}");
+    }
+    Ok(())
+}
+
+#[test]
+fn what_is_written_is_held(rt: HostRuntime) -> Result<(), Fail> {
+    let rows: [(&str, &[u8], &[u8]); 4] = [
+        ("two bytes", b"ab", b"ab"),
+        ("nothing", b"", b"ab"),
+        ("one byte", b"c", b"abc"),
+        ("more than were held", b"defghijklmn", b"abcdefghijklmn"),
+    ];
+    let mut sink = Written::new(rt.alloc());
+    assert_eq!(rt; sink.bytes(), b"".as_slice());
+    for (name, piece, wanted) in rows {
+        println!(rt; "written: {name}")?;
+        let before = sink.bytes().len();
+        let mut answer = write(&mut sink, piece);
+        if answer == Err(ErrorKind::OutOfMemory) {
+            assert_eq!(rt; sink.bytes().len(), before, "{name}");
+            answer = write(&mut sink, piece);
+        }
+        assert_eq!(rt; answer, Ok(piece.len()), "{name}");
+        assert_eq!(rt; sink.bytes(), wanted, "{name}");
+    }
+    Ok(())
+}
+
+#[test]
+fn writes_go_through(rt: HostRuntime) -> Result<(), Fail> {
+    for &(name, cut, wanted) in WRITES {
+        println!(rt; "writes: {name}")?;
+        let mut held = Vec::with_capacity(rt.alloc(), 3)?;
+        let mut sink = IntoWrite::new(Narrow {
+            held: &mut held,
+            cut,
+        });
+        let mut piece: &[u8] = b"abc";
+        for outcome in wanted {
+            let answer = write(&mut sink, piece);
+            assert_eq!(rt; answer, *outcome, "{name}");
+            if answer == Ok(1) && !piece.is_empty() {
+                piece = &piece[1..];
+            }
+        }
+        assert_eq!(rt; write(&mut sink, b""), Ok(0), "{name}");
+        drop(sink);
+        assert_eq!(rt; held.as_slice(), b"abc".as_slice(), "{name}");
+    }
+    Ok(())
+}
+
+#[test]
+fn adapters_take_no_bytes(rt: HostRuntime) {
+    assert_eq!(rt; size_of::<Bytes<'static>>(), size_of::<&'static [u8]>());
+    assert_eq!(rt;
+        size_of::<FromRead<Drops<'static>>>(),
+        size_of::<Drops<'static>>()
+    );
+    assert_eq!(rt; size_of::<Written<Global>>(), size_of::<Vec<u8>>());
+    assert_eq!(rt;
+        size_of::<IntoWrite<Narrow<'static>>>(),
+        size_of::<Narrow<'static>>()
+    );
+}

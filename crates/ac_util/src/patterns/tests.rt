@@ -1,0 +1,47 @@
+use super::Patterns;
+use crate::error::BuildError;
+use std::alloc::{AllocError, Allocator};
+use std::test::Fail;
+
+const ROWS: &[(&str, &[&[u8]])] = &[
+    ("none", &[]),
+    ("an empty one", &[b""]),
+    ("one", &[b"abc"]),
+    ("two alike", &[b"ab", b"ab"]),
+    ("empty ones between others", &[b"", b"ab", b"", b"", b"c"]),
+    (
+        "a front of another",
+        &[b"append", b"appendage", b"app", b"ab"],
+    ),
+];
+
+/// Returns whether the stored patterns are these.
+fn are<A: Allocator>(stored: &Patterns<A>, patterns: &[&[u8]]) -> bool {
+    if stored.len() != patterns.len() {
+        return false;
+    }
+    for number in 0..patterns.len() {
+        if stored.get(number) != patterns[number] {
+            return false;
+        }
+    }
+    true
+}
+
+#[test]
+fn patterns_are_stored(rt: HostRuntime) -> Result<(), Fail> {
+    let alloc = rt.alloc();
+    for &(name, patterns) in ROWS {
+        println!(rt; "patterns: {name}")?;
+        let owned = Patterns::new(alloc, patterns)?;
+        assert!(rt; are(&owned, patterns), "{name}");
+        let lent = Patterns::new(&alloc, patterns)?;
+        assert!(rt; are(&lent, patterns), "{name}");
+    }
+    Ok(())
+}
+
+#[test]
+fn refused_memory_is_told(rt: HostRuntime) {
+    assert_eq!(rt; BuildError::from(AllocError), BuildError::Memory);
+}
