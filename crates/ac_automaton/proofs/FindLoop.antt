@@ -18,7 +18,7 @@ use Rattle.ac_util.proofs.Failures.{depth-reached}
 use Rattle.ac_util.proofs.Reached.{reached-nil}
 use Rattle.ac_util.proofs.Spans.{text_length}
 use Rattle.ac_util.proofs.OneLonger.{text-empty, step-longer, pick-empty_none, pick-empty_some, none-past_end}
-use Rattle.ac_util.proofs.SearchLoop.{credit, step-paid, GoesOn, pick-goes_on, pick-found, pick-stays_dead}
+use Rattle.ac_util.proofs.SearchLoop.{credit, looks_by-once, step-paid, GoesOn, pick-goes_on, pick-found, pick-stays_dead}
 use Rattle.ac_util.specs.Sameness.{plain_byte}
 use Rattle.ac_automaton.specs.Automata.{plain_of, step_of, looks_of, matches_of}
 use Rattle.ac_automaton.specs.Cores.{place_of, FitsIn, found_at}
@@ -69,6 +69,9 @@ module _ (built : Built) (asked : Asked) where
       subst (λ (v : Node). looks_of most built asked.anchored (node_at at) byte + credit most v ≤ credit most (node_at at) + most)
       (node-step at byte ordered room read)
       (step-paid most built.kind (plain_of built) asked.anchored (node_at at) (plain_byte built.fold byte) one_or_two)
+
+  pub node-once : (most at byte : ℕ) → 1 ≤ looks_of most built asked.anchored (node_at at) byte
+  node-once most at byte = looks_by-once most built.kind (plain_of built) asked.anchored (node_at at) (plain_byte built.fold byte)
 
   -- the node fits into what was read
   pub node-fits : (at : ℕ) → asked.start ≤ at → at ≤ length asked.haystack → FitsIn asked.anchored (node_at at) asked.start at

@@ -1,5 +1,5 @@
 -- What a search has read and looked at so far, and that each look is paid for.
-use Rattle.std.proofs.Common.{◌≡◌, ℕ, ◌+◌, ◌-◌, ◌*◌, ◌≤◌, max, ap, ◌∙◌, arith}
+use Rattle.std.proofs.Common.{◌≡◌, ℕ, ◌+◌, ◌-◌, ◌*◌, ◌<◌, ◌≤◌, max, ap, ◌∙◌, arith}
 use Rattle.ac_util.specs.Counts.{Counts, Taped, one_more_read, more_looks}
 use Rattle.ac_automaton.specs.Cores.{Reads}
 
@@ -11,7 +11,8 @@ pub record ReadOn (most start at saved : ℕ) (tape new_tape : Taped) (counts ne
   pub reached : at ≤ max start new_tape.place
   pub reads : new_counts.reads ≡ counts.reads + (at - start)
   pub paid : new_counts.looks + saved ≤ counts.looks + most * (at - start)
-  pub looks : counts.looks ≤ new_counts.looks
+  pub told : tape.place < new_tape.place → start < at
+  pub looked : counts.looks + (at - start) ≤ new_counts.looks
   pub calls : new_counts.calls ≡ counts.calls
 
 module _ (most start at saved : ℕ) (tape new_tape : Taped) (counts new_counts : Counts) (ordered : start ≤ at)
@@ -19,9 +20,9 @@ module _ (most start at saved : ℕ) (tape new_tape : Taped) (counts new_counts 
   -- one more byte, with looks that what was saved and the byte pay for
   pub read-more : (n saved_then : ℕ) (tape_then : Taped) (counts_read counts_then : Counts) → tape.place ≤ start
       → tape_then ≡ record { bytes = new_tape.bytes; place = at + 1 } → counts_read ≡ one_more_read new_counts
-      → counts_then ≡ more_looks n counts_read → n + saved_then ≤ saved + most → ReadOn most start (at + 1) saved_then tape tape_then counts counts_then
-  read-more n saved_then tape_then counts_read counts_then unread place counted looked paid =
-      let b = read.bytes in let l = read.looks in let o = read.onward in let r = read.reads in let p = read.paid in let k = read.calls in
+      → counts_then ≡ more_looks n counts_read → 1 ≤ n → n + saved_then ≤ saved + most → ReadOn most start (at + 1) saved_then tape tape_then counts counts_then
+  read-more n saved_then tape_then counts_read counts_then unread place counted looked once paid =
+      let b = read.bytes in let l = read.looked in let o = read.onward in let r = read.reads in let p = read.paid in let k = read.calls in
       let there = ap (λ (t : Taped). t.place) place in
       let reads = ap (λ (c : Counts). c.reads) looked in let one = ap (λ (c : Counts). c.reads) counted in
       let looks = ap (λ (c : Counts). c.looks) looked in let same = ap (λ (c : Counts). c.looks) counted in
@@ -33,7 +34,8 @@ module _ (most start at saved : ℕ) (tape new_tape : Taped) (counts new_counts 
         reached = omega arith;
         reads = omega arith;
         paid = rw further (omega arith);
-        looks = omega arith;
+        told = λ _. omega arith;
+        looked = omega arith;
         calls = calls ∙ none ∙ k;
       }
 
@@ -45,8 +47,10 @@ module _ (most start at saved : ℕ) (tape new_tape : Taped) (counts new_counts 
         bytes = read.bytes;
         onward = o;
         within = omega arith;
-        grows = record { reads = omega arith; looks = read.looks; calls = omega arith };
+        grows = record { reads = omega arith; looks = (let l = read.looked in omega arith); calls = omega arith };
+        told = λ moved. let t = read.told moved in omega arith;
         reads = omega arith;
+        looked = (let l = read.looked in rw all (omega arith));
         looks = rw all (omega arith);
         calls = omega arith;
       }

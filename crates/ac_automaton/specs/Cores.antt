@@ -1,5 +1,5 @@
 -- What a search core does to the tape that it reads and to its counts.
-use Rattle.std.specs.Prelude.{◌≡◌, ◌≢◌, ℕ, ◌+◌, ◌-◌, ◌*◌, ◌≤◌, Bool, List, Option, None, IfSome, option_map, slice_get, length, max}
+use Rattle.std.specs.Prelude.{◌≡◌, ◌≢◌, ℕ, ◌+◌, ◌-◌, ◌*◌, ◌<◌, ◌≤◌, Bool, List, Option, None, IfSome, option_map, slice_get, length, max}
 use Rattle.ac_util.specs.declared.search.Anchored.{Anchored}
 use Rattle.ac_util.specs.declared.search.Anchored.TheVariants.{Yes}
 use Rattle.ac_util.specs.declared.search.MatchKind.{MatchKind}
@@ -29,14 +29,17 @@ pub record Grows (counts new_counts : Counts) : Type 0 where
   pub looks : counts.looks ≤ new_counts.looks
   pub calls : counts.calls ≤ new_counts.calls
 
--- a search of start..end has read on from the start, each byte once and none past the end; it has looked at states at most
--- `most` times for each byte read, and has called the prefilter at most once for each byte of the span
+-- a search of start..end has read on from the start, each byte once and none past the end, and has counted that it did; it has
+-- looked at states at least once and at most `most` times for each byte read, and has called the prefilter at most once for
+-- each byte of the span
 pub record Reads (most start end : ℕ) (tape new_tape : Taped) (counts new_counts : Counts) : Type 0 where
   pub bytes : new_tape.bytes ≡ tape.bytes
   pub onward : tape.place ≤ new_tape.place
   pub within : new_tape.place ≤ max tape.place end
   pub grows : Grows counts new_counts
+  pub told : tape.place < new_tape.place → counts.reads < new_counts.reads
   pub reads : new_counts.reads ≤ counts.reads + (new_tape.place - start)
+  pub looked : counts.looks + (new_counts.reads - counts.reads) ≤ new_counts.looks
   pub looks : new_counts.looks ≤ counts.looks + most * (new_counts.reads - counts.reads)
   pub calls : new_counts.calls ≤ counts.calls + (end - start)
 

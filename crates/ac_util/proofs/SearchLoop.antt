@@ -1,14 +1,15 @@
 -- A search that reads byte by byte: what it has picked so far stays the pick.
-use Rattle.std.proofs.Common.{◌≡◌, ℕ, zero, suc, ◌+◌, ◌-◌, ◌*◌, ◌<◌, ◌≤◌, Bool, true, false, List, [], ◌∷◌, length, ◌⊎◌, inl, inr, refl, ap, sym, ◌∙◌, subst, arith, Option, Some, None}
+use Rattle.std.proofs.Common.{◌≡◌, ℕ, zero, suc, ◌+◌, ◌-◌, ◌*◌, ◌<◌, ◌≤◌, Bool, true, false, List, [], ◌∷◌, ◌++◌, length, ◌⊎◌, inl, inr, refl, ap, sym, ◌∙◌, subst, arith, Option, Some, None}
 use Rattle.std.specs.Prelude.{◌==◌, if◌then◌else◌, option_map, slice_get}
 use Rattle.ac_util.specs.declared.search.MatchKind.{MatchKind}
 use Rattle.ac_util.specs.declared.search.MatchKind.TheVariants.{Standard, LeftmostFirst, LeftmostLongest}
 use Rattle.ac_util.specs.declared.search.Anchored.{Anchored}
+use Rattle.ac_util.specs.declared.search.Anchored.TheVariants.{No, Yes}
 use Rattle.ac_util.specs.Occurrence.{Occurrence}
 use Rattle.ac_util.specs.Search.{Search}
 use Rattle.ac_util.specs.Pick.{order_of, pick}
-use Rattle.ac_util.specs.Node.{Node, is_leftmost, depth, reached, step}
-use Rattle.ac_util.specs.Looks.{looks, looks_by}
+use Rattle.ac_util.specs.Node.{Node, is_leftmost, is_node, failure, depth, reached, step}
+use Rattle.ac_util.specs.Looks.{looks_within, looks, looks_by}
 use Rattle.ac_util.specs.Text.{plain_patterns, text, one_longer, longer_by, found_at_end, ending}
 use Rattle.ac_util.proofs.Failures.{looks-paid}
 use Rattle.ac_util.proofs.OneLonger.{pick-longer_stays, pick-longer_becomes, first-longer_stays, first-longer_becomes, pick-dead, first-dead}
@@ -80,3 +81,26 @@ step-paid most kind patterns anchored u b (inl one) =
     subst (λ (m : ℕ). looks_by m kind patterns anchored u b + credit m (step kind patterns anchored u b) ≤ credit m u + m) (sym one) (omega arith)
 step-paid most kind patterns anchored u b (inr two) =
     subst (λ (m : ℕ). looks_by m kind patterns anchored u b + credit m (step kind patterns anchored u b) ≤ credit m u + m) (sym two) (looks-paid kind patterns anchored u b)
+
+-- a step looks at one state at least
+looks_within-once : (kind : MatchKind) (patterns : List (List ℕ)) (n : ℕ) (u : Node) (b : ℕ) → 1 ≤ looks_within kind patterns n u b
+looks_within-once kind patterns n None b = omega arith
+looks_within-once kind patterns n (Some []) b = omega arith
+looks_within-once kind patterns zero (Some (x ∷ u)) b = omega arith
+looks_within-once kind patterns (suc n) (Some (x ∷ u)) b = by (is_node kind patterns (x ∷ u ++ b ∷ []))
+  where
+    by : (t : Bool) → 1 ≤ (elim t [ true ↦ 1 | false ↦ suc (looks_within kind patterns n (failure kind patterns (x ∷ u)) b) ])
+    by true = omega arith
+    by false = omega arith
+
+looks-once : (kind : MatchKind) (patterns : List (List ℕ)) (anchored : Anchored) (u : Node) (b : ℕ) → 1 ≤ looks kind patterns anchored u b
+looks-once kind patterns No u b = looks_within-once kind patterns (depth u) u b
+looks-once kind patterns Yes u b = omega arith
+
+pub looks_by-once : (most : ℕ) (kind : MatchKind) (patterns : List (List ℕ)) (anchored : Anchored) (u : Node) (b : ℕ)
+    → 1 ≤ looks_by most kind patterns anchored u b
+looks_by-once most kind patterns anchored u b = by (most == 1)
+  where
+    by : (t : Bool) → 1 ≤ (if t then 1 else looks kind patterns anchored u b)
+    by true = omega arith
+    by false = looks-once kind patterns anchored u b

@@ -8,7 +8,7 @@ use Rattle.ac_util.proofs.SearchLoop.{GoesOn, goes_on-while, credit, credit-nil}
 use Rattle.ac_automaton.specs.Automata.{looks_of}
 use Rattle.ac_automaton.specs.Cores.{asked_of}
 use Rattle.ac_automaton.proofs.Heads.{nil-from_not, found-none}
-use Rattle.ac_automaton.proofs.FindLoop.{node_at, order, node-start, node-step, node-paid, node-fits, picked-start, picked-final, picked-final_if, picked-past_end, picked-still, picked-newly, picked-dead, found-end}
+use Rattle.ac_automaton.proofs.FindLoop.{node_at, order, node-start, node-step, node-paid, node-once, node-fits, picked-start, picked-final, picked-final_if, picked-past_end, picked-still, picked-newly, picked-dead, found-end}
 use Rattle.ac_automaton.proofs.ReadOn.{read-more, reads-so_far}
 use Rattle.ac_automaton.proofs.automaton.find.find_core.Goals as goal
 use Rattle.ac_automaton.proofs.automaton.find.find_core.Goals.{else-stops-via-then-stops+else-is_some, else-stops-via-else-stops, then-is_special+else-is_dead+in-Some+else-stops-2, then-is_special+else-is_dead+in_default-match_at, else-is_special}
@@ -60,7 +60,8 @@ loop-at-init g c =
         reached = omega arith;
         reads = omega arith;
         paid = rw worthless (omega arith);
-        looks = omega arith;
+        told = λ moved. omega arith;
+        looked = omega arith;
         calls = refl;
       };
     }
@@ -94,6 +95,7 @@ returns-then-is_dead-clause-reads g c =
     (looks_of A.LOOKS built c.args.anchored (node_at built asked at) c.read-byte.result) (credit A.LOOKS (node_at built asked (at + 1)))
     c.read-byte.new.self c.read-byte.new.looks c.next_state-sid.new.looks c.requires.unread c.read-byte.ensures.place c.read-byte.ensures.counted
     (c.next_state-sid.ensures.looks (node_at built asked at) inv.stands)
+    (node-once built asked A.LOOKS at c.read-byte.result)
     (node-paid built asked A.LOOKS at c.read-byte.result g.met.A.Automaton.one_or_two (omega arith) room byte) in
     reads-so_far A.LOOKS c.args.start (at + 1) (credit A.LOOKS (node_at built asked (at + 1))) c.args.tape.now c.read-byte.new.self c.args.looks.now c.next_state-sid.new.looks
     (omega arith) read c.args.end (omega arith)
@@ -143,6 +145,7 @@ returns-then-stops-2-clause-reads g c =
     (looks_of A.LOOKS built c.args.anchored (node_at built asked at) c.read-byte.result) (credit A.LOOKS (node_at built asked (at + 1)))
     c.read-byte.new.self c.read-byte.new.looks c.next_state-sid.new.looks c.requires.unread c.read-byte.ensures.place c.read-byte.ensures.counted
     (c.next_state-sid.ensures.looks (node_at built asked at) inv.stands)
+    (node-once built asked A.LOOKS at c.read-byte.result)
     (node-paid built asked A.LOOKS at c.read-byte.result g.met.A.Automaton.one_or_two (omega arith) room byte) in
     reads-so_far A.LOOKS c.args.start (at + 1) (credit A.LOOKS (node_at built asked (at + 1))) c.args.tape.now c.read-byte.new.self c.args.looks.now c.next_state-sid.new.looks
     (omega arith) read c.args.end (omega arith)
@@ -163,6 +166,7 @@ returns-then-stops-2-clause-stops g c =
     (looks_of A.LOOKS built c.args.anchored (node_at built asked at) c.read-byte.result) (credit A.LOOKS (node_at built asked (at + 1)))
     c.read-byte.new.self c.read-byte.new.looks c.next_state-sid.new.looks c.requires.unread c.read-byte.ensures.place c.read-byte.ensures.counted
     (c.next_state-sid.ensures.looks (node_at built asked at) inv.stands)
+    (node-once built asked A.LOOKS at c.read-byte.result)
     (node-paid built asked A.LOOKS at c.read-byte.result g.met.A.Automaton.one_or_two (omega arith) room byte) in
     let here = sym (c.match_at.ensures (node_at built asked (at + 1)) stands (node-fits built asked (at + 1) (omega arith) (omega (arith, room)))) ∙ c.in-Some.is in
     let there = found-end built c.args.anchored (node_at built asked (at + 1)) (at + 1) c.in-Some.found here in
@@ -186,6 +190,7 @@ loop-at-preserved g c =
     (looks_of A.LOOKS built c.args.anchored (node_at built asked at) c.read-byte.result) (credit A.LOOKS (node_at built asked (at + 1)))
     c.read-byte.new.self c.read-byte.new.looks c.next_state-sid.new.looks c.requires.unread c.read-byte.ensures.place c.read-byte.ensures.counted
     (c.next_state-sid.ensures.looks (node_at built asked at) inv.stands)
+    (node-once built asked A.LOOKS at c.read-byte.result)
     (node-paid built asked A.LOOKS at c.read-byte.result g.met.A.Automaton.one_or_two (omega arith) room byte) in
     let fits = node-fits built asked (at + 1) (omega arith) (omega (arith, room)) in
     record {
