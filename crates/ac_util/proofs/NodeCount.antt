@@ -1,8 +1,8 @@
 -- The nodes other than the empty and the dead one are counted, each once.
-use Rattle.std.proofs.Common.{◌≡◌, ◌≢◌, ℕ, zero, suc, ◌+◌, ◌<◌, ◌≤◌, Bool, true, false, not, ◌||◌, List, [], ◌∷◌, map, length, take, ◌⊎◌, inl, inr, refl, ap, sym, ◌∙◌, subst, arith, length-take}
-use Rattle.std.specs.Prelude.{nat_eq, bytes_eq, filter, flat_map, Contains, AllPairs}
+use Rattle.std.proofs.Common.{◌≡◌, ◌≢◌, ℕ, ◌<◌, Bool, true, not, List, [], ◌∷◌, length, take, inl, inr, refl, ap, sym, ◌∙◌, subst, arith, length-take}
+use Rattle.std.specs.Prelude.{nat_eq, bytes_eq, flat_map, Contains, AllPairs}
 use Rattle.std.specs.List.{range_with_len, list_any, starts_with}
-use Rattle.std.proofs.lemmas.Bool.{or_cases, or_right, and_from, eq-eqb, cases_Bool, false≢true, false_from_ne_true}
+use Rattle.std.proofs.lemmas.Bool.{or_cases, or_right, cases_Bool, false≢true}
 use Rattle.std.proofs.lemmas.Slice.Eq.{bytes_eq-Decides}
 use Rattle.ac_util.specs.declared.search.MatchKind.{MatchKind}
 use Rattle.ac_util.specs.Search.{pattern_of}

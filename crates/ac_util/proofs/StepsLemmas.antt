@@ -1,5 +1,5 @@
 -- A closure that writes the text of each pattern and goes on leaves the replaced text.
-use Rattle.std.proofs.Common.{◌≡◌, ℕ, Bool, true, false, List, [], ◌∷◌, ◌++◌, drop, refl, ap, sym, subst, ◌∙◌, append_assoc}
+use Rattle.std.proofs.Common.{◌≡◌, ℕ, Bool, true, false, List, [], ◌∷◌, ◌++◌, drop, ap, ◌∙◌, append_assoc}
 use Rattle.std.specs.Prelude.{slice_range, slice_index_or, MatchBool}
 use Rattle.ac_util.specs.Occurrence.{Occurrence}
 use Rattle.ac_util.specs.Replaced.{replaced_from}
