@@ -4,7 +4,8 @@ use Rattle.ac_util.specs.declared.search.MatchKind.{MatchKind}
 use Rattle.ac_util.specs.declared.search.MatchKind.TheVariants.{Standard}
 use Rattle.ac_util.specs.Occurrence.{Occurrence}
 use Rattle.ac_util.specs.Counts.{Counts, Taped, no_counts}
-use Rattle.ac_util.specs.Built.{Built, walked}
+use Rattle.ac_util.specs.Built.{Built, search_in, walked}
+use Rattle.ac_util.specs.Walk.{next_match, walk_after}
 use Rattle.ac_util.specs.Input.{Asked}
 use Rattle.ac_util.specs.Pick.{order_of}
 use Rattle.ac_util.specs.Refusal.{start_refusal}
@@ -16,6 +17,13 @@ pub record Walking : Type 0 where
   pub order : MatchKind
   pub span : ℕ
   pub counts : Counts
+
+-- the matches of an input after one that ended at `last`, and the first of them
+abbrev pub rest_of : Built → Asked → Option ℕ → List Occurrence
+rest_of built asked last = walk_after (order_of built.kind asked.earliest) (search_in built asked) last
+
+abbrev pub next_of : Built → Asked → Option ℕ → Option Occurrence
+next_of built asked last = next_match (order_of built.kind asked.earliest) (search_in built asked) last
 
 -- a walk that begins: all its matches are still to come
 abbrev pub begun : Built → Asked → Walking

@@ -47,7 +47,8 @@ pub trait Automaton {
     /// `InvalidInputAnchored` or `InvalidInputUnanchored` where the automaton has no such start.
     fn start_state(&self, anchored: Anchored) -> Result<StateID, MatchError>
         ensures { MatchResult result
-            (λ sid. (start_refusal (built self.now).start_kind anchored ≡ None) × stands self.now anchored sid (Some []))
+            (λ sid. (start_refusal (built self.now).start_kind anchored ≡ None)
+            × stands self.now anchored sid (Some []))
             (λ e. start_refusal (built self.now).start_kind anchored ≡ Some e) };
 
     /// Returns the state after a byte, and counts the looks that this takes.
@@ -78,7 +79,8 @@ pub trait Automaton {
     /// Returns whether the state is one at which a search begins.
     fn is_start(&self, sid: StateID) -> bool
         requires state { (anchored : Anchored) × IsState (stands self.now anchored) sid }
-        ensures { (anchored : Anchored) (u : Node) → stands self.now anchored sid u → IsTrue result ↔ (u ≡ Some []) };
+        ensures { (anchored : Anchored) (u : Node) → stands self.now anchored sid u
+            → IsTrue result ↔ (u ≡ Some []) };
 
     /// Returns how many matches a match state has.
     fn match_len(&self, sid: StateID) -> usize
@@ -135,7 +137,8 @@ pub trait Automaton {
     where
         Self: Sized,
         ensures { MatchResult result
-            (λ r. (find_refusal (built self.now) (asked input.entry) ≡ None) × (r ≡ found (built self.now) (asked input.entry)))
+            (λ r. (find_refusal (built self.now) (asked input.entry) ≡ None)
+            × (r ≡ found (built self.now) (asked input.entry)))
             (λ e. find_refusal (built self.now) (asked input.entry) ≡ Some e) }
     {
         let _start = self.start_state(input.get_anchored())?;
@@ -164,7 +167,8 @@ pub trait Automaton {
     where
         Self: Sized,
         ensures { MatchResult result
-            (λ matches. (find_refusal (built self.now) (asked input.entry) ≡ None) × (matches ≡ begun (built self.now) (asked input.entry)))
+            (λ matches. (find_refusal (built self.now) (asked input.entry) ≡ None)
+            × (matches ≡ begun (built self.now) (asked input.entry)))
             (λ e. find_refusal (built self.now) (asked input.entry) ≡ Some e) }
     {
         let _start = self.start_state(input.get_anchored())?;

@@ -34,9 +34,11 @@ pub fn find_core<A: Automaton>(
     requires end_within { end ≤ length tape.old.bytes }
     requires start_within { start ≤ end + 1 }
     requires unread { tape.old.place ≤ start }
-    ensures pick { result ≡ found (A.built automaton.now) (asked_of tape.old.bytes start end anchored earliest) }
+    ensures pick { result ≡ found (A.built automaton.now)
+        (asked_of tape.old.bytes start end anchored earliest) }
     ensures reads { Reads A.LOOKS start end tape.old tape.new looks.old looks.new }
-    ensures stops { StopsAtMatch (A.built automaton.now).kind earliest start result tape.old tape.new looks.old looks.new }
+    ensures stops { StopsAtMatch (A.built automaton.now).kind earliest start result
+        tape.old tape.new looks.old looks.new }
 {
     let Ok(mut sid) = automaton.start_state(anchored) else {
         unreachable!()

@@ -2,13 +2,13 @@
 ghost use Rattle.std.specs.Prelude.{◌≡◌, ◌+◌, ◌≤◌, ℕ, [], ◌∷◌, ⊤, IfSome, None, MatchOption};
 ghost use Rattle.std.specs.Iterator.{MakesProgress, YieldsFirst, item_count};
 ghost use Rattle.ac_util.specs.declared.search.MatchKind.TheVariants.{Standard};
-ghost use Rattle.ac_util.specs.Built.{found, search_in};
+ghost use Rattle.ac_util.specs.Built.{found};
 ghost use Rattle.ac_util.specs.Inputs.{asked};
 ghost use Rattle.ac_util.specs.Pick.{order_of};
 ghost use Rattle.ac_util.specs.Refusal.{start_refusal};
-ghost use Rattle.ac_util.specs.Walk.{next_match, repeats};
+ghost use Rattle.ac_util.specs.Walk.{repeats};
 ghost use Rattle.ac_automaton.specs.Cores.{Grows};
-ghost use Rattle.ac_automaton.specs.Iterators.{GoesOn, IsPaid, Left, after, begun};
+ghost use Rattle.ac_automaton.specs.Iterators.{GoesOn, IsPaid, Left, after, begun, next_of};
 
 use super::Automaton;
 use super::find::{find_core, stops_at_match};
@@ -19,9 +19,9 @@ use std::snapshot::Snapshot;
 
 /// An iterator over the matches of an input that don't overlap, made by `Automaton::try_find_iter`.
 ///
-/// After its end it keeps giving `None`. Contracts see the matches still to come and what was counted. Under
-/// `MatchKind::Standard`, or with `earliest`, it reads each byte at most once on the whole; else it counts anew for each match,
-/// since a leftmost search may read on past the end of what it picks.
+/// After its end it keeps giving `None`. Contracts see the matches still to come and what was counted.
+/// Under `MatchKind::Standard`, or with `earliest`, it reads each byte at most once on the whole; else it
+/// counts anew for each match, since a leftmost search may read on past the end of what it picks.
 #[derive(Drop)]
 pub struct FindIter<'a, 'h, A: Automaton> {
     automaton: &'a A,
@@ -37,22 +37,21 @@ pub struct FindIter<'a, 'h, A: Automaton> {
 
 impl<'a, 'h, A: Automaton> Model for FindIter<'a, 'h, A> {
     ghost use Rattle.std.specs.Prelude.{◌-◌, ◌≤◌, IfSome};
-    ghost use Rattle.ac_util.specs.Built.{search_in};
     ghost use Rattle.ac_util.specs.Inputs.{asked};
     ghost use Rattle.ac_util.specs.Pick.{order_of};
-    ghost use Rattle.ac_util.specs.Walk.{walk_after};
-    ghost use Rattle.ac_automaton.specs.Iterators.{Left, Walking};
+    ghost use Rattle.ac_automaton.specs.Iterators.{Left, Walking, rest_of};
 
     ghost Value = { Walking };
 
     ghost view = { λ s. record {
-      rest = walk_after (order_of (A.built s.automaton.now).kind s.input.earliest) (search_in (A.built s.automaton.now) (asked s.input)) s.last;
+      rest = rest_of (A.built s.automaton.now) (asked s.input) s.last;
       order = order_of (A.built s.automaton.now).kind s.input.earliest;
       span = s.input.end - s.from.value;
       counts = s.looks;
     } };
 
-    ghost invariant = { λ s. Left A.LOOKS (A.built s.automaton.now) (asked s.input) s.from.value s.tape s.looks × IfSome s.last (λ e. e ≤ s.input.start) };
+    ghost invariant = { λ s. Left A.LOOKS (A.built s.automaton.now) (asked s.input) s.from.value s.tape s.looks
+        × IfSome s.last (λ e. e ≤ s.input.start) };
 }
 
 impl<'a, 'h, A: Automaton> FindIter<'a, 'h, A> {
@@ -76,7 +75,9 @@ impl<'a, 'h, A: Automaton> FindIter<'a, 'h, A> {
     /// Returns the next match, and moves on.
     #[inline]
     fn advance(&mut self) -> Option<Match>
-        ensures steps { MatchOption result ((self.old.rest ≡ []) × (self.new.rest ≡ [])) (λ found. self.old.rest ≡ found ∷ self.new.rest) }
+        ensures steps { MatchOption result
+            ((self.old.rest ≡ []) × (self.new.rest ≡ []))
+            (λ found. self.old.rest ≡ found ∷ self.new.rest) }
         ensures goes_on { GoesOn self.old self.new }
         ensures paid { IsPaid A.LOOKS self.new }
     {
@@ -94,8 +95,8 @@ impl<'a, 'h, A: Automaton> FindIter<'a, 'h, A> {
     }
 }
 
-/// Returns the next match of a walk after one that ended at `last`, and moves the span on to its end, or past its own end where
-/// there is none.
+/// Returns the next match of a walk after one that ended at `last`, and moves the span on to its end, or
+/// past its own end where there is none.
 #[inline]
 fn next_left<'h, A: Automaton>(
     automaton: &A,
@@ -106,11 +107,12 @@ fn next_left<'h, A: Automaton>(
 ) -> Option<Match>
     requires left { (from : ℕ) × Left A.LOOKS (A.built automaton.now) (asked input.old) from tape.old looks.old }
     requires behind { IfSome last (λ e. e ≤ (asked input.old).start) }
-    ensures next { result ≡ next_match (order_of (A.built automaton.now).kind (asked input.old).earliest) (search_in (A.built automaton.now) (asked input.old)) last }
+    ensures next { result ≡ next_of (A.built automaton.now) (asked input.old) last }
     ensures moves { asked input.new ≡ record (asked input.old) { start = after (asked input.old) result } }
     ensures left { (from : ℕ) → Left A.LOOKS (A.built automaton.now) (asked input.old) from tape.old looks.old
         → Left A.LOOKS (A.built automaton.now) (asked input.new) from tape.new looks.new }
-    ensures grows { order_of (A.built automaton.now).kind (asked input.old).earliest ≡ Standard → Grows looks.old looks.new }
+    ensures grows { order_of (A.built automaton.now).kind (asked input.old).earliest ≡ Standard
+        → Grows looks.old looks.new }
 {
     let first = find_left(automaton, input, tape, looks);
     if repeats(&first, last) {
@@ -158,8 +160,10 @@ fn find_left<'h, A: Automaton>(
     requires left { (from : ℕ) × Left A.LOOKS (A.built automaton.now) (asked input.now) from tape.old looks.old }
     ensures pick { result ≡ found (A.built automaton.now) (asked input.now) }
     ensures left { (from : ℕ) → Left A.LOOKS (A.built automaton.now) (asked input.now) from tape.old looks.old
-        → Left A.LOOKS (A.built automaton.now) (record (asked input.now) { start = after (asked input.now) result }) from tape.new looks.new }
-    ensures grows { order_of (A.built automaton.now).kind (asked input.now).earliest ≡ Standard → Grows looks.old looks.new }
+        → Left A.LOOKS (A.built automaton.now) (record (asked input.now) { start = after (asked input.now) result })
+        from tape.new looks.new }
+    ensures grows { order_of (A.built automaton.now).kind (asked input.now).earliest ≡ Standard
+        → Grows looks.old looks.new }
 {
     let earliest = input.get_earliest();
     if !stops_at_match(automaton.match_kind(), earliest) {
