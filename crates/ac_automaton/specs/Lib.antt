@@ -1,3 +1,6 @@
 pub mod Automata
 pub mod Cores
+pub mod Growths
 pub mod Iterators
+pub mod Members
+pub mod Tries

@@ -56,7 +56,7 @@ IsIn-from_fronts p u h =
     record { front = subst (λ (w : List ℕ). starts_with nat_eq p w ≡ true) f.2 (starts_with-take f.0 p); some = omega arith }
 
 -- an element that passes
-any_passes : (f : ℕ → Bool) (xs : List ℕ) → list_any f xs ≡ true → (x : ℕ) × IsIn x xs × (f x ≡ true)
+pub any_passes : (f : ℕ → Bool) (xs : List ℕ) → list_any f xs ≡ true → (x : ℕ) × IsIn x xs × (f x ≡ true)
 any_passes f [] h = absurd (false≢true h)
 any_passes f (x ∷ xs) h = elim (or_cases (f x) (list_any f xs) h) [
   | inl here ↦ (x, inl refl, here)

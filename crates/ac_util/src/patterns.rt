@@ -9,6 +9,7 @@ use crate::error::BuildError;
 use crate::primitives::{GREATEST, PatternID};
 use std::alloc::Allocator;
 use std::marker::Model;
+use std::mem::size_of;
 
 /// A list of patterns: all their bytes in one list, and the places in it where each pattern starts and the last one ends.
 ///
@@ -52,6 +53,14 @@ impl<A: Allocator> Patterns<A> {
         ensures short { length result.now ≤ GREATEST }
     {
         piece(&self.bytes, &self.bounds, number)
+    }
+}
+
+impl<A: Allocator> Patterns<A> {
+    /// Returns about how many bytes of memory the patterns take. Nothing is promised of the number.
+    pub fn memory_usage(&self) -> usize {
+        let bounds = self.bounds.len().saturating_mul(size_of::<usize>());
+        self.bytes.len().saturating_add(bounds)
     }
 }
 

@@ -1,0 +1,156 @@
+-- A walk from state to state along the failure targets: it keeps where the byte leads at last, and counts its looks.
+use Rattle.std.proofs.Common.{◌≡◌, ◌≢◌, ℕ, ◌+◌, ◌<◌, List, get_or, refl, ap, sym, subst, ◌∙◌, arith, Some, None, Contains}
+use Rattle.std.specs.Prelude.{slice_get}
+use Rattle.std.proofs.lemmas.List.{get_or_read}
+use Rattle.std.proofs.lemmas.Option.{get_or_from_slice_get, slice_get_within}
+use Rattle.ac_util.specs.declared.search.Anchored.{Anchored}
+use Rattle.ac_util.specs.declared.search.Anchored.TheVariants.{No, Yes}
+use Rattle.ac_util.specs.Counts.{Counts, more_looks}
+use Rattle.ac_util.specs.Node.{Node, step}
+use Rattle.ac_util.specs.Looks.{looks}
+use Rattle.ac_automaton.specs.declared.nfa.noncontiguous.state.State.{State}
+use Rattle.ac_automaton.specs.Tries.{Meaning, HasState, Represents, held, labels_of, miss}
+use Rattle.ac_automaton.proofs.Steps.{step-held, step-miss, step-on, looks-held, looks-short, looks-on}
+
+-- a node that cannot be alive is dead
+none-from : (v : Node) → (v ≢ None → ⊥) → v ≡ None
+none-from None h = refl
+none-from (Some w) h = absurd (h (λ e. cc))
+
+-- no more looks change nothing, and n and then m are n + m
+more_looks-none : (counts : Counts) → counts ≡ more_looks 0 counts
+more_looks-none counts =
+    ap (λ (n : ℕ). record counts { looks = n }) (let e : counts.looks ≡ counts.looks + 0 = omega arith in e)
+
+more_looks-twice : (n m : ℕ) (counts : Counts) → more_looks m (more_looks n counts) ≡ more_looks (n + m) counts
+more_looks-twice n m counts =
+    let e : (counts.looks + n) + m ≡ counts.looks + (n + m) = omega arith in
+    ap (λ (k : ℕ). record counts { looks = k }) e
+
+-- the state that was read stands for the node of its number
+pub represented : (g : Meaning) (states : List State) (s : ℕ) (v : Node) (t : State)
+    → HasState g states s v → t ≡ get_or states s t → Represents g s v t
+represented g states s v t h is =
+    subst (λ (x : State). Represents g s v x) (sym (get_or_read states s t h.there is _)) (h.meant.each s v h.there h.named)
+
+module _ (g : Meaning) (labels : List ℕ) (same : g.labels ≡ labels)
+    (s : ℕ) (v : Node) (t : State) (r : Represents g s v t) (b : ℕ) where
+  -- a byte that is a label leads on
+  pub leads-label : (k : ℕ) → slice_get (labels_of labels t) k ≡ Some b → held g v b ≢ None
+  leads-label k at =
+      let there : slice_get (labels_of g.labels t) k ≡ Some b = rw same at in
+      (r.branches b).0
+      (k, slice_get_within (labels_of g.labels t) k b there, get_or_from_slice_get (labels_of g.labels t) k b b there)
+
+  -- and it leads to the child with its place
+  pub child-label : (k : ℕ) → slice_get (labels_of labels t) k ≡ Some b
+      → slice_get g.nodes (4 + (t.children + k)) ≡ Some (held g v b)
+  child-label k at = r.children k b (rw same at)
+
+  -- any other byte leads nowhere
+  pub none-label : (Contains (labels_of labels t) b → ⊥) → held g v b ≡ None
+  none-label none =
+      none-from (held g v b)
+      (λ on. none (subst (λ (ls : List ℕ). Contains (labels_of ls t) b) same ((r.branches b).1 on)))
+
+-- on the way to where the byte leads from the node, the walk is at a state, and has counted what it took to come there
+pub record Onward (g : Meaning) (states : List State) (anchored : Anchored) (b : ℕ) (u : Node) (old now : Counts) (at : ℕ)
+    : Type 0 where
+  pub node : Node
+  pub state : HasState g states at node
+  pub steps : step g.kind g.patterns anchored u b ≡ step g.kind g.patterns anchored node b
+  pub taken : ℕ
+  pub looks : looks g.kind g.patterns anchored u b ≡ taken + looks g.kind g.patterns anchored node b
+  pub counted : now ≡ more_looks taken old
+
+-- at its end it is where the byte leads, and has counted all looks
+pub record Ended (g : Meaning) (anchored : Anchored) (b : ℕ) (u : Node) (old new : Counts) (next : ℕ) : Type 0 where
+  pub steps : slice_get g.nodes next ≡ Some (step g.kind g.patterns anchored u b)
+  pub looks : new ≡ more_looks (looks g.kind g.patterns anchored u b) old
+
+module _ (g : Meaning) (states : List State) (b : ℕ) (u : Node) (old : Counts) where
+  -- before the first look the walk is on the way
+  pub onward-start : (anchored : Anchored) (s : ℕ) → HasState g states s u → Onward g states anchored b u old old s
+  onward-start anchored s h = record {
+    node = u;
+    state = h;
+    steps = refl;
+    taken = 0;
+    looks = omega arith;
+    counted = more_looks-none old;
+  }
+
+  -- with one look more the walk has counted all
+  counted-last : (anchored : Anchored) (now new : Counts) (s : ℕ) (o : Onward g states anchored b u old now s)
+      → looks g.kind g.patterns anchored o.node b ≡ 1 → new ≡ more_looks 1 now
+      → new ≡ more_looks (looks g.kind g.patterns anchored u b) old
+  counted-last anchored now new s o one more =
+      more ∙ ap (more_looks 1) o.counted ∙ more_looks-twice o.taken 1 old
+      ∙ ap (λ (n : ℕ). more_looks n old) (let l = o.looks in omega arith)
+
+  -- a byte that leads on leads to one node in any search, with one look
+  step-leads : (anchored : Anchored) (v : Node) → held g v b ≢ None → step g.kind g.patterns anchored v b ≡ held g v b
+  step-leads No v on = step-held g.kind g.patterns v b on
+  step-leads Yes v on = refl
+
+  looks-leads : (anchored : Anchored) (v : Node) → held g v b ≢ None → looks g.kind g.patterns anchored v b ≡ 1
+  looks-leads No v on = looks-held g.kind g.patterns v b on
+  looks-leads Yes v on = refl
+
+  -- what holds after a look at the state t of the number s
+  module _ (labels : List ℕ) (same : g.labels ≡ labels) (now new : Counts) (more : new ≡ more_looks 1 now)
+      (s : ℕ) (t : State) (is : t ≡ get_or states s t) where
+    -- at a state that has a child by the byte the walk ends there
+    pub ends-child : (anchored : Anchored) (k : ℕ) → slice_get (labels_of labels t) k ≡ Some b
+        → Onward g states anchored b u old now s → Ended g anchored b u old new (4 + (t.children + k))
+    ends-child anchored k at o =
+        let r = represented g states s o.node t o.state is in
+        let on = leads-label g labels same s o.node t r b k at in record {
+          steps =
+              child-label g labels same s o.node t r b k at
+              ∙ ap (λ (v : Node). Some v) (sym (o.steps ∙ step-leads anchored o.node on));
+          looks = counted-last anchored now new s o (looks-leads anchored o.node on) more;
+        }
+
+    module _ (none : Contains (labels_of labels t) b → ⊥) where
+      -- an anchored walk ends at the dead state where there is no child
+      pub ends-anchored : (anchored : Anchored) → anchored ≡ Yes
+          → Onward g states anchored b u old now s → Ended g anchored b u old new 0
+      ends-anchored No is_yes o = absurd (cc)
+      ends-anchored Yes is_yes o =
+          let r = represented g states s o.node t o.state is in
+          let off = none-label g labels same s o.node t r b none in record {
+            steps = o.state.meant.dead ∙ ap (λ (v : Node). Some v) (sym (o.steps ∙ off));
+            looks = counted-last Yes now new s o refl more;
+          }
+
+      -- an unanchored one ends behind the start and the dead state
+      pub ends-outer : (anchored : Anchored) → anchored ≡ No → s < 4
+          → Onward g states anchored b u old now s → Ended g anchored b u old new t.fail
+      ends-outer Yes is_no small o = absurd (cc)
+      ends-outer No is_no small o =
+          let r = represented g states s o.node t o.state is in
+          let off = none-label g labels same s o.node t r b none in
+          let goes = step-miss g.kind g.patterns o.node b off (r.outer small) in record {
+            steps = r.fails ∙ ap (λ (v : Node). Some v) (sym (o.steps ∙ goes));
+            looks = counted-last No now new s o (looks-short g.kind g.patterns o.node b (r.outer small)) more;
+          }
+
+      -- and goes on at the failure target of any other
+      pub goes-on : (anchored : Anchored) → anchored ≡ No → 3 < s
+          → Onward g states anchored b u old now s → Onward g states anchored b u old new t.fail
+      goes-on Yes is_no large o = absurd (cc)
+      goes-on No is_no large o =
+          let r = represented g states s o.node t o.state is in
+          let off = none-label g labels same s o.node t r b none in
+          let back = r.back large in
+          let there = o.state.there in
+          let l = o.looks in
+          let m = looks-on g.kind g.patterns o.node b off (r.inner large) in record {
+            node = miss g.kind g.patterns o.node;
+            state = record { meant = o.state.meant; there = omega arith; named = r.fails };
+            steps = o.steps ∙ step-on g.kind g.patterns o.node b off (r.inner large);
+            taken = o.taken + 1;
+            looks = omega arith;
+            counted = more ∙ ap (more_looks 1) o.counted ∙ more_looks-twice o.taken 1 old;
+          }

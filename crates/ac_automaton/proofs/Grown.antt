@@ -1,0 +1,149 @@
+-- What stays as a trie grows.
+use Rattle.std.proofs.Common.{◌≡◌, ℕ, zero, suc, ◌+◌, ◌<◌, ◌≤◌, ◌≢◌, List, [], ◌∷◌, ◌++◌, length, map, ◌⊎◌, length-append, inl, inr, refl, ap, sym, ◌∙◌, subst, arith, Option, Some, None, get_or}
+use Rattle.std.specs.Prelude.{slice_get, slice_range, option_map, Contains, ◌↔◌}
+use Rattle.std.specs.List.Sorted.{IsStrictlyIncreasing}
+use Rattle.std.proofs.lemmas.Bool.{cases_lt}
+use Rattle.std.proofs.lemmas.List.{get_or_default, get_or_append_left, get_or_push, length_push}
+use Rattle.std.proofs.lemmas.Option.{slice_get-map, slice_get-get_or, slice_get_within}
+use Rattle.ac_util.specs.declared.search.MatchKind.{MatchKind}
+use Rattle.ac_util.specs.declared.primitives.TheConstants.{GREATEST}
+use Rattle.ac_util.specs.Node.{Node}
+use Rattle.ac_util.proofs.PiecesLemmas.{slice_range-append}
+use Rattle.ac_automaton.specs.declared.nfa.noncontiguous.growth.Pending.{Pending}
+use Rattle.ac_automaton.specs.declared.nfa.noncontiguous.state.State.{State}
+use Rattle.ac_automaton.specs.Growths.{nodes_of, word}
+use Rattle.ac_automaton.specs.Members.{Keyed}
+use Rattle.ac_automaton.specs.Tries.{Meaning, AreStates, Represents, held, labels_of, state_at}
+use Rattle.ac_automaton.proofs.Places.{get-same}
+
+-- what a number says of its node: dead, the start, or the string of a state in the queue
+pub record IsInner (members : List Keyed) (queue : List Pending) (s : ℕ) (v : Node) : Type 0 where
+  pub place : ℕ
+  pub number : s ≡ 4 + place
+  pub pending : Pending
+  pub waits : slice_get queue place ≡ Some pending
+  pub node : v ≡ Some (word members pending)
+
+module _ (members : List Keyed) where
+  words_more : (queue more : List Pending) (k : ℕ) (v : Node)
+      → slice_get (map (λ p. Some (word members p)) queue) k ≡ Some v
+      → slice_get (map (λ p. Some (word members p)) (queue ++ more)) k ≡ Some v
+  words_more [] more k v e = absurd (cc)
+  words_more (p ∷ queue) more zero v e = e
+  words_more (p ∷ queue) more (suc k) v e = words_more queue more k v e
+
+  -- a number keeps its node
+  pub nodes-more : (queue more : List Pending) (s : ℕ) (v : Node)
+      → slice_get (nodes_of members queue) s ≡ Some v → slice_get (nodes_of members (queue ++ more)) s ≡ Some v
+  nodes-more queue more zero v e = e
+  nodes-more queue more (suc zero) v e = e
+  nodes-more queue more (suc (suc zero)) v e = e
+  nodes-more queue more (suc (suc (suc zero))) v e = e
+  nodes-more queue more (suc (suc (suc (suc k)))) v e = words_more queue more k v e
+
+  -- the states from the fifth on stand for the strings of the queue
+  pub nodes-inner : (queue : List Pending) (k : ℕ) (p : Pending) → slice_get queue k ≡ Some p
+      → slice_get (nodes_of members queue) (4 + k) ≡ Some (Some (word members p))
+  nodes-inner queue k p e =
+      let four : suc (suc (suc (suc k))) ≡ 4 + k = omega arith in
+      subst (λ (s : ℕ). slice_get (nodes_of members queue) s ≡ Some (Some (word members p))) four
+      (slice_get-map (λ q. Some (word members q)) queue k ∙ ap (option_map (λ q. Some (word members q))) e)
+
+  words_from : (queue : List Pending) (k : ℕ) (v : Node) → slice_get (map (λ p. Some (word members p)) queue) k ≡ Some v
+      → (p : Pending) × (slice_get queue k ≡ Some p) × (v ≡ Some (word members p))
+  words_from [] k v e = absurd (cc)
+  words_from (p ∷ queue) zero v e = (p, refl, (cc))
+  words_from (p ∷ queue) (suc k) v e = words_from queue k v e
+
+  -- a node's number is that of the dead state or the one beside it, of a start, or of a state in the queue
+  pub nodes-cases : (queue : List Pending) (s : ℕ) (v : Node) → slice_get (nodes_of members queue) s ≡ Some v
+      → ((s < 2) × (v ≡ None)) ⊎ (((2 ≤ s) × (s < 4) × (v ≡ Some [])) ⊎ IsInner members queue s v)
+  nodes-cases queue zero v e = inl (omega arith, (cc))
+  nodes-cases queue (suc zero) v e = inl (omega arith, (cc))
+  nodes-cases queue (suc (suc zero)) v e = inr (inl (omega arith, omega arith, (cc)))
+  nodes-cases queue (suc (suc (suc zero))) v e = inr (inl (omega arith, omega arith, (cc)))
+  nodes-cases queue (suc (suc (suc (suc k)))) v e =
+      let r = words_from queue k v e in
+      inr (inr (record { place = k; number = omega arith; pending = r.0; waits = r.1; node = r.2 }))
+
+-- the meaning with more labels, and with nodes of which each keeps its number
+abbrev pub more_meaning : Meaning → List ℕ → List Node → Meaning
+more_meaning g more nodes = record {
+  kind = g.kind;
+  patterns = g.patterns;
+  order = g.order;
+  labels = g.labels ++ more;
+  nodes = nodes;
+}
+
+module _ (g : Meaning) (more : List ℕ) (nodes : List Node)
+    (keeps : (s : ℕ) (v : Node) → slice_get g.nodes s ≡ Some v → slice_get nodes s ≡ Some v) where
+  -- a state that is whole stays what it is
+  pub Represents-more : (s : ℕ) (v : Node) (t : State) → Represents g s v t → Represents (more_meaning g more nodes) s v t
+  Represents-more s v t r =
+      let e : labels_of (g.labels ++ more) t ≡ labels_of g.labels t =
+      slice_range-append g.labels more t.children t.children_end r.ordered r.labelled in
+      let longer : t.children_end ≤ length (g.labels ++ more) = (let l = r.labelled in omega (arith, length-append g.labels more)) in
+      record {
+        ordered = r.ordered;
+        labelled = longer;
+        ascending = subst IsStrictlyIncreasing (sym e) r.ascending;
+        branches = λ b. subst (λ (bs : List ℕ). Contains bs b ↔ (held g v b ≢ None)) (sym e) (r.branches b);
+        children = λ k b h. keeps _ _ (r.children k b (sym (ap (λ (bs : List ℕ). slice_get bs k) e) ∙ h));
+        fails = keeps _ _ r.fails;
+        back = r.back;
+        owned = r.owned;
+        within = r.within;
+        own = r.own;
+        links = record {
+          linked = r.links.linked;
+          leads = keeps _ _ r.links.leads;
+          back = r.links.back;
+          finds = r.links.finds;
+          useful = r.links.useful;
+        };
+        long = r.long;
+        outer = r.outer;
+        inner = r.inner;
+      }
+
+  -- so do all of them
+  pub AreStates-more : (states : List State) → length g.nodes ≤ length nodes → length (g.labels ++ more) + 4 ≤ GREATEST + 1
+      → AreStates g states → AreStates (more_meaning g more nodes) states
+  AreStates-more states longer few a = record {
+    dead = keeps 0 None a.dead;
+    named = (let l = a.named in omega arith);
+    few = few;
+    each = λ s v l e.
+    let h = slice_get_within nodes s v e in
+    let known = slice_get-get_or g.nodes s None (let m = a.named in omega arith) in
+    let same = get-same nodes s (get_or g.nodes s None) v (keeps s (get_or g.nodes s None) known) e in
+    Represents-more s v (state_at states s) (a.each s v l (known ∙ ap (λ (w : Node). Some w) same));
+  }
+
+-- one more state is whole
+module _ (g : Meaning) (states : List State) (v : Node) (t : State) where
+  pub AreStates-push : AreStates g states → slice_get g.nodes (length states) ≡ Some v → Represents g (length states) v t
+      → AreStates g (states ++ t ∷ [])
+  AreStates-push a node r = record {
+    dead = a.dead;
+    named = (let l = slice_get_within g.nodes (length states) v node in let m = length_push states t in omega arith);
+    few = a.few;
+    each = λ s w l e. each s w e (cases_lt s (length states)) (let m = length_push states t in omega arith);
+  }
+    where
+      each : (s : ℕ) (w : Node) → slice_get g.nodes s ≡ Some w → (s < length states) ⊎ (length states ≤ s) → s ≤ length states
+          → Represents g s w (state_at (states ++ t ∷ []) s)
+      each s w e (inl before) l =
+          subst (λ (u : State). Represents g s w u)
+          (sym (get_or_append_left states (t ∷ []) (state_at [] 0) s before)) (a.each s w before e)
+      each s w e (inr at) l =
+          let here : length states ≡ s = omega arith in
+          let same = get-same g.nodes s v w (subst (λ (k : ℕ). slice_get g.nodes k ≡ Some v) here node) e in
+          subst (λ (u : State). Represents g s w u) (sym (get_or_push states t (state_at [] 0) s here))
+          (subst (λ (x : Node). Represents g s x t) same (subst (λ (k : ℕ). Represents g k v t) here r))
+
+-- a state that was read by its number
+pub state-read : (states : List State) (t : State) (k s : ℕ) → k ≡ s → s < length states → t ≡ get_or states k t → t ≡ state_at states s
+state-read states t k s same l is =
+    is ∙ ap (λ (j : ℕ). get_or states j t) same ∙ get_or_default states s t (state_at [] 0) l

@@ -1,0 +1,90 @@
+-- Where a state's link leads: to the first state along the failure targets that has patterns of its own.
+use Rattle.std.proofs.Common.{◌≡◌, ◌≢◌, ℕ, ◌+◌, ◌-◌, ◌<◌, ◌≤◌, List, [], ◌∷◌, ◌++◌, length, take, drop, refl, ap, sym, ◌∙◌, subst, arith, Option, Some, None, get_or}
+use Rattle.std.specs.Prelude.{slice_get, slice_range}
+use Rattle.std.proofs.lemmas.List.{append-nil}
+use Rattle.std.proofs.lemmas.Option.{slice_get-get_or}
+use Rattle.ac_util.specs.Node.{Node}
+use Rattle.ac_util.proofs.Found.{matches-nil, matches-failure}
+use Rattle.ac_automaton.specs.declared.nfa.noncontiguous.state.State.{State}
+use Rattle.ac_automaton.specs.Growths.{LinkIsDue}
+use Rattle.ac_automaton.specs.Tries.{Meaning, AreStates, Links, Represents, all_matches, own_matches, own_of, state_at, miss}
+use Rattle.ac_automaton.proofs.Places.{get-range, get-same}
+
+-- a state has patterns of its own exactly if its range of them isn't empty
+pub own-some : (order : List ℕ) (t : State) → t.own < t.own_end → t.own_end ≤ length order → own_of order t ≢ []
+own-some order t l within none =
+    let there : slice_get order (t.own + 0) ≡ Some (get_or order (t.own + 0) 0) = slice_get-get_or order (t.own + 0) 0 (omega arith) in
+    let first : slice_get (own_of order t) 0 ≡ slice_get order (t.own + 0) = get-range order t.own t.own_end 0 (omega arith) in
+    let nothing : slice_get (own_of order t) 0 ≡ None = ap (λ (ns : List ℕ). slice_get ns 0) none in
+    absurd (cc)
+
+pub own-none : (order : List ℕ) (t : State) → t.own_end ≤ t.own → own_of order t ≡ []
+own-none order t l = ap (λ (n : ℕ). take n (drop t.own order)) (let none : t.own_end - t.own ≡ 0 = omega arith in none)
+
+front_none : (xs ys : List ℕ) → xs ++ ys ≡ [] → xs ≡ []
+front_none [] ys e = refl
+front_none (x ∷ xs) ys e = absurd (cc)
+
+module _ (g : Meaning) (states : List State) where
+  -- the start finds its own patterns alone
+  pub link-start : (fail : ℕ) → LinkIsDue g (length states) [] fail → Links g (length states) (Some []) 0
+  link-start fail due = record {
+    linked = None;
+    leads = due.dead;
+    back = omega arith;
+    finds = matches-nil g.kind g.patterns ∙ sym (append-nil (own_matches g (Some [])));
+    useful = λ apart. absurd (apart refl);
+  }
+
+  -- a state whose failure target isn't among the states is the start
+  pub link-far : (u : List ℕ) (fail : ℕ) → LinkIsDue g (length states) u fail → length states ≤ fail
+      → Links g (length states) (Some u) 0
+  link-far [] fail due l = link-start fail due
+  link-far (x ∷ u) fail due l = absurd (let near = due.near (λ e. absurd (cc)) in omega arith)
+
+  -- the failure target as a state
+  target : (u : List ℕ) (fail : ℕ) → AreStates g states → LinkIsDue g (length states) u fail → fail < length states
+      → Represents g fail (miss g.kind g.patterns (Some u)) (state_at states fail)
+  target u fail a due l = a.each fail (miss g.kind g.patterns (Some u)) l due.fails
+
+  dead_target : (fail : ℕ) → AreStates g states → LinkIsDue g (length states) [] fail → fail < length states
+      → Represents g fail None (state_at states fail)
+  dead_target fail a due l = a.each fail None l (due.start refl l).1
+
+  -- a failure target that has patterns of its own is linked
+  pub link-here : (u : List ℕ) (fail : ℕ) → AreStates g states → LinkIsDue g (length states) u fail → fail < length states
+      → (state_at states fail).own < (state_at states fail).own_end → Links g (length states) (Some u) fail
+  link-here [] fail a due l some =
+      let r = dead_target fail a due l in
+      absurd (own-some g.order (state_at states fail) some r.within r.own)
+  link-here (x ∷ u) fail a due l some =
+      let r = target (x ∷ u) fail a due l in
+      record {
+        linked = miss g.kind g.patterns (Some (x ∷ u));
+        leads = due.fails;
+        back = omega arith;
+        finds = matches-failure g.kind g.patterns x u;
+        useful = λ apart none.
+        own-some g.order (state_at states fail) some r.within
+        (r.own ∙ front_none (own_matches g (miss g.kind g.patterns (Some (x ∷ u)))) (all_matches g r.links.linked) (sym r.links.finds ∙ none));
+      }
+
+  -- else what the target is linked to
+  pub link-behind : (u : List ℕ) (fail : ℕ) → AreStates g states → LinkIsDue g (length states) u fail → fail < length states
+      → (state_at states fail).own_end ≤ (state_at states fail).own → Links g (length states) (Some u) (state_at states fail).link
+  link-behind [] fail a due l none =
+      let back = (dead_target fail a due l).links.back in
+      let first = (due.start refl l).0 in
+      subst (λ (k : ℕ). Links g (length states) (Some []) k) (let zero : 0 ≡ (state_at states fail).link = omega arith in zero) (link-start fail due)
+  link-behind (x ∷ u) fail a due l none =
+      let r = target (x ∷ u) fail a due l in
+      let nothing : own_matches g (miss g.kind g.patterns (Some (x ∷ u))) ≡ [] = sym r.own ∙ own-none g.order (state_at states fail) none in
+      let later : all_matches g (miss g.kind g.patterns (Some (x ∷ u))) ≡ all_matches g r.links.linked =
+      r.links.finds ∙ ap (λ (ns : List ℕ). ns ++ all_matches g r.links.linked) nothing in
+      record {
+        linked = r.links.linked;
+        leads = r.links.leads;
+        back = (let b = r.links.back in omega arith);
+        finds = matches-failure g.kind g.patterns x u ∙ ap (λ (ns : List ℕ). own_matches g (Some (x ∷ u)) ++ ns) later;
+        useful = r.links.useful;
+      }

@@ -1,0 +1,86 @@
+-- Where a search goes on by a byte that leads to no longer node, one byte further on.
+use Rattle.std.proofs.Common.{◌≡◌, ◌≢◌, ℕ, Bool, true, false, ◌&&◌, cond, List, [], ◌∷◌, ◌++◌, inl, inr, refl, ap, sym, ◌∙◌, subst, Option, Some, None}
+use Rattle.std.proofs.lemmas.Bool.{cases_Bool, cond-true, false_from_ne_true, false≢true}
+use Rattle.ac_util.specs.declared.search.Anchored.TheVariants.{No}
+use Rattle.ac_util.specs.declared.search.MatchKind.{MatchKind}
+use Rattle.ac_util.specs.Matches.{equal_to}
+use Rattle.ac_util.specs.Node.{Node, is_leftmost, begins_with_pattern, failure, reached, step}
+use Rattle.ac_util.proofs.Failures.{failure-cons}
+use Rattle.ac_util.proofs.Fronts.{starts_with-itself, starts_with-whole}
+use Rattle.ac_util.proofs.Lists.{IsIn, none-from_nil}
+use Rattle.ac_util.proofs.Participants.{Equals, IsIn-equal_to, begins-more, begins-from_Fronts, leader, leader-takes_part, equal_to-none_begins}
+use Rattle.ac_util.proofs.Reached.{stops, reached-nil, step-reached}
+use Rattle.ac_automaton.specs.Tries.{miss}
+
+module _ (kind : MatchKind) (patterns : List (List ℕ)) where
+  begins-same : (w : List ℕ) (b : ℕ) → equal_to kind patterns (w ++ b ∷ []) ≡ []
+      → begins_with_pattern patterns (w ++ b ∷ []) ≡ begins_with_pattern patterns w
+  begins-same w b none = elim (cases_Bool (begins_with_pattern patterns w)) [
+    | inl t ↦ begins-more patterns w b t ∙ sym t
+    | inr f ↦
+        false_from_ne_true _ (λ t.
+            let l = leader patterns (w ++ b ∷ []) t in
+            let no_front = false_from_ne_true _ (λ s.
+                false≢true (sym f ∙ begins-from_Fronts patterns w l.0 (record { numbered = l.1.fronts.numbered; front = s }))) in
+            none-from_nil l.0 (equal_to kind patterns (w ++ b ∷ [])) none
+            (IsIn-equal_to kind patterns (w ++ b ∷ []) l.0 (record {
+              numbered = l.1.fronts.numbered;
+              takes_part = leader-takes_part patterns kind (w ++ b ∷ []) l.0 l.1;
+              same = starts_with-whole w _ b l.1.fronts.front no_front;
+            })))
+        ∙ sym f
+  ]
+
+  -- a string with one more byte that is no pattern lets matches start where it did before
+  pub stops-child : (w : List ℕ) (b : ℕ) → equal_to kind patterns (w ++ b ∷ []) ≡ [] → stops kind patterns (w ++ b ∷ []) ≡ stops kind patterns w
+  stops-child w b none = ap (λ (t : Bool). is_leftmost kind && t) (begins-same w b none)
+
+  -- a pattern lets none start later
+  pub stops-own : (w : List ℕ) → is_leftmost kind ≡ true → equal_to kind patterns w ≢ [] → stops kind patterns w ≡ true
+  stops-own w leftmost some =
+      ap (λ (l : Bool). l && begins_with_pattern patterns w) leftmost
+      ∙ elim (cases_Bool (begins_with_pattern patterns w)) [
+        | inl t ↦ t
+        | inr f ↦ absurd (some (equal_to-none_begins kind patterns w f))
+      ]
+
+  stops-free : (w : List ℕ) → is_leftmost kind ≡ false → stops kind patterns w ≡ false
+  stops-free w free = ap (λ (l : Bool). l && begins_with_pattern patterns w) free
+
+  -- under a leftmost kind a node that is a pattern has no failure target
+  pub miss-own : (w : List ℕ) (b : ℕ) → is_leftmost kind ≡ true → equal_to kind patterns (w ++ b ∷ []) ≢ []
+      → miss kind patterns (Some (w ++ b ∷ [])) ≡ None
+  miss-own [] b leftmost some =
+      failure-cons kind patterns b []
+      ∙ cond-true (stops kind patterns (b ∷ [])) None (reached kind patterns No []) (stops-own (b ∷ []) leftmost some)
+  miss-own (x ∷ w) b leftmost some =
+      failure-cons kind patterns x (w ++ b ∷ [])
+      ∙ cond-true (stops kind patterns (x ∷ w ++ b ∷ [])) None (reached kind patterns No (w ++ b ∷ [])) (stops-own (x ∷ w ++ b ∷ []) leftmost some)
+
+  same-stop : (w : List ℕ) (b : ℕ) → (is_leftmost kind ≡ true → equal_to kind patterns (w ++ b ∷ []) ≡ [])
+      → stops kind patterns (w ++ b ∷ []) ≡ stops kind patterns w
+  same-stop w b none = elim (cases_Bool (is_leftmost kind)) [
+    | inl leftmost ↦ stops-child w b (none leftmost)
+    | inr free ↦ stops-free (w ++ b ∷ []) free ∙ sym (stops-free w free)
+  ]
+
+  -- else a child of the start fails as the start does
+  pub miss-start : (b : ℕ) → (is_leftmost kind ≡ true → equal_to kind patterns (b ∷ []) ≡ [])
+      → miss kind patterns (Some (b ∷ [])) ≡ miss kind patterns (Some [])
+  miss-start b none =
+      failure-cons kind patterns b []
+      ∙ ap (λ (s : Bool). cond s None (reached kind patterns No [])) (same-stop [] b none)
+      ∙ ap (λ (v : Node). cond (stops kind patterns []) None v) (reached-nil kind patterns No)
+
+  stepped : (w : List ℕ) (b : ℕ) (s : Bool) → cond s None (reached kind patterns No (w ++ b ∷ [])) ≡ step kind patterns No (cond s None (reached kind patterns No w)) b
+  stepped w b true = refl
+  stepped w b false = sym (step-reached kind patterns No w b)
+
+  -- and any other child fails to where the byte leads from the failure target of its parent
+  pub miss-child : (x : ℕ) (w : List ℕ) (b : ℕ) → (is_leftmost kind ≡ true → equal_to kind patterns (x ∷ w ++ b ∷ []) ≡ [])
+      → miss kind patterns (Some (x ∷ w ++ b ∷ [])) ≡ step kind patterns No (miss kind patterns (Some (x ∷ w))) b
+  miss-child x w b none =
+      failure-cons kind patterns x (w ++ b ∷ [])
+      ∙ ap (λ (s : Bool). cond s None (reached kind patterns No (w ++ b ∷ []))) (same-stop (x ∷ w) b none)
+      ∙ stepped w b (stops kind patterns (x ∷ w))
+      ∙ ap (λ (v : Node). step kind patterns No v b) (sym (failure-cons kind patterns x w))

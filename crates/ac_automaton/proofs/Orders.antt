@@ -1,0 +1,64 @@
+-- What the ascending order of the members says of their bytes at one depth.
+use Rattle.std.proofs.Common.{◌≡◌, ℕ, zero, suc, ◌<◌, ◌≤◌, Bool, true, List, [], ◌∷◌, length, get_or, ◌⊎◌, inl, inr, refl, ap, sym, ◌∙◌, arith, Option, None, Some}
+use Rattle.std.specs.Prelude.{nat_eq, slice_get}
+use Rattle.std.specs.List.{starts_with}
+use Rattle.std.proofs.lemmas.Cmp.{ranked}
+use Rattle.std.specs.Cmp.Lexicographic.{slice_cmp}
+use Rattle.std.specs.declared.cmp.Ordering.{Ordering}
+use Rattle.std.specs.declared.cmp.Ordering.TheVariants.{Less, Equal, Greater}
+use Rattle.std.specs.Ordering.{MatchOrdering, nat_cmp, ordering_then}
+use Rattle.std.proofs.lemmas.Bool.{and_parts, eqb-true, false≢true, cases_lt}
+use Rattle.ac_util.specs.declared.search.MatchKind.{MatchKind}
+use Rattle.ac_automaton.specs.Members.{Keyed, Precedes, IsOrder, key_at, byte_at}
+
+-- a byte as a number, where none comes before each
+abbrev pub rank : Option ℕ → ℕ
+rank None = 0
+rank (Some b) = suc b
+
+-- where two numbers and then the rest compare as less, the first number isn't above the second
+head-ascends : (x y : ℕ) (o rest : Ordering) → MatchOrdering o (x < y) (x ≡ y) (y < x) → ordering_then o rest ≡ Less → x ≤ y
+head-ascends x y Less rest m e = omega arith
+head-ascends x y Equal rest m e = omega arith
+head-ascends x y Greater rest m e = absurd (cc)
+
+-- and where the two are equal, the rest compares as less
+rest-ascends : (x y : ℕ) (o rest : Ordering) → MatchOrdering o (x < y) (x ≡ y) (y < x) → x ≡ y → ordering_then o rest ≡ Less
+    → rest ≡ Less
+rest-ascends x y Less rest m same e = absurd (omega arith)
+rest-ascends x y Equal rest m same e = e
+rest-ascends x y Greater rest m same e = absurd (omega arith)
+
+-- of two strings with one front, the lesser has no greater byte behind it
+rank-ascends : (u a b : List ℕ) → slice_cmp nat_cmp a b ≡ Less → starts_with nat_eq a u ≡ true → starts_with nat_eq b u ≡ true
+    → rank (slice_get a (length u)) ≤ rank (slice_get b (length u))
+rank-ascends [] [] b less p q = omega arith
+rank-ascends [] (x ∷ a) [] less p q = absurd (cc)
+rank-ascends [] (x ∷ a) (y ∷ b) less p q =
+    let le = head-ascends x y (nat_cmp x y) (slice_cmp nat_cmp a b) (ranked x y (nat_cmp x y) refl) less in omega arith
+rank-ascends (z ∷ u) [] b less p q = absurd (false≢true p)
+rank-ascends (z ∷ u) (x ∷ a) [] less p q = absurd (false≢true q)
+rank-ascends (z ∷ u) (x ∷ a) (y ∷ b) less p q =
+    let left = and_parts (nat_eq z x) (starts_with nat_eq a u) p in
+    let right = and_parts (nat_eq z y) (starts_with nat_eq b u) q in
+    let same : x ≡ y = sym (eqb-true z x left.0) ∙ eqb-true z y right.0 in
+    let later = rest-ascends x y (nat_cmp x y) (slice_cmp nat_cmp a b) (ranked x y (nat_cmp x y) refl) same less in
+    rank-ascends u a b later left.1 right.1
+
+-- the members that begin with u have ascending bytes behind it, those that are u first
+pub byte_at-ascends : (kind : MatchKind) (patterns : List (List ℕ)) (members : List Keyed) → IsOrder kind patterns members
+    → (u : List ℕ) (j k : ℕ) → j ≤ k → k < length members
+    → starts_with nat_eq (key_at members j) u ≡ true → starts_with nat_eq (key_at members k) u ≡ true
+    → rank (byte_at members (length u) j) ≤ rank (byte_at members (length u) k)
+byte_at-ascends kind patterns members order u j k le within p q = elim (cases_lt j k) [
+  | inl below ↦ elim (order.ascending j k (record { key = []; number = 0 }) below within) [
+    | inl less ↦ rank-ascends u (key_at members j) (key_at members k) less p q
+    | inr same ↦
+        let e = ap (λ (w : List ℕ). rank (slice_get w (length u))) same.0 in omega arith
+  ]
+  | inr above ↦
+      let e = ap (λ (i : ℕ). rank (byte_at members (length u) i)) (le-le le above) in omega arith
+]
+  where
+    le-le : {a b : ℕ} → a ≤ b → b ≤ a → a ≡ b
+    le-le h l = omega arith

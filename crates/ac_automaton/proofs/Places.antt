@@ -1,0 +1,81 @@
+-- Elements of lists by their places, as a list grows and in a part of it.
+use Rattle.std.proofs.Common.{◌≡◌, ℕ, zero, suc, ◌+◌, ◌-◌, ◌<◌, ◌≤◌, List, [], ◌∷◌, ◌++◌, length, take, drop, ◌⊎◌, inl, inr, refl, ap, sym, ◌∙◌, subst, arith, Option, Some, None}
+use Rattle.std.specs.Prelude.{slice_get, slice_range}
+use Rattle.std.proofs.lemmas.Option.{slice_get_within, slice_get-get_or}
+use Rattle.ac_util.proofs.Lists.{IsIn, IsOrdered}
+
+-- an element stays at its place as the list grows
+pub get-append : {X : Type 0} (xs ys : List X) (k : ℕ) (x : X) → slice_get xs k ≡ Some x → slice_get (xs ++ ys) k ≡ Some x
+get-append [] ys k x e = absurd (cc)
+get-append (z ∷ xs) ys zero x e = e
+get-append (z ∷ xs) ys (suc k) x e = get-append xs ys k x e
+
+-- one that is added stands at the end
+pub get-added : {X : Type 0} (xs : List X) (y : X) → slice_get (xs ++ y ∷ []) (length xs) ≡ Some y
+get-added [] y = refl
+get-added (z ∷ xs) y = get-added xs y
+
+-- each element of the longer list was there before, or is the one added
+pub get-added_cases : {X : Type 0} (xs : List X) (y x : X) (k : ℕ) → slice_get (xs ++ y ∷ []) k ≡ Some x
+    → (slice_get xs k ≡ Some x) ⊎ ((k ≡ length xs) × (y ≡ x))
+get-added_cases [] y x zero e = inr (refl, (cc))
+get-added_cases [] y x (suc k) e = absurd (cc)
+get-added_cases (z ∷ xs) y x zero e = inl e
+get-added_cases (z ∷ xs) y x (suc k) e = elim (get-added_cases xs y x k e) [
+  | inl h ↦ inl h
+  | inr h ↦ inr (let same = h.0 in omega arith, h.1)
+]
+
+-- a place has one element
+pub get-same : {X : Type 0} (xs : List X) (k : ℕ) (x y : X) → slice_get xs k ≡ Some x → slice_get xs k ≡ Some y → x ≡ y
+get-same xs k x y e f = let g : Some x ≡ Some y = sym e ∙ f in cc
+
+get-take : {X : Type 0} (n : ℕ) (xs : List X) (k : ℕ) → k < n → slice_get (take n xs) k ≡ slice_get xs k
+get-take zero xs k l = absurd (omega arith)
+get-take (suc n) [] k l = refl
+get-take (suc n) (x ∷ xs) zero l = refl
+get-take (suc n) (x ∷ xs) (suc k) l = get-take n xs k (omega arith)
+
+get-drop : {X : Type 0} (n : ℕ) (xs : List X) (k : ℕ) → slice_get (drop n xs) k ≡ slice_get xs (n + k)
+get-drop zero xs k = ap (slice_get xs) (omega arith)
+get-drop (suc n) [] k = refl
+get-drop {X} (suc n) (x ∷ xs) k =
+    get-drop n xs k ∙ ap (slice_get (x ∷ xs)) (let j : suc (n + k) ≡ suc n + k = omega arith in j)
+
+-- an element of a part by its place in the part
+pub get-range : {X : Type 0} (xs : List X) (a b k : ℕ) → a + k < b → slice_get (slice_range xs a b) k ≡ slice_get xs (a + k)
+get-range xs a b k l = get-take (b - a) (drop a xs) k (omega arith) ∙ get-drop a xs k
+
+past-take : {X : Type 0} (n : ℕ) (xs : List X) (k : ℕ) (x : X) → slice_get (take n xs) k ≡ Some x → k < n
+past-take zero xs k x e = absurd (cc)
+past-take (suc n) [] k x e = absurd (cc)
+past-take (suc n) (y ∷ xs) zero x e = omega arith
+past-take (suc n) (y ∷ xs) (suc k) x e = let l = past-take n xs k x e in omega arith
+
+-- a place in the part is one in the list
+pub get-from_range : {X : Type 0} (xs : List X) (a b k : ℕ) (x : X) → slice_get (slice_range xs a b) k ≡ Some x
+    → (a + k < b) × (slice_get xs (a + k) ≡ Some x)
+get-from_range xs a b k x e =
+    let l : k < b - a = past-take (b - a) (drop a xs) k x e in
+    let m : a + k < b = omega arith in
+    (m, sym (get-range xs a b k m) ∙ e)
+
+-- an element has a place, and what has a place is an element
+pub place-of : {X : Type 0} (x : X) (xs : List X) → IsIn x xs → (k : ℕ) × (slice_get xs k ≡ Some x)
+place-of x [] h = absurd h
+place-of x (y ∷ xs) (inl e) = (0, ap (λ w. Some w) e)
+place-of x (y ∷ xs) (inr h) = let r = place-of x xs h in (suc r.0, r.1)
+
+pub IsIn-place : {X : Type 0} (x : X) (xs : List X) (k : ℕ) → slice_get xs k ≡ Some x → IsIn x xs
+IsIn-place x [] k e = absurd (cc)
+IsIn-place x (y ∷ xs) zero e = inl (cc)
+IsIn-place x (y ∷ xs) (suc k) e = inr (IsIn-place x xs k e)
+
+-- a list in which each element stands by R to those at later places is ordered
+pub IsOrdered-places : {X : Type 0} (R : X → X → Type 0) (xs : List X)
+    → ((j k : ℕ) (x y : X) → j < k → slice_get xs j ≡ Some x → slice_get xs k ≡ Some y → R x y) → IsOrdered R xs
+IsOrdered-places R [] h = tt
+IsOrdered-places R (x ∷ xs) h = (
+  (λ y i. let r = place-of y xs i in h 0 (suc r.0) x y (omega arith) refl r.1),
+  IsOrdered-places R xs (λ j k y z l e f. h (suc j) (suc k) y z (omega arith) e f),
+)

@@ -1,0 +1,128 @@
+-- A trie has as many states as there are nodes: each node has one state, and a build is refused only where there are too many.
+use Rattle.std.proofs.Common.{◌≡◌, ◌≢◌, ℕ, zero, suc, ◌+◌, ◌-◌, ◌<◌, ◌≤◌, Bool, true, List, [], ◌∷◌, ◌++◌, map, length, ◌⊎◌, inl, inr, refl, ap, sym, ◌∙◌, subst, arith, Option, Some, None, length-append}
+use Rattle.std.specs.Prelude.{nat_eq, slice_get, option_map, Contains}
+use Rattle.std.specs.List.{starts_with}
+use Rattle.std.proofs.lemmas.List.{length-map, length_push}
+use Rattle.std.proofs.lemmas.Option.{slice_get-map, slice_get_within}
+use Rattle.ac_util.specs.declared.search.MatchKind.{MatchKind}
+use Rattle.ac_util.specs.declared.primitives.TheConstants.{GREATEST}
+use Rattle.ac_util.specs.Node.{Node, is_node}
+use Rattle.ac_util.specs.Sizes.{inner_nodes, state_count}
+use Rattle.ac_util.proofs.Lists.{IsIn, IsIn-map, IsIn-from_map, IsOrdered, IsIn-from_Contains, Contains-from_IsIn}
+use Rattle.ac_util.proofs.NodeCount.{inner_nodes-has, inner_nodes-only, inner_nodes-apart}
+use Rattle.ac_util.proofs.Participants.{is_node-front}
+use Rattle.ac_automaton.specs.declared.nfa.noncontiguous.growth.Pending.{Pending}
+use Rattle.ac_automaton.specs.declared.nfa.noncontiguous.state.State.{State}
+use Rattle.ac_automaton.specs.Growths.{IsGrown, IsRangeOf, Waits, grown_meaning, nodes_of, word}
+use Rattle.ac_automaton.specs.Members.{Keyed, IsOrder, key_at}
+use Rattle.ac_automaton.specs.Tries.{AreStates, labels_of, state_at}
+use Rattle.ac_automaton.proofs.Branched.{held-is}
+use Rattle.ac_automaton.proofs.Branching.{word-length}
+use Rattle.ac_automaton.proofs.Counting.{IsOrdered-from_AllPairs, length-le-from_IsOrdered}
+use Rattle.ac_automaton.proofs.Grown.{nodes-cases}
+use Rattle.ac_automaton.proofs.Places.{get-same, place-of, IsIn-place, IsOrdered-places}
+use Rattle.ac_automaton.proofs.Ranges.{member-node}
+
+-- a string that isn't empty is a shorter one with one more byte
+last-byte : (x : ℕ) (u : List ℕ) → (w : List ℕ) × (b : ℕ) × (x ∷ u ≡ w ++ b ∷ [])
+last-byte x [] = ([], x, refl)
+last-byte x (y ∷ u) = let r = last-byte y u in (x ∷ r.0, r.1, ap (λ (w : List ℕ). x ∷ w) r.2)
+
+module _ (kind : MatchKind) (patterns : List (List ℕ)) (members : List Keyed) (order : IsOrder kind patterns members)
+    (whole : ℕ) (labels : List ℕ) (queue : List Pending) (grown : IsGrown kind patterns members whole labels queue) where
+  -- the strings of the queue
+  abbrev words : List (List ℕ)
+  words = map (word members) queue
+
+  word-at : (k : ℕ) (w : List ℕ) → slice_get words k ≡ Some w → (q : Pending) × (slice_get queue k ≡ Some q) × (word members q ≡ w)
+  word-at k w e = by queue k e
+    where
+      by : (qs : List Pending) (j : ℕ) → slice_get (map (word members) qs) j ≡ Some w → (q : Pending) × (slice_get qs j ≡ Some q) × (word members q ≡ w)
+      by [] j e = absurd (cc)
+      by (q ∷ qs) zero e = (q, refl, (cc))
+      by (q ∷ qs) (suc j) e = by qs j e
+
+  words-apart : IsOrdered (λ u w. u ≢ w) words
+  words-apart = IsOrdered-places (λ u w. u ≢ w) words (λ j k u w l e f same.
+      let q = word-at j u e in
+      let r = word-at k w f in
+      let at = grown.apart j k q.0 r.0 q.1 r.1 (q.2 ∙ same ∙ sym r.2) in
+      absurd (omega arith))
+
+  range-node : (u : List ℕ) (from to : ℕ) → IsRangeOf members u from to → from < to → is_node kind patterns u ≡ true
+  range-node u from to range some =
+      let inside : from < length members = (let w = range.within in omega arith) in
+      member-node kind patterns members order from u inside ((range.begins from inside).0 (omega arith, some))
+
+  word-inner : (u : List ℕ) → IsIn u words → IsIn u (inner_nodes kind patterns)
+  word-inner u h =
+      let k = place-of u words h in
+      let q = word-at k.0 u k.1 in
+      let w = grown.waits k.0 q.0 q.1 in
+      let node = range-node (word members q.0) q.0.from q.0.to w.range (w.some (omega arith)) in
+      let some : word members q.0 ≢ [] =
+      (λ e. let l = word-length kind patterns members queue (4 + k.0) q.0 w in let m = ap length e in let d = w.inner (omega arith) in absurd (omega arith)) in
+      subst (λ (v : List ℕ). IsIn v (inner_nodes kind patterns)) q.2
+      (IsIn-from_Contains (word members q.0) (inner_nodes kind patterns) (inner_nodes-has kind patterns (word members q.0) node some))
+
+  -- with a further string the queue would have more states than there are numbers
+  pub too-many : (u : List ℕ) (b from to : ℕ) → IsRangeOf members (u ++ b ∷ []) from to → from < to
+      → ((k : ℕ) (q : Pending) → slice_get queue k ≡ Some q → word members q ≡ u ++ b ∷ [] → ⊥)
+      → length queue + 4 ≡ GREATEST + 1 → GREATEST + 1 < state_count kind patterns
+  too-many u b from to range some fresh full =
+      let node = range-node (u ++ b ∷ []) from to range some in
+      let longer : u ++ b ∷ [] ≢ [] = (λ e. let l = length_push u b in let m = ap length e in absurd (omega arith)) in
+      let here = IsIn-from_Contains (u ++ b ∷ []) (inner_nodes kind patterns) (inner_nodes-has kind patterns (u ++ b ∷ []) node longer) in
+      let count = length-le-from_IsOrdered ((u ++ b ∷ []) ∷ words) (inner_nodes kind patterns)
+      ((λ w h same. let k = place-of w words h in let q = word-at k.0 w k.1 in fresh k.0 q.0 q.1 (q.2 ∙ sym same)), words-apart)
+      (λ w h. elim h [ inl e ↦ subst (λ (v : List ℕ). IsIn v (inner_nodes kind patterns)) e here | inr later ↦ word-inner w later ]) in
+      let l = length-map queue (word members) in
+      omega arith
+
+  module _ (states : List State) (meant : AreStates (grown_meaning kind patterns members labels queue) states)
+      (all : length states ≡ 4 + length queue) where
+    -- each node has a state
+    reaches : (n : ℕ) (u : List ℕ) → length u ≡ n → is_node kind patterns u ≡ true
+        → (s : ℕ) × (slice_get (nodes_of members queue) s ≡ Some (Some u))
+    reaches zero [] l node = (2, refl)
+    reaches zero (x ∷ u) l node = absurd (omega arith)
+    reaches (suc n) [] l node = absurd (omega arith)
+    reaches (suc n) (x ∷ u) l node =
+        let last = last-byte x u in
+        let w = last.0 in
+        let b = last.1 in
+        let longer : is_node kind patterns (w ++ b ∷ []) ≡ true = subst (λ (v : List ℕ). is_node kind patterns v ≡ true) last.2 node in
+        let len : length w ≡ n = (let m = length_push w b in let o = ap length last.2 in omega arith) in
+        let s = reaches n w len (is_node-front kind patterns w b longer) in
+        let count = length-map queue (λ (q : Pending). Some (word members q)) in
+        let named = slice_get_within (nodes_of members queue) s.0 (Some w) s.1 in
+        let r = meant.each s.0 (Some w) (omega arith) s.1 in
+        let is = held-is kind patterns w b longer in
+        let k = place-of b (labels_of labels (state_at states s.0))
+            (IsIn-from_Contains b (labels_of labels (state_at states s.0)) ((r.branches b).1 (λ none. absurd (cc)))) in
+        (
+          4 + ((state_at states s.0).children + k.0),
+          r.children k.0 b k.1 ∙ ap (λ (v : Node). Some v) (is ∙ ap (λ (v : List ℕ). Some v) (sym last.2)),
+        )
+
+    inner-word : (u : List ℕ) → IsIn u (inner_nodes kind patterns) → IsIn u words
+    inner-word u h =
+        let only = inner_nodes-only kind patterns u (Contains-from_IsIn u (inner_nodes kind patterns) h) in
+        let s = reaches (length u) u refl only.0 in
+        elim (nodes-cases members queue s.0 (Some u) s.1) [
+          | inl dead ↦ absurd (let e = dead.1 in cc)
+          | inr (inl start) ↦ absurd (only.1 (let e : Some u ≡ Some [] = start.2 in let f : u ≡ [] = cc in f))
+          | inr (inr inner) ↦
+              let e : u ≡ word members inner.pending = (let f : Some u ≡ Some (word members inner.pending) = inner.node in let g : u ≡ word members inner.pending = cc in g) in
+              IsIn-place u words inner.place
+              (slice_get-map (word members) queue inner.place ∙ ap (option_map (word members)) inner.waits ∙ ap (λ (v : List ℕ). Some v) (sym e))
+        ]
+
+    -- a whole trie has as many states as there are
+    pub state-count : length states ≡ state_count kind patterns
+    state-count =
+        let l = length-map queue (word members) in
+        let few = length-le-from_IsOrdered words (inner_nodes kind patterns) words-apart word-inner in
+        let many = length-le-from_IsOrdered (inner_nodes kind patterns) words
+            (IsOrdered-from_AllPairs (λ u w. u ≢ w) (inner_nodes kind patterns) (inner_nodes-apart kind patterns)) inner-word in
+        omega arith

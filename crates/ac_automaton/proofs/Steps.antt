@@ -1,0 +1,110 @@
+-- How a step and the looks that it takes follow from what a state knows: the bytes that lead on, and where a search goes on by
+-- any other byte.
+use Rattle.std.proofs.Common.{◌≡◌, ◌≢◌, ℕ, zero, suc, ◌+◌, ◌≤◌, ◌<◌, Bool, true, false, cond, List, [], ◌∷◌, ◌++◌, length, refl, ap, sym, ◌∙◌, arith, Some, None}
+use Rattle.std.proofs.lemmas.Bool.{cond-false, cond-true}
+use Rattle.ac_util.specs.declared.search.MatchKind.{MatchKind}
+use Rattle.ac_util.specs.declared.search.Anchored.TheVariants.{No, Yes}
+use Rattle.ac_util.specs.Node.{Node, is_node, step, failure, depth}
+use Rattle.ac_util.specs.Looks.{looks, looks_within}
+use Rattle.ac_util.proofs.Reached.{stops, stops-same, reached-nil, reached-cons, step-all}
+use Rattle.ac_util.proofs.Failures.{step-own, step-failure, depth-failure}
+use Rattle.ac_automaton.specs.Tries.{miss}
+
+module _ (kind : MatchKind) (patterns : List (List ℕ)) where
+  abbrev held : Node → ℕ → Node
+  held v b = step kind patterns Yes v b
+
+  abbrev stepped : Node → ℕ → Node
+  stepped v b = step kind patterns No v b
+
+  -- an anchored search stays alive exactly if the longer string is a node
+  leads : (w : List ℕ) (t : Bool) → cond t (Some w) None ≢ None → t ≡ true
+  leads w true h = refl
+  leads w false h = absurd (h refl)
+
+  stays : (w : List ℕ) (t : Bool) → cond t (Some w) None ≡ None → t ≡ false
+  stays w true h = absurd (cc)
+  stays w false h = refl
+
+  -- a step from the start
+  from_start : (b : ℕ) → stepped (Some []) b
+      ≡ cond (is_node kind patterns (b ∷ [])) (Some (b ∷ [])) (cond (stops kind patterns (b ∷ [])) None (Some []))
+  from_start b =
+      step-all kind patterns [] b ∙ reached-cons kind patterns b []
+      ∙ ap (λ (v : Node). cond (is_node kind patterns (b ∷ [])) (Some (b ∷ [])) (cond (stops kind patterns (b ∷ [])) None v))
+      (reached-nil kind patterns No)
+
+  -- where a byte leads on in an anchored search it leads there in any search
+  pub step-held : (v : Node) (b : ℕ) → held v b ≢ None → stepped v b ≡ held v b
+  step-held None b on = refl
+  step-held (Some []) b on =
+      let own = leads (b ∷ []) (is_node kind patterns (b ∷ [])) on in
+      from_start b
+      ∙ cond-true (is_node kind patterns (b ∷ [])) (Some (b ∷ [])) (cond (stops kind patterns (b ∷ [])) None (Some [])) own
+      ∙ sym (cond-true (is_node kind patterns (b ∷ [])) (Some (b ∷ [])) None own)
+  step-held (Some (x ∷ u)) b on =
+      let own = leads (x ∷ u ++ b ∷ []) (is_node kind patterns (x ∷ u ++ b ∷ [])) on in
+      step-own kind patterns x u b own
+      ∙ sym (cond-true (is_node kind patterns (x ∷ u ++ b ∷ [])) (Some (x ∷ u ++ b ∷ [])) None own)
+
+  -- by any other byte the start and the dead node lead where their states say
+  pub step-miss : (v : Node) (b : ℕ) → held v b ≡ None → depth v ≡ 0 → stepped v b ≡ miss kind patterns v
+  step-miss None b off short = refl
+  step-miss (Some []) b off short =
+      let none = stays (b ∷ []) (is_node kind patterns (b ∷ [])) off in
+      from_start b
+      ∙ cond-false (is_node kind patterns (b ∷ [])) (Some (b ∷ [])) (cond (stops kind patterns (b ∷ [])) None (Some [])) none
+      ∙ ap (λ (t : Bool). cond t None (Some [])) (sym (stops-same kind patterns [] b none))
+  step-miss (Some (x ∷ u)) b off short = absurd (omega arith)
+
+  -- and a longer node steps as its failure target does
+  pub step-on : (v : Node) (b : ℕ) → held v b ≡ None → 0 < depth v → stepped v b ≡ stepped (miss kind patterns v) b
+  step-on None b off long = refl
+  step-on (Some []) b off long = absurd (omega arith)
+  step-on (Some (x ∷ u)) b off long =
+      step-failure kind patterns x u b (stays (x ∷ u ++ b ∷ []) (is_node kind patterns (x ∷ u ++ b ∷ [])) off)
+
+  -- as many nodes as the node has bytes are enough to count the looks
+  enough : (n m : ℕ) (v : Node) (b : ℕ) → depth v ≤ n → depth v ≤ m
+      → looks_within kind patterns n v b ≡ looks_within kind patterns m v b
+  enough n m None b h k = refl
+  enough n m (Some []) b h k = refl
+  enough zero m (Some (x ∷ u)) b h k = absurd (omega arith)
+  enough (suc n) zero (Some (x ∷ u)) b h k = absurd (omega arith)
+  enough (suc n) (suc m) (Some (x ∷ u)) b h k =
+      let l = depth-failure kind patterns x u in
+      ap (λ (i : ℕ). elim (is_node kind patterns (x ∷ u ++ b ∷ [])) [ true ↦ 1 | false ↦ suc i ])
+      (enough n m (failure kind patterns (x ∷ u)) b (omega arith) (omega arith))
+
+  -- the looks from a longer node, by whether the byte leads on
+  counted : (x : ℕ) (u : List ℕ) (b : ℕ) (t : Bool) → is_node kind patterns (x ∷ u ++ b ∷ []) ≡ t
+      → looks kind patterns No (Some (x ∷ u)) b
+      ≡ elim t [ true ↦ 1 | false ↦ suc (looks_within kind patterns (length u) (failure kind patterns (x ∷ u)) b) ]
+  counted x u b t is =
+      let behind = looks_within kind patterns (length u) (failure kind patterns (x ∷ u)) b in
+      ap (λ (w : Bool). elim w [ true ↦ 1 | false ↦ suc behind ]) is
+
+  -- a byte that leads on takes one look
+  pub looks-held : (v : Node) (b : ℕ) → held v b ≢ None → looks kind patterns No v b ≡ 1
+  looks-held None b on = refl
+  looks-held (Some []) b on = refl
+  looks-held (Some (x ∷ u)) b on =
+      counted x u b true (leads (x ∷ u ++ b ∷ []) (is_node kind patterns (x ∷ u ++ b ∷ [])) on)
+
+  -- and so does every byte at the start and at the dead node
+  pub looks-short : (v : Node) (b : ℕ) → depth v ≡ 0 → looks kind patterns No v b ≡ 1
+  looks-short None b short = refl
+  looks-short (Some []) b short = refl
+  looks-short (Some (x ∷ u)) b short = absurd (omega arith)
+
+  -- where a search goes on at the failure target there is one look more than from there
+  pub looks-on : (v : Node) (b : ℕ) → held v b ≡ None → 0 < depth v
+      → looks kind patterns No v b ≡ 1 + looks kind patterns No (miss kind patterns v) b
+  looks-on None b off long = absurd (omega arith)
+  looks-on (Some []) b off long = absurd (omega arith)
+  looks-on (Some (x ∷ u)) b off long =
+      let l = depth-failure kind patterns x u in
+      let target = failure kind patterns (x ∷ u) in
+      counted x u b false (stays (x ∷ u ++ b ∷ []) (is_node kind patterns (x ∷ u ++ b ∷ [])) off)
+      ∙ ap suc (enough (length u) (depth target) target b (omega arith) (omega arith))
+      ∙ omega arith

@@ -1,0 +1,94 @@
+-- What the number of a state tells of the node that it stands for.
+use Rattle.std.proofs.Common.{◌≡◌, ◌≢◌, ◌⊎◌, ◌↔◌, inl, inr, ℕ, zero, suc, ◌≤◌, ◌<◌, List, [], ◌∷◌, length, get_or, refl, ap, sym, arith, Some, None}
+use Rattle.std.proofs.lemmas.Bool.{cases_lt}
+use Rattle.std.proofs.lemmas.Option.{slice_get_within}
+use Rattle.ac_util.specs.Node.{Node, depth}
+use Rattle.ac_automaton.specs.declared.nfa.noncontiguous.state.State.{State}
+use Rattle.ac_automaton.specs.Tries.{HasState, Meaning, Represents, StandsFor, Trie, all_matches, listed_within, meaning_of}
+use Rattle.ac_automaton.proofs.Follows.{represented}
+use Rattle.ac_automaton.proofs.ListsOf.{length-listed, none-linked}
+
+-- a list has elements exactly if it isn't empty
+length-not_nil : (xs : List ℕ) → xs ≢ [] → 0 < length xs
+length-not_nil [] h = absurd (h refl)
+length-not_nil (x ∷ xs) h = omega arith
+
+not_nil-length : (xs : List ℕ) → 0 < length xs → xs ≢ []
+not_nil-length xs h e = let l = ap (length {A = ℕ}) e in omega arith
+
+module _ (trie : Trie) (s : ℕ) (u : Node) (h : StandsFor trie s u) where
+  -- what the numbers mean
+  abbrev pub meaning : Meaning
+  meaning = meaning_of trie h.nodes
+
+  -- one of the states stands for the node
+  pub has-state : HasState meaning trie.states s u
+  has-state =
+      let there = slice_get_within h.nodes s u h.named in
+      let whole = h.table.whole in
+      record { meant = h.table.states; there = omega arith; named = h.named }
+
+  -- the list of the state has the matches of the node
+  pub listed-matches : listed_within trie.order trie.states s s ≡ all_matches meaning u
+  listed-matches = h.table.lists s u h.named
+
+  -- a number from 4 on is that of a longer string
+  deep : 3 < s → 0 < depth u
+  deep large = (h.table.states.each s u has-state.there h.named).inner large
+
+  -- and those before are the dead node and the start
+  shallow : (n : ℕ) → n ≡ s → n < 4 → ((n < 2) × (u ≡ None)) ⊎ ((2 ≤ n) × (u ≡ Some []))
+  shallow zero e small =
+      let dead = h.table.states.dead in let at = rw (sym e) at h.named in inl (omega arith, cc)
+  shallow (suc zero) e small =
+      let dead = h.table.unreached in let at = rw (sym e) at h.named in inl (omega arith, cc)
+  shallow (suc (suc zero)) e small =
+      let start = h.table.start in let at = rw (sym e) at h.named in inr (omega arith, cc)
+  shallow (suc (suc (suc zero))) e small =
+      let start = h.table.anchored_start in let at = rw (sym e) at h.named in inr (omega arith, cc)
+  shallow (suc (suc (suc (suc n)))) e small = absurd (omega arith)
+
+  -- the numbers below 2 are those of the dead node
+  pub dead-number : s < 2 ↔ (u ≡ None)
+  dead-number = (
+    (λ small. elim (shallow s refl (omega arith)) [ inl d ↦ d.1 | inr e ↦ absurd (omega arith) ]),
+    (λ dead. elim (cases_lt s 4) [
+      | inl small ↦ elim (shallow s refl small) [ inl d ↦ d.0 | inr e ↦ absurd (let start = e.1 in cc) ]
+      | inr large ↦ absurd (let d = deep (omega arith) in let none = ap depth dead in omega arith)
+    ]),
+  )
+
+  -- 2 and 3 are those of the start
+  pub start-number : ((2 ≤ s) × (s < 4)) ↔ (u ≡ Some [])
+  start-number = (
+    (λ among. elim (shallow s refl among.1) [ inl d ↦ absurd (omega arith) | inr e ↦ e.1 ]),
+    (λ start. elim (cases_lt s 4) [
+      | inl small ↦ elim (shallow s refl small) [ inl d ↦ absurd (let dead = d.1 in cc) | inr e ↦ (e.0, small) ]
+      | inr large ↦ absurd (let d = deep (omega arith) in let none = ap depth start in omega arith)
+    ]),
+  )
+
+  module _ (t : State) (is : t ≡ get_or trie.states s t) where
+    -- what the state that was read tells of the node
+    read : Represents meaning s u t
+    read = represented meaning trie.states s u t has-state is
+
+    -- a state has matches where it has patterns of its own
+    pub listed-own : t.own < t.own_end → listed_within trie.order trie.states s s ≢ []
+    listed-own some =
+        let l = length-listed meaning trie.states s u t has-state read in
+        let m = ap (length {A = ℕ}) listed-matches in
+        not_nil-length (listed_within trie.order trie.states s s) (omega arith)
+
+    -- and where it has none, exactly if it has a link
+    pub listed-linked : t.own_end ≤ t.own → (t.link ≢ 0) ↔ (listed_within trie.order trie.states s s ≢ [])
+    listed-linked none =
+        let l = length-listed meaning trie.states s u t has-state read in
+        let m = ap (length {A = ℕ}) listed-matches in (
+          (λ linked.
+              let more = length-not_nil (all_matches meaning read.links.linked) (read.links.useful linked) in
+              not_nil-length (listed_within trie.order trie.states s s) (omega arith)),
+          (λ some last.
+              let end = ap (length {A = ℕ}) (none-linked meaning trie.states s u t has-state read last) in
+              let more = length-not_nil (listed_within trie.order trie.states s s) some in omega arith),
+        )

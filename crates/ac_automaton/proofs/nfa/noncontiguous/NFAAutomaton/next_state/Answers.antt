@@ -1,0 +1,17 @@
+use Rattle.std.proofs.Common.{sym}
+use Rattle.ac_automaton.proofs.Tables.{has-state, meaning}
+use Rattle.ac_automaton.proofs.nfa.noncontiguous.NFAAutomaton.next_state.Goals as goal
+
+pub returns-clause-steps : goal.returns-clause-steps
+returns-clause-steps g c = λ u h.
+    let state = rw (sym c.states.ensures.value) at (has-state c.args.self.now c.args.sid u h) in
+    record {
+      nodes = h.nodes;
+      table = h.table;
+      named = rw c.plain-byte.ensures at (c.follow.ensures.steps (meaning c.args.self.now c.args.sid u h) u (sym c.labels.ensures) state);
+    }
+
+pub returns-clause-looks : goal.returns-clause-looks
+returns-clause-looks g c = λ u h.
+    let state = rw (sym c.states.ensures.value) at (has-state c.args.self.now c.args.sid u h) in
+    rw c.plain-byte.ensures at (c.follow.ensures.looks (meaning c.args.self.now c.args.sid u h) u (sym c.labels.ensures) state)

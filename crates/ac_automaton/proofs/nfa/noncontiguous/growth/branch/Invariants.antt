@@ -1,0 +1,14 @@
+use Rattle.std.proofs.Common.{◌-◌, ◌≡◌, ℕ, List, length}
+use Rattle.ac_automaton.specs.Growths.{IsReady}
+use Rattle.ac_automaton.proofs.Branching.{IsBranching}
+use Rattle.ac_automaton.proofs.nfa.noncontiguous.growth.branch.Given as goal
+
+abbrev pub invariant-loop-place : goal.invariant-loop-place
+invariant-loop-place g l =
+    (patterns : List (List ℕ))
+    (ready : IsReady l.kind patterns l.members l.states l.fn.growth.labels.items l.fn.growth.queue.items l.pending)
+    → IsBranching l.kind patterns l.members l.states l.fn.growth.labels.items l.fn.growth.queue.items l.pending ready l.own_end
+    l.place l.growth.labels.items l.growth.queue.items
+
+abbrev pub decreases-loop-place : goal.decreases-loop-place
+decreases-loop-place g l = l.to - l.place

@@ -1,0 +1,41 @@
+use Rattle.std.proofs.Common.{arith, sym, ◌∙◌}
+use Rattle.ac_util.specs.Node.{Node}
+use Rattle.ac_automaton.specs.Tries.{Represents}
+use Rattle.ac_automaton.proofs.Follows.{represented}
+use Rattle.ac_automaton.proofs.ListsOf.{counting-on, counting-end}
+use Rattle.ac_automaton.proofs.nfa.noncontiguous.state.listed_len.Goals as goal
+use Rattle.ac_automaton.proofs.nfa.noncontiguous.state.listed_len.Goals.{After-index-states-at}
+
+-- what the state that was read tells, by one of the meanings that there are
+abbrev known_node : After-index-states-at → Node
+known_node c = let r = c.requires.state in (c.loop-at.invariant.counted r.0 r.1 r.2).node
+
+known : (c : After-index-states-at) → Represents c.requires.state.0 c.loop-at.at (known_node c) c.index-states-at.result
+known c =
+    let r = c.requires.state in
+    let o = c.loop-at.invariant.counted r.0 r.1 r.2 in
+    represented r.0 c.args.states.now c.loop-at.at o.node c.index-states-at.result o.state c.index-states-at.is
+
+pub own_len-count-requires : goal.own_len-count-requires
+own_len-count-requires c = record { owned = (known c).owned }
+
+pub overflow_add-count : goal.overflow_add-count
+overflow_add-count c = omega arith
+
+pub returns-then-at-eq0 : goal.returns-then-at-eq0
+returns-then-at-eq0 c = λ g u h.
+    rw c.own_len-count.ensures.value
+    (counting-end g c.args.states.now u c.loop-at.at c.index-states-at.result c.index-states-at.is c.loop-at.count
+    (c.loop-at.invariant.counted g u h) (sym c.as_usize-at-in-loop-at.ensures.value ∙ c.if-at-eq0.true))
+
+pub loop-at-smaller : goal.loop-at-smaller
+loop-at-smaller c = let back = (known (goal.at.loop-at-smaller c).After-index-states-at).links.back in omega arith
+
+pub loop-at-preserved : goal.loop-at-preserved
+loop-at-preserved c = record {
+  counted = λ g u h.
+      rw (c.as_usize-at-in-loop-at.ensures.value, c.own_len-count.ensures.value)
+      (counting-on g c.args.states.now u c.loop-at.at c.index-states-at.result c.index-states-at.is c.loop-at.count
+      (c.loop-at.invariant.counted g u h));
+  fits = let back = (known (goal.at.loop-at-preserved c).After-index-states-at).links.back in omega arith;
+}

@@ -1,0 +1,56 @@
+use Rattle.std.proofs.Common.{◌≡◌, ◌+◌, arith, sym, subst, ap, List, ℕ, get_or, length}
+use Rattle.ac_util.specs.Node.{Node}
+use Rattle.ac_automaton.specs.Tries.{Represents}
+use Rattle.ac_automaton.proofs.Follows.{represented}
+use Rattle.ac_automaton.proofs.ListsOf.{seeking-own, seeking-on, seeking-back}
+use Rattle.ac_automaton.proofs.nfa.noncontiguous.state.listed_pattern.Goals as goal
+use Rattle.ac_automaton.proofs.nfa.noncontiguous.state.listed_pattern.Goals.{After-index-states-as_usize}
+
+pub bounds-states-as_usize : goal.bounds-states-as_usize
+bounds-states-as_usize c =
+    let r = c.requires.state in
+    let there = (c.loop-left.invariant r.0 r.1 r.2 r.3).state.there in
+    omega arith
+
+-- what the state that was read tells, by one of the meanings that there are
+abbrev known_node : After-index-states-as_usize → Node
+known_node c = let r = c.requires.state in (c.loop-left.invariant r.0 r.1 r.2 r.3).node
+
+known : (c : After-index-states-as_usize)
+    → Represents c.requires.state.0 c.loop-left.at (known_node c) c.index-states-as_usize.result
+known c =
+    let r = c.requires.state in
+    let o = c.loop-left.invariant r.0 r.1 r.2 r.3 in
+    represented r.0 c.args.states.now c.loop-left.at o.node c.index-states-as_usize.result o.state
+    (rw c.as_usize.ensures.value at c.index-states-as_usize.is)
+
+pub own_len-len-requires : goal.own_len-len-requires
+own_len-len-requires c = record { owned = (known c).owned }
+
+pub bounds-order-state : goal.bounds-order-state
+bounds-order-state c =
+    let within = (known (goal.at.bounds-order-state c).After-index-states-as_usize).within in
+    let same = ap (length {A = ℕ}) c.requires.state.2 in
+    omega arith
+
+pub returns-then-left-len : goal.returns-then-left-len
+returns-then-left-len c = λ g u same h.
+    let t = c.index-states-as_usize.result in
+    let is = rw c.as_usize.ensures.value at c.index-states-as_usize.is in
+    let x = c.index-order-state.result in
+    seeking-own g c.args.states.now u c.loop-left.at t is c.args.index c.loop-left.left (c.loop-left.invariant g u same h)
+    x (omega arith) (subst (λ (os : List ℕ). x ≡ get_or os (t.own + c.loop-left.left) x) (sym same) c.index-order-state.is)
+
+pub loop-left-smaller : goal.loop-left-smaller
+loop-left-smaller c =
+    let r = c.requires.state in
+    let is = rw c.as_usize.ensures.value at c.index-states-as_usize.is in
+    seeking-back r.0 c.args.states.now r.1 c.loop-left.at c.index-states-as_usize.result is c.args.index c.loop-left.left
+    (c.loop-left.invariant r.0 r.1 r.2 r.3) r.4 (omega arith)
+
+pub loop-left-preserved : goal.loop-left-preserved
+loop-left-preserved c = λ g u same h.
+    let is = rw c.as_usize.ensures.value at c.index-states-as_usize.is in
+    rw c.own_len-len.ensures.value
+    (seeking-on g c.args.states.now u c.loop-left.at c.index-states-as_usize.result is c.args.index c.loop-left.left
+    (c.loop-left.invariant g u same h) (omega arith))

@@ -1,0 +1,3 @@
+//! The automata that follow failure links.
+
+pub mod noncontiguous;

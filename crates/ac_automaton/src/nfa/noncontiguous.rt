@@ -1,0 +1,202 @@
+//! A trie with failure links: small, and quickly built.
+ghost use Rattle.std.specs.Prelude.{◌≡◌, List, ℕ};
+ghost use Rattle.std.proofs.Common.{inr, refl};
+ghost use Rattle.ac_util.specs.Sameness.{plain_byte as plain_byte_of};
+ghost use Rattle.ac_util.specs.Node.{Node};
+ghost use Rattle.ac_util.specs.Stream.{longest_len, shortest_len};
+ghost use Rattle.ac_automaton.specs.Tries.{IsTable, StandsFor, listed_within, stands-lists};
+ghost use Rattle.ac_automaton.specs.declared.nfa.noncontiguous.state.State.{State};
+
+use crate::automaton::Automaton;
+use ac_util::error::MatchError;
+use ac_util::looks::Looks;
+use ac_util::patterns::Patterns;
+use ac_util::prefilter::Prefilter;
+use ac_util::primitives::{PatternID, StateID};
+use ac_util::search::{Anchored, MatchKind};
+use members::plain_byte;
+use state::{FIRST_INNER, State, follow, listed_len, listed_pattern};
+use std::alloc::{Allocator, Global};
+use std::marker::Model;
+use std::mem::size_of;
+use std::rc::Rc;
+
+mod builder;
+pub(crate) mod growth;
+pub(crate) mod members;
+pub(crate) mod state;
+
+pub use builder::Builder;
+
+/// An automaton that follows failure links.
+///
+/// It takes little memory and is built in time linear in the bytes of the patterns; a search looks at states at most twice for
+/// each byte that it reads. It serves unanchored and anchored searches. This ports `nfa::noncontiguous::NFA`.
+#[derive(Drop)]
+pub struct NFA<A: Allocator = Global> {
+    patterns: Rc<Patterns<A>, A>,
+    kind: MatchKind,
+    fold: bool,
+    shortest: usize,
+    longest: usize,
+    order: Vec<PatternID, A>,
+    labels: Vec<u8, A>,
+    states: Vec<State, A>,
+}
+
+impl<A: Allocator> Model for NFA<A> {
+    ghost use Rattle.std.specs.Prelude.{◌≡◌, List};
+    ghost use Rattle.ac_util.specs.declared.search.StartKind.TheVariants.{Both};
+    ghost use Rattle.ac_util.specs.Node.{Node};
+    ghost use Rattle.ac_util.specs.Stream.{longest_len, shortest_len};
+    ghost use Rattle.ac_automaton.specs.Tries.{IsTable, Trie, trie_of};
+
+    ghost Value = { Trie };
+
+    ghost view = { λ n. trie_of n.patterns.value n.fold n.kind n.order.items n.labels.items n.states.items };
+
+    ghost invariant = { λ n. record {
+      table : (nodes : List Node) × IsTable (trie_of n.patterns.value n.fold n.kind n.order.items n.labels.items n.states.items) nodes;
+      shortest : n.shortest ≡ shortest_len n.patterns.value;
+      longest : n.longest ≡ longest_len n.patterns.value;
+    } };
+}
+
+impl<A: Allocator> NFA<A> {
+    /// Returns the states, which are those of an automaton.
+    #[inline]
+    fn states(&self) -> &[State]
+        ensures value { result.now ≡ self.now.states }
+        ensures table { (nodes : List Node) × IsTable self.now nodes }
+    {
+        &self.states
+    }
+
+    /// Returns the labels of the states from the fifth on.
+    #[inline]
+    fn labels(&self) -> &[u8]
+        ensures { result.now ≡ self.now.labels }
+    {
+        &self.labels
+    }
+
+    /// Returns the patterns that take part, in ascending order of their bytes.
+    #[inline]
+    fn order(&self) -> &[PatternID]
+        ensures { result.now ≡ self.now.order }
+    {
+        &self.order
+    }
+
+    /// Returns the byte as the labels have it.
+    #[inline]
+    fn plain(&self, byte: u8) -> u8
+        ensures { result ≡ plain_byte_of self.now.built.fold byte }
+    {
+        plain_byte(byte, self.fold)
+    }
+
+    /// Returns the patterns.
+    #[inline]
+    fn patterns(&self) -> &Patterns<A>
+        ensures { result.now ≡ self.now.built.patterns }
+    {
+        self.patterns.as_ref()
+    }
+}
+
+impl<A: Allocator> Automaton for NFA<A> {
+    const LOOKS: usize = 2;
+
+    ghost LOOKS = { 2 };
+
+    ghost built = { λ n. n.built };
+
+    ghost stands = { λ n anchored s u. StandsFor n s u };
+
+    ghost listed = { λ n s. listed_within n.order n.states s s };
+
+    ghost one_or_two = { inr refl };
+
+    ghost lists = { stands-lists };
+
+    fn start_state(&self, anchored: Anchored) -> Result<StateID, MatchError> {
+        // Contracts learn here that 2 and 3 are starts.
+        let _states = self.states();
+        match anchored {
+            Anchored::No => Ok(StateID::must(2)),
+            Anchored::Yes => Ok(StateID::must(3)),
+        }
+    }
+
+    #[inline]
+    fn next_state(&self, anchored: Anchored, sid: StateID, byte: u8, looks: &mut Looks) -> StateID {
+        let byte = self.plain(byte);
+        follow(self.states(), self.labels(), anchored, sid, byte, looks)
+    }
+
+    #[inline]
+    fn is_special(&self, sid: StateID) -> bool {
+        sid.as_usize() < FIRST_INNER || self.is_match(sid)
+    }
+
+    #[inline]
+    fn is_dead(&self, sid: StateID) -> bool {
+        sid.as_usize() < 2
+    }
+
+    #[inline]
+    fn is_match(&self, sid: StateID) -> bool {
+        let state = &self.states()[sid.as_usize()];
+        state.own < state.own_end || state.link.as_usize() != 0
+    }
+
+    #[inline]
+    fn is_start(&self, sid: StateID) -> bool {
+        2 <= sid.as_usize() && sid.as_usize() < FIRST_INNER
+    }
+
+    fn match_len(&self, sid: StateID) -> usize {
+        listed_len(self.states(), sid)
+    }
+
+    fn match_pattern(&self, sid: StateID, index: usize) -> PatternID {
+        listed_pattern(self.states(), self.order(), sid, index)
+    }
+
+    fn match_kind(&self) -> MatchKind {
+        self.kind
+    }
+
+    fn patterns_len(&self) -> usize {
+        self.patterns().len()
+    }
+
+    fn pattern_len(&self, pattern: PatternID) -> usize {
+        self.patterns().get(pattern.as_usize()).len()
+    }
+
+    fn min_pattern_len(&self) -> usize {
+        self.shortest
+    }
+
+    fn max_pattern_len(&self) -> usize {
+        self.longest
+    }
+
+    fn memory_usage(&self) -> usize {
+        let states = self.states.len().saturating_mul(size_of::<State>());
+        let order = self.order.len().saturating_mul(size_of::<PatternID>());
+        states
+            .saturating_add(order)
+            .saturating_add(self.labels.len())
+            .saturating_add(self.patterns().memory_usage())
+    }
+
+    fn prefilter(&self) -> Option<&Prefilter> {
+        None
+    }
+}
+
+#[cfg(test)]
+mod tests;

@@ -1,0 +1,188 @@
+//! Growing a trie with failure links, breadth first.
+//!
+//! A state is told by the members that begin with its string: they stand side by side. Its own patterns come first among them,
+//! and then each run of members with one more byte in common is a child. So each byte of each pattern is looked at a few times,
+//! and nothing is moved. A child's failure target is a step from that of its parent; along a pattern each byte makes the target
+//! at most one longer and each failure link shorter, so n bytes of patterns take at most 2n looks.
+ghost use Rattle.std.specs.Prelude.{◌≡◌, ◌≢◌, ◌⊎◌, ◌++◌, ◌∷◌, [], ℕ, ◌+◌, ◌<◌, ◌≤◌, List, MatchResult, None, Some, length, slice_get};
+ghost use Rattle.ac_util.specs.declared.error.BuildError.TheVariants.{Memory, StateIdOverflow};
+ghost use Rattle.ac_util.specs.declared.primitives.TheConstants.{GREATEST};
+ghost use Rattle.ac_util.specs.Node.{is_leftmost as is_leftmost_of};
+ghost use Rattle.ac_automaton.specs.declared.nfa.noncontiguous.growth.Pending.{Pending};
+ghost use Rattle.ac_automaton.specs.Growths.{HasBranched, HasChild, IsReady, IsRefused, LinkIsDue, nodes_of, word};
+ghost use Rattle.ac_automaton.specs.Members.{byte_at};
+ghost use Rattle.ac_automaton.specs.Tries.{AreStates, Links, Meaning, miss};
+
+use super::members::Members;
+use super::state::{FIRST_INNER, State, follow};
+use ac_util::error::BuildError;
+use ac_util::looks::Looks;
+use ac_util::primitives::{GREATEST, StateID};
+use ac_util::search::{Anchored, MatchKind};
+use std::alloc::Allocator;
+
+/// A state that waits for its children.
+#[derive(Clone, Copy)]
+pub(crate) struct Pending {
+    /// Where the members begin that begin with its string.
+    pub(crate) from: u32,
+    /// Where they end.
+    pub(crate) to: u32,
+    /// How many bytes the string has.
+    pub(crate) depth: u32,
+    /// Its failure target.
+    pub(crate) fail: StateID,
+}
+
+/// What a trie grows by: the labels and the waiting states, both of the states from the fifth on.
+#[derive(Drop)]
+pub(crate) struct Growth<A: Allocator> {
+    pub(crate) labels: Vec<u8, A>,
+    pub(crate) queue: Vec<Pending, A>,
+}
+
+impl<A: Allocator> Growth<A> {
+    /// Adds a state.
+    ///
+    /// # Errors
+    /// `StateIdOverflow` where no number is left for it, `Memory` where a request for memory is refused.
+    fn push(&mut self, label: u8, pending: Pending) -> Result<(), BuildError>
+        requires few { length self.old.queue.items + 4 ≤ GREATEST + 1 }
+        ensures { MatchResult result
+            (λ _. (self.new.labels.items ≡ self.old.labels.items ++ label ∷ [])
+            × (self.new.queue.items ≡ self.old.queue.items ++ pending ∷ [])
+            × (length self.old.queue.items + 4 < GREATEST + 1))
+            (λ e. (e ≡ Memory)
+            ⊎ ((e ≡ StateIdOverflow GREATEST (GREATEST + 1)) × (length self.old.queue.items + 4 ≡ GREATEST + 1))) }
+    {
+        let number = FIRST_INNER + self.queue.len();
+        if number > GREATEST {
+            return Err(BuildError::StateIdOverflow {
+                max: GREATEST as u64,
+                requested: number as u64,
+            });
+        }
+        self.labels.push(label)?;
+        self.queue.push(pending)?;
+        Ok(())
+    }
+}
+
+/// Puts the children of a state behind the queue, and returns the state.
+///
+/// # Errors
+/// `StateIdOverflow` where there are too many states, `Memory` where a request for memory is refused.
+pub(crate) fn branch<A: Allocator, B: Allocator>(
+    members: &Members<'_, B>,
+    kind: MatchKind,
+    states: &[State],
+    growth: &mut Growth<A>,
+    pending: Pending,
+) -> Result<State, BuildError>
+    requires ready { (patterns : List (List ℕ))
+        × IsReady kind patterns members.now states.now growth.old.labels.items growth.old.queue.items pending }
+    ensures { (patterns : List (List ℕ))
+        → IsReady kind patterns members.now states.now growth.old.labels.items growth.old.queue.items pending
+        → MatchResult result
+        (λ t. HasBranched kind patterns members.now states.now growth.old.queue.items pending t growth.new.labels.items growth.new.queue.items)
+        (IsRefused kind patterns) }
+{
+    let (to, depth) = (pending.to as usize, pending.depth as usize);
+    let own_end = own_end(members, &pending);
+    let children = growth.labels.len();
+    let mut place = own_end;
+    while place < to {
+        let end = members.run_end(place, to, depth);
+        let Some(byte) = members.byte(place, depth) else {
+            unreachable!()
+        };
+        let fail = child_fail(members, kind, states, &growth.labels, &pending, place, byte);
+        let child = Pending {
+            from: place as u32,
+            to: end as u32,
+            depth: pending.depth + 1,
+            fail,
+        };
+        growth.push(byte, child)?;
+        place = end;
+    }
+    Ok(State {
+        children: children as u32,
+        children_end: growth.labels.len() as u32,
+        fail: pending.fail,
+        own: pending.from,
+        own_end: own_end as u32,
+        link: link_of(states, pending.fail),
+        depth: pending.depth,
+    })
+}
+
+/// Returns where the members end that are the whole string of a state.
+fn own_end<B: Allocator>(members: &Members<'_, B>, pending: &Pending) -> usize
+    requires ordered { pending.now.from ≤ pending.now.to }
+    requires within { pending.now.to ≤ length members.now }
+    ensures later { pending.now.from ≤ result }
+    ensures within { result ≤ pending.now.to }
+    ensures own { (k : ℕ) → pending.now.from ≤ k → k < result → byte_at members.now pending.now.depth k ≡ None }
+    ensures other { result < pending.now.to → byte_at members.now pending.now.depth result ≢ None }
+{
+    let (from, to) = (pending.from as usize, pending.to as usize);
+    let depth = pending.depth as usize;
+    if from < to && members.byte(from, depth).is_none() {
+        members.run_end(from, to, depth)
+    } else {
+        from
+    }
+}
+
+/// Returns the failure target of the child by a byte, to which the member at a place leads.
+fn child_fail<B: Allocator>(
+    members: &Members<'_, B>,
+    kind: MatchKind,
+    states: &[State],
+    labels: &[u8],
+    pending: &Pending,
+    place: usize,
+    byte: u8,
+) -> StateID
+    requires child { (patterns : List (List ℕ)) × (queue : List Pending)
+        × HasChild kind patterns members.now states.now labels.now queue pending.now place byte }
+    ensures { (patterns : List (List ℕ)) (queue : List Pending)
+        → HasChild kind patterns members.now states.now labels.now queue pending.now place byte
+        → slice_get (nodes_of members.now queue) result ≡ Some (miss kind patterns (Some (word members.now pending.now ++ byte ∷ []))) }
+{
+    if is_leftmost(kind) && members.byte(place, pending.depth as usize + 1).is_none() {
+        return StateID::must(0);
+    }
+    if pending.depth == 0 {
+        return pending.fail;
+    }
+    follow(states, labels, Anchored::No, pending.fail, byte, &mut Looks::new())
+}
+
+/// Returns whether the kind prefers what starts first.
+fn is_leftmost(kind: MatchKind) -> bool
+    ensures { result ≡ is_leftmost_of kind }
+{
+    match kind {
+        MatchKind::Standard => false,
+        MatchKind::LeftmostFirst | MatchKind::LeftmostLongest => true,
+    }
+}
+
+/// Returns the first state from a failure target on along the links that has patterns of its own, or 0.
+fn link_of(states: &[State], fail: StateID) -> StateID
+    requires { (g : Meaning) × AreStates g states.now }
+    ensures { (g : Meaning) (u : List ℕ) → AreStates g states.now → LinkIsDue g (length states.now) u fail
+        → Links g (length states.now) (Some u) result }
+{
+    if fail.as_usize() >= states.len() {
+        return StateID::must(0);
+    }
+    let target = &states[fail.as_usize()];
+    if target.own < target.own_end {
+        fail
+    } else {
+        target.link
+    }
+}

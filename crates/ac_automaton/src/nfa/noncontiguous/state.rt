@@ -1,0 +1,159 @@
+//! The states of a trie with failure links, and the walks over them.
+ghost use Rattle.std.specs.Prelude.{◌≡◌, ◌≢◌, ℕ, ◌+◌, ◌-◌, ◌<◌, ◌≤◌, Contains, MatchOption, Some, length, slice_get};
+ghost use Rattle.std.specs.List.Sorted.{IsStrictlyIncreasing};
+ghost use Rattle.ac_util.specs.declared.primitives.TheConstants.{GREATEST};
+ghost use Rattle.ac_util.specs.Counts.{more_looks};
+ghost use Rattle.ac_util.specs.Looks.{looks as looks_of_node};
+ghost use Rattle.ac_util.specs.Node.{Node, step};
+ghost use Rattle.ac_automaton.specs.Tries.{Meaning, HasState, labels_of, all_matches};
+
+use ac_util::looks::Looks;
+use ac_util::primitives::{PatternID, StateID};
+use ac_util::search::Anchored;
+
+/// A state: which states follow it, and which patterns end there.
+///
+/// The children of a state have numbers one after another, in ascending order of their labels. The labels of all states but
+/// the first four stand in one list in the order of the states' numbers, so a range in that list tells labels and numbers.
+#[derive(Clone, Copy)]
+pub(crate) struct State {
+    /// Where the children's labels begin.
+    pub(crate) children: u32,
+    /// Where they end.
+    pub(crate) children_end: u32,
+    /// Where an unanchored search goes on by a byte that is no label.
+    pub(crate) fail: StateID,
+    /// Where the patterns that are the state's own string begin.
+    pub(crate) own: u32,
+    /// Where they end.
+    pub(crate) own_end: u32,
+    /// The next state along the failure targets that has patterns of its own, or 0.
+    pub(crate) link: StateID,
+    /// How many bytes lead to the state.
+    pub(crate) depth: u32,
+}
+
+/// The number of the first state that isn't dead, unreached or a start.
+pub(crate) const FIRST_INNER: usize = 4;
+
+impl State {
+    /// Returns a state from which nothing leads on.
+    pub(crate) fn dead() -> State
+        ensures { result ≡ record { children = 0; children_end = 0; fail = 0; own = 0; own_end = 0; link = 0; depth = 0 } }
+    {
+        State {
+            children: 0,
+            children_end: 0,
+            fail: StateID::must(0),
+            own: 0,
+            own_end: 0,
+            link: StateID::must(0),
+            depth: 0,
+        }
+    }
+
+    /// Returns how many patterns the state has of its own.
+    #[inline]
+    fn own_len(&self) -> usize
+        requires owned { self.now.own ≤ self.now.own_end }
+        ensures value { result ≡ self.now.own_end - self.now.own }
+        ensures small { result < 4294967296 }
+    {
+        (self.own_end - self.own) as usize
+    }
+}
+
+/// Returns the child of a state by a byte, if it has one.
+#[inline]
+fn child(state: &State, labels: &[u8], byte: u8) -> Option<StateID>
+    requires ordered { state.now.children ≤ state.now.children_end }
+    requires labelled { state.now.children_end ≤ length labels.now }
+    requires ascending { IsStrictlyIncreasing (labels_of labels.now state.now) }
+    requires few { state.now.children_end + 4 ≤ GREATEST + 1 }
+    ensures { MatchOption result (Contains (labels_of labels.now state.now) byte → ⊥) (λ c.
+        (k : ℕ) × (slice_get (labels_of labels.now state.now) k ≡ Some byte) × (c ≡ 4 + (state.now.children + k))) }
+{
+    let own_labels = &labels[state.children as usize..state.children_end as usize];
+    match own_labels.binary_search(&byte) {
+        Ok(place) => Some(StateID::must(FIRST_INNER + state.children as usize + place)),
+        Err(_) => None,
+    }
+}
+
+/// Returns where a byte leads from a state, and counts a look at each state on the way.
+///
+/// An unanchored search goes on along the failure targets as long as the byte is no label. Each target is a shorter string, so
+/// n bytes take at most 2n looks.
+#[inline]
+pub(crate) fn follow(
+    states: &[State],
+    labels: &[u8],
+    anchored: Anchored,
+    from: StateID,
+    byte: u8,
+    looks: &mut Looks,
+) -> StateID
+    requires state { (g : Meaning) × (u : Node) × (g.labels ≡ labels.now) × HasState g states.now from u }
+    ensures steps { (g : Meaning) (u : Node) → g.labels ≡ labels.now → HasState g states.now from u
+        → slice_get g.nodes result ≡ Some (step g.kind g.patterns anchored u byte) }
+    ensures looks { (g : Meaning) (u : Node) → g.labels ≡ labels.now → HasState g states.now from u
+        → looks.new ≡ more_looks (looks_of_node g.kind g.patterns anchored u byte) looks.old }
+{
+    let mut at = from;
+    loop {
+        looks.look();
+        let state = &states[at.as_usize()];
+        if let Some(next) = child(state, labels, byte) {
+            return next;
+        }
+        if matches!(anchored, Anchored::Yes) {
+            return StateID::must(0);
+        }
+        if at.as_usize() < FIRST_INNER {
+            return state.fail;
+        }
+        at = state.fail;
+    }
+}
+
+/// Returns how many patterns a state and those behind it by their links have.
+pub(crate) fn listed_len(states: &[State], from: StateID) -> usize
+    requires state { (g : Meaning) × (u : Node) × HasState g states.now from u }
+    ensures { (g : Meaning) (u : Node) → HasState g states.now from u → result ≡ length (all_matches g u) }
+{
+    let mut at = from.as_usize();
+    let mut count = 0;
+    loop {
+        let state = &states[at];
+        count += state.own_len();
+        at = state.link.as_usize();
+        if at == 0 {
+            return count;
+        }
+    }
+}
+
+/// Returns one of these patterns, by its place among them.
+pub(crate) fn listed_pattern(
+    states: &[State],
+    order: &[PatternID],
+    from: StateID,
+    index: usize,
+) -> PatternID
+    requires state { (g : Meaning) × (u : Node) × (g.order ≡ order.now) × HasState g states.now from u
+        × (index < length (all_matches g u)) }
+    ensures { (g : Meaning) (u : Node) → g.order ≡ order.now → HasState g states.now from u
+        → slice_get (all_matches g u) index ≡ Some result }
+{
+    let mut at = from;
+    let mut left = index;
+    loop {
+        let state = &states[at.as_usize()];
+        let len = state.own_len();
+        if left < len {
+            return order[state.own as usize + left];
+        }
+        left -= len;
+        at = state.link;
+    }
+}
