@@ -140,7 +140,7 @@ module _ (kind : MatchKind) (patterns : List (List ℕ)) (members : List Keyed)
           absurd (let s = later.1 in let d = h.waits.inner (omega arith) in let e = ap length none in let m = long in omega arith)
 
   -- the state that stands for the string
-  abbrev whole_state : ℕ → State
+  abbrev pub whole_state : ℕ → State
   whole_state link = record {
     children = length queue0;
     children_end = length labels;

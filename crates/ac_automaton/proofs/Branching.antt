@@ -12,14 +12,14 @@ use Rattle.ac_util.specs.declared.primitives.TheConstants.{GREATEST}
 use Rattle.ac_util.specs.Node.{Node, is_node}
 use Rattle.ac_automaton.specs.declared.nfa.noncontiguous.growth.Pending.{Pending}
 use Rattle.ac_automaton.specs.declared.nfa.noncontiguous.state.State.{State}
-use Rattle.ac_automaton.specs.Growths.{IsGrown, IsNext, IsRangeOf, IsReady, Waits, grown_meaning, nodes_of, word}
+use Rattle.ac_automaton.specs.Growths.{HasChild, IsGrown, IsNext, IsRangeOf, IsReady, Waits, grown_meaning, nodes_of, word}
 use Rattle.ac_automaton.specs.Members.{Keyed, IsOrder, byte_at, key_at, numbers}
 use Rattle.ac_automaton.specs.Tries.{AreStates, miss}
 use Rattle.ac_automaton.proofs.Grown.{AreStates-more, IsInner, nodes-cases, nodes-inner, nodes-more}
 use Rattle.ac_automaton.proofs.Orders.{rank}
 use Rattle.ac_util.proofs.Fronts.{starts_with-length}
 use Rattle.ac_automaton.proofs.Places.{get-append, get-added, get-added_cases, get-same}
-use Rattle.ac_automaton.proofs.Ranges.{child-range, next-greater}
+use Rattle.ac_automaton.proofs.Ranges.{child-range, longer, next-greater}
 
 -- two strings with one more byte that are the same have the same byte and the same rest
 pub push-injective : (u w : List ℕ) (a b : ℕ) → u ++ a ∷ [] ≡ w ++ b ∷ [] → (u ≡ w) × (a ≡ b)
@@ -125,6 +125,17 @@ module _ (kind : MatchKind) (patterns : List (List ℕ)) (members : List Keyed) 
       omega arith;
     }
 
+    -- behind the patterns that are the string each member has a further byte
+    pub goes-on : (place : ℕ) (labels : List ℕ) (queue : List Pending) → IsBranching place labels queue
+        → ((k : ℕ) → p.from ≤ k → k < own_end → byte_at members p.depth k ≡ None)
+        → (own_end < p.to → byte_at members p.depth own_end ≢ None) → place < p.to → byte_at members p.depth place ≢ None
+    goes-on place labels queue h own other more =
+        let same = word-length queue (length states) p h.waits in
+        subst (λ (n : ℕ). byte_at members n place ≢ None) same
+        (longer kind patterns members ready.order (word members p) p.from p.to h.waits.range own_end h.begun (let l = h.low in omega arith)
+        (λ k a c. subst (λ (n : ℕ). byte_at members n k ≡ None) (sym same) (own k a c))
+        (λ l. subst (λ (n : ℕ). byte_at members n own_end ≢ None) (sym same) (other l)) place h.low more)
+
     -- a run of members with one byte, which is the string of a child
     module _ (place end b fail : ℕ) (labels : List ℕ) (queue : List Pending) (h : IsBranching place labels queue)
         (more : place < p.to) (some : place < end) (high : end ≤ p.to)
@@ -160,16 +171,36 @@ module _ (kind : MatchKind) (patterns : List (List ℕ)) (members : List Keyed) 
           (λ k a c. subst (λ (n : ℕ). byte_at members n k ≡ byte_at members n place) (sym long) (same k a c))
           (λ m. subst (λ (n : ℕ). byte_at members n end ≢ byte_at members n place) (sym long) (other m)) l)
 
+      pushed : length (word members p ++ b ∷ []) ≡ p.depth + 1
+      pushed = let l = length_push (word members p) b in let m = long in omega arith
+
+      front : starts_with nat_eq (key_at members place) (word members p ++ b ∷ []) ≡ true
+      front = (child-members.begins place (let w = h.waits.range.within in omega arith)).0 (omega arith, some)
+
+      -- the pattern at the place has the byte
+      pub child-deep : p.depth + 1 ≤ length (key_at members place)
+      child-deep = let l = starts_with-length (key_at members place) (word members p ++ b ∷ []) front in let m = pushed in omega arith
+
+      -- what the child's failure target is told by
+      pub has-child : HasChild kind patterns members states labels queue p place b
+      has-child = record {
+        order = ready.order;
+        meant = h.meant;
+        waits = h.waits;
+        near = λ deep. near deep ready.next;
+        to = end;
+        range = child-members;
+        some = some;
+      }
+        where
+          near : p.depth ≢ 0 → IsNext kind patterns members queue0 (length states) p → p.fail < length states
+          near deep (inl start) = absurd (deep start.2)
+          near deep (inr later) = h.waits.back (let n = later.1 in omega arith)
+
       -- the child that waits for them
       module _ (fails : slice_get (nodes_of members queue) fail ≡ Some (miss kind patterns (Some (word members p ++ b ∷ [])))) where
         abbrev child : Pending
         child = record { from = place; to = end; depth = p.depth + 1; fail = fail }
-
-        pushed : length (word members p ++ b ∷ []) ≡ p.depth + 1
-        pushed = let l = length_push (word members p) b in let m = long in omega arith
-
-        front : starts_with nat_eq (key_at members place) (word members p ++ b ∷ []) ≡ true
-        front = (child-members.begins place (let w = h.waits.range.within in omega arith)).0 (omega arith, some)
 
         child-word : word members child ≡ word members p ++ b ∷ []
         child-word =

@@ -13,11 +13,13 @@ use Rattle.ac_util.proofs.NodeCount.{inner_nodes-has, inner_nodes-only, inner_no
 use Rattle.ac_util.proofs.Participants.{is_node-front}
 use Rattle.ac_automaton.specs.declared.nfa.noncontiguous.growth.Pending.{Pending}
 use Rattle.ac_automaton.specs.declared.nfa.noncontiguous.state.State.{State}
-use Rattle.ac_automaton.specs.Growths.{IsGrown, IsRangeOf, Waits, grown_meaning, nodes_of, word}
-use Rattle.ac_automaton.specs.Members.{Keyed, IsOrder, key_at}
-use Rattle.ac_automaton.specs.Tries.{AreStates, labels_of, state_at}
+use Rattle.ac_util.specs.declared.error.BuildError.{BuildError}
+use Rattle.ac_util.specs.declared.error.BuildError.TheVariants.{Memory, StateIdOverflow}
+use Rattle.ac_automaton.specs.Growths.{IsGrown, IsRangeOf, IsReady, IsRefused, Waits, grown_meaning, nodes_of, word}
+use Rattle.ac_automaton.specs.Members.{Keyed, IsOrder, byte_at, key_at}
+use Rattle.ac_automaton.specs.Tries.{AreStates, labels_of, miss, state_at}
 use Rattle.ac_automaton.proofs.Branched.{held-is}
-use Rattle.ac_automaton.proofs.Branching.{word-length}
+use Rattle.ac_automaton.proofs.Branching.{IsBranching, child-members, fresh, word-length}
 use Rattle.ac_automaton.proofs.Counting.{IsOrdered-from_AllPairs, length-le-from_IsOrdered}
 use Rattle.ac_automaton.proofs.Grown.{nodes-cases}
 use Rattle.ac_automaton.proofs.Places.{get-same, place-of, IsIn-place, IsOrdered-places}
@@ -126,3 +128,24 @@ module _ (kind : MatchKind) (patterns : List (List ℕ)) (members : List Keyed) 
         let many = length-le-from_IsOrdered (inner_nodes kind patterns) words
             (IsOrdered-from_AllPairs (λ u w. u ≢ w) (inner_nodes kind patterns) (inner_nodes-apart kind patterns)) inner-word in
         omega arith
+
+-- a child for which there is no number is one node too many
+module _ (kind : MatchKind) (patterns : List (List ℕ)) (members : List Keyed)
+    (states : List State) (labels0 : List ℕ) (queue0 : List Pending) (p : Pending)
+    (ready : IsReady kind patterns members states labels0 queue0 p) (own_end : ℕ)
+    (place end b fail : ℕ) (labels : List ℕ) (queue : List Pending)
+    (h : IsBranching kind patterns members states labels0 queue0 p ready own_end place labels queue)
+    (more : place < p.to) (some : place < end) (high : end ≤ p.to)
+    (byte : byte_at members p.depth place ≡ Some b)
+    (same : (k : ℕ) → place ≤ k → k < end → byte_at members p.depth k ≡ byte_at members p.depth place)
+    (other : end < p.to → byte_at members p.depth end ≢ byte_at members p.depth place)
+    (fails : slice_get (nodes_of members queue) fail ≡ Some (miss kind patterns (Some (word members p ++ b ∷ [])))) where
+  pub refused : (e : BuildError) → (e ≡ Memory) ⊎ ((e ≡ StateIdOverflow GREATEST (GREATEST + 1)) × (length queue + 4 ≡ GREATEST + 1))
+      → IsRefused kind patterns e
+  refused e (inl memory) = inl memory
+  refused e (inr full) = inr (
+    full.0,
+    too-many kind patterns members ready.order (length states + 1) labels queue h.grown (word members p) b place end
+    (child-members kind patterns members states labels0 queue0 p ready own_end place end b fail labels queue h more some high byte same other) some
+    (fresh kind patterns members states labels0 queue0 p ready own_end place end b fail labels queue h more some high byte same other fails) full.1,
+  )
