@@ -17,3 +17,4 @@ pub mod StateCount
 pub mod Steps
 pub mod Tables
 pub mod WalkLoop
+pub mod WholeTries

@@ -31,10 +31,13 @@ trie_of patterns fold kind order labels states = record {
   states = states;
 }
 
+-- a state from which nothing leads on
+abbrev pub dead_state : State
+dead_state = record { children = 0; children_end = 0; fail = 0; own = 0; own_end = 0; link = 0; depth = 0 }
+
 -- a state by its number
 abbrev pub state_at : List State → ℕ → State
-state_at states s =
-    slice_index_or states s (record { children = 0; children_end = 0; fail = 0; own = 0; own_end = 0; link = 0; depth = 0 })
+state_at states s = slice_index_or states s dead_state
 
 -- the labels of a state's children, and the patterns that a state has of its own
 abbrev pub labels_of : List ℕ → State → List ℕ

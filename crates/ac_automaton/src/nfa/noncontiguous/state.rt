@@ -5,7 +5,7 @@ ghost use Rattle.ac_util.specs.declared.primitives.TheConstants.{GREATEST};
 ghost use Rattle.ac_util.specs.Counts.{more_looks};
 ghost use Rattle.ac_util.specs.Looks.{looks as looks_of_node};
 ghost use Rattle.ac_util.specs.Node.{Node, step};
-ghost use Rattle.ac_automaton.specs.Tries.{Meaning, HasState, labels_of, all_matches};
+ghost use Rattle.ac_automaton.specs.Tries.{Meaning, HasState, all_matches, dead_state, labels_of};
 
 use ac_util::looks::Looks;
 use ac_util::primitives::{PatternID, StateID};
@@ -39,7 +39,7 @@ pub(crate) const FIRST_INNER: usize = 4;
 impl State {
     /// Returns a state from which nothing leads on.
     pub(crate) fn dead() -> State
-        ensures { result ≡ record { children = 0; children_end = 0; fail = 0; own = 0; own_end = 0; link = 0; depth = 0 } }
+        ensures { result ≡ dead_state }
     {
         State {
             children: 0,

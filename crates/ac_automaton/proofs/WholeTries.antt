@@ -1,0 +1,196 @@
+-- From the first states to a whole trie.
+use Rattle.std.proofs.Common.{◌≡◌, ◌≢◌, ℕ, zero, suc, ◌+◌, ◌-◌, ◌<◌, ◌≤◌, Bool, true, false, List, [], ◌∷◌, ◌++◌, map, length, take, ◌⊎◌, inl, inr, refl, ap, sym, ◌∙◌, subst, arith, Option, Some, None}
+use Rattle.std.specs.Prelude.{nat_eq, slice_get, Contains}
+use Rattle.std.specs.List.{starts_with}
+use Rattle.std.proofs.lemmas.Bool.{cases_Bool, cond-true, cond-false, false≢true}
+use Rattle.std.proofs.lemmas.List.{length-map, length_push}
+use Rattle.std.proofs.lemmas.Option.{slice_get_within}
+use Rattle.ac_util.specs.declared.primitives.TheConstants.{GREATEST}
+use Rattle.ac_util.specs.declared.search.MatchKind.{MatchKind}
+use Rattle.ac_util.specs.Matches.{equal_to}
+use Rattle.ac_util.specs.Node.{Node, begins_with_pattern, is_leftmost}
+use Rattle.ac_util.specs.Sameness.{plain}
+use Rattle.ac_util.specs.Sizes.{state_count}
+use Rattle.ac_automaton.specs.declared.nfa.noncontiguous.growth.Pending.{Pending}
+use Rattle.ac_automaton.specs.declared.nfa.noncontiguous.state.State.{State}
+use Rattle.ac_automaton.specs.Growths.{HasBranched, IsGrown, IsReady, Waits, grown_meaning, nodes_of, word}
+use Rattle.ac_automaton.specs.Members.{Keyed, IsOrder, key_at, numbers}
+use Rattle.ac_automaton.specs.Tries.{AreStates, IsTable, Meaning, Represents, dead_state, miss, state_at, trie_of}
+use Rattle.ac_automaton.proofs.Branching.{next-node}
+use Rattle.ac_automaton.proofs.Grown.{AreStates-push, nodes-inner}
+use Rattle.ac_automaton.proofs.ListsOf.{listed_within-matches}
+use Rattle.ac_automaton.proofs.StateCount.{state-count}
+
+-- a state that stands for a start is one at the number beside it too
+pub Represents-beside : (g : Meaning) (v : Node) (t : State) → Represents g 2 v t → Represents g 3 v t
+Represents-beside g v t r = record {
+  ordered = r.ordered;
+  labelled = r.labelled;
+  ascending = r.ascending;
+  branches = r.branches;
+  children = r.children;
+  fails = r.fails;
+  back = λ l. absurd (omega arith);
+  owned = r.owned;
+  within = r.within;
+  own = r.own;
+  links = record {
+    linked = r.links.linked;
+    leads = r.links.leads;
+    back = (let b = r.links.back in omega arith);
+    finds = r.links.finds;
+    useful = r.links.useful;
+  };
+  long = r.long;
+  outer = λ l. r.outer (omega arith);
+  inner = λ l. absurd (omega arith);
+}
+
+module _ (kind : MatchKind) (patterns : List (List ℕ)) (members : List Keyed) where
+  -- the first two states
+  abbrev pub first_states : List State
+  first_states = dead_state ∷ dead_state ∷ []
+
+  dead-represents : (s : ℕ) → s < 2 → Represents (grown_meaning kind patterns members [] []) s None dead_state
+  dead-represents s l = record {
+    ordered = omega arith;
+    labelled = omega arith;
+    ascending = λ k h. absurd (omega arith);
+    branches = λ b. ((λ has. absurd (let h = has.1 in omega arith)), (λ some. absurd (some refl)));
+    children = λ k b e. absurd (cc);
+    fails = refl;
+    back = λ h. absurd (omega arith);
+    owned = omega arith;
+    within = omega arith;
+    own = refl;
+    links = record { linked = None; leads = refl; back = omega arith; finds = refl; useful = λ apart. absurd (apart refl) };
+    long = refl;
+    outer = λ h. refl;
+    inner = λ h. absurd (omega arith);
+  }
+
+  first-states : AreStates (grown_meaning kind patterns members [] []) first_states
+  first-states = record {
+    dead = refl;
+    named = omega arith;
+    few = omega arith;
+    each = λ s v l e. each s v l e;
+  }
+    where
+      each : (s : ℕ) (v : Node) → s < 2 → slice_get (nodes_of members []) s ≡ Some v → Represents (grown_meaning kind patterns members [] []) s v (state_at first_states s)
+      each zero v l e = subst (λ (w : Node). Represents (grown_meaning kind patterns members [] []) 0 w dead_state) (let same : None ≡ v = cc in same) (dead-represents 0 l)
+      each (suc zero) v l e = subst (λ (w : Node). Represents (grown_meaning kind patterns members [] []) 1 w dead_state) (let same : None ≡ v = cc in same) (dead-represents 1 l)
+      each (suc (suc s)) v l e = absurd (omega arith)
+
+  -- the start is next
+  pub start-ready : (p : Pending) → IsOrder kind patterns members → Waits kind patterns members [] 2 p → p.depth ≡ 0
+      → IsReady kind patterns members first_states [] [] p
+  start-ready p order waits depth = record {
+    order = order;
+    grown = record {
+      as_long = refl;
+      few = omega arith;
+      waits = λ k q e. absurd (cc);
+      apart = λ j k q r e f w. absurd (cc);
+      parents = λ k q e. absurd (cc);
+    };
+    meant = first-states;
+    waits = waits;
+    next = inl (refl, refl, depth);
+  }
+
+  -- the states up to those of the queue before `at` are whole
+  pub record IsGoing (states : List State) (labels : List ℕ) (queue : List Pending) (at : ℕ) : Type 0 where
+    pub order : IsOrder kind patterns members
+    pub grown : IsGrown kind patterns members (length states) labels queue
+    pub meant : AreStates (grown_meaning kind patterns members labels queue) states
+    pub count : length states ≡ 4 + at
+    pub within : at ≤ length queue
+
+  later-grown : (m n : ℕ) (labels : List ℕ) (queue : List Pending) → m ≤ n → IsGrown kind patterns members m labels queue → IsGrown kind patterns members n labels queue
+  later-grown m n labels queue l grown = record {
+    as_long = grown.as_long;
+    few = grown.few;
+    waits = grown.waits;
+    apart = grown.apart;
+    parents = λ k q e. let r = grown.parents k q e in (r.0, omega (arith, r.1), r.2);
+  }
+
+  -- with the start at both its numbers the first four are whole
+  pub start-going : (p : Pending) (t : State) (labels : List ℕ) (queue : List Pending) → IsOrder kind patterns members → p.depth ≡ 0
+      → HasBranched kind patterns members first_states [] p t labels queue → IsGoing ((first_states ++ t ∷ []) ++ t ∷ []) labels queue 0
+  start-going p t labels queue order depth h = record {
+    order = order;
+    grown = later-grown 3 4 labels queue (omega arith) h.grown;
+    meant = AreStates-push (grown_meaning kind patterns members labels queue) (first_states ++ t ∷ []) (Some []) t once refl
+        (Represents-beside (grown_meaning kind patterns members labels queue) (Some []) t start);
+    count = refl;
+    within = omega arith;
+  }
+    where
+      start : Represents (grown_meaning kind patterns members labels queue) 2 (Some []) t
+      start =
+          subst (λ (v : List ℕ). Represents (grown_meaning kind patterns members labels queue) 2 (Some v) t)
+          (ap (λ (n : ℕ). take n (key_at members p.from)) depth) h.represents
+      once : AreStates (grown_meaning kind patterns members labels queue) (first_states ++ t ∷ [])
+      once = AreStates-push (grown_meaning kind patterns members labels queue) first_states (Some []) t h.meant refl start
+
+  -- the first in the queue that isn't whole is next
+  pub going-ready : (states : List State) (labels : List ℕ) (queue : List Pending) (at : ℕ) (p : Pending) → IsGoing states labels queue at
+      → slice_get queue at ≡ Some p → IsReady kind patterns members states labels queue p
+  going-ready states labels queue at p h e = record {
+    order = h.order;
+    grown = h.grown;
+    meant = h.meant;
+    waits = subst (λ (n : ℕ). Waits kind patterns members queue n p) (sym h.count) (h.grown.waits at p e);
+    next = inr (at, h.count, e);
+  }
+
+  pub going-on : (states : List State) (labels : List ℕ) (queue : List Pending) (at : ℕ) (p : Pending) (t : State)
+      (new_labels : List ℕ) (new_queue : List Pending) → IsGoing states labels queue at → slice_get queue at ≡ Some p
+      → HasBranched kind patterns members states queue p t new_labels new_queue → IsGoing (states ++ t ∷ []) new_labels new_queue (at + 1)
+  going-on states labels queue at p t new_labels new_queue h e b = record {
+    order = h.order;
+    grown = subst (λ (n : ℕ). IsGrown kind patterns members n new_labels new_queue) (let l = length_push states t in omega arith) b.grown;
+    meant = AreStates-push (grown_meaning kind patterns members new_labels new_queue) states (Some (word members p)) t b.meant node b.represents;
+    count = (let l = length_push states t in let m = h.count in omega arith);
+    within = (let l = slice_get_within new_queue at p (b.kept at p e) in omega arith);
+  }
+    where
+      node : slice_get (nodes_of members new_queue) (length states) ≡ Some (Some (word members p))
+      node = ap (slice_get (nodes_of members new_queue)) h.count ∙ nodes-inner members new_queue at p (b.kept at p e)
+
+-- where the whole queue is, the states are those of an automaton
+module _ (texts : List (List ℕ)) (fold : Bool) (kind : MatchKind) (members : List Keyed)
+    (states : List State) (labels : List ℕ) (queue : List Pending) (at : ℕ)
+    (h : IsGoing kind (map (plain fold) texts) members states labels queue at) (all : length queue ≤ at) where
+  counted : length states ≡ 4 + length queue
+  counted = let l = h.count in let m = h.within in omega arith
+
+  pub whole-table : IsTable (trie_of texts fold kind (numbers members) labels states) (nodes_of members queue)
+  whole-table =
+      let named = length-map queue (λ (q : Pending). Some (word members q)) in
+      record {
+        both = refl;
+        states = h.meant;
+        whole = (let c = counted in omega arith);
+        unreached = refl;
+        start = refl;
+        anchored_start = refl;
+        lists = λ s v e.
+        listed_within-matches (grown_meaning kind (map (plain fold) texts) members labels queue) states s s v
+        (record {
+          meant = h.meant;
+          there = (let l = slice_get_within (nodes_of members queue) s v e in let c = counted in omega arith);
+          named = e;
+        })
+        (omega arith);
+      }
+
+  -- and there are as many as nodes
+  pub whole-count : state_count kind (map (plain fold) texts) ≤ GREATEST + 1
+  whole-count =
+      let c = state-count kind (map (plain fold) texts) members h.order (length states) labels queue h.grown states h.meant counted in
+      let few = h.grown.few in
+      let d = counted in
+      omega arith
