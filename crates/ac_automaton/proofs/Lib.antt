@@ -6,6 +6,7 @@ pub mod FindLoop
 pub mod Follows
 pub mod Grown
 pub mod Heads
+pub mod Keeping
 pub mod Linking
 pub mod ListsOf
 pub mod Misses
@@ -13,6 +14,8 @@ pub mod Orders
 pub mod Places
 pub mod Ranges
 pub mod ReadOn
+pub mod Sorting
+pub mod Starting
 pub mod StateCount
 pub mod Steps
 pub mod Tables

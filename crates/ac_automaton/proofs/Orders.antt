@@ -1,28 +1,29 @@
 -- What the ascending order of the members says of their bytes at one depth.
-use Rattle.std.proofs.Common.{◌≡◌, ℕ, zero, suc, ◌<◌, ◌≤◌, Bool, true, List, [], ◌∷◌, length, get_or, ◌⊎◌, inl, inr, refl, ap, sym, ◌∙◌, arith, Option, None, Some}
+use Rattle.std.proofs.Common.{◌≡◌, ℕ, suc, ◌<◌, ◌≤◌, true, false, List, [], ◌∷◌, length, inl, inr, refl, ap, sym, ◌∙◌, arith, Option, None, Some}
 use Rattle.std.specs.Prelude.{nat_eq, slice_get}
 use Rattle.std.specs.List.{starts_with}
 use Rattle.std.proofs.lemmas.Cmp.{ranked}
 use Rattle.std.specs.Cmp.Lexicographic.{slice_cmp}
 use Rattle.std.specs.declared.cmp.Ordering.{Ordering}
 use Rattle.std.specs.declared.cmp.Ordering.TheVariants.{Less, Equal, Greater}
-use Rattle.std.specs.Ordering.{MatchOrdering, nat_cmp, ordering_then}
+use Rattle.std.specs.Ordering.{MatchOrdering, is_gt, nat_cmp, ordering_then}
 use Rattle.std.proofs.lemmas.Bool.{and_parts, eqb-true, false≢true, cases_lt}
 use Rattle.ac_util.specs.declared.search.MatchKind.{MatchKind}
-use Rattle.ac_automaton.specs.Members.{Keyed, Precedes, IsOrder, key_at, byte_at}
+use Rattle.ac_automaton.specs.Members.{Keyed, IsOrder, key_at, byte_at}
 
 -- a byte as a number, where none comes before each
 abbrev pub rank : Option ℕ → ℕ
 rank None = 0
 rank (Some b) = suc b
 
--- where two numbers and then the rest compare as less, the first number isn't above the second
-head-ascends : (x y : ℕ) (o rest : Ordering) → MatchOrdering o (x < y) (x ≡ y) (y < x) → ordering_then o rest ≡ Less → x ≤ y
-head-ascends x y Less rest m e = omega arith
-head-ascends x y Equal rest m e = omega arith
-head-ascends x y Greater rest m e = absurd (cc)
+-- where two numbers and then the rest compare as no greater, the first number isn't above the second
+pub head-no_greater : (x y : ℕ) (o rest : Ordering) → MatchOrdering o (x < y) (x ≡ y) (y < x)
+    → is_gt (ordering_then o rest) ≡ false → x ≤ y
+head-no_greater x y Less rest m e = omega arith
+head-no_greater x y Equal rest m e = omega arith
+head-no_greater x y Greater rest m e = absurd (false≢true (sym e))
 
--- and where the two are equal, the rest compares as less
+-- where they compare as less and the two are equal, the rest compares as less
 rest-ascends : (x y : ℕ) (o rest : Ordering) → MatchOrdering o (x < y) (x ≡ y) (y < x) → x ≡ y → ordering_then o rest ≡ Less
     → rest ≡ Less
 rest-ascends x y Less rest m same e = absurd (omega arith)
@@ -35,7 +36,7 @@ rank-ascends : (u a b : List ℕ) → slice_cmp nat_cmp a b ≡ Less → starts_
 rank-ascends [] [] b less p q = omega arith
 rank-ascends [] (x ∷ a) [] less p q = absurd (cc)
 rank-ascends [] (x ∷ a) (y ∷ b) less p q =
-    let le = head-ascends x y (nat_cmp x y) (slice_cmp nat_cmp a b) (ranked x y (nat_cmp x y) refl) less in omega arith
+    let le = head-no_greater x y (nat_cmp x y) (slice_cmp nat_cmp a b) (ranked x y (nat_cmp x y) refl) (ap is_gt less) in omega arith
 rank-ascends (z ∷ u) [] b less p q = absurd (false≢true p)
 rank-ascends (z ∷ u) (x ∷ a) [] less p q = absurd (false≢true q)
 rank-ascends (z ∷ u) (x ∷ a) (y ∷ b) less p q =
@@ -53,12 +54,9 @@ pub byte_at-ascends : (kind : MatchKind) (patterns : List (List ℕ)) (members :
 byte_at-ascends kind patterns members order u j k le within p q = elim (cases_lt j k) [
   | inl below ↦ elim (order.ascending j k (record { key = []; number = 0 }) below within) [
     | inl less ↦ rank-ascends u (key_at members j) (key_at members k) less p q
-    | inr same ↦
-        let e = ap (λ (w : List ℕ). rank (slice_get w (length u))) same.0 in omega arith
+    | inr same ↦ let e = ap (λ (w : List ℕ). rank (slice_get w (length u))) same.0 in omega arith
   ]
   | inr above ↦
-      let e = ap (λ (i : ℕ). rank (byte_at members (length u) i)) (le-le le above) in omega arith
+      let one : j ≡ k = omega arith in
+      let e = ap (λ (i : ℕ). rank (byte_at members (length u) i)) one in omega arith
 ]
-  where
-    le-le : {a b : ℕ} → a ≤ b → b ≤ a → a ≡ b
-    le-le h l = omega arith

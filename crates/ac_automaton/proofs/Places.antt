@@ -1,6 +1,7 @@
 -- Elements of lists by their places, as a list grows and in a part of it.
-use Rattle.std.proofs.Common.{◌≡◌, ℕ, zero, suc, ◌+◌, ◌-◌, ◌<◌, ◌≤◌, List, [], ◌∷◌, ◌++◌, length, take, drop, ◌⊎◌, inl, inr, refl, ap, sym, ◌∙◌, subst, arith, Option, Some, None}
-use Rattle.std.specs.Prelude.{slice_get, slice_range}
+use Rattle.std.proofs.Common.{◌≡◌, ◌≢◌, Bool, true, false, not, ℕ, zero, suc, ◌+◌, ◌-◌, ◌<◌, ◌≤◌, List, [], ◌∷◌, ◌++◌, length, take, drop, ◌⊎◌, inl, inr, refl, ap, sym, ◌∙◌, subst, arith, Option, Some, None}
+use Rattle.std.specs.Prelude.{is_some, slice_get, slice_range, Result, Ok, Err, MatchResult, IsErrAnd}
+use Rattle.std.proofs.lemmas.Bool.{false≢true}
 use Rattle.std.proofs.lemmas.Option.{slice_get_within, slice_get-get_or}
 use Rattle.ac_util.proofs.Lists.{IsIn, IsOrdered}
 
@@ -79,3 +80,17 @@ IsOrdered-places R (x ∷ xs) h = (
   (λ y i. let r = place-of y xs i in h 0 (suc r.0) x y (omega arith) refl r.1),
   IsOrdered-places R xs (λ j k y z l e f. h (suc j) (suc k) y z (omega arith) e f),
 )
+
+-- what the test `is_none` tells
+pub None-tested : {X : Type 0} (r : Option X) (t : Bool) → is_some r ≡ not t → t ≡ true → r ≡ None
+None-tested None t e is = refl
+None-tested (Some x) t e is = absurd (false≢true (sym (e ∙ ap not is)))
+
+pub Some-tested : {X : Type 0} (r : Option X) (t : Bool) → is_some r ≡ not t → t ≡ false → r ≢ None
+Some-tested r t e is none = false≢true (ap is_some (sym none) ∙ e ∙ ap not is)
+
+-- an error that was handed on is the error
+pub refused-by : {T E : Type 0} (r : Result T E) (e : E) (P : T → Type 0) (Q : E → Type 0)
+    → IsErrAnd r (λ y. y ≡ e) → Q e → MatchResult r P Q
+refused-by (Ok x) e P Q is q = absurd is
+refused-by (Err y) e P Q is q = subst Q (sym is) q

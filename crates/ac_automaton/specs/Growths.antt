@@ -1,16 +1,17 @@
 -- A trie that is being built, breadth first: the states that are whole, and those that wait for their children.
-use Rattle.std.specs.Prelude.{◌≡◌, ◌↔◌, ◌⊎◌, ℕ, suc, ◌+◌, ◌-◌, ◌<◌, ◌≤◌, List, [], ◌∷◌, ◌++◌, ◌≢◌, nat_eq, true, map, length, take, slice_get, None, Some}
+use Rattle.std.specs.Prelude.{◌≡◌, ◌↔◌, ◌⊎◌, ℕ, suc, ◌+◌, ◌-◌, ◌<◌, ◌≤◌, Bool, List, [], ◌∷◌, ◌++◌, ◌≢◌, nat_eq, true, map, length, take, slice_get, None, Some}
 use Rattle.std.specs.List.{starts_with}
 use Rattle.ac_util.specs.declared.error.BuildError.{BuildError}
 use Rattle.ac_util.specs.declared.error.BuildError.TheVariants.{Memory, StateIdOverflow}
 use Rattle.ac_util.specs.declared.primitives.TheConstants.{GREATEST}
 use Rattle.ac_util.specs.declared.search.MatchKind.{MatchKind}
 use Rattle.ac_util.specs.Node.{Node}
+use Rattle.ac_util.specs.Sameness.{plain}
 use Rattle.ac_util.specs.Sizes.{state_count}
 use Rattle.ac_automaton.specs.declared.nfa.noncontiguous.growth.Pending.{Pending}
 use Rattle.ac_automaton.specs.declared.nfa.noncontiguous.state.State.{State}
 use Rattle.ac_automaton.specs.Members.{Keyed, IsOrder, key_at, numbers}
-use Rattle.ac_automaton.specs.Tries.{Meaning, AreStates, Represents, miss}
+use Rattle.ac_automaton.specs.Tries.{Meaning, AreStates, IsTable, Represents, miss, trie_of}
 
 -- the string that leads to a waiting state: its first member's bytes as far as its depth
 abbrev pub word : List Keyed → Pending → List ℕ
@@ -94,6 +95,12 @@ pub record LinkIsDue (g : Meaning) (s : ℕ) (u : List ℕ) (fail : ℕ) : Type 
   pub dead : slice_get g.nodes 0 ≡ Some None
   pub near : u ≢ [] → fail < s
   pub start : u ≡ [] → fail < s → (fail < 2) × (slice_get g.nodes fail ≡ Some None)
+
+-- the labels and states are those of an automaton, which has no more states than there are numbers
+pub record IsWhole (texts : List (List ℕ)) (fold : Bool) (kind : MatchKind) (order labels : List ℕ) (states : List State) : Type 0 where
+  pub nodes : List Node
+  pub table : IsTable (trie_of texts fold kind order labels states) nodes
+  pub few : state_count kind (map (plain fold) texts) ≤ GREATEST + 1
 
 -- why a build is refused that is within the limits of patterns: for want of memory, or as there are too many states
 abbrev pub IsRefused : MatchKind → List (List ℕ) → BuildError → Type 0

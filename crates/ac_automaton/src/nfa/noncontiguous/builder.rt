@@ -1,11 +1,11 @@
 //! Builds of a trie with failure links.
 use super::NFA;
-use super::growth::{Growth, Pending, branch};
+use super::growth::{Grown, grow};
 use super::members::Members;
 use super::state::State;
 use ac_util::error::BuildError;
 use ac_util::patterns::Patterns;
-use ac_util::primitives::{PatternID, StateID};
+use ac_util::primitives::PatternID;
 use ac_util::search::MatchKind;
 use std::alloc::Allocator;
 use std::rc::Rc;
@@ -31,7 +31,7 @@ impl Builder {
         let patterns = Patterns::new(alloc.clone()?, patterns)?;
         let patterns = Rc::new(alloc.clone()?, patterns)?;
         let kind = MatchKind::Standard;
-        let whole = grow(alloc, patterns.as_ref(), kind, self.fold)?;
+        let whole = grow_of(alloc, patterns.as_ref(), kind, self.fold)?;
         Ok(NFA {
             patterns,
             kind,
@@ -53,26 +53,12 @@ struct Whole<A: Allocator> {
     states: Vec<State, A>,
 }
 
-fn grow<A: Allocator + Clone>(alloc: A, patterns: &Patterns<A>, kind: MatchKind, fold: bool) -> Result<Whole<A>, BuildError> {
+fn grow_of<A: Allocator + Clone>(alloc: A, patterns: &Patterns<A>, kind: MatchKind, fold: bool) -> Result<Whole<A>, BuildError> {
     let members = Members::sorted(alloc.clone()?, patterns, fold)?;
     let mut order = Vec::new(alloc.clone()?);
     for place in 0..members.len() {
         order.push(members.number(place))?;
     }
-    let mut growth = Growth { labels: Vec::new(alloc.clone()?), queue: Vec::new(alloc.clone()?) };
-    let mut states = Vec::new(alloc);
-    states.push(State::dead())?;
-    states.push(State::dead())?;
-    let root = Pending { from: 0, to: members.len() as u32, depth: 0, fail: StateID::must(2) };
-    let start = branch(&members, kind, &states, &mut growth, root)?;
-    states.push(start)?;
-    states.push(start)?;
-    for at in 0..StateID::LIMIT {
-        if at == growth.queue.len() { break; }
-        let pending = growth.queue[at];
-        let state = branch(&members, kind, &states, &mut growth, pending)?;
-        states.push(state)?;
-    }
-    let Growth { labels, queue: _ } = growth;
+    let Grown { labels, states } = grow(alloc, &members, kind)?;
     Ok(Whole { order, labels, states })
 }

@@ -4,13 +4,14 @@
 //! and then each run of members with one more byte in common is a child. So each byte of each pattern is looked at a few times,
 //! and nothing is moved. A child's failure target is a step from that of its parent; along a pattern each byte makes the target
 //! at most one longer and each failure link shorter, so n bytes of patterns take at most 2n looks.
-ghost use Rattle.std.specs.Prelude.{◌≡◌, ◌≢◌, ◌⊎◌, ◌++◌, ◌∷◌, [], ℕ, ◌+◌, ◌<◌, ◌≤◌, List, MatchResult, None, Some, length, slice_get};
+ghost use Rattle.std.specs.Prelude.{◌≡◌, ◌≢◌, ◌⊎◌, ◌++◌, ◌∷◌, [], ℕ, ◌+◌, ◌<◌, ◌≤◌, Bool, List, MatchResult, None, Some, length, map, slice_get};
 ghost use Rattle.ac_util.specs.declared.error.BuildError.TheVariants.{Memory, StateIdOverflow};
 ghost use Rattle.ac_util.specs.declared.primitives.TheConstants.{GREATEST};
 ghost use Rattle.ac_util.specs.Node.{is_leftmost as is_leftmost_of};
+ghost use Rattle.ac_util.specs.Sameness.{plain};
 ghost use Rattle.ac_automaton.specs.declared.nfa.noncontiguous.growth.Pending.{Pending};
-ghost use Rattle.ac_automaton.specs.Growths.{HasBranched, HasChild, IsReady, IsRefused, LinkIsDue, nodes_of, word};
-ghost use Rattle.ac_automaton.specs.Members.{byte_at};
+ghost use Rattle.ac_automaton.specs.Growths.{HasBranched, HasChild, IsReady, IsRefused, IsWhole, LinkIsDue, Waits, nodes_of, word};
+ghost use Rattle.ac_automaton.specs.Members.{IsOrder, byte_at, numbers};
 ghost use Rattle.ac_automaton.specs.Tries.{AreStates, Links, Meaning, miss};
 
 use super::members::Members;
@@ -65,6 +66,69 @@ impl<A: Allocator> Growth<A> {
         self.labels.push(label)?;
         self.queue.push(pending)?;
         Ok(())
+    }
+}
+
+/// The labels and the states of a whole trie.
+#[derive(Drop)]
+pub(crate) struct Grown<A: Allocator> {
+    pub(crate) labels: Vec<u8, A>,
+    pub(crate) states: Vec<State, A>,
+}
+
+/// Grows a whole trie.
+///
+/// # Errors
+/// `StateIdOverflow` where there are more nodes than state numbers, `Memory` where a request for memory is refused.
+pub(crate) fn grow<A: Allocator + Clone, B: Allocator>(
+    alloc: A,
+    members: &Members<'_, B>,
+    kind: MatchKind,
+) -> Result<Grown<A>, BuildError>
+    requires order { (texts : List (List ℕ)) × (fold : Bool) × IsOrder kind (map (plain fold) texts) members.now }
+    ensures { (texts : List (List ℕ)) (fold : Bool) → IsOrder kind (map (plain fold) texts) members.now
+        → MatchResult result
+        (λ grown. IsWhole texts fold kind (numbers members.now) grown.labels.items grown.states.items)
+        (IsRefused kind (map (plain fold) texts)) }
+{
+    let mut growth = Growth {
+        labels: Vec::new(alloc.clone()?),
+        queue: Vec::new(alloc.clone()?),
+    };
+    let mut states = Vec::new(alloc);
+    states.push(State::dead())?;
+    states.push(State::dead())?;
+    let start = branch(members, kind, &states, &mut growth, start(members, kind))?;
+    states.push(start)?;
+    states.push(start)?;
+    let mut at = 0;
+    while at < growth.queue.len() {
+        let pending = growth.queue[at];
+        let state = branch(members, kind, &states, &mut growth, pending)?;
+        states.push(state)?;
+        at += 1;
+    }
+    Ok(Grown {
+        labels: growth.labels,
+        states,
+    })
+}
+
+/// Returns the start, which waits for its children.
+fn start<B: Allocator>(members: &Members<'_, B>, kind: MatchKind) -> Pending
+    ensures waits { (patterns : List (List ℕ)) → IsOrder kind patterns members.now → Waits kind patterns members.now [] 2 result }
+    ensures depth { result.depth ≡ 0 }
+{
+    let fail = if is_leftmost(kind) && members.len() > 0 && members.byte(0, 0).is_none() {
+        0
+    } else {
+        2
+    };
+    Pending {
+        from: 0,
+        to: members.len() as u32,
+        depth: 0,
+        fail: StateID::must(fail),
     }
 }
 

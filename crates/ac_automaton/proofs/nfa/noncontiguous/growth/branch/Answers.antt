@@ -8,6 +8,7 @@ use Rattle.ac_automaton.specs.Growths.{IsRefused, HasBranched, grown_meaning, wo
 use Rattle.ac_automaton.specs.Members.{byte_at}
 use Rattle.ac_automaton.proofs.Branched.{has-branched, link-due, whole_state}
 use Rattle.ac_automaton.proofs.Branching.{IsBranching, branching-begins, branching-goes_on, child-deep, goes-on, has-child}
+use Rattle.ac_automaton.proofs.Places.{refused-by}
 use Rattle.ac_automaton.proofs.StateCount.{refused}
 use Rattle.ac_automaton.proofs.nfa.noncontiguous.growth.branch.Goals as goal
 
@@ -56,11 +57,6 @@ pub push-requires : goal.push-requires
 push-requires g c =
     let ready = c.requires.ready in
     record { few = (c.loop-place.invariant ready.0 ready.1).grown.few }
-
-refused-by : {T : Type 0} (r : Result T BuildError) (e : BuildError) (P : T → Type 0) (Q : BuildError → Type 0)
-    → IsErrAnd r (λ y. y ≡ e) → Q e → MatchResult r P Q
-refused-by (Ok x) e P Q is q = absurd is
-refused-by (Err y) e P Q is q = subst Q (sym is) q
 
 pub returns-in_err-push : goal.returns-in_err-push
 returns-in_err-push g c = λ patterns ready.

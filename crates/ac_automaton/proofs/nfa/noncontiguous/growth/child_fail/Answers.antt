@@ -4,30 +4,24 @@ use Rattle.std.proofs.lemmas.Bool.{false≢true}
 use Rattle.ac_util.specs.Node.{Node, is_leftmost}
 use Rattle.ac_automaton.specs.Growths.{grown_meaning, nodes_of}
 use Rattle.ac_automaton.specs.Members.{byte_at}
+use Rattle.ac_automaton.proofs.Places.{None-tested, Some-tested}
 use Rattle.ac_automaton.proofs.ChildFails.{fail-own, fail-start, fail-step, fail-state}
 use Rattle.ac_automaton.proofs.nfa.noncontiguous.growth.child_fail.Goals as goal
 use Rattle.ac_automaton.proofs.nfa.noncontiguous.growth.child_fail.Goals.{else-is_leftmost-via-then-is_leftmost+else-is_none, else-is_leftmost-via-else-is_leftmost}
-
-none-from : (r : Option ℕ) (t : Bool) → is_some r ≡ not t → t ≡ true → r ≡ None
-none-from None t e is = refl
-none-from (Some x) t e is = absurd (false≢true (sym (e ∙ ap not is)))
-
-some-from : (r : Option ℕ) (t : Bool) → is_some r ≡ not t → t ≡ false → r ≢ None
-some-from r t e not' none = false≢true (ap is_some (sym none) ∙ e ∙ ap not not')
 
 pub returns-then-is_none : goal.returns-then-is_none
 returns-then-is_none g c = λ patterns queue h.
     ap (slice_get (nodes_of c.args.members.now queue)) c.must.ensures.value
     ∙ (fail-own c.args.kind patterns c.args.members.now c.args.states.now c.args.labels.now queue c.args.pending.now c.args.place c.args.byte h
     (sym c.is_leftmost.ensures ∙ c.if-is_leftmost.true)
-    (sym c.byte.ensures.value ∙ none-from c.byte.result c.is_none.result c.is_none.ensures c.if-is_none.true))
+    (sym c.byte.ensures.value ∙ None-tested c.byte.result c.is_none.result c.is_none.ensures c.if-is_none.true))
 
 pub returns-then-pending-eq0 : goal.returns-then-pending-eq0
 returns-then-pending-eq0 g c = λ patterns queue h.
     fail-start c.args.kind patterns c.args.members.now c.args.states.now c.args.labels.now queue c.args.pending.now c.args.place c.args.byte h
     (λ leftmost. elim c.else-is_leftmost.branch [
       | else-is_leftmost-via-then-is_leftmost+else-is_none w ↦
-          λ none. some-from w.byte.result w.is_none.result w.is_none.ensures w.if-is_none.false (w.byte.ensures.value ∙ none)
+          λ none. Some-tested w.byte.result w.is_none.result w.is_none.ensures w.if-is_none.false (w.byte.ensures.value ∙ none)
       | else-is_leftmost-via-else-is_leftmost w ↦ absurd (false≢true (sym w.if-is_leftmost.false ∙ c.is_leftmost.ensures ∙ leftmost))
     ])
     c.if-pending-eq0.true
@@ -41,7 +35,7 @@ returns g c = λ patterns queue h.
     (fail-step c.args.kind patterns c.args.members.now c.args.states.now c.args.labels.now queue c.args.pending.now c.args.place c.args.byte h
     (λ leftmost. elim c.else-is_leftmost.branch [
       | else-is_leftmost-via-then-is_leftmost+else-is_none w ↦
-          λ none. some-from w.byte.result w.is_none.result w.is_none.ensures w.if-is_none.false (w.byte.ensures.value ∙ none)
+          λ none. Some-tested w.byte.result w.is_none.result w.is_none.ensures w.if-is_none.false (w.byte.ensures.value ∙ none)
       | else-is_leftmost-via-else-is_leftmost w ↦ absurd (false≢true (sym w.if-is_leftmost.false ∙ c.is_leftmost.ensures ∙ leftmost))
     ])
     deep)

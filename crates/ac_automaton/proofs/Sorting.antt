@@ -1,0 +1,227 @@
+-- The patterns listed by number, and what a sort of them gives.
+use Rattle.std.proofs.Common.{◌≡◌, ◌≢◌, ◌↔◌, ℕ, zero, suc, ◌+◌, ◌<◌, Bool, true, false, List, [], ◌∷◌, ◌++◌, map, length, take, get_or, inl, inr, refl, ap, sym, ◌∙◌, subst, arith, Some, add-one}
+use Rattle.std.specs.Prelude.{nat_eq, slice_get, filter, All, AllPairs, Contains}
+use Rattle.std.specs.List.{range_with_len}
+use Rattle.std.specs.Fn.{Called}
+use Rattle.std.specs.List.Sorted.{IsPermutation, IsSortedBy, IsSortedByClosure}
+use Rattle.std.specs.Cmp.{IsTotalOrder}
+use Rattle.std.specs.Cmp.Lexicographic.{slice_cmp}
+use Rattle.std.specs.Ordering.{is_gt, is_lt, nat_cmp, ordering_reverse, ordering_then}
+use Rattle.std.specs.declared.cmp.Ordering.{Ordering}
+use Rattle.std.specs.declared.cmp.Ordering.TheVariants.{Less, Equal, Greater}
+use Rattle.std.proofs.lemmas.Bool.{false≢true}
+use Rattle.std.proofs.lemmas.Bool.Decides.{Decides-eqb}
+use Rattle.std.proofs.lemmas.Cmp.{ranked, nat_cmp_total, nat_eq_equiv, nat_list_cmp_total, on_total, then_total}
+use Rattle.std.proofs.lemmas.Fn.{always_returns_same}
+use Rattle.std.proofs.lemmas.List.{get_or-map, length-map, map-append, take_more}
+use Rattle.std.proofs.lemmas.List.Elements.{All-map, All-push, All-same}
+use Rattle.std.proofs.lemmas.List.FromFn.{get_or-range_with_len, length-range_with_len}
+use Rattle.std.proofs.lemmas.List.Sorted.{All-permutation, Contains-permutation, IsPermutation-map, IsPermutation-sym, ranks_by, sorted_far}
+use Rattle.std.proofs.lemmas.Map.Keys.{IsDistinct-IsPermutation}
+use Rattle.std.proofs.lemmas.Map.Lookups.{exact_bytes, exact_unsigned}
+use Rattle.std.proofs.lemmas.Map.Made.{AllPairs-from_IsDistinct, IsDistinct-from_AllPairs}
+use Rattle.std.proofs.lemmas.Option.{slice_get_within, get_or_from_slice_get}
+use denote.Param.Members.{Mut}
+use denote.Ref.{Bor}
+use Rattle.ac_util.specs.declared.search.MatchKind.TheVariants.{Standard}
+use Rattle.ac_util.specs.Node.{participants}
+use Rattle.ac_util.specs.Sameness.{plain}
+use Rattle.ac_util.specs.Search.{pattern_of}
+use Rattle.ac_util.proofs.Lists.{IsOrdered, IsOrdered-map, IsOrdered-range, AllPairs-from_IsOrdered}
+use Rattle.ac_automaton.specs.declared.nfa.noncontiguous.members.Member.{Member}
+use Rattle.ac_automaton.specs.Members.{Keyed, Precedes, IsOrder, AreListed, compared, keyed, numbers}
+use Rattle.ac_automaton.proofs.Counting.{IsOrdered-from_AllPairs}
+
+-- the view has the number of the pattern that is stored at a place
+pub number_at : (fold : Bool) (members : List Member) (place : ℕ) (m : Member) → place < length members
+    → m ≡ get_or members place m → slice_get (numbers (keyed fold members)) place ≡ Some m.number
+number_at fold [] place m within is = absurd (omega arith)
+number_at fold (x ∷ members) zero m within is = ap (λ (w : Member). Some w.number) (sym is)
+number_at fold (x ∷ members) (suc place) m within is = number_at fold members place m (omega arith) is
+
+-- one element more of a list of which f gives the first elements
+pub map-push : {X Y : Type 0} (f : X → Y) (all : List Y) (xs ys : List X) (n : ℕ) (x : X) → ys ≡ xs ++ x ∷ []
+    → map f xs ≡ take n all → slice_get all n ≡ Some (f x) → map f ys ≡ take (n + 1) all
+map-push f all xs ys n x is before at =
+    let within = slice_get_within all n (f x) at in
+    ap (map f) is ∙ map-append f xs (x ∷ [])
+    ∙ ap (λ w. w ++ f x ∷ []) before
+    ∙ ap (λ w. take n all ++ w ∷ []) (sym (get_or_from_slice_get all n (f x) (f x) at))
+    ∙ sym (take_more all n (f x) within)
+
+-- numbers from a on, and one more
+range-push : (a n : ℕ) → range_with_len a (suc n) ≡ range_with_len a n ++ (a + n) ∷ []
+range-push a zero = ap (λ w. w ∷ []) (plus-zero a)
+  where
+    plus-zero : (a : ℕ) → a ≡ a + 0
+    plus-zero a = omega arith
+range-push a (suc n) =
+    ap (λ w. a ∷ w) (range-push (a + 1) n) ∙ ap (λ w. a ∷ range_with_len (a + 1) n ++ w ∷ []) (plus-suc a n)
+  where
+    plus-suc : (a n : ℕ) → a + 1 + n ≡ a + suc n
+    plus-suc a n = omega arith
+
+-- one element more of a list that f numbers
+pub map-range-push : {X : Type 0} (f : X → ℕ) (xs ys : List X) (n : ℕ) (x : X) → ys ≡ xs ++ x ∷ []
+    → map f xs ≡ range_with_len 0 n → f x ≡ n → map f ys ≡ range_with_len 0 (n + 1)
+map-range-push f xs ys n x is before at =
+    ap (map f) is ∙ map-append f xs (x ∷ [])
+    ∙ ap (λ w. w ++ f x ∷ []) before
+    ∙ ap (λ w. range_with_len 0 n ++ w ∷ []) (at ∙ zero-plus n)
+    ∙ sym (range-push 0 n)
+    ∙ ap (range_with_len 0) (sym (add-one n))
+  where
+    zero-plus : (n : ℕ) → n ≡ 0 + n
+    zero-plus n = omega arith
+
+-- a fact of each element, and of one more
+pub All-pushed : {X : Type 0} (P : X → Type 0) (xs ys : List X) (x : X) → ys ≡ xs ++ x ∷ [] → All P xs → P x → All P ys
+All-pushed P xs ys x is all here = All-same P ys (xs ++ x ∷ []) is (All-push P xs x all here)
+
+-- the comparison is a total order
+pub compared-total : (fold : Bool) → IsTotalOrder (compared fold)
+compared-total fold =
+    then_total (on_total (λ (m : Member). plain fold m.bytes.now) nat_list_cmp_total)
+    (on_total (λ (m : Member). m.number) nat_cmp_total)
+
+-- what a sort ensures whose closure answers by the comparison
+pub IsSortedBy-from_calls : (fold : Bool) {F : Type 0} {g : Mut F (Bor Member × (Bor Member × Unit {0})) Ordering} {f : F}
+    (members : List Member) → IsSortedByClosure g f members
+    → ((a : Bor Member × (Bor Member × Unit {0})) (r : Ordering) (f' : F) → Called g f a r f'
+    → (r ≡ compared fold a.0.now a.1.0.now) × (f' ≡ f))
+    → IsSortedBy (λ a b. is_lt (compared fold a b)) members
+IsSortedBy-from_calls fold {g = g} {f = f} members up answers =
+    up (λ a b. is_lt (compared fold a b)) (ranks_by (compared-total fold) (λ m. m))
+    (always_returns_same g (λ a r. is_lt r ≡ is_lt (compared fold a.0.now a.1.0.now)) f
+    (λ a r f' called. (ap is_lt (answers a r f' called).0, (answers a r f' called).1)))
+
+-- the greater of two is the lesser the other way round
+is_gt-reverse : (o : Ordering) → is_gt (ordering_reverse o) ≡ is_lt o
+is_gt-reverse Less = refl
+is_gt-reverse Equal = refl
+is_gt-reverse Greater = refl
+
+-- of two keys that compare as no greater and differ by number, the first comes before the second
+Precedes-by_parts : (a b : Keyed) (o p : Ordering) → slice_cmp nat_cmp a.key b.key ≡ o → nat_cmp a.number b.number ≡ p
+    → is_gt (ordering_then o p) ≡ false → a.number ≢ b.number → Precedes a b
+Precedes-by_parts a b Less p bytes numbers le apart = inl bytes
+Precedes-by_parts a b Equal Less bytes numbers le apart =
+    inr (exact_bytes a.key b.key bytes, ranked a.number b.number Less (sym numbers))
+Precedes-by_parts a b Equal Equal bytes numbers le apart = absurd (apart (exact_unsigned a.number b.number numbers))
+Precedes-by_parts a b Equal Greater bytes numbers le apart = absurd (false≢true (sym le))
+Precedes-by_parts a b Greater p bytes numbers le apart = absurd (false≢true (sym le))
+
+-- a is no greater than b, and has another number
+record StandsBefore (fold : Bool) (a b : Member) : Type 0 where
+  no_greater : is_lt (compared fold b a) ≡ false
+  apart : a.number ≢ b.number
+
+-- such members precede each other in the view
+Precedes-from_StandsBefore : (fold : Bool) (a b : Member) → StandsBefore fold a b
+    → Precedes (record { key = plain fold a.bytes.now; number = a.number }) (record { key = plain fold b.bytes.now; number = b.number })
+Precedes-from_StandsBefore fold a b s =
+    Precedes-by_parts (record { key = plain fold a.bytes.now; number = a.number }) (record { key = plain fold b.bytes.now; number = b.number })
+    (slice_cmp nat_cmp (plain fold a.bytes.now) (plain fold b.bytes.now)) (nat_cmp a.number b.number) refl refl
+    (ap is_gt ((compared-total fold).antisymm a b) ∙ is_gt-reverse (compared fold b a) ∙ s.no_greater) s.apart
+
+-- a filter that lets all pass keeps the list
+all_kept : (xs : List ℕ) → filter (λ _. true) xs ≡ xs
+all_kept [] = refl
+all_kept (x ∷ xs) = ap (λ w. x ∷ w) (all_kept xs)
+
+-- under Standard all patterns take part
+pub participants-Standard : (fold : Bool) (patterns : List (List ℕ))
+    → participants Standard (map (plain fold) patterns) ≡ range_with_len 0 (length patterns)
+participants-Standard fold patterns =
+    all_kept (range_with_len 0 (length (map (plain fold) patterns))) ∙ ap (range_with_len 0) (length-map patterns (plain fold))
+
+-- the view has the numbers of the stored patterns
+numbers-keyed : (fold : Bool) (members : List Member) → numbers (keyed fold members) ≡ map (λ m. m.number) members
+numbers-keyed fold [] = refl
+numbers-keyed fold (m ∷ members) = ap (λ w. m.number ∷ w) (numbers-keyed fold members)
+
+-- a weaker order of the same elements
+IsOrdered-weaker : {X : Type 0} (R S : X → X → Type 0) → ((x y : X) → R x y → S x y) → (xs : List X) → IsOrdered R xs → IsOrdered S xs
+IsOrdered-weaker R S weaker [] o = tt
+IsOrdered-weaker R S weaker (x ∷ xs) o = ((λ y h. weaker x y (o.0 y h)), IsOrdered-weaker R S weaker xs o.1)
+
+module _ (fold : Bool) (patterns : List (List ℕ)) (listed : List Member) (are : AreListed patterns listed) where
+  abbrev number_of : Member → ℕ
+  number_of m = m.number
+
+  abbrev keyed_one : Member → Keyed
+  keyed_one m = record { key = plain fold m.bytes.now; number = m.number }
+
+  -- each is the pattern of its number
+  listed-named : All (λ m. plain fold m.bytes.now ≡ pattern_of (map (plain fold) patterns) m.number) listed
+  listed-named k d within =
+      let long = ap length are.numbers ∙ length-range_with_len 0 (length patterns) in
+      let same = length-map listed number_of in
+      let below : k < length patterns = omega arith in
+      let number : (get_or listed k d).number ≡ k =
+      sym (get_or-map number_of listed k d d.number within) ∙ ap (λ w. get_or w k d.number) are.numbers
+      ∙ get_or-range_with_len 0 (length patterns) k d.number below ∙ zero-plus k in
+      let bytes : (get_or listed k d).bytes.now ≡ get_or patterns k d.bytes.now =
+      sym (get_or-map (λ m. m.bytes.now) listed k d d.bytes.now within)
+      ∙ ap (λ w. get_or w k d.bytes.now) are.bytes in
+      ap (plain fold) bytes ∙ sym (get_or-map (plain fold) patterns k d.bytes.now [] below)
+      ∙ ap (pattern_of (map (plain fold) patterns)) (sym number)
+    where
+      zero-plus : (n : ℕ) → 0 + n ≡ n
+      zero-plus n = omega arith
+
+  -- the listed numbers differ
+  listed-apart : AllPairs (λ x y. x ≢ y) (map number_of listed)
+  listed-apart =
+      let range = range_with_len 0 (length patterns) in
+      subst (AllPairs (λ (x y : ℕ). x ≢ y)) (sym are.numbers)
+      (AllPairs-from_IsOrdered (λ x y. x ≢ y) range
+      (IsOrdered-weaker (λ x y. x < y) (λ x y. x ≢ y) (λ x y less. omega arith) range (IsOrdered-range 0 (length patterns))))
+
+  module _ (sorted : List Member) (moved : IsPermutation listed sorted) where
+    numbers-moved : IsPermutation (map number_of listed) (map number_of sorted)
+    numbers-moved = IsPermutation-map number_of listed sorted moved
+
+    -- a sort keeps the numbers, so they still differ
+    sorted-apart : AllPairs (λ a b. a.number ≢ b.number) sorted
+    sorted-apart i j d below within =
+        let before = IsDistinct-from_AllPairs Decides-eqb (map number_of listed) listed-apart in
+        let after = AllPairs-from_IsDistinct Decides-eqb (map number_of sorted)
+        (IsDistinct-IsPermutation nat_eq (λ x y. nat_eq_equiv.symm x y) (map number_of listed) (map number_of sorted)
+        numbers-moved before) in
+        let long = length-map sorted number_of in
+        let apart = after i j d.number below (omega arith) in
+        λ same. apart (get_or-map number_of sorted i d d.number (omega arith) ∙ same
+        ∙ sym (get_or-map number_of sorted j d d.number within))
+
+    -- and they are those of the patterns that take part
+    numbers-kept : (n : ℕ)
+        → Contains (numbers (keyed fold sorted)) n ↔ Contains (participants Standard (map (plain fold) patterns)) n
+    numbers-kept n =
+        let is = are.numbers ∙ sym (participants-Standard fold patterns) in (
+          (λ h. subst (λ w. Contains w n) is
+              (Contains-permutation (map number_of sorted) (map number_of listed) n
+              (IsPermutation-sym (map number_of listed) (map number_of sorted) numbers-moved)
+              (subst (λ w. Contains w n) (numbers-keyed fold sorted) h))),
+          (λ h. subst (λ w. Contains w n) (sym (numbers-keyed fold sorted))
+              (Contains-permutation (map number_of listed) (map number_of sorted) n numbers-moved
+              (subst (λ w. Contains w n) (sym is) h))),
+        )
+
+    -- sorted by the comparison they stand in order
+    pub IsOrder-from_sorted : IsSortedBy (λ a b. is_lt (compared fold a b)) sorted
+        → IsOrder Standard (map (plain fold) patterns) (keyed fold sorted)
+    IsOrder-from_sorted up =
+        let less = λ (a b : Member). is_lt (compared fold a b) in
+        let far = sorted_far less (ranks_by (compared-total fold) (λ m. m)) sorted up in
+        let before = IsOrdered-from_AllPairs (StandsBefore fold) sorted (λ i j d below within. record {
+          no_greater = far i j d (omega arith) within;
+          apart = sorted-apart i j d below within;
+        }) in record {
+          ascending = AllPairs-from_IsOrdered Precedes (keyed fold sorted)
+              (IsOrdered-map (StandsBefore fold) Precedes keyed_one sorted (Precedes-from_StandsBefore fold) before);
+          named = All-map (λ m. m.key ≡ pattern_of (map (plain fold) patterns) m.number) keyed_one sorted
+              (All-permutation (λ m. plain fold m.bytes.now ≡ pattern_of (map (plain fold) patterns) m.number) listed sorted
+              moved listed-named);
+          lists = numbers-kept;
+        }

@@ -1,0 +1,95 @@
+-- The start of a trie: all members begin with the empty string.
+use Rattle.std.proofs.Common.{◌≡◌, ◌≢◌, ℕ, ◌<◌, ◌≤◌, Bool, true, false, ◌&&◌, cond, List, [], ◌∷◌, length, inl, inr, refl, ap, sym, ◌∙◌, subst, arith, Option, Some, None}
+use Rattle.std.specs.Prelude.{nat_eq, bytes_eq, slice_get}
+use Rattle.std.specs.List.{starts_with}
+use Rattle.std.proofs.lemmas.Bool.{cases_Bool, cases_lt, cond-true, cond-false, false≢true, false_from_ne_true}
+use Rattle.ac_util.specs.declared.search.MatchKind.{MatchKind}
+use Rattle.ac_util.specs.Matches.{equal_to}
+use Rattle.ac_util.specs.Node.{Node, begins_with_pattern, is_leftmost, participants}
+use Rattle.ac_util.specs.Search.{pattern_of}
+use Rattle.ac_util.proofs.Fronts.{starts_with-length}
+use Rattle.ac_util.proofs.Lists.{IsIn, IsIn-from_filter, nil-from_none, none-from_nil}
+use Rattle.ac_util.proofs.Participants.{IsIn-equal_to, equal_to-none_begins, leader, leader-takes_part}
+use Rattle.ac_automaton.specs.declared.nfa.noncontiguous.growth.Pending.{Pending}
+use Rattle.ac_automaton.specs.Growths.{IsRangeOf, Waits}
+use Rattle.ac_automaton.specs.Members.{Keyed, IsOrder, byte_at, key_at}
+use Rattle.ac_automaton.specs.Tries.{miss}
+use Rattle.ac_automaton.proofs.Ranges.{own-first, own-none, place-at}
+
+no-bytes : (w : List ℕ) → length w ≤ 0 → w ≡ []
+no-bytes [] l = refl
+no-bytes (x ∷ w) l = absurd (omega arith)
+
+module _ (kind : MatchKind) (patterns : List (List ℕ)) (members : List Keyed) (order : IsOrder kind patterns members) where
+  all-range : IsRangeOf members [] 0 (length members)
+  all-range = record {
+    ordered = omega arith;
+    within = omega arith;
+    begins = λ k l. ((λ in'. refl), (λ h. (omega arith, l)));
+  }
+
+  -- a pattern that is empty and takes part is there exactly if some pattern is empty
+  begins-own : begins_with_pattern patterns [] ≡ true → equal_to kind patterns [] ≢ []
+  begins-own h none =
+      let l = leader patterns [] h in
+      none-from_nil l.0 (equal_to kind patterns []) none
+      (IsIn-equal_to kind patterns [] l.0 (record {
+        numbered = l.1.fronts.numbered;
+        takes_part = leader-takes_part patterns kind [] l.0 l.1;
+        same = no-bytes (pattern_of patterns l.0) (starts_with-length [] (pattern_of patterns l.0) l.1.fronts.front);
+      }))
+
+  own-begins : equal_to kind patterns [] ≢ [] → begins_with_pattern patterns [] ≡ true
+  own-begins some = elim (cases_Bool (begins_with_pattern patterns [])) [
+    | inl t ↦ t
+    | inr f ↦ absurd (some (equal_to-none_begins kind patterns [] f))
+  ]
+
+  -- under a leftmost kind an empty pattern lets no match start later
+  miss-dead : is_leftmost kind ≡ true → 0 < length members → byte_at members 0 0 ≡ None → miss kind patterns (Some []) ≡ None
+  miss-dead leftmost some ends =
+      let begins = own-begins (own-first kind patterns members order [] 0 (length members) all-range some ends) in
+      cond-true (is_leftmost kind && begins_with_pattern patterns []) None (Some [])
+      (ap (λ (t : Bool). t && begins_with_pattern patterns []) leftmost ∙ begins)
+
+  none-begins : (0 < length members → byte_at members 0 0 ≢ None) → begins_with_pattern patterns [] ≡ false
+  none-begins goes_on = false_from_ne_true _ (λ t. begins-own t (elim (cases_lt 0 (length members)) [
+    | inl some ↦ own-none kind patterns members order [] 0 (length members) all-range (goes_on some)
+    | inr none ↦ nil-from_none (equal_to kind patterns []) (λ n h.
+        let s = place-at kind patterns members order n (IsIn-from_filter (λ m. bytes_eq (pattern_of patterns m) []) n (participants kind patterns) h).0 in
+        let w = s.1.within in
+        absurd (omega arith))
+  ]))
+
+  miss-stays : (is_leftmost kind ≡ true → 0 < length members → byte_at members 0 0 ≢ None) → miss kind patterns (Some []) ≡ Some []
+  miss-stays goes_on = elim (cases_Bool (is_leftmost kind)) [
+    | inl leftmost ↦
+        cond-false (is_leftmost kind && begins_with_pattern patterns []) None (Some [])
+        (ap (λ (t : Bool). t && begins_with_pattern patterns []) leftmost ∙ none-begins (goes_on leftmost))
+    | inr free ↦
+        cond-false (is_leftmost kind && begins_with_pattern patterns []) None (Some [])
+        (ap (λ (t : Bool). t && begins_with_pattern patterns []) free)
+  ]
+
+  -- the start as it waits for its children
+  abbrev pub start_pending : ℕ → Pending
+  start_pending fail = record { from = 0; to = length members; depth = 0; fail = fail }
+
+  waits : (fail : ℕ) → slice_get (None ∷ None ∷ Some [] ∷ Some [] ∷ []) fail ≡ Some (miss kind patterns (Some []))
+      → Waits kind patterns members [] 2 (start_pending fail)
+  waits fail e = record {
+    deep = omega arith;
+    range = all-range;
+    fails = e;
+    back = λ l. absurd (omega arith);
+    some = λ l. absurd (omega arith);
+    inner = λ l. absurd (omega arith);
+  }
+
+  pub waits-dead : is_leftmost kind ≡ true → 0 < length members → byte_at members 0 0 ≡ None
+      → Waits kind patterns members [] 2 (start_pending 0)
+  waits-dead leftmost some ends = waits 0 (ap (λ (v : Node). Some v) (sym (miss-dead leftmost some ends)))
+
+  pub waits-start : (is_leftmost kind ≡ true → 0 < length members → byte_at members 0 0 ≢ None)
+      → Waits kind patterns members [] 2 (start_pending 2)
+  waits-start goes_on = waits 2 (ap (λ (v : Node). Some v) (sym (miss-stays goes_on)))
