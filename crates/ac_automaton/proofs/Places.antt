@@ -2,7 +2,8 @@
 use Rattle.std.proofs.Common.{◌≡◌, ◌≢◌, Bool, true, false, not, ℕ, zero, suc, ◌+◌, ◌-◌, ◌<◌, ◌≤◌, List, [], ◌∷◌, ◌++◌, length, take, drop, ◌⊎◌, inl, inr, refl, ap, sym, ◌∙◌, subst, arith, Option, Some, None}
 use Rattle.std.specs.Prelude.{is_some, slice_get, slice_range, Result, Ok, Err, MatchResult, IsErrAnd}
 use Rattle.std.proofs.lemmas.Bool.{false≢true}
-use Rattle.std.proofs.lemmas.Option.{slice_get_within, slice_get-get_or}
+use Rattle.std.proofs.lemmas.Option.{get_or_from_slice_get, slice_get_within}
+use Rattle.std.proofs.Math.Seq.{take-suc}
 use Rattle.ac_util.proofs.Lists.{IsIn, IsOrdered}
 
 -- an element stays at its place as the list grows
@@ -94,3 +95,10 @@ pub refused-by : {T E : Type 0} (r : Result T E) (e : E) (P : T → Type 0) (Q :
     → IsErrAnd r (λ y. y ≡ e) → Q e → MatchResult r P Q
 refused-by (Ok x) e P Q is q = absurd is
 refused-by (Err y) e P Q is q = subst Q (sym is) q
+
+-- one element more of a list
+pub take-next : {X : Type 0} (xs : List X) (i : ℕ) (x : X) → slice_get xs i ≡ Some x → take (i + 1) xs ≡ take i xs ++ x ∷ []
+take-next xs i x e =
+    ap (λ (n : ℕ). take n xs) (let next : i + 1 ≡ suc i = omega arith in next)
+    ∙ take-suc xs i x (slice_get_within xs i x e)
+    ∙ ap (λ y. take i xs ++ y ∷ []) (get_or_from_slice_get xs i x x e)

@@ -15,7 +15,8 @@ use Rattle.ac_automaton.specs.declared.nfa.noncontiguous.growth.Pending.{Pending
 use Rattle.ac_automaton.specs.declared.nfa.noncontiguous.state.State.{State}
 use Rattle.ac_util.specs.declared.error.BuildError.{BuildError}
 use Rattle.ac_util.specs.declared.error.BuildError.TheVariants.{Memory, StateIdOverflow}
-use Rattle.ac_automaton.specs.Growths.{IsGrown, IsRangeOf, IsReady, IsRefused, Waits, grown_meaning, nodes_of, word}
+use Rattle.ac_automaton.specs.Builds.{IsRefused}
+use Rattle.ac_automaton.specs.Growths.{IsGrown, IsRangeOf, IsReady, Waits, grown_meaning, nodes_of, word}
 use Rattle.ac_automaton.specs.Members.{Keyed, IsOrder, byte_at, key_at}
 use Rattle.ac_automaton.specs.Tries.{AreStates, labels_of, miss, state_at}
 use Rattle.ac_automaton.proofs.Branched.{held-is}

@@ -1,8 +1,6 @@
 -- A trie that is being built, breadth first: the states that are whole, and those that wait for their children.
 use Rattle.std.specs.Prelude.{◌≡◌, ◌↔◌, ◌⊎◌, ℕ, suc, ◌+◌, ◌-◌, ◌<◌, ◌≤◌, Bool, List, [], ◌∷◌, ◌++◌, ◌≢◌, nat_eq, true, map, length, take, slice_get, None, Some}
 use Rattle.std.specs.List.{starts_with}
-use Rattle.ac_util.specs.declared.error.BuildError.{BuildError}
-use Rattle.ac_util.specs.declared.error.BuildError.TheVariants.{Memory, StateIdOverflow}
 use Rattle.ac_util.specs.declared.primitives.TheConstants.{GREATEST}
 use Rattle.ac_util.specs.declared.search.MatchKind.{MatchKind}
 use Rattle.ac_util.specs.Node.{Node}
@@ -101,8 +99,3 @@ pub record IsWhole (texts : List (List ℕ)) (fold : Bool) (kind : MatchKind) (o
   pub nodes : List Node
   pub table : IsTable (trie_of texts fold kind order labels states) nodes
   pub few : state_count kind (map (plain fold) texts) ≤ GREATEST + 1
-
--- why a build is refused that is within the limits of patterns: for want of memory, or as there are too many states
-abbrev pub IsRefused : MatchKind → List (List ℕ) → BuildError → Type 0
-IsRefused kind patterns e =
-    (e ≡ Memory) ⊎ ((e ≡ StateIdOverflow GREATEST (GREATEST + 1)) × (GREATEST + 1 < state_count kind patterns))

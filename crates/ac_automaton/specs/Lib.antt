@@ -1,4 +1,5 @@
 pub mod Automata
+pub mod Builds
 pub mod Cores
 pub mod Growths
 pub mod Iterators

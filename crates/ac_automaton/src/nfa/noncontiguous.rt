@@ -1,14 +1,17 @@
 //! A trie with failure links: small, and quickly built.
-ghost use Rattle.std.specs.Prelude.{◌≡◌, List, ℕ};
+ghost use Rattle.std.specs.Prelude.{◌≡◌, Err, List, MatchOption, MatchResult, false, map, ℕ};
+ghost use Rattle.ac_util.specs.declared.search.MatchKind.TheVariants.{Standard};
+ghost use Rattle.ac_util.specs.Limits.{limit_refusal};
+ghost use Rattle.ac_automaton.specs.Builds.{IsBuilt, IsRefused, usual_settings};
 ghost use Rattle.std.proofs.Common.{inr, refl};
-ghost use Rattle.ac_util.specs.Sameness.{plain_byte as plain_byte_of};
+ghost use Rattle.ac_util.specs.Sameness.{plain, plain_byte as plain_byte_of};
 ghost use Rattle.ac_util.specs.Node.{Node};
 ghost use Rattle.ac_util.specs.Stream.{longest_len, shortest_len};
 ghost use Rattle.ac_automaton.specs.Tries.{IsTable, StandsFor, listed_within, stands-lists};
 ghost use Rattle.ac_automaton.specs.declared.nfa.noncontiguous.state.State.{State};
 
 use crate::automaton::Automaton;
-use ac_util::error::MatchError;
+use ac_util::error::{BuildError, MatchError};
 use ac_util::looks::Looks;
 use ac_util::patterns::Patterns;
 use ac_util::prefilter::Prefilter;
@@ -23,6 +26,7 @@ use std::rc::Rc;
 
 mod builder;
 pub(crate) mod growth;
+mod lengths;
 pub(crate) mod members;
 pub(crate) mod state;
 
@@ -60,6 +64,31 @@ impl<A: Allocator> Model for NFA<A> {
       shortest : n.shortest ≡ shortest_len n.patterns.value;
       longest : n.longest ≡ longest_len n.patterns.value;
     } };
+}
+
+impl<A: Allocator + Clone> NFA<A> {
+    /// Builds an automaton with the usual settings: `MatchKind::Standard`, and case counts.
+    ///
+    /// # Errors
+    /// As `Builder::build`.
+    pub fn new(alloc: A, patterns: &[&[u8]]) -> Result<NFA<A>, BuildError>
+        ensures { MatchOption (limit_refusal (map (λ p. p.now) patterns.now))
+            (MatchResult result
+            (λ nfa. IsBuilt usual_settings (map (λ p. p.now) patterns.now) nfa.built)
+            (IsRefused Standard (map (plain false) (map (λ p. p.now) patterns.now))))
+            (λ refusal. result ≡ Err refusal) }
+    {
+        Builder::new().build(alloc, patterns)
+    }
+}
+
+impl NFA {
+    /// Returns a builder with the usual settings.
+    pub fn builder() -> Builder
+        ensures { result ≡ usual_settings }
+    {
+        Builder::new()
+    }
 }
 
 impl<A: Allocator> NFA<A> {

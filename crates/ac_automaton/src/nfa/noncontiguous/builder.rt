@@ -1,43 +1,103 @@
 //! Builds of a trie with failure links.
+ghost use Rattle.std.specs.Prelude.{◌≡◌, Err, IfOk, MatchOption, MatchResult, map};
+ghost use Rattle.ac_util.specs.Limits.{limit_refusal};
+ghost use Rattle.ac_util.specs.Sameness.{plain};
+ghost use Rattle.ac_automaton.specs.Builds.{IsBuilt, IsRefused, usual_settings};
+ghost use Rattle.ac_automaton.specs.Growths.{IsWhole};
+ghost use Rattle.ac_automaton.specs.Members.{numbers};
+
 use super::NFA;
 use super::growth::{Grown, grow};
+use super::lengths::{longest_of, shortest_of};
 use super::members::Members;
 use super::state::State;
 use ac_util::error::BuildError;
 use ac_util::patterns::Patterns;
 use ac_util::primitives::PatternID;
 use ac_util::search::MatchKind;
-use std::alloc::Allocator;
+use std::alloc::{AllocError, Allocator};
+use std::marker::Model;
 use std::rc::Rc;
 
-/// Settings of a build.
-#[derive(Clone, Debug, Default, Drop)]
+/// The settings of a build. A build changes none of them, so after a refusal the builder can be used again.
+///
+/// This ports `nfa::noncontiguous::Builder`.
+#[derive(Clone, Copy, Debug)]
 pub struct Builder {
+    kind: MatchKind,
     fold: bool,
+}
+
+impl Model for Builder {
+    ghost use Rattle.ac_automaton.specs.Builds.{Settings};
+
+    ghost Value = { Settings };
+
+    ghost view = { λ b. record { kind = b.kind; fold = b.fold } };
+
+    ghost inverse = { λ v. record { kind = v.kind; fold = v.fold } };
+}
+
+impl Default for Builder {
+    ghost is_default = { λ b. b ≡ usual_settings };
+
+    fn default() -> Builder {
+        Builder::new()
+    }
 }
 
 impl Builder {
     /// Returns a builder with the usual settings: `MatchKind::Standard`, and case counts.
-    pub fn new() -> Builder {
-        Builder { fold: false }
+    pub fn new() -> Builder
+        ensures { result ≡ usual_settings }
+    {
+        Builder {
+            kind: MatchKind::Standard,
+            fold: false,
+        }
     }
 
-    /// Builds an automaton.
-    pub fn build<A: Allocator + Clone>(
-        &self,
-        alloc: A,
-        patterns: &[&[u8]],
-    ) -> Result<NFA<A>, BuildError> {
+    /// Sets which of the occurrences in a span a search answers. `Standard` unless set.
+    pub fn match_kind(&mut self, kind: MatchKind) -> &mut Builder
+        ensures value { result.now ≡ record self.old { kind = kind } }
+        ensures same { result.ghost_name ≡ self.entry.ghost_name }
+    {
+        self.kind = kind;
+        self
+    }
+
+    /// Sets whether the case of ASCII letters is ignored. It counts unless set.
+    pub fn ascii_case_insensitive(&mut self, yes: bool) -> &mut Builder
+        ensures value { result.now ≡ record self.old { fold = yes } }
+        ensures same { result.ghost_name ≡ self.entry.ghost_name }
+    {
+        self.fold = yes;
+        self
+    }
+
+    /// Builds an automaton over a list of patterns. An empty list is fine: nothing is then found.
+    ///
+    /// Time is linear in the bytes of the patterns but for the sort of the list, and so is memory.
+    ///
+    /// # Errors
+    /// `PatternIdOverflow` and `PatternTooLong` exactly where a limit is passed, before any memory is asked for.
+    /// Else `StateIdOverflow` only where there are more nodes than state numbers, and `Memory` where a request for
+    /// memory is refused.
+    pub fn build<A: Allocator + Clone>(&self, alloc: A, patterns: &[&[u8]]) -> Result<NFA<A>, BuildError>
+        ensures { MatchOption (limit_refusal (map (λ p. p.now) patterns.now))
+            (MatchResult result
+            (λ nfa. IsBuilt self.now (map (λ p. p.now) patterns.now) nfa.built)
+            (IsRefused self.now.kind (map (plain self.now.fold) (map (λ p. p.now) patterns.now))))
+            (λ refusal. result ≡ Err refusal) }
+    {
         let patterns = Patterns::new(alloc.clone()?, patterns)?;
-        let patterns = Rc::new(alloc.clone()?, patterns)?;
-        let kind = MatchKind::Standard;
-        let whole = grow_of(alloc, patterns.as_ref(), kind, self.fold)?;
+        let whole = whole_of(alloc.clone()?, &patterns, self.kind, self.fold)?;
         Ok(NFA {
-            patterns,
-            kind,
+            shortest: shortest_of(&patterns),
+            longest: longest_of(&patterns),
+            patterns: Rc::new(alloc, patterns)?,
+            kind: self.kind,
             fold: self.fold,
-            shortest: 0,
-            longest: 0,
             order: whole.order,
             labels: whole.labels,
             states: whole.states,
@@ -45,7 +105,7 @@ impl Builder {
     }
 }
 
-/// The lists of a trie.
+/// The lists of an automaton.
 #[derive(Drop)]
 struct Whole<A: Allocator> {
     order: Vec<PatternID, A>,
@@ -53,12 +113,40 @@ struct Whole<A: Allocator> {
     states: Vec<State, A>,
 }
 
-fn grow_of<A: Allocator + Clone>(alloc: A, patterns: &Patterns<A>, kind: MatchKind, fold: bool) -> Result<Whole<A>, BuildError> {
-    let members = Members::sorted(alloc.clone()?, patterns, fold)?;
-    let mut order = Vec::new(alloc.clone()?);
+/// Returns the lists of an automaton over these patterns.
+///
+/// # Errors
+/// `StateIdOverflow` where there are more nodes than state numbers, `Memory` where a request for memory is refused.
+fn whole_of<A: Allocator + Clone>(
+    alloc: A,
+    patterns: &Patterns<A>,
+    kind: MatchKind,
+    fold: bool,
+) -> Result<Whole<A>, BuildError>
+    ensures { MatchResult result
+        (λ whole. IsWhole patterns.now fold kind whole.order.items whole.labels.items whole.states.items)
+        (IsRefused kind (map (plain fold) patterns.now)) }
+{
+    let members = Members::of(alloc.clone()?, patterns, kind, fold)?;
+    let order = numbers_of(alloc.clone()?, &members)?;
+    let Grown { labels, states } = grow(alloc, &members, kind)?;
+    Ok(Whole {
+        order,
+        labels,
+        states,
+    })
+}
+
+/// Returns the numbers of the patterns that take part, in their order.
+///
+/// # Errors
+/// `AllocError` where a request for memory is refused.
+fn numbers_of<A: Allocator>(alloc: A, members: &Members<'_, A>) -> Result<Vec<PatternID, A>, AllocError>
+    ensures { IfOk result (λ order. order.items ≡ numbers members.now) }
+{
+    let mut order = Vec::new(alloc);
     for place in 0..members.len() {
         order.push(members.number(place))?;
     }
-    let Grown { labels, states } = grow(alloc, &members, kind)?;
-    Ok(Whole { order, labels, states })
+    Ok(order)
 }

@@ -10,7 +10,8 @@ ghost use Rattle.ac_util.specs.declared.primitives.TheConstants.{GREATEST};
 ghost use Rattle.ac_util.specs.Node.{is_leftmost as is_leftmost_of};
 ghost use Rattle.ac_util.specs.Sameness.{plain};
 ghost use Rattle.ac_automaton.specs.declared.nfa.noncontiguous.growth.Pending.{Pending};
-ghost use Rattle.ac_automaton.specs.Growths.{HasBranched, HasChild, IsReady, IsRefused, IsWhole, LinkIsDue, Waits, nodes_of, word};
+ghost use Rattle.ac_automaton.specs.Builds.{IsRefused};
+ghost use Rattle.ac_automaton.specs.Growths.{HasBranched, HasChild, IsReady, IsWhole, LinkIsDue, Waits, nodes_of, word};
 ghost use Rattle.ac_automaton.specs.Members.{IsOrder, byte_at, numbers};
 ghost use Rattle.ac_automaton.specs.Tries.{AreStates, Links, Meaning, miss};
 

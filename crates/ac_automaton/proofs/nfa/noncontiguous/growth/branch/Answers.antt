@@ -4,7 +4,8 @@ use Rattle.ac_util.specs.declared.error.BuildError.{BuildError}
 use Rattle.std.specs.Vec.{vec_len}
 use Rattle.ac_automaton.specs.declared.nfa.noncontiguous.growth.Pending.{Pending}
 use Rattle.ac_automaton.specs.declared.nfa.noncontiguous.state.State.{State}
-use Rattle.ac_automaton.specs.Growths.{IsRefused, HasBranched, grown_meaning, word}
+use Rattle.ac_automaton.specs.Builds.{IsRefused}
+use Rattle.ac_automaton.specs.Growths.{HasBranched, grown_meaning, word}
 use Rattle.ac_automaton.specs.Members.{byte_at}
 use Rattle.ac_automaton.proofs.Branched.{has-branched, link-due, whole_state}
 use Rattle.ac_automaton.proofs.Branching.{IsBranching, branching-begins, branching-goes_on, child-deep, goes-on, has-child}

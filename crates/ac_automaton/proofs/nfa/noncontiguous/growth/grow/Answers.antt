@@ -5,7 +5,8 @@ use Rattle.ac_util.specs.declared.error.BuildError.{BuildError}
 use Rattle.ac_util.specs.Sameness.{plain}
 use Rattle.ac_automaton.specs.declared.nfa.noncontiguous.growth.Pending.{Pending}
 use Rattle.ac_automaton.specs.declared.nfa.noncontiguous.state.State.{State}
-use Rattle.ac_automaton.specs.Growths.{HasBranched, IsReady, IsRefused}
+use Rattle.ac_automaton.specs.Builds.{IsRefused}
+use Rattle.ac_automaton.specs.Growths.{HasBranched, IsReady}
 use Rattle.ac_automaton.proofs.Places.{refused-by}
 use Rattle.ac_automaton.proofs.WholeTries.{IsGoing, first_states, going-on, going-ready, start-going, start-ready, whole-count, whole-table}
 use Rattle.ac_automaton.proofs.nfa.noncontiguous.growth.grow.Goals as goal

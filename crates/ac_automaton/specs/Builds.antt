@@ -1,0 +1,38 @@
+-- What a build of an automaton is asked for, and why it may be refused.
+use Rattle.std.specs.Prelude.{◌≡◌, ◌⊎◌, ℕ, ◌+◌, ◌<◌, ◌≤◌, Bool, false, List, map}
+use Rattle.ac_util.specs.declared.error.BuildError.{BuildError}
+use Rattle.ac_util.specs.declared.error.BuildError.TheVariants.{Memory, StateIdOverflow}
+use Rattle.ac_util.specs.declared.primitives.TheConstants.{GREATEST}
+use Rattle.ac_util.specs.declared.search.MatchKind.{MatchKind}
+use Rattle.ac_util.specs.declared.search.MatchKind.TheVariants.{Standard}
+use Rattle.ac_util.specs.declared.search.StartKind.TheVariants.{Both}
+use Rattle.ac_util.specs.Built.{Built}
+use Rattle.ac_util.specs.Sameness.{plain}
+use Rattle.ac_util.specs.Sizes.{state_count}
+
+-- the match kind, and whether case is ignored
+pub record Settings : Type 0 where
+  pub kind : MatchKind
+  pub fold : Bool
+
+abbrev pub usual_settings : Settings
+usual_settings = record { kind = Standard; fold = false }
+
+-- an automaton with both starts over these patterns
+abbrev pub built_by : Settings → List (List ℕ) → Built
+built_by settings patterns = record {
+  patterns = patterns;
+  fold = settings.fold;
+  kind = settings.kind;
+  start_kind = Both;
+}
+
+-- a build by these settings has succeeded: its states have numbers
+pub record IsBuilt (settings : Settings) (patterns : List (List ℕ)) (built : Built) : Type 0 where
+  pub value : built ≡ built_by settings patterns
+  pub few : state_count settings.kind (map (plain settings.fold) patterns) ≤ GREATEST + 1
+
+-- why a build is refused whose patterns are within the limits: for want of memory, or as there are too many nodes
+abbrev pub IsRefused : MatchKind → List (List ℕ) → BuildError → Type 0
+IsRefused kind patterns e =
+    (e ≡ Memory) ⊎ ((e ≡ StateIdOverflow GREATEST (GREATEST + 1)) × (GREATEST + 1 < state_count kind patterns))
