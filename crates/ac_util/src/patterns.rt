@@ -99,8 +99,12 @@ fn piece<'a>(bytes: &'a [u8], bounds: &[usize], number: usize) -> &'a [u8]
     &bytes[start..end]
 }
 
-/// Tests that each pattern can have a number and that none is too long.
-fn check_limits(patterns: &[&[u8]]) -> Result<(), BuildError>
+/// Tests that each pattern can have a number and that none is too long. It asks for no memory, so a build that needs some
+/// before it stores the patterns tests this first.
+///
+/// # Errors
+/// `PatternIdOverflow` or `PatternTooLong`, whichever limit is passed first.
+pub fn check_limits(patterns: &[&[u8]]) -> Result<(), BuildError>
     ensures { MatchOption (limit_refusal (map (λ p. p.now) patterns.now)) (result ≡ Ok tt) (λ refusal. result ≡ Err refusal) }
 {
     if patterns.len() > GREATEST + 1 {

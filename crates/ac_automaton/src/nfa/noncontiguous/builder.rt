@@ -12,7 +12,7 @@ use super::lengths::{longest_of, shortest_of};
 use super::members::Members;
 use super::state::State;
 use ac_util::error::BuildError;
-use ac_util::patterns::Patterns;
+use ac_util::patterns::{Patterns, check_limits};
 use ac_util::primitives::PatternID;
 use ac_util::search::MatchKind;
 use std::alloc::{AllocError, Allocator};
@@ -90,6 +90,7 @@ impl Builder {
             (IsRefused self.now.kind (map (plain self.now.fold) (map (λ p. p.now) patterns.now))))
             (λ refusal. result ≡ Err refusal) }
     {
+        check_limits(patterns)?;
         let patterns = Patterns::new(alloc.clone()?, patterns)?;
         let whole = whole_of(alloc.clone()?, &patterns, self.kind, self.fold)?;
         Ok(NFA {

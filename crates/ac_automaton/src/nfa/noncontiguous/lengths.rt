@@ -20,7 +20,7 @@ pub(crate) fn shortest_of<A: Allocator>(patterns: &Patterns<A>) -> usize
 pub(crate) fn longest_of<A: Allocator>(patterns: &Patterns<A>) -> usize
     ensures { result ≡ longest_len patterns.now }
 {
-    let mut longest = 0;
+    let mut longest: usize = 0;
     for number in 0..patterns.len() {
         longest = longest.max(patterns.get(number).len());
     }
