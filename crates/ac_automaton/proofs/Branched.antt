@@ -1,10 +1,10 @@
 -- Once all its children have come a state is whole.
-use Rattle.std.proofs.Common.{◌≡◌, ◌≢◌, ℕ, zero, suc, ◌+◌, ◌-◌, ◌<◌, ◌≤◌, Bool, true, false, cond, List, [], ◌∷◌, ◌++◌, map, length, take, ◌⊎◌, inl, inr, refl, ap, sym, ◌∙◌, subst, arith, Option, Some, None, get_or, length-append, length-take}
+use Rattle.std.proofs.Common.{◌≡◌, ◌≢◌, ℕ, zero, suc, ◌+◌, ◌-◌, ◌<◌, ◌≤◌, true, List, [], ◌∷◌, ◌++◌, length, take, inl, inr, refl, ap, sym, ◌∙◌, subst, arith, Some, None, get_or}
 use Rattle.std.specs.Prelude.{nat_eq, slice_get, slice_range, Contains, ◌↔◌, slice_index}
 use Rattle.std.specs.List.{starts_with}
 use Rattle.std.specs.List.Sorted.{IsStrictlyIncreasing}
 use Rattle.std.proofs.lemmas.Bool.{cases_lt, cases_Bool, cond-true, cond-false}
-use Rattle.std.proofs.lemmas.List.{length-map, length_push}
+use Rattle.std.proofs.lemmas.List.{length-map}
 use Rattle.std.proofs.lemmas.Option.{slice_get-get_or, slice_get_within}
 use Rattle.ac_util.specs.declared.search.Anchored.TheVariants.{Yes}
 use Rattle.ac_util.specs.declared.search.MatchKind.{MatchKind}
@@ -14,12 +14,12 @@ use Rattle.ac_util.proofs.Lists.{Contains-from_IsIn, IsIn-from_Contains}
 use Rattle.ac_automaton.specs.declared.nfa.noncontiguous.growth.Pending.{Pending}
 use Rattle.ac_automaton.specs.declared.nfa.noncontiguous.state.State.{State}
 use Rattle.ac_automaton.specs.Growths.{HasBranched, IsNext, IsReady, LinkIsDue, grown_meaning, nodes_of, word}
-use Rattle.ac_automaton.specs.Members.{Keyed, byte_at, key_at, numbers}
-use Rattle.ac_automaton.specs.Tries.{Links, Represents, held, labels_of, miss}
+use Rattle.ac_automaton.specs.Members.{Keyed, byte_at, key_at}
+use Rattle.ac_automaton.specs.Tries.{Links}
 use Rattle.ac_automaton.proofs.Branching.{IsBranching, word-length}
 use Rattle.ac_automaton.proofs.Grown.{nodes-inner}
-use Rattle.ac_automaton.proofs.Places.{get-range, get-from_range, get-same, place-of, IsIn-place}
-use Rattle.ac_automaton.proofs.Ranges.{longer, member-node, node-member, own-range, starts_with-last, starts_with-push}
+use Rattle.ac_automaton.proofs.Places.{get-range, get-from_range, place-of, IsIn-place}
+use Rattle.ac_automaton.proofs.Ranges.{member-node, node-member, own-range, starts_with-last, starts_with-push}
 
 -- an anchored search goes on exactly by the bytes that make a node
 pub held-is : (kind : MatchKind) (patterns : List (List ℕ)) (u : List ℕ) (b : ℕ) → is_node kind patterns (u ++ b ∷ []) ≡ true
@@ -129,10 +129,12 @@ module _ (kind : MatchKind) (patterns : List (List ℕ)) (members : List Keyed)
       near : word members p ≢ [] → IsNext kind patterns members queue0 (length states) p → p.fail < length states
       near some (inl start) = absurd (some (ap (λ (n : ℕ). take n (key_at members p.from)) start.2))
       near some (inr later) = h.waits.back (let s = later.1 in omega arith)
+
       first_two : (f : ℕ) → f < 2 → slice_get (nodes_of members queue) f ≡ Some None
       first_two zero l = refl
       first_two (suc zero) l = refl
       first_two (suc (suc f)) l = absurd (omega arith)
+
       start : word members p ≡ [] → p.fail < length states → IsNext kind patterns members queue0 (length states) p
           → (p.fail < 2) × (slice_get (nodes_of members queue) p.fail ≡ Some None)
       start none l (inl first) = let f : p.fail < 2 = (let s = first.0 in omega arith) in (f, first_two p.fail f)

@@ -1,19 +1,18 @@
 -- How the children of a state are put behind the queue, one run of members after another.
-use Rattle.std.proofs.Common.{◌≡◌, ◌≢◌, ℕ, zero, suc, ◌+◌, ◌-◌, ◌<◌, ◌≤◌, Bool, true, false, cond, List, [], ◌∷◌, ◌++◌, map, length, take, ◌⊎◌, inl, inr, refl, ap, sym, ◌∙◌, subst, arith, Option, Some, None, get_or, length-append, length-take}
-use Rattle.std.specs.Prelude.{nat_eq, slice_get, slice_range, Contains}
+use Rattle.std.proofs.Common.{◌≡◌, ◌≢◌, ℕ, suc, ◌+◌, ◌-◌, ◌<◌, ◌≤◌, true, List, [], ◌∷◌, ◌++◌, length, take, ◌⊎◌, inl, inr, refl, ap, sym, ◌∙◌, subst, arith, Option, Some, None, get_or}
+use Rattle.std.specs.Prelude.{nat_eq, slice_get}
 use Rattle.std.specs.List.{starts_with}
-use Rattle.std.proofs.lemmas.Bool.{cases_lt, cases_Bool, cond-true}
+use Rattle.std.proofs.lemmas.Bool.{cases_lt}
 use Rattle.std.proofs.lemmas.List.{length-map, length_push, length-take-le}
-use Rattle.std.proofs.lemmas.Option.{slice_get-get_or, slice_get_within, slice_get_past}
+use Rattle.std.proofs.lemmas.Option.{slice_get-get_or, slice_get_within}
 use Rattle.std.proofs.lemmas.Slice.Eq.{bytes_eq-Decides}
 use Rattle.std.proofs.Math.Seq.{take-append_seam}
 use Rattle.ac_util.specs.declared.search.MatchKind.{MatchKind}
 use Rattle.ac_util.specs.declared.primitives.TheConstants.{GREATEST}
-use Rattle.ac_util.specs.Node.{Node, is_node}
 use Rattle.ac_automaton.specs.declared.nfa.noncontiguous.growth.Pending.{Pending}
 use Rattle.ac_automaton.specs.declared.nfa.noncontiguous.state.State.{State}
 use Rattle.ac_automaton.specs.Growths.{HasChild, IsGrown, IsNext, IsRangeOf, IsReady, Waits, grown_meaning, nodes_of, word}
-use Rattle.ac_automaton.specs.Members.{Keyed, IsOrder, byte_at, key_at, numbers}
+use Rattle.ac_automaton.specs.Members.{Keyed, byte_at, key_at}
 use Rattle.ac_automaton.specs.Tries.{AreStates, miss}
 use Rattle.ac_automaton.proofs.Grown.{AreStates-more, IsInner, nodes-cases, nodes-inner, nodes-more}
 use Rattle.ac_automaton.proofs.Orders.{rank}
@@ -120,9 +119,9 @@ module _ (kind : MatchKind) (patterns : List (List ℕ)) (members : List Keyed) 
       covered = λ k b l h e. absurd (omega arith);
       ascending = λ c e b x le l f g. absurd (past c b le f);
       smaller = λ more k a b.
-      let zero : rank (byte_at members p.depth k) ≡ 0 = ap rank (own k a b) in
-      let one = rank-some (byte_at members p.depth own_end) (other more) in
-      omega arith;
+          let zero : rank (byte_at members p.depth k) ≡ 0 = ap rank (own k a b) in
+          let one = rank-some (byte_at members p.depth own_end) (other more) in
+          omega arith;
     }
 
     -- behind the patterns that are the string each member has a further byte
@@ -236,6 +235,7 @@ module _ (kind : MatchKind) (patterns : List (List ℕ)) (members : List Keyed) 
                     let e = ap length none in
                     let m = long in
                     absurd (omega arith)
+
                 at-inner : (j : ℕ) → j < length states → IsInner members queue0 j (Some (word members p)) → IsNext kind patterns members queue0 (length states) p → ⊥
                 at-inner j l inner (inl start) = absurd (let n = start.0 in let m = inner.number in omega arith)
                 at-inner j l inner (inr later) =
@@ -309,11 +309,11 @@ module _ (kind : MatchKind) (patterns : List (List ℕ)) (members : List Keyed) 
           parents = λ k q e. elim (get-added_cases queue child q k e) [
             | inl old ↦ let r = h.grown.parents k q old in (r.0, r.1, nodes-more members queue (child ∷ []) r.0 _ r.2)
             | inr new ↦ (
-                length states,
-                omega arith,
-                subst (λ (r : Pending). slice_get (nodes_of members (queue ++ child ∷ [])) (length states) ≡ Some (Some (take (r.depth - 1) (word members r)))) new.1
-                (nodes-more members queue (child ∷ []) (length states) _ (h.node ∙ ap (λ (v : List ℕ). Some (Some v)) (sym parent-string))),
-              )
+              length states,
+              omega arith,
+              subst (λ (r : Pending). slice_get (nodes_of members (queue ++ child ∷ [])) (length states) ≡ Some (Some (take (r.depth - 1) (word members r)))) new.1
+                  (nodes-more members queue (child ∷ []) (length states) _ (h.node ∙ ap (λ (v : List ℕ). Some (Some v)) (sym parent-string))),
+            )
           ];
         }
 

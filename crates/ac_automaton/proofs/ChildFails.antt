@@ -1,5 +1,5 @@
 -- The failure target of a child.
-use Rattle.std.proofs.Common.{◌≡◌, ◌≢◌, ℕ, suc, ◌+◌, ◌<◌, ◌≤◌, Bool, true, false, List, [], ◌∷◌, ◌++◌, length, take, refl, ap, sym, ◌∙◌, subst, arith, Option, Some, None}
+use Rattle.std.proofs.Common.{◌≡◌, ◌≢◌, ℕ, ◌+◌, true, List, [], ◌∷◌, ◌++◌, length, refl, ap, sym, ◌∙◌, subst, arith, Some, None}
 use Rattle.std.specs.Prelude.{slice_get}
 use Rattle.std.proofs.lemmas.List.{length_push}
 use Rattle.ac_util.specs.declared.search.Anchored.TheVariants.{No}
@@ -9,7 +9,7 @@ use Rattle.ac_util.specs.Node.{Node, is_leftmost, step}
 use Rattle.ac_automaton.specs.declared.nfa.noncontiguous.growth.Pending.{Pending}
 use Rattle.ac_automaton.specs.declared.nfa.noncontiguous.state.State.{State}
 use Rattle.ac_automaton.specs.Growths.{HasChild, grown_meaning, nodes_of, word}
-use Rattle.ac_automaton.specs.Members.{Keyed, byte_at, key_at}
+use Rattle.ac_automaton.specs.Members.{Keyed, byte_at}
 use Rattle.ac_automaton.specs.Tries.{HasState, miss}
 use Rattle.ac_automaton.proofs.Branching.{word-length}
 use Rattle.ac_automaton.proofs.Misses.{miss-child, miss-own, miss-start}

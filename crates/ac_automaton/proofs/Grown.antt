@@ -1,11 +1,10 @@
 -- What stays as a trie grows.
-use Rattle.std.proofs.Common.{◌≡◌, ℕ, zero, suc, ◌+◌, ◌<◌, ◌≤◌, ◌≢◌, List, [], ◌∷◌, ◌++◌, length, map, ◌⊎◌, length-append, inl, inr, refl, ap, sym, ◌∙◌, subst, arith, Option, Some, None, get_or}
-use Rattle.std.specs.Prelude.{slice_get, slice_range, option_map, Contains, ◌↔◌}
+use Rattle.std.proofs.Common.{◌≡◌, ℕ, zero, suc, ◌+◌, ◌<◌, ◌≤◌, ◌≢◌, List, [], ◌∷◌, ◌++◌, length, map, ◌⊎◌, length-append, inl, inr, refl, ap, sym, ◌∙◌, subst, arith, Some, None, get_or}
+use Rattle.std.specs.Prelude.{slice_get, option_map, Contains, ◌↔◌}
 use Rattle.std.specs.List.Sorted.{IsStrictlyIncreasing}
 use Rattle.std.proofs.lemmas.Bool.{cases_lt}
 use Rattle.std.proofs.lemmas.List.{get_or_default, get_or_append_left, get_or_push, length_push}
 use Rattle.std.proofs.lemmas.Option.{slice_get-map, slice_get-get_or, slice_get_within}
-use Rattle.ac_util.specs.declared.search.MatchKind.{MatchKind}
 use Rattle.ac_util.specs.declared.primitives.TheConstants.{GREATEST}
 use Rattle.ac_util.specs.Node.{Node}
 use Rattle.ac_util.proofs.PiecesLemmas.{slice_range-append}
@@ -115,10 +114,10 @@ module _ (g : Meaning) (more : List ℕ) (nodes : List Node)
     named = (let l = a.named in omega arith);
     few = few;
     each = λ s v l e.
-    let h = slice_get_within nodes s v e in
-    let known = slice_get-get_or g.nodes s None (let m = a.named in omega arith) in
-    let same = get-same nodes s (get_or g.nodes s None) v (keeps s (get_or g.nodes s None) known) e in
-    Represents-more s v (state_at states s) (a.each s v l (known ∙ ap (λ (w : Node). Some w) same));
+        let h = slice_get_within nodes s v e in
+        let known = slice_get-get_or g.nodes s None (let m = a.named in omega arith) in
+        let same = get-same nodes s (get_or g.nodes s None) v (keeps s (get_or g.nodes s None) known) e in
+        Represents-more s v (state_at states s) (a.each s v l (known ∙ ap (λ (w : Node). Some w) same));
   }
 
 -- one more state is whole

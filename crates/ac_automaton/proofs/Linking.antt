@@ -1,14 +1,13 @@
 -- Where a state's link leads: to the first state along the failure targets that has patterns of its own.
-use Rattle.std.proofs.Common.{◌≡◌, ◌≢◌, ℕ, ◌+◌, ◌-◌, ◌<◌, ◌≤◌, List, [], ◌∷◌, ◌++◌, length, take, drop, refl, ap, sym, ◌∙◌, subst, arith, Option, Some, None, get_or}
-use Rattle.std.specs.Prelude.{slice_get, slice_range}
+use Rattle.std.proofs.Common.{◌≡◌, ◌≢◌, ℕ, ◌+◌, ◌-◌, ◌<◌, ◌≤◌, List, [], ◌∷◌, ◌++◌, length, take, drop, refl, ap, sym, ◌∙◌, subst, arith, Some, None, get_or}
+use Rattle.std.specs.Prelude.{slice_get}
 use Rattle.std.proofs.lemmas.List.{append-nil}
 use Rattle.std.proofs.lemmas.Option.{slice_get-get_or}
-use Rattle.ac_util.specs.Node.{Node}
 use Rattle.ac_util.proofs.Found.{matches-nil, matches-failure}
 use Rattle.ac_automaton.specs.declared.nfa.noncontiguous.state.State.{State}
 use Rattle.ac_automaton.specs.Growths.{LinkIsDue}
 use Rattle.ac_automaton.specs.Tries.{Meaning, AreStates, Links, Represents, all_matches, own_matches, own_of, state_at, miss}
-use Rattle.ac_automaton.proofs.Places.{get-range, get-same}
+use Rattle.ac_automaton.proofs.Places.{get-range}
 
 -- a state has patterns of its own exactly if its range of them isn't empty
 pub own-some : (order : List ℕ) (t : State) → t.own < t.own_end → t.own_end ≤ length order → own_of order t ≢ []
@@ -65,8 +64,8 @@ module _ (g : Meaning) (states : List State) where
         back = omega arith;
         finds = matches-failure g.kind g.patterns x u;
         useful = λ apart none.
-        own-some g.order (state_at states fail) some r.within
-        (r.own ∙ front_none (own_matches g (miss g.kind g.patterns (Some (x ∷ u)))) (all_matches g r.links.linked) (sym r.links.finds ∙ none));
+            own-some g.order (state_at states fail) some r.within
+            (r.own ∙ front_none (own_matches g (miss g.kind g.patterns (Some (x ∷ u)))) (all_matches g r.links.linked) (sym r.links.finds ∙ none));
       }
 
   -- else what the target is linked to

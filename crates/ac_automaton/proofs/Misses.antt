@@ -1,14 +1,14 @@
 -- Where a search goes on by a byte that leads to no longer node, one byte further on.
-use Rattle.std.proofs.Common.{◌≡◌, ◌≢◌, ℕ, Bool, true, false, ◌&&◌, cond, List, [], ◌∷◌, ◌++◌, inl, inr, refl, ap, sym, ◌∙◌, subst, Option, Some, None}
+use Rattle.std.proofs.Common.{◌≡◌, ◌≢◌, ℕ, Bool, true, false, ◌&&◌, cond, List, [], ◌∷◌, ◌++◌, inl, inr, refl, ap, sym, ◌∙◌, Some, None}
 use Rattle.std.proofs.lemmas.Bool.{cases_Bool, cond-true, false_from_ne_true, false≢true}
 use Rattle.ac_util.specs.declared.search.Anchored.TheVariants.{No}
 use Rattle.ac_util.specs.declared.search.MatchKind.{MatchKind}
 use Rattle.ac_util.specs.Matches.{equal_to}
-use Rattle.ac_util.specs.Node.{Node, is_leftmost, begins_with_pattern, failure, reached, step}
+use Rattle.ac_util.specs.Node.{Node, is_leftmost, begins_with_pattern, reached, step}
 use Rattle.ac_util.proofs.Failures.{failure-cons}
-use Rattle.ac_util.proofs.Fronts.{starts_with-itself, starts_with-whole}
-use Rattle.ac_util.proofs.Lists.{IsIn, none-from_nil}
-use Rattle.ac_util.proofs.Participants.{Equals, IsIn-equal_to, begins-more, begins-from_Fronts, leader, leader-takes_part, equal_to-none_begins}
+use Rattle.ac_util.proofs.Fronts.{starts_with-whole}
+use Rattle.ac_util.proofs.Lists.{none-from_nil}
+use Rattle.ac_util.proofs.Participants.{IsIn-equal_to, begins-more, begins-from_Fronts, leader, leader-takes_part, equal_to-none_begins}
 use Rattle.ac_util.proofs.Reached.{stops, reached-nil, step-reached}
 use Rattle.ac_automaton.specs.Tries.{miss}
 
@@ -19,15 +19,15 @@ module _ (kind : MatchKind) (patterns : List (List ℕ)) where
     | inl t ↦ begins-more patterns w b t ∙ sym t
     | inr f ↦
         false_from_ne_true _ (λ t.
-            let l = leader patterns (w ++ b ∷ []) t in
-            let no_front = false_from_ne_true _ (λ s.
-                false≢true (sym f ∙ begins-from_Fronts patterns w l.0 (record { numbered = l.1.fronts.numbered; front = s }))) in
-            none-from_nil l.0 (equal_to kind patterns (w ++ b ∷ [])) none
-            (IsIn-equal_to kind patterns (w ++ b ∷ []) l.0 (record {
-              numbered = l.1.fronts.numbered;
-              takes_part = leader-takes_part patterns kind (w ++ b ∷ []) l.0 l.1;
-              same = starts_with-whole w _ b l.1.fronts.front no_front;
-            })))
+        let l = leader patterns (w ++ b ∷ []) t in
+        let no_front = false_from_ne_true _ (λ s.
+        false≢true (sym f ∙ begins-from_Fronts patterns w l.0 (record { numbered = l.1.fronts.numbered; front = s }))) in
+        none-from_nil l.0 (equal_to kind patterns (w ++ b ∷ [])) none
+        (IsIn-equal_to kind patterns (w ++ b ∷ []) l.0 (record {
+          numbered = l.1.fronts.numbered;
+          takes_part = leader-takes_part patterns kind (w ++ b ∷ []) l.0 l.1;
+          same = starts_with-whole w _ b l.1.fronts.front no_front;
+        })))
         ∙ sym f
   ]
 

@@ -1,7 +1,6 @@
 -- The members that begin with one string stand side by side: first those that are the string, and then a run for each next byte.
-use Rattle.std.proofs.Common.{◌≡◌, ◌≢◌, ℕ, zero, suc, ◌+◌, ◌-◌, ◌<◌, ◌≤◌, Bool, true, false, List, [], ◌∷◌, ◌++◌, map, length, ◌⊎◌, inl, inr, refl, ap, sym, ◌∙◌, subst, arith, Option, Some, None, get_or}
-use Rattle.std.specs.Prelude.{nat_eq, bytes_eq, option_map, slice_get, slice_range, Contains}
-use Rattle.std.specs.Cmp.{IsTotalOrder}
+use Rattle.std.proofs.Common.{◌≡◌, ◌≢◌, ℕ, suc, ◌+◌, ◌-◌, ◌<◌, ◌≤◌, true, List, [], ◌∷◌, ◌++◌, length, inl, inr, refl, ap, sym, ◌∙◌, subst, arith, Option, Some, None, get_or}
+use Rattle.std.specs.Prelude.{nat_eq, bytes_eq, option_map, slice_get, slice_range}
 use Rattle.std.specs.Cmp.Lexicographic.{slice_cmp, nat_list_cmp_total}
 use Rattle.std.specs.List.{starts_with}
 use Rattle.std.specs.Ordering.{nat_cmp, ordering_reverse}
@@ -98,7 +97,7 @@ module _ (kind : MatchKind) (patterns : List (List ℕ)) (members : List Keyed) 
   pub place-at : (n : ℕ) → IsIn n (participants kind patterns) → (k : ℕ) × Stands k n
   place-at n h =
       let p = place-of n (numbers members)
-          (IsIn-from_Contains n (numbers members) ((order.lists n).1 (Contains-from_IsIn n (participants kind patterns) h))) in
+      (IsIn-from_Contains n (numbers members) ((order.lists n).1 (Contains-from_IsIn n (participants kind patterns) h))) in
       let within : p.0 < length members = (let l = slice_get_within (numbers members) p.0 n p.1 in let m = length-map members (λ (q : Keyed). q.number) in omega arith) in
       let s = at-place p.0 within in
       (p.0, subst (λ (m : ℕ). Stands p.0 m) (get-same (numbers members) p.0 s.0 n s.1.number p.1) s.1)

@@ -1,18 +1,17 @@
 -- The start of a trie: all members begin with the empty string.
-use Rattle.std.proofs.Common.{◌≡◌, ◌≢◌, ℕ, ◌<◌, ◌≤◌, Bool, true, false, ◌&&◌, cond, List, [], ◌∷◌, length, inl, inr, refl, ap, sym, ◌∙◌, subst, arith, Option, Some, None}
-use Rattle.std.specs.Prelude.{nat_eq, bytes_eq, slice_get}
-use Rattle.std.specs.List.{starts_with}
-use Rattle.std.proofs.lemmas.Bool.{cases_Bool, cases_lt, cond-true, cond-false, false≢true, false_from_ne_true}
+use Rattle.std.proofs.Common.{◌≡◌, ◌≢◌, ℕ, ◌<◌, ◌≤◌, Bool, true, false, ◌&&◌, List, [], ◌∷◌, length, inl, inr, refl, ap, sym, ◌∙◌, arith, Some, None}
+use Rattle.std.specs.Prelude.{bytes_eq, slice_get}
+use Rattle.std.proofs.lemmas.Bool.{cases_Bool, cases_lt, cond-true, cond-false, false_from_ne_true}
 use Rattle.ac_util.specs.declared.search.MatchKind.{MatchKind}
 use Rattle.ac_util.specs.Matches.{equal_to}
 use Rattle.ac_util.specs.Node.{Node, begins_with_pattern, is_leftmost, participants}
 use Rattle.ac_util.specs.Search.{pattern_of}
 use Rattle.ac_util.proofs.Fronts.{starts_with-length}
-use Rattle.ac_util.proofs.Lists.{IsIn, IsIn-from_filter, nil-from_none, none-from_nil}
+use Rattle.ac_util.proofs.Lists.{IsIn-from_filter, nil-from_none, none-from_nil}
 use Rattle.ac_util.proofs.Participants.{IsIn-equal_to, equal_to-none_begins, leader, leader-takes_part}
 use Rattle.ac_automaton.specs.declared.nfa.noncontiguous.growth.Pending.{Pending}
 use Rattle.ac_automaton.specs.Growths.{IsRangeOf, Waits}
-use Rattle.ac_automaton.specs.Members.{Keyed, IsOrder, byte_at, key_at}
+use Rattle.ac_automaton.specs.Members.{Keyed, IsOrder, byte_at}
 use Rattle.ac_automaton.specs.Tries.{miss}
 use Rattle.ac_automaton.proofs.Ranges.{own-first, own-none, place-at}
 

@@ -1,14 +1,13 @@
 -- A trie has as many states as there are nodes: each node has one state, and a build is refused only where there are too many.
-use Rattle.std.proofs.Common.{◌≡◌, ◌≢◌, ℕ, zero, suc, ◌+◌, ◌-◌, ◌<◌, ◌≤◌, Bool, true, List, [], ◌∷◌, ◌++◌, map, length, ◌⊎◌, inl, inr, refl, ap, sym, ◌∙◌, subst, arith, Option, Some, None, length-append}
-use Rattle.std.specs.Prelude.{nat_eq, slice_get, option_map, Contains}
-use Rattle.std.specs.List.{starts_with}
+use Rattle.std.proofs.Common.{◌≡◌, ◌≢◌, ℕ, zero, suc, ◌+◌, ◌<◌, ◌≤◌, true, List, [], ◌∷◌, ◌++◌, map, length, ◌⊎◌, inl, inr, refl, ap, sym, ◌∙◌, subst, arith, Some}
+use Rattle.std.specs.Prelude.{slice_get, option_map}
 use Rattle.std.proofs.lemmas.List.{length-map, length_push}
 use Rattle.std.proofs.lemmas.Option.{slice_get-map, slice_get_within}
 use Rattle.ac_util.specs.declared.search.MatchKind.{MatchKind}
 use Rattle.ac_util.specs.declared.primitives.TheConstants.{GREATEST}
 use Rattle.ac_util.specs.Node.{Node, is_node}
 use Rattle.ac_util.specs.Sizes.{inner_nodes, state_count}
-use Rattle.ac_util.proofs.Lists.{IsIn, IsIn-map, IsIn-from_map, IsOrdered, IsIn-from_Contains, Contains-from_IsIn}
+use Rattle.ac_util.proofs.Lists.{IsIn, IsOrdered, IsIn-from_Contains, Contains-from_IsIn}
 use Rattle.ac_util.proofs.NodeCount.{inner_nodes-has, inner_nodes-only, inner_nodes-apart}
 use Rattle.ac_util.proofs.Participants.{is_node-front}
 use Rattle.ac_automaton.specs.declared.nfa.noncontiguous.growth.Pending.{Pending}
@@ -16,14 +15,14 @@ use Rattle.ac_automaton.specs.declared.nfa.noncontiguous.state.State.{State}
 use Rattle.ac_util.specs.declared.error.BuildError.{BuildError}
 use Rattle.ac_util.specs.declared.error.BuildError.TheVariants.{Memory, StateIdOverflow}
 use Rattle.ac_automaton.specs.Builds.{IsRefused}
-use Rattle.ac_automaton.specs.Growths.{IsGrown, IsRangeOf, IsReady, Waits, grown_meaning, nodes_of, word}
-use Rattle.ac_automaton.specs.Members.{Keyed, IsOrder, byte_at, key_at}
+use Rattle.ac_automaton.specs.Growths.{IsGrown, IsRangeOf, IsReady, grown_meaning, nodes_of, word}
+use Rattle.ac_automaton.specs.Members.{Keyed, IsOrder, byte_at}
 use Rattle.ac_automaton.specs.Tries.{AreStates, labels_of, miss, state_at}
 use Rattle.ac_automaton.proofs.Branched.{held-is}
 use Rattle.ac_automaton.proofs.Branching.{IsBranching, child-members, fresh, word-length}
 use Rattle.ac_automaton.proofs.Counting.{IsOrdered-from_AllPairs, length-le-from_IsOrdered}
 use Rattle.ac_automaton.proofs.Grown.{nodes-cases}
-use Rattle.ac_automaton.proofs.Places.{get-same, place-of, IsIn-place, IsOrdered-places}
+use Rattle.ac_automaton.proofs.Places.{place-of, IsIn-place, IsOrdered-places}
 use Rattle.ac_automaton.proofs.Ranges.{member-node}
 
 -- a string that isn't empty is a shorter one with one more byte
@@ -102,8 +101,7 @@ module _ (kind : MatchKind) (patterns : List (List ℕ)) (members : List Keyed) 
         let r = meant.each s.0 (Some w) (omega arith) s.1 in
         let is = held-is kind patterns w b longer in
         let k = place-of b (labels_of labels (state_at states s.0))
-            (IsIn-from_Contains b (labels_of labels (state_at states s.0)) ((r.branches b).1 (λ none. absurd (cc)))) in
-        (
+        (IsIn-from_Contains b (labels_of labels (state_at states s.0)) ((r.branches b).1 (λ none. absurd (cc)))) in (
           4 + ((state_at states s.0).children + k.0),
           r.children k.0 b k.1 ∙ ap (λ (v : Node). Some v) (is ∙ ap (λ (v : List ℕ). Some v) (sym last.2)),
         )
@@ -127,7 +125,7 @@ module _ (kind : MatchKind) (patterns : List (List ℕ)) (members : List Keyed) 
         let l = length-map queue (word members) in
         let few = length-le-from_IsOrdered words (inner_nodes kind patterns) words-apart word-inner in
         let many = length-le-from_IsOrdered (inner_nodes kind patterns) words
-            (IsOrdered-from_AllPairs (λ u w. u ≢ w) (inner_nodes kind patterns) (inner_nodes-apart kind patterns)) inner-word in
+        (IsOrdered-from_AllPairs (λ u w. u ≢ w) (inner_nodes kind patterns) (inner_nodes-apart kind patterns)) inner-word in
         omega arith
 
 -- a child for which there is no number is one node too many
@@ -147,6 +145,6 @@ module _ (kind : MatchKind) (patterns : List (List ℕ)) (members : List Keyed)
   refused e (inr full) = inr (
     full.0,
     too-many kind patterns members ready.order (length states + 1) labels queue h.grown (word members p) b place end
-    (child-members kind patterns members states labels0 queue0 p ready own_end place end b fail labels queue h more some high byte same other) some
-    (fresh kind patterns members states labels0 queue0 p ready own_end place end b fail labels queue h more some high byte same other fails) full.1,
+        (child-members kind patterns members states labels0 queue0 p ready own_end place end b fail labels queue h more some high byte same other) some
+        (fresh kind patterns members states labels0 queue0 p ready own_end place end b fail labels queue h more some high byte same other fails) full.1,
   )

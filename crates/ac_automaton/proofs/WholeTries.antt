@@ -1,22 +1,18 @@
 -- From the first states to a whole trie.
-use Rattle.std.proofs.Common.{◌≡◌, ◌≢◌, ℕ, zero, suc, ◌+◌, ◌-◌, ◌<◌, ◌≤◌, Bool, true, false, List, [], ◌∷◌, ◌++◌, map, length, take, ◌⊎◌, inl, inr, refl, ap, sym, ◌∙◌, subst, arith, Option, Some, None}
-use Rattle.std.specs.Prelude.{nat_eq, slice_get, Contains}
-use Rattle.std.specs.List.{starts_with}
-use Rattle.std.proofs.lemmas.Bool.{cases_Bool, cond-true, cond-false, false≢true}
+use Rattle.std.proofs.Common.{◌≡◌, ℕ, zero, suc, ◌+◌, ◌<◌, ◌≤◌, Bool, List, [], ◌∷◌, ◌++◌, map, length, take, inl, inr, refl, ap, sym, ◌∙◌, subst, arith, Some, None}
+use Rattle.std.specs.Prelude.{slice_get}
 use Rattle.std.proofs.lemmas.List.{length-map, length_push}
 use Rattle.std.proofs.lemmas.Option.{slice_get_within}
 use Rattle.ac_util.specs.declared.primitives.TheConstants.{GREATEST}
 use Rattle.ac_util.specs.declared.search.MatchKind.{MatchKind}
-use Rattle.ac_util.specs.Matches.{equal_to}
-use Rattle.ac_util.specs.Node.{Node, begins_with_pattern, is_leftmost}
+use Rattle.ac_util.specs.Node.{Node}
 use Rattle.ac_util.specs.Sameness.{plain}
 use Rattle.ac_util.specs.Sizes.{state_count}
 use Rattle.ac_automaton.specs.declared.nfa.noncontiguous.growth.Pending.{Pending}
 use Rattle.ac_automaton.specs.declared.nfa.noncontiguous.state.State.{State}
 use Rattle.ac_automaton.specs.Growths.{HasBranched, IsGrown, IsReady, Waits, grown_meaning, nodes_of, word}
 use Rattle.ac_automaton.specs.Members.{Keyed, IsOrder, key_at, numbers}
-use Rattle.ac_automaton.specs.Tries.{AreStates, IsTable, Meaning, Represents, dead_state, miss, state_at, trie_of}
-use Rattle.ac_automaton.proofs.Branching.{next-node}
+use Rattle.ac_automaton.specs.Tries.{AreStates, IsTable, Meaning, Represents, dead_state, state_at, trie_of}
 use Rattle.ac_automaton.proofs.Grown.{AreStates-push, nodes-inner}
 use Rattle.ac_automaton.proofs.ListsOf.{listed_within-matches}
 use Rattle.ac_automaton.proofs.StateCount.{state-count}
@@ -132,6 +128,7 @@ module _ (kind : MatchKind) (patterns : List (List ℕ)) (members : List Keyed) 
       start =
           subst (λ (v : List ℕ). Represents (grown_meaning kind patterns members labels queue) 2 (Some v) t)
           (ap (λ (n : ℕ). take n (key_at members p.from)) depth) h.represents
+
       once : AreStates (grown_meaning kind patterns members labels queue) (first_states ++ t ∷ [])
       once = AreStates-push (grown_meaning kind patterns members labels queue) first_states (Some []) t h.meant refl start
 
@@ -178,13 +175,13 @@ module _ (texts : List (List ℕ)) (fold : Bool) (kind : MatchKind) (members : L
         start = refl;
         anchored_start = refl;
         lists = λ s v e.
-        listed_within-matches (grown_meaning kind (map (plain fold) texts) members labels queue) states s s v
-        (record {
-          meant = h.meant;
-          there = (let l = slice_get_within (nodes_of members queue) s v e in let c = counted in omega arith);
-          named = e;
-        })
-        (omega arith);
+            listed_within-matches (grown_meaning kind (map (plain fold) texts) members labels queue) states s s v
+            (record {
+              meant = h.meant;
+              there = (let l = slice_get_within (nodes_of members queue) s v e in let c = counted in omega arith);
+              named = e;
+            })
+            (omega arith);
       }
 
   -- and there are as many as nodes

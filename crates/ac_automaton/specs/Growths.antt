@@ -1,5 +1,5 @@
 -- A trie that is being built, breadth first: the states that are whole, and those that wait for their children.
-use Rattle.std.specs.Prelude.{◌≡◌, ◌↔◌, ◌⊎◌, ℕ, suc, ◌+◌, ◌-◌, ◌<◌, ◌≤◌, Bool, List, [], ◌∷◌, ◌++◌, ◌≢◌, nat_eq, true, map, length, take, slice_get, None, Some}
+use Rattle.std.specs.Prelude.{◌≡◌, ◌↔◌, ◌⊎◌, ℕ, ◌+◌, ◌-◌, ◌<◌, ◌≤◌, Bool, List, [], ◌∷◌, ◌++◌, ◌≢◌, nat_eq, true, map, length, take, slice_get, None, Some}
 use Rattle.std.specs.List.{starts_with}
 use Rattle.ac_util.specs.declared.primitives.TheConstants.{GREATEST}
 use Rattle.ac_util.specs.declared.search.MatchKind.{MatchKind}

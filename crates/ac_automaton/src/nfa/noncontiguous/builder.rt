@@ -83,7 +83,11 @@ impl Builder {
     /// `PatternIdOverflow` and `PatternTooLong` exactly where a limit is passed, before any memory is asked for.
     /// Else `StateIdOverflow` only where there are more nodes than state numbers, and `Memory` where a request for
     /// memory is refused.
-    pub fn build<A: Allocator + Clone>(&self, alloc: A, patterns: &[&[u8]]) -> Result<NFA<A>, BuildError>
+    pub fn build<A: Allocator + Clone>(
+        &self,
+        alloc: A,
+        patterns: &[&[u8]],
+    ) -> Result<NFA<A>, BuildError>
         ensures { MatchOption (limit_refusal (map (λ p. p.now) patterns.now))
             (MatchResult result
             (λ nfa. IsBuilt self.now (map (λ p. p.now) patterns.now) nfa.built)
@@ -142,7 +146,10 @@ fn whole_of<A: Allocator + Clone>(
 ///
 /// # Errors
 /// `AllocError` where a request for memory is refused.
-fn numbers_of<A: Allocator>(alloc: A, members: &Members<'_, A>) -> Result<Vec<PatternID, A>, AllocError>
+fn numbers_of<A: Allocator>(
+    alloc: A,
+    members: &Members<'_, A>,
+) -> Result<Vec<PatternID, A>, AllocError>
     ensures { IfOk result (λ order. order.items ≡ numbers members.now) }
 {
     let mut order = Vec::new(alloc);

@@ -222,7 +222,14 @@ fn child_fail<B: Allocator>(
     if pending.depth == 0 {
         return pending.fail;
     }
-    follow(states, labels, Anchored::No, pending.fail, byte, &mut Looks::new())
+    follow(
+        states,
+        labels,
+        Anchored::No,
+        pending.fail,
+        byte,
+        &mut Looks::new(),
+    )
 }
 
 /// Returns whether the kind prefers what starts first.

@@ -7,6 +7,9 @@ use std::test::Fail;
 fn he_she(rt: HostRuntime) -> Result<(), Fail> {
     let patterns: [&[u8]; 4] = [b"he", b"she", b"his", b"hers"];
     let nfa = Builder::new().build(rt.alloc(), &patterns)?;
-    assert_eq!(rt; nfa.try_find(Input::new(b"ushers"))?, Some(Match::must(1, 1..4)));
+    assert_eq!(rt;
+        nfa.try_find(Input::new(b"ushers"))?,
+        Some(Match::must(1, 1..4))
+    );
     Ok(())
 }

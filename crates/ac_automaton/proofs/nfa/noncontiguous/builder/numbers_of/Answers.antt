@@ -1,4 +1,4 @@
-use Rattle.std.proofs.Common.{◌≡◌, List, ℕ, ◌∷◌, [], ◌++◌, ap, sym, ◌∙◌}
+use Rattle.std.proofs.Common.{List, ℕ, ◌∷◌, [], ◌++◌, ap, sym, ◌∙◌}
 use Rattle.ac_automaton.specs.Members.{numbers}
 use Rattle.ac_automaton.proofs.Places.{take-next}
 use Rattle.ac_automaton.proofs.nfa.noncontiguous.builder.numbers_of.Goals as goal

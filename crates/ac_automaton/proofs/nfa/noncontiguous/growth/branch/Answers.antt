@@ -1,13 +1,9 @@
-use Rattle.std.proofs.Common.{◌≡◌, ◌<◌, ◌≤◌, ℕ, ◌+◌, List, length, ap, sym, ◌∙◌, subst, arith, Option}
-use Rattle.std.specs.Prelude.{None, Some, Result, Ok, Err, MatchResult, IsErrAnd}
-use Rattle.ac_util.specs.declared.error.BuildError.{BuildError}
-use Rattle.std.specs.Vec.{vec_len}
-use Rattle.ac_automaton.specs.declared.nfa.noncontiguous.growth.Pending.{Pending}
-use Rattle.ac_automaton.specs.declared.nfa.noncontiguous.state.State.{State}
+use Rattle.std.proofs.Common.{◌≡◌, ℕ, length, sym, ◌∙◌, subst, arith}
+use Rattle.std.specs.Prelude.{Some}
 use Rattle.ac_automaton.specs.Builds.{IsRefused}
-use Rattle.ac_automaton.specs.Growths.{HasBranched, grown_meaning, word}
+use Rattle.ac_automaton.specs.Growths.{grown_meaning, word}
 use Rattle.ac_automaton.specs.Members.{byte_at}
-use Rattle.ac_automaton.proofs.Branched.{has-branched, link-due, whole_state}
+use Rattle.ac_automaton.proofs.Branched.{has-branched, link-due}
 use Rattle.ac_automaton.proofs.Branching.{IsBranching, branching-begins, branching-goes_on, child-deep, goes-on, has-child}
 use Rattle.ac_automaton.proofs.Places.{refused-by}
 use Rattle.ac_automaton.proofs.StateCount.{refused}
@@ -36,10 +32,10 @@ child_fail-fail-requires g c =
         ready.0,
         c.loop-place.growth.queue.items,
         rw c.deref.ensures.value
-        (has-child c.args.kind ready.0 c.args.members.now c.args.states.now c.args.growth.now.labels.items c.args.growth.now.queue.items
-        c.args.pending ready.1 c.own_end-own_end.result c.loop-place.place c.run_end-end.result c.in-Some.byte 0
-        c.loop-place.growth.labels.items c.loop-place.growth.queue.items (c.loop-place.invariant ready.0 ready.1)
-        c.loop-place-test.true e.later e.within (sym c.byte.ensures.value ∙ c.in-Some.is) e.same e.other),
+            (has-child c.args.kind ready.0 c.args.members.now c.args.states.now c.args.growth.now.labels.items c.args.growth.now.queue.items
+            c.args.pending ready.1 c.own_end-own_end.result c.loop-place.place c.run_end-end.result c.in-Some.byte 0
+            c.loop-place.growth.labels.items c.loop-place.growth.queue.items (c.loop-place.invariant ready.0 ready.1)
+            c.loop-place-test.true e.later e.within (sym c.byte.ensures.value ∙ c.in-Some.is) e.same e.other),
       );
     }
 

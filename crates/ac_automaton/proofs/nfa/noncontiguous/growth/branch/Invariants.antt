@@ -1,4 +1,4 @@
-use Rattle.std.proofs.Common.{◌-◌, ◌≡◌, ℕ, List, length}
+use Rattle.std.proofs.Common.{◌-◌, ℕ, List}
 use Rattle.ac_automaton.specs.Growths.{IsReady}
 use Rattle.ac_automaton.proofs.Branching.{IsBranching}
 use Rattle.ac_automaton.proofs.nfa.noncontiguous.growth.branch.Given as goal

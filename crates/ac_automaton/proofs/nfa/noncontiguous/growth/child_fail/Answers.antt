@@ -1,9 +1,8 @@
-use Rattle.std.proofs.Common.{◌≡◌, ◌≢◌, ℕ, ◌+◌, Bool, true, false, not, sym, ◌∙◌, ap, subst, refl, arith, Option}
-use Rattle.std.specs.Prelude.{None, Some, is_some, slice_get}
+use Rattle.std.proofs.Common.{◌≢◌, sym, ◌∙◌, ap, refl}
+use Rattle.std.specs.Prelude.{Some, slice_get}
 use Rattle.std.proofs.lemmas.Bool.{false≢true}
-use Rattle.ac_util.specs.Node.{Node, is_leftmost}
+use Rattle.ac_util.specs.Node.{Node}
 use Rattle.ac_automaton.specs.Growths.{grown_meaning, nodes_of}
-use Rattle.ac_automaton.specs.Members.{byte_at}
 use Rattle.ac_automaton.proofs.Places.{None-tested, Some-tested}
 use Rattle.ac_automaton.proofs.ChildFails.{fail-own, fail-start, fail-step, fail-state}
 use Rattle.ac_automaton.proofs.nfa.noncontiguous.growth.child_fail.Goals as goal

@@ -1,14 +1,12 @@
-use Rattle.std.proofs.Common.{◌≡◌, ◌<◌, ◌≤◌, ℕ, ◌+◌, ◌-◌, Bool, List, [], ◌∷◌, ◌++◌, length, map, ap, sym, refl, ◌∙◌, subst, arith, Option}
-use Rattle.std.specs.Prelude.{None, Some, Result, Ok, Err, MatchResult, slice_get}
+use Rattle.std.proofs.Common.{◌≡◌, ◌<◌, ◌≤◌, List, length, map, sym, refl, ◌∙◌, subst, arith}
 use Rattle.std.proofs.lemmas.Option.{slice_get_read}
-use Rattle.ac_util.specs.declared.error.BuildError.{BuildError}
 use Rattle.ac_util.specs.Sameness.{plain}
 use Rattle.ac_automaton.specs.declared.nfa.noncontiguous.growth.Pending.{Pending}
 use Rattle.ac_automaton.specs.declared.nfa.noncontiguous.state.State.{State}
 use Rattle.ac_automaton.specs.Builds.{IsRefused}
-use Rattle.ac_automaton.specs.Growths.{HasBranched, IsReady}
+use Rattle.ac_automaton.specs.Growths.{HasBranched}
 use Rattle.ac_automaton.proofs.Places.{refused-by}
-use Rattle.ac_automaton.proofs.WholeTries.{IsGoing, first_states, going-on, going-ready, start-going, start-ready, whole-count, whole-table}
+use Rattle.ac_automaton.proofs.WholeTries.{first_states, going-on, going-ready, start-going, start-ready, whole-count, whole-table}
 use Rattle.ac_automaton.proofs.nfa.noncontiguous.growth.grow.Goals as goal
 
 pub branch-members-requires : goal.branch-members-requires
@@ -20,7 +18,7 @@ branch-members-requires g c =
       ready = (
         patterns,
         rw (c.deref.ensures.value, c.in_ok-push-2.ensures.items, c.in_ok-push.ensures.items, c.new-states.ensures.items, c.dead.ensures, c.dead-2.ensures, c.new.ensures.items, c.new-2.ensures.items)
-        ready,
+            ready,
       );
     }
 
@@ -57,8 +55,8 @@ branch-members-requires-in-loop-at g c =
       ready = (
         patterns,
         rw c.deref-in-loop-at.ensures.value
-        (going-ready c.args.kind patterns c.args.members.now c.loop-at.states.items c.loop-at.growth.labels.items c.loop-at.growth.queue.items
-        c.loop-at.at c.index-pending.result.now (c.loop-at.invariant o.0 o.1 o.2) waits),
+            (going-ready c.args.kind patterns c.args.members.now c.loop-at.states.items c.loop-at.growth.labels.items c.loop-at.growth.queue.items
+            c.loop-at.at c.index-pending.result.now (c.loop-at.invariant o.0 o.1 o.2) waits),
       );
     }
 

@@ -1,10 +1,7 @@
-use Rattle.std.proofs.Common.{◌≡◌, ◌<◌, ◌≤◌, ℕ, length, subst, sym, arith, Some}
+use Rattle.std.proofs.Common.{◌<◌, ◌≤◌, ℕ, length, subst, sym, arith, Some}
 use Rattle.ac_automaton.specs.declared.nfa.noncontiguous.state.State.{State}
-use Rattle.ac_automaton.specs.Tries.{Links, state_at}
+use Rattle.ac_automaton.specs.Tries.{Links}
 use Rattle.ac_automaton.proofs.Grown.{state-read}
-use Rattle.ac_automaton.proofs.Ranges.{own-range}
-use Rattle.ac_automaton.proofs.Starting.{waits-start}
-use Rattle.ac_automaton.proofs.Misses.{miss-child}
 use Rattle.ac_automaton.proofs.Linking.{link-far, link-here, link-behind}
 use Rattle.ac_automaton.proofs.nfa.noncontiguous.growth.link_of.Goals as goal
 

@@ -1,8 +1,7 @@
-use Rattle.std.proofs.Common.{◌≡◌, ◌≢◌, ℕ, ◌<◌, ◌≤◌, true, sym, ◌∙◌, subst, length, arith}
+use Rattle.std.proofs.Common.{sym, ◌∙◌, arith}
 use Rattle.std.proofs.lemmas.Bool.{false≢true}
-use Rattle.ac_automaton.specs.Growths.{Waits}
 use Rattle.ac_automaton.proofs.Places.{None-tested, Some-tested}
-use Rattle.ac_automaton.proofs.Starting.{start_pending, waits-dead, waits-start}
+use Rattle.ac_automaton.proofs.Starting.{waits-dead, waits-start}
 use Rattle.ac_automaton.proofs.nfa.noncontiguous.growth.start.Goals as goal
 use Rattle.ac_automaton.proofs.nfa.noncontiguous.growth.start.Goals.{then-is_leftmost+then-len-gt0+then-is_none, else-is_leftmost, else-is_leftmost-via-then-is_leftmost+then-len-gt0+else-is_none, else-is_leftmost-via-then-is_leftmost+else-len-gt0, else-is_leftmost-via-else-is_leftmost}
 
