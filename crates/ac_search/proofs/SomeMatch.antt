@@ -1,0 +1,16 @@
+-- Something is picked exactly if something occurs.
+use Rattle.std.proofs.Common.{◌≡◌, refl, sym, subst, Option, Some, None}
+use Rattle.std.specs.Prelude.{◌↔◌, IsTrue, is_some}
+use Rattle.std.proofs.lemmas.Bool.{false≢true}
+use Rattle.ac_util.specs.declared.search.MatchKind.{MatchKind}
+use Rattle.ac_util.specs.Occurrence.{Occurrence}
+use Rattle.ac_util.specs.Pick.{IsPick, pick}
+use Rattle.ac_util.specs.Search.{Search, Occurs}
+use Rattle.ac_util.proofs.Picks.{pick-IsPick}
+
+picks-some : (kind : MatchKind) (q : Search) (r : Option Occurrence) → IsPick kind q r → IsTrue (is_some r) ↔ ((m : Occurrence) × Occurs q m)
+picks-some kind q None h = ((λ t. absurd (false≢true t)), (λ o. absurd (h o.0 o.1)))
+picks-some kind q (Some m) h = ((λ t. (m, h.0)), (λ o. refl))
+
+pub some-match : (kind : MatchKind) (q : Search) (r : Option Occurrence) → r ≡ pick kind q → IsTrue (is_some r) ↔ ((m : Occurrence) × Occurs q m)
+some-match kind q r e = picks-some kind q r (subst (IsPick kind q) (sym e) (pick-IsPick kind q))

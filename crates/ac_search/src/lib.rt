@@ -1,0 +1,13 @@
+//! Searches for all matches of many patterns at once.
+#![tactic(auto)]
+
+pub mod ahocorasick;
+
+pub use ac_automaton::automaton::{Automaton, find_core};
+pub use ac_automaton::nfa::noncontiguous;
+pub use ac_util::device::{Bytes, FromRead, IntoWrite, Sink, Source, Written};
+pub use ac_util::error::{BuildError, MatchError};
+pub use ac_util::looks::{Looks, Tape, open};
+pub use ac_util::primitives::{PatternID, StateID};
+pub use ac_util::search::{Anchored, Input, Match, MatchKind, Span, StartKind};
+pub use ahocorasick::{AhoCorasick, AhoCorasickBuilder, AhoCorasickKind, FindIter};
