@@ -164,7 +164,10 @@ impl<A: Allocator> AhoCorasick<A> {
     /// # Errors
     /// As `try_find`.
     #[inline]
-    pub fn try_find_iter<'a, 'h>(&'a self, input: Input<'h>) -> Result<FindIter<'a, 'h, A>, MatchError>
+    pub fn try_find_iter<'a, 'h>(
+        &'a self,
+        input: Input<'h>,
+    ) -> Result<FindIter<'a, 'h, A>, MatchError>
         ensures { MatchResult result
             (λ matches. (find_refusal self.now.built (asked input.entry) ≡ None) × (matches ≡ begun self.now.built (asked input.entry)))
             (λ e. find_refusal self.now.built (asked input.entry) ≡ Some e) }
@@ -370,7 +373,11 @@ impl AhoCorasickBuilder {
     /// `PatternIdOverflow` and `PatternTooLong` exactly where a limit is passed, before any memory is asked for. Else
     /// `StateIdOverflow` only where the engine would need more states than there are numbers, and `Memory` where a request
     /// for memory is refused.
-    pub fn build<A: Allocator + Clone>(&self, alloc: A, patterns: &[&[u8]]) -> Result<AhoCorasick<A>, BuildError>
+    pub fn build<A: Allocator + Clone>(
+        &self,
+        alloc: A,
+        patterns: &[&[u8]],
+    ) -> Result<AhoCorasick<A>, BuildError>
         ensures { MatchOption (limit_refusal (map (λ p. p.now) patterns.now))
             (MatchResult result
             (λ searcher. IsBuilt self.now (map (λ p. p.now) patterns.now) searcher)

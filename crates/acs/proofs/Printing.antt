@@ -1,0 +1,131 @@
+-- Printing a walk, line by line.
+use Rattle.std.proofs.Common.{◌≡◌, ℕ, List, [], ◌∷◌, ◌++◌, length, take, drop, ap, sym, refl, ◌∙◌, subst, arith, Option, Some, None, inl, inr}
+use Rattle.std.specs.Io.{StartsWith}
+use Rattle.std.specs.Io.KnownBytes.{Appends}
+use Rattle.std.proofs.lemmas.List.{append-nil, append_assoc, take-append-drop}
+use Rattle.std.proofs.Math.Seq.{take-append_seam}
+use Rattle.ac_util.specs.Device.{Writing}
+use Rattle.ac_util.specs.Occurrence.{Occurrence}
+use Rattle.acs.specs.declared.fault.Fault.{Fault}
+use Rattle.acs.specs.declared.fault.Fault.TheVariants.{Memory}
+use Rattle.acs.specs.declared.run.Outcome.{Outcome}
+use Rattle.acs.specs.declared.run.Outcome.TheVariants.{Found, Nothing}
+use Rattle.acs.specs.Lines.{line, lines, outcome_of}
+use Rattle.acs.specs.Runs.{FailsToPrint, FailsToWrite, WritesAll}
+use Rattle.acs.proofs.Devices.{appends-trans}
+
+-- the lines of two lists one after the other
+lines-append : (xs ys : List Occurrence) → lines (xs ++ ys) ≡ lines xs ++ lines ys
+lines-append [] ys = refl
+lines-append (x ∷ xs) ys = ap (λ (w : List ℕ). line x ++ w) (lines-append xs ys) ∙ sym (append_assoc (line x) (lines xs) (lines ys))
+
+found-more : (xs : List Occurrence) (m : Occurrence) → outcome_of (xs ++ m ∷ []) ≡ Found
+found-more [] m = refl
+found-more (x ∷ xs) m = refl
+
+starts-from : (all part rest : List ℕ) → all ≡ part ++ rest → StartsWith all part
+starts-from all part rest e = ap (take (length part)) e ∙ take-append_seam part rest
+
+-- of all the matches some are printed and the rest is not: the lines of the first are written, but for the text
+pub record IsPrinting (all rest : List Occurrence) (old new : Writing) (text : List ℕ) (outcome : Outcome) : Type 0 where
+  pub done : List Occurrence
+  pub parted : done ++ rest ≡ all
+  pub out : List ℕ
+  pub moved : Appends old.held new.held out
+  pub written : out ++ text ≡ lines done
+  pub failed : new.failed ≡ old.failed
+  pub idles : new.idles ≡ old.idles
+  pub outcome_is : outcome ≡ outcome_of done
+
+-- nothing is printed yet
+pub appends-none : (w : Option (List ℕ)) → Appends w w []
+appends-none None = tt
+appends-none (Some x) = sym (append-nil x)
+
+pub printing-begins : (all : List Occurrence) (old : Writing) → IsPrinting all all old old [] Nothing
+printing-begins all old = record {
+  done = [];
+  parted = refl;
+  out = [];
+  moved = appends-none old.held;
+  written = refl;
+  failed = refl;
+  idles = refl;
+  outcome_is = refl;
+}
+
+module _ (all rest : List Occurrence) (old new : Writing) (text : List ℕ) (outcome : Outcome)
+    (h : IsPrinting all rest old new text outcome) where
+  -- the line of the next match is added to the text
+  pub printing-adds : (m : Occurrence) (later : List Occurrence) → rest ≡ m ∷ later → IsPrinting all later old new (text ++ line m) Found
+  printing-adds m later e = record {
+    done = h.done ++ m ∷ [];
+    parted = append_assoc h.done (m ∷ []) later ∙ ap (λ (ms : List Occurrence). h.done ++ ms) (sym e) ∙ h.parted;
+    out = h.out;
+    moved = h.moved;
+    written =
+        sym (append_assoc h.out text (line m)) ∙ ap (λ (w : List ℕ). w ++ line m) h.written
+        ∙ ap (λ (w : List ℕ). lines h.done ++ w) (sym (append-nil (line m))) ∙ sym (lines-append h.done (m ∷ []));
+    failed = h.failed;
+    idles = h.idles;
+    outcome_is = sym (found-more h.done m);
+  }
+
+  -- the text is written
+  pub printing-writes : (later : Writing) → WritesAll new later text → IsPrinting all rest old later [] outcome
+  printing-writes later w = record {
+    done = h.done;
+    parted = h.parted;
+    out = h.out ++ text;
+    moved = appends-trans old.held new.held later.held h.out text h.moved w.moved;
+    written = append-nil (h.out ++ text) ∙ h.written;
+    failed = w.failed ∙ h.failed;
+    idles = w.idles ∙ h.idles;
+    outcome_is = h.outcome_is;
+  }
+
+  all-lines : lines all ≡ h.out ++ (text ++ lines rest)
+  all-lines =
+      ap lines (sym h.parted) ∙ lines-append h.done rest
+      ∙ ap (λ (w : List ℕ). w ++ lines rest) (sym h.written) ∙ append_assoc h.out text (lines rest)
+
+  -- with the last text all is written
+  pub printing-ends : (later : Writing) → rest ≡ [] → WritesAll new later text → WritesAll old later (lines all) × (outcome ≡ outcome_of all)
+  printing-ends later e w =
+      let whole : h.done ≡ all = sym (append-nil h.done) ∙ ap (λ (ms : List Occurrence). h.done ++ ms) (sym e) ∙ h.parted in
+      let bytes : lines all ≡ h.out ++ text = ap lines (sym whole) ∙ sym h.written in (
+        record {
+          moved = subst (Appends old.held later.held) (sym bytes) (appends-trans old.held new.held later.held h.out text h.moved w.moved);
+          failed = w.failed ∙ h.failed;
+          idles = w.idles ∙ h.idles;
+        },
+        h.outcome_is ∙ ap outcome_of whole,
+      )
+
+  -- for want of memory it ends with what is written
+  pub printing-wants : FailsToPrint old new (lines all) Memory
+  printing-wants = record {
+    some = record { part = h.out; begins = starts-from (lines all) h.out (text ++ lines rest) all-lines; moved = h.moved };
+    cause = inl refl;
+  }
+
+  -- a write fails that has taken a part of the text
+  pub printing-fails : (later : Writing) (fault : Fault) → FailsToWrite new later text fault → FailsToPrint old later (lines all) fault
+  printing-fails later fault f =
+      let part = f.some.part in
+      let behind = drop (length part) text in
+      let split : text ≡ part ++ behind = sym (take-append-drop (length part) text) ∙ ap (λ (w : List ℕ). w ++ behind) f.some.begins in
+      let begun : lines all ≡ (h.out ++ part) ++ (behind ++ lines rest) =
+      all-lines ∙ ap (λ (w : List ℕ). h.out ++ (w ++ lines rest)) split
+      ∙ ap (λ (w : List ℕ). h.out ++ w) (append_assoc part behind (lines rest)) ∙ sym (append_assoc h.out part (behind ++ lines rest)) in
+      record {
+        some = record {
+          part = h.out ++ part;
+          begins = starts-from (lines all) (h.out ++ part) (behind ++ lines rest) begun;
+          moved = appends-trans old.held new.held later.held h.out part h.moved f.some.moved;
+        };
+        cause = elim f.cause [
+          | inl io ↦ inr (inl (io.0, (let l = io.1 in let m = h.failed in omega arith)))
+          | inr zero ↦ inr (inr (zero.0, (let l = zero.1 in let m = h.idles in omega arith)))
+        ];
+      }

@@ -1,0 +1,37 @@
+use Rattle.std.proofs.Common.{◌<◌, ◌≤◌, ℕ, List, length, length-drop, take, drop, ap, refl, ◌∙◌, subst, arith, inl}
+use Rattle.std.specs.Prelude.{slice_range}
+use Rattle.std.specs.Io.KnownBytes.{Appends}
+use Rattle.ac_util.specs.Device.{Writing}
+use Rattle.acs.proofs.Devices.{append-more, beginning, not-idle, rest-range}
+use Rattle.acs.proofs.output.write_all.Goals as goal
+
+pub loop-at-preserved : goal.loop-at-preserved
+loop-at-preserved g c =
+    let told = g.W.Sink.told in
+    let gave = c.in-Ok.ensures in
+    let h = c.loop-at.invariant in
+    let rest = rest-range c.loop-at.at c.args.bytes.now in
+    let some : 0 < c.in-Ok.n = omega (arith, c.in-Ok.n-test) in
+    let room : c.in-Ok.n ≤ length (drop c.loop-at.at c.args.bytes.now) =
+    subst (λ (piece : List ℕ). c.in-Ok.n ≤ length piece) rest gave.within in
+    record {
+      within = (let d = length-drop c.loop-at.at c.args.bytes.now in omega (arith, c.loop-at-test.true));
+      moved = append-more (told c.args.writer.now).held (told c.loop-at.writer).held (told c.write_some.new.self).held c.args.bytes.now c.loop-at.at c.in-Ok.n
+          h.moved (subst (λ (piece : List ℕ). Appends (told c.loop-at.writer).held (told c.write_some.new.self).held (take c.in-Ok.n piece)) rest gave.moved);
+      failed = gave.failed ∙ h.failed;
+      idles = gave.idles ∙ (let none = not-idle c.in-Ok.n (length (slice_range c.args.bytes.now c.loop-at.at (length c.args.bytes.now))) (λ e. absurd (omega arith)) in let k = h.idles in omega arith);
+    }
+
+pub returns-in-Err : goal.returns-in-Err
+returns-in-Err g c =
+    let told = g.W.Sink.told in
+    let failed = c.in-Err.ensures in
+    let h = c.loop-at.invariant in
+    record {
+      some = record {
+        part = take c.loop-at.at c.args.bytes.now;
+        begins = beginning c.loop-at.at c.args.bytes.now;
+        moved = rw failed h.moved;
+      };
+      cause = inl (refl, (let f = ap (λ (w : Writing). w.failed) failed in let k = h.failed in omega arith));
+    }

@@ -1,0 +1,16 @@
+use Rattle.std.proofs.Common.{◌≡◌, ◌≤◌, ◌-◌, length, take}
+use Rattle.std.specs.Io.KnownBytes.{Appends}
+use Rattle.acs.proofs.output.write_all.Given as goal
+
+abbrev pub invariant-loop-at : goal.invariant-loop-at
+invariant-loop-at g l =
+    let told = g.W.Sink.told in
+    record {
+      within : l.at ≤ length l.bytes;
+      moved : Appends (told l.fn.writer).held (told l.writer).held (take l.at l.bytes);
+      failed : (told l.writer).failed ≡ (told l.fn.writer).failed;
+      idles : (told l.writer).idles ≡ (told l.fn.writer).idles;
+    }
+
+abbrev pub decreases-loop-at : goal.decreases-loop-at
+decreases-loop-at g l = length l.bytes - l.at

@@ -1,0 +1,44 @@
+-- Why the program fails, and what it says then.
+use Rattle.std.specs.Prelude.{◌≡◌, ◌⊎◌, ℕ, ◌<◌, List, codes, map, MatchOption}
+use Rattle.ac_util.specs.declared.error.BuildError.{BuildError}
+use Rattle.ac_util.specs.declared.error.BuildError.TheVariants.{Memory as NoMemory, PatternIdOverflow, PatternTooLong as TooLongPattern, StateIdOverflow}
+use Rattle.ac_util.specs.Device.{Reading, Writing}
+use Rattle.ac_util.specs.Limits.{limit_refusal}
+use Rattle.ac_util.specs.Sameness.{plain}
+use Rattle.ac_automaton.specs.Builds.{IsRefused}
+use Rattle.ac_search.specs.Searchers.{Settings}
+use Rattle.acs.specs.declared.fault.Fault.{Fault}
+use Rattle.acs.specs.declared.fault.Fault.TheVariants.{Usage, Memory, TooManyPatterns, PatternTooLong, TooManyStates, Io, WriteZero}
+
+-- the line of each fault
+abbrev pub line_of : Fault → List ℕ
+line_of Usage = codes "acs: usage: acs MODE KIND ENGINE WORD.."
+line_of Memory = codes "acs: out of memory"
+line_of TooManyPatterns = codes "acs: too many patterns"
+line_of PatternTooLong = codes "acs: pattern too long"
+line_of TooManyStates = codes "acs: too many states"
+line_of Io = codes "acs: input or output failed"
+line_of WriteZero = codes "acs: output took no byte"
+
+-- the fault that a refused build is
+abbrev pub fault_of : BuildError → Fault
+fault_of NoMemory = Memory
+fault_of (PatternIdOverflow max requested) = TooManyPatterns
+fault_of (TooLongPattern pattern len) = PatternTooLong
+fault_of (StateIdOverflow max requested) = TooManyStates
+
+-- a build over these patterns may be refused so
+abbrev pub Refuses : Settings → List (List ℕ) → BuildError → Type 0
+Refuses settings patterns e =
+    MatchOption (limit_refusal patterns) (IsRefused settings.match_kind (map (plain settings.fold) patterns) e) (λ refusal. e ≡ refusal)
+
+-- the fault of a build that was refused so, or for which there was no memory
+abbrev pub IsNotBuilt : Settings → List (List ℕ) → Fault → Type 0
+IsNotBuilt settings patterns fault = ((e : BuildError) × (fault ≡ fault_of e) × Refuses settings patterns e) ⊎ (fault ≡ Memory)
+
+-- each fault comes for its cause alone: the build was refused, memory was, a read or write failed, or a write took nothing
+abbrev pub HasCause : Settings → List (List ℕ) → Reading → Reading → Writing → Writing → Fault → Type 0
+HasCause settings patterns reader new_reader writer new_writer fault =
+    IsNotBuilt settings patterns fault
+    ⊎ (((fault ≡ Io) × ((reader.failed < new_reader.failed) ⊎ (writer.failed < new_writer.failed)))
+    ⊎ ((fault ≡ WriteZero) × (writer.idles < new_writer.idles)))

@@ -1,0 +1,4 @@
+pub mod Faults
+pub mod Lines
+pub mod Requests
+pub mod Runs

@@ -1,0 +1,72 @@
+//! Why a run fails.
+ghost use Rattle.std.specs.Prelude.{◌≡◌};
+ghost use Rattle.acs.specs.declared.fault.Fault.TheVariants.{Memory as OutOfMemory};
+ghost use Rattle.acs.specs.Faults.{fault_of, line_of};
+
+use ac_search::BuildError;
+use std::alloc::{AllocError, AllocFailed};
+
+/// Why a run fails.
+#[derive(Clone, Copy, PartialEq, Eq, Debug)]
+pub enum Fault {
+    /// The words ask for nothing that there is.
+    Usage,
+    /// A request for memory was refused.
+    Memory,
+    /// There are more patterns than numbers for them.
+    TooManyPatterns,
+    /// A pattern is too long.
+    PatternTooLong,
+    /// The patterns want more states than there are numbers for.
+    TooManyStates,
+    /// A read or a write failed.
+    Io,
+    /// A write took no byte.
+    WriteZero,
+}
+
+impl Fault {
+    /// Returns the line that tells of it, without its end.
+    pub fn line(&self) -> &'static str
+        ensures { result.now ≡ line_of self.now }
+    {
+        match self {
+            Fault::Usage => "acs: usage: acs MODE KIND ENGINE WORD..",
+            Fault::Memory => "acs: out of memory",
+            Fault::TooManyPatterns => "acs: too many patterns",
+            Fault::PatternTooLong => "acs: pattern too long",
+            Fault::TooManyStates => "acs: too many states",
+            Fault::Io => "acs: input or output failed",
+            Fault::WriteZero => "acs: output took no byte",
+        }
+    }
+}
+
+impl From<BuildError> for Fault {
+    ghost from_gives = { λ e fault. fault ≡ fault_of e };
+
+    fn from(refusal: BuildError) -> Fault {
+        match refusal {
+            BuildError::Memory => Fault::Memory,
+            BuildError::PatternIdOverflow { .. } => Fault::TooManyPatterns,
+            BuildError::PatternTooLong { .. } => Fault::PatternTooLong,
+            BuildError::StateIdOverflow { .. } => Fault::TooManyStates,
+        }
+    }
+}
+
+impl From<AllocError> for Fault {
+    ghost from_gives = { λ _ fault. fault ≡ OutOfMemory };
+
+    fn from(_refused: AllocError) -> Fault {
+        Fault::Memory
+    }
+}
+
+impl<T: Drop> From<AllocFailed<T>> for Fault {
+    ghost from_gives = { λ _ fault. fault ≡ OutOfMemory };
+
+    fn from(_refused: AllocFailed<T>) -> Fault {
+        Fault::Memory
+    }
+}

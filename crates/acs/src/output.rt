@@ -1,0 +1,93 @@
+//! Lines for matches, written in large pieces.
+ghost use Rattle.std.specs.Prelude.{◌≡◌, ◌++◌, List, ℕ, MatchResult, OnOk, option_to_list, string_bytes};
+ghost use Rattle.acs.specs.Lines.{line, lines, outcome_of};
+ghost use Rattle.acs.specs.Runs.{FailsToPrint, FailsToWrite, WritesAll};
+
+use crate::fault::Fault;
+use crate::run::Outcome;
+use ac_search::{FindIter, Match, Sink};
+use std::alloc::{AllocError, Allocator};
+
+/// From how many bytes on the lines are written.
+const FULL: usize = 65536;
+
+/// Adds the line of a match to a text.
+///
+/// # Errors
+/// `AllocError` where a request for memory is refused.
+fn add_line<A: Allocator + Clone>(text: &mut String<A>, m: &Match) -> Result<(), AllocError>
+    ensures { OnOk result (string_bytes text.new ≡ string_bytes text.old ++ line m.now) }
+{
+    let (pattern, start, end) = (m.pattern().as_usize(), m.start(), m.end());
+    write!(text, "{pattern} {start} {end}\n")
+}
+
+/// Writes all of the bytes.
+///
+/// # Errors
+/// `Io` where a write fails, `WriteZero` where it takes no byte.
+fn write_all<W: Sink>(writer: &mut W, bytes: &[u8]) -> Result<(), Fault>
+    ensures { MatchResult result
+        (λ _. WritesAll (W.told writer.old) (W.told writer.new) bytes.now)
+        (FailsToWrite (W.told writer.old) (W.told writer.new) bytes.now) }
+{
+    let mut at = 0;
+    while at < bytes.len() {
+        match writer.write_some(&bytes[at..]) {
+            Ok(0) => return Err(Fault::WriteZero),
+            Ok(n) => at += n,
+            Err(_) => return Err(Fault::Io),
+        }
+    }
+    Ok(())
+}
+
+/// Writes a line for each match.
+///
+/// # Errors
+/// `Io` where a write fails, `WriteZero` where it takes no byte, `Memory` where a request for memory is refused. The lines
+/// before are written, or a beginning of them.
+pub(crate) fn print_walk<A: Allocator + Clone, B: Allocator, W: Sink>(
+    alloc: A,
+    matches: FindIter<'_, '_, B>,
+    writer: &mut W,
+) -> Result<Outcome, Fault>
+    ensures { MatchResult result
+        (λ outcome. WritesAll (W.told writer.old) (W.told writer.new) (lines matches.entry.rest) × (outcome ≡ outcome_of matches.entry.rest))
+        (FailsToPrint (W.told writer.old) (W.told writer.new) (lines matches.entry.rest)) }
+{
+    let mut text = String::new(alloc);
+    let mut outcome = Outcome::Nothing;
+    for m in matches {
+        outcome = Outcome::Found;
+        add_line(&mut text, &m)?;
+        if text.len() >= FULL {
+            write_all(writer, text.as_bytes())?;
+            text.clear();
+        }
+    }
+    write_all(writer, text.as_bytes())?;
+    Ok(outcome)
+}
+
+/// Writes a line for a match, if there is one.
+///
+/// # Errors
+/// As `print_walk`.
+pub(crate) fn print_found<A: Allocator + Clone, W: Sink>(
+    alloc: A,
+    found: Option<Match>,
+    writer: &mut W,
+) -> Result<Outcome, Fault>
+    ensures { MatchResult result
+        (λ outcome. WritesAll (W.told writer.old) (W.told writer.new) (lines (option_to_list found)) × (outcome ≡ outcome_of (option_to_list found)))
+        (FailsToPrint (W.told writer.old) (W.told writer.new) (lines (option_to_list found))) }
+{
+    let Some(m) = found else {
+        return Ok(Outcome::Nothing);
+    };
+    let mut text = String::new(alloc);
+    add_line(&mut text, &m)?;
+    write_all(writer, text.as_bytes())?;
+    Ok(Outcome::Found)
+}

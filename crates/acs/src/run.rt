@@ -1,0 +1,105 @@
+//! The program over any reader and writer.
+ghost use Rattle.std.specs.Prelude.{◌≡◌, Err, MatchOption, MatchResult, map};
+ghost use Rattle.acs.specs.declared.fault.Fault;
+ghost use Rattle.acs.specs.Lines.{status_of};
+ghost use Rattle.ac_search.specs.Searchers.{searcher_by};
+ghost use Rattle.acs.specs.Faults.{IsNotBuilt};
+ghost use Rattle.acs.specs.Requests.{patterns_of, request_of, settings_of};
+ghost use Rattle.acs.specs.Runs.{HasFailed, HasRun};
+
+use crate::fault::Fault;
+use crate::input::read_all;
+use crate::output::{print_found, print_walk};
+use crate::request::{Mode, Request, patterns_of, request_of};
+use ac_search::{AhoCorasick, AhoCorasickBuilder, Input, Sink, Source};
+use std::alloc::Allocator;
+
+/// How a run ends that meets no fault.
+#[derive(Clone, Copy, PartialEq, Eq, Debug)]
+pub enum Outcome {
+    /// A line was written.
+    Found,
+    /// No line was.
+    Nothing,
+}
+
+/// Searches all that a reader gives for what the words ask for, and writes a line for each match: its pattern's number, its
+/// start and its end.
+///
+/// The words are tested first, then the searcher is built, then the whole input is read, and only then something is written.
+///
+/// # Errors
+/// `Usage` exactly where the words ask for nothing that there is; then nothing is read or written. Any other fault comes for
+/// its cause alone, and what was written until then is a beginning of the lines.
+pub fn run<A: Allocator + Clone, R: Source, W: Sink>(
+    alloc: A,
+    words: &[&str],
+    reader: &mut R,
+    writer: &mut W,
+) -> Result<Outcome, Fault>
+    ensures { MatchOption (request_of (map (λ w. w.now) words.now))
+        ((result ≡ Err Fault.Usage) × (R.told reader.new ≡ R.told reader.old) × (W.told writer.new ≡ W.told writer.old))
+        (λ request. MatchResult result
+        (HasRun request (patterns_of (map (λ w. w.now) words.now)) (R.told reader.old) (R.told reader.new) (W.told writer.old) (W.told writer.new))
+        (HasFailed request (patterns_of (map (λ w. w.now) words.now)) (R.told reader.old) (R.told reader.new) (W.told writer.old) (W.told writer.new))) }
+{
+    let Some(request) = request_of(words) else {
+        return Err(Fault::Usage);
+    };
+    search(alloc, request, &words[3..], reader, writer)
+}
+
+/// Searches all that a reader gives for these words, and writes a line for each match.
+///
+/// # Errors
+/// As `run`, but for `Usage`.
+fn search<A: Allocator + Clone, R: Source, W: Sink>(
+    alloc: A,
+    request: Request,
+    words: &[&str],
+    reader: &mut R,
+    writer: &mut W,
+) -> Result<Outcome, Fault>
+    ensures { MatchResult result
+        (HasRun request (map (λ w. w.now) words.now) (R.told reader.old) (R.told reader.new) (W.told writer.old) (W.told writer.new))
+        (HasFailed request (map (λ w. w.now) words.now) (R.told reader.old) (R.told reader.new) (W.told writer.old) (W.told writer.new)) }
+{
+    let searcher = searcher_for(alloc.clone()?, request, words)?;
+    let haystack = read_all(alloc.clone()?, reader)?;
+    let input = Input::new(&haystack);
+    match request.mode {
+        Mode::Find => print_found(alloc, searcher.find(input), writer),
+        Mode::Walk => print_walk(alloc, searcher.find_iter(input), writer),
+    }
+}
+
+/// Builds the searcher that is asked for.
+///
+/// # Errors
+/// Why the build is refused.
+fn searcher_for<A: Allocator + Clone>(
+    alloc: A,
+    request: Request,
+    words: &[&str],
+) -> Result<AhoCorasick<A>, Fault>
+    ensures { MatchResult result
+        (λ searcher. searcher ≡ searcher_by (settings_of request) (map (λ w. w.now) words.now))
+        (IsNotBuilt (settings_of request) (map (λ w. w.now) words.now)) }
+{
+    let patterns = patterns_of(alloc.clone()?, words)?;
+    let mut builder = AhoCorasickBuilder::new();
+    builder.match_kind(request.kind);
+    builder.kind(Some(request.engine));
+    Ok(builder.build(alloc, &patterns)?)
+}
+
+/// Returns the exit status: 0 where a line was written, 1 where none was, 2 after a fault.
+pub fn status(outcome: &Result<Outcome, Fault>) -> u8
+    ensures { result ≡ status_of outcome.now }
+{
+    match outcome {
+        Ok(Outcome::Found) => 0,
+        Ok(Outcome::Nothing) => 1,
+        Err(_) => 2,
+    }
+}
