@@ -1,5 +1,5 @@
 -- Something is picked exactly if something occurs.
-use Rattle.std.proofs.Common.{◌≡◌, refl, sym, subst, Option, Some, None}
+use Rattle.std.proofs.Common.{◌≡◌, ◌≢◌, refl, sym, subst, Option, Some, None}
 use Rattle.std.specs.Prelude.{◌↔◌, IsTrue, is_some}
 use Rattle.std.proofs.lemmas.Bool.{false≢true}
 use Rattle.ac_util.specs.declared.search.MatchKind.{MatchKind}
@@ -14,3 +14,14 @@ picks-some kind q (Some m) h = ((λ t. (m, h.0)), (λ o. refl))
 
 pub some-match : (kind : MatchKind) (q : Search) (r : Option Occurrence) → r ≡ pick kind q → IsTrue (is_some r) ↔ ((m : Occurrence) × Occurs q m)
 some-match kind q r e = picks-some kind q r (subst (IsPick kind q) (sym e) (pick-IsPick kind q))
+
+some-or-none : (r : Option Occurrence) → (IsTrue (is_some r) → r ≢ None) × (r ≢ None → IsTrue (is_some r))
+some-or-none None = ((λ t. absurd (false≢true t)), (λ some. absurd (some refl)))
+some-or-none (Some m) = ((λ t e. absurd (cc)), (λ some. refl))
+
+-- so a pick isn't None exactly if something occurs
+pub picked-something : (kind : MatchKind) (q : Search) → ((m : Occurrence) × Occurs q m) ↔ (pick kind q ≢ None)
+picked-something kind q =
+    let some = some-match kind q (pick kind q) refl in
+    let or_none = some-or-none (pick kind q) in
+    ((λ o. or_none.0 (some.1 o)), (λ picked. some.0 (or_none.1 picked)))

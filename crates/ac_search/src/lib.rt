@@ -2,6 +2,7 @@
 #![tactic(auto)]
 
 pub mod ahocorasick;
+pub mod laws;
 
 pub use ac_automaton::automaton::{Automaton, find_core};
 pub use ac_automaton::nfa::noncontiguous;

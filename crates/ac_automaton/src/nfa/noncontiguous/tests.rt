@@ -1,8 +1,9 @@
 use super::{Builder, NFA};
 use crate::automaton::Automaton;
-use ac_util::plain::{Query, walk};
+use ac_util::error::BuildError;
+use ac_util::plain::{Query, find, walk};
 use ac_util::search::Anchored::{No, Yes};
-use ac_util::search::MatchKind::Standard;
+use ac_util::search::MatchKind::{LeftmostFirst, LeftmostLongest, Standard};
 use ac_util::search::{Anchored, Input, Match, MatchKind, Span};
 use std::alloc::Global;
 use std::test::Fail;
@@ -14,18 +15,34 @@ mod rows;
 mod small;
 mod spans;
 mod states;
+mod worked;
 
 /// A pattern number, a start and an end.
 type Told = (usize, usize, usize);
 
 /// The match kinds that a build can be asked for.
-const EACH: &[MatchKind] = &[Standard];
+const EACH: &[MatchKind] = &[Standard, LeftmostFirst, LeftmostLongest];
+
+/// The settings of a build, and whether searches for the earliest end are compared too.
+#[derive(Clone, Copy)]
+struct Settings {
+    kind: MatchKind,
+    fold: bool,
+    earliest: bool,
+}
+
+impl Settings {
+    /// Returns an automaton of these settings.
+    fn build(self, alloc: Global, patterns: &[&[u8]]) -> Result<NFA, BuildError> {
+        builder(self.kind, self.fold).build(alloc, patterns)
+    }
+}
 
 /// Returns a builder for a match kind, with or without case.
-///
-/// The builder has no settings yet, so the kind is Standard and case counts.
-fn builder(_kind: MatchKind, _fold: bool) -> Builder {
-    Builder::new()
+fn builder(kind: MatchKind, fold: bool) -> Builder {
+    let mut builder = Builder::new();
+    builder.match_kind(kind).ascii_case_insensitive(fold);
+    builder
 }
 
 /// Returns what a row says of a match.
@@ -33,35 +50,38 @@ fn told(m: &Match) -> Told {
     (m.pattern().as_usize(), m.start(), m.end())
 }
 
-/// Returns the walk of the automaton as a row says it.
-fn walk_of(alloc: Global, nfa: &NFA, input: Input<'_>) -> Result<Vec<Told>, Fail> {
+/// Returns the walk of the automaton.
+fn walk_of(alloc: Global, nfa: &NFA, input: Input<'_>) -> Result<Vec<Match>, Fail> {
+    let mut walk = nfa.try_find_iter(input)?;
     let mut walked = Vec::new(alloc);
-    for found in nfa.try_find_iter(input)? {
-        walked.push(told(&found))?;
+    for _ in 0..u64::MAX {
+        let Some(found) = walk.next() else {
+            break;
+        };
+        walked.push(found)?;
     }
     Ok(walked)
 }
 
-/// Compares the automaton with the plain program, in one span of a haystack.
+/// Compares the automaton with the plain program, in one span of a haystack, unanchored and anchored.
 ///
-/// The find and the whole walk are compared, unanchored and anchored, for the earliest end or not.
 /// The automaton has to be that of the patterns. A difference is told as a failure.
-fn compare(
+fn compare<'a>(
     alloc: Global,
     nfa: &NFA,
-    fold: bool,
-    patterns: &[&[u8]],
-    haystack: &[u8],
+    settings: Settings,
+    patterns: &'a [&'a [u8]],
+    haystack: &'a [u8],
     span: Span,
 ) -> Result<(), Fail> {
     let (start, end) = (span.start, span.end);
-    if patterns.len() > 1000 || end > haystack.len() || start > end + 1 {
+    if patterns.len() > 1000 || end > haystack.len() || start.saturating_sub(end) > 1 {
         return Err(Fail::new("no search has this span"));
     }
     for anchored in [No, Yes] {
-        let query = Query::new(patterns, fold, haystack, anchored, span);
+        let query = Query::new(patterns, settings.fold, haystack, anchored, span);
         let input = Input::new(haystack).range(start..end).anchored(anchored);
-        if !is_plain(alloc, nfa, &query, input)? {
+        if !is_plain(alloc, nfa, settings, &query, input)? {
             return Err(Fail::new(format_args!(
                 "{anchored:?}: {patterns:?} in {haystack:?} at {span:?}"
             )));
@@ -70,34 +90,38 @@ fn compare(
     Ok(())
 }
 
-/// Returns whether the answers for an input, for the earliest end or not, are the plain ones.
-fn is_plain(alloc: Global, nfa: &NFA, query: &Query<'_>, input: Input<'_>) -> Result<bool, Fail> {
-    let kind = nfa.match_kind();
-    let wanted = walk(alloc, kind, query)?;
-    if !gives(nfa, input, &wanted)? {
+/// Returns whether the answers for an input are the plain ones.
+///
+/// The first match of the plain walk stands for the plain find: that it is that find is looked at only where
+/// searches for the earliest end are compared too.
+fn is_plain(
+    alloc: Global,
+    nfa: &NFA,
+    settings: Settings,
+    query: &Query<'_>,
+    input: Input<'_>,
+) -> Result<bool, Fail> {
+    let wanted = walk(alloc, settings.kind, query)?;
+    if !gives(alloc, nfa, input, &wanted)? {
         return Ok(false);
     }
-    let earliest = input.earliest(true);
-    if kind == Standard {
-        gives(nfa, earliest, &wanted)
-    } else {
-        gives(nfa, earliest, &walk(alloc, Standard, query)?)
+    if !settings.earliest {
+        return Ok(true);
     }
+    if find(settings.kind, query) != wanted.first().copied() {
+        return Ok(false);
+    }
+    let first_ends = walk(alloc, Standard, query)?;
+    gives(alloc, nfa, input.earliest(true), &first_ends)
 }
 
 /// Returns whether the walk gives these matches, and the find the first of them.
-fn gives(nfa: &NFA, input: Input<'_>, wanted: &[Match]) -> Result<bool, Fail> {
+fn gives(alloc: Global, nfa: &NFA, input: Input<'_>, wanted: &[Match]) -> Result<bool, Fail> {
     if nfa.try_find(input)? != wanted.first().copied() {
         return Ok(false);
     }
-    let mut count = 0;
-    for found in nfa.try_find_iter(input)? {
-        if wanted.get(count) != Some(&found) {
-            return Ok(false);
-        }
-        count += 1;
-    }
-    Ok(count == wanted.len())
+    let walked = walk_of(alloc, nfa, input)?;
+    Ok(walked.as_slice() == wanted)
 }
 
 /// Returns the span of a whole haystack.

@@ -1,7 +1,6 @@
 ghost use Rattle.std.specs.Prelude.{◌≤◌, length};
 
-use super::builder;
-use crate::automaton::Automaton;
+use super::{builder, walk_of};
 use ac_util::plain::{Query, find};
 use ac_util::search::Anchored::No;
 use ac_util::search::MatchKind::Standard;
@@ -61,7 +60,7 @@ impl Numbers {
 /// Returns the match that Standard picks from a place on, by the plain program.
 ///
 /// What is picked in a beginning of the rest is picked in all of it, so short ones are tried first.
-fn next_plain(patterns: &[&[u8]], haystack: &[u8], place: usize) -> Option<Match>
+fn next_plain<'a>(patterns: &'a [&'a [u8]], haystack: &'a [u8], place: usize) -> Option<Match>
     requires { length patterns.now ≤ 1000 }
 {
     for width in [12, 100, haystack.len()] {
@@ -90,15 +89,16 @@ fn compare_long(alloc: Global, shortest: u64, least: usize) -> Result<(), Fail> 
     }
     let haystack = numbers.text(alloc, 5000)?;
     let nfa = builder(Standard, false).build(alloc, &patterns)?;
-    let (mut place, mut count) = (0, 0);
-    for found in nfa.try_find_iter(Input::new(&haystack))? {
+    let walked = walk_of(alloc, &nfa, Input::new(&haystack))?;
+    let mut place = 0;
+    for &found in &walked {
         let wanted = next_plain(&patterns, &haystack, place);
         if wanted != Some(found) {
             return Err(Fail::new(format_args!("{found:?}, wanted {wanted:?}")));
         }
         place = found.end();
-        count += 1;
     }
+    let count = walked.len();
     if next_plain(&patterns, &haystack, place).is_some() || count < least {
         return Err(Fail::new(format_args!("only {count} matches, up to {place}")));
     }

@@ -1,12 +1,9 @@
-use super::{EACH, Told, builder, told, walk_of};
-use crate::automaton::Automaton;
-use ac_util::search::Anchored::{No, Yes};
-use ac_util::search::MatchKind::Standard;
-use ac_util::search::{Anchored, Input, MatchKind};
-use std::test::Fail;
+use super::{EACH, Told};
+use ac_util::search::MatchKind;
+use ac_util::search::MatchKind::{LeftmostFirst, LeftmostLongest, Standard};
 
 /// A name, the match kinds, the patterns, the haystack and the matches that a search is to give.
-type Row = (
+pub(super) type Row = (
     &'static str,
     &'static [MatchKind],
     &'static [&'static [u8]],
@@ -14,7 +11,7 @@ type Row = (
     &'static [Told],
 );
 
-const FINDS: &[Row] = &[
+pub(super) const FINDS: &[Row] = &[
     (
         "he, she, his, hers",
         &[Standard],
@@ -51,6 +48,34 @@ const FINDS: &[Row] = &[
         &[(1, 0, 3)],
     ),
     (
+        "abcd fails, bc stands",
+        &[LeftmostFirst],
+        &[b"abcd", b"bc"],
+        b"abce",
+        &[(1, 1, 3)],
+    ),
+    (
+        "abcd stands before bc",
+        &[LeftmostFirst],
+        &[b"abcd", b"bc"],
+        b"abcd",
+        &[(0, 0, 4)],
+    ),
+    (
+        "b, abc, abcd: the least number",
+        &[LeftmostFirst],
+        &[b"b", b"abc", b"abcd"],
+        b"abcd",
+        &[(1, 0, 3)],
+    ),
+    (
+        "b, abc, abcd: the longest",
+        &[LeftmostLongest],
+        &[b"b", b"abc", b"abcd"],
+        b"abcd",
+        &[(2, 0, 4)],
+    ),
+    (
         "one pattern twice",
         EACH,
         &[b"ab", b"ab"],
@@ -68,13 +93,20 @@ const FINDS: &[Row] = &[
     ("no patterns in nothing", EACH, &[], b"", &[]),
 ];
 
-const ANCHORED_FINDS: &[Row] = &[
+pub(super) const ANCHORED_FINDS: &[Row] = &[
     (
         "anchored: the first end",
         &[Standard],
         &[b"b", b"abc", b"abcd"],
         b"abcd",
         &[(1, 0, 3)],
+    ),
+    (
+        "anchored: the longest",
+        &[LeftmostLongest],
+        &[b"b", b"abc", b"abcd"],
+        b"abcd",
+        &[(2, 0, 4)],
     ),
     (
         "anchored: nothing at the start",
@@ -92,7 +124,7 @@ const ANCHORED_FINDS: &[Row] = &[
     ),
 ];
 
-const WALKS: &[Row] = &[
+pub(super) const WALKS: &[Row] = &[
     (
         "maple and apple",
         EACH,
@@ -106,6 +138,20 @@ const WALKS: &[Row] = &[
         &[b"append", b"appendage", b"app"],
         b"append the app to the appendage",
         &[(2, 0, 3), (2, 11, 14), (2, 22, 25)],
+    ),
+    (
+        "append, appendage, app: the least number",
+        &[LeftmostFirst],
+        &[b"append", b"appendage", b"app"],
+        b"append the app to the appendage",
+        &[(0, 0, 6), (2, 11, 14), (0, 22, 28)],
+    ),
+    (
+        "append, appendage, app: the longest",
+        &[LeftmostLongest],
+        &[b"append", b"appendage", b"app"],
+        b"append the app to the appendage",
+        &[(0, 0, 6), (2, 11, 14), (1, 22, 31)],
     ),
     (
         "he, she, his, hers",
@@ -134,6 +180,13 @@ const WALKS: &[Row] = &[
         &[b"", b"a"],
         b"a",
         &[(0, 0, 0), (0, 1, 1)],
+    ),
+    (
+        "an empty pattern and a, the longest",
+        &[LeftmostLongest],
+        &[b"", b"a"],
+        b"ba",
+        &[(0, 0, 0), (1, 1, 2)],
     ),
     (
         "an empty pattern in nothing",
@@ -167,44 +220,62 @@ const WALKS: &[Row] = &[
     ("no patterns in nothing", EACH, &[], b"", &[]),
 ];
 
-const ANCHORED_WALKS: &[Row] = &[(
-    "anchored: foo, bar, quux",
+pub(super) const ANCHORED_WALKS: &[Row] = &[
+    (
+        "anchored: foo, bar, quux",
+        EACH,
+        &[b"foo", b"bar", b"quux"],
+        b"fooquuxbar foo",
+        &[(0, 0, 3), (2, 3, 7), (1, 7, 10)],
+    ),
+    (
+        "anchored: an empty pattern and a, the longest",
+        &[LeftmostLongest],
+        &[b"", b"a"],
+        b"ba",
+        &[(0, 0, 0), (1, 1, 2)],
+    ),
+];
+
+/// Rows where case is ignored.
+pub(super) const FOLDED_FINDS: &[Row] = &[
+    (
+        "without case: one pattern in two cases",
+        EACH,
+        &[b"ab", b"AB"],
+        b"aB",
+        &[(0, 0, 2)],
+    ),
+    (
+        "without case: a bracket is no letter",
+        EACH,
+        &[b"["],
+        b"{",
+        &[],
+    ),
+];
+
+pub(super) const FOLDED_WALKS: &[Row] = &[(
+    "without case: FOO, bAr, BaZ",
     EACH,
-    &[b"foo", b"bar", b"quux"],
-    b"fooquuxbar foo",
-    &[(0, 0, 3), (2, 3, 7), (1, 7, 10)],
+    &[b"FOO", b"bAr", b"BaZ"],
+    b"foo bar baz",
+    &[(0, 0, 3), (1, 4, 7), (2, 8, 11)],
 )];
 
-const TABLES: [(&[Row], Anchored); 2] = [(FINDS, No), (ANCHORED_FINDS, Yes)];
+/// Rows of searches for the earliest end.
+pub(super) const EARLIEST_WALKS: &[Row] = &[(
+    "earliest: b, abc, abcd",
+    EACH,
+    &[b"b", b"abc", b"abcd"],
+    b"abcdabcd",
+    &[(0, 1, 2), (0, 5, 6)],
+)];
 
-const WALK_TABLES: [(&[Row], Anchored); 2] = [(WALKS, No), (ANCHORED_WALKS, Yes)];
-
-#[test]
-fn finds(rt: HostRuntime) -> Result<(), Fail> {
-    for (rows, anchored) in TABLES {
-        for &(name, kinds, patterns, haystack, wanted) in rows {
-            for &kind in kinds {
-                let nfa = builder(kind, false).build(rt.alloc(), patterns)?;
-                let input = Input::new(haystack).anchored(anchored);
-                let found = nfa.try_find(input)?.map(|m| told(&m));
-                assert_eq!(rt; found, wanted.first().copied(), "{name} under {kind:?}");
-            }
-        }
-    }
-    Ok(())
-}
-
-#[test]
-fn walks(rt: HostRuntime) -> Result<(), Fail> {
-    for (rows, anchored) in WALK_TABLES {
-        for &(name, kinds, patterns, haystack, wanted) in rows {
-            for &kind in kinds {
-                let nfa = builder(kind, false).build(rt.alloc(), patterns)?;
-                let input = Input::new(haystack).anchored(anchored);
-                let walked = walk_of(rt.alloc(), &nfa, input)?;
-                assert_eq!(rt; walked.as_slice(), wanted, "{name} under {kind:?}");
-            }
-        }
-    }
-    Ok(())
-}
+pub(super) const ANCHORED_EARLIEST_FINDS: &[Row] = &[(
+    "anchored, earliest: b, abc, abcd",
+    EACH,
+    &[b"b", b"abc", b"abcd"],
+    b"abcd",
+    &[(1, 0, 3)],
+)];

@@ -1,4 +1,3 @@
-ghost use Rattle.std.specs.Prelude.{◌×◌};
 ghost use Rattle.ac_util.specs.declared.search.Anchored.{Anchored};
 ghost use Rattle.ac_automaton.specs.Automata.{IsState};
 
@@ -111,6 +110,14 @@ fn an_anchored_search_dies(rt: HostRuntime) -> Result<(), Fail> {
     assert_eq!(rt; traits_of(&nfa, x), DEAD, "x");
     let xh = nfa.next_state(Yes, x, b'h', &mut looks);
     assert_eq!(rt; traits_of(&nfa, xh), DEAD, "xh");
+    Ok(())
+}
+
+#[test]
+fn an_anchored_search_dies_after_a_match(rt: HostRuntime) -> Result<(), Fail> {
+    let nfa = builder(Standard, false).build(rt.alloc(), &PATTERNS)?;
+    let mut looks = Looks::new();
+    let start = nfa.start_state(Yes)?;
     let h = nfa.next_state(Yes, start, b'h', &mut looks);
     assert_eq!(rt; traits_of(&nfa, h), INNER, "h");
     let he = nfa.next_state(Yes, h, b'e', &mut looks);

@@ -1,0 +1,24 @@
+//! Laws that users of a searcher may rest on, each as the contract of a function that does nothing. They speak of the
+//! definitions that the contracts of the searches are made of: nothing is called, nothing is assumed.
+ghost use Rattle.std.specs.Prelude.{◌≡◌, ◌≢◌, ◌↔◌, IsTrue, None};
+ghost use Rattle.ac_util.specs.Built.{Built, found, has_empty, search_in};
+ghost use Rattle.ac_util.specs.Input.{Asked};
+ghost use Rattle.ac_util.specs.Occurrence.{Occurrence};
+ghost use Rattle.ac_util.specs.Search.{Occurs};
+ghost use Rattle.ac_util.specs.Stream.{shortest_len};
+
+pub use ac_util::laws::{
+    earliest_is_standard, listing_is_exact, only_the_span_counts, pick_comes_first,
+    sameness_is_by_letter, walk_has_beginnings, walk_is_in_order,
+};
+
+/// Something occurs exactly if a find answers a match, whatever the match kind and `earliest`.
+pub fn finds_if_something_occurs()
+    ensures { (built : Built) (asked : Asked)
+        → ((m : Occurrence) × Occurs (search_in built asked) m) ↔ (found built asked ≢ None) }
+{}
+
+/// The shortest pattern has no bytes exactly if some pattern is empty.
+pub fn shortest_is_empty()
+    ensures { (built : Built) → (shortest_len built.patterns ≡ 0) ↔ IsTrue (has_empty built) }
+{}
