@@ -12,3 +12,6 @@ pub use ac_util::looks::{Looks, Tape, open};
 pub use ac_util::primitives::{PatternID, StateID};
 pub use ac_util::search::{Anchored, Input, Match, MatchKind, Span, StartKind};
 pub use ahocorasick::{AhoCorasick, AhoCorasickBuilder, AhoCorasickKind, FindIter};
+
+#[cfg(test)]
+mod tests;

@@ -103,3 +103,6 @@ pub fn status(outcome: &Result<Outcome, Fault>) -> u8
         Err(_) => 2,
     }
 }
+
+#[cfg(test)]
+mod tests;

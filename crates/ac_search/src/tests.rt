@@ -1,0 +1,173 @@
+use crate::MatchKind::{LeftmostFirst, LeftmostLongest, Standard};
+use crate::{
+    AhoCorasick, AhoCorasickBuilder, AhoCorasickKind, Anchored, Input, Match, MatchError,
+    MatchKind, StartKind,
+};
+use std::test::Fail;
+
+/// A pattern number, a start and an end.
+type Told = (usize, usize, usize);
+
+/// A name, a match kind, whether the earliest end is asked for, and the match of an anchored find in `abcd`.
+type Row = (&'static str, MatchKind, bool, Told);
+
+const ANCHORED: &[Row] = &[
+    ("the first end", Standard, false, (1, 0, 3)),
+    ("the longest", LeftmostLongest, false, (2, 0, 4)),
+    (
+        "the earliest of the longest",
+        LeftmostLongest,
+        true,
+        (1, 0, 3),
+    ),
+];
+
+/// The start kinds that rule out an anchoring, and with which error; then those that rule out none.
+const STARTS: &[(StartKind, Anchored, Option<MatchError>)] = &[
+    (
+        StartKind::Unanchored,
+        Anchored::Yes,
+        Some(MatchError::InvalidInputAnchored),
+    ),
+    (
+        StartKind::Anchored,
+        Anchored::No,
+        Some(MatchError::InvalidInputUnanchored),
+    ),
+    (StartKind::Unanchored, Anchored::No, None),
+    (StartKind::Anchored, Anchored::Yes, None),
+    (StartKind::Both, Anchored::No, None),
+    (StartKind::Both, Anchored::Yes, None),
+];
+
+/// Returns what a row says of a match.
+fn told(m: &Match) -> Told {
+    (m.pattern().as_usize(), m.start(), m.end())
+}
+
+/// Returns the walk of a searcher as a row says it.
+fn walk_of(rt: HostRuntime, searcher: &AhoCorasick, input: Input<'_>) -> Result<Vec<Told>, Fail> {
+    let mut walked = Vec::new(rt.alloc());
+    for found in searcher.try_find_iter(input)? {
+        walked.push(told(&found))?;
+    }
+    Ok(walked)
+}
+
+#[test]
+fn a_new_searcher_finds(rt: HostRuntime) -> Result<(), Fail> {
+    let searcher = AhoCorasick::new(rt.alloc(), &[b"apple", b"maple", b"Snapple"])?;
+    let haystack = b"Nobody likes maple in their apple flavored Snapple.";
+    let found = searcher.find(Input::new(haystack)).map(|m| told(&m));
+    assert_eq!(rt; found, Some((1, 13, 18)));
+    assert!(rt; searcher.is_match(Input::new(haystack)));
+    assert!(rt; !searcher.is_match(Input::new(b"Nobody")));
+    assert_eq!(rt; searcher.find(Input::new(b"Nobody")), None);
+    let mut walked = Vec::new(rt.alloc());
+    for found in searcher.find_iter(Input::new(haystack)) {
+        walked.push(told(&found))?;
+    }
+    let wanted = [(1, 13, 18), (0, 28, 33), (2, 43, 50)];
+    assert_eq!(rt; walked.as_slice(), wanted.as_slice());
+    Ok(())
+}
+
+#[test]
+fn a_new_searcher_tells_its_settings(rt: HostRuntime) -> Result<(), Fail> {
+    let searcher = AhoCorasick::new(rt.alloc(), &[b"he", b"she", b"hers"])?;
+    assert_eq!(rt; searcher.kind(), AhoCorasickKind::NoncontiguousNFA);
+    assert_eq!(rt; searcher.start_kind(), StartKind::Unanchored);
+    assert_eq!(rt; searcher.match_kind(), Standard);
+    assert_eq!(rt; searcher.min_pattern_len(), 2);
+    assert_eq!(rt; searcher.max_pattern_len(), 4);
+    assert_eq!(rt; searcher.patterns_len(), 3);
+    assert!(rt; searcher.memory_usage() > 0);
+    let empty = AhoCorasick::new(rt.alloc(), &[])?;
+    assert_eq!(rt; empty.min_pattern_len(), usize::MAX);
+    assert_eq!(rt; empty.max_pattern_len(), 0);
+    assert_eq!(rt; empty.patterns_len(), 0);
+    assert_eq!(rt; empty.try_find(Input::new(b"ushers"))?, None);
+    Ok(())
+}
+
+#[test]
+fn each_setting_counts(rt: HostRuntime) -> Result<(), Fail> {
+    let patterns: [&[u8]; 3] = [b"append", b"appendage", b"app"];
+    let mut builder = AhoCorasick::builder();
+    let usual = builder.build(rt.alloc(), &patterns)?;
+    let walked = walk_of(rt, &usual, Input::new(b"appendage APP"))?;
+    assert_eq!(rt; walked.as_slice(), [(2, 0, 3)].as_slice());
+    builder.match_kind(LeftmostFirst);
+    let first = builder.build(rt.alloc(), &patterns)?;
+    assert_eq!(rt; first.match_kind(), LeftmostFirst);
+    let walked = walk_of(rt, &first, Input::new(b"appendage APP"))?;
+    assert_eq!(rt; walked.as_slice(), [(0, 0, 6)].as_slice());
+    builder.ascii_case_insensitive(true);
+    builder.kind(Some(AhoCorasickKind::NoncontiguousNFA));
+    builder.start_kind(StartKind::Both);
+    let all = builder.build(rt.alloc(), &patterns)?;
+    assert_eq!(rt; all.match_kind(), LeftmostFirst);
+    assert_eq!(rt; all.start_kind(), StartKind::Both);
+    assert_eq!(rt; all.kind(), AhoCorasickKind::NoncontiguousNFA);
+    let walked = walk_of(rt, &all, Input::new(b"appendage APP"))?;
+    assert_eq!(rt; walked.as_slice(), [(0, 0, 6), (2, 10, 13)].as_slice());
+    Ok(())
+}
+
+#[test]
+fn searches_need_their_start(rt: HostRuntime) -> Result<(), Fail> {
+    for &(kind, anchored, refusal) in STARTS {
+        println!(rt; "start: {kind:?}, {anchored:?}")?;
+        let mut builder = AhoCorasickBuilder::new();
+        builder.start_kind(kind);
+        let searcher = builder.build(rt.alloc(), &[b"b"])?;
+        assert_eq!(rt; searcher.start_kind(), kind);
+        let input = Input::new(b"bxb").anchored(anchored);
+        let found = searcher.try_find(input);
+        assert_eq!(rt; found.err(), refusal, "{kind:?}, {anchored:?}");
+        let walk = searcher.try_find_iter(input);
+        assert_eq!(rt; walk.err(), refusal, "{kind:?}, {anchored:?}");
+    }
+    Ok(())
+}
+
+#[test]
+fn anchored_searches_stay_at_the_start(rt: HostRuntime) -> Result<(), Fail> {
+    let mut builder = AhoCorasickBuilder::default();
+    builder.start_kind(StartKind::Both);
+    let one = builder.build(rt.alloc(), &[b"b"])?;
+    assert!(rt; one.is_match(Input::new(b"xb")));
+    assert!(rt; !one.is_match(Input::new(b"xb").anchored(Anchored::Yes)));
+    for &(name, kind, earliest, wanted) in ANCHORED {
+        println!(rt; "anchored: {name}")?;
+        builder.match_kind(kind);
+        let searcher = builder.build(rt.alloc(), &[b"b", b"abc", b"abcd"])?;
+        let input = Input::new(b"abcd")
+            .anchored(Anchored::Yes)
+            .earliest(earliest);
+        let found = searcher.try_find(input)?.map(|m| told(&m));
+        assert_eq!(rt; found, Some(wanted), "{name}");
+    }
+    Ok(())
+}
+
+#[test]
+fn a_clone_answers_equally(rt: HostRuntime) -> Result<(), Fail> {
+    let mut builder = AhoCorasickBuilder::new();
+    builder.match_kind(LeftmostLongest);
+    builder.start_kind(StartKind::Both);
+    builder.ascii_case_insensitive(true);
+    let searcher = builder.build(rt.alloc(), &[b"he", b"she", b"hers"])?;
+    let clone = searcher.clone()?;
+    let walked = walk_of(rt, &searcher, Input::new(b"usHERS he"))?;
+    let wanted = [(1, 1, 4), (0, 7, 9)];
+    assert_eq!(rt; walked.as_slice(), wanted.as_slice());
+    drop(searcher);
+    let walked = walk_of(rt, &clone, Input::new(b"usHERS he"))?;
+    assert_eq!(rt; walked.as_slice(), wanted.as_slice());
+    assert_eq!(rt; clone.kind(), AhoCorasickKind::NoncontiguousNFA);
+    assert_eq!(rt; clone.match_kind(), LeftmostLongest);
+    assert_eq!(rt; clone.start_kind(), StartKind::Both);
+    assert_eq!(rt; clone.patterns_len(), 3);
+    Ok(())
+}

@@ -1,0 +1,263 @@
+use super::{Outcome, run, status};
+use crate::fault::Fault;
+use ac_search::{Bytes, FromRead, IntoWrite, Written};
+use std::io;
+use std::io::{ErrorKind, Read, Write};
+use std::test::Fail;
+
+/// How a run ends.
+type Ending = Result<Outcome, Fault>;
+
+/// A name, the words, the input, what is written, and how the run ends.
+type Row = (
+    &'static str,
+    &'static [&'static str],
+    &'static str,
+    &'static str,
+    Ending,
+);
+
+const RUNS: &[Row] = &[
+    (
+        "find he, she, his, hers",
+        &["find", "std", "noncontiguous", "he", "she", "his", "hers"],
+        "ushers",
+        "1 1 4\n",
+        Ok(Outcome::Found),
+    ),
+    (
+        "find what does not occur",
+        &["find", "std", "noncontiguous", "he", "she"],
+        "h, e and s",
+        "",
+        Ok(Outcome::Nothing),
+    ),
+    (
+        "walk for no word",
+        &["walk", "std", "noncontiguous"],
+        "ushers",
+        "",
+        Ok(Outcome::Nothing),
+    ),
+    (
+        "walk for apple, maple, Snapple",
+        &["walk", "std", "noncontiguous", "apple", "maple", "Snapple"],
+        "Nobody likes maple in their apple flavored Snapple.",
+        "1 13 18\n0 28 33\n2 43 50\n",
+        Ok(Outcome::Found),
+    ),
+    (
+        "walk for the first of append, appendage, app",
+        &[
+            "walk",
+            "first",
+            "noncontiguous",
+            "append",
+            "appendage",
+            "app",
+        ],
+        "append the app to the appendage",
+        "0 0 6\n2 11 14\n0 22 28\n",
+        Ok(Outcome::Found),
+    ),
+    (
+        "walk for the longest of append, appendage, app",
+        &[
+            "walk",
+            "longest",
+            "noncontiguous",
+            "append",
+            "appendage",
+            "app",
+        ],
+        "append the app to the appendage",
+        "0 0 6\n2 11 14\n1 22 31\n",
+        Ok(Outcome::Found),
+    ),
+    (
+        "find in nothing",
+        &["find", "longest", "noncontiguous", "he"],
+        "",
+        "",
+        Ok(Outcome::Nothing),
+    ),
+    ("no word", &[], "ushers", "", Err(Fault::Usage)),
+    (
+        "two words",
+        &["walk", "std"],
+        "ushers",
+        "",
+        Err(Fault::Usage),
+    ),
+    (
+        "no such mode",
+        &["look", "std", "noncontiguous", "he"],
+        "ushers",
+        "",
+        Err(Fault::Usage),
+    ),
+    (
+        "no such kind",
+        &["walk", "Std", "noncontiguous", "he"],
+        "ushers",
+        "",
+        Err(Fault::Usage),
+    ),
+    (
+        "no such engine",
+        &["walk", "std", "dfa", "he"],
+        "ushers",
+        "",
+        Err(Fault::Usage),
+    ),
+];
+
+/// How a run ends, its status, and the line that is told of a fault.
+const ENDINGS: &[(Ending, u8, &str)] = &[
+    (Ok(Outcome::Found), 0, ""),
+    (Ok(Outcome::Nothing), 1, ""),
+    (
+        Err(Fault::Usage),
+        2,
+        "acs: usage: acs MODE KIND ENGINE WORD..",
+    ),
+    (Err(Fault::Memory), 2, "acs: out of memory"),
+    (Err(Fault::TooManyPatterns), 2, "acs: too many patterns"),
+    (Err(Fault::PatternTooLong), 2, "acs: pattern too long"),
+    (Err(Fault::TooManyStates), 2, "acs: too many states"),
+    (Err(Fault::Io), 2, "acs: input or output failed"),
+    (Err(Fault::WriteZero), 2, "acs: output took no byte"),
+];
+
+/// The words of a walk, its input and its lines.
+const WORDS: &[&str] = &["walk", "std", "noncontiguous", "ab", "c"];
+
+const INPUT: &[u8] = b"abcxab";
+
+const LINES: &[u8] = b"0 0 2\n1 2 3\n0 4 6\n";
+
+/// Gives its bytes one a call, and behind them the end or a failure.
+#[derive(Drop)]
+struct Drops<'a> {
+    left: &'a [u8],
+    fails: bool,
+}
+
+impl<'a> Read for Drops<'a> {
+    fn read(&mut self, into: &mut [u8]) -> io::Result<usize> {
+        match (self.left.split_first(), into.first_mut()) {
+            (Some((byte, rest)), Some(place)) => {
+                *place = *byte;
+                self.left = rest;
+                Ok(1)
+            }
+            _ if self.fails => Err(io::Error::from(ErrorKind::BrokenPipe)),
+            _ => Ok(0),
+        }
+    }
+}
+
+/// Takes one byte a call while it holds fewer than `room`, and then fails or takes nothing.
+#[derive(Drop)]
+struct Narrow<'a> {
+    held: &'a mut Vec<u8>,
+    room: usize,
+    fails: bool,
+}
+
+impl<'a> Write for Narrow<'a> {
+    fn write(&mut self, piece: &[u8]) -> io::Result<usize> {
+        match piece.first() {
+            Some(byte) if self.held.len() < self.room => {
+                self.held.push(*byte)?;
+                Ok(1)
+            }
+            _ if self.fails => Err(io::Error::from(ErrorKind::BrokenPipe)),
+            _ => Ok(0),
+        }
+    }
+
+    fn flush(&mut self) -> io::Result<()> {
+        Ok(())
+    }
+}
+
+#[test]
+fn lines_are_written(rt: HostRuntime) -> Result<(), Fail> {
+    for &(name, words, input, wanted, ending) in RUNS {
+        println!(rt; "run: {name}")?;
+        let mut reader = Bytes::new(input.as_bytes());
+        let mut writer = Written::new(rt.alloc());
+        let answer = run(rt.alloc(), words, &mut reader, &mut writer);
+        assert_eq!(rt; answer, ending, "{name}");
+        assert_eq!(rt; writer.bytes(), wanted.as_bytes(), "{name}");
+    }
+    Ok(())
+}
+
+#[test]
+fn endings_have_a_status_and_a_line(rt: HostRuntime) {
+    for (ending, wanted, line) in ENDINGS {
+        assert_eq!(rt; status(ending), *wanted, "{ending:?}");
+        if let Err(fault) = ending {
+            assert_eq!(rt; fault.line(), *line, "{ending:?}");
+        }
+    }
+}
+
+#[test]
+fn a_failed_read_is_told(rt: HostRuntime) -> Result<(), Fail> {
+    for k in 0..INPUT.len() + 1 {
+        println!(rt; "a read fails behind {k} bytes")?;
+        let mut reader = FromRead::new(Drops {
+            left: &INPUT[..k],
+            fails: true,
+        });
+        let mut writer = Written::new(rt.alloc());
+        let answer = run(rt.alloc(), WORDS, &mut reader, &mut writer);
+        assert_eq!(rt; answer, Err(Fault::Io), "behind {k} bytes");
+        assert!(rt; writer.bytes().is_empty(), "behind {k} bytes");
+    }
+    Ok(())
+}
+
+#[test]
+fn a_failed_write_is_told(rt: HostRuntime) -> Result<(), Fail> {
+    let rows = [(true, Fault::Io), (false, Fault::WriteZero)];
+    for (fails, fault) in rows {
+        for room in 0..LINES.len() {
+            println!(rt; "{fault:?} behind {room} bytes")?;
+            let mut held = Vec::new(rt.alloc());
+            let mut reader = Bytes::new(INPUT);
+            let mut writer = IntoWrite::new(Narrow {
+                held: &mut held,
+                room,
+                fails,
+            });
+            let answer = run(rt.alloc(), WORDS, &mut reader, &mut writer);
+            drop(writer);
+            assert_eq!(rt; answer, Err(fault), "behind {room} bytes");
+            assert_eq!(rt; held.as_slice(), &LINES[..room], "behind {room} bytes");
+        }
+    }
+    Ok(())
+}
+
+#[test]
+fn short_reads_and_writes_change_nothing(rt: HostRuntime) -> Result<(), Fail> {
+    let mut held = Vec::new(rt.alloc());
+    let mut reader = FromRead::new(Drops {
+        left: INPUT,
+        fails: false,
+    });
+    let mut writer = IntoWrite::new(Narrow {
+        held: &mut held,
+        room: LINES.len(),
+        fails: true,
+    });
+    let answer = run(rt.alloc(), WORDS, &mut reader, &mut writer);
+    drop(writer);
+    assert_eq!(rt; answer, Ok(Outcome::Found));
+    assert_eq!(rt; held.as_slice(), LINES);
+    Ok(())
+}
