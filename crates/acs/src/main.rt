@@ -2,7 +2,8 @@
 #![tactic(auto)]
 
 use ac_search::{FromRead, IntoWrite};
-use run::{run, status};
+use fault::Fault;
+use run::{Outcome, run, status};
 use std::process::ExitCode;
 use std::{env, io};
 
@@ -12,19 +13,29 @@ mod output;
 mod request;
 mod run;
 
-fn main(rt: HostRuntime) -> io::Result<ExitCode> {
+fn main(rt: HostRuntime) -> ExitCode {
+    let outcome = run_on_streams(&rt);
+    if let Err(fault) = &outcome {
+        let line = fault.line();
+        let _told = eprintln!(rt; "{line}");
+    }
+    ExitCode::from(status(&outcome))
+}
+
+/// Runs over the words after the program's name, standard input and standard output.
+fn run_on_streams(rt: &HostRuntime) -> Result<Outcome, Fault> {
     let alloc = rt.alloc();
-    let words: Vec<String> = env::args(&rt)?.skip(1).collect(alloc)?;
+    let words = match env::args(rt) {
+        Ok(words) => words,
+        Err(e) if e.kind() == io::ErrorKind::OutOfMemory => return Err(Fault::Memory),
+        Err(_) => return Err(Fault::Usage),
+    };
+    let words: Vec<String> = words.skip(1).collect(alloc)?;
     let mut texts = Vec::new(alloc);
     for word in &words {
         texts.push(word.as_str())?;
     }
     let mut reader = FromRead::new(rt.stdin().lock());
     let mut writer = IntoWrite::new(rt.stdout().lock());
-    let outcome = run(alloc, &texts, &mut reader, &mut writer);
-    if let Err(fault) = &outcome {
-        let line = fault.line();
-        eprintln!(rt; "{line}")?;
-    }
-    Ok(ExitCode::from(status(&outcome)))
+    run(alloc, &texts, &mut reader, &mut writer)
 }
