@@ -29,8 +29,8 @@ pub enum Outcome {
 /// The words are tested first, then the searcher is built, then the whole input is read, and only then something is written.
 ///
 /// # Errors
-/// `Usage` exactly where the words ask for nothing that there is; then nothing is read or written. Any other fault comes for
-/// its cause alone, and what was written until then is a beginning of the lines.
+/// `Usage` exactly where the words ask for nothing that there is; then nothing is read or written. Any other fault but `Memory`
+/// comes for its cause alone, and what was written until then is a beginning of the lines.
 pub fn run<A: Allocator + Clone, R: Source, W: Sink>(
     alloc: A,
     words: &[&str],
