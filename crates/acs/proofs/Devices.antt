@@ -1,44 +1,27 @@
 -- Reading on, and writing on.
-use Rattle.std.proofs.Common.{◌≡◌, ◌≢◌, ◌+◌, ℕ, zero, suc, List, [], ◌∷◌, ◌++◌, length, length-drop, take, drop, ap, sym, refl, ◌∙◌, subst, arith, Option, Some, None}
+use Rattle.std.proofs.Common.{◌≡◌, ◌≢◌, ◌+◌, ℕ, zero, suc, List, [], ◌∷◌, ◌++◌, length, length-drop, take, drop, ap, sym, refl, ◌∙◌, subst, arith, Option}
 use Rattle.std.proofs.lemmas.Bool.Decides.{nat_tests}
-use Rattle.std.specs.Prelude.{slice_range, Result, Ok, Err, MatchResult, IsErrAnd}
+use Rattle.std.specs.Prelude.{slice_range}
 use Rattle.std.specs.Io.{StartsWith}
 use Rattle.std.specs.Io.KnownBytes.{Appends, Consumes}
-use Rattle.std.proofs.lemmas.List.{append_assoc}
 use Rattle.std.proofs.Math.Seq.{take-add, take-append_seam, take-length}
+use Rattle.std.proofs.KnownBytes.{Appends-trans, Consumes-trans}
 use Rattle.ac_util.specs.Device.{Reading, Took, idle}
-
-consumes-trans : (a b c : Option (List ℕ)) (bs cs : List ℕ) → Consumes a b bs → Consumes b c cs → Consumes a c (bs ++ cs)
-consumes-trans None b c bs cs p q = tt
-consumes-trans (Some x) None c bs cs p q = absurd p
-consumes-trans (Some x) (Some y) None bs cs p q = absurd q
-consumes-trans (Some x) (Some y) (Some z) bs cs p q = p ∙ ap (λ l. bs ++ l) q ∙ sym (append_assoc bs cs z)
 
 -- what was read so far with what a read has taken
 pub read-more : (a b c : Reading) (bs piece : List ℕ) (n : ℕ) → Consumes a.left b.left bs → Took b c piece n → Consumes a.left c.left (bs ++ take n piece)
-read-more a b c bs piece n p t = consumes-trans a.left b.left c.left bs (take n piece) p t.moved
-
--- an error that was made from another
-pub handed-on : {T E : Type 0} (r : Result T E) (e : E) (P : T → Type 0) (Q : E → Type 0) → IsErrAnd r (λ y. y ≡ e) → Q e → MatchResult r P Q
-handed-on (Ok x) e P Q is q = absurd is
-handed-on (Err y) e P Q is q = subst Q (sym is) q
+read-more a b c bs piece n p t = Consumes-trans a.left b.left c.left bs (take n piece) p t.moved
 
 -- a buffer that was lent as a whole is what came back
 pub written-whole : (xs ys : List ℕ) (len : ℕ) → length xs ≡ len → take len (xs ++ drop (length xs) ys) ≡ xs
 written-whole xs ys len l =
     ap (λ (n : ℕ). take n (xs ++ drop (length xs) ys)) (sym l) ∙ take-append_seam xs (drop (length xs) ys)
 
-pub appends-trans : (a b c : Option (List ℕ)) (bs cs : List ℕ) → Appends a b bs → Appends b c cs → Appends a c (bs ++ cs)
-appends-trans None b c bs cs p q = tt
-appends-trans (Some x) None c bs cs p q = absurd p
-appends-trans (Some x) (Some y) None bs cs p q = absurd q
-appends-trans (Some x) (Some y) (Some z) bs cs p q = q ∙ ap (λ l. l ++ cs) p ∙ append_assoc x bs cs
-
 -- what was written so far with what a write has taken
 pub append-more : (a b c : Option (List ℕ)) (bytes : List ℕ) (at n : ℕ)
     → Appends a b (take at bytes) → Appends b c (take n (drop at bytes)) → Appends a c (take (at + n) bytes)
 append-more a b c bytes at n p q =
-    subst (Appends a c) (sym (take-add at n bytes)) (appends-trans a b c (take at bytes) (take n (drop at bytes)) p q)
+    subst (Appends a c) (sym (take-add at n bytes)) (Appends-trans a b c (take at bytes) (take n (drop at bytes)) p q)
 
 -- the first bytes are a beginning
 pub beginning : (at : ℕ) (bytes : List ℕ) → StartsWith bytes (take at bytes)

@@ -1,9 +1,10 @@
 -- Printing a walk, line by line.
-use Rattle.std.proofs.Common.{◌≡◌, ℕ, List, [], ◌∷◌, ◌++◌, length, take, drop, ap, sym, refl, ◌∙◌, subst, arith, Option, Some, None, inl, inr}
+use Rattle.std.proofs.Common.{◌≡◌, ℕ, List, [], ◌∷◌, ◌++◌, length, take, drop, ap, sym, refl, ◌∙◌, subst, arith, inl, inr}
 use Rattle.std.specs.Io.{StartsWith}
 use Rattle.std.specs.Io.KnownBytes.{Appends}
 use Rattle.std.proofs.lemmas.List.{append-nil, append_assoc, take-append-drop}
 use Rattle.std.proofs.Math.Seq.{take-append_seam}
+use Rattle.std.proofs.KnownBytes.{Appends-nil, Appends-trans}
 use Rattle.ac_util.specs.Device.{Writing}
 use Rattle.ac_util.specs.Occurrence.{Occurrence}
 use Rattle.acs.specs.declared.fault.Fault.{Fault}
@@ -12,7 +13,6 @@ use Rattle.acs.specs.declared.run.Outcome.{Outcome}
 use Rattle.acs.specs.declared.run.Outcome.TheVariants.{Found, Nothing}
 use Rattle.acs.specs.Lines.{line, lines, outcome_of}
 use Rattle.acs.specs.Runs.{FailsToPrint, FailsToWrite, WritesAll}
-use Rattle.acs.proofs.Devices.{appends-trans}
 
 -- the lines of two lists one after the other
 lines-append : (xs ys : List Occurrence) → lines (xs ++ ys) ≡ lines xs ++ lines ys
@@ -38,16 +38,12 @@ pub record IsPrinting (all rest : List Occurrence) (old new : Writing) (text : L
   pub outcome_is : outcome ≡ outcome_of done
 
 -- nothing is printed yet
-pub appends-none : (w : Option (List ℕ)) → Appends w w []
-appends-none None = tt
-appends-none (Some x) = sym (append-nil x)
-
 pub printing-begins : (all : List Occurrence) (old : Writing) → IsPrinting all all old old [] Nothing
 printing-begins all old = record {
   done = [];
   parted = refl;
   out = [];
-  moved = appends-none old.held;
+  moved = Appends-nil old.held;
   written = refl;
   failed = refl;
   idles = refl;
@@ -77,7 +73,7 @@ module _ (all rest : List Occurrence) (old new : Writing) (text : List ℕ) (out
     done = h.done;
     parted = h.parted;
     out = h.out ++ text;
-    moved = appends-trans old.held new.held later.held h.out text h.moved w.moved;
+    moved = Appends-trans old.held new.held later.held h.out text h.moved w.moved;
     written = append-nil (h.out ++ text) ∙ h.written;
     failed = w.failed ∙ h.failed;
     idles = w.idles ∙ h.idles;
@@ -95,7 +91,7 @@ module _ (all rest : List Occurrence) (old new : Writing) (text : List ℕ) (out
       let whole : h.done ≡ all = sym (append-nil h.done) ∙ ap (λ (ms : List Occurrence). h.done ++ ms) (sym e) ∙ h.parted in
       let bytes : lines all ≡ h.out ++ text = ap lines (sym whole) ∙ sym h.written in (
         record {
-          moved = subst (Appends old.held later.held) (sym bytes) (appends-trans old.held new.held later.held h.out text h.moved w.moved);
+          moved = subst (Appends old.held later.held) (sym bytes) (Appends-trans old.held new.held later.held h.out text h.moved w.moved);
           failed = w.failed ∙ h.failed;
           idles = w.idles ∙ h.idles;
         },
@@ -104,10 +100,12 @@ module _ (all rest : List Occurrence) (old new : Writing) (text : List ℕ) (out
 
   -- for want of memory it ends with what is written
   pub printing-wants : FailsToPrint old new (lines all) Memory
-  printing-wants = record {
-    some = record { part = h.out; begins = starts-from (lines all) h.out (text ++ lines rest) all-lines; moved = h.moved };
-    cause = inl refl;
-  }
+  printing-wants = inr (
+    refl,
+    record { part = h.out; begins = starts-from (lines all) h.out (text ++ lines rest) all-lines; moved = h.moved },
+    h.failed,
+    h.idles,
+  )
 
   -- a write fails that has taken a part of the text
   pub printing-fails : (later : Writing) (fault : Fault) → FailsToWrite new later text fault → FailsToPrint old later (lines all) fault
@@ -118,14 +116,14 @@ module _ (all rest : List Occurrence) (old new : Writing) (text : List ℕ) (out
       let begun : lines all ≡ (h.out ++ part) ++ (behind ++ lines rest) =
       all-lines ∙ ap (λ (w : List ℕ). h.out ++ (w ++ lines rest)) split
       ∙ ap (λ (w : List ℕ). h.out ++ w) (append_assoc part behind (lines rest)) ∙ sym (append_assoc h.out part (behind ++ lines rest)) in
-      record {
+      inl (record {
         some = record {
           part = h.out ++ part;
           begins = starts-from (lines all) (h.out ++ part) (behind ++ lines rest) begun;
-          moved = appends-trans old.held new.held later.held h.out part h.moved f.some.moved;
+          moved = Appends-trans old.held new.held later.held h.out part h.moved f.some.moved;
         };
         cause = elim f.cause [
-          | inl io ↦ inr (inl (io.0, (let l = io.1 in let m = h.failed in omega arith)))
-          | inr zero ↦ inr (inr (zero.0, (let l = zero.1 in let m = h.idles in omega arith)))
+          | inl io ↦ inl (io.0, (let l = io.1 in let m = h.failed in omega arith), io.2 ∙ h.idles)
+          | inr zero ↦ inr (zero.0, zero.1 ∙ h.failed, (let l = zero.2 in let m = h.idles in omega arith))
         ];
-      }
+      })

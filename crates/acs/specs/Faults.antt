@@ -1,8 +1,7 @@
 -- Why the program fails, and what it says then.
-use Rattle.std.specs.Prelude.{◌≡◌, ◌⊎◌, ℕ, ◌<◌, List, codes, map, MatchOption}
+use Rattle.std.specs.Prelude.{◌≡◌, ◌⊎◌, ℕ, List, codes, map, MatchOption}
 use Rattle.ac_util.specs.declared.error.BuildError.{BuildError}
 use Rattle.ac_util.specs.declared.error.BuildError.TheVariants.{Memory as NoMemory, PatternIdOverflow, PatternTooLong as TooLongPattern, StateIdOverflow}
-use Rattle.ac_util.specs.Device.{Reading, Writing}
 use Rattle.ac_util.specs.Limits.{limit_refusal}
 use Rattle.ac_util.specs.Sameness.{plain}
 use Rattle.ac_automaton.specs.Builds.{IsRefused}
@@ -35,10 +34,3 @@ Refuses settings patterns e =
 -- the fault of a build that was refused so, or for which there was no memory
 abbrev pub IsNotBuilt : Settings → List (List ℕ) → Fault → Type 0
 IsNotBuilt settings patterns fault = ((e : BuildError) × (fault ≡ fault_of e) × Refuses settings patterns e) ⊎ (fault ≡ Memory)
-
--- each fault comes for its cause alone: the build was refused, memory was, a read or write failed, or a write took nothing
-abbrev pub HasCause : Settings → List (List ℕ) → Reading → Reading → Writing → Writing → Fault → Type 0
-HasCause settings patterns reader new_reader writer new_writer fault =
-    IsNotBuilt settings patterns fault
-    ⊎ (((fault ≡ Io) × ((reader.failed < new_reader.failed) ⊎ (writer.failed < new_writer.failed)))
-    ⊎ ((fault ≡ WriteZero) × (writer.idles < new_writer.idles)))

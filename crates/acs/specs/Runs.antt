@@ -1,14 +1,15 @@
 -- What a run of the program does to its reader and its writer.
-use Rattle.std.specs.Prelude.{◌≡◌, ◌⊎◌, ℕ, ◌<◌, List}
+use Rattle.std.specs.Prelude.{◌≡◌, ◌⊎◌, ℕ, ◌+◌, List}
 use Rattle.std.specs.Io.{StartsWith}
 use Rattle.std.specs.Io.KnownBytes.{Appends, Consumes, IsAtEnd}
 use Rattle.ac_util.specs.Device.{Reading, Writing}
+use Rattle.ac_util.specs.Occurrence.{Occurrence}
 use Rattle.ac_search.specs.Searchers.{searcher_by}
 use Rattle.acs.specs.declared.fault.Fault.{Fault}
 use Rattle.acs.specs.declared.fault.Fault.TheVariants.{Io, Memory, WriteZero}
 use Rattle.acs.specs.declared.request.Request.{Request}
 use Rattle.acs.specs.declared.run.Outcome.{Outcome}
-use Rattle.acs.specs.Faults.{HasCause}
+use Rattle.acs.specs.Faults.{IsNotBuilt}
 use Rattle.acs.specs.Lines.{lines, outcome_of, printed}
 use Rattle.acs.specs.Requests.{settings_of}
 
@@ -30,33 +31,44 @@ pub record WritesSome (old new : Writing) (bytes : List ℕ) : Type 0 where
   pub begins : StartsWith bytes part
   pub moved : Appends old.held new.held part
 
--- a read has failed, or memory was refused
+-- a read has failed, or memory was refused and no read has
 pub record FailsToRead (old new : Reading) (fault : Fault) : Type 0 where
   pub bytes : List ℕ
   pub moved : Consumes old.left new.left bytes
-  pub cause : (fault ≡ Memory) ⊎ ((fault ≡ Io) × (old.failed < new.failed))
+  pub cause : ((fault ≡ Io) × (new.failed ≡ old.failed + 1)) ⊎ ((fault ≡ Memory) × (new.failed ≡ old.failed))
 
--- a write has failed or took nothing; a beginning of the bytes was written
+-- a beginning of the bytes was written, and then a write has failed or took nothing
 pub record FailsToWrite (old new : Writing) (bytes : List ℕ) (fault : Fault) : Type 0 where
   pub some : WritesSome old new bytes
-  pub cause : ((fault ≡ Io) × (old.failed < new.failed)) ⊎ ((fault ≡ WriteZero) × (old.idles < new.idles))
+  pub cause : ((fault ≡ Io) × (new.failed ≡ old.failed + 1) × (new.idles ≡ old.idles))
+      ⊎ ((fault ≡ WriteZero) × (new.failed ≡ old.failed) × (new.idles ≡ old.idles + 1))
 
--- the same, or memory was refused
-pub record FailsToPrint (old new : Writing) (bytes : List ℕ) (fault : Fault) : Type 0 where
-  pub some : WritesSome old new bytes
-  pub cause : (fault ≡ Memory) ⊎ (((fault ≡ Io) × (old.failed < new.failed)) ⊎ ((fault ≡ WriteZero) × (old.idles < new.idles)))
+-- the same, or memory was refused and each write took something
+abbrev pub FailsToPrint : Writing → Writing → List ℕ → Fault → Type 0
+FailsToPrint old new bytes fault =
+    FailsToWrite old new bytes fault
+    ⊎ ((fault ≡ Memory) × WritesSome old new bytes × (new.failed ≡ old.failed) × (new.idles ≡ old.idles))
+
+-- the lines of a request's answer for a haystack are those of these matches
+abbrev pub answer : Request → List (List ℕ) → List ℕ → List Occurrence
+answer request patterns haystack = printed request.mode (searcher_by (settings_of request) patterns).built haystack
 
 module _ (request : Request) (patterns : List (List ℕ)) (reader new_reader : Reading) (writer new_writer : Writing) where
   -- the run has written a line for each match in all that the reader gave, and says whether there was one
   pub record HasRun (outcome : Outcome) : Type 0 where
     pub haystack : List ℕ
     pub reads : ReadsAll reader new_reader haystack
-    pub writes : WritesAll writer new_writer (lines (printed request.mode (searcher_by (settings_of request) patterns).built haystack))
-    pub outcome_is : outcome ≡ outcome_of (printed request.mode (searcher_by (settings_of request) patterns).built haystack)
+    pub writes : WritesAll writer new_writer (lines (answer request patterns haystack))
+    pub outcome_is : outcome ≡ outcome_of (answer request patterns haystack)
 
-  -- the run has ended with a fault, for its cause; what was written until then is a beginning of the lines of what was read
-  pub record HasFailed (fault : Fault) : Type 0 where
-    pub haystack : List ℕ
-    pub moved : Consumes reader.left new_reader.left haystack
-    pub writes : WritesSome writer new_writer (lines (printed request.mode (searcher_by (settings_of request) patterns).built haystack))
-    pub cause : HasCause (settings_of request) patterns reader new_reader writer new_writer fault
+  -- there was no searcher, or no memory before the first read: reader and writer are as they were
+  abbrev pub FailsAtFirst : Fault → Type 0
+  FailsAtFirst fault = IsNotBuilt (settings_of request) patterns fault × (new_reader ≡ reader) × (new_writer ≡ writer)
+
+  -- the run has ended with a fault, for its cause: before the first read; while it read, with nothing written; or while it
+  -- wrote the lines of all that the reader gave, with a beginning of them written
+  abbrev pub HasFailed : Fault → Type 0
+  HasFailed fault =
+      FailsAtFirst fault
+      ⊎ ((FailsToRead reader new_reader fault × (new_writer ≡ writer))
+      ⊎ ((haystack : List ℕ) × ReadsAll reader new_reader haystack × FailsToPrint writer new_writer (lines (answer request patterns haystack)) fault))

@@ -29,8 +29,9 @@ pub enum Outcome {
 /// The words are tested first, then the searcher is built, then the whole input is read, and only then something is written.
 ///
 /// # Errors
-/// `Usage` exactly where the words ask for nothing that there is; then nothing is read or written. Any other fault but `Memory`
-/// comes for its cause alone, and what was written until then is a beginning of the lines.
+/// `Usage` exactly where the words ask for nothing that there is; then nothing is read or written. Any other fault comes for
+/// its cause alone: the build was refused, memory was, a read or a write has failed, or a write took no byte. Nothing is
+/// written before the whole input was read; what was written until then is a beginning of the lines.
 pub fn run<A: Allocator + Clone, R: Source, W: Sink>(
     alloc: A,
     words: &[&str],

@@ -1,21 +1,22 @@
 use Rattle.std.proofs.lemmas.List.{length-take-le}
-use Rattle.std.proofs.Common.{length-append, ◌≡◌, ℕ, List, ◌++◌, length, take, ap, sym, ◌∙◌, subst, refl, arith, inl}
+use Rattle.std.proofs.Common.{length-append, ◌≡◌, ℕ, List, ◌++◌, length, take, ap, sym, ◌∙◌, subst, refl, arith, inr}
 use Rattle.std.specs.Io.KnownBytes.{Consumes}
 use Rattle.acs.specs.Runs.{FailsToRead}
-use Rattle.acs.proofs.Devices.{read-more, handed-on, written-whole}
+use Rattle.acs.proofs.Devices.{read-more, written-whole}
+use Rattle.ac_automaton.proofs.Places.{refused-by}
 use Rattle.acs.proofs.input.read_all.Goals as goal
 
 pub returns-in_err-extend_from_slice-in-Ok : goal.returns-in_err-extend_from_slice-in-Ok
 returns-in_err-extend_from_slice-in-Ok g c =
     let told = g.R.Source.told in
-    handed-on c.from_residual-in_err-extend_from_slice-in-Ok.result _ _
+    refused-by c.from_residual-in_err-extend_from_slice-in-Ok.result _ _
     (FailsToRead (told c.args.reader.now) (told c.read_some.new.self))
     c.from_residual-in_err-extend_from_slice-in-Ok.ensures.1
     (record {
       bytes = c.loop.bytes.items ++ take c.in-Ok.n c.read_some.new.into;
       moved = read-more (told c.args.reader.now) (told c.loop.reader) (told c.read_some.new.self) c.loop.bytes.items c.read_some.new.into c.in-Ok.n
           c.loop.invariant.moved c.in-Ok.ensures;
-      cause = inl refl;
+      cause = inr (refl, c.in-Ok.ensures.failed ∙ c.loop.invariant.failed);
     })
 
 pub loop-preserved : goal.loop-preserved

@@ -4,7 +4,7 @@ use Rattle.acs.specs.declared.fault.Fault.TheVariants.{Memory}
 use Rattle.acs.specs.declared.run.Outcome.TheVariants.{Found}
 use Rattle.acs.specs.Lines.{line, lines}
 use Rattle.acs.specs.Runs.{FailsToPrint, FailsToWrite, WritesAll}
-use Rattle.acs.proofs.Devices.{handed-on}
+use Rattle.ac_automaton.proofs.Places.{refused-by}
 use Rattle.acs.proofs.Printing.{printing-adds, printing-begins, printing-ends, printing-fails, printing-wants, printing-writes}
 use Rattle.acs.proofs.output.print_walk.Goals as goal
 
@@ -20,7 +20,7 @@ loop-m-init g c = (
 pub returns-in_err-add_line : goal.returns-in_err-add_line
 returns-in_err-add_line g c =
     let told = g.W.Sink.told in
-    handed-on c.from_residual.result Memory _ (FailsToPrint (told c.args.writer.now) (told c.loop-m.writer) (lines c.args.matches.rest))
+    refused-by c.from_residual.result Memory _ (FailsToPrint (told c.args.writer.now) (told c.loop-m.writer) (lines c.args.matches.rest))
     c.from_residual.ensures.1
     (printing-wants c.args.matches.rest c.loop-m.m-iterator.rest (told c.args.writer.now) (told c.loop-m.writer) (string_bytes c.loop-m.text)
     c.loop-m.outcome c.loop-m.invariant.0)
@@ -32,7 +32,7 @@ returns-in_err-write_all g c =
     let added = printing-adds c.args.matches.rest c.loop-m.m-iterator.rest (told c.args.writer.now) (told c.loop-m.writer) (string_bytes c.loop-m.text)
     c.loop-m.outcome c.loop-m.invariant.0 c.in-Some.m c.next.new.self.rest c.in-Some.ensures.steps in
     let text : c.as_bytes.result.now ≡ string_bytes c.loop-m.text ++ line c.in-Some.m = c.as_bytes.ensures.value ∙ c.in_ok-add_line.ensures in
-    handed-on c.from_residual-in_err-write_all.result c.in_err-write_all.field-0.0 _
+    refused-by c.from_residual-in_err-write_all.result c.in_err-write_all.field-0.0 _
     (FailsToPrint (told c.args.writer.now) (told c.write_all.new.writer) (lines c.args.matches.rest))
     c.from_residual-in_err-write_all.ensures.1
     (printing-fails c.args.matches.rest c.next.new.self.rest (told c.args.writer.now) (told c.loop-m.writer) (string_bytes c.loop-m.text ++ line c.in-Some.m)
@@ -67,7 +67,7 @@ loop-m-preserved g c =
 pub returns-in_err-write_all-2 : goal.returns-in_err-write_all-2
 returns-in_err-write_all-2 g c =
     let told = g.W.Sink.told in
-    handed-on c.from_residual-in_err-write_all-2.result c.in_err-write_all-2.field-0.0 _
+    refused-by c.from_residual-in_err-write_all-2.result c.in_err-write_all-2.field-0.0 _
     (FailsToPrint (told c.args.writer.now) (told c.write_all-2.new.writer) (lines c.args.matches.rest))
     c.from_residual-in_err-write_all-2.ensures.1
     (printing-fails c.args.matches.rest c.loop-m.m-iterator.rest (told c.args.writer.now) (told c.loop-m.writer) (string_bytes c.loop-m.text)

@@ -33,5 +33,5 @@ returns-in-Err g c =
         begins = beginning c.loop-at.at c.args.bytes.now;
         moved = rw failed h.moved;
       };
-      cause = inl (refl, (let f = ap (λ (w : Writing). w.failed) failed in let k = h.failed in omega arith));
+      cause = inl (refl, (let f = ap (λ (w : Writing). w.failed) failed in let k = h.failed in omega arith), ap (λ (w : Writing). w.idles) failed ∙ h.idles);
     }
