@@ -1,20 +1,24 @@
 -- How the children of a state are put behind the queue, one run of members after another.
-use Rattle.std.proofs.Common.{◌≡◌, ◌≢◌, ℕ, suc, ◌+◌, ◌-◌, ◌<◌, ◌≤◌, true, List, [], ◌∷◌, ◌++◌, length, take, ◌⊎◌, inl, inr, refl, ap, sym, ◌∙◌, subst, arith, Option, Some, None, get_or}
+use Rattle.std.proofs.Common.{◌≡◌, ◌≢◌, ℕ, suc, ◌+◌, ◌-◌, ◌<◌, ◌≤◌, true, Bool, List, [], ◌∷◌, ◌++◌, length, length-append, take, ◌⊎◌, inl, inr, refl, ap, sym, ◌∙◌, subst, arith, Option, Some, None, get_or}
 use Rattle.std.specs.Prelude.{nat_eq, slice_get}
 use Rattle.std.specs.List.{starts_with}
 use Rattle.std.proofs.lemmas.Bool.{cases_lt}
-use Rattle.std.proofs.lemmas.List.{length-map, length_push, length-take-le}
+use Rattle.std.proofs.lemmas.List.{append-nil, append_assoc, length-map, length_push, length-take-le}
 use Rattle.std.proofs.lemmas.Option.{slice_get-get_or, slice_get_within}
 use Rattle.std.proofs.lemmas.Slice.Eq.{bytes_eq-Decides}
 use Rattle.std.proofs.Math.Seq.{take-append_seam}
 use Rattle.ac_util.specs.declared.search.MatchKind.{MatchKind}
 use Rattle.ac_util.specs.declared.primitives.TheConstants.{GREATEST}
+use Rattle.ac_util.specs.Sameness.{plain_byte}
+use Rattle.ac_util.proofs.Lists.{IsIn, IsIn-append_cases, IsIn-append_left, IsIn-append_right, IsOrdered, IsOrdered-append}
 use Rattle.ac_automaton.specs.declared.nfa.noncontiguous.growth.Pending.{Pending}
 use Rattle.ac_automaton.specs.declared.nfa.noncontiguous.state.State.{State}
-use Rattle.ac_automaton.specs.Growths.{HasChild, IsGrown, IsNext, IsRangeOf, IsReady, Waits, grown_meaning, nodes_of, word}
+use Rattle.ac_automaton.specs.declared.nfa.noncontiguous.state.Transition.{Transition}
+use Rattle.ac_automaton.specs.Growths.{HasChild, IsGrown, IsNext, IsRangeOf, IsReady, Waits, grown_meaning, leading, nodes_of, word}
 use Rattle.ac_automaton.specs.Members.{Keyed, byte_at, key_at}
 use Rattle.ac_automaton.specs.Tries.{AreStates, miss}
 use Rattle.ac_automaton.proofs.Grown.{AreStates-more, IsInner, nodes-cases, nodes-inner, nodes-more}
+use Rattle.ac_automaton.proofs.Leading.{leading-apart, leading-has, leading-length, leading-plain}
 use Rattle.ac_automaton.proofs.Orders.{rank}
 use Rattle.ac_util.proofs.Fronts.{starts_with-length}
 use Rattle.ac_automaton.proofs.Places.{get-append, get-added, get-added_cases, get-same}
@@ -61,12 +65,12 @@ module _ (kind : MatchKind) (patterns : List (List ℕ)) (members : List Keyed) 
   next-node queue s p (inr later) =
       subst (λ (k : ℕ). slice_get (nodes_of members queue) k ≡ Some (Some (word members p))) (sym later.1) (nodes-inner members queue later.0 p later.2)
 
-  module _ (states : List State) (labels0 : List ℕ) (queue0 : List Pending) (p : Pending)
-      (ready : IsReady kind patterns members states labels0 queue0 p) (own_end : ℕ) where
+  module _ (fold : Bool) (states : List State) (transitions0 : List Transition) (queue0 : List Pending) (p : Pending)
+      (ready : IsReady kind fold patterns members states transitions0 queue0 p) (own_end : ℕ) where
     -- the children of the members up to a place have come
-    pub record IsBranching (place : ℕ) (labels : List ℕ) (queue : List Pending) : Type 0 where
-      pub grown : IsGrown kind patterns members (length states + 1) labels queue
-      pub meant : AreStates (grown_meaning kind patterns members labels queue) states
+    pub record IsBranching (place : ℕ) (transitions : List Transition) (queue : List Pending) : Type 0 where
+      pub grown : IsGrown kind patterns members (length states + 1) transitions queue
+      pub meant : AreStates (grown_meaning kind fold patterns members transitions0 queue) states
       pub waits : Waits kind patterns members queue (length states) p
       pub node : slice_get (nodes_of members queue) (length states) ≡ Some (Some (word members p))
       pub kept : (k : ℕ) (q : Pending) → slice_get queue0 k ≡ Some q → slice_get queue k ≡ Some q
@@ -74,21 +78,19 @@ module _ (kind : MatchKind) (patterns : List (List ℕ)) (members : List Keyed) 
       pub begun : p.from ≤ own_end
       pub low : own_end ≤ place
       pub high : place ≤ p.to
-      pub children : (c b : ℕ) (q : Pending) → length queue0 ≤ c → slice_get labels c ≡ Some b → slice_get queue c ≡ Some q
-          → word members q ≡ word members p ++ b ∷ []
-      pub labelled : (c b : ℕ) → length queue0 ≤ c → slice_get labels c ≡ Some b
-          → (k : ℕ) × (own_end ≤ k) × (k < place) × (byte_at members p.depth k ≡ Some b)
-      pub covered : (k b : ℕ) → own_end ≤ k → k < place → byte_at members p.depth k ≡ Some b
-          → (c : ℕ) × (length queue0 ≤ c) × (slice_get labels c ≡ Some b)
-      pub ascending : (c e b x : ℕ) → length queue0 ≤ c → c < e → slice_get labels c ≡ Some b → slice_get labels e ≡ Some x → b < x
+      pub children : (c : ℕ) (q : Pending) → length queue0 ≤ c → slice_get queue c ≡ Some q
+          → (k b : ℕ) × (own_end ≤ k) × (k < place) × (byte_at members p.depth k ≡ Some b) × (word members q ≡ word members p ++ b ∷ [])
+      pub added : List Transition
+      pub split : transitions ≡ transitions0 ++ added
+      pub leads : (t : Transition) → IsIn t added
+          → slice_get (nodes_of members queue) t.target ≡ Some (Some (word members p ++ plain_byte fold t.byte ∷ []))
+      pub by_members : (t : Transition) → IsIn t added
+          → (k : ℕ) × (own_end ≤ k) × (k < place) × (byte_at members p.depth k ≡ Some (plain_byte fold t.byte))
+      pub covered : (k b x : ℕ) → own_end ≤ k → k < place → byte_at members p.depth k ≡ Some b → plain_byte fold x ≡ b
+          → (t : Transition) × IsIn t added × (t.byte ≡ x)
+      pub apart : IsOrdered (λ s t. s.byte ≢ t.byte) added
       pub smaller : place < p.to → (k : ℕ) → p.from ≤ k → k < place
           → rank (byte_at members p.depth k) < rank (byte_at members p.depth place)
-
-    past : (c b : ℕ) → length queue0 ≤ c → slice_get labels0 c ≡ Some b → ⊥
-    past c b le e =
-        let l = slice_get_within labels0 c b e in
-        let same = ready.grown.as_long in
-        absurd (omega arith)
 
     rank-some : (r : Option ℕ) → r ≢ None → 0 < rank r
     rank-some None some = absurd (some refl)
@@ -97,11 +99,11 @@ module _ (kind : MatchKind) (patterns : List (List ℕ)) (members : List Keyed) 
     -- it begins behind the patterns that are the string
     pub branching-begins : (p.from ≤ own_end) → own_end ≤ p.to
         → ((k : ℕ) → p.from ≤ k → k < own_end → byte_at members p.depth k ≡ None)
-        → (own_end < p.to → byte_at members p.depth own_end ≢ None) → IsBranching own_end labels0 queue0
+        → (own_end < p.to → byte_at members p.depth own_end ≢ None) → IsBranching own_end transitions0 queue0
     branching-begins low high own other = record {
       grown = record {
-        as_long = ready.grown.as_long;
         few = ready.grown.few;
+        counted = ready.grown.counted;
         waits = ready.grown.waits;
         apart = ready.grown.apart;
         parents = λ k q e. let r = ready.grown.parents k q e in (r.0, omega (arith, r.1), r.2);
@@ -114,10 +116,13 @@ module _ (kind : MatchKind) (patterns : List (List ℕ)) (members : List Keyed) 
       begun = low;
       low = omega arith;
       high = high;
-      children = λ c b q le e f. absurd (past c b le e);
-      labelled = λ c b le e. absurd (past c b le e);
-      covered = λ k b l h e. absurd (omega arith);
-      ascending = λ c e b x le l f g. absurd (past c b le f);
+      children = λ c q le e. absurd (let l = slice_get_within queue0 c q e in omega arith);
+      added = [];
+      split = sym (append-nil transitions0);
+      leads = λ t none. absurd none;
+      by_members = λ t none. absurd none;
+      covered = λ k b x l h e f. absurd (omega arith);
+      apart = tt;
       smaller = λ more k a b.
           let zero : rank (byte_at members p.depth k) ≡ 0 = ap rank (own k a b) in
           let one = rank-some (byte_at members p.depth own_end) (other more) in
@@ -125,10 +130,10 @@ module _ (kind : MatchKind) (patterns : List (List ℕ)) (members : List Keyed) 
     }
 
     -- behind the patterns that are the string each member has a further byte
-    pub goes-on : (place : ℕ) (labels : List ℕ) (queue : List Pending) → IsBranching place labels queue
+    pub goes-on : (place : ℕ) (transitions : List Transition) (queue : List Pending) → IsBranching place transitions queue
         → ((k : ℕ) → p.from ≤ k → k < own_end → byte_at members p.depth k ≡ None)
         → (own_end < p.to → byte_at members p.depth own_end ≢ None) → place < p.to → byte_at members p.depth place ≢ None
-    goes-on place labels queue h own other more =
+    goes-on place transitions queue h own other more =
         let same = word-length queue (length states) p h.waits in
         subst (λ (n : ℕ). byte_at members n place ≢ None) same
         (longer kind patterns members ready.order (word members p) p.from p.to h.waits.range own_end h.begun (let l = h.low in omega arith)
@@ -136,7 +141,7 @@ module _ (kind : MatchKind) (patterns : List (List ℕ)) (members : List Keyed) 
         (λ l. subst (λ (n : ℕ). byte_at members n own_end ≢ None) (sym same) (other l)) place h.low more)
 
     -- a run of members with one byte, which is the string of a child
-    module _ (place end b fail : ℕ) (labels : List ℕ) (queue : List Pending) (h : IsBranching place labels queue)
+    module _ (place end b fail : ℕ) (transitions : List Transition) (queue : List Pending) (h : IsBranching place transitions queue)
         (more : place < p.to) (some : place < end) (high : end ≤ p.to)
         (byte : byte_at members p.depth place ≡ Some b)
         (same : (k : ℕ) → place ≤ k → k < end → byte_at members p.depth k ≡ byte_at members p.depth place)
@@ -181,10 +186,12 @@ module _ (kind : MatchKind) (patterns : List (List ℕ)) (members : List Keyed) 
       child-deep = let l = starts_with-length (key_at members place) (word members p ++ b ∷ []) front in let m = pushed in omega arith
 
       -- what the child's failure target is told by
-      pub has-child : HasChild kind patterns members states labels queue p place b
+      pub has-child : HasChild kind fold patterns members states transitions queue p place b
       has-child = record {
         order = ready.order;
-        meant = h.meant;
+        settled = ready.settled place p.depth b byte;
+        meant = AreStates-more (grown_meaning kind fold patterns members transitions0 queue) transitions h.added h.split (nodes_of members queue)
+            (λ s v e. e) states (omega arith) h.meant;
         waits = h.waits;
         near = λ deep. near deep ready.next;
         to = end;
@@ -250,14 +257,11 @@ module _ (kind : MatchKind) (patterns : List (List ℕ)) (members : List Keyed) 
         fresh k q e w = elim (cases_lt k (length queue0)) [
           | inl before ↦ old-child k q before e w
           | inr le ↦
-              let l = slice_get_within queue k q e in
-              let as_long = h.grown.as_long in
-              let label = slice_get-get_or labels k 0 (omega arith) in
-              let x = get_or labels k 0 in
-              let same_byte : x ≡ b = (push-injective (word members p) (word members p) x b (sym (h.children k x q le label e) ∙ w)).1 in
-              let member = h.labelled k x le label in
-              let less = h.smaller more member.0 (let m = h.begun in omega (arith, member.1)) member.2 in
-              let r : rank (byte_at members p.depth member.0) ≡ suc x = ap rank member.3 in
+              let member = h.children k q le e in
+              let x = member.1 in
+              let same_byte : x ≡ b = (push-injective (word members p) (word members p) x b (sym member.5 ∙ w)).1 in
+              let less = h.smaller more member.0 (let m = h.begun in omega (arith, member.2)) member.3 in
+              let r : rank (byte_at members p.depth member.0) ≡ suc x = ap rank member.4 in
               let s : rank (byte_at members p.depth place) ≡ suc b = ap rank byte in
               absurd (omega arith)
         ]
@@ -295,9 +299,17 @@ module _ (kind : MatchKind) (patterns : List (List ℕ)) (members : List Keyed) 
             ∙ ap (take (length (word members p))) child-word
             ∙ take-append_seam (word members p) (b ∷ [])
 
-        still-grown : length queue + 4 < GREATEST + 1 → IsGrown kind patterns members (length states + 1) (labels ++ b ∷ []) (queue ++ child ∷ [])
+        -- the transitions to it
+        abbrev pub more_transitions : List Transition
+        more_transitions = leading fold b (4 + length queue)
+
+        settled : plain_byte fold b ≡ b
+        settled = ready.settled place p.depth b byte
+
+        still-grown : length queue + 4 < GREATEST + 1
+            → IsGrown kind patterns members (length states + 1) (transitions ++ more_transitions) (queue ++ child ∷ [])
         still-grown few = record {
-          as_long = (let l = h.grown.as_long in let m = length_push labels b in let n = length_push queue child in omega arith);
+          counted = (let l = h.grown.counted in let m = length-append transitions more_transitions in let o = leading-length fold b (4 + length queue) in let n = length_push queue child in omega arith);
           few = (let n = length_push queue child in omega arith);
           waits = λ k q e. elim (get-added_cases queue child q k e) [
             | inl old ↦ Waits-more queue (child ∷ []) (4 + k) q (h.grown.waits k q old)
@@ -317,33 +329,45 @@ module _ (kind : MatchKind) (patterns : List (List ℕ)) (members : List Keyed) 
           ];
         }
 
-        step-covered : (k x : ℕ) → own_end ≤ k → k < end → byte_at members p.depth k ≡ Some x
-            → (c : ℕ) × (length queue0 ≤ c) × (slice_get (labels ++ b ∷ []) c ≡ Some x)
-        step-covered k x l m e = elim (cases_lt k place) [
-          | inl before ↦ let r = h.covered k x l before e in (r.0, r.1, get-append labels (b ∷ []) r.0 x r.2)
+        step-leads : (t : Transition) → IsIn t (h.added ++ more_transitions)
+            → slice_get (nodes_of members (queue ++ child ∷ [])) t.target ≡ Some (Some (word members p ++ plain_byte fold t.byte ∷ []))
+        step-leads t has = elim (IsIn-append_cases t h.added more_transitions has) [
+          | inl old ↦ nodes-more members queue (child ∷ []) t.target _ (h.leads t old)
+          | inr new ↦
+              let by = leading-plain fold b (4 + length queue) settled t new in
+              ap (slice_get (nodes_of members (queue ++ child ∷ []))) by.1
+              ∙ nodes-inner members (queue ++ child ∷ []) (length queue) child (get-added queue child)
+              ∙ ap (λ (v : List ℕ). Some (Some v)) (child-word ∙ ap (λ (y : ℕ). word members p ++ y ∷ []) (sym by.0))
+        ]
+
+        step-by_members : (t : Transition) → IsIn t (h.added ++ more_transitions)
+            → (k : ℕ) × (own_end ≤ k) × (k < end) × (byte_at members p.depth k ≡ Some (plain_byte fold t.byte))
+        step-by_members t has = elim (IsIn-append_cases t h.added more_transitions has) [
+          | inl old ↦ let r = h.by_members t old in (r.0, r.1, omega (arith, r.2), r.3)
+          | inr new ↦ (place, h.low, some, byte ∙ ap (λ (y : ℕ). Some y) (sym (leading-plain fold b (4 + length queue) settled t new).0))
+        ]
+
+        step-covered : (k c x : ℕ) → own_end ≤ k → k < end → byte_at members p.depth k ≡ Some c → plain_byte fold x ≡ c
+            → (t : Transition) × IsIn t (h.added ++ more_transitions) × (t.byte ≡ x)
+        step-covered k c x l m e is = elim (cases_lt k place) [
+          | inl before ↦ let r = h.covered k c x l before e is in (r.0, IsIn-append_left r.0 h.added more_transitions r.1, r.2)
           | inr le ↦
-              let is : b ≡ x = (let f : Some x ≡ Some b = sym e ∙ same k le m ∙ byte in cc) in (
-                length labels,
-                (let n = h.more in let o = h.grown.as_long in omega arith),
-                get-added labels b ∙ ap (λ (y : ℕ). Some y) is,
+              let same_byte : c ≡ b = (let f : Some c ≡ Some b = sym e ∙ same k le m ∙ byte in cc) in (
+                record { byte = x; target = 4 + length queue },
+                IsIn-append_right _ h.added more_transitions (leading-has fold b (4 + length queue) settled x (is ∙ same_byte)),
+                refl,
               )
         ]
 
-        step-ascending : (c e x y : ℕ) → length queue0 ≤ c → c < e → slice_get (labels ++ b ∷ []) c ≡ Some x → slice_get (labels ++ b ∷ []) e ≡ Some y → x < y
-        step-ascending c e x y le l f g = by (get-added_cases labels b x c f) (get-added_cases labels b y e g)
-          where
-            by : ((slice_get labels c ≡ Some x) ⊎ ((c ≡ length labels) × (b ≡ x)))
-                → ((slice_get labels e ≡ Some y) ⊎ ((e ≡ length labels) × (b ≡ y))) → x < y
-            by (inl old) (inl old') = h.ascending c e x y le l old old'
-            by (inl old) (inr new) =
-                let member = h.labelled c x le old in
-                let less = h.smaller more member.0 (let m = h.begun in omega (arith, member.1)) member.2 in
-                let r : rank (byte_at members p.depth member.0) ≡ suc x = ap rank member.3 in
-                let s : rank (byte_at members p.depth place) ≡ suc b = ap rank byte in
-                let t = new.1 in
-                omega arith
-            by (inr new) (inl old) = absurd (let m = slice_get_within labels e y old in let n = new.0 in omega arith)
-            by (inr new) (inr new') = absurd (let m = new.0 in let n = new'.0 in omega arith)
+        step-apart : IsOrdered (λ s t. s.byte ≢ t.byte) (h.added ++ more_transitions)
+        step-apart = IsOrdered-append (λ (s t : Transition). s.byte ≢ t.byte) h.added more_transitions h.apart (leading-apart fold b (4 + length queue))
+            (λ s t old new e.
+            let member = h.by_members s old in
+            let less = h.smaller more member.0 (let m = h.begun in omega (arith, member.1)) member.2 in
+            let low : rank (byte_at members p.depth member.0) ≡ suc (plain_byte fold s.byte) = ap rank member.3 in
+            let high : rank (byte_at members p.depth place) ≡ suc b = ap rank byte in
+            let is : plain_byte fold s.byte ≡ b = ap (plain_byte fold) e ∙ (leading-plain fold b (4 + length queue) settled t new).0 in
+            absurd (omega arith))
 
         step-smaller : end < p.to → (k : ℕ) → p.from ≤ k → k < end → rank (byte_at members p.depth k) < rank (byte_at members p.depth end)
         step-smaller l k low m =
@@ -354,15 +378,14 @@ module _ (kind : MatchKind) (patterns : List (List ℕ)) (members : List Keyed) 
             ]
 
         -- with the child behind the queue the children up to the end of its run have come
-        pub branching-goes_on : length queue + 4 < GREATEST + 1 → IsBranching end (labels ++ b ∷ []) (queue ++ child ∷ [])
+        pub branching-goes_on : length queue + 4 < GREATEST + 1 → IsBranching end (transitions ++ more_transitions) (queue ++ child ∷ [])
         branching-goes_on few = record {
           grown = still-grown few;
-          meant = AreStates-more (grown_meaning kind patterns members labels queue) (b ∷ []) (nodes_of members (queue ++ child ∷ []))
-              (nodes-more members queue (child ∷ [])) states
+          meant = AreStates-more (grown_meaning kind fold patterns members transitions0 queue) transitions0 [] (sym (append-nil transitions0))
+              (nodes_of members (queue ++ child ∷ [])) (nodes-more members queue (child ∷ [])) states
               (let m = length-map queue (λ (q : Pending). Some (word members q)) in
               let n = length-map (queue ++ child ∷ []) (λ (q : Pending). Some (word members q)) in
               let o = length_push queue child in omega arith)
-              (let m = length_push labels b in let n = h.grown.as_long in omega arith)
               h.meant;
           waits = Waits-more queue (child ∷ []) (length states) p h.waits;
           node = nodes-more members queue (child ∷ []) (length states) _ h.node;
@@ -371,21 +394,15 @@ module _ (kind : MatchKind) (patterns : List (List ℕ)) (members : List Keyed) 
           begun = h.begun;
           low = (let m = h.low in omega arith);
           high = high;
-          children = λ c x q le e f. step-children c x q le (get-added_cases labels b x c e) (get-added_cases queue child q c f);
-          labelled = λ c x le e. elim (get-added_cases labels b x c e) [
-            | inl old ↦ let r = h.labelled c x le old in (r.0, r.1, omega (arith, r.2), r.3)
-            | inr new ↦ (place, h.low, some, byte ∙ ap (λ (y : ℕ). Some y) new.1)
+          children = λ c q le e. elim (get-added_cases queue child q c e) [
+            | inl old ↦ let r = h.children c q le old in (r.0, r.1, r.2, omega (arith, r.3), r.4, r.5)
+            | inr new ↦ (place, b, h.low, some, byte, sym (ap (word members) new.1) ∙ child-word)
           ];
+          added = h.added ++ more_transitions;
+          split = ap (λ (ts : List Transition). ts ++ more_transitions) h.split ∙ append_assoc transitions0 h.added more_transitions;
+          leads = step-leads;
+          by_members = step-by_members;
           covered = step-covered;
-          ascending = step-ascending;
+          apart = step-apart;
           smaller = step-smaller;
         }
-          where
-            step-children : (c x : ℕ) (q : Pending) → length queue0 ≤ c
-                → ((slice_get labels c ≡ Some x) ⊎ ((c ≡ length labels) × (b ≡ x)))
-                → ((slice_get queue c ≡ Some q) ⊎ ((c ≡ length queue) × (child ≡ q))) → word members q ≡ word members p ++ x ∷ []
-            step-children c x q le (inl old) (inl old') = h.children c x q le old old'
-            step-children c x q le (inl old) (inr new) = absurd (let m = slice_get_within labels c x old in let n = new.0 in let o = h.grown.as_long in omega arith)
-            step-children c x q le (inr new) (inl old) = absurd (let m = slice_get_within queue c q old in let n = new.0 in let o = h.grown.as_long in omega arith)
-            step-children c x q le (inr new) (inr new') =
-                sym (ap (word members) new'.1) ∙ child-word ∙ ap (λ (y : ℕ). word members p ++ y ∷ []) new.1

@@ -1,5 +1,5 @@
 -- The failure target of a child.
-use Rattle.std.proofs.Common.{◌≡◌, ◌≢◌, ℕ, ◌+◌, true, List, [], ◌∷◌, ◌++◌, length, refl, ap, sym, ◌∙◌, subst, arith, Some, None}
+use Rattle.std.proofs.Common.{◌≡◌, ◌≢◌, ℕ, ◌+◌, Bool, true, List, [], ◌∷◌, ◌++◌, length, refl, ap, sym, ◌∙◌, subst, arith, Some, None}
 use Rattle.std.specs.Prelude.{slice_get}
 use Rattle.std.proofs.lemmas.List.{length_push}
 use Rattle.ac_util.specs.declared.search.Anchored.TheVariants.{No}
@@ -8,6 +8,7 @@ use Rattle.ac_util.specs.Matches.{equal_to}
 use Rattle.ac_util.specs.Node.{Node, is_leftmost, step}
 use Rattle.ac_automaton.specs.declared.nfa.noncontiguous.growth.Pending.{Pending}
 use Rattle.ac_automaton.specs.declared.nfa.noncontiguous.state.State.{State}
+use Rattle.ac_automaton.specs.declared.nfa.noncontiguous.state.Transition.{Transition}
 use Rattle.ac_automaton.specs.Growths.{HasChild, grown_meaning, nodes_of, word}
 use Rattle.ac_automaton.specs.Members.{Keyed, byte_at}
 use Rattle.ac_automaton.specs.Tries.{HasState, miss}
@@ -15,8 +16,8 @@ use Rattle.ac_automaton.proofs.Branching.{word-length}
 use Rattle.ac_automaton.proofs.Misses.{miss-child, miss-own, miss-start}
 use Rattle.ac_automaton.proofs.Ranges.{own-first, own-none}
 
-module _ (kind : MatchKind) (patterns : List (List ℕ)) (members : List Keyed) (states : List State) (labels : List ℕ)
-    (queue : List Pending) (p : Pending) (place b : ℕ) (h : HasChild kind patterns members states labels queue p place b) where
+module _ (kind : MatchKind) (fold : Bool) (patterns : List (List ℕ)) (members : List Keyed) (states : List State) (transitions : List Transition)
+    (queue : List Pending) (p : Pending) (place b : ℕ) (h : HasChild kind fold patterns members states transitions queue p place b) where
   long : length (word members p) ≡ p.depth
   long = word-length kind patterns members queue (length states) p h.waits
 
@@ -62,5 +63,5 @@ module _ (kind : MatchKind) (patterns : List (List ℕ)) (members : List Keyed) 
           ∙ ap (λ (v : List ℕ). miss kind patterns (Some (v ++ b ∷ []))) (sym e)
 
   -- the failure target of a state that isn't the start is among the states
-  pub fail-state : p.depth ≢ 0 → HasState (grown_meaning kind patterns members labels queue) states p.fail (miss kind patterns (Some (word members p)))
+  pub fail-state : p.depth ≢ 0 → HasState (grown_meaning kind fold patterns members transitions queue) states p.fail (miss kind patterns (Some (word members p)))
   fail-state deep = record { meant = h.meant; there = h.near deep; named = h.waits.fails }

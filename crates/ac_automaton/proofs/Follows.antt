@@ -2,14 +2,17 @@
 use Rattle.std.proofs.Common.{◌≡◌, ◌≢◌, ℕ, ◌+◌, ◌<◌, List, get_or, refl, ap, sym, subst, ◌∙◌, arith, Some, None, Contains}
 use Rattle.std.specs.Prelude.{slice_get}
 use Rattle.std.proofs.lemmas.List.{get_or_read}
-use Rattle.std.proofs.lemmas.Option.{get_or_from_slice_get, slice_get_within}
 use Rattle.ac_util.specs.declared.search.Anchored.{Anchored}
 use Rattle.ac_util.specs.declared.search.Anchored.TheVariants.{No, Yes}
 use Rattle.ac_util.specs.Counts.{Counts, more_looks}
 use Rattle.ac_util.specs.Node.{Node, step}
 use Rattle.ac_util.specs.Looks.{looks}
+use Rattle.ac_util.specs.Sameness.{plain_byte}
+use Rattle.ac_util.proofs.Lists.{Contains-from_IsIn, IsIn-map}
 use Rattle.ac_automaton.specs.declared.nfa.noncontiguous.state.State.{State}
-use Rattle.ac_automaton.specs.Tries.{Meaning, HasState, Represents, held, labels_of, miss}
+use Rattle.ac_automaton.specs.declared.nfa.noncontiguous.state.Transition.{Transition}
+use Rattle.ac_automaton.specs.Tries.{Meaning, HasState, Represents, bytes_of, held, transitions_of, miss}
+use Rattle.ac_automaton.proofs.Places.{IsIn-place}
 use Rattle.ac_automaton.proofs.Steps.{step-held, step-miss, step-on, looks-held, looks-short, looks-on}
 
 -- a node that cannot be alive is dead
@@ -33,40 +36,42 @@ pub represented : (g : Meaning) (states : List State) (s : ℕ) (v : Node) (t : 
 represented g states s v t h is =
     subst (λ (x : State). Represents g s v x) (sym (get_or_read states s t h.there is _)) (h.meant.each s v h.there h.named)
 
-module _ (g : Meaning) (labels : List ℕ) (same : g.labels ≡ labels)
+module _ (g : Meaning) (transitions : List Transition) (same : g.transitions ≡ transitions)
     (s : ℕ) (v : Node) (t : State) (r : Represents g s v t) (b : ℕ) where
-  -- a byte that is a label leads on
-  pub leads-label : (k : ℕ) → slice_get (labels_of labels t) k ≡ Some b → held g v b ≢ None
-  leads-label k at =
-      let there : slice_get (labels_of g.labels t) k ≡ Some b = rw same at in
+  -- a byte with a transition leads on
+  pub leads-on : (k target : ℕ) → slice_get (transitions_of transitions t) k ≡ Some (record { byte = b; target = target }) → held g v b ≢ None
+  leads-on k target at =
+      let own = transitions_of g.transitions t in
+      let there : slice_get own k ≡ Some (record { byte = b; target = target }) = rw same at in
       (r.branches b).0
-      (k, slice_get_within (labels_of g.labels t) k b there, get_or_from_slice_get (labels_of g.labels t) k b b there)
+      (Contains-from_IsIn b (bytes_of own) (IsIn-map (λ (x : Transition). x.byte) (record { byte = b; target = target }) own
+      (IsIn-place (record { byte = b; target = target }) own k there)))
 
-  -- and it leads to the child with its place
-  pub child-label : (k : ℕ) → slice_get (labels_of labels t) k ≡ Some b
-      → slice_get g.nodes (4 + (t.children + k)) ≡ Some (held g v b)
-  child-label k at = r.children k b (rw same at)
+  -- and it leads to the target
+  pub leads-to : (k target : ℕ) → slice_get (transitions_of transitions t) k ≡ Some (record { byte = b; target = target })
+      → slice_get g.nodes target ≡ Some (held g v b)
+  leads-to k target at = r.leads k (record { byte = b; target = target }) (rw same at)
 
   -- any other byte leads nowhere
-  pub none-label : (Contains (labels_of labels t) b → ⊥) → held g v b ≡ None
-  none-label none =
+  pub leads-nowhere : (Contains (bytes_of (transitions_of transitions t)) b → ⊥) → held g v b ≡ None
+  leads-nowhere none =
       none-from (held g v b)
-      (λ on. none (subst (λ (ls : List ℕ). Contains (labels_of ls t) b) same ((r.branches b).1 on)))
+      (λ on. none (subst (λ (ts : List Transition). Contains (bytes_of (transitions_of ts t)) b) same ((r.branches b).1 on)))
 
 -- on the way to where the byte leads from the node, the walk is at a state, and has counted what it took to come there
 pub record Onward (g : Meaning) (states : List State) (anchored : Anchored) (b : ℕ) (u : Node) (old now : Counts) (at : ℕ)
     : Type 0 where
   pub node : Node
   pub state : HasState g states at node
-  pub steps : step g.kind g.patterns anchored u b ≡ step g.kind g.patterns anchored node b
+  pub steps : step g.kind g.patterns anchored u (plain_byte g.fold b) ≡ step g.kind g.patterns anchored node (plain_byte g.fold b)
   pub taken : ℕ
-  pub looks : looks g.kind g.patterns anchored u b ≡ taken + looks g.kind g.patterns anchored node b
+  pub looks : looks g.kind g.patterns anchored u (plain_byte g.fold b) ≡ taken + looks g.kind g.patterns anchored node (plain_byte g.fold b)
   pub counted : now ≡ more_looks taken old
 
 -- at its end it is where the byte leads, and has counted all looks
 pub record Ended (g : Meaning) (anchored : Anchored) (b : ℕ) (u : Node) (old new : Counts) (next : ℕ) : Type 0 where
-  pub steps : slice_get g.nodes next ≡ Some (step g.kind g.patterns anchored u b)
-  pub looks : new ≡ more_looks (looks g.kind g.patterns anchored u b) old
+  pub steps : slice_get g.nodes next ≡ Some (step g.kind g.patterns anchored u (plain_byte g.fold b))
+  pub looks : new ≡ more_looks (looks g.kind g.patterns anchored u (plain_byte g.fold b)) old
 
 module _ (g : Meaning) (states : List State) (b : ℕ) (u : Node) (old : Counts) where
   -- before the first look the walk is on the way
@@ -82,44 +87,44 @@ module _ (g : Meaning) (states : List State) (b : ℕ) (u : Node) (old : Counts)
 
   -- with one look more the walk has counted all
   counted-last : (anchored : Anchored) (now new : Counts) (s : ℕ) (o : Onward g states anchored b u old now s)
-      → looks g.kind g.patterns anchored o.node b ≡ 1 → new ≡ more_looks 1 now
-      → new ≡ more_looks (looks g.kind g.patterns anchored u b) old
+      → looks g.kind g.patterns anchored o.node (plain_byte g.fold b) ≡ 1 → new ≡ more_looks 1 now
+      → new ≡ more_looks (looks g.kind g.patterns anchored u (plain_byte g.fold b)) old
   counted-last anchored now new s o one more =
       more ∙ ap (more_looks 1) o.counted ∙ more_looks-twice o.taken 1 old
       ∙ ap (λ (n : ℕ). more_looks n old) (let l = o.looks in omega arith)
 
   -- a byte that leads on leads to one node in any search, with one look
-  step-leads : (anchored : Anchored) (v : Node) → held g v b ≢ None → step g.kind g.patterns anchored v b ≡ held g v b
-  step-leads No v on = step-held g.kind g.patterns v b on
+  step-leads : (anchored : Anchored) (v : Node) → held g v b ≢ None → step g.kind g.patterns anchored v (plain_byte g.fold b) ≡ held g v b
+  step-leads No v on = step-held g.kind g.patterns v (plain_byte g.fold b) on
   step-leads Yes v on = refl
 
-  looks-leads : (anchored : Anchored) (v : Node) → held g v b ≢ None → looks g.kind g.patterns anchored v b ≡ 1
-  looks-leads No v on = looks-held g.kind g.patterns v b on
+  looks-leads : (anchored : Anchored) (v : Node) → held g v b ≢ None → looks g.kind g.patterns anchored v (plain_byte g.fold b) ≡ 1
+  looks-leads No v on = looks-held g.kind g.patterns v (plain_byte g.fold b) on
   looks-leads Yes v on = refl
 
   -- what holds after a look at the state t of the number s
-  module _ (labels : List ℕ) (same : g.labels ≡ labels) (now new : Counts) (more : new ≡ more_looks 1 now)
+  module _ (transitions : List Transition) (same : g.transitions ≡ transitions) (now new : Counts) (more : new ≡ more_looks 1 now)
       (s : ℕ) (t : State) (is : t ≡ get_or states s t) where
-    -- at a state that has a child by the byte the walk ends there
-    pub ends-child : (anchored : Anchored) (k : ℕ) → slice_get (labels_of labels t) k ≡ Some b
-        → Onward g states anchored b u old now s → Ended g anchored b u old new (4 + (t.children + k))
-    ends-child anchored k at o =
+    -- at a state that has a transition by the byte the walk ends at its target
+    pub ends-target : (anchored : Anchored) (k target : ℕ) → slice_get (transitions_of transitions t) k ≡ Some (record { byte = b; target = target })
+        → Onward g states anchored b u old now s → Ended g anchored b u old new target
+    ends-target anchored k target at o =
         let r = represented g states s o.node t o.state is in
-        let on = leads-label g labels same s o.node t r b k at in record {
+        let on = leads-on g transitions same s o.node t r b k target at in record {
           steps =
-              child-label g labels same s o.node t r b k at
+              leads-to g transitions same s o.node t r b k target at
               ∙ ap (λ (v : Node). Some v) (sym (o.steps ∙ step-leads anchored o.node on));
           looks = counted-last anchored now new s o (looks-leads anchored o.node on) more;
         }
 
-    module _ (none : Contains (labels_of labels t) b → ⊥) where
-      -- an anchored walk ends at the dead state where there is no child
+    module _ (none : Contains (bytes_of (transitions_of transitions t)) b → ⊥) where
+      -- an anchored walk ends at the dead state where there is no transition
       pub ends-anchored : (anchored : Anchored) → anchored ≡ Yes
           → Onward g states anchored b u old now s → Ended g anchored b u old new 0
       ends-anchored No is_yes o = absurd (cc)
       ends-anchored Yes is_yes o =
           let r = represented g states s o.node t o.state is in
-          let off = none-label g labels same s o.node t r b none in record {
+          let off = leads-nowhere g transitions same s o.node t r b none in record {
             steps = o.state.meant.dead ∙ ap (λ (v : Node). Some v) (sym (o.steps ∙ off));
             looks = counted-last Yes now new s o refl more;
           }
@@ -130,10 +135,10 @@ module _ (g : Meaning) (states : List State) (b : ℕ) (u : Node) (old : Counts)
       ends-outer Yes is_no small o = absurd (cc)
       ends-outer No is_no small o =
           let r = represented g states s o.node t o.state is in
-          let off = none-label g labels same s o.node t r b none in
-          let goes = step-miss g.kind g.patterns o.node b off (r.outer small) in record {
+          let off = leads-nowhere g transitions same s o.node t r b none in
+          let goes = step-miss g.kind g.patterns o.node (plain_byte g.fold b) off (r.outer small) in record {
             steps = r.fails ∙ ap (λ (v : Node). Some v) (sym (o.steps ∙ goes));
-            looks = counted-last No now new s o (looks-short g.kind g.patterns o.node b (r.outer small)) more;
+            looks = counted-last No now new s o (looks-short g.kind g.patterns o.node (plain_byte g.fold b) (r.outer small)) more;
           }
 
       -- and goes on at the failure target of any other
@@ -142,14 +147,14 @@ module _ (g : Meaning) (states : List State) (b : ℕ) (u : Node) (old : Counts)
       goes-on Yes is_no large o = absurd (cc)
       goes-on No is_no large o =
           let r = represented g states s o.node t o.state is in
-          let off = none-label g labels same s o.node t r b none in
+          let off = leads-nowhere g transitions same s o.node t r b none in
           let back = r.back large in
           let there = o.state.there in
           let l = o.looks in
-          let m = looks-on g.kind g.patterns o.node b off (r.inner large) in record {
+          let m = looks-on g.kind g.patterns o.node (plain_byte g.fold b) off (r.inner large) in record {
             node = miss g.kind g.patterns o.node;
             state = record { meant = o.state.meant; there = omega arith; named = r.fails };
-            steps = o.steps ∙ step-on g.kind g.patterns o.node b off (r.inner large);
+            steps = o.steps ∙ step-on g.kind g.patterns o.node (plain_byte g.fold b) off (r.inner large);
             taken = o.taken + 1;
             looks = omega arith;
             counted = more ∙ ap (more_looks 1) o.counted ∙ more_looks-twice o.taken 1 old;

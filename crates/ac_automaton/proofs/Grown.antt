@@ -5,14 +5,14 @@ use Rattle.std.specs.List.Sorted.{IsStrictlyIncreasing}
 use Rattle.std.proofs.lemmas.Bool.{cases_lt}
 use Rattle.std.proofs.lemmas.List.{get_or_default, get_or_append_left, get_or_push, length_push}
 use Rattle.std.proofs.lemmas.Option.{slice_get-map, slice_get-get_or, slice_get_within}
-use Rattle.ac_util.specs.declared.primitives.TheConstants.{GREATEST}
 use Rattle.ac_util.specs.Node.{Node}
 use Rattle.ac_util.proofs.PiecesLemmas.{slice_range-append}
 use Rattle.ac_automaton.specs.declared.nfa.noncontiguous.growth.Pending.{Pending}
 use Rattle.ac_automaton.specs.declared.nfa.noncontiguous.state.State.{State}
+use Rattle.ac_automaton.specs.declared.nfa.noncontiguous.state.Transition.{Transition}
 use Rattle.ac_automaton.specs.Growths.{nodes_of, word}
 use Rattle.ac_automaton.specs.Members.{Keyed}
-use Rattle.ac_automaton.specs.Tries.{Meaning, AreStates, Represents, held, labels_of, state_at}
+use Rattle.ac_automaton.specs.Tries.{Meaning, AreStates, Represents, bytes_of, held, transitions_of, state_at}
 use Rattle.ac_automaton.proofs.Places.{get-same}
 
 -- what a number says of its node: dead, the start, or the string of a state in the queue
@@ -65,30 +65,34 @@ module _ (members : List Keyed) where
       let r = words_from queue k v e in
       inr (inr (record { place = k; number = omega arith; pending = r.0; waits = r.1; node = r.2 }))
 
--- the meaning with more labels, and with nodes of which each keeps its number
-abbrev pub more_meaning : Meaning → List ℕ → List Node → Meaning
-more_meaning g more nodes = record {
+-- the meaning with other transitions and nodes
+abbrev pub more_meaning : Meaning → List Transition → List Node → Meaning
+more_meaning g transitions nodes = record {
   kind = g.kind;
+  fold = g.fold;
   patterns = g.patterns;
   order = g.order;
-  labels = g.labels ++ more;
+  transitions = transitions;
   nodes = nodes;
 }
 
-module _ (g : Meaning) (more : List ℕ) (nodes : List Node)
+-- with more transitions, and with nodes of which each keeps its number
+module _ (g : Meaning) (transitions more : List Transition) (split : transitions ≡ g.transitions ++ more) (nodes : List Node)
     (keeps : (s : ℕ) (v : Node) → slice_get g.nodes s ≡ Some v → slice_get nodes s ≡ Some v) where
   -- a state that is whole stays what it is
-  pub Represents-more : (s : ℕ) (v : Node) (t : State) → Represents g s v t → Represents (more_meaning g more nodes) s v t
+  pub Represents-more : (s : ℕ) (v : Node) (t : State) → Represents g s v t → Represents (more_meaning g transitions nodes) s v t
   Represents-more s v t r =
-      let e : labels_of (g.labels ++ more) t ≡ labels_of g.labels t =
-      slice_range-append g.labels more t.children t.children_end r.ordered r.labelled in
-      let longer : t.children_end ≤ length (g.labels ++ more) = (let l = r.labelled in omega (arith, length-append g.labels more)) in
+      let e : transitions_of transitions t ≡ transitions_of g.transitions t =
+      ap (λ (ts : List Transition). transitions_of ts t) split
+      ∙ slice_range-append g.transitions more t.transitions t.transitions_end r.ordered r.listed in
+      let longer : t.transitions_end ≤ length transitions =
+      (let l = r.listed in let m = ap length split in omega (arith, length-append g.transitions more)) in
       record {
         ordered = r.ordered;
-        labelled = longer;
-        ascending = subst IsStrictlyIncreasing (sym e) r.ascending;
-        branches = λ b. subst (λ (bs : List ℕ). Contains bs b ↔ (held g v b ≢ None)) (sym e) (r.branches b);
-        children = λ k b h. keeps _ _ (r.children k b (sym (ap (λ (bs : List ℕ). slice_get bs k) e) ∙ h));
+        listed = longer;
+        ascending = subst (λ (ts : List Transition). IsStrictlyIncreasing (bytes_of ts)) (sym e) r.ascending;
+        branches = λ b. subst (λ (ts : List Transition). Contains (bytes_of ts) b ↔ (held g v b ≢ None)) (sym e) (r.branches b);
+        leads = λ k next h. keeps _ _ (r.leads k next (sym (ap (λ (ts : List Transition). slice_get ts k) e) ∙ h));
         fails = keeps _ _ r.fails;
         back = r.back;
         owned = r.owned;
@@ -107,12 +111,11 @@ module _ (g : Meaning) (more : List ℕ) (nodes : List Node)
       }
 
   -- so do all of them
-  pub AreStates-more : (states : List State) → length g.nodes ≤ length nodes → length (g.labels ++ more) + 4 ≤ GREATEST + 1
-      → AreStates g states → AreStates (more_meaning g more nodes) states
-  AreStates-more states longer few a = record {
+  pub AreStates-more : (states : List State) → length g.nodes ≤ length nodes
+      → AreStates g states → AreStates (more_meaning g transitions nodes) states
+  AreStates-more states longer a = record {
     dead = keeps 0 None a.dead;
     named = (let l = a.named in omega arith);
-    few = few;
     each = λ s v l e.
         let h = slice_get_within nodes s v e in
         let known = slice_get-get_or g.nodes s None (let m = a.named in omega arith) in
@@ -127,7 +130,6 @@ module _ (g : Meaning) (states : List State) (v : Node) (t : State) where
   AreStates-push a node r = record {
     dead = a.dead;
     named = (let l = slice_get_within g.nodes (length states) v node in let m = length_push states t in omega arith);
-    few = a.few;
     each = λ s w l e. each s w e (cases_lt s (length states)) (let m = length_push states t in omega arith);
   }
     where

@@ -7,6 +7,7 @@ pub mod Follows
 pub mod Grown
 pub mod Heads
 pub mod Keeping
+mod Leading
 pub mod Lengths
 pub mod Linking
 pub mod ListsOf

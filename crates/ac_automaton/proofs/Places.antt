@@ -3,7 +3,7 @@ use Rattle.std.proofs.Common.{◌≡◌, ◌≢◌, Bool, true, false, not, ℕ,
 use Rattle.std.specs.Prelude.{is_some, slice_get, slice_range, Result, Ok, Err, MatchResult, IsErrAnd}
 use Rattle.std.proofs.lemmas.Bool.{false≢true}
 use Rattle.std.proofs.lemmas.Option.{get_or_from_slice_get, slice_get_within}
-use Rattle.std.proofs.Math.Seq.{take-suc}
+use Rattle.std.proofs.Math.Seq.{take-append_seam, take-suc}
 use Rattle.ac_util.proofs.Lists.{IsIn, IsOrdered}
 
 -- an element stays at its place as the list grows
@@ -102,3 +102,8 @@ take-next xs i x e =
     ap (λ (n : ℕ). take n xs) (let next : i + 1 ≡ suc i = omega arith in next)
     ∙ take-suc xs i x (slice_get_within xs i x e)
     ∙ ap (λ y. take i xs ++ y ∷ []) (get_or_from_slice_get xs i x x e)
+
+-- a buffer that was lent as a whole is what came back
+pub written-whole : {X : Type 0} (xs ys : List X) (len : ℕ) → length xs ≡ len → take len (xs ++ drop (length xs) ys) ≡ xs
+written-whole xs ys len l =
+    ap (λ (n : ℕ). take n (xs ++ drop (length xs) ys)) (sym l) ∙ take-append_seam xs (drop (length xs) ys)

@@ -1,29 +1,32 @@
 -- A trie has as many states as there are nodes: each node has one state, and a build is refused only where there are too many.
-use Rattle.std.proofs.Common.{◌≡◌, ◌≢◌, ℕ, zero, suc, ◌+◌, ◌<◌, ◌≤◌, true, List, [], ◌∷◌, ◌++◌, map, length, ◌⊎◌, inl, inr, refl, ap, sym, ◌∙◌, subst, arith, Some}
+use Rattle.std.proofs.Common.{◌≡◌, ◌≢◌, ℕ, zero, suc, ◌+◌, ◌<◌, ◌≤◌, Bool, true, List, [], ◌∷◌, ◌++◌, map, length, ◌⊎◌, inl, inr, refl, ap, sym, ◌∙◌, subst, arith, Some}
 use Rattle.std.specs.Prelude.{slice_get, option_map}
 use Rattle.std.proofs.lemmas.List.{length-map, length_push}
 use Rattle.std.proofs.lemmas.Option.{slice_get-map, slice_get_within}
 use Rattle.ac_util.specs.declared.search.MatchKind.{MatchKind}
 use Rattle.ac_util.specs.declared.primitives.TheConstants.{GREATEST}
-use Rattle.ac_util.specs.Node.{Node, is_node}
+use Rattle.ac_util.specs.Node.{Node, is_node, step}
+use Rattle.ac_util.specs.Sameness.{plain_byte}
+use Rattle.ac_util.specs.declared.search.Anchored.TheVariants.{Yes}
 use Rattle.ac_util.specs.Sizes.{inner_nodes, state_count}
-use Rattle.ac_util.proofs.Lists.{IsIn, IsOrdered, IsIn-from_Contains, Contains-from_IsIn}
+use Rattle.ac_util.proofs.Lists.{IsIn, IsOrdered, IsIn-from_Contains, IsIn-from_map, Contains-from_IsIn}
 use Rattle.ac_util.proofs.NodeCount.{inner_nodes-has, inner_nodes-only, inner_nodes-apart}
 use Rattle.ac_util.proofs.Participants.{is_node-front}
 use Rattle.ac_automaton.specs.declared.nfa.noncontiguous.growth.Pending.{Pending}
 use Rattle.ac_automaton.specs.declared.nfa.noncontiguous.state.State.{State}
+use Rattle.ac_automaton.specs.declared.nfa.noncontiguous.state.Transition.{Transition}
 use Rattle.ac_util.specs.declared.error.BuildError.{BuildError}
 use Rattle.ac_util.specs.declared.error.BuildError.TheVariants.{Memory, StateIdOverflow}
 use Rattle.ac_automaton.specs.Builds.{IsRefused}
 use Rattle.ac_automaton.specs.Growths.{IsGrown, IsRangeOf, IsReady, grown_meaning, nodes_of, word}
-use Rattle.ac_automaton.specs.Members.{Keyed, IsOrder, byte_at}
-use Rattle.ac_automaton.specs.Tries.{AreStates, labels_of, miss, state_at}
-use Rattle.ac_automaton.proofs.Branched.{held-is}
+use Rattle.ac_automaton.specs.Members.{Keyed, IsOrder, byte_at, key_at}
+use Rattle.ac_automaton.specs.Tries.{AreStates, bytes_of, transitions_of, miss, state_at}
+use Rattle.ac_automaton.proofs.Branched.{held-is, some_node}
 use Rattle.ac_automaton.proofs.Branching.{IsBranching, child-members, fresh, word-length}
 use Rattle.ac_automaton.proofs.Counting.{IsOrdered-from_AllPairs, length-le-from_IsOrdered}
 use Rattle.ac_automaton.proofs.Grown.{nodes-cases}
 use Rattle.ac_automaton.proofs.Places.{place-of, IsIn-place, IsOrdered-places}
-use Rattle.ac_automaton.proofs.Ranges.{member-node}
+use Rattle.ac_automaton.proofs.Ranges.{member-node, starts_with-last}
 
 -- a string that isn't empty is a shorter one with one more byte
 last-byte : (x : ℕ) (u : List ℕ) → (w : List ℕ) × (b : ℕ) × (x ∷ u ≡ w ++ b ∷ [])
@@ -31,7 +34,7 @@ last-byte x [] = ([], x, refl)
 last-byte x (y ∷ u) = let r = last-byte y u in (x ∷ r.0, r.1, ap (λ (w : List ℕ). x ∷ w) r.2)
 
 module _ (kind : MatchKind) (patterns : List (List ℕ)) (members : List Keyed) (order : IsOrder kind patterns members)
-    (whole : ℕ) (labels : List ℕ) (queue : List Pending) (grown : IsGrown kind patterns members whole labels queue) where
+    (whole : ℕ) (transitions : List Transition) (queue : List Pending) (grown : IsGrown kind patterns members whole transitions queue) where
   -- the strings of the queue
   abbrev words : List (List ℕ)
   words = map (word members) queue
@@ -81,8 +84,16 @@ module _ (kind : MatchKind) (patterns : List (List ℕ)) (members : List Keyed) 
       let l = length-map queue (word members) in
       omega arith
 
-  module _ (states : List State) (meant : AreStates (grown_meaning kind patterns members labels queue) states)
+  module _ (fold : Bool) (settled : (place depth b : ℕ) → byte_at members depth place ≡ Some b → plain_byte fold b ≡ b)
+      (states : List State) (meant : AreStates (grown_meaning kind fold patterns members transitions queue) states)
       (all : length states ≡ 4 + length queue) where
+    -- a node's last byte is that of a member
+    node-member_last : (w : List ℕ) (b : ℕ) → is_node kind patterns (w ++ b ∷ []) ≡ true
+        → (k : ℕ) × (byte_at members (length w) k ≡ Some b)
+    node-member_last w b node =
+        let m = some_node kind patterns members order w b node in
+        (m.0, starts_with-last (key_at members m.0) w b m.2)
+
     -- each node has a state
     reaches : (n : ℕ) (u : List ℕ) → length u ≡ n → is_node kind patterns u ≡ true
         → (s : ℕ) × (slice_get (nodes_of members queue) s ≡ Some (Some u))
@@ -99,11 +110,17 @@ module _ (kind : MatchKind) (patterns : List (List ℕ)) (members : List Keyed) 
         let count = length-map queue (λ (q : Pending). Some (word members q)) in
         let named = slice_get_within (nodes_of members queue) s.0 (Some w) s.1 in
         let r = meant.each s.0 (Some w) (omega arith) s.1 in
-        let is = held-is kind patterns w b longer in
-        let k = place-of b (labels_of labels (state_at states s.0))
-        (IsIn-from_Contains b (labels_of labels (state_at states s.0)) ((r.branches b).1 (λ none. absurd (cc)))) in (
-          4 + ((state_at states s.0).children + k.0),
-          r.children k.0 b k.1 ∙ ap (λ (v : Node). Some v) (is ∙ ap (λ (v : List ℕ). Some v) (sym last.2)),
+        let m = node-member_last w b longer in
+        let same : plain_byte fold b ≡ b = settled m.0 (length w) b m.1 in
+        let is = ap (step kind patterns Yes (Some w)) same ∙ held-is kind patterns w b longer in
+        let own = transitions_of transitions (state_at states s.0) in
+        let t = IsIn-from_map (λ (x : Transition). x.byte) b own
+        (IsIn-from_Contains b (bytes_of own) ((r.branches b).1 (λ none. absurd (cc)))) in
+        let k = place-of t.0 own t.1 in (
+          t.0.target,
+          r.leads k.0 t.0 k.1
+              ∙ ap (λ (v : Node). Some v)
+              (ap (λ (x : ℕ). step kind patterns Yes (Some w) (plain_byte fold x)) t.2 ∙ is ∙ ap (λ (v : List ℕ). Some v) (sym last.2)),
         )
 
     inner-word : (u : List ℕ) → IsIn u (inner_nodes kind patterns) → IsIn u words
@@ -129,11 +146,11 @@ module _ (kind : MatchKind) (patterns : List (List ℕ)) (members : List Keyed) 
         omega arith
 
 -- a child for which there is no number is one node too many
-module _ (kind : MatchKind) (patterns : List (List ℕ)) (members : List Keyed)
-    (states : List State) (labels0 : List ℕ) (queue0 : List Pending) (p : Pending)
-    (ready : IsReady kind patterns members states labels0 queue0 p) (own_end : ℕ)
-    (place end b fail : ℕ) (labels : List ℕ) (queue : List Pending)
-    (h : IsBranching kind patterns members states labels0 queue0 p ready own_end place labels queue)
+module _ (kind : MatchKind) (patterns : List (List ℕ)) (members : List Keyed) (fold : Bool)
+    (states : List State) (transitions0 : List Transition) (queue0 : List Pending) (p : Pending)
+    (ready : IsReady kind fold patterns members states transitions0 queue0 p) (own_end : ℕ)
+    (place end b fail : ℕ) (transitions : List Transition) (queue : List Pending)
+    (h : IsBranching kind patterns members fold states transitions0 queue0 p ready own_end place transitions queue)
     (more : place < p.to) (some : place < end) (high : end ≤ p.to)
     (byte : byte_at members p.depth place ≡ Some b)
     (same : (k : ℕ) → place ≤ k → k < end → byte_at members p.depth k ≡ byte_at members p.depth place)
@@ -144,7 +161,7 @@ module _ (kind : MatchKind) (patterns : List (List ℕ)) (members : List Keyed)
   refused e (inl memory) = inl memory
   refused e (inr full) = inr (
     full.0,
-    too-many kind patterns members ready.order (length states + 1) labels queue h.grown (word members p) b place end
-        (child-members kind patterns members states labels0 queue0 p ready own_end place end b fail labels queue h more some high byte same other) some
-        (fresh kind patterns members states labels0 queue0 p ready own_end place end b fail labels queue h more some high byte same other fails) full.1,
+    too-many kind patterns members ready.order (length states + 1) transitions queue h.grown (word members p) b place end
+        (child-members kind patterns members fold states transitions0 queue0 p ready own_end place end b fail transitions queue h more some high byte same other) some
+        (fresh kind patterns members fold states transitions0 queue0 p ready own_end place end b fail transitions queue h more some high byte same other fails) full.1,
   )

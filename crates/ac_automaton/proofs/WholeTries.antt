@@ -1,17 +1,21 @@
 -- From the first states to a whole trie.
-use Rattle.std.proofs.Common.{◌≡◌, ℕ, zero, suc, ◌+◌, ◌<◌, ◌≤◌, Bool, List, [], ◌∷◌, ◌++◌, map, length, take, inl, inr, refl, ap, sym, ◌∙◌, subst, arith, Some, None}
+use Rattle.std.proofs.Common.{◌≡◌, ℕ, zero, suc, ◌+◌, ◌<◌, ◌≤◌, Bool, true, false, get_or, List, [], ◌∷◌, ◌++◌, map, length, take, inl, inr, refl, ap, sym, ◌∙◌, subst, arith, Some, None}
 use Rattle.std.specs.Prelude.{slice_get}
-use Rattle.std.proofs.lemmas.List.{length-map, length_push}
+use Rattle.std.proofs.lemmas.Bool.{cases_lt}
+use Rattle.std.proofs.lemmas.Bool.Decides.{nat_tests}
+use Rattle.std.proofs.lemmas.List.{get_or_past, length-map, length_push}
 use Rattle.std.proofs.lemmas.Option.{slice_get_within}
 use Rattle.ac_util.specs.declared.primitives.TheConstants.{GREATEST}
 use Rattle.ac_util.specs.declared.search.MatchKind.{MatchKind}
 use Rattle.ac_util.specs.Node.{Node}
-use Rattle.ac_util.specs.Sameness.{plain}
+use Rattle.ac_util.specs.Sameness.{plain, plain_byte}
+use Rattle.ac_util.specs.Search.{pattern_of}
 use Rattle.ac_util.specs.Sizes.{state_count}
 use Rattle.ac_automaton.specs.declared.nfa.noncontiguous.growth.Pending.{Pending}
 use Rattle.ac_automaton.specs.declared.nfa.noncontiguous.state.State.{State}
+use Rattle.ac_automaton.specs.declared.nfa.noncontiguous.state.Transition.{Transition}
 use Rattle.ac_automaton.specs.Growths.{HasBranched, IsGrown, IsReady, Waits, grown_meaning, nodes_of, word}
-use Rattle.ac_automaton.specs.Members.{Keyed, IsOrder, key_at, numbers}
+use Rattle.ac_automaton.specs.Members.{Keyed, IsOrder, byte_at, key_at, numbers}
 use Rattle.ac_automaton.specs.Tries.{AreStates, IsTable, Meaning, Represents, dead_state, state_at, trie_of}
 use Rattle.ac_automaton.proofs.Grown.{AreStates-push, nodes-inner}
 use Rattle.ac_automaton.proofs.ListsOf.{listed_within-matches}
@@ -21,10 +25,10 @@ use Rattle.ac_automaton.proofs.StateCount.{state-count}
 pub Represents-beside : (g : Meaning) (v : Node) (t : State) → Represents g 2 v t → Represents g 3 v t
 Represents-beside g v t r = record {
   ordered = r.ordered;
-  labelled = r.labelled;
+  listed = r.listed;
   ascending = r.ascending;
   branches = r.branches;
-  children = r.children;
+  leads = r.leads;
   fails = r.fails;
   back = λ l. absurd (omega arith);
   owned = r.owned;
@@ -42,18 +46,48 @@ Represents-beside g v t r = record {
   inner = λ l. absurd (omega arith);
 }
 
-module _ (kind : MatchKind) (patterns : List (List ℕ)) (members : List Keyed) where
+-- a plain byte stays as it is
+plain-twice : (fold : Bool) (b : ℕ) → plain_byte fold (plain_byte fold b) ≡ plain_byte fold b
+plain-twice false b = refl
+plain-twice true b = grind (arith, nat_tests)
+
+plain-byte : (fold : Bool) (text : List ℕ) (k b : ℕ) → slice_get (plain fold text) k ≡ Some b → plain_byte fold b ≡ b
+plain-byte fold [] k b e = absurd (cc)
+plain-byte fold (x ∷ text) zero b e = let is : plain_byte fold x ≡ b = cc in ap (plain_byte fold) (sym is) ∙ plain-twice fold x ∙ is
+plain-byte fold (x ∷ text) (suc k) b e = plain-byte fold text k b e
+
+plain-pattern : (fold : Bool) (texts : List (List ℕ)) (n k b : ℕ) → slice_get (pattern_of (map (plain fold) texts) n) k ≡ Some b
+    → plain_byte fold b ≡ b
+plain-pattern fold [] n k b e = absurd (cc)
+plain-pattern fold (t ∷ texts) zero k b e = plain-byte fold t k b e
+plain-pattern fold (t ∷ texts) (suc n) k b e = plain-pattern fold texts n k b e
+
+-- the bytes of members that are plain patterns are plain
+pub members-plain : (kind : MatchKind) (fold : Bool) (texts : List (List ℕ)) (members : List Keyed) → IsOrder kind (map (plain fold) texts) members
+    → (place depth b : ℕ) → byte_at members depth place ≡ Some b → plain_byte fold b ≡ b
+members-plain kind fold texts members order place depth b e =
+    let none : Keyed = record { key = []; number = 0 } in
+    elim (cases_lt place (length members)) [
+      | inl l ↦
+          let is = order.named place none l in
+          plain-pattern fold texts (get_or members place none).number depth b (sym (ap (λ (w : List ℕ). slice_get w depth) is) ∙ e)
+      | inr past ↦
+          let is = get_or_past members place none past in
+          absurd (let f : None ≡ Some b = sym (ap (λ (m : Keyed). slice_get m.key depth) is) ∙ e in cc)
+    ]
+
+module _ (kind : MatchKind) (fold : Bool) (patterns : List (List ℕ)) (members : List Keyed) where
   -- the first two states
   abbrev pub first_states : List State
   first_states = dead_state ∷ dead_state ∷ []
 
-  dead-represents : (s : ℕ) → s < 2 → Represents (grown_meaning kind patterns members [] []) s None dead_state
+  dead-represents : (s : ℕ) → s < 2 → Represents (grown_meaning kind fold patterns members [] []) s None dead_state
   dead-represents s l = record {
     ordered = omega arith;
-    labelled = omega arith;
+    listed = omega arith;
     ascending = λ k h. absurd (omega arith);
     branches = λ b. ((λ has. absurd (let h = has.1 in omega arith)), (λ some. absurd (some refl)));
-    children = λ k b e. absurd (cc);
+    leads = λ k t e. absurd (cc);
     fails = refl;
     back = λ h. absurd (omega arith);
     owned = omega arith;
@@ -65,27 +99,28 @@ module _ (kind : MatchKind) (patterns : List (List ℕ)) (members : List Keyed) 
     inner = λ h. absurd (omega arith);
   }
 
-  first-states : AreStates (grown_meaning kind patterns members [] []) first_states
+  first-states : AreStates (grown_meaning kind fold patterns members [] []) first_states
   first-states = record {
     dead = refl;
     named = omega arith;
-    few = omega arith;
     each = λ s v l e. each s v l e;
   }
     where
-      each : (s : ℕ) (v : Node) → s < 2 → slice_get (nodes_of members []) s ≡ Some v → Represents (grown_meaning kind patterns members [] []) s v (state_at first_states s)
-      each zero v l e = subst (λ (w : Node). Represents (grown_meaning kind patterns members [] []) 0 w dead_state) (let same : None ≡ v = cc in same) (dead-represents 0 l)
-      each (suc zero) v l e = subst (λ (w : Node). Represents (grown_meaning kind patterns members [] []) 1 w dead_state) (let same : None ≡ v = cc in same) (dead-represents 1 l)
+      each : (s : ℕ) (v : Node) → s < 2 → slice_get (nodes_of members []) s ≡ Some v → Represents (grown_meaning kind fold patterns members [] []) s v (state_at first_states s)
+      each zero v l e = subst (λ (w : Node). Represents (grown_meaning kind fold patterns members [] []) 0 w dead_state) (let same : None ≡ v = cc in same) (dead-represents 0 l)
+      each (suc zero) v l e = subst (λ (w : Node). Represents (grown_meaning kind fold patterns members [] []) 1 w dead_state) (let same : None ≡ v = cc in same) (dead-represents 1 l)
       each (suc (suc s)) v l e = absurd (omega arith)
 
   -- the start is next
-  pub start-ready : (p : Pending) → IsOrder kind patterns members → Waits kind patterns members [] 2 p → p.depth ≡ 0
-      → IsReady kind patterns members first_states [] [] p
-  start-ready p order waits depth = record {
+  pub start-ready : (p : Pending) → IsOrder kind patterns members
+      → ((place depth b : ℕ) → byte_at members depth place ≡ Some b → plain_byte fold b ≡ b) → Waits kind patterns members [] 2 p → p.depth ≡ 0
+      → IsReady kind fold patterns members first_states [] [] p
+  start-ready p order settled waits depth = record {
     order = order;
+    settled = settled;
     grown = record {
-      as_long = refl;
       few = omega arith;
+      counted = omega arith;
       waits = λ k q e. absurd (cc);
       apart = λ j k q r e f w. absurd (cc);
       parents = λ k q e. absurd (cc);
@@ -96,60 +131,65 @@ module _ (kind : MatchKind) (patterns : List (List ℕ)) (members : List Keyed) 
   }
 
   -- the states up to those of the queue before `at` are whole
-  pub record IsGoing (states : List State) (labels : List ℕ) (queue : List Pending) (at : ℕ) : Type 0 where
+  pub record IsGoing (states : List State) (transitions : List Transition) (queue : List Pending) (at : ℕ) : Type 0 where
     pub order : IsOrder kind patterns members
-    pub grown : IsGrown kind patterns members (length states) labels queue
-    pub meant : AreStates (grown_meaning kind patterns members labels queue) states
+    pub settled : (place depth b : ℕ) → byte_at members depth place ≡ Some b → plain_byte fold b ≡ b
+    pub grown : IsGrown kind patterns members (length states) transitions queue
+    pub meant : AreStates (grown_meaning kind fold patterns members transitions queue) states
     pub count : length states ≡ 4 + at
     pub within : at ≤ length queue
 
-  later-grown : (m n : ℕ) (labels : List ℕ) (queue : List Pending) → m ≤ n → IsGrown kind patterns members m labels queue → IsGrown kind patterns members n labels queue
-  later-grown m n labels queue l grown = record {
-    as_long = grown.as_long;
+  later-grown : (m n : ℕ) (transitions : List Transition) (queue : List Pending) → m ≤ n → IsGrown kind patterns members m transitions queue → IsGrown kind patterns members n transitions queue
+  later-grown m n transitions queue l grown = record {
     few = grown.few;
+    counted = grown.counted;
     waits = grown.waits;
     apart = grown.apart;
     parents = λ k q e. let r = grown.parents k q e in (r.0, omega (arith, r.1), r.2);
   }
 
   -- with the start at both its numbers the first four are whole
-  pub start-going : (p : Pending) (t : State) (labels : List ℕ) (queue : List Pending) → IsOrder kind patterns members → p.depth ≡ 0
-      → HasBranched kind patterns members first_states [] p t labels queue → IsGoing ((first_states ++ t ∷ []) ++ t ∷ []) labels queue 0
-  start-going p t labels queue order depth h = record {
+  pub start-going : (p : Pending) (t : State) (transitions : List Transition) (queue : List Pending) → IsOrder kind patterns members
+      → ((place depth b : ℕ) → byte_at members depth place ≡ Some b → plain_byte fold b ≡ b) → p.depth ≡ 0
+      → HasBranched kind fold patterns members first_states [] p t transitions queue → IsGoing ((first_states ++ t ∷ []) ++ t ∷ []) transitions queue 0
+  start-going p t transitions queue order settled depth h = record {
     order = order;
-    grown = later-grown 3 4 labels queue (omega arith) h.grown;
-    meant = AreStates-push (grown_meaning kind patterns members labels queue) (first_states ++ t ∷ []) (Some []) t once refl
-        (Represents-beside (grown_meaning kind patterns members labels queue) (Some []) t start);
+    settled = settled;
+    grown = later-grown 3 4 transitions queue (omega arith) h.grown;
+    meant = AreStates-push (grown_meaning kind fold patterns members transitions queue) (first_states ++ t ∷ []) (Some []) t once refl
+        (Represents-beside (grown_meaning kind fold patterns members transitions queue) (Some []) t start);
     count = refl;
     within = omega arith;
   }
     where
-      start : Represents (grown_meaning kind patterns members labels queue) 2 (Some []) t
+      start : Represents (grown_meaning kind fold patterns members transitions queue) 2 (Some []) t
       start =
-          subst (λ (v : List ℕ). Represents (grown_meaning kind patterns members labels queue) 2 (Some v) t)
+          subst (λ (v : List ℕ). Represents (grown_meaning kind fold patterns members transitions queue) 2 (Some v) t)
           (ap (λ (n : ℕ). take n (key_at members p.from)) depth) h.represents
 
-      once : AreStates (grown_meaning kind patterns members labels queue) (first_states ++ t ∷ [])
-      once = AreStates-push (grown_meaning kind patterns members labels queue) first_states (Some []) t h.meant refl start
+      once : AreStates (grown_meaning kind fold patterns members transitions queue) (first_states ++ t ∷ [])
+      once = AreStates-push (grown_meaning kind fold patterns members transitions queue) first_states (Some []) t h.meant refl start
 
   -- the first in the queue that isn't whole is next
-  pub going-ready : (states : List State) (labels : List ℕ) (queue : List Pending) (at : ℕ) (p : Pending) → IsGoing states labels queue at
-      → slice_get queue at ≡ Some p → IsReady kind patterns members states labels queue p
-  going-ready states labels queue at p h e = record {
+  pub going-ready : (states : List State) (transitions : List Transition) (queue : List Pending) (at : ℕ) (p : Pending) → IsGoing states transitions queue at
+      → slice_get queue at ≡ Some p → IsReady kind fold patterns members states transitions queue p
+  going-ready states transitions queue at p h e = record {
     order = h.order;
+    settled = h.settled;
     grown = h.grown;
     meant = h.meant;
     waits = subst (λ (n : ℕ). Waits kind patterns members queue n p) (sym h.count) (h.grown.waits at p e);
     next = inr (at, h.count, e);
   }
 
-  pub going-on : (states : List State) (labels : List ℕ) (queue : List Pending) (at : ℕ) (p : Pending) (t : State)
-      (new_labels : List ℕ) (new_queue : List Pending) → IsGoing states labels queue at → slice_get queue at ≡ Some p
-      → HasBranched kind patterns members states queue p t new_labels new_queue → IsGoing (states ++ t ∷ []) new_labels new_queue (at + 1)
-  going-on states labels queue at p t new_labels new_queue h e b = record {
+  pub going-on : (states : List State) (transitions : List Transition) (queue : List Pending) (at : ℕ) (p : Pending) (t : State)
+      (new_transitions : List Transition) (new_queue : List Pending) → IsGoing states transitions queue at → slice_get queue at ≡ Some p
+      → HasBranched kind fold patterns members states queue p t new_transitions new_queue → IsGoing (states ++ t ∷ []) new_transitions new_queue (at + 1)
+  going-on states transitions queue at p t new_transitions new_queue h e b = record {
     order = h.order;
-    grown = subst (λ (n : ℕ). IsGrown kind patterns members n new_labels new_queue) (let l = length_push states t in omega arith) b.grown;
-    meant = AreStates-push (grown_meaning kind patterns members new_labels new_queue) states (Some (word members p)) t b.meant node b.represents;
+    settled = h.settled;
+    grown = subst (λ (n : ℕ). IsGrown kind patterns members n new_transitions new_queue) (let l = length_push states t in omega arith) b.grown;
+    meant = AreStates-push (grown_meaning kind fold patterns members new_transitions new_queue) states (Some (word members p)) t b.meant node b.represents;
     count = (let l = length_push states t in let m = h.count in omega arith);
     within = (let l = slice_get_within new_queue at p (b.kept at p e) in omega arith);
   }
@@ -159,12 +199,12 @@ module _ (kind : MatchKind) (patterns : List (List ℕ)) (members : List Keyed) 
 
 -- where the whole queue is, the states are those of an automaton
 module _ (texts : List (List ℕ)) (fold : Bool) (kind : MatchKind) (members : List Keyed)
-    (states : List State) (labels : List ℕ) (queue : List Pending) (at : ℕ)
-    (h : IsGoing kind (map (plain fold) texts) members states labels queue at) (all : length queue ≤ at) where
+    (states : List State) (transitions : List Transition) (queue : List Pending) (at : ℕ)
+    (h : IsGoing kind fold (map (plain fold) texts) members states transitions queue at) (all : length queue ≤ at) where
   counted : length states ≡ 4 + length queue
   counted = let l = h.count in let m = h.within in omega arith
 
-  pub whole-table : IsTable (trie_of texts fold kind (numbers members) labels states) (nodes_of members queue)
+  pub whole-table : IsTable (trie_of texts fold kind (numbers members) transitions states) (nodes_of members queue)
   whole-table =
       let named = length-map queue (λ (q : Pending). Some (word members q)) in
       record {
@@ -175,7 +215,7 @@ module _ (texts : List (List ℕ)) (fold : Bool) (kind : MatchKind) (members : L
         start = refl;
         anchored_start = refl;
         lists = λ s v e.
-            listed_within-matches (grown_meaning kind (map (plain fold) texts) members labels queue) states s s v
+            listed_within-matches (grown_meaning kind fold (map (plain fold) texts) members transitions queue) states s s v
             (record {
               meant = h.meant;
               there = (let l = slice_get_within (nodes_of members queue) s v e in let c = counted in omega arith);
@@ -187,7 +227,8 @@ module _ (texts : List (List ℕ)) (fold : Bool) (kind : MatchKind) (members : L
   -- and there are as many as nodes
   pub whole-count : state_count kind (map (plain fold) texts) ≤ GREATEST + 1
   whole-count =
-      let c = state-count kind (map (plain fold) texts) members h.order (length states) labels queue h.grown states h.meant counted in
+      let c = state-count kind (map (plain fold) texts) members h.order (length states) transitions queue h.grown
+      fold h.settled states h.meant counted in
       let few = h.grown.few in
       let d = counted in
       omega arith

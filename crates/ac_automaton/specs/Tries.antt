@@ -1,47 +1,51 @@
 -- How the states of a trie with failure links stand for nodes.
-use Rattle.std.specs.Prelude.{◌≡◌, ◌≢◌, ◌↔◌, ℕ, zero, suc, ◌+◌, ◌-◌, ◌<◌, ◌≤◌, ◌&&◌, Bool, List, [], ◌∷◌, ◌++◌, length, slice_get, slice_range, slice_index_or, Contains, None, Some, if◌then◌else◌}
+use Rattle.std.specs.Prelude.{◌≡◌, ◌≢◌, ◌↔◌, ℕ, zero, suc, ◌-◌, ◌<◌, ◌≤◌, ◌&&◌, Bool, List, [], ◌∷◌, ◌++◌, length, map, slice_get, slice_range, slice_index_or, Contains, None, Some, if◌then◌else◌}
 use Rattle.std.specs.List.Sorted.{IsStrictlyIncreasing}
 use Rattle.std.proofs.Common.{sym, ◌∙◌, arith}
 use Rattle.std.proofs.lemmas.List.{append-nil}
 use Rattle.std.proofs.lemmas.Option.{slice_get_within}
 use Rattle.ac_util.specs.declared.search.Anchored.{Anchored}
-use Rattle.ac_util.specs.declared.primitives.TheConstants.{GREATEST}
 use Rattle.ac_util.specs.declared.search.Anchored.TheVariants.{No, Yes}
 use Rattle.ac_util.specs.declared.search.MatchKind.{MatchKind}
 use Rattle.ac_util.specs.declared.search.StartKind.TheVariants.{Both}
 use Rattle.ac_util.specs.Built.{Built}
 use Rattle.ac_util.specs.Matches.{matches}
 use Rattle.ac_util.specs.Node.{Node, begins_with_pattern, depth, failure, is_leftmost, step}
+use Rattle.ac_util.specs.Sameness.{plain_byte}
 use Rattle.ac_automaton.specs.declared.nfa.noncontiguous.state.State.{State}
+use Rattle.ac_automaton.specs.declared.nfa.noncontiguous.state.Transition.{Transition}
 use Rattle.ac_automaton.specs.Automata.{plain_of, Lists}
 
--- what an automaton was built from, the patterns that take part in ascending order of their bytes, the labels of the states
--- from 4 on, and the states
+-- what an automaton was built from, the patterns that take part in ascending order of their bytes, the transitions of all
+-- states, and the states
 pub record Trie : Type 0 where
   pub built : Built
   pub order : List ℕ
-  pub labels : List ℕ
+  pub transitions : List Transition
   pub states : List State
 
-abbrev pub trie_of : List (List ℕ) → Bool → MatchKind → List ℕ → List ℕ → List State → Trie
-trie_of patterns fold kind order labels states = record {
+abbrev pub trie_of : List (List ℕ) → Bool → MatchKind → List ℕ → List Transition → List State → Trie
+trie_of patterns fold kind order transitions states = record {
   built = record { patterns = patterns; fold = fold; kind = kind; start_kind = Both };
   order = order;
-  labels = labels;
+  transitions = transitions;
   states = states;
 }
 
 -- a state from which nothing leads on
 abbrev pub dead_state : State
-dead_state = record { children = 0; children_end = 0; fail = 0; own = 0; own_end = 0; link = 0; depth = 0 }
+dead_state = record { transitions = 0; transitions_end = 0; fail = 0; own = 0; own_end = 0; link = 0; depth = 0 }
 
 -- a state by its number
 abbrev pub state_at : List State → ℕ → State
 state_at states s = slice_index_or states s dead_state
 
--- the labels of a state's children, and the patterns that a state has of its own
-abbrev pub labels_of : List ℕ → State → List ℕ
-labels_of labels t = slice_range labels t.children t.children_end
+-- the transitions of a state, their bytes, and the patterns that a state has of its own
+abbrev pub transitions_of : List Transition → State → List Transition
+transitions_of transitions t = slice_range transitions t.transitions t.transitions_end
+
+abbrev pub bytes_of : List Transition → List ℕ
+bytes_of transitions = map (λ t. t.byte) transitions
 
 abbrev pub own_of : List ℕ → State → List ℕ
 own_of order t = slice_range order t.own t.own_end
@@ -59,19 +63,20 @@ miss kind patterns None = None
 miss kind patterns (Some []) = if is_leftmost kind && begins_with_pattern patterns [] then None else Some []
 miss kind patterns (Some (x ∷ u)) = failure kind patterns (x ∷ u)
 
--- what the numbers of a trie's states mean: the kind, the plain patterns, the list in which each state has its own patterns, the
--- list in which each has its children's labels, and the node of each number
+-- what the numbers of a trie's states mean: the kind, whether case is ignored, the plain patterns, the list in which each state
+-- has its own patterns, the list in which each has its transitions, and the node of each number
 pub record Meaning : Type 0 where
   pub kind : MatchKind
+  pub fold : Bool
   pub patterns : List (List ℕ)
   pub order : List ℕ
-  pub labels : List ℕ
+  pub transitions : List Transition
   pub nodes : List Node
 
 module _ (g : Meaning) where
   -- where a search goes from a node by a byte while it stays a node, and what a node finds
   abbrev pub held : Node → ℕ → Node
-  held v b = step g.kind g.patterns Yes v b
+  held v b = step g.kind g.patterns Yes v (plain_byte g.fold b)
 
   abbrev pub own_matches : Node → List ℕ
   own_matches v = matches g.kind g.patterns Yes v
@@ -87,16 +92,16 @@ module _ (g : Meaning) where
     pub finds : all_matches v ≡ own_matches v ++ all_matches linked
     pub useful : link ≢ 0 → all_matches linked ≢ []
 
-  -- the state with this number stands for the node: its labels are the bytes by which an anchored search goes on, its children
-  -- stand for where it leads, and its failure target for where an unanchored one goes on by any other byte. The first four
-  -- stand for the dead node and the start
+  -- the state with this number stands for the node: its transitions are by the bytes by which an anchored search goes on, in
+  -- ascending order, and lead to states that stand for where it then is, and its failure target stands for where an unanchored
+  -- one goes on by any other byte. The first four stand for the dead node and the start
   pub record Represents (s : ℕ) (v : Node) (t : State) : Type 0 where
-    pub ordered : t.children ≤ t.children_end
-    pub labelled : t.children_end ≤ length g.labels
-    pub ascending : IsStrictlyIncreasing (labels_of g.labels t)
-    pub branches : (b : ℕ) → Contains (labels_of g.labels t) b ↔ (held v b ≢ None)
-    pub children : (k b : ℕ) → slice_get (labels_of g.labels t) k ≡ Some b
-        → slice_get g.nodes (4 + (t.children + k)) ≡ Some (held v b)
+    pub ordered : t.transitions ≤ t.transitions_end
+    pub listed : t.transitions_end ≤ length g.transitions
+    pub ascending : IsStrictlyIncreasing (bytes_of (transitions_of g.transitions t))
+    pub branches : (b : ℕ) → Contains (bytes_of (transitions_of g.transitions t)) b ↔ (held v b ≢ None)
+    pub leads : (k : ℕ) (next : Transition) → slice_get (transitions_of g.transitions t) k ≡ Some next
+        → slice_get g.nodes next.target ≡ Some (held v next.byte)
     pub fails : slice_get g.nodes t.fail ≡ Some (miss g.kind g.patterns v)
     pub back : 3 < s → t.fail < s
     pub owned : t.own ≤ t.own_end
@@ -111,7 +116,6 @@ module _ (g : Meaning) where
   pub record AreStates (states : List State) : Type 0 where
     pub dead : slice_get g.nodes 0 ≡ Some None
     pub named : length states ≤ length g.nodes
-    pub few : length g.labels + 4 ≤ GREATEST + 1
     pub each : (s : ℕ) (v : Node) → s < length states → slice_get g.nodes s ≡ Some v → Represents s v (state_at states s)
 
   -- one of the states stands for the node
@@ -124,9 +128,10 @@ module _ (g : Meaning) where
 abbrev pub meaning_of : Trie → List Node → Meaning
 meaning_of trie nodes = record {
   kind = trie.built.kind;
+  fold = trie.built.fold;
   patterns = plain_of trie.built;
   order = trie.order;
-  labels = trie.labels;
+  transitions = trie.transitions;
   nodes = nodes;
 }
 

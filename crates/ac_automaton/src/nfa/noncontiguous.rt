@@ -4,7 +4,7 @@ ghost use Rattle.ac_util.specs.declared.search.MatchKind.TheVariants.{Standard};
 ghost use Rattle.ac_util.specs.Limits.{limit_refusal};
 ghost use Rattle.ac_automaton.specs.Builds.{IsBuilt, IsRefused, usual_settings};
 ghost use Rattle.std.proofs.Common.{inr, refl};
-ghost use Rattle.ac_util.specs.Sameness.{plain, plain_byte as plain_byte_of};
+ghost use Rattle.ac_util.specs.Sameness.{plain};
 ghost use Rattle.ac_util.specs.Node.{Node};
 ghost use Rattle.ac_util.specs.Stream.{longest_len, shortest_len};
 ghost use Rattle.ac_automaton.specs.Tries.{IsTable, StandsFor, listed_within, stands-lists};
@@ -17,8 +17,7 @@ use ac_util::patterns::Patterns;
 use ac_util::prefilter::Prefilter;
 use ac_util::primitives::{PatternID, StateID};
 use ac_util::search::{Anchored, MatchKind};
-use members::plain_byte;
-use state::{FIRST_INNER, State, follow, listed_len, listed_pattern};
+use state::{FIRST_INNER, State, Transition, follow, listed_len, listed_pattern};
 use std::alloc::{Allocator, Global};
 use std::marker::Model;
 use std::mem::size_of;
@@ -44,7 +43,7 @@ pub struct NFA<A: Allocator = Global> {
     shortest: usize,
     longest: usize,
     order: Vec<PatternID, A>,
-    labels: Vec<u8, A>,
+    transitions: Vec<Transition, A>,
     states: Vec<State, A>,
 }
 
@@ -57,10 +56,10 @@ impl<A: Allocator> Model for NFA<A> {
 
     ghost Value = { Trie };
 
-    ghost view = { λ n. trie_of n.patterns.value n.fold n.kind n.order.items n.labels.items n.states.items };
+    ghost view = { λ n. trie_of n.patterns.value n.fold n.kind n.order.items n.transitions.items n.states.items };
 
     ghost invariant = { λ n. record {
-      table : (nodes : List Node) × IsTable (trie_of n.patterns.value n.fold n.kind n.order.items n.labels.items n.states.items) nodes;
+      table : (nodes : List Node) × IsTable (trie_of n.patterns.value n.fold n.kind n.order.items n.transitions.items n.states.items) nodes;
       shortest : n.shortest ≡ shortest_len n.patterns.value;
       longest : n.longest ≡ longest_len n.patterns.value;
     } };
@@ -101,12 +100,12 @@ impl<A: Allocator> NFA<A> {
         &self.states
     }
 
-    /// Returns the labels of the states from the fifth on.
+    /// Returns the transitions of all states.
     #[inline]
-    fn labels(&self) -> &[u8]
-        ensures { result.now ≡ self.now.labels }
+    fn transitions(&self) -> &[Transition]
+        ensures { result.now ≡ self.now.transitions }
     {
-        &self.labels
+        &self.transitions
     }
 
     /// Returns the patterns that take part, in ascending order of their bytes.
@@ -115,14 +114,6 @@ impl<A: Allocator> NFA<A> {
         ensures { result.now ≡ self.now.order }
     {
         &self.order
-    }
-
-    /// Returns the byte as the labels have it.
-    #[inline]
-    fn plain(&self, byte: u8) -> u8
-        ensures { result ≡ plain_byte_of self.now.built.fold byte }
-    {
-        plain_byte(byte, self.fold)
     }
 
     /// Returns the patterns.
@@ -160,8 +151,14 @@ impl<A: Allocator> Automaton for NFA<A> {
 
     #[inline]
     fn next_state(&self, anchored: Anchored, sid: StateID, byte: u8, looks: &mut Looks) -> StateID {
-        let byte = self.plain(byte);
-        follow(self.states(), self.labels(), anchored, sid, byte, looks)
+        follow(
+            self.states(),
+            self.transitions(),
+            anchored,
+            sid,
+            byte,
+            looks,
+        )
     }
 
     #[inline]
@@ -215,10 +212,14 @@ impl<A: Allocator> Automaton for NFA<A> {
 
     fn memory_usage(&self) -> usize {
         let states = self.states.len().saturating_mul(size_of::<State>());
+        let transitions = self
+            .transitions
+            .len()
+            .saturating_mul(size_of::<Transition>());
         let order = self.order.len().saturating_mul(size_of::<PatternID>());
         states
+            .saturating_add(transitions)
             .saturating_add(order)
-            .saturating_add(self.labels.len())
             .saturating_add(self.patterns().memory_usage())
     }
 

@@ -10,7 +10,7 @@ use super::NFA;
 use super::growth::{Grown, grow};
 use super::lengths::{longest_of, shortest_of};
 use super::members::Members;
-use super::state::State;
+use super::state::{State, Transition};
 use ac_util::error::BuildError;
 use ac_util::patterns::{Patterns, check_limits};
 use ac_util::primitives::PatternID;
@@ -104,7 +104,7 @@ impl Builder {
             kind: self.kind,
             fold: self.fold,
             order: whole.order,
-            labels: whole.labels,
+            transitions: whole.transitions,
             states: whole.states,
         })
     }
@@ -114,7 +114,7 @@ impl Builder {
 #[derive(Drop)]
 struct Whole<A: Allocator> {
     order: Vec<PatternID, A>,
-    labels: Vec<u8, A>,
+    transitions: Vec<Transition, A>,
     states: Vec<State, A>,
 }
 
@@ -129,15 +129,18 @@ fn whole_of<A: Allocator + Clone>(
     fold: bool,
 ) -> Result<Whole<A>, BuildError>
     ensures { MatchResult result
-        (λ whole. IsWhole patterns.now fold kind whole.order.items whole.labels.items whole.states.items)
+        (λ whole. IsWhole patterns.now fold kind whole.order.items whole.transitions.items whole.states.items)
         (IsRefused kind (map (plain fold) patterns.now)) }
 {
     let members = Members::of(alloc.clone()?, patterns, kind, fold)?;
     let order = numbers_of(alloc.clone()?, &members)?;
-    let Grown { labels, states } = grow(alloc, &members, kind)?;
+    let Grown {
+        transitions,
+        states,
+    } = grow(alloc, &members, kind, fold)?;
     Ok(Whole {
         order,
-        labels,
+        transitions,
         states,
     })
 }

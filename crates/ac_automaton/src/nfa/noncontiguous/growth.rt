@@ -11,12 +11,12 @@ ghost use Rattle.ac_util.specs.Node.{is_leftmost as is_leftmost_of};
 ghost use Rattle.ac_util.specs.Sameness.{plain};
 ghost use Rattle.ac_automaton.specs.declared.nfa.noncontiguous.growth.Pending.{Pending};
 ghost use Rattle.ac_automaton.specs.Builds.{IsRefused};
-ghost use Rattle.ac_automaton.specs.Growths.{HasBranched, HasChild, IsReady, IsWhole, LinkIsDue, Waits, nodes_of, word};
+ghost use Rattle.ac_automaton.specs.Growths.{HasBranched, HasChild, HasSorted, IsReady, IsWhole, LinkIsDue, Waits, leading, nodes_of, word};
 ghost use Rattle.ac_automaton.specs.Members.{IsOrder, byte_at, numbers};
 ghost use Rattle.ac_automaton.specs.Tries.{AreStates, Links, Meaning, miss};
 
 use super::members::Members;
-use super::state::{FIRST_INNER, State, follow};
+use super::state::{FIRST_INNER, State, Transition, follow};
 use ac_util::error::BuildError;
 use ac_util::looks::Looks;
 use ac_util::primitives::{GREATEST, StateID};
@@ -36,22 +36,22 @@ pub(crate) struct Pending {
     pub(crate) fail: StateID,
 }
 
-/// What a trie grows by: the labels and the waiting states, both of the states from the fifth on.
+/// What a trie grows by: the transitions, and the waiting states, which are those from the fifth on.
 #[derive(Drop)]
 pub(crate) struct Growth<A: Allocator> {
-    pub(crate) labels: Vec<u8, A>,
+    pub(crate) transitions: Vec<Transition, A>,
     pub(crate) queue: Vec<Pending, A>,
 }
 
 impl<A: Allocator> Growth<A> {
-    /// Adds a state.
+    /// Adds a state, and the transitions to it by a plain byte: where case is ignored by a letter's capital too.
     ///
     /// # Errors
     /// `StateIdOverflow` where no number is left for it, `Memory` where a request for memory is refused.
-    fn push(&mut self, label: u8, pending: Pending) -> Result<(), BuildError>
+    fn push(&mut self, byte: u8, fold: bool, pending: Pending) -> Result<(), BuildError>
         requires few { length self.old.queue.items + 4 ≤ GREATEST + 1 }
         ensures { MatchResult result
-            (λ _. (self.new.labels.items ≡ self.old.labels.items ++ label ∷ [])
+            (λ _. (self.new.transitions.items ≡ self.old.transitions.items ++ leading fold byte (4 + length self.old.queue.items))
             × (self.new.queue.items ≡ self.old.queue.items ++ pending ∷ [])
             × (length self.old.queue.items + 4 < GREATEST + 1))
             (λ e. (e ≡ Memory)
@@ -64,16 +64,21 @@ impl<A: Allocator> Growth<A> {
                 requested: number as u64,
             });
         }
-        self.labels.push(label)?;
+        let target = StateID::must(number);
+        self.transitions.push(Transition { byte, target })?;
+        if fold && byte.is_ascii_lowercase() {
+            let byte = byte.to_ascii_uppercase();
+            self.transitions.push(Transition { byte, target })?;
+        }
         self.queue.push(pending)?;
         Ok(())
     }
 }
 
-/// The labels and the states of a whole trie.
+/// The transitions and the states of a whole trie.
 #[derive(Drop)]
 pub(crate) struct Grown<A: Allocator> {
-    pub(crate) labels: Vec<u8, A>,
+    pub(crate) transitions: Vec<Transition, A>,
     pub(crate) states: Vec<State, A>,
 }
 
@@ -85,32 +90,40 @@ pub(crate) fn grow<A: Allocator + Clone, B: Allocator>(
     alloc: A,
     members: &Members<'_, B>,
     kind: MatchKind,
+    fold: bool,
 ) -> Result<Grown<A>, BuildError>
-    requires order { (texts : List (List ℕ)) × (fold : Bool) × IsOrder kind (map (plain fold) texts) members.now }
-    ensures { (texts : List (List ℕ)) (fold : Bool) → IsOrder kind (map (plain fold) texts) members.now
+    requires order { (texts : List (List ℕ)) × IsOrder kind (map (plain fold) texts) members.now }
+    ensures { (texts : List (List ℕ)) → IsOrder kind (map (plain fold) texts) members.now
         → MatchResult result
-        (λ grown. IsWhole texts fold kind (numbers members.now) grown.labels.items grown.states.items)
+        (λ grown. IsWhole texts fold kind (numbers members.now) grown.transitions.items grown.states.items)
         (IsRefused kind (map (plain fold) texts)) }
 {
     let mut growth = Growth {
-        labels: Vec::new(alloc.clone()?),
+        transitions: Vec::new(alloc.clone()?),
         queue: Vec::new(alloc.clone()?),
     };
     let mut states = Vec::new(alloc);
     states.push(State::dead())?;
     states.push(State::dead())?;
-    let start = branch(members, kind, &states, &mut growth, start(members, kind))?;
+    let start = branch(
+        members,
+        kind,
+        fold,
+        &states,
+        &mut growth,
+        start(members, kind),
+    )?;
     states.push(start)?;
     states.push(start)?;
     let mut at = 0;
     while at < growth.queue.len() {
         let pending = growth.queue[at];
-        let state = branch(members, kind, &states, &mut growth, pending)?;
+        let state = branch(members, kind, fold, &states, &mut growth, pending)?;
         states.push(state)?;
         at += 1;
     }
     Ok(Grown {
-        labels: growth.labels,
+        transitions: growth.transitions,
         states,
     })
 }
@@ -140,46 +153,64 @@ fn start<B: Allocator>(members: &Members<'_, B>, kind: MatchKind) -> Pending
 pub(crate) fn branch<A: Allocator, B: Allocator>(
     members: &Members<'_, B>,
     kind: MatchKind,
+    fold: bool,
     states: &[State],
     growth: &mut Growth<A>,
     pending: Pending,
 ) -> Result<State, BuildError>
     requires ready { (patterns : List (List ℕ))
-        × IsReady kind patterns members.now states.now growth.old.labels.items growth.old.queue.items pending }
+        × IsReady kind fold patterns members.now states.now growth.old.transitions.items growth.old.queue.items pending }
     ensures { (patterns : List (List ℕ))
-        → IsReady kind patterns members.now states.now growth.old.labels.items growth.old.queue.items pending
+        → IsReady kind fold patterns members.now states.now growth.old.transitions.items growth.old.queue.items pending
         → MatchResult result
-        (λ t. HasBranched kind patterns members.now states.now growth.old.queue.items pending t growth.new.labels.items growth.new.queue.items)
+        (λ t. HasBranched kind fold patterns members.now states.now growth.old.queue.items pending t growth.new.transitions.items growth.new.queue.items)
         (IsRefused kind patterns) }
 {
     let (to, depth) = (pending.to as usize, pending.depth as usize);
     let own_end = own_end(members, &pending);
-    let children = growth.labels.len();
+    let first = growth.transitions.len();
     let mut place = own_end;
     while place < to {
         let end = members.run_end(place, to, depth);
         let Some(byte) = members.byte(place, depth) else {
             unreachable!()
         };
-        let fail = child_fail(members, kind, states, &growth.labels, &pending, place, byte);
+        let fail = child_fail(
+            members,
+            kind,
+            states,
+            &growth.transitions,
+            &pending,
+            place,
+            byte,
+        );
         let child = Pending {
             from: place as u32,
             to: end as u32,
             depth: pending.depth + 1,
             fail,
         };
-        growth.push(byte, child)?;
+        growth.push(byte, fold, child)?;
         place = end;
     }
+    sort_from(&mut growth.transitions, first);
     Ok(State {
-        children: children as u32,
-        children_end: growth.labels.len() as u32,
+        transitions: first as u32,
+        transitions_end: growth.transitions.len() as u32,
         fail: pending.fail,
         own: pending.from,
         own_end: own_end as u32,
         link: link_of(states, pending.fail),
         depth: pending.depth,
     })
+}
+
+/// Puts the transitions from a place on in ascending order of their bytes.
+fn sort_from(transitions: &mut [Transition], first: usize)
+    requires within { first ≤ length transitions.old }
+    ensures { HasSorted first transitions.old transitions.new }
+{
+    transitions[first..].sort_unstable_by_key(|t| t.byte);
 }
 
 /// Returns where the members end that are the whole string of a state.
@@ -205,15 +236,15 @@ fn child_fail<B: Allocator>(
     members: &Members<'_, B>,
     kind: MatchKind,
     states: &[State],
-    labels: &[u8],
+    transitions: &[Transition],
     pending: &Pending,
     place: usize,
     byte: u8,
 ) -> StateID
-    requires child { (patterns : List (List ℕ)) × (queue : List Pending)
-        × HasChild kind patterns members.now states.now labels.now queue pending.now place byte }
-    ensures { (patterns : List (List ℕ)) (queue : List Pending)
-        → HasChild kind patterns members.now states.now labels.now queue pending.now place byte
+    requires child { (fold : Bool) × (patterns : List (List ℕ)) × (queue : List Pending)
+        × HasChild kind fold patterns members.now states.now transitions.now queue pending.now place byte }
+    ensures { (fold : Bool) (patterns : List (List ℕ)) (queue : List Pending)
+        → HasChild kind fold patterns members.now states.now transitions.now queue pending.now place byte
         → slice_get (nodes_of members.now queue) result ≡ Some (miss kind patterns (Some (word members.now pending.now ++ byte ∷ []))) }
 {
     if is_leftmost(kind) && members.byte(place, pending.depth as usize + 1).is_none() {
@@ -224,7 +255,7 @@ fn child_fail<B: Allocator>(
     }
     follow(
         states,
-        labels,
+        transitions,
         Anchored::No,
         pending.fail,
         byte,

@@ -1,27 +1,34 @@
 //! The states of a trie with failure links, and the walks over them.
 ghost use Rattle.std.specs.Prelude.{◌≡◌, ◌≢◌, ℕ, ◌+◌, ◌-◌, ◌<◌, ◌≤◌, Contains, MatchOption, Some, length, slice_get};
 ghost use Rattle.std.specs.List.Sorted.{IsStrictlyIncreasing};
-ghost use Rattle.ac_util.specs.declared.primitives.TheConstants.{GREATEST};
 ghost use Rattle.ac_util.specs.Counts.{more_looks};
 ghost use Rattle.ac_util.specs.Looks.{looks as looks_of_node};
 ghost use Rattle.ac_util.specs.Node.{Node, step};
-ghost use Rattle.ac_automaton.specs.Tries.{Meaning, HasState, all_matches, dead_state, labels_of};
+ghost use Rattle.ac_util.specs.Sameness.{plain_byte};
+ghost use Rattle.ac_automaton.specs.Tries.{Meaning, HasState, all_matches, bytes_of, dead_state, transitions_of};
 
 use ac_util::looks::Looks;
 use ac_util::primitives::{PatternID, StateID};
 use ac_util::search::Anchored;
 
+/// A byte that leads on from a state, and the state that it leads to.
+#[derive(Clone, Copy)]
+pub(crate) struct Transition {
+    pub(crate) byte: u8,
+    pub(crate) target: StateID,
+}
+
 /// A state: which states follow it, and which patterns end there.
 ///
-/// The children of a state have numbers one after another, in ascending order of their labels. The labels of all states but
-/// the first four stand in one list in the order of the states' numbers, so a range in that list tells labels and numbers.
+/// The transitions of all states stand in one list, those of a state side by side in ascending order of their bytes. Where
+/// case is ignored there is one for each case of a letter, so that a step has nothing to do for it.
 #[derive(Clone, Copy)]
 pub(crate) struct State {
-    /// Where the children's labels begin.
-    pub(crate) children: u32,
+    /// Where the transitions begin.
+    pub(crate) transitions: u32,
     /// Where they end.
-    pub(crate) children_end: u32,
-    /// Where an unanchored search goes on by a byte that is no label.
+    pub(crate) transitions_end: u32,
+    /// Where an unanchored search goes on by a byte without a transition.
     pub(crate) fail: StateID,
     /// Where the patterns that are the state's own string begin.
     pub(crate) own: u32,
@@ -42,8 +49,8 @@ impl State {
         ensures { result ≡ dead_state }
     {
         State {
-            children: 0,
-            children_end: 0,
+            transitions: 0,
+            transitions_end: 0,
             fail: StateID::must(0),
             own: 0,
             own_end: 0,
@@ -63,47 +70,46 @@ impl State {
     }
 }
 
-/// Returns the child of a state by a byte, if it has one.
+/// Returns the state to which a byte leads, if there is a transition by it.
 #[inline]
-fn child(state: &State, labels: &[u8], byte: u8) -> Option<StateID>
-    requires ordered { state.now.children ≤ state.now.children_end }
-    requires labelled { state.now.children_end ≤ length labels.now }
-    requires ascending { IsStrictlyIncreasing (labels_of labels.now state.now) }
-    requires few { state.now.children_end + 4 ≤ GREATEST + 1 }
-    ensures { MatchOption result (Contains (labels_of labels.now state.now) byte → ⊥) (λ c.
-        (k : ℕ) × (slice_get (labels_of labels.now state.now) k ≡ Some byte) × (c ≡ 4 + (state.now.children + k))) }
+fn target(state: &State, transitions: &[Transition], byte: u8) -> Option<StateID>
+    requires ordered { state.now.transitions ≤ state.now.transitions_end }
+    requires listed { state.now.transitions_end ≤ length transitions.now }
+    requires ascending { IsStrictlyIncreasing (bytes_of (transitions_of transitions.now state.now)) }
+    ensures { MatchOption result (Contains (bytes_of (transitions_of transitions.now state.now)) byte → ⊥) (λ target.
+        (k : ℕ) × (slice_get (transitions_of transitions.now state.now) k ≡ Some (record { byte = byte; target = target }))) }
 {
-    let own_labels = &labels[state.children as usize..state.children_end as usize];
-    match own_labels.binary_search(&byte) {
-        Ok(place) => Some(StateID::must(FIRST_INNER + state.children as usize + place)),
+    let own = &transitions[state.transitions as usize..state.transitions_end as usize];
+    match own.binary_search_by_key(&byte, |t| t.byte) {
+        Ok(place) => Some(own[place].target),
         Err(_) => None,
     }
 }
 
 /// Returns where a byte leads from a state, and counts a look at each state on the way.
 ///
-/// An unanchored search goes on along the failure targets as long as the byte is no label. Each target is a shorter string, so
+/// An unanchored search goes on along the failure targets as long as there is no transition by the byte. Each target is a shorter string, so
 /// n bytes take at most 2n looks.
 #[inline]
 pub(crate) fn follow(
     states: &[State],
-    labels: &[u8],
+    transitions: &[Transition],
     anchored: Anchored,
     from: StateID,
     byte: u8,
     looks: &mut Looks,
 ) -> StateID
-    requires state { (g : Meaning) × (u : Node) × (g.labels ≡ labels.now) × HasState g states.now from u }
-    ensures steps { (g : Meaning) (u : Node) → g.labels ≡ labels.now → HasState g states.now from u
-        → slice_get g.nodes result ≡ Some (step g.kind g.patterns anchored u byte) }
-    ensures looks { (g : Meaning) (u : Node) → g.labels ≡ labels.now → HasState g states.now from u
-        → looks.new ≡ more_looks (looks_of_node g.kind g.patterns anchored u byte) looks.old }
+    requires state { (g : Meaning) × (u : Node) × (g.transitions ≡ transitions.now) × HasState g states.now from u }
+    ensures steps { (g : Meaning) (u : Node) → g.transitions ≡ transitions.now → HasState g states.now from u
+        → slice_get g.nodes result ≡ Some (step g.kind g.patterns anchored u (plain_byte g.fold byte)) }
+    ensures looks { (g : Meaning) (u : Node) → g.transitions ≡ transitions.now → HasState g states.now from u
+        → looks.new ≡ more_looks (looks_of_node g.kind g.patterns anchored u (plain_byte g.fold byte)) looks.old }
 {
     let mut at = from;
     loop {
         looks.look();
         let state = &states[at.as_usize()];
-        if let Some(next) = child(state, labels, byte) {
+        if let Some(next) = target(state, transitions, byte) {
             return next;
         }
         if matches!(anchored, Anchored::Yes) {

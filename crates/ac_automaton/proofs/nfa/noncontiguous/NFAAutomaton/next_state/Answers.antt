@@ -8,10 +8,10 @@ returns-clause-steps g c = λ u h.
     record {
       nodes = h.nodes;
       table = h.table;
-      named = rw c.plain-byte.ensures at (c.follow.ensures.steps (meaning c.args.self.now c.args.sid u h) u (sym c.labels.ensures) state);
+      named = c.follow.ensures.steps (meaning c.args.self.now c.args.sid u h) u (sym c.transitions.ensures) state;
     }
 
 pub returns-clause-looks : goal.returns-clause-looks
 returns-clause-looks g c = λ u h.
     let state = rw (sym c.states.ensures.value) at (has-state c.args.self.now c.args.sid u h) in
-    rw c.plain-byte.ensures at (c.follow.ensures.looks (meaning c.args.self.now c.args.sid u h) u (sym c.labels.ensures) state)
+    c.follow.ensures.looks (meaning c.args.self.now c.args.sid u h) u (sym c.transitions.ensures) state

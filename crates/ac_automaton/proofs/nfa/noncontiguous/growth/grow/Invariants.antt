@@ -1,4 +1,4 @@
-use Rattle.std.proofs.Common.{◌-◌, ◌+◌, ℕ, Bool, List, map}
+use Rattle.std.proofs.Common.{◌-◌, ◌+◌, ℕ, List, map}
 use Rattle.ac_util.specs.declared.primitives.TheConstants.{GREATEST}
 use Rattle.ac_util.specs.Sameness.{plain}
 use Rattle.ac_automaton.specs.Members.{IsOrder}
@@ -7,8 +7,8 @@ use Rattle.ac_automaton.proofs.nfa.noncontiguous.growth.grow.Given as goal
 
 abbrev pub invariant-loop-at : goal.invariant-loop-at
 invariant-loop-at g l =
-    (texts : List (List ℕ)) (fold : Bool) → IsOrder l.kind (map (plain fold) texts) l.members
-    → IsGoing l.kind (map (plain fold) texts) l.members l.states.items l.growth.labels.items l.growth.queue.items l.at
+    (texts : List (List ℕ)) → IsOrder l.kind (map (plain l.fold) texts) l.members
+    → IsGoing l.kind l.fold (map (plain l.fold) texts) l.members l.states.items l.growth.transitions.items l.growth.queue.items l.at
 
 abbrev pub decreases-loop-at : goal.decreases-loop-at
 decreases-loop-at g l = GREATEST + 1 - l.at

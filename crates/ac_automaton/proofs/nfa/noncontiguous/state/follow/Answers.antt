@@ -2,7 +2,7 @@ use Rattle.std.proofs.Common.{◌≡◌, arith}
 use Rattle.ac_util.specs.Node.{Node}
 use Rattle.ac_util.specs.declared.search.Anchored.TheVariants.{No, Yes}
 use Rattle.ac_automaton.specs.Tries.{HasState, Meaning, Represents}
-use Rattle.ac_automaton.proofs.Follows.{Ended, onward-start, represented, ends-child, ends-anchored, ends-outer, goes-on}
+use Rattle.ac_automaton.proofs.Follows.{Ended, onward-start, represented, ends-target, ends-anchored, ends-outer, goes-on}
 use Rattle.ac_automaton.proofs.nfa.noncontiguous.state.follow.Goals as goal
 use Rattle.ac_automaton.proofs.nfa.noncontiguous.state.follow.Goals.{in-Yes, in_default-matches, After-index-states-as_usize, After-must, Then-as_usize-lt-FIRST_INNER}
 
@@ -27,41 +27,34 @@ known c =
     represented r.0 c.args.states.now c.loop-next.at o.node c.index-states-as_usize.result o.state
     (rw c.as_usize.ensures.value at c.index-states-as_usize.is)
 
-pub child-requires-clause-ordered : goal.child-requires-clause-ordered
-child-requires-clause-ordered c = (known c).ordered
+pub target-requires-clause-ordered : goal.target-requires-clause-ordered
+target-requires-clause-ordered c = (known c).ordered
 
-pub child-requires-clause-labelled : goal.child-requires-clause-labelled
-child-requires-clause-labelled c = rw c.requires.state.2 at (known c).labelled
+pub target-requires-clause-listed : goal.target-requires-clause-listed
+target-requires-clause-listed c = rw c.requires.state.2 at (known c).listed
 
-pub child-requires-clause-ascending : goal.child-requires-clause-ascending
-child-requires-clause-ascending c = rw c.requires.state.2 at (known c).ascending
+pub target-requires-clause-ascending : goal.target-requires-clause-ascending
+target-requires-clause-ascending c = rw c.requires.state.2 at (known c).ascending
 
-pub child-requires-clause-few : goal.child-requires-clause-few
-child-requires-clause-few c =
-    let r = c.requires.state in
-    let few = (c.loop-next.invariant r.0 r.1 r.2 r.3).state.meant.few in
-    omega (arith, (known c).labelled)
-
--- the walk ends at the child
-at_child : (c : goal.In-Some) (g : Meaning) (u : Node) → g.labels ≡ c.args.labels.now
+-- the walk ends at the target of a transition
+at_target : (c : goal.In-Some) (g : Meaning) (u : Node) → g.transitions ≡ c.args.transitions.now
     → HasState g c.args.states.now c.args.from u
     → Ended g c.args.anchored c.args.byte u c.args.looks.now c.look.new.self c.in-Some.next
-at_child c g u same h =
+at_target c g u same h =
     let found = c.in-Some.ensures in
-    rw found.2
-    (ends-child g c.args.states.now c.args.byte u c.args.looks.now c.args.labels.now same
+    (ends-target g c.args.states.now c.args.byte u c.args.looks.now c.args.transitions.now same
     c.loop-next.looks c.look.new.self c.look.ensures
     c.loop-next.at c.index-states-as_usize.result (rw c.as_usize.ensures.value at c.index-states-as_usize.is)
-    c.args.anchored found.0 found.1 (c.loop-next.invariant g u same h))
+    c.args.anchored found.0 c.in-Some.next found.1 (c.loop-next.invariant g u same h))
 
 pub returns-in-Some-clause-steps : goal.returns-in-Some-clause-steps
-returns-in-Some-clause-steps c = λ g u same h. (at_child c g u same h).steps
+returns-in-Some-clause-steps c = λ g u same h. (at_target c g u same h).steps
 
 pub returns-in-Some-clause-looks : goal.returns-in-Some-clause-looks
-returns-in-Some-clause-looks c = λ g u same h. (at_child c g u same h).looks
+returns-in-Some-clause-looks c = λ g u same h. (at_target c g u same h).looks
 
 -- or at the dead state, if it is anchored
-at_dead : (c : After-must) (g : Meaning) (u : Node) → g.labels ≡ c.args.labels.now
+at_dead : (c : After-must) (g : Meaning) (u : Node) → g.transitions ≡ c.args.transitions.now
     → HasState g c.args.states.now c.args.from u
     → Ended g c.args.anchored c.args.byte u c.args.looks.now c.look.new.self c.must.result
 at_dead c g u same h =
@@ -70,7 +63,7 @@ at_dead c g u same h =
       | in_default-matches w ↦ absurd (cc)
     ] in
     rw c.must.ensures.value
-    (ends-anchored g c.args.states.now c.args.byte u c.args.looks.now c.args.labels.now same
+    (ends-anchored g c.args.states.now c.args.byte u c.args.looks.now c.args.transitions.now same
     c.loop-next.looks c.look.new.self c.look.ensures
     c.loop-next.at c.index-states-as_usize.result (rw c.as_usize.ensures.value at c.index-states-as_usize.is)
     c.in_default.ensures c.args.anchored is_yes (c.loop-next.invariant g u same h))
@@ -82,7 +75,7 @@ pub returns-then-matches-clause-looks : goal.returns-then-matches-clause-looks
 returns-then-matches-clause-looks c = λ g u same h. (at_dead c g u same h).looks
 
 -- or behind one of the first four states
-at_outer : (c : Then-as_usize-lt-FIRST_INNER) (g : Meaning) (u : Node) → g.labels ≡ c.args.labels.now
+at_outer : (c : Then-as_usize-lt-FIRST_INNER) (g : Meaning) (u : Node) → g.transitions ≡ c.args.transitions.now
     → HasState g c.args.states.now c.args.from u
     → Ended g c.args.anchored c.args.byte u c.args.looks.now c.look.new.self c.index-states-as_usize.result.fail
 at_outer c g u same h =
@@ -90,7 +83,7 @@ at_outer c g u same h =
       | in-Yes w ↦ absurd (cc)
       | in_default-matches w ↦ w.in_default-matches.is
     ] in
-    ends-outer g c.args.states.now c.args.byte u c.args.looks.now c.args.labels.now same
+    ends-outer g c.args.states.now c.args.byte u c.args.looks.now c.args.transitions.now same
     c.loop-next.looks c.look.new.self c.look.ensures
     c.loop-next.at c.index-states-as_usize.result (rw c.as_usize.ensures.value at c.index-states-as_usize.is)
     c.in_default.ensures c.args.anchored is_no (omega arith) (c.loop-next.invariant g u same h)
@@ -115,7 +108,7 @@ loop-next-preserved c = λ g u same h.
       | in-Yes w ↦ absurd (cc)
       | in_default-matches w ↦ w.in_default-matches.is
     ] in
-    goes-on g c.args.states.now c.args.byte u c.args.looks.now c.args.labels.now same
+    goes-on g c.args.states.now c.args.byte u c.args.looks.now c.args.transitions.now same
     c.loop-next.looks c.look.new.self c.look.ensures
     c.loop-next.at c.index-states-as_usize.result (rw c.as_usize.ensures.value at c.index-states-as_usize.is)
     c.in_default.ensures c.args.anchored is_no (omega arith) (c.loop-next.invariant g u same h)

@@ -7,7 +7,7 @@ use Rattle.ac_automaton.proofs.nfa.noncontiguous.state.follow.Given as goal
 -- whatever the states mean, the walk is on the way to where the byte leads
 abbrev pub invariant-loop-next : goal.invariant-loop-next
 invariant-loop-next l =
-    (g : Meaning) (u : Node) → g.labels ≡ l.labels → HasState g l.states l.fn.from u
+    (g : Meaning) (u : Node) → g.transitions ≡ l.transitions → HasState g l.states l.fn.from u
     → Onward g l.states l.anchored l.byte u l.fn.looks l.looks l.at
 
 abbrev pub decreases-loop-next : goal.decreases-loop-next
