@@ -9,7 +9,7 @@ use Rattle.ac_util.specs.Pick.{IsPick, pick}
 use Rattle.ac_util.specs.Walk.{repeats, unless_repeated, next_match, continued, walk_after, walk}
 use Rattle.ac_util.proofs.Lists.{filter-none}
 use Rattle.ac_util.proofs.Picks.{pick-IsPick, pick-from_IsPick}
-use Rattle.ac_util.proofs.Walks.{next-in_span, later, room, walk_after-None, walk_after-Some}
+use Rattle.ac_util.proofs.Walks.{next-in_span, later, room, continued-None, walk_after-None, walk_after-Some}
 
 -- the search in a span that ends at h
 abbrev pub up_to_end : Search → ℕ → Search
@@ -84,10 +84,6 @@ rest_out : (q : Search) (h n : ℕ) (m : Occurrence) → h < m.end → filter (e
 rest_out q h n m out = filter-none (ends_by h) (continued Standard (from q m.end) n (next_match Standard (from q m.end) (Some m.end)))
     (λ x i. let r = later Standard (from q m.end) n (next_match Standard (from q m.end) (Some m.end)) x refl i in lt-leb x.end h (omega arith))
 
-none_left : (q : Search) (n : ℕ) → continued Standard q n None ≡ []
-none_left q zero = refl
-none_left q (suc n) = refl
-
 beginning_at : (q : Search) (h n : ℕ) (m : Occurrence) (s : Bool) → h ≤ q.high → ends_by h m ≡ s
     → continued Standard (up_to_end (from q m.end) h) n (within h (next_match Standard (from q m.end) (Some m.end))) ≡ filter (ends_by h) (continued Standard (from q m.end) n (next_match Standard (from q m.end) (Some m.end)))
     → continued Standard (up_to_end q h) (suc n) (cond s (Some m) None) ≡ cond s (m ∷ filter (ends_by h) (continued Standard (from q m.end) n (next_match Standard (from q m.end) (Some m.end)))) (filter (ends_by h) (continued Standard (from q m.end) n (next_match Standard (from q m.end) (Some m.end))))
@@ -105,7 +101,7 @@ after q m = refl
 
 -- any number of matches that is enough gives the walk
 enough : (q : Search) (last : Option ℕ) (n : ℕ) (r : Option Occurrence) → next_match Standard q last ≡ r → q.high + 1 ≤ n + q.low → continued Standard q n r ≡ walk_after Standard q last
-enough q last n None e l = none_left q n ∙ sym (walk_after-None Standard q last e)
+enough q last n None e l = continued-None Standard q n ∙ sym (walk_after-None Standard q last e)
 enough q last zero (Some m) e l = let o = next-in_span Standard q last m e in let a = o.from_low in let b = o.in_order in let c = o.to_high in absurd (omega arith)
 enough q last (suc n) (Some m) e l =
     let o = next-in_span Standard q last m e in let a = o.from_low in let b = o.in_order in let c = o.to_high in

@@ -26,13 +26,7 @@ too_long-here number (p ∷ ps) zero within long =
     cond-true (nat_lt GREATEST (length p)) (Some (PatternTooLong number (length p))) (too_long_from (number + 1) ps) (lt-ltb GREATEST (length p) long)
 too_long-here number (p ∷ ps) (suc i) within long = too_long-here number ps i (omega arith) long
 
--- past the last pattern there is none
-pub too_long-end : (number : ℕ) (ps : List (List ℕ)) (i : ℕ) → length ps ≤ i → too_long_from number (drop i ps) ≡ None
-too_long-end number [] zero past = refl
-too_long-end number [] (suc i) past = refl
-too_long-end number (p ∷ ps) zero past = absurd (omega arith)
-too_long-end number (p ∷ ps) (suc i) past = too_long-end number ps i (omega arith)
-
+-- where none is told to be too long, none is
 all_short : (number : ℕ) (ps : List (List ℕ)) → too_long_from number ps ≡ None → All (λ p. length p ≤ GREATEST) ps
 all_short number [] none = All-nil (λ p. length p ≤ GREATEST)
 all_short number (p ∷ ps) none = by (nat_lt GREATEST (length p)) refl none (all_short (number + 1) ps)
@@ -50,15 +44,6 @@ limits-from_refusal ps none = by (nat_lt (GREATEST + 1) (length ps)) refl none
         → IsWithinLimits ps
     by true is none = absurd (cc)
     by false is none = record { numbered = ltb-false (GREATEST + 1) (length ps) is; short = all_short 0 ps none }
-
--- too many patterns, and not too many
-pub refusal-many : (ps : List (List ℕ)) → GREATEST + 1 < length ps → limit_refusal ps ≡ Some (PatternIdOverflow GREATEST (length ps - 1))
-refusal-many ps many =
-    cond-true (nat_lt (GREATEST + 1) (length ps)) (Some (PatternIdOverflow GREATEST (length ps - 1))) (too_long_from 0 ps) (lt-ltb (GREATEST + 1) (length ps) many)
-
-pub refusal-few : (ps : List (List ℕ)) → length ps ≤ GREATEST + 1 → limit_refusal ps ≡ too_long_from 0 ps
-refusal-few ps few =
-    cond-false (nat_lt (GREATEST + 1) (length ps)) (Some (PatternIdOverflow GREATEST (length ps - 1))) (too_long_from 0 ps) (le-ltb (GREATEST + 1) (length ps) few)
 
 -- what holds of all holds of the one at a place
 pub All-slice_get : {X : Type 0} (P : X → Type 0) (xs : List X) (i : ℕ) (x : X) → All P xs → slice_get xs i ≡ Some x → P x
