@@ -18,7 +18,7 @@ pub enum BuildError {
         /// The number that the last pattern would have.
         requested: u64,
     },
-    /// A pattern is longer than `SmallIndex::MAX` bytes.
+    /// A pattern is longer than `PatternID::MAX` bytes.
     PatternTooLong {
         /// The number of the first such pattern.
         pattern: PatternID,
@@ -55,7 +55,7 @@ impl<T: Drop> From<AllocFailed<T>> for BuildError {
 /// The haystack decides nothing: a refused call has read nothing, written nothing and changed nothing.
 #[derive(Clone, Copy, PartialEq, Eq, Debug)]
 pub enum MatchError {
-    /// The input is anchored, and the searcher serves unanchored searches alone or the call has no anchored form.
+    /// The input is anchored, and the searcher serves no anchored search or the call has no anchored form.
     InvalidInputAnchored,
     /// The search is unanchored, and the searcher serves anchored searches alone.
     InvalidInputUnanchored,

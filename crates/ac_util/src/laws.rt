@@ -1,10 +1,13 @@
-//! Laws of the definitions. Each is the contract of a function that does nothing: nothing is called, nothing is assumed.
-ghost use Rattle.std.specs.Prelude.{◌≡◌, ◌≢◌, ℕ, ◌+◌, ◌<◌, ◌≤◌, ◌++◌, ◌↔◌, ◌⊎◌, Bool, true, false, nat_le, IsTrue, List, [], ◌∷◌, Option, None, Some, MatchOption, Contains, AllPairs, length, map, filter, slice_get, slice_index};
+//! Laws of the definitions. Each is the contract of a function that calls nothing and assumes nothing.
+ghost use Rattle.std.specs.Prelude.{◌≡◌, ◌≢◌, ℕ, ◌+◌, ◌<◌, ◌≤◌, ◌++◌, ◌↔◌, ◌⊎◌, nat_le, Bool, true, false};
+ghost use Rattle.std.specs.Prelude.{List, [], ◌∷◌, Contains, AllPairs, length, map, filter, slice_get};
+ghost use Rattle.std.specs.Prelude.{slice_index, Option, None, Some};
 ghost use Rattle.std.specs.Hash as fed;
 ghost use Rattle.std.specs.Ordering.{nat_cmp};
 ghost use Rattle.std.specs.Str.{IsCharBoundary};
 ghost use Rattle.ac_util.specs.declared.error.BuildError.{BuildError};
 ghost use Rattle.ac_util.specs.declared.error.MatchError.{MatchError};
+ghost use Rattle.ac_util.specs.declared.primitives.TheConstants.{GREATEST};
 ghost use Rattle.ac_util.specs.declared.primitives.TooLarge.{TooLarge};
 ghost use Rattle.ac_util.specs.declared.search.Anchored.{Anchored};
 ghost use Rattle.ac_util.specs.declared.search.MatchKind.{MatchKind};
@@ -20,8 +23,9 @@ ghost use Rattle.ac_util.specs.Replaced.{is_char_boundary, replaced};
 ghost use Rattle.ac_util.specs.Sameness.{AreOneLetter, IsSame, same_byte, same_string};
 ghost use Rattle.ac_util.specs.Search.{Occurs, Search, from, occurs, pattern_of};
 ghost use Rattle.ac_util.specs.Sizes.{inner_nodes};
-ghost use Rattle.ac_util.specs.Steps.{Appends, Steps, WritesText};
-ghost use Rattle.ac_util.specs.Text.{cut, outward, ending, found_at_end, longer_by, one_longer, plain_patterns, text};
+ghost use Rattle.ac_util.specs.Steps.{Appends, Steps, StepsSoFar, WritesText};
+ghost use Rattle.ac_util.specs.Text.{cut, outward, ending, found_at_end, longer_by, one_longer};
+ghost use Rattle.ac_util.specs.Text.{plain_patterns, text};
 ghost use Rattle.ac_util.specs.Walk.{IsAfter, next_match, walk, walk_after};
 
 use crate::error::{BuildError, MatchError};
@@ -29,8 +33,8 @@ use crate::primitives::{PatternID, SmallIndex, StateID, TooLarge};
 use crate::search::{Anchored, Match, MatchKind, Span, StartKind};
 use std::hash::Hash;
 
-/// Two bytes are the same if they are equal or, where case is ignored, one ASCII letter in its two cases; two strings are the
-/// same if they have one length and are the same place by place.
+/// Two bytes are the same if they are equal or, where case is ignored, one ASCII letter in its two cases; two
+/// strings are the same if they have one length and are the same place by place.
 pub fn sameness_is_by_letter()
     ensures bytes { (a b : ℕ) → (same_byte false a b ≡ true) ↔ (a ≡ b) }
     ensures letters { (a b : ℕ) → (same_byte true a b ≡ true) ↔ ((a ≡ b) ⊎ AreOneLetter a b) }
@@ -87,7 +91,8 @@ pub fn walk_goes_on()
         → walk_after kind q last ≡ m ∷ walk_after kind (from q m.end) (Some m.end) }
 {}
 
-/// The matches of a walk are in order and never overlap, and their ends rise: no empty one ends where the one before it did.
+/// The matches of a walk are in order and never overlap, and their ends rise: no empty one ends where the one
+/// before it did.
 pub fn walk_is_in_order()
     ensures { (kind : MatchKind) (q : Search) → AllPairs IsAfter (walk kind q) }
 {}
@@ -119,14 +124,15 @@ pub fn failures_step_alike()
         ≡ step kind patterns Anchored.No (failure kind patterns (x ∷ u)) b }
 {}
 
-/// The looks of a step are paid by the length of the node: they and the new node's length are at most the old one's and two.
+/// The looks of a step are paid by the length of the node: they and the new node's length are at most the old
+/// one's and two.
 pub fn looks_are_paid()
     ensures { (kind : MatchKind) (patterns : List (List ℕ)) (anchored : Anchored) (u : Node) (b : ℕ)
         → looks kind patterns anchored u b + depth (step kind patterns anchored u b) ≤ depth u + 2 }
 {}
 
-/// The matches of the node reached are those of all that was read. Those of a node are the patterns that equal it and then
-/// those of its failure target. Under a leftmost kind they start at the least start of any occurrence.
+/// The matches of the node reached are those of all that was read. Those of a node are the patterns that equal
+/// it and then those of its failure target. Under a leftmost kind they start where an occurrence first starts.
 pub fn matches_follow()
     ensures reached { (kind : MatchKind) (patterns : List (List ℕ)) (anchored : Anchored) (w : List ℕ)
         → matches kind patterns anchored (reached kind patterns anchored w)
@@ -149,15 +155,19 @@ pub fn nodes_are_counted()
         → AllPairs (λ u w. u ≢ w) (inner_nodes kind patterns) }
 {}
 
-/// A closure that appends the text of each pattern and goes on leaves the replaced text behind what was there.
+/// A closure that appends the text of each pattern and goes on leaves the replaced text behind what was there,
+/// and a beginning of it where an append was refused.
 pub fn steps_replace()
-    ensures { (haystack : List ℕ) (texts : List (List ℕ)) (ms : List Occurrence) (f g : ℕ) (d e : List ℕ)
+    ensures whole { (haystack : List ℕ) (texts : List (List ℕ)) (ms : List Occurrence) (f g : ℕ) (d e : List ℕ)
         → Steps ℕ (List ℕ) Appends (WritesText texts) haystack 0 ms f d g e
         → e ≡ d ++ replaced haystack texts ms }
+    ensures refused { (haystack : List ℕ) (texts : List (List ℕ)) (ms : List Occurrence) (f g : ℕ) (d e : List ℕ)
+        → StepsSoFar ℕ (List ℕ) Appends (WritesText texts) haystack 0 ms f d g e
+        → (rest : List ℕ) × (e ++ rest ≡ d ++ replaced haystack texts ms) }
 {}
 
-/// With one more byte the pick stays where the node reached has no match; under a leftmost kind it is else the first of its
-/// matches.
+/// With one more byte the pick stays where the node reached has no match; under a leftmost kind it is else the
+/// first of its matches.
 pub fn pick_follows()
     ensures stays { (kind : MatchKind) (q : Search) → q.low ≤ q.high → q.high < length q.haystack
         → found_at_end kind (one_longer q) ≡ [] → pick kind (one_longer q) ≡ pick kind q }
@@ -202,7 +212,7 @@ pub fn dead_is_the_end()
         → pick MatchKind.Standard (longer_by q n) ≡ None }
 {}
 
-/// With one more byte the listing goes on with the matches of the node reached; it begins with those of the start.
+/// With one more byte the listing goes on with the matches of the node reached; those of the start come first.
 pub fn listing_follows()
     ensures begins { (q : Search) → q.low ≡ q.high → q.high ≤ length q.haystack
         → all q ≡ map (ending q) (found_at_end MatchKind.Standard q) }
@@ -241,9 +251,11 @@ pub fn errors_compare_by_their_fields()
     ensures numbers { (a b : TooLarge) → (⟦<TooLarge as PartialEq>⟧.eq a b ≡ true) ↔ (a ≡ b) }
 {}
 
-/// A hasher is handed the number of a pattern, the two ends of a span, and all three of a match.
+/// A hasher is handed the number of a pattern or a state, the two ends of a span, and all three of a match.
 pub fn values_hash_by_their_fields()
     ensures patterns { (n : ℕ) → ⟦<PatternID as Hash>⟧.hash_input n ≡ fed.u32 n }
+    ensures states { (n : ℕ) → ⟦<StateID as Hash>⟧.hash_input n ≡ fed.u32 n }
+    ensures plain { (n : ℕ) → ⟦<SmallIndex as Hash>⟧.hash_input n ≡ fed.u32 n }
     ensures spans { (s : Span)
         → ⟦<Span as Hash>⟧.hash_input s ≡ fed.usize s.start ++ fed.usize s.end }
     ensures matches { (m : Occurrence) → ⟦<Match as Hash>⟧.hash_input m
@@ -254,8 +266,27 @@ pub fn values_hash_by_their_fields()
 pub fn equal_values_hash_equally()
     ensures patterns { (a b : ℕ) → ⟦<PatternID as PartialEq>⟧.eq a b ≡ true
         → ⟦<PatternID as Hash>⟧.hash_input a ≡ ⟦<PatternID as Hash>⟧.hash_input b }
+    ensures states { (a b : ℕ) → ⟦<StateID as PartialEq>⟧.eq a b ≡ true
+        → ⟦<StateID as Hash>⟧.hash_input a ≡ ⟦<StateID as Hash>⟧.hash_input b }
+    ensures plain { (a b : ℕ) → ⟦<SmallIndex as PartialEq>⟧.eq a b ≡ true
+        → ⟦<SmallIndex as Hash>⟧.hash_input a ≡ ⟦<SmallIndex as Hash>⟧.hash_input b }
     ensures spans { (a b : Span) → ⟦<Span as PartialEq>⟧.eq a b ≡ true
         → ⟦<Span as Hash>⟧.hash_input a ≡ ⟦<Span as Hash>⟧.hash_input b }
     ensures matches { (a b : Occurrence) → ⟦<Match as PartialEq>⟧.eq a b ≡ true
         → ⟦<Match as Hash>⟧.hash_input a ≡ ⟦<Match as Hash>⟧.hash_input b }
+{}
+
+/// By default a number is 0, the match kind is `Standard`, and unanchored searches alone are served.
+pub fn defaults_are_told()
+    ensures patterns { (n : ℕ) → ⟦<PatternID as Default>⟧.is_default n → n ≡ 0 }
+    ensures states { (n : ℕ) → ⟦<StateID as Default>⟧.is_default n → n ≡ 0 }
+    ensures plain { (n : ℕ) → ⟦<SmallIndex as Default>⟧.is_default n → n ≡ 0 }
+    ensures kinds { (kind : MatchKind) → ⟦<MatchKind as Default>⟧.is_default kind → kind ≡ MatchKind.Standard }
+    ensures starts { (start : StartKind) → ⟦<StartKind as Default>⟧.is_default start
+        → start ≡ StartKind.Unanchored }
+{}
+
+/// The greatest number of a pattern or a state is 2,147,483,646.
+pub fn greatest_number_is_told()
+    ensures { GREATEST ≡ 2147483646 }
 {}

@@ -1,6 +1,6 @@
 //! The patterns of a searcher, stored once.
-ghost use Rattle.std.specs.Prelude.{◌≡◌, ◌+◌, ◌<◌, ◌≤◌, List, ℕ, length, map, slice_get, MatchOption, MatchResult, OnOk, Ok, Err, None, Some, IfSome};
-ghost use Rattle.ac_util.specs.declared.error.BuildError.{BuildError};
+ghost use Rattle.std.specs.Prelude.{◌≡◌, ◌+◌, ◌<◌, ◌≤◌, length, map, slice_get, Some, Ok, Err};
+ghost use Rattle.std.specs.Prelude.{MatchOption, MatchResult};
 ghost use Rattle.ac_util.specs.declared.error.BuildError.TheVariants.{Memory};
 ghost use Rattle.ac_util.specs.Limits.{limit_refusal};
 ghost use Rattle.ac_util.specs.Pieces.{AreBounds, pieces};
@@ -11,7 +11,7 @@ use std::alloc::Allocator;
 use std::marker::Model;
 use std::mem::size_of;
 
-/// A list of patterns: all their bytes in one list, and the places in it where each pattern starts and the last one ends.
+/// A list of patterns: all their bytes in one list, and where in it each pattern starts and the last one ends.
 ///
 /// Contracts see it as the list of the patterns. There are never more of them than `PatternID` has numbers for.
 #[derive(Drop)]
@@ -45,7 +45,7 @@ impl<A: Allocator> Patterns<A> {
         self.bounds.len() - 1
     }
 
-    /// Returns a pattern by its number.
+    /// Returns a pattern by its number, which has to be below `len`.
     #[inline]
     pub fn get(&self, number: usize) -> &[u8]
         requires numbered { number < length self.now }
@@ -68,8 +68,8 @@ impl<A: Allocator + Clone> Patterns<A> {
     /// Copies a list of patterns.
     ///
     /// # Errors
-    /// `PatternIdOverflow` and `PatternTooLong` exactly where a limit is passed, tested over the whole list in this order
-    /// before any memory is asked for; else `Memory` where a request for memory is refused.
+    /// `PatternIdOverflow` and `PatternTooLong` exactly where a limit is passed, tested over the whole list in
+    /// this order before any memory is asked for; else `Memory` where a request for memory is refused.
     pub fn new(alloc: A, patterns: &[&[u8]]) -> Result<Patterns<A>, BuildError>
         ensures { MatchOption (limit_refusal (map (λ p. p.now) patterns.now))
             (MatchResult result (λ stored. stored ≡ map (λ p. p.now) patterns.now) (λ e. e ≡ Memory))
@@ -99,22 +99,24 @@ fn piece<'a>(bytes: &'a [u8], bounds: &[usize], number: usize) -> &'a [u8]
     &bytes[start..end]
 }
 
-/// Tests that each pattern can have a number and that none is too long. It asks for no memory, so a build that needs some
-/// before it stores the patterns tests this first.
+/// Tests that each pattern can have a number and that none is too long. It asks for no memory, so a build that
+/// needs some before it stores the patterns tests this first.
 ///
 /// # Errors
 /// `PatternIdOverflow` or `PatternTooLong`, whichever limit is passed first.
 pub fn check_limits(patterns: &[&[u8]]) -> Result<(), BuildError>
-    ensures { MatchOption (limit_refusal (map (λ p. p.now) patterns.now)) (result ≡ Ok tt) (λ refusal. result ≡ Err refusal) }
+    ensures { MatchOption (limit_refusal (map (λ p. p.now) patterns.now))
+        (result ≡ Ok tt)
+        (λ refusal. result ≡ Err refusal) }
 {
-    if patterns.len() > GREATEST + 1 {
+    if patterns.len() > PatternID::LIMIT {
         return Err(BuildError::PatternIdOverflow {
-            max: GREATEST as u64,
+            max: PatternID::MAX as u64,
             requested: patterns.len() as u64 - 1,
         });
     }
     for (number, pattern) in patterns.iter().enumerate() {
-        if pattern.len() > GREATEST {
+        if pattern.len() > PatternID::MAX {
             return Err(BuildError::PatternTooLong {
                 pattern: PatternID::must(number),
                 len: pattern.len(),

@@ -8,7 +8,7 @@ use std::marker::{Model, PhantomData};
 /// The greatest number that a pattern or a state may have.
 pub const GREATEST: usize = 2147483646;
 
-/// A number above `SmallIndex::MAX` was handed in.
+/// A number above the greatest one was handed in.
 #[derive(Clone, Copy, PartialEq, Eq, Debug)]
 pub struct TooLarge {
     /// The number that was handed in.
@@ -27,7 +27,7 @@ pub struct OfPattern;
 #[derive(Clone, Copy, PartialEq, Eq, PartialOrd, Ord, Hash, Default, Debug)]
 pub struct OfState;
 
-/// A number up to and with `MAX`, seen by contracts as that number.
+/// A number up to and with `GREATEST`, seen by contracts as that number.
 ///
 /// Its kind keeps the number of a pattern from being taken for that of a state.
 #[derive(Clone, Copy, PartialEq, Eq, PartialOrd, Ord, Hash, Default, Debug)]
@@ -55,13 +55,32 @@ impl<K> Model for SmallIndex<K> {
     ghost inverse = { λ n. record { number = n; kind = record {} } };
 }
 
-impl<K> SmallIndex<K> {
+// Contracts don't see the value of a constant of a generic `impl`, so each kind has its own.
+impl SmallIndex {
     /// The greatest number.
     pub const MAX: usize = GREATEST;
 
     /// How many numbers there are.
     pub const LIMIT: usize = GREATEST + 1;
+}
 
+impl PatternID {
+    /// The greatest number of a pattern.
+    pub const MAX: usize = GREATEST;
+
+    /// How many patterns can have a number.
+    pub const LIMIT: usize = GREATEST + 1;
+}
+
+impl StateID {
+    /// The greatest number of a state.
+    pub const MAX: usize = GREATEST;
+
+    /// How many states can have a number.
+    pub const LIMIT: usize = GREATEST + 1;
+}
+
+impl<K> SmallIndex<K> {
     /// Returns the number as an index.
     ///
     /// # Errors
@@ -76,7 +95,7 @@ impl<K> SmallIndex<K> {
         Ok(SmallIndex::must(number))
     }
 
-    /// Returns the number as an index, for a caller that knows that it is small enough.
+    /// Returns the number as an index, for a caller that knows that it is at most `MAX`.
     pub fn must(number: usize) -> SmallIndex<K>
         requires small { number ≤ GREATEST }
         ensures value { result ≡ number }

@@ -1,4 +1,4 @@
-use super::{GREATEST, PatternID, SmallIndex, StateID, TooLarge};
+use super::{GREATEST, PatternID, Plain, SmallIndex, StateID, TooLarge};
 use std::cmp::Ordering;
 use std::hash::{DefaultHasher, Hash, Hasher};
 use std::test::Fail;
@@ -12,9 +12,18 @@ fn hash_of<T: Hash>(value: &T) -> u64 {
 
 #[test]
 fn numbers_end_at_the_greatest(rt: HostRuntime) -> Result<(), Fail> {
-    assert_eq!(rt; PatternID::MAX, 2147483646);
-    assert_eq!(rt; PatternID::LIMIT, 2147483647);
-    assert_eq!(rt; StateID::LIMIT, 2147483647);
+    let limits = [
+        ("patterns", PatternID::MAX, PatternID::LIMIT),
+        ("states", StateID::MAX, StateID::LIMIT),
+        (
+            "plain",
+            SmallIndex::<Plain>::MAX,
+            SmallIndex::<Plain>::LIMIT,
+        ),
+    ];
+    for (name, max, limit) in limits {
+        assert_eq!(rt; (max, limit), (2147483646, 2147483647), "{name}");
+    }
     let rows: [(&str, usize, bool); 6] = [
         ("the first", 0, true),
         ("the second", 1, true),
