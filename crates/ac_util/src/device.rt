@@ -13,12 +13,12 @@ use std::snapshot::Snapshot;
 
 /// A reader of bytes.
 ///
-/// Contracts see the bytes that it has left, where it tells them, and how often a call failed or gave nothing. These counts
-/// only rise, and have no greatest number.
+/// Contracts see the bytes that it has left, where it tells them, and how often a call failed or gave nothing.
+/// These counts only rise, and have no greatest number.
 pub trait Source {
     ghost told: { Self → Reading };
 
-    /// Reads bytes to the front of `into` and returns how many came. None into a slice that isn't empty means the end.
+    /// Reads bytes to the front of `into` and returns how many came. None though there was room means the end.
     ///
     /// # Errors
     /// Its own. A call that fails leaves the bytes where they were, and `into` holds nothing of use.
@@ -32,7 +32,7 @@ pub trait Source {
 pub trait Sink {
     ghost told: { Self → Writing };
 
-    /// Writes bytes from the front of `piece` and returns how many it took.
+    /// Writes bytes from the front of `piece` and returns how many it took. It may take none.
     ///
     /// # Errors
     /// Its own. A call that fails has taken nothing.
@@ -54,7 +54,11 @@ impl<'a> Model for Bytes<'a> {
 
     ghost Value = { Reading };
 
-    ghost view = { λ b. record { left = Some b.left.now; failed = b.failed.number; empties = b.empties.number } };
+    ghost view = { λ b. record {
+      left = Some b.left.now;
+      failed = b.failed.number;
+      empties = b.empties.number;
+    } };
 }
 
 impl<'a> Bytes<'a> {
@@ -89,8 +93,8 @@ impl<'a> Source for Bytes<'a> {
     }
 }
 
-/// Reads from any `Read`, and tells the bytes that it has left where it tells them. A reader that is lent to it stays lent
-/// until this is dropped.
+/// Reads from any `Read`, and tells the bytes that it has left where it tells them. A reader that is lent to it
+/// stays lent until this is dropped.
 #[derive(Drop)]
 pub struct FromRead<R: Read + Drop> {
     inner: R,
@@ -206,8 +210,8 @@ impl<A: Allocator> Sink for Written<A> {
     }
 }
 
-/// Writes to any `Write`, and tells the bytes that it holds where it tells them. A writer that is lent to it stays lent
-/// until this is dropped.
+/// Writes to any `Write`, and tells the bytes that it holds where it tells them. A writer that is lent to it
+/// stays lent until this is dropped.
 #[derive(Drop)]
 pub struct IntoWrite<W: Write + Drop> {
     inner: W,

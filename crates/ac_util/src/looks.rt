@@ -10,8 +10,8 @@ use std::snapshot::Snapshot;
 
 /// How many bytes a search has read, how many states it has looked at, and how often it has called a prefilter.
 ///
-/// Contracts alone see these counts: at run time they take no bytes and no work. There is no way to copy them or to set them
-/// back, so what a contract says of them holds of all that was counted in them.
+/// Contracts alone see these counts: at run time they take no bytes and no work. There is no way to copy them,
+/// and they only rise: what a contract says of them holds of all that was counted since they were made.
 #[derive(Drop)]
 pub struct Looks {
     reads: Tally,
@@ -59,7 +59,7 @@ impl Looks {
 
 /// Lends the bytes of a haystack one at a time, each at most once and in rising order.
 ///
-/// Contracts see it as its bytes and the place after the last one that was read; at run time it is the slice alone.
+/// Contracts see its bytes and the place after the last one that was read; at run time it is the slice alone.
 #[derive(Drop)]
 pub struct Tape<'h> {
     haystack: &'h [u8],

@@ -59,8 +59,9 @@ impl<'a> Model for Query<'a> {
 impl<'a> Query<'a> {
     /// Returns the search for these patterns in a span of the haystack.
     ///
-    /// With `fold` the case of ASCII letters is ignored. Places count bytes of the whole haystack.
-    /// In a span that starts after its end nothing is found.
+    /// With `fold` the case of ASCII letters is ignored. Places count bytes of the whole haystack, in which the
+    /// span has to end. In a span that starts after its end nothing is found. There have to be no more patterns
+    /// than `PatternID::LIMIT`.
     pub fn new(
         patterns: &'a [&'a [u8]],
         fold: bool,

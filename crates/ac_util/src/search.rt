@@ -98,7 +98,7 @@ impl Model for Match {
 }
 
 impl Match {
-    /// Returns the match of a pattern at a span.
+    /// Returns the match of a pattern at a span, which has to start no later than it ends.
     pub fn new(pattern: PatternID, span: Span) -> Match
         requires ordered { span.start ≤ span.end }
         ensures value { result ≡ occurrence pattern span.start span.end }
@@ -107,6 +107,8 @@ impl Match {
     }
 
     /// Returns the match of a pattern, told by its number, at a range of places.
+    ///
+    /// The number has to be at most `PatternID::MAX`, and the range to start no later than it ends.
     pub fn must(pattern: usize, range: Range<usize>) -> Match
         requires small { pattern ≤ GREATEST }
         requires ordered { range.start ≤ range.end }

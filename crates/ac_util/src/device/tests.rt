@@ -156,6 +156,24 @@ fn reads_go_through(rt: HostRuntime) -> Result<(), Fail> {
 }
 
 #[test]
+fn all_that_has_room_goes_at_once(rt: HostRuntime) -> Result<(), Fail> {
+    let mut source = FromRead::new(b"abcde".as_slice());
+    let mut into = [b'-'; 4];
+    assert_eq!(rt; read(&mut source, &mut into), Ok(4));
+    assert_eq!(rt; into, *b"abcd");
+    assert_eq!(rt; read(&mut source, &mut into), Ok(1));
+    assert_eq!(rt; into[0], b'e');
+    assert_eq!(rt; read(&mut source, &mut into), Ok(0));
+    let mut held = Vec::with_capacity(rt.alloc(), 5)?;
+    let mut sink = IntoWrite::new(&mut held);
+    assert_eq!(rt; write(&mut sink, b"abcd"), Ok(4));
+    assert_eq!(rt; write(&mut sink, b"e"), Ok(1));
+    drop(sink);
+    assert_eq!(rt; held.as_slice(), b"abcde".as_slice());
+    Ok(())
+}
+
+#[test]
 fn what_is_written_is_held(rt: HostRuntime) -> Result<(), Fail> {
     let rows: [(&str, &[u8], &[u8]); 4] = [
         ("two bytes", b"ab", b"ab"),

@@ -4,11 +4,11 @@ ghost use Rattle.std.specs.Prelude.{◌≡◌, ◌+◌, ◌<◌, ◌≤◌, ◌�
 use super::{Anchored, Span};
 use std::ops::Range;
 
-/// A haystack with the span of it that is searched, whether a match must start where the span does, and whether the search
-/// ends at the earliest place at which some match is known.
+/// A haystack with the span of it that is searched, whether a match must start where the span does, and whether
+/// the search ends at the earliest place at which some match is known.
 ///
-/// Bytes outside the span never count. The span ends within the haystack, and may begin one past its end: then nothing is
-/// found in it, not even an empty match. Contracts see an input as the record `asked`.
+/// Bytes outside the span never count. The span ends within the haystack, and may begin one past its end: then
+/// nothing is found in it, not even an empty match. Contracts see an input as the record `asked`.
 ///
 /// ```
 /// let input = Input::new(b"foobar").range(3..6).anchored(Anchored::Yes);
