@@ -94,6 +94,7 @@ pub record IsFirstAny {X : Type 0} (f : X → Bool) (d : X) (xs : List X) (i : �
   pub passes : f (get_or xs i d) ≡ true
   pub none_before : list_any f (take i xs) ≡ false
 
+-- neither of two
 either : (a c : Bool) → a ≡ false → c ≡ false → (a || c) ≡ false
 either a c p q = ap (λ (z : Bool). z || c) p ∙ q
 

@@ -19,12 +19,15 @@ place_in_span q m numbered low order high =
     (IsIn-flat_map (places_at q m.end) m m.start (up_to q.low m.end) (IsIn-range m.start q.low (m.end + 1 - q.low) (omega arith) (omega arith))
     (IsIn-map (λ number. occurrence number m.start m.end) m.pattern (range_with_len 0 (length q.patterns)) (IsIn-range m.pattern 0 (length q.patterns) (omega arith) (omega arith))))
 
+-- what is tried at a start and an end starts and ends there
 pub ends_at : (q : Search) (m : Occurrence) (end start : ℕ) → IsIn m (places_at q end start) → (m.end ≡ end) × (m.start ≡ start)
 ends_at q m end start h = let r = IsIn-from_map (λ number. occurrence number start end) m (range_with_len 0 (length q.patterns)) h in (ap (λ (o : Occurrence). o.end) (sym r.2), ap (λ (o : Occurrence). o.start) (sym r.2))
 
+-- what is tried at an end ends there
 pub ends_at_end : (q : Search) (m : Occurrence) (end : ℕ) → IsIn m (places_ending_at q end) → m.end ≡ end
 ends_at_end q m end h = let r = IsIn-from_flat_map (places_at q end) m (up_to q.low end) h in (ends_at q m end r.0 r.2).0
 
+-- what is tried comes in order
 pub places-ordered : (q : Search) → IsOrdered IsBefore (places q)
 places-ordered q =
     IsOrdered-flat_map (λ x y. x < y) IsBefore (places_ending_at q) (up_to q.low q.high)
@@ -52,6 +55,7 @@ occurs-true q m o =
     may_start-true No low start at_low = refl
     may_start-true Yes low start at_low = eq-eqb start low (at_low refl)
 
+-- and back
 pub Occurs-from_test : (q : Search) (m : Occurrence) → occurs q m ≡ true → Occurs q m
 Occurs-from_test q m t =
     let a = and_parts _ _ t in
@@ -77,14 +81,17 @@ pub all-has : (q : Search) (m : Occurrence) → Occurs q m → IsIn m (all q)
 unfolding all
 all-has q m o = IsIn-filter (occurs q) m (places q) (place_in_span q m o.numbered o.from_low (let e = o.as_long in omega arith) o.to_high) (occurs-true q m o)
 
+-- what is listed occurs
 pub all-only : (q : Search) (m : Occurrence) → IsIn m (all q) → Occurs q m
 unfolding all
 all-only q m h = Occurs-from_test q m (IsIn-from_filter (occurs q) m (places q) h).1
 
+-- what is listed comes in order
 pub all-ordered : (q : Search) → IsOrdered IsBefore (all q)
 unfolding all
 all-ordered q = IsOrdered-filter IsBefore (occurs q) (places q) (places-ordered q)
 
+-- no two stand before one another
 pub IsBefore-apart : (a b : Occurrence) → IsBefore a b → IsBefore b a → ⊥
 IsBefore-apart a b x y = let e : a.end ≡ b.end = omega arith in let s : a.start ≡ b.start = let k = x.starts e in let l = y.starts (sym e) in omega arith in
     let k = x.patterns e s in let l = y.patterns (sym e) (sym s) in omega arith
@@ -97,8 +104,10 @@ all-unique q ms has only o = IsOrdered-unique IsBefore IsBefore-apart ms (all q)
 pub Contains-all : (q : Search) (m : Occurrence) → Occurs q m → Contains (all q) m
 Contains-all q m o = Contains-from_IsIn m (all q) (all-has q m o)
 
+-- and back
 pub Occurs-from_all : (q : Search) (m : Occurrence) → Contains (all q) m → Occurs q m
 Occurs-from_all q m c = all-only q m (IsIn-from_Contains m (all q) c)
 
+-- the order in the words of std
 pub all-sorted : (q : Search) → AllPairs IsBefore (all q)
 all-sorted q = AllPairs-from_IsOrdered IsBefore (all q) (all-ordered q)

@@ -18,6 +18,7 @@ IsIn-from_distinct u (x ∷ us) (inl e) = inl e
 IsIn-from_distinct u (x ∷ us) (inr h) =
     inr (IsIn-from_distinct u us (IsIn-from_filter (λ w. not (bytes_eq x w)) u (distinct us) h).0)
 
+-- each string is among the distinct ones
 IsIn-distinct : (u : List ℕ) (us : List (List ℕ)) → IsIn u us → IsIn u (distinct us)
 IsIn-distinct u [] h = h
 IsIn-distinct u (x ∷ us) (inl e) = inl e
@@ -26,6 +27,7 @@ IsIn-distinct u (x ∷ us) (inr h) = elim (cases_Bool (bytes_eq x u)) [
   | inr other ↦ inr (IsIn-filter (λ w. not (bytes_eq x w)) u (distinct us) (IsIn-distinct u us h) (ap not other))
 ]
 
+-- no two of the distinct strings are equal
 distinct-apart : (us : List (List ℕ)) → IsOrdered (λ u w. u ≢ w) (distinct us)
 distinct-apart [] = tt
 distinct-apart (x ∷ us) = (
@@ -47,6 +49,7 @@ record IsFrontOf (p u : List ℕ) : Type 0 where
   front : starts_with nat_eq p u ≡ true
   some : 0 < length u
 
+-- each of the fronts is one, and not empty
 IsIn-from_fronts : (p u : List ℕ) → IsIn u (fronts p) → IsFrontOf p u
 IsIn-from_fronts p u h =
     let f = IsIn-from_map (λ n. take n p) u (range_with_len 1 (length p)) h in
@@ -76,6 +79,7 @@ module _ (kind : MatchKind) (patterns : List (List ℕ)) where
       (IsIn-flat_map (λ number. fronts (pattern_of patterns number)) (x ∷ u) r.0 (participants kind patterns) r.1
       (IsIn-fronts (pattern_of patterns r.0) x u r.2)))
 
+  -- what is counted is a node and not empty
   pub inner_nodes-only : (u : List ℕ) → Contains (inner_nodes kind patterns) u → (is_node kind patterns u ≡ true) × (u ≢ [])
   inner_nodes-only u h =
       let f = IsIn-from_flat_map (λ number. fronts (pattern_of patterns number)) u (participants kind patterns)
@@ -85,5 +89,6 @@ module _ (kind : MatchKind) (patterns : List (List ℕ)) where
         (λ e. let l = ap length e in let s = front.some in omega arith),
       )
 
+  -- nothing is counted twice
   pub inner_nodes-apart : AllPairs (λ u w. u ≢ w) (inner_nodes kind patterns)
   inner_nodes-apart = AllPairs-from_IsOrdered (λ u w. u ≢ w) (inner_nodes kind patterns) (distinct-apart all_fronts)

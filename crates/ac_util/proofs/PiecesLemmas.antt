@@ -16,6 +16,7 @@ pub record IsPiece (bounds : List ℕ) (last i j : ℕ) : Type 0 where
   pub ordered : get_or bounds i 0 ≤ get_or bounds j 0
   pub within : get_or bounds j 0 ≤ last
 
+-- each bound is no greater than the next one
 pub bounds-rise : (bounds : List ℕ) (last i j : ℕ) → AreBounds bounds last → j ≡ suc i → j < length bounds → IsPiece bounds last i j
 bounds-rise [] last i j h next within = absurd h
 bounds-rise (b ∷ []) last i j h next within = absurd (omega arith)
@@ -57,6 +58,7 @@ AreBounds-push [] last more h = absurd h
 AreBounds-push (b ∷ []) last more h = (omega arith, refl)
 AreBounds-push (b ∷ e ∷ es) last more h = (h.0, AreBounds-push (e ∷ es) last more h.1)
 
+-- the pieces are then those before and the one that is added
 pub pieces-push : (bytes more bounds : List ℕ) → AreBounds bounds (length bytes)
     → pieces (bytes ++ more) (bounds ++ (length bytes + length more) ∷ []) ≡ pieces bytes bounds ++ more ∷ []
 pieces-push bytes more [] h = absurd h

@@ -16,6 +16,7 @@ small_cases c = elim (cases_lt c 65) [
   ]
 ]
 
+-- bytes that are the same without case are equal or one letter
 pub same_byte-letters : (a b : ℕ) → same_byte true a b ≡ true → (a ≡ b) ⊎ AreOneLetter a b
 same_byte-letters a b h = by (eqb-true (to_ascii_lowercase a) (to_ascii_lowercase b) h) (small_cases a) (small_cases b)
   where
@@ -34,6 +35,7 @@ small-stays a b c =
     let s = c.small in let low = c.from_A in let high = c.to_Z in
     (lowercase_is a).0 (low, high) ∙ sym s ∙ sym ((lowercase_is b).2 (omega arith))
 
+-- and back
 pub same_byte-from_letters : (a b : ℕ) → (a ≡ b) ⊎ AreOneLetter a b → same_byte true a b ≡ true
 same_byte-from_letters a b (inl e) = eq-eqb (to_ascii_lowercase a) (to_ascii_lowercase b) (ap to_ascii_lowercase e)
 same_byte-from_letters a b (inr (inl c)) = eq-eqb (to_ascii_lowercase a) (to_ascii_lowercase b) (small-stays a b c)
@@ -67,6 +69,7 @@ IsSame-from_places fold (x ∷ s) (y ∷ t) l each =
 pub IsSame-tested : (fold : Bool) (s t : List ℕ) → IsSame fold s t → (k : ℕ) → k < length s → same_byte fold (get_or s k 0) (get_or t k 0) ≡ true
 IsSame-tested fold s t h k within = eq-eqb (plain_byte fold (get_or s k 0)) (plain_byte fold (get_or t k 0)) (IsSame-at fold s t h k within)
 
+-- and back
 pub IsSame-from_tests : (fold : Bool) (s t : List ℕ) → length s ≡ length t
     → ((k : ℕ) → k < length s → same_byte fold (get_or s k 0) (get_or t k 0) ≡ true) → IsSame fold s t
 IsSame-from_tests fold s t l each =

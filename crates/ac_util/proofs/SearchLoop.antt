@@ -67,6 +67,7 @@ pick-stays_dead kind order q n ordered room dead (inr first) =
 abbrev pub credit : ℕ → Node → ℕ
 credit most u = if most == 1 then 0 else depth u
 
+-- the start has no credit
 pub credit-nil : (most : ℕ) → credit most (Some []) ≡ zero
 credit-nil most = by (most == 1)
   where
@@ -93,10 +94,12 @@ looks_within-once kind patterns (suc n) (Some (x ∷ u)) b = by (is_node kind pa
     by true = omega arith
     by false = omega arith
 
+-- a step looks at one state at least
 looks-once : (kind : MatchKind) (patterns : List (List ℕ)) (anchored : Anchored) (u : Node) (b : ℕ) → 1 ≤ looks kind patterns anchored u b
 looks-once kind patterns No u b = looks_within-once kind patterns (depth u) u b
 looks-once kind patterns Yes u b = omega arith
 
+-- and so it does by either allowance
 pub looks_by-once : (most : ℕ) (kind : MatchKind) (patterns : List (List ℕ)) (anchored : Anchored) (u : Node) (b : ℕ)
     → 1 ≤ looks_by most kind patterns anchored u b
 looks_by-once most kind patterns anchored u b = by (most == 1)

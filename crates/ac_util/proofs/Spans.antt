@@ -14,6 +14,7 @@ use Rattle.ac_util.specs.Text.{cut, outward, plain_patterns, text, one_longer}
 use Rattle.ac_util.proofs.Picks.{pick-IsPick, pick-from_IsPick, same_occurrence}
 use Rattle.ac_util.proofs.Standing.{Stands, place_of, IsPickIn, Stands-end}
 
+-- a part of the first m elements is a part of the list
 take_drop_take : {X : Type 0} (n k m : ℕ) (xs : List X) → k + n ≤ m → take n (drop k (take m xs)) ≡ take n (drop k xs)
 take_drop_take n zero m xs h = take-take n m xs (omega arith)
 take_drop_take n (suc k) zero xs h = absurd (omega arith)
@@ -45,6 +46,7 @@ first-outward LeftmostLongest low a b f = record {
   patterns = (λ s e. f.patterns (omega arith) (omega arith));
 }
 
+-- and back
 pub first-from_outward : (kind : MatchKind) (low : ℕ) (a b : Occurrence) → IsFirst kind (outward low a) (outward low b) → IsFirst kind a b
 first-from_outward Standard low a b f = record {
   ends = (let e = f.ends in omega arith);
@@ -71,6 +73,7 @@ Occurs-from_cut q m order o =
       at_low = (λ e. let z = o.at_low e in omega arith);
     }
 
+-- and back
 pub Occurs-to_cut : (q : Search) (m : Occurrence) → q.low ≤ q.high → Occurs q (outward q.low m) → Occurs (cut q) m
 Occurs-to_cut q m order o =
     let a = o.as_long in let c = o.to_high in
@@ -96,12 +99,15 @@ only_empty-in_empty q m empty o = length-zero (pattern_of q.patterns m.pattern) 
     length-zero (x ∷ w) e = absurd (omega arith)
 
 module _ (q : Search) (order : q.low ≤ q.high) (inside : q.high ≤ length q.haystack) where
+  -- a plain pattern is the pattern made plain
   pattern_plain : (n : ℕ) → pattern_of (plain_patterns q) n ≡ plain q.fold (pattern_of q.patterns n)
   pattern_plain n = get_or-map (plain q.fold) q.patterns n []
 
+  -- it is as long
   pub pattern_length : (n : ℕ) → length (pattern_of (plain_patterns q) n) ≡ length (pattern_of q.patterns n)
   pattern_length n = ap length (pattern_plain n) ∙ length-map (pattern_of q.patterns n) (plain_byte q.fold)
 
+  -- the text is as long as the span
   pub text_length : length (text q) ≡ q.high - q.low
   text_length =
       length-map (slice_range q.haystack q.low q.high) (plain_byte q.fold)
@@ -164,6 +170,7 @@ module _ (q : Search) (order : q.low ≤ q.high) (inside : q.high ≤ length q.h
       let l = pattern_length o.pattern in let a = h.as_long in let b = h.from_low in
       same_occurrence (outward q.low (place_of (plain_patterns q) o.pattern (o.start - q.low))) o refl (omega arith) (omega arith)
 
+  -- the pick in the text is one of the search
   is_pick : (kind : MatchKind) (r : Option Occurrence) → IsPickIn kind (plain_patterns q) q.anchored (text q) r → IsPick kind q (option_map (outward q.low) r)
   is_pick kind None h = λ o occurs. h o.pattern (o.start - q.low) (Stands-from_Occurs o occurs)
   is_pick kind (Some m) h = (
@@ -177,6 +184,7 @@ module _ (q : Search) (order : q.low ≤ q.high) (inside : q.high ≤ length q.h
   pub pick-from_text : (kind : MatchKind) (r : Option Occurrence) → IsPickIn kind (plain_patterns q) q.anchored (text q) r → option_map (outward q.low) r ≡ pick kind q
   pick-from_text kind r h = pick-from_IsPick kind q (option_map (outward q.low) r) (is_pick kind r h)
 
+  -- a pick of the search is one in the text
   in_text : (kind : MatchKind) (r : Option Occurrence) → IsPick kind q r → IsPickIn kind (plain_patterns q) q.anchored (text q) (option_map (inward q.low) r)
   in_text kind None h = λ n s stands. h (outward q.low (place_of (plain_patterns q) n s)) (Occurs-from_Stands n s stands)
   in_text kind (Some m) h = record {
@@ -192,6 +200,7 @@ module _ (q : Search) (order : q.low ≤ q.high) (inside : q.high ≤ length q.h
       inward_outward o x =
           let a = x.as_long in let b = x.from_low in same_occurrence (outward q.low (inward q.low o)) o refl (omega arith) (omega arith)
 
+  -- told from the low end and back, an occurrence is the same
   back_out : (kind : MatchKind) (r : Option Occurrence) → IsPick kind q r → option_map (outward q.low) (option_map (inward q.low) r) ≡ r
   back_out kind None h = refl
   back_out kind (Some m) h =
@@ -202,6 +211,7 @@ module _ (q : Search) (order : q.low ≤ q.high) (inside : q.high ≤ length q.h
   pub pick-in_text : (kind : MatchKind) → IsPickIn kind (plain_patterns q) q.anchored (text q) (option_map (inward q.low) (pick kind q))
   pick-in_text kind = in_text kind (pick kind q) (pick-IsPick kind q)
 
+  -- so is the pick
   pub pick-out_again : (kind : MatchKind) → option_map (outward q.low) (option_map (inward q.low) (pick kind q)) ≡ pick kind q
   pick-out_again kind = back_out kind (pick kind q) (pick-IsPick kind q)
 

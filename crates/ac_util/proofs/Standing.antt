@@ -72,15 +72,18 @@ module _ (patterns : List (List ℕ)) where
   pub Fronts-more : (w : List ℕ) (b n : ℕ) → Fronts patterns w n → Fronts patterns (w ++ b ∷ []) n
   Fronts-more w b n f = record { numbered = f.numbered; front = starts_with-more w (pattern_of patterns n) b f.front }
 
+  -- a pattern that is a front with one more byte was a front before or is the whole
   pub Fronts-cases : (w : List ℕ) (b n : ℕ) → Fronts patterns (w ++ b ∷ []) n → Fronts patterns w n ⊎ (pattern_of patterns n ≡ w ++ b ∷ [])
   Fronts-cases w b n f = elim (cases_Bool (starts_with nat_eq w (pattern_of patterns n))) [
     | inl t ↦ inl (record { numbered = f.numbered; front = t })
     | inr t ↦ inr (starts_with-whole w (pattern_of patterns n) b f.front t)
   ]
 
+  -- a pattern that is a front is no longer than the string
   pub Fronts-length : (w : List ℕ) (n : ℕ) → Fronts patterns w n → length (pattern_of patterns n) ≤ length w
   Fronts-length w n f = starts_with-length w (pattern_of patterns n) f.front
 
+  -- one that is as long is the string
   pub Fronts-equal : (w : List ℕ) (n : ℕ) → Fronts patterns w n → length (pattern_of patterns n) ≡ length w → pattern_of patterns n ≡ w
   Fronts-equal w n f l = starts_with-equal w (pattern_of patterns n) f.front l
 
@@ -124,6 +127,7 @@ module _ (patterns : List (List ℕ)) where
   pub Stands-behind : (x : ℕ) (w : List ℕ) (n s : ℕ) → Stands patterns No w n s → Stands patterns No (x ∷ w) n (suc s)
   Stands-behind x w n s h = record { within = (let i = h.within in omega arith); fronts = h.fronts; at_front = λ e. absurd (cc) }
 
+  -- what stands behind the first byte stands in the rest
   pub Stands-from_behind : (x : ℕ) (w : List ℕ) (n s : ℕ) → Stands patterns No (x ∷ w) n (suc s) → Stands patterns No w n s
   Stands-from_behind x w n s h = record { within = (let i = h.within in omega arith); fronts = h.fronts; at_front = λ e. absurd (cc) }
 

@@ -15,6 +15,7 @@ module _ (haystack : List ℕ) (texts : List (List ℕ)) where
       ap (λ (w : List ℕ). w ++ later) (t.call.1 ∙ ap (λ (w : List ℕ). w ++ slice_index_or texts m.pattern []) t.gap)
       ∙ simp append_assoc
 
+  -- the steps leave what was there and then the replaced text
   pub steps-replaced : (place : ℕ) (ms : List Occurrence) (f : ℕ) (d : List ℕ) (g : ℕ) (e : List ℕ)
       → Steps ℕ (List ℕ) Appends (WritesText texts) haystack place ms f d g e → e ≡ d ++ replaced_from haystack texts place ms
   steps-replaced place [] f d g e h = h.1
