@@ -22,6 +22,7 @@ use Rattle.ac_util.proofs.Reached.{stops}
 use Rattle.ac_util.proofs.Found.{matches-nil, matches-cons}
 use Rattle.ac_util.proofs.Standing.{Stands, place_of, IsPickIn, first-by_start, first-one_on, first-at_one_end, Fronts-cases, Fronts-length, Fronts-equal, Stands-more, Stands-cases, Stands-behind, Stands-from_behind, Stands-from_Fronts}
 
+-- the front of an empty list is empty
 append_nil_left : (xs ys : List ℕ) → xs ++ ys ≡ [] → xs ≡ []
 append_nil_left [] ys e = refl
 append_nil_left (x ∷ xs) ys e = absurd (cc)
@@ -312,6 +313,7 @@ module _ (kind : MatchKind) (patterns : List (List ℕ)) where
   start_stands anchored n zero h = (refl, h.fronts)
   start_stands anchored n (suc s) h = absurd (let i = h.within in omega arith)
 
+  -- where the start has no match nothing stands in the empty text
   pub start-stays : (anchored : Anchored) → matches kind patterns anchored (Some []) ≡ [] → (n s : ℕ) → ¬ Stands patterns anchored [] n s
   start-stays anchored none n s h =
       let f = start_stands anchored n s h in

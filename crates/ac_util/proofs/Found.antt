@@ -30,6 +30,7 @@ module _ (kind : MatchKind) (patterns : List (List ℕ)) where
   pub matches-nil : found (Some []) ≡ own []
   matches-nil = ap (flat_map own) (open_suffixes-nil kind patterns) ∙ append-nil (own [])
 
+  -- the matches of a string are those that equal it, and then those of the rest unless nothing may start later
   pub matches-cons : (x : ℕ) (u : List ℕ) → found (Some (x ∷ u)) ≡ own (x ∷ u) ++ cond (stops kind patterns (x ∷ u)) [] (found (Some u))
   matches-cons x u =
       ap (flat_map own) (starting_by-cons kind patterns x u (x ∷ u) (suffixes u))

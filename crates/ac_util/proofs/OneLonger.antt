@@ -26,6 +26,7 @@ ending-head kind q i k order inside h =
     let w = h.whole in
     same_occurrence (outward q.low (place_of (plain_patterns q) i k)) (ending q i) refl (omega arith) (omega arith)
 
+-- what is found at the end is found in the whole text
 pub found-text : (kind : MatchKind) (q : Search) → found_at_end kind q ≡ matches kind (plain_patterns q) q.anchored (Some (text q))
 found-text kind q = matches-reached kind (plain_patterns q) q.anchored (text q)
 
@@ -89,6 +90,7 @@ module _ (kind : MatchKind) (q : Search) (order : q.low ≤ q.high) (room : q.hi
       sym (longer Standard None
       (pick-stays kind (plain_patterns q) q.anchored (text q) (byte_in q) None (sym now-text ∙ e) (nothing_stands Standard none)))
 
+  -- where Standard picks nothing yet, the first match found with one more byte is what it picks
   pub first-longer_becomes : pick Standard q ≡ None → (i : ℕ) (rest : List ℕ) → found_at_end kind (one_longer q) ≡ i ∷ rest
       → pick Standard (one_longer q) ≡ Some (ending (one_longer q) i)
   first-longer_becomes none i rest e =
@@ -152,6 +154,7 @@ module _ (kind : MatchKind) (q : Search) (order : q.low ≤ q.high) (dead : reac
   nothing_found : (n : ℕ) → q.high + n ≤ length q.haystack → found_at_end kind (longer_by q n) ≡ []
   nothing_found n room = ap (matches kind (plain_patterns q) q.anchored) (still_dead n room)
 
+  -- once dead, the pick stays however much longer the span is
   pub pick-dead : (n : ℕ) → q.high + n ≤ length q.haystack → pick kind (longer_by q n) ≡ pick kind q
   pick-dead zero room = ap (λ (h : ℕ). pick kind (record q { high = h })) (omega arith)
   pick-dead (suc n) room =
@@ -160,6 +163,7 @@ module _ (kind : MatchKind) (q : Search) (order : q.low ≤ q.high) (dead : reac
       (sym (ap (found_at_end kind) (longer-suc n)) ∙ nothing_found (suc n) room)
       ∙ pick-dead n (omega arith)
 
+  -- and where Standard picked nothing it stays so
   pub first-dead : pick Standard q ≡ None → (n : ℕ) → q.high + n ≤ length q.haystack → pick Standard (longer_by q n) ≡ None
   first-dead none zero room = ap (λ (h : ℕ). pick Standard (record q { high = h })) (omega arith) ∙ none
   first-dead none (suc n) room =

@@ -48,6 +48,7 @@ module _ (patterns : List (List ℕ)) where
       let first = first_any (λ p. starts_with nat_eq w p) [] patterns h in
       (first.0, record { fronts = record { numbered = first.1.within; front = first.1.passes }; none_before = first.1.none_before })
 
+  -- no pattern that is a front of w has a lesser number than the leader
   pub leader-least : (w : List ℕ) (j n : ℕ) → IsLeader w j → Fronts patterns w n → j ≤ n
   leader-least w j n l f = elim (cases_lt n j) [
     | inl below ↦ absurd (false≢true (sym l.none_before ∙ begins-before w n j below l.fronts.numbered f))
@@ -61,6 +62,7 @@ module _ (patterns : List (List ℕ)) where
   takes_part LeftmostFirst n h = ap (λ (t : Bool). not t) h
   takes_part LeftmostLongest n h = refl
 
+  -- the leader takes part under every kind
   pub leader-takes_part : (kind : MatchKind) (w : List ℕ) (j : ℕ) → IsLeader w j → participates kind patterns j ≡ true
   leader-takes_part kind w j l =
       takes_part kind j (false_from_ne_true _ (λ h. false≢true (sym l.none_before
@@ -84,6 +86,7 @@ module _ (patterns : List (List ℕ)) where
   all_take_part LeftmostLongest e n = refl
 
 module _ (kind : MatchKind) (patterns : List (List ℕ)) where
+  -- the number of a pattern that takes part is one of theirs
   IsIn-participants : (n : ℕ) → n < length patterns → participates kind patterns n ≡ true → IsIn n (participants kind patterns)
   IsIn-participants n within takes =
       IsIn-filter (participates kind patterns) n (range_with_len 0 (length patterns)) (IsIn-range n 0 (length patterns) (omega arith) (omega arith)) takes
@@ -101,6 +104,7 @@ module _ (kind : MatchKind) (patterns : List (List ℕ)) where
       list_any-weaker (λ n. starts_with nat_eq (pattern_of patterns n) (x ∷ v ++ b ∷ [])) (λ n. starts_with nat_eq (pattern_of patterns n) (x ∷ v))
       (λ n starts. starts_with-front (pattern_of patterns n) (x ∷ v) b starts) (participants kind patterns) h
 
+  -- and one that leads to none does not with one more byte
   pub is_node-more : (v : List ℕ) (b : ℕ) → is_node kind patterns v ≡ false → is_node kind patterns (v ++ b ∷ []) ≡ false
   is_node-more v b h = false_from_ne_true _ (λ node. false≢true (sym h ∙ is_node-front v b node))
 
@@ -125,6 +129,7 @@ module _ (kind : MatchKind) (patterns : List (List ℕ)) where
       IsIn-filter (λ m. bytes_eq (pattern_of patterns m) w) n (participants kind patterns) (IsIn-participants n e.numbered e.takes_part)
       ((bytes_eq-Decides (pattern_of patterns n) w).1 e.same)
 
+  -- and back
   pub IsIn-from_equal_to : (w : List ℕ) (n : ℕ) → IsIn n (equal_to kind patterns w) → Equals w n
   IsIn-from_equal_to w n h =
       let equal = IsIn-from_filter (λ m. bytes_eq (pattern_of patterns m) w) n (participants kind patterns) h in

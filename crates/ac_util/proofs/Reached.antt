@@ -74,6 +74,7 @@ module _ (kind : MatchKind) (patterns : List (List ℕ)) where
   abbrev stepped : List ℕ → ℕ → Node
   stepped u b = step kind patterns No (Some u) b
 
+  -- a step from a string: the whole with the byte, or dead where it may not start later, or the step from the rest
   pub step-cons : (x b : ℕ) (u : List ℕ)
       → stepped (x ∷ u) b ≡ cond (node (x ∷ u ++ b ∷ [])) (Some (x ∷ u ++ b ∷ [])) (cond (stop (x ∷ u)) None (stepped u b))
   step-cons x b u =
@@ -91,6 +92,7 @@ module _ (kind : MatchKind) (patterns : List (List ℕ)) where
     | inr f ↦ f ∙ sym (false_from_ne_true _ (λ t. false≢true (sym none ∙ is_node-begins kind patterns v b t f)))
   ]
 
+  -- where one more byte makes no node, it does not change whether a match may start later
   pub stops-same : (v : List ℕ) (b : ℕ) → node (v ++ b ∷ []) ≡ false → stop v ≡ stop (v ++ b ∷ [])
   stops-same v b none = ap (λ (t : Bool). is_leftmost kind && t) (begins_same v b none)
 
