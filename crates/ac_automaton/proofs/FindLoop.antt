@@ -1,6 +1,6 @@
 -- A find that reads byte by byte: where the automaton stands, and what is picked so far.
 use Rattle.std.proofs.Common.{◌≡◌, ◌≢◌, ℕ, ◌+◌, ◌-◌, ◌<◌, ◌≤◌, Bool, true, false, cond, List, [], ◌∷◌, length, ◌⊎◌, refl, ap, sym, ◌∙◌, subst, arith, Option, Some, None}
-use Rattle.std.specs.Prelude.{option_map, slice_get, slice_index}
+use Rattle.std.specs.Prelude.{option_map, slice_get, slice_index, IfSome, ◌==◌, if◌then◌else◌}
 use Rattle.std.specs.Option.{is_some}
 use Rattle.ac_util.specs.declared.search.MatchKind.{MatchKind}
 use Rattle.ac_util.specs.declared.search.MatchKind.TheVariants.{Standard}
@@ -9,6 +9,7 @@ use Rattle.ac_util.specs.declared.search.Anchored.TheVariants.{No, Yes}
 use Rattle.ac_util.specs.Occurrence.{Occurrence}
 use Rattle.ac_util.specs.Search.{Search}
 use Rattle.ac_util.specs.Pick.{order_of, pick}
+use Rattle.ac_util.specs.Counts.{Counts}
 use Rattle.ac_util.specs.Node.{Node, depth, is_node, reached}
 use Rattle.ac_util.specs.Text.{text}
 use Rattle.ac_util.specs.Input.{Asked}
@@ -17,11 +18,12 @@ use Rattle.ac_util.proofs.Beginning.{within, ends_by, pick-within}
 use Rattle.ac_util.proofs.Failures.{depth-reached}
 use Rattle.ac_util.proofs.Reached.{reached-nil}
 use Rattle.ac_util.proofs.Spans.{text_length}
+use Rattle.ac_util.proofs.Walks.{pick-in_span}
 use Rattle.ac_util.proofs.OneLonger.{text-empty, step-longer, pick-empty_none, pick-empty_some, none-past_end}
 use Rattle.ac_util.proofs.SearchLoop.{credit, looks_by-once, step-paid, GoesOn, pick-goes_on, pick-found, pick-stays_dead}
 use Rattle.ac_util.specs.Sameness.{plain_byte}
 use Rattle.ac_automaton.specs.Automata.{plain_of, step_of, looks_of, matches_of}
-use Rattle.ac_automaton.specs.Cores.{place_of, FitsIn, found_at}
+use Rattle.ac_automaton.specs.Cores.{place_of, FitsIn, Tells, found_at, most_looks}
 
 depth-held : (u : List ℕ) (t : Bool) → cond t (Some u) None ≢ None → depth (cond t (Some u) None) ≡ length u
 depth-held u true some = refl
@@ -42,6 +44,16 @@ found-end built a u end m e = by (slice_get (matches_of built a u) 0) e
     by : (r : Option ℕ) → option_map (place_of built end) r ≡ Some m → m.end ≡ end
     by None h = absurd (cc)
     by (Some i) h = let same : place_of built end i ≡ m = cc in sym (ap (λ (o : Occurrence). o.end) same)
+
+-- a step's looks are paid by what was saved and what the byte brings; an anchored one saves nothing and looks once
+step-within : (most : ℕ) (built : Built) (a : Anchored) (u : Node) (byte : ℕ) → (most ≡ 1) ⊎ (most ≡ 2)
+    → looks_of most built a u byte + credit (most_looks a most) (step_of built a u byte) ≤ credit (most_looks a most) u + most_looks a most
+step-within most built No u byte one_or_two = step-paid most built.kind (plain_of built) No u (plain_byte built.fold byte) one_or_two
+step-within most built Yes u byte one_or_two = once (most == 1)
+  where
+    once : (t : Bool) → (if t then 1 else 1) + 0 ≤ 0 + 1
+    once true = omega arith
+    once false = omega arith
 
 module _ (built : Built) (asked : Asked) where
   -- the search as far as a place, and the node that the automaton has reached there
@@ -64,11 +76,13 @@ module _ (built : Built) (asked : Asked) where
 
   -- the looks of that step are paid by what was saved and the byte
   pub node-paid : (most at byte : ℕ) → (most ≡ 1) ⊎ (most ≡ 2) → asked.start ≤ at → at < length asked.haystack → byte ≡ slice_index asked.haystack at
-      → looks_of most built asked.anchored (node_at at) byte + credit most (node_at (at + 1)) ≤ credit most (node_at at) + most
+      → looks_of most built asked.anchored (node_at at) byte + credit (most_looks asked.anchored most) (node_at (at + 1))
+      ≤ credit (most_looks asked.anchored most) (node_at at) + most_looks asked.anchored most
   node-paid most at byte one_or_two ordered room read =
-      subst (λ (v : Node). looks_of most built asked.anchored (node_at at) byte + credit most v ≤ credit most (node_at at) + most)
+      subst (λ (v : Node). looks_of most built asked.anchored (node_at at) byte + credit (most_looks asked.anchored most) v
+      ≤ credit (most_looks asked.anchored most) (node_at at) + most_looks asked.anchored most)
       (node-step at byte ordered room read)
-      (step-paid most built.kind (plain_of built) asked.anchored (node_at at) (plain_byte built.fold byte) one_or_two)
+      (step-within most built asked.anchored (node_at at) byte one_or_two)
 
   pub node-once : (most at byte : ℕ) → 1 ≤ looks_of most built asked.anchored (node_at at) byte
   node-once most at byte = looks_by-once most built.kind (plain_of built) asked.anchored (node_at at) (plain_byte built.fold byte)
@@ -123,6 +137,15 @@ module _ (built : Built) (asked : Asked) where
       → r ≡ pick order (search_in built asked)
   picked-final_if at None up standard some e = absurd (cc)
   picked-final_if at (Some m) up standard some e = picked-final at m up standard e
+
+  -- each byte of what was picked was read, where a search has read as far
+  pub picked-told : (at : ℕ) (r : Option Occurrence) (counts new_counts : Counts) → r ≡ pick order (up_to at)
+      → counts.reads + (at - asked.start) ≤ new_counts.reads → IfSome r (Tells counts new_counts)
+  picked-told at None counts new_counts e read = tt
+  picked-told at (Some m) counts new_counts e read =
+      let span = pick-in_span order (up_to at) m (sym e) in
+      let l = span.from_low in let o = span.in_order in let h = span.to_high in
+      record { reads = omega arith }
 
   -- a span that starts past its end has no pick
   pub picked-past_end : asked.end < asked.start → pick order (search_in built asked) ≡ None

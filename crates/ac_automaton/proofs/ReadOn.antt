@@ -47,10 +47,9 @@ module _ (most start at saved : ℕ) (tape new_tape : Taped) (counts new_counts 
         bytes = read.bytes;
         onward = o;
         within = omega arith;
-        grows = record { reads = omega arith; looks = (let l = read.looked in omega arith); calls = omega arith };
+        grows = record { reads = omega arith; looks = (let l = read.looked in rw all (omega arith)); calls = omega arith };
         told = λ moved. let t = read.told moved in omega arith;
         reads = omega arith;
-        looked = (let l = read.looked in rw all (omega arith));
         looks = rw all (omega arith);
         calls = omega arith;
       }

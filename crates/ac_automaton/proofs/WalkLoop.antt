@@ -5,6 +5,8 @@ use Rattle.ac_util.specs.Walk.{repeats, unless_repeated, walk_after}
 use Rattle.ac_util.proofs.OneLonger.{none-past_end}
 use Rattle.std.proofs.Common.{◌≡◌, ℕ, ◌+◌, ◌-◌, ◌*◌, ◌<◌, ◌≤◌, Bool, true, List, [], min, refl, ap, sym, ◌∙◌, subst, arith, Option, Some, None}
 use Rattle.ac_util.specs.declared.search.Anchored.{Anchored}
+use Rattle.ac_util.specs.declared.search.MatchKind.{MatchKind}
+use Rattle.ac_util.specs.declared.search.MatchKind.TheVariants.{Standard, LeftmostFirst, LeftmostLongest}
 use Rattle.ac_util.specs.Occurrence.{Occurrence}
 use Rattle.ac_util.specs.Counts.{Counts, Taped, no_counts}
 use Rattle.ac_util.specs.Pick.{order_of}
@@ -12,13 +14,42 @@ use Rattle.ac_util.specs.Refusal.{start_refusal}
 use Rattle.ac_util.specs.Input.{Asked}
 use Rattle.ac_util.specs.Built.{Built, search_in, found}
 use Rattle.ac_util.proofs.Walks.{IsInSpan, pick-in_span, walk_after-None}
-use Rattle.ac_automaton.specs.Cores.{Reads, StopsAtMatch, asked_of}
+use Rattle.ac_automaton.specs.Cores.{Grows, Reads, StopsAtMatch, Tells, asked_of, kept, most_looks}
 use Rattle.ac_automaton.specs.Iterators.{Left, IsPaid, after}
 
 paid_total : (most r n looks looks_then : ℕ) → r ≤ n → looks ≤ most * r → looks_then ≤ looks + most * (n - r) → looks_then ≤ most * n
 paid_total most r n looks looks_then l a b =
     let e : n ≡ r + (n - r) = omega arith in
     subst (λ (k : ℕ). looks_then ≤ most * k) (sym e) (let h : looks_then ≤ most * r + most * (n - r) = omega arith in omega arith)
+
+-- the counts that a walk keeps: under Standard all, else none
+pub kept-all : (order : MatchKind) (counts : Counts) → order ≡ Standard → kept order counts ≡ counts
+kept-all order counts standard = ap (λ (k : MatchKind). kept k counts) standard
+
+pub kept-none : (order : MatchKind) (counts : Counts) → ¬ (order ≡ Standard) → kept order counts ≡ no_counts
+kept-none Standard counts other = absurd (other refl)
+kept-none LeftmostFirst counts other = refl
+kept-none LeftmostLongest counts other = refl
+
+-- a second search counts on from the first
+pub Grows-kept : (order : MatchKind) (counts first second : Counts) → Grows (kept order counts) first → Grows (kept order first) second
+    → Grows (kept order counts) second
+Grows-kept Standard counts first second to on =
+    let r = to.reads in let l = to.looks in let c = to.calls in let r2 = on.reads in let l2 = on.looks in let c2 = on.calls in
+    record { reads = omega arith; looks = omega arith; calls = omega arith }
+Grows-kept LeftmostFirst counts first second to on = on
+Grows-kept LeftmostLongest counts first second to on = on
+
+tells-kept : (order : MatchKind) (counts first second : Counts) (m : Occurrence) → Grows (kept order counts) first → Tells (kept order first) second m
+    → Tells (kept order counts) second m
+tells-kept Standard counts first second m to on = let r = to.reads in let t = on.reads in record { reads = omega arith }
+tells-kept LeftmostFirst counts first second m to on = on
+tells-kept LeftmostLongest counts first second m to on = on
+
+pub Tells-kept : (order : MatchKind) (counts first second : Counts) (r : Option Occurrence) → Grows (kept order counts) first
+    → IfSome r (Tells (kept order first) second) → IfSome r (Tells (kept order counts) second)
+Tells-kept order counts first second None to on = tt
+Tells-kept order counts first second (Some m) to on = tells-kept order counts first second m to on
 
 -- an input is what a core is asked with its parts
 pub asked-same : (i : Asked) (bytes : List ℕ) (start end : ℕ) (anchored : Anchored) (earliest : Bool)
@@ -82,6 +113,7 @@ module _ (most : ℕ) (built : Built) (asked : Asked) (from : ℕ) where
     within = omega arith;
     begun = begun;
     reads = omega arith;
+    looked = omega arith;
     looks = omega arith;
     calls = omega arith;
     called = λ _. omega arith;
@@ -98,6 +130,7 @@ module _ (most : ℕ) (built : Built) (asked : Asked) (from : ℕ) where
         within = w;
         begun = omega arith;
         reads = r;
+        looked = left.looked;
         looks = l;
         calls = c;
         called = λ standard. let d = left.called standard in omega arith;
@@ -113,15 +146,21 @@ module _ (most : ℕ) (built : Built) (asked : Asked) (from : ℕ) where
 
   -- what was counted is paid
   pub Left-paid : (tape : Taped) (counts : Counts) → Left most built asked from tape counts
-      → IsPaid most (record { rest = []; order = order_of built.kind asked.earliest; span = asked.end - from; counts = counts })
+      → IsPaid most (record {
+        rest = [];
+        order = order_of built.kind asked.earliest;
+        anchored = asked.anchored;
+        span = asked.end - from;
+        counts = counts;
+      })
   Left-paid tape counts left =
       let w = left.within in let r = left.reads in
-      record { reads = omega arith; looks = left.looks; calls = left.calls }
+      record { reads = omega arith; looked = left.looked; looks = left.looks; calls = left.calls }
 
   -- after a find
   pub Left-found : (tape tape_then : Taped) (counts counts_then : Counts) (r : Option Occurrence) → asked.start ≤ asked.end + 1
       → Left most built asked from tape counts → tape.place ≤ asked.start → counts.calls ≤ min asked.start asked.end - from
-      → r ≡ found built asked → Reads most asked.start asked.end tape tape_then counts counts_then
+      → r ≡ found built asked → Reads (most_looks asked.anchored most) asked.start asked.end tape tape_then counts counts_then
       → StopsAtMatch built.kind asked.earliest asked.start r tape tape_then counts counts_then
       → Left most built (record asked { start = after asked r }) from tape_then counts_then
   Left-found tape tape_then counts counts_then None legal left unread called picked reads stops =
@@ -133,7 +172,8 @@ module _ (most : ℕ) (built : Built) (asked : Asked) (from : ℕ) where
         within = omega arith;
         begun = omega arith;
         reads = omega arith;
-        looks = paid_total most counts.reads counts_then.reads counts.looks counts_then.looks g l reads.looks;
+        looked = (let d = left.looked in let n = reads.grows.looks in omega arith);
+        looks = paid_total (most_looks asked.anchored most) counts.reads counts_then.reads counts.looks counts_then.looks g l reads.looks;
         calls = omega arith;
         called = λ _. omega arith;
       }
@@ -148,7 +188,8 @@ module _ (most : ℕ) (built : Built) (asked : Asked) (from : ℕ) where
         within = omega arith;
         begun = omega arith;
         reads = omega arith;
-        looks = paid_total most counts.reads counts_then.reads counts.looks counts_then.looks g l reads.looks;
+        looked = (let d = left.looked in let n = reads.grows.looks in omega arith);
+        looks = paid_total (most_looks asked.anchored most) counts.reads counts_then.reads counts.looks counts_then.looks g l reads.looks;
         calls = omega arith;
         called = λ standard. let s = (stops standard).calls in omega arith;
       }
@@ -157,11 +198,11 @@ module _ (most : ℕ) (built : Built) (asked : Asked) (from : ℕ) where
   pub Left-found_in : (tape tape_then : Taped) (counts counts_then : Counts) (r : Option Occurrence) (bytes : List ℕ) (start end : ℕ)
       (anchored : Anchored) (earliest : Bool) → asked_of bytes start end anchored earliest ≡ asked → asked.start ≤ asked.end + 1
       → Left most built asked from tape counts → tape.place ≤ asked.start → counts.calls ≤ min asked.start asked.end - from
-      → r ≡ found built (asked_of bytes start end anchored earliest) → Reads most start end tape tape_then counts counts_then
+      → r ≡ found built (asked_of bytes start end anchored earliest) → Reads (most_looks anchored most) start end tape tape_then counts counts_then
       → StopsAtMatch built.kind earliest start r tape tape_then counts counts_then
       → Left most built (record asked { start = after asked r }) from tape_then counts_then
   Left-found_in tape tape_then counts counts_then r bytes start end anchored earliest same legal left unread called picked reads stops =
       Left-found tape tape_then counts counts_then r legal left unread called
       (subst (λ (i : Asked). r ≡ found built i) same picked)
-      (subst (λ (i : Asked). Reads most i.start i.end tape tape_then counts counts_then) same reads)
+      (subst (λ (i : Asked). Reads (most_looks i.anchored most) i.start i.end tape tape_then counts counts_then) same reads)
       (subst (λ (i : Asked). StopsAtMatch built.kind i.earliest i.start r tape tape_then counts counts_then) same stops)

@@ -1,16 +1,16 @@
 -- What a search core does to the tape that it reads and to its counts.
 use Rattle.std.specs.Prelude.{◌≡◌, ◌≢◌, ℕ, ◌+◌, ◌-◌, ◌*◌, ◌<◌, ◌≤◌, Bool, List, Option, None, IfSome, option_map, slice_get, length, max}
 use Rattle.ac_util.specs.declared.search.Anchored.{Anchored}
-use Rattle.ac_util.specs.declared.search.Anchored.TheVariants.{Yes}
+use Rattle.ac_util.specs.declared.search.Anchored.TheVariants.{No, Yes}
 use Rattle.ac_util.specs.declared.search.MatchKind.{MatchKind}
-use Rattle.ac_util.specs.declared.search.MatchKind.TheVariants.{Standard}
+use Rattle.ac_util.specs.declared.search.MatchKind.TheVariants.{Standard, LeftmostFirst, LeftmostLongest}
 use Rattle.ac_util.specs.Occurrence.{Occurrence, occurrence}
 use Rattle.ac_util.specs.Search.{pattern_of}
 use Rattle.ac_util.specs.Built.{Built}
 use Rattle.ac_util.specs.Pick.{order_of}
 use Rattle.ac_util.specs.Node.{Node, depth}
 use Rattle.ac_automaton.specs.Automata.{matches_of}
-use Rattle.ac_util.specs.Counts.{Counts, Taped}
+use Rattle.ac_util.specs.Counts.{Counts, Taped, no_counts}
 use Rattle.ac_util.specs.Input.{Asked}
 
 -- what a core is asked: a span of the bytes of a tape, and two options
@@ -23,11 +23,28 @@ asked_of bytes start end anchored earliest = record {
   earliest = earliest;
 }
 
--- nothing counted was taken back
+-- how many looks a search may take for each byte read, where an unanchored one may take `most`: an anchored one follows no
+-- failed transition, so it looks once
+abbrev pub most_looks : Anchored → ℕ → ℕ
+most_looks No most = most
+most_looks Yes most = 1
+
+-- nothing counted was taken back, and each byte read since brought a look
 pub record Grows (counts new_counts : Counts) : Type 0 where
   pub reads : counts.reads ≤ new_counts.reads
-  pub looks : counts.looks ≤ new_counts.looks
+  pub looks : counts.looks + (new_counts.reads - counts.reads) ≤ new_counts.looks
   pub calls : counts.calls ≤ new_counts.calls
+
+-- each byte of the match was read and counted
+pub record Tells (counts new_counts : Counts) (m : Occurrence) : Type 0 where
+  pub reads : counts.reads + (m.end - m.start) ≤ new_counts.reads
+
+-- what a walk that picks by this order keeps of its counts as it goes on: under Standard all of them; else none, since a
+-- leftmost search may have read on past its match
+abbrev pub kept : MatchKind → Counts → Counts
+kept Standard counts = counts
+kept LeftmostFirst counts = no_counts
+kept LeftmostLongest counts = no_counts
 
 -- a search of start..end has read on from the start, each byte once and none past the end, and has counted that it did; it has
 -- looked at states at least once and at most `most` times for each byte read, and has called the prefilter at most once for
@@ -39,7 +56,6 @@ pub record Reads (most start end : ℕ) (tape new_tape : Taped) (counts new_coun
   pub grows : Grows counts new_counts
   pub told : tape.place < new_tape.place → counts.reads < new_counts.reads
   pub reads : new_counts.reads ≤ counts.reads + (new_tape.place - start)
-  pub looked : counts.looks + (new_counts.reads - counts.reads) ≤ new_counts.looks
   pub looks : new_counts.looks ≤ counts.looks + most * (new_counts.reads - counts.reads)
   pub calls : new_counts.calls ≤ counts.calls + (end - start)
 

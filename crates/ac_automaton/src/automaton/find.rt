@@ -1,12 +1,12 @@
 //! The core of every find.
-ghost use Rattle.std.specs.Prelude.{◌≡◌, ◌+◌, ◌-◌, ◌≤◌, ◌<◌, ℕ, List, [], length, None, Some, IsTrue, ◌↔◌};
+ghost use Rattle.std.specs.Prelude.{◌≡◌, ◌+◌, ◌-◌, ◌≤◌, ◌<◌, ℕ, List, [], length, None, Some, IfSome, IsTrue, ◌↔◌};
 ghost use Rattle.ac_util.specs.declared.search.MatchKind.{MatchKind};
 ghost use Rattle.ac_util.specs.Pick.{order_of};
 ghost use Rattle.ac_util.specs.declared.search.Anchored.{Anchored};
 ghost use Rattle.ac_util.specs.Built.{Built, found};
 ghost use Rattle.ac_util.specs.Node.{Node};
 ghost use Rattle.ac_util.specs.Refusal.{start_refusal};
-ghost use Rattle.ac_automaton.specs.Cores.{FitsIn, Reads, StopsAtMatch, asked_of, found_at};
+ghost use Rattle.ac_automaton.specs.Cores.{FitsIn, Reads, StopsAtMatch, Tells, asked_of, found_at, most_looks};
 
 use super::Automaton;
 use ac_util::looks::{Looks, Tape};
@@ -17,9 +17,10 @@ use ac_util::search::{Anchored, Match, MatchKind, Span};
 /// the one that `MatchKind::Standard` picks.
 ///
 /// The automaton has to support the anchoring; the span has to end within the haystack, to start no later than one past its
-/// end, and not before the tape's place of reading. Each byte is read at most once, and states are looked at no more often
-/// than `LOOKS` times for each byte read. Under `MatchKind::Standard` or with `earliest` no byte past the end of the match is
-/// read, so the next find can go on with the same tape.
+/// end, and not before the tape's place of reading. Each byte is read at most once, and each byte of the match is. For each
+/// byte read states are looked at once in an anchored search, and else at least once and at most `LOOKS` times on the whole.
+/// Under `MatchKind::Standard` or with `earliest` no byte past the end of the match is read, so the next find can go on with
+/// the same tape.
 #[inline]
 pub fn find_core<A: Automaton>(
     automaton: &A,
@@ -36,7 +37,8 @@ pub fn find_core<A: Automaton>(
     requires unread { tape.old.place ≤ start }
     ensures pick { result ≡ found (A.built automaton.now)
         (asked_of tape.old.bytes start end anchored earliest) }
-    ensures reads { Reads A.LOOKS start end tape.old tape.new looks.old looks.new }
+    ensures reads { Reads (most_looks anchored A.LOOKS) start end tape.old tape.new looks.old looks.new }
+    ensures tells { IfSome result (Tells looks.old looks.new) }
     ensures stops { StopsAtMatch (A.built automaton.now).kind earliest start result
         tape.old tape.new looks.old looks.new }
 {

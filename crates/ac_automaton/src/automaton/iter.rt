@@ -1,13 +1,12 @@
 //! The matches of a walk, one after another.
 ghost use Rattle.std.specs.Prelude.{◌≡◌, ◌+◌, ◌≤◌, ℕ, [], ◌∷◌, ⊤, IfSome, None, MatchOption};
 ghost use Rattle.std.specs.Iterator.{MakesProgress, YieldsFirst, item_count};
-ghost use Rattle.ac_util.specs.declared.search.MatchKind.TheVariants.{Standard};
 ghost use Rattle.ac_util.specs.Built.{found};
 ghost use Rattle.ac_util.specs.Inputs.{asked};
 ghost use Rattle.ac_util.specs.Pick.{order_of};
 ghost use Rattle.ac_util.specs.Refusal.{start_refusal};
 ghost use Rattle.ac_util.specs.Walk.{repeats};
-ghost use Rattle.ac_automaton.specs.Cores.{Grows};
+ghost use Rattle.ac_automaton.specs.Cores.{Grows, Tells, kept};
 ghost use Rattle.ac_automaton.specs.Iterators.{GoesOn, IsPaid, Left, after, begun, next_of};
 
 use super::Automaton;
@@ -19,9 +18,10 @@ use std::snapshot::Snapshot;
 
 /// An iterator over the matches of an input that don't overlap, made by `Automaton::try_find_iter`.
 ///
-/// After its end it keeps giving `None`. Contracts see the matches still to come and what was counted.
-/// Under `MatchKind::Standard`, or with `earliest`, it reads each byte at most once on the whole; else it
-/// counts anew for each match, since a leftmost search may read on past the end of what it picks.
+/// After its end it keeps giving `None`. Contracts see the matches still to come and what was counted: each byte of a match
+/// that it gives was read, and for each byte read it has looked at states once where it is anchored, and else at least once
+/// and at most `LOOKS` times on the whole. Under `MatchKind::Standard`, or with `earliest`, it reads each byte at most once on
+/// the whole; else it counts anew for each search, since a leftmost one may read on past the end of what it picks.
 #[derive(Drop)]
 pub struct FindIter<'a, 'h, A: Automaton> {
     automaton: &'a A,
@@ -46,6 +46,7 @@ impl<'a, 'h, A: Automaton> Model for FindIter<'a, 'h, A> {
     ghost view = { λ s. record {
       rest = rest_of (A.built s.automaton.now) (asked s.input) s.last;
       order = order_of (A.built s.automaton.now).kind s.input.earliest;
+      anchored = s.input.anchored;
       span = s.input.end - s.from.value;
       counts = s.looks;
     } };
@@ -79,6 +80,7 @@ impl<'a, 'h, A: Automaton> FindIter<'a, 'h, A> {
             ((self.old.rest ≡ []) × (self.new.rest ≡ []))
             (λ found. self.old.rest ≡ found ∷ self.new.rest) }
         ensures goes_on { GoesOn self.old self.new }
+        ensures tells { IfSome result (Tells (kept self.old.order self.old.counts) self.new.counts) }
         ensures paid { IsPaid A.LOOKS self.new }
     {
         let found = next_left(
@@ -111,8 +113,9 @@ fn next_left<'h, A: Automaton>(
     ensures moves { asked input.new ≡ record (asked input.old) { start = after (asked input.old) result } }
     ensures left { (from : ℕ) → Left A.LOOKS (A.built automaton.now) (asked input.old) from tape.old looks.old
         → Left A.LOOKS (A.built automaton.now) (asked input.new) from tape.new looks.new }
-    ensures grows { order_of (A.built automaton.now).kind (asked input.old).earliest ≡ Standard
-        → Grows looks.old looks.new }
+    ensures grows { Grows (kept (order_of (A.built automaton.now).kind (asked input.old).earliest) looks.old) looks.new }
+    ensures tells { IfSome result
+        (Tells (kept (order_of (A.built automaton.now).kind (asked input.old).earliest) looks.old) looks.new) }
 {
     let first = find_left(automaton, input, tape, looks);
     if repeats(&first, last) {
@@ -162,8 +165,9 @@ fn find_left<'h, A: Automaton>(
     ensures left { (from : ℕ) → Left A.LOOKS (A.built automaton.now) (asked input.now) from tape.old looks.old
         → Left A.LOOKS (A.built automaton.now) (record (asked input.now) { start = after (asked input.now) result })
         from tape.new looks.new }
-    ensures grows { order_of (A.built automaton.now).kind (asked input.now).earliest ≡ Standard
-        → Grows looks.old looks.new }
+    ensures grows { Grows (kept (order_of (A.built automaton.now).kind (asked input.now).earliest) looks.old) looks.new }
+    ensures tells { IfSome result
+        (Tells (kept (order_of (A.built automaton.now).kind (asked input.now).earliest) looks.old) looks.new) }
 {
     let earliest = input.get_earliest();
     if !stops_at_match(automaton.match_kind(), earliest) {
@@ -192,6 +196,7 @@ impl<'a, 'h, A: Automaton> Iterator for FindIter<'a, 'h, A> {
         ensures steps { YieldsFirst (λ s. s.rest) self.old result self.new }
         ensures goes { MakesProgress (λ _. ⊤) (item_count (λ s. s.rest)) self.old result self.new }
         ensures goes_on { GoesOn self.old self.new }
+        ensures tells { IfSome result (Tells (kept self.old.order self.old.counts) self.new.counts) }
         ensures paid { IsPaid A.LOOKS self.new }
     {
         self.advance()

@@ -1,7 +1,7 @@
 use Rattle.std.proofs.Common.{◌≡◌}
 use Rattle.ac_util.specs.Pick.{pick}
 use Rattle.ac_util.proofs.SearchLoop.{GoesOn, credit}
-use Rattle.ac_automaton.specs.Cores.{asked_of}
+use Rattle.ac_automaton.specs.Cores.{asked_of, most_looks}
 use Rattle.ac_automaton.proofs.FindLoop.{up_to, node_at, order}
 use Rattle.ac_automaton.proofs.ReadOn.{ReadOn}
 use Rattle.ac_automaton.proofs.automaton.find.find_core.Given as goal
@@ -15,5 +15,6 @@ invariant-loop-at g l =
       stands : A.stands l.automaton l.anchored l.sid (node_at built asked l.at);
       picked : l.last ≡ pick (order built asked) (up_to built asked l.at);
       goes_on : GoesOn built.kind (order built asked) l.last;
-      read : ReadOn A.LOOKS l.start l.at (credit A.LOOKS (node_at built asked l.at)) l.fn.tape l.tape l.fn.looks l.looks;
+      read : ReadOn (most_looks l.anchored A.LOOKS) l.start l.at (credit (most_looks l.anchored A.LOOKS) (node_at built asked l.at))
+          l.fn.tape l.tape l.fn.looks l.looks;
     }
