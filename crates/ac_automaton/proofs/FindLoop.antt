@@ -23,7 +23,7 @@ use Rattle.ac_util.proofs.OneLonger.{text-empty, step-longer, pick-empty_none, p
 use Rattle.ac_util.proofs.SearchLoop.{credit, looks_by-once, step-paid, GoesOn, pick-goes_on, pick-found, pick-stays_dead}
 use Rattle.ac_util.specs.Sameness.{plain_byte}
 use Rattle.ac_automaton.specs.Automata.{plain_of, step_of, looks_of, matches_of}
-use Rattle.ac_automaton.specs.Cores.{place_of, FitsIn, Tells, found_at, most_looks}
+use Rattle.ac_automaton.specs.Cores.{place_of, FitsIn, Tells, found_at, most_looks, node_at as node_of}
 
 depth-held : (u : List ℕ) (t : Bool) → cond t (Some u) None ≢ None → depth (cond t (Some u) None) ≡ length u
 depth-held u true some = refl
@@ -61,7 +61,7 @@ module _ (built : Built) (asked : Asked) where
   up_to at = record (search_in built asked) { high = at }
 
   abbrev pub node_at : ℕ → Node
-  node_at at = reached built.kind (plain_of built) asked.anchored (text (up_to at))
+  node_at = node_of built asked
 
   abbrev pub order : MatchKind
   order = order_of built.kind asked.earliest

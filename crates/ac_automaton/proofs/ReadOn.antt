@@ -40,8 +40,8 @@ module _ (most start at saved : ℕ) (tape new_tape : Taped) (counts new_counts 
       }
 
   -- this is what a search may do
-  pub reads-so_far : (end : ℕ) → at ≤ end → Reads most start end tape new_tape counts new_counts
-  reads-so_far end up =
+  pub reads-so_far : (end : ℕ) → tape.place ≤ start → at ≤ end → Reads most start end tape new_tape counts new_counts
+  reads-so_far end unread up =
       let o = read.onward in let w = read.within in let h = read.reached in let r = read.reads in let p = read.paid in let k = read.calls in
       let all : new_counts.reads - counts.reads ≡ at - start = omega arith in record {
         bytes = read.bytes;
@@ -49,6 +49,7 @@ module _ (most start at saved : ℕ) (tape new_tape : Taped) (counts new_counts 
         within = omega arith;
         grows = record { reads = omega arith; looks = (let l = read.looked in rw all (omega arith)); calls = omega arith };
         told = λ moved. let t = read.told moved in omega arith;
+        whole = λ _. omega arith;
         reads = omega arith;
         looks = rw all (omega arith);
         calls = omega arith;

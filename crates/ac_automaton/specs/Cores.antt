@@ -6,10 +6,11 @@ use Rattle.ac_util.specs.declared.search.MatchKind.{MatchKind}
 use Rattle.ac_util.specs.declared.search.MatchKind.TheVariants.{Standard, LeftmostFirst, LeftmostLongest}
 use Rattle.ac_util.specs.Occurrence.{Occurrence, occurrence}
 use Rattle.ac_util.specs.Search.{pattern_of}
-use Rattle.ac_util.specs.Built.{Built}
+use Rattle.ac_util.specs.Built.{Built, search_in}
 use Rattle.ac_util.specs.Pick.{order_of}
-use Rattle.ac_util.specs.Node.{Node, depth}
-use Rattle.ac_automaton.specs.Automata.{matches_of}
+use Rattle.ac_util.specs.Node.{Node, depth, reached}
+use Rattle.ac_util.specs.Text.{text}
+use Rattle.ac_automaton.specs.Automata.{matches_of, plain_of}
 use Rattle.ac_util.specs.Counts.{Counts, Taped, no_counts}
 use Rattle.ac_util.specs.Input.{Asked}
 
@@ -46,15 +47,16 @@ kept Standard counts = counts
 kept LeftmostFirst counts = no_counts
 kept LeftmostLongest counts = no_counts
 
--- a search of start..end has read on from the start, each byte once and none past the end, and has counted that it did; it has
--- looked at states at least once and at most `most` times for each byte read, and has called the prefilter at most once for
--- each byte of the span
+-- a search of start..end has read on from the start, each byte once and none past the end, and has counted that it did: each
+-- byte that it passed over, unless it called the prefilter; it has looked at states at least once and at most `most` times for
+-- each byte read, and has called the prefilter at most once for each byte of the span
 pub record Reads (most start end : ℕ) (tape new_tape : Taped) (counts new_counts : Counts) : Type 0 where
   pub bytes : new_tape.bytes ≡ tape.bytes
   pub onward : tape.place ≤ new_tape.place
   pub within : new_tape.place ≤ max tape.place end
   pub grows : Grows counts new_counts
   pub told : tape.place < new_tape.place → counts.reads < new_counts.reads
+  pub whole : new_counts.calls ≡ counts.calls → counts.reads + (new_tape.place - start) ≤ new_counts.reads
   pub reads : new_counts.reads ≤ counts.reads + (new_tape.place - start)
   pub looks : new_counts.looks ≤ counts.looks + most * (new_counts.reads - counts.reads)
   pub calls : new_counts.calls ≤ counts.calls + (end - start)
@@ -68,6 +70,14 @@ pub record ReadsTo (m : Occurrence) (start : ℕ) (tape new_tape : Taped) (count
 abbrev pub StopsAtMatch : MatchKind → Bool → ℕ → Option Occurrence → Taped → Taped → Counts → Counts → Type 0
 StopsAtMatch kind earliest start r tape new_tape counts new_counts =
     order_of kind earliest ≡ Standard → IfSome r (λ m. ReadsTo m start tape new_tape counts new_counts)
+
+-- the node that an automaton reaches by what it is asked to search, read up to a place
+abbrev pub node_at : Built → Asked → ℕ → Node
+node_at built asked at = reached built.kind (plain_of built) asked.anchored (text (record (search_in built asked) { high = at }))
+
+-- no byte was read from the dead node on: there nothing more is found
+abbrev pub StopsAtDead : Built → Asked → Taped → Type 0
+StopsAtDead built asked new_tape = (at : ℕ) → asked.start ≤ at → at < new_tape.place → node_at built asked at ≢ None
 
 -- where a pattern stands that ends at a place
 abbrev pub place_of : Built → ℕ → ℕ → Occurrence

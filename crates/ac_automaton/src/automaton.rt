@@ -141,11 +141,12 @@ pub trait Automaton {
             × (r ≡ found (built self.now) (asked input.entry)))
             (λ e. find_refusal (built self.now) (asked input.entry) ≡ Some e) }
     {
-        let _start = self.start_state(input.get_anchored())?;
+        let anchored = input.get_anchored();
+        let _start = self.start_state(anchored)?;
         let (mut tape, mut looks) = open(&input);
         Ok(find_core(
             self,
-            input.get_anchored(),
+            anchored,
             input.get_earliest(),
             input.start(),
             input.end(),

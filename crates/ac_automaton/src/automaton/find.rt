@@ -6,7 +6,7 @@ ghost use Rattle.ac_util.specs.declared.search.Anchored.{Anchored};
 ghost use Rattle.ac_util.specs.Built.{Built, found};
 ghost use Rattle.ac_util.specs.Node.{Node};
 ghost use Rattle.ac_util.specs.Refusal.{start_refusal};
-ghost use Rattle.ac_automaton.specs.Cores.{FitsIn, Reads, StopsAtMatch, Tells, asked_of, found_at, most_looks};
+ghost use Rattle.ac_automaton.specs.Cores.{FitsIn, Reads, StopsAtDead, StopsAtMatch, Tells, asked_of, found_at, most_looks};
 
 use super::Automaton;
 use ac_util::looks::{Looks, Tape};
@@ -19,6 +19,7 @@ use ac_util::search::{Anchored, Match, MatchKind, Span};
 /// The automaton has to support the anchoring; the span has to end within the haystack, to start no later than one past its
 /// end, and not before the tape's place of reading. Each byte is read at most once, and each byte of the match is. For each
 /// byte read states are looked at once in an anchored search, and else at least once and at most `LOOKS` times on the whole.
+/// No byte is read once nothing more can be found, as where an anchored search has left all patterns.
 /// Under `MatchKind::Standard` or with `earliest` no byte past the end of the match is read, so the next find can go on with
 /// the same tape.
 #[inline]
@@ -41,6 +42,7 @@ pub fn find_core<A: Automaton>(
     ensures tells { IfSome result (Tells looks.old looks.new) }
     ensures stops { StopsAtMatch (A.built automaton.now).kind earliest start result
         tape.old tape.new looks.old looks.new }
+    ensures dead { StopsAtDead (A.built automaton.now) (asked_of tape.old.bytes start end anchored earliest) tape.new }
 {
     let Ok(mut sid) = automaton.start_state(anchored) else {
         unreachable!()

@@ -1,4 +1,4 @@
-use Rattle.std.proofs.Common.{◌≡◌}
+use Rattle.std.proofs.Common.{◌≡◌, ◌≢◌, ◌≤◌, ℕ, None}
 use Rattle.ac_util.specs.Pick.{pick}
 use Rattle.ac_util.proofs.SearchLoop.{GoesOn, credit}
 use Rattle.ac_automaton.specs.Cores.{asked_of, most_looks}
@@ -15,6 +15,7 @@ invariant-loop-at g l =
       stands : A.stands l.automaton l.anchored l.sid (node_at built asked l.at);
       picked : l.last ≡ pick (order built asked) (up_to built asked l.at);
       goes_on : GoesOn built.kind (order built asked) l.last;
+      alive : (k : ℕ) → l.start ≤ k → k ≤ l.at → node_at built asked k ≢ None;
       read : ReadOn (most_looks l.anchored A.LOOKS) l.start l.at (credit (most_looks l.anchored A.LOOKS) (node_at built asked l.at))
           l.fn.tape l.tape l.fn.looks l.looks;
     }
