@@ -19,7 +19,8 @@ use ac_util::search::{Anchored, Match, MatchKind, Span};
 /// The automaton has to support the anchoring; the span has to end within the haystack, to start no later than one past its
 /// end, and not before the tape's place of reading. Each byte is read at most once, and each byte of the match is. For each
 /// byte read states are looked at once in an anchored search, and else at least once and at most `LOOKS` times on the whole.
-/// No byte is read once nothing more can be found, as where an anchored search has left all patterns.
+/// No byte is read from the dead node on, where nothing more is found: there an anchored search stands once it has left all
+/// patterns, and a leftmost one once its match can't change.
 /// Under `MatchKind::Standard` or with `earliest` no byte past the end of the match is read, so the next find can go on with
 /// the same tape.
 #[inline]
