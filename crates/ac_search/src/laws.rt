@@ -8,8 +8,11 @@ ghost use Rattle.ac_util.specs.Search.{Occurs};
 ghost use Rattle.ac_util.specs.Stream.{shortest_len};
 
 pub use ac_util::laws::{
-    earliest_is_standard, listing_is_exact, only_the_span_counts, pick_comes_first,
-    sameness_is_by_letter, walk_has_beginnings, walk_is_in_order,
+    defaults_are_told, earliest_is_standard, equal_values_hash_equally,
+    errors_compare_by_their_fields, greatest_number_is_told, listing_is_exact,
+    numbers_compare_as_numbers, only_the_span_counts, pick_comes_first, sameness_is_by_letter,
+    values_compare_by_their_fields, values_hash_by_their_fields, walk_goes_on, walk_has_beginnings,
+    walk_is_in_order,
 };
 
 /// Something occurs exactly if a find answers a match, whatever the match kind and `earliest`.
