@@ -70,6 +70,23 @@ impl State {
     }
 }
 
+/// Up to how many transitions are looked through one by one, which is faster for few.
+const FEW: usize = 8;
+
+/// Returns the target of the transition by a byte, if there is one.
+#[inline]
+fn target_among(own: &[Transition], byte: u8) -> Option<StateID>
+    ensures { MatchOption result (Contains (bytes_of own.now) byte → ⊥) (λ target.
+        (k : ℕ) × (slice_get own.now k ≡ Some (record { byte = byte; target = target }))) }
+{
+    for next in own {
+        if next.byte == byte {
+            return Some(next.target);
+        }
+    }
+    None
+}
+
 /// Returns the state to which a byte leads, if there is a transition by it.
 #[inline]
 fn target(state: &State, transitions: &[Transition], byte: u8) -> Option<StateID>
@@ -80,6 +97,9 @@ fn target(state: &State, transitions: &[Transition], byte: u8) -> Option<StateID
         (k : ℕ) × (slice_get (transitions_of transitions.now state.now) k ≡ Some (record { byte = byte; target = target }))) }
 {
     let own = &transitions[state.transitions as usize..state.transitions_end as usize];
+    if own.len() <= FEW {
+        return target_among(own, byte);
+    }
     match own.binary_search_by_key(&byte, |t| t.byte) {
         Ok(place) => Some(own[place].target),
         Err(_) => None,
