@@ -48,6 +48,20 @@ pub(super) const FINDS: &[Row] = &[
         &[(1, 0, 3)],
     ),
     (
+        "Samwise, Sam: the least number",
+        &[LeftmostFirst],
+        &[b"Samwise", b"Sam"],
+        b"Samwise",
+        &[(0, 0, 7)],
+    ),
+    (
+        "abc, bd, an empty pattern",
+        &[LeftmostFirst],
+        &[b"abc", b"bd", b""],
+        b"abd",
+        &[(2, 0, 0)],
+    ),
+    (
         "abcd fails, bc stands",
         &[LeftmostFirst],
         &[b"abcd", b"bc"],
@@ -116,6 +130,13 @@ pub(super) const ANCHORED_FINDS: &[Row] = &[
         &[],
     ),
     (
+        "anchored: abcd behind foo",
+        EACH,
+        &[b"b", b"abc", b"abcd"],
+        b"foo abcd",
+        &[],
+    ),
+    (
         "anchored: b in xb",
         EACH,
         &[b"b", b"abc", b"abcd"],
@@ -125,6 +146,41 @@ pub(super) const ANCHORED_FINDS: &[Row] = &[
 ];
 
 pub(super) const WALKS: &[Row] = &[
+    (
+        "a pattern and its end, the least number",
+        &[LeftmostFirst],
+        &[b"a", b"abcdefghi", b"hz", b"abcdefgh"],
+        b"abcdefghz",
+        &[(0, 0, 1), (2, 7, 9)],
+    ),
+    (
+        "a pattern and its end, the longest",
+        &[LeftmostLongest],
+        &[b"a", b"abcdefghi", b"hz", b"abcdefgh"],
+        b"abcdefghz",
+        &[(3, 0, 8)],
+    ),
+    (
+        "a pattern that holds another",
+        &[LeftmostFirst, LeftmostLongest],
+        &[b"b", b"abcdefghi", b"hz", b"abcdefgh"],
+        b"abcdefghz",
+        &[(3, 0, 8)],
+    ),
+    (
+        "abc, bd, an empty pattern",
+        &[LeftmostFirst],
+        &[b"abc", b"bd", b""],
+        b"abd",
+        &[(2, 0, 0), (1, 1, 3)],
+    ),
+    (
+        "FOO with case",
+        EACH,
+        &[b"FOO", b"bAr", b"BaZ"],
+        b"foo bar baz",
+        &[],
+    ),
     (
         "maple and apple",
         EACH,
@@ -255,15 +311,41 @@ pub(super) const FOLDED_FINDS: &[Row] = &[
     ),
 ];
 
-pub(super) const FOLDED_WALKS: &[Row] = &[(
-    "without case: FOO, bAr, BaZ",
-    EACH,
-    &[b"FOO", b"bAr", b"BaZ"],
-    b"foo bar baz",
-    &[(0, 0, 3), (1, 4, 7), (2, 8, 11)],
-)];
+pub(super) const FOLDED_WALKS: &[Row] = &[
+    (
+        "without case: FOO, bAr, BaZ",
+        EACH,
+        &[b"FOO", b"bAr", b"BaZ"],
+        b"foo bar baz",
+        &[(0, 0, 3), (1, 4, 7), (2, 8, 11)],
+    ),
+    (
+        "without case: maple and apple",
+        EACH,
+        &[b"apple", b"maple", b"snapple"],
+        b"Nobody likes maple in their apple flavored Snapple.",
+        &[(1, 13, 18), (0, 28, 33), (2, 43, 50)],
+    ),
+];
 
 /// Rows of searches for the earliest end.
+pub(super) const EARLIEST_FINDS: &[Row] = &[
+    (
+        "earliest: abcd",
+        EACH,
+        &[b"b", b"abc", b"abcd"],
+        b"abcd",
+        &[(0, 1, 2)],
+    ),
+    (
+        "earliest: foo abcd",
+        EACH,
+        &[b"b", b"abc", b"abcd"],
+        b"foo abcd",
+        &[(0, 5, 6)],
+    ),
+];
+
 pub(super) const EARLIEST_WALKS: &[Row] = &[(
     "earliest: b, abc, abcd",
     EACH,

@@ -1,6 +1,6 @@
 use super::rows::{
-    ANCHORED_EARLIEST_FINDS, ANCHORED_FINDS, ANCHORED_WALKS, EARLIEST_WALKS, FINDS, FOLDED_FINDS,
-    FOLDED_WALKS, Row, WALKS,
+    ANCHORED_EARLIEST_FINDS, ANCHORED_FINDS, ANCHORED_WALKS, EARLIEST_FINDS, EARLIEST_WALKS, FINDS,
+    FOLDED_FINDS, FOLDED_WALKS, Row, WALKS,
 };
 use super::{Told, builder, told, walk_of};
 use crate::automaton::Automaton;
@@ -11,9 +11,10 @@ use std::test::Fail;
 /// Rows, whether case is ignored in them, how the search is anchored, and whether it asks for the earliest end.
 type Table = (&'static [Row], bool, Anchored, bool);
 
-const FIND_TABLES: [Table; 4] = [
+const FIND_TABLES: [Table; 5] = [
     (FINDS, false, No, false),
     (FOLDED_FINDS, true, No, false),
+    (EARLIEST_FINDS, false, No, true),
     (ANCHORED_FINDS, false, Yes, false),
     (ANCHORED_EARLIEST_FINDS, false, Yes, true),
 ];
