@@ -1,7 +1,7 @@
 //! The searcher, which chooses its engine.
-ghost use Rattle.std.specs.Prelude.{◌≡◌, ◌↔◌, ⊤, Err, IfSome, IsTrue, MatchOption, MatchResult, None, Some, length, map};
+ghost use Rattle.std.specs.Prelude.{◌≡◌, ◌↔◌, Err, IsTrue, MatchOption, MatchResult, None, Some, length, map};
 ghost use Rattle.ac_util.specs.declared.search.StartKind;
-ghost use Rattle.std.specs.Iterator.{MakesProgress, YieldsFirst, item_count};
+ghost use Rattle.std.specs.Iterator.{YieldsFirst, item_count};
 ghost use Rattle.ac_util.specs.Built.{find_refusal, found, search_in};
 ghost use Rattle.ac_util.specs.Inputs.{asked};
 ghost use Rattle.ac_util.specs.Limits.{limit_refusal};
@@ -11,8 +11,7 @@ ghost use Rattle.ac_util.specs.Sameness.{plain};
 ghost use Rattle.ac_util.specs.Search.{Occurs};
 ghost use Rattle.ac_util.specs.Stream.{longest_len, shortest_len};
 ghost use Rattle.ac_automaton.specs.Builds.{IsRefused};
-ghost use Rattle.ac_automaton.specs.Cores.{Tells, kept};
-ghost use Rattle.ac_automaton.specs.Iterators.{GoesOn, IsPaid, begun};
+ghost use Rattle.ac_automaton.specs.Iterators.{begun};
 ghost use Rattle.ac_search.specs.Searchers.{IsBuilt, usual_settings};
 
 use ac_automaton::automaton;
@@ -282,13 +281,7 @@ impl<'a, 'h, A: Allocator> Iterator for FindIter<'a, 'h, A> {
     ghost remaining = { item_count (λ s. s.rest) };
 
     #[inline]
-    fn next(&mut self) -> Option<Match>
-        ensures steps { YieldsFirst (λ s. s.rest) self.old result self.new }
-        ensures goes { MakesProgress (λ _. ⊤) (item_count (λ s. s.rest)) self.old result self.new }
-        ensures goes_on { GoesOn self.old self.new }
-        ensures tells { IfSome result (Tells (kept self.old.order self.old.counts) self.new.counts) }
-        ensures paid { IsPaid 2 self.new }
-    {
+    fn next(&mut self) -> Option<Match> {
         match &mut self.finding {
             Finding::ByNoncontiguous(matches) => matches.next(),
         }

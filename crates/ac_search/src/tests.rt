@@ -171,3 +171,28 @@ fn a_clone_answers_equally(rt: HostRuntime) -> Result<(), Fail> {
     assert_eq!(rt; clone.patterns_len(), 3);
     Ok(())
 }
+
+#[test]
+fn anchored_walks_go_on_from_each_end(rt: HostRuntime) -> Result<(), Fail> {
+    for kind in [StartKind::Both, StartKind::Anchored] {
+        let mut builder = AhoCorasickBuilder::new();
+        builder.start_kind(kind);
+        builder.match_kind(LeftmostFirst);
+        let three = builder.build(rt.alloc(), &[b"foo", b"bar", b"quux"])?;
+        let input = Input::new(b"fooquuxbar foo").anchored(Anchored::Yes);
+        let walked = walk_of(rt, &three, input)?;
+        let wanted = [(0, 0, 3), (2, 3, 7), (1, 7, 10)];
+        assert_eq!(rt; walked.as_slice(), wanted.as_slice(), "{kind:?}");
+        let nested = builder.build(rt.alloc(), &[b"b", b"abc", b"abcd"])?;
+        let input = Input::new(b"foo abcd").anchored(Anchored::Yes);
+        assert_eq!(rt; nested.try_find(input)?, None, "{kind:?}");
+        let found = nested.try_find(input.range(4..8))?.map(|m| told(&m));
+        assert_eq!(rt; found, Some((1, 4, 7)), "{kind:?}");
+        builder.match_kind(LeftmostLongest);
+        let empty = builder.build(rt.alloc(), &[b"", b"a"])?;
+        let walked = walk_of(rt, &empty, Input::new(b"ba").anchored(Anchored::Yes))?;
+        let wanted = [(0, 0, 0), (1, 1, 2)];
+        assert_eq!(rt; walked.as_slice(), wanted.as_slice(), "{kind:?}");
+    }
+    Ok(())
+}

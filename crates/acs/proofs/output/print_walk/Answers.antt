@@ -9,9 +9,12 @@ use Rattle.acs.proofs.Printing.{printing-adds, printing-begins, printing-ends, p
 use Rattle.acs.proofs.output.print_walk.Goals as goal
 
 pub loop-m-init : goal.loop-m-init
-loop-m-init g c =
-    rw (c.into_iter-m-iterator.ensures.into_iter_gives, c.new-text.ensures.bytes)
-        (printing-begins c.args.matches.rest (g.W.Sink.told c.args.writer.now))
+loop-m-init g c = (
+  rw (c.into_iter-m-iterator.ensures.into_iter_gives, c.new-text.ensures.bytes)
+      (printing-begins c.args.matches.rest (g.W.Sink.told c.args.writer.now)),
+  tt,
+  tt,
+)
 
 -- the line found no room in memory
 pub returns-in_err-add_line : goal.returns-in_err-add_line
@@ -20,14 +23,14 @@ returns-in_err-add_line g c =
     refused-by c.from_residual.result Memory _ (FailsToPrint (told c.args.writer.now) (told c.loop-m.writer) (lines c.args.matches.rest))
     c.from_residual.ensures.1
     (printing-wants c.args.matches.rest c.loop-m.m-iterator.rest (told c.args.writer.now) (told c.loop-m.writer) (string_bytes c.loop-m.text)
-    c.loop-m.outcome c.loop-m.invariant)
+    c.loop-m.outcome c.loop-m.invariant.0)
 
 -- the lines so far could not be written
 pub returns-in_err-write_all : goal.returns-in_err-write_all
 returns-in_err-write_all g c =
     let told = g.W.Sink.told in
     let added = printing-adds c.args.matches.rest c.loop-m.m-iterator.rest (told c.args.writer.now) (told c.loop-m.writer) (string_bytes c.loop-m.text)
-    c.loop-m.outcome c.loop-m.invariant c.in-Some.m c.next.new.self.rest c.in-Some.ensures.steps in
+    c.loop-m.outcome c.loop-m.invariant.0 c.in-Some.m c.next.new.self.rest c.in-Some.ensures.steps in
     let text : c.as_bytes.result.now ≡ string_bytes c.loop-m.text ++ line c.in-Some.m = c.as_bytes.ensures.value ∙ c.in_ok-add_line.ensures in
     refused-by c.from_residual-in_err-write_all.result c.in_err-write_all.field-0.0 _
     (FailsToPrint (told c.args.writer.now) (told c.write_all.new.writer) (lines c.args.matches.rest))
@@ -40,19 +43,25 @@ pub loop-m-preserved-then-len-ge-FULL : goal.loop-m-preserved-then-len-ge-FULL
 loop-m-preserved-then-len-ge-FULL g c =
     let told = g.W.Sink.told in
     let added = printing-adds c.args.matches.rest c.loop-m.m-iterator.rest (told c.args.writer.now) (told c.loop-m.writer) (string_bytes c.loop-m.text)
-    c.loop-m.outcome c.loop-m.invariant c.in-Some.m c.next.new.self.rest c.in-Some.ensures.steps in
-    let text : c.as_bytes.result.now ≡ string_bytes c.loop-m.text ++ line c.in-Some.m = c.as_bytes.ensures.value ∙ c.in_ok-add_line.ensures in
-    rw c.clear.ensures.bytes
-        (printing-writes c.args.matches.rest c.next.new.self.rest (told c.args.writer.now) (told c.loop-m.writer) (string_bytes c.loop-m.text ++ line c.in-Some.m)
-        Found added (told c.write_all.new.writer)
-        (subst (λ (bytes : List ℕ). WritesAll (told c.loop-m.writer) (told c.write_all.new.writer) bytes) text c.in_ok-write_all.ensures))
+    c.loop-m.outcome c.loop-m.invariant.0 c.in-Some.m c.next.new.self.rest c.in-Some.ensures.steps in
+    let text : c.as_bytes.result.now ≡ string_bytes c.loop-m.text ++ line c.in-Some.m = c.as_bytes.ensures.value ∙ c.in_ok-add_line.ensures in (
+      rw c.clear.ensures.bytes
+          (printing-writes c.args.matches.rest c.next.new.self.rest (told c.args.writer.now) (told c.loop-m.writer) (string_bytes c.loop-m.text ++ line c.in-Some.m)
+          Found added (told c.write_all.new.writer)
+          (subst (λ (bytes : List ℕ). WritesAll (told c.loop-m.writer) (told c.write_all.new.writer) bytes) text c.in_ok-write_all.ensures)),
+      tt,
+      tt,
+    )
 
 pub loop-m-preserved : goal.loop-m-preserved
 loop-m-preserved g c =
-    let told = g.W.Sink.told in
-    rw c.in_ok-add_line.ensures
-        (printing-adds c.args.matches.rest c.loop-m.m-iterator.rest (told c.args.writer.now) (told c.loop-m.writer) (string_bytes c.loop-m.text)
-        c.loop-m.outcome c.loop-m.invariant c.in-Some.m c.next.new.self.rest c.in-Some.ensures.steps)
+    let told = g.W.Sink.told in (
+      rw c.in_ok-add_line.ensures
+          (printing-adds c.args.matches.rest c.loop-m.m-iterator.rest (told c.args.writer.now) (told c.loop-m.writer) (string_bytes c.loop-m.text)
+          c.loop-m.outcome c.loop-m.invariant.0 c.in-Some.m c.next.new.self.rest c.in-Some.ensures.steps),
+      tt,
+      tt,
+    )
 
 -- the last lines could not be written
 pub returns-in_err-write_all-2 : goal.returns-in_err-write_all-2
@@ -62,7 +71,7 @@ returns-in_err-write_all-2 g c =
     (FailsToPrint (told c.args.writer.now) (told c.write_all-2.new.writer) (lines c.args.matches.rest))
     c.from_residual-in_err-write_all-2.ensures.1
     (printing-fails c.args.matches.rest c.loop-m.m-iterator.rest (told c.args.writer.now) (told c.loop-m.writer) (string_bytes c.loop-m.text)
-    c.loop-m.outcome c.loop-m.invariant (told c.write_all-2.new.writer) c.in_err-write_all-2.field-0.0
+    c.loop-m.outcome c.loop-m.invariant.0 (told c.write_all-2.new.writer) c.in_err-write_all-2.field-0.0
     (subst (λ (bytes : List ℕ). FailsToWrite (told c.loop-m.writer) (told c.write_all-2.new.writer) bytes c.in_err-write_all-2.field-0.0) c.as_bytes-2.ensures.value
     c.in_err-write_all-2.ensures))
 
@@ -70,5 +79,5 @@ pub returns : goal.returns
 returns g c =
     let told = g.W.Sink.told in
     printing-ends c.args.matches.rest c.loop-m.m-iterator.rest (told c.args.writer.now) (told c.loop-m.writer) (string_bytes c.loop-m.text)
-    c.loop-m.outcome c.loop-m.invariant (told c.write_all-2.new.writer) c.in-None.ensures.steps.0
+    c.loop-m.outcome c.loop-m.invariant.0 (told c.write_all-2.new.writer) c.in-None.ensures.steps.0
     (subst (λ (bytes : List ℕ). WritesAll (told c.loop-m.writer) (told c.write_all-2.new.writer) bytes) c.as_bytes-2.ensures.value c.in_ok-write_all-2.ensures)
