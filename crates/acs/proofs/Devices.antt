@@ -4,18 +4,13 @@ use Rattle.std.proofs.lemmas.Bool.Decides.{nat_tests}
 use Rattle.std.specs.Prelude.{slice_range}
 use Rattle.std.specs.Io.{StartsWith}
 use Rattle.std.specs.Io.KnownBytes.{Appends, Consumes}
-use Rattle.std.proofs.Math.Seq.{take-add, take-append_seam, take-length}
+use Rattle.std.proofs.Math.Seq.{take-add, take-length}
 use Rattle.std.proofs.KnownBytes.{Appends-trans, Consumes-trans}
 use Rattle.ac_util.specs.Device.{Reading, Took, idle}
 
 -- what was read so far with what a read has taken
 pub read-more : (a b c : Reading) (bs piece : List ℕ) (n : ℕ) → Consumes a.left b.left bs → Took b c piece n → Consumes a.left c.left (bs ++ take n piece)
 read-more a b c bs piece n p t = Consumes-trans a.left b.left c.left bs (take n piece) p t.moved
-
--- a buffer that was lent as a whole is what came back
-pub written-whole : (xs ys : List ℕ) (len : ℕ) → length xs ≡ len → take len (xs ++ drop (length xs) ys) ≡ xs
-written-whole xs ys len l =
-    ap (λ (n : ℕ). take n (xs ++ drop (length xs) ys)) (sym l) ∙ take-append_seam xs (drop (length xs) ys)
 
 -- what was written so far with what a write has taken
 pub append-more : (a b c : Option (List ℕ)) (bytes : List ℕ) (at n : ℕ)
@@ -32,6 +27,10 @@ beginning (suc at) (x ∷ bytes) = ap (λ (w : List ℕ). x ∷ w) (beginning at
 -- a write that took something wasn't idle
 pub not-idle : (n room : ℕ) → n ≢ 0 → idle n room ≡ 0
 not-idle n room some = grind (arith, nat_tests)
+
+-- a read that took something wasn't an empty one
+pub not-empty : (a b : Reading) (into : List ℕ) (n : ℕ) → n ≢ 0 → Took a b into n → b.empties ≡ a.empties
+not-empty a b into n some t = let none = not-idle n (length into) some in let count = t.empties in omega arith
 
 -- what is left of the bytes from a place on
 pub rest-range : (at : ℕ) (bytes : List ℕ) → slice_range bytes at (length bytes) ≡ drop at bytes

@@ -1,9 +1,11 @@
 -- Why the program fails, and what it says then.
-use Rattle.std.specs.Prelude.{◌≡◌, ◌⊎◌, ℕ, List, codes, map, MatchOption}
+use Rattle.std.specs.Prelude.{◌≡◌, ◌⊎◌, ℕ, ◌+◌, ◌≤◌, List, None, codes, map, MatchOption}
 use Rattle.ac_util.specs.declared.error.BuildError.{BuildError}
 use Rattle.ac_util.specs.declared.error.BuildError.TheVariants.{Memory as NoMemory, PatternIdOverflow, PatternTooLong as TooLongPattern, StateIdOverflow}
+use Rattle.ac_util.specs.declared.primitives.TheConstants.{GREATEST}
 use Rattle.ac_util.specs.Limits.{limit_refusal}
 use Rattle.ac_util.specs.Sameness.{plain}
+use Rattle.ac_util.specs.Sizes.{state_count}
 use Rattle.ac_automaton.specs.Builds.{IsRefused}
 use Rattle.ac_search.specs.Searchers.{Settings}
 use Rattle.acs.specs.declared.fault.Fault.{Fault}
@@ -25,6 +27,11 @@ fault_of NoMemory = Memory
 fault_of (PatternIdOverflow max requested) = TooManyPatterns
 fault_of (TooLongPattern pattern len) = PatternTooLong
 fault_of (StateIdOverflow max requested) = TooManyStates
+
+-- no limit refuses a build over these patterns: neither their count, nor a length, nor the count of states
+pub record IsAllowed (settings : Settings) (patterns : List (List ℕ)) : Type 0 where
+  pub within : limit_refusal patterns ≡ None
+  pub few : state_count settings.match_kind (map (plain settings.fold) patterns) ≤ GREATEST + 1
 
 -- a build over these patterns may be refused so
 abbrev pub Refuses : Settings → List (List ℕ) → BuildError → Type 0

@@ -9,15 +9,16 @@ use Rattle.acs.specs.declared.fault.Fault.{Fault}
 use Rattle.acs.specs.declared.fault.Fault.TheVariants.{Io, Memory, WriteZero}
 use Rattle.acs.specs.declared.request.Request.{Request}
 use Rattle.acs.specs.declared.run.Outcome.{Outcome}
-use Rattle.acs.specs.Faults.{IsNotBuilt}
+use Rattle.acs.specs.Faults.{IsAllowed, IsNotBuilt}
 use Rattle.acs.specs.Lines.{lines, outcome_of, printed}
 use Rattle.acs.specs.Requests.{settings_of}
 
--- the bytes are all that the reader had left: it has come to its end, and no read failed
+-- the bytes are all that the reader had left: it has come to its end, was asked no more, and no read failed
 pub record ReadsAll (old new : Reading) (bytes : List ℕ) : Type 0 where
   pub moved : Consumes old.left new.left bytes
   pub ended : IsAtEnd new.left
   pub failed : new.failed ≡ old.failed
+  pub empties : new.empties ≡ old.empties + 1
 
 -- the bytes were all written: no write failed, and none took nothing
 pub record WritesAll (old new : Writing) (bytes : List ℕ) : Type 0 where
@@ -31,10 +32,11 @@ pub record WritesSome (old new : Writing) (bytes : List ℕ) : Type 0 where
   pub begins : StartsWith bytes part
   pub moved : Appends old.held new.held part
 
--- a read has failed, or memory was refused and no read has
+-- a read has failed, or memory was refused and no read has; each read before took something
 pub record FailsToRead (old new : Reading) (fault : Fault) : Type 0 where
   pub bytes : List ℕ
   pub moved : Consumes old.left new.left bytes
+  pub empties : new.empties ≡ old.empties
   pub cause : ((fault ≡ Io) × (new.failed ≡ old.failed + 1)) ⊎ ((fault ≡ Memory) × (new.failed ≡ old.failed))
 
 -- a beginning of the bytes was written, and then a write has failed or took nothing
@@ -54,8 +56,10 @@ abbrev pub answer : Request → List (List ℕ) → List ℕ → List Occurrence
 answer request patterns haystack = printed request.mode (searcher_by (settings_of request) patterns).built haystack
 
 module _ (request : Request) (patterns : List (List ℕ)) (reader new_reader : Reading) (writer new_writer : Writing) where
-  -- the run has written a line for each match in all that the reader gave, and says whether there was one
+  -- no limit refused the searcher, and the run has written a line for each match in all that the reader gave, and says
+  -- whether there was one
   pub record HasRun (outcome : Outcome) : Type 0 where
+    pub allowed : IsAllowed (settings_of request) patterns
     pub haystack : List ℕ
     pub reads : ReadsAll reader new_reader haystack
     pub writes : WritesAll writer new_writer (lines (answer request patterns haystack))
@@ -65,10 +69,17 @@ module _ (request : Request) (patterns : List (List ℕ)) (reader new_reader : R
   abbrev pub FailsAtFirst : Fault → Type 0
   FailsAtFirst fault = IsNotBuilt (settings_of request) patterns fault × (new_reader ≡ reader) × (new_writer ≡ writer)
 
-  -- the run has ended with a fault, for its cause: before the first read; while it read, with nothing written; or while it
-  -- wrote the lines of all that the reader gave, with a beginning of them written
+  -- no limit refused the searcher; while the run read it has ended with a fault, with nothing written
+  abbrev pub FailsReading : Fault → Type 0
+  FailsReading fault = IsAllowed (settings_of request) patterns × FailsToRead reader new_reader fault × (new_writer ≡ writer)
+
+  -- no limit refused the searcher; while the run wrote the lines of all that the reader gave it has ended with a fault
+  pub record FailsPrinting (fault : Fault) : Type 0 where
+    pub allowed : IsAllowed (settings_of request) patterns
+    pub haystack : List ℕ
+    pub reads : ReadsAll reader new_reader haystack
+    pub writes : FailsToPrint writer new_writer (lines (answer request patterns haystack)) fault
+
+  -- the run has ended with a fault, for its cause: before the first read, while it read, or while it wrote
   abbrev pub HasFailed : Fault → Type 0
-  HasFailed fault =
-      FailsAtFirst fault
-      ⊎ ((FailsToRead reader new_reader fault × (new_writer ≡ writer))
-      ⊎ ((haystack : List ℕ) × ReadsAll reader new_reader haystack × FailsToPrint writer new_writer (lines (answer request patterns haystack)) fault))
+  HasFailed fault = FailsAtFirst fault ⊎ (FailsReading fault ⊎ FailsPrinting fault)

@@ -3,7 +3,7 @@ ghost use Rattle.std.specs.Prelude.{◌≡◌, Err, MatchOption, MatchResult, ma
 ghost use Rattle.acs.specs.declared.fault.Fault;
 ghost use Rattle.acs.specs.Lines.{status_of};
 ghost use Rattle.ac_search.specs.Searchers.{searcher_by};
-ghost use Rattle.acs.specs.Faults.{IsNotBuilt};
+ghost use Rattle.acs.specs.Faults.{IsAllowed, IsNotBuilt};
 ghost use Rattle.acs.specs.Requests.{patterns_of, request_of, settings_of};
 ghost use Rattle.acs.specs.Runs.{HasFailed, HasRun};
 
@@ -84,7 +84,7 @@ fn searcher_for<A: Allocator + Clone>(
     words: &[&str],
 ) -> Result<AhoCorasick<A>, Fault>
     ensures { MatchResult result
-        (λ searcher. searcher ≡ searcher_by (settings_of request) (map (λ w. w.now) words.now))
+        (λ searcher. (searcher ≡ searcher_by (settings_of request) (map (λ w. w.now) words.now)) × IsAllowed (settings_of request) (map (λ w. w.now) words.now))
         (IsNotBuilt (settings_of request) (map (λ w. w.now) words.now)) }
 {
     let patterns = patterns_of(alloc.clone()?, words)?;

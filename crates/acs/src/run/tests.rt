@@ -81,6 +81,48 @@ const RUNS: &[Row] = &[
         "",
         Ok(Outcome::Nothing),
     ),
+    (
+        "find by std what ends first",
+        &["find", "std", "noncontiguous", "bc", "abcd"],
+        "abcd",
+        "0 1 3\n",
+        Ok(Outcome::Found),
+    ),
+    (
+        "find by first where abcd breaks off",
+        &["find", "first", "noncontiguous", "abcd", "bc"],
+        "abce",
+        "1 1 3\n",
+        Ok(Outcome::Found),
+    ),
+    (
+        "find by first what begins first",
+        &["find", "first", "noncontiguous", "abcd", "bc"],
+        "abcd",
+        "0 0 4\n",
+        Ok(Outcome::Found),
+    ),
+    (
+        "find by longest where abcd breaks off",
+        &["find", "longest", "noncontiguous", "abcd", "bc"],
+        "abce",
+        "1 1 3\n",
+        Ok(Outcome::Found),
+    ),
+    (
+        "find by longest what begins first",
+        &["find", "longest", "noncontiguous", "abcd", "bc"],
+        "abcd",
+        "0 0 4\n",
+        Ok(Outcome::Found),
+    ),
+    (
+        "walk for an empty word",
+        &["walk", "std", "noncontiguous", ""],
+        "ab",
+        "0 0 0\n0 1 1\n0 2 2\n",
+        Ok(Outcome::Found),
+    ),
     ("no word", &[], "ushers", "", Err(Fault::Usage)),
     (
         "two words",
@@ -259,5 +301,23 @@ fn short_reads_and_writes_change_nothing(rt: HostRuntime) -> Result<(), Fail> {
     drop(writer);
     assert_eq!(rt; answer, Ok(Outcome::Found));
     assert_eq!(rt; held.as_slice(), LINES);
+    Ok(())
+}
+
+/// The input needs two reads and the lines need several writes.
+#[test]
+fn large_pieces_change_nothing(rt: HostRuntime) -> Result<(), Fail> {
+    let mut input = Vec::new(rt.alloc());
+    let mut wanted = String::new(rt.alloc());
+    for i in 0..70000usize {
+        input.push(b'a')?;
+        write!(wanted, "0 {i} {}\n", i + 1)?;
+    }
+    let words = ["walk", "std", "noncontiguous", "a"];
+    let mut reader = Bytes::new(&input);
+    let mut writer = Written::new(rt.alloc());
+    let answer = run(rt.alloc(), &words, &mut reader, &mut writer);
+    assert_eq!(rt; answer, Ok(Outcome::Found));
+    assert!(rt; writer.bytes() == wanted.as_bytes());
     Ok(())
 }

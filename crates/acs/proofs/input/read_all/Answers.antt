@@ -2,8 +2,8 @@ use Rattle.std.proofs.lemmas.List.{length-take-le}
 use Rattle.std.proofs.Common.{length-append, ◌≡◌, ℕ, List, ◌++◌, length, take, ap, sym, ◌∙◌, subst, refl, arith, inr}
 use Rattle.std.specs.Io.KnownBytes.{Consumes}
 use Rattle.acs.specs.Runs.{FailsToRead}
-use Rattle.acs.proofs.Devices.{read-more, written-whole}
-use Rattle.ac_automaton.proofs.Places.{refused-by}
+use Rattle.acs.proofs.Devices.{not-empty, read-more}
+use Rattle.ac_automaton.proofs.Places.{refused-by, written-whole}
 use Rattle.acs.proofs.input.read_all.Goals as goal
 
 pub returns-in_err-extend_from_slice-in-Ok : goal.returns-in_err-extend_from_slice-in-Ok
@@ -16,6 +16,8 @@ returns-in_err-extend_from_slice-in-Ok g c =
       bytes = c.loop.bytes.items ++ take c.in-Ok.n c.read_some.new.into;
       moved = read-more (told c.args.reader.now) (told c.loop.reader) (told c.read_some.new.self) c.loop.bytes.items c.read_some.new.into c.in-Ok.n
           c.loop.invariant.moved c.in-Ok.ensures;
+      empties = not-empty (told c.loop.reader) (told c.read_some.new.self) c.read_some.new.into c.in-Ok.n (λ e. absurd (omega (arith, c.in-Ok.n-test))) c.in-Ok.ensures
+          ∙ c.loop.invariant.empties;
       cause = inr (refl, c.in-Ok.ensures.failed ∙ c.loop.invariant.failed);
     })
 
@@ -32,6 +34,8 @@ loop-preserved g c =
           (read-more (told c.args.reader.now) (told c.loop.reader) (told c.read_some.new.self) c.loop.bytes.items c.read_some.new.into c.in-Ok.n
           c.loop.invariant.moved c.in-Ok.ensures);
       failed = c.in-Ok.ensures.failed ∙ c.loop.invariant.failed;
+      empties = not-empty (told c.loop.reader) (told c.read_some.new.self) c.read_some.new.into c.in-Ok.n (λ e. absurd (omega (arith, c.in-Ok.n-test))) c.in-Ok.ensures
+          ∙ c.loop.invariant.empties;
       room = ap length whole ∙ long ∙ c.loop.piece.ok.0 ∙ c.loop.invariant.room;
       count = (let l = ap length came in let m = c.loop.invariant.count in let t = length-take-le c.in-Ok.n c.read_some.new.into c.in-Ok.ensures.within in let a = length-append c.loop.bytes.items (take c.in-Ok.n c.read_some.new.into) in omega (arith, c.in-Ok.n-test));
     }

@@ -8,6 +8,7 @@ invariant-loop g l =
     record {
       moved : Consumes (told l.fn.reader).left (told l.reader).left l.bytes.items;
       failed : (told l.reader).failed ≡ (told l.fn.reader).failed;
+      empties : (told l.reader).empties ≡ (told l.fn.reader).empties;
       room : length l.piece.items ≡ 65536;
       count : l.counter ≤ length l.bytes.items;
     }

@@ -48,7 +48,7 @@ returns-in_err-haystack g c =
     let patterns = map (λ w. w.now) c.args.words.now in
     refused-by c.from_residual-in_err-haystack.result c.in_err-haystack.field-0.0 _ (HasFailed c.args.request patterns reader later writer writer)
     c.from_residual-in_err-haystack.ensures.1
-    (inr (inl (c.in_err-haystack.ensures, refl)))
+    (inr (inl (c.in_ok-searcher.ensures.1, c.in_err-haystack.ensures, refl)))
 
 pub returns-in-Find : goal.returns-in-Find
 returns-in-Find g c =
@@ -57,10 +57,10 @@ returns-in-Find g c =
     let input : asked c.new-input.result ≡ asked_whole c.in_ok-haystack.haystack.items =
     c.new-input.ensures.value ∙ ap asked_whole c.deref.ensures.value in
     let is : option_to_list c.find.result ≡ printed c.args.request.mode built c.in_ok-haystack.haystack.items =
-    ap option_to_list (c.find.ensures ∙ ap (λ (s : Searcher). found s.built (asked c.new-input.result)) c.in_ok-searcher.ensures ∙ ap (found built) input)
+    ap option_to_list (c.find.ensures ∙ ap (λ (s : Searcher). found s.built (asked c.new-input.result)) c.in_ok-searcher.ensures.0 ∙ ap (found built) input)
     ∙ ap (λ (mode : Mode). printed mode built c.in_ok-haystack.haystack.items) (sym c.in-Find.is) in
     print-ends c.args.request patterns (g.R.Source.told c.args.reader.now) (g.R.Source.told c.read_all.new.reader) (g.W.Sink.told c.args.writer.now)
-    (g.W.Sink.told c.print_found.new.writer) c.in_ok-haystack.haystack.items c.in_ok-haystack.ensures (option_to_list c.find.result) c.print_found.result is
+    (g.W.Sink.told c.print_found.new.writer) c.in_ok-haystack.haystack.items c.in_ok-searcher.ensures.1 c.in_ok-haystack.ensures (option_to_list c.find.result) c.print_found.result is
     c.print_found.ensures
 
 pub returns : goal.returns
@@ -71,8 +71,8 @@ returns g c =
     c.new-input.ensures.value ∙ ap asked_whole c.deref.ensures.value in
     let is : c.find_iter.result.rest ≡ printed c.args.request.mode built c.in_ok-haystack.haystack.items =
     ap (λ (walking : Walking). walking.rest) c.find_iter.ensures
-    ∙ ap (λ (s : Searcher). walked s.built (asked c.new-input.result)) c.in_ok-searcher.ensures ∙ ap (walked built) input
+    ∙ ap (λ (s : Searcher). walked s.built (asked c.new-input.result)) c.in_ok-searcher.ensures.0 ∙ ap (walked built) input
     ∙ ap (λ (mode : Mode). printed mode built c.in_ok-haystack.haystack.items) (sym c.in-Walk.is) in
     print-ends c.args.request patterns (g.R.Source.told c.args.reader.now) (g.R.Source.told c.read_all.new.reader) (g.W.Sink.told c.args.writer.now)
-    (g.W.Sink.told c.print_walk.new.writer) c.in_ok-haystack.haystack.items c.in_ok-haystack.ensures c.find_iter.result.rest c.print_walk.result is
+    (g.W.Sink.told c.print_walk.new.writer) c.in_ok-haystack.haystack.items c.in_ok-searcher.ensures.1 c.in_ok-haystack.ensures c.find_iter.result.rest c.print_walk.result is
     c.print_walk.ensures
