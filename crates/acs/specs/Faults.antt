@@ -7,7 +7,7 @@ use Rattle.ac_util.specs.Limits.{limit_refusal}
 use Rattle.ac_util.specs.Sameness.{plain}
 use Rattle.ac_util.specs.Sizes.{state_count}
 use Rattle.ac_automaton.specs.Builds.{IsRefused}
-use Rattle.ac_search.specs.Searchers.{Settings}
+use Rattle.ac_search.specs.Searchers.{Searcher, Settings, searcher_by}
 use Rattle.acs.specs.declared.fault.Fault.{Fault}
 use Rattle.acs.specs.declared.fault.Fault.TheVariants.{Usage, Memory, TooManyPatterns, PatternTooLong, TooManyStates, Io, WriteZero}
 
@@ -33,11 +33,19 @@ pub record IsAllowed (settings : Settings) (patterns : List (List ℕ)) : Type 0
   pub within : limit_refusal patterns ≡ None
   pub few : state_count settings.match_kind (map (plain settings.fold) patterns) ≤ GREATEST + 1
 
+-- the searcher over these patterns, where no limit refuses it
+abbrev pub IsBuiltFor : Settings → List (List ℕ) → Searcher → Type 0
+IsBuiltFor settings patterns searcher = (searcher ≡ searcher_by settings patterns) × IsAllowed settings patterns
+
 -- a build over these patterns may be refused so
 abbrev pub Refuses : Settings → List (List ℕ) → BuildError → Type 0
 Refuses settings patterns e =
     MatchOption (limit_refusal patterns) (IsRefused settings.match_kind (map (plain settings.fold) patterns) e) (λ refusal. e ≡ refusal)
 
--- the fault of a build that was refused so, or for which there was no memory
+-- the fault of a build that was refused so
+abbrev pub IsRefusal : Settings → List (List ℕ) → Fault → Type 0
+IsRefusal settings patterns fault = (e : BuildError) × (fault ≡ fault_of e) × Refuses settings patterns e
+
+-- the same, or there was no memory to begin the build
 abbrev pub IsNotBuilt : Settings → List (List ℕ) → Fault → Type 0
-IsNotBuilt settings patterns fault = ((e : BuildError) × (fault ≡ fault_of e) × Refuses settings patterns e) ⊎ (fault ≡ Memory)
+IsNotBuilt settings patterns fault = IsRefusal settings patterns fault ⊎ (fault ≡ Memory)

@@ -2,8 +2,7 @@
 ghost use Rattle.std.specs.Prelude.{◌≡◌, Err, MatchOption, MatchResult, map};
 ghost use Rattle.acs.specs.declared.fault.Fault;
 ghost use Rattle.acs.specs.Lines.{status_of};
-ghost use Rattle.ac_search.specs.Searchers.{searcher_by};
-ghost use Rattle.acs.specs.Faults.{IsAllowed, IsNotBuilt};
+ghost use Rattle.acs.specs.Faults.{IsBuiltFor, IsRefusal};
 ghost use Rattle.acs.specs.Requests.{patterns_of, request_of, settings_of};
 ghost use Rattle.acs.specs.Runs.{HasFailed, HasRun};
 
@@ -65,7 +64,8 @@ fn search<A: Allocator + Clone, R: Source, W: Sink>(
         (HasRun request (map (λ w. w.now) words.now) (R.told reader.old) (R.told reader.new) (W.told writer.old) (W.told writer.new))
         (HasFailed request (map (λ w. w.now) words.now) (R.told reader.old) (R.told reader.new) (W.told writer.old) (W.told writer.new)) }
 {
-    let searcher = searcher_for(alloc.clone()?, request, words)?;
+    let patterns = patterns_of(alloc.clone()?, words)?;
+    let searcher = searcher_for(alloc.clone()?, request, &patterns)?;
     let haystack = read_all(alloc.clone()?, reader)?;
     let input = Input::new(&haystack);
     match request.mode {
@@ -77,21 +77,20 @@ fn search<A: Allocator + Clone, R: Source, W: Sink>(
 /// Builds the searcher that is asked for.
 ///
 /// # Errors
-/// Why the build is refused.
+/// Why the build is refused: where a limit refuses it, nothing but that.
 fn searcher_for<A: Allocator + Clone>(
     alloc: A,
     request: Request,
-    words: &[&str],
+    patterns: &[&[u8]],
 ) -> Result<AhoCorasick<A>, Fault>
     ensures { MatchResult result
-        (λ searcher. (searcher ≡ searcher_by (settings_of request) (map (λ w. w.now) words.now)) × IsAllowed (settings_of request) (map (λ w. w.now) words.now))
-        (IsNotBuilt (settings_of request) (map (λ w. w.now) words.now)) }
+        (IsBuiltFor (settings_of request) (map (λ p. p.now) patterns.now))
+        (IsRefusal (settings_of request) (map (λ p. p.now) patterns.now)) }
 {
-    let patterns = patterns_of(alloc.clone()?, words)?;
     let mut builder = AhoCorasickBuilder::new();
     builder.match_kind(request.kind);
     builder.kind(Some(request.engine));
-    Ok(builder.build(alloc, &patterns)?)
+    Ok(builder.build(alloc, patterns)?)
 }
 
 /// Returns the exit status: 0 where a line was written, 1 where none was, 2 after a fault.
