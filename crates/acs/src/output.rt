@@ -1,5 +1,6 @@
 //! Lines for matches, written in large pieces.
-ghost use Rattle.std.specs.Prelude.{◌≡◌, ◌++◌, List, ℕ, MatchResult, OnOk, option_to_list, string_bytes};
+ghost use Rattle.std.specs.Prelude.{◌≡◌, ◌++◌, List, ℕ};
+ghost use Rattle.std.specs.Prelude.{MatchResult, OnOk, option_to_list, string_bytes};
 ghost use Rattle.acs.specs.Lines.{line, lines, outcome_of};
 ghost use Rattle.acs.specs.Runs.{FailsToPrint, FailsToWrite, WritesAll};
 
@@ -45,15 +46,16 @@ fn write_all<W: Sink>(writer: &mut W, bytes: &[u8]) -> Result<(), Fault>
 /// Writes a line for each match.
 ///
 /// # Errors
-/// `Io` where a write fails, `WriteZero` where it takes no byte, `Memory` where a request for memory is refused. The lines
-/// before are written, or a beginning of them.
+/// `Io` where a write fails, `WriteZero` where it takes no byte, `Memory` where a request for memory is
+/// refused. The lines before are written, or a beginning of them.
 pub(crate) fn print_walk<A: Allocator + Clone, B: Allocator, W: Sink>(
     alloc: A,
     matches: FindIter<'_, '_, B>,
     writer: &mut W,
 ) -> Result<Outcome, Fault>
     ensures { MatchResult result
-        (λ outcome. WritesAll (W.told writer.old) (W.told writer.new) (lines matches.entry.rest) × (outcome ≡ outcome_of matches.entry.rest))
+        (λ outcome. WritesAll (W.told writer.old) (W.told writer.new) (lines matches.entry.rest)
+        × (outcome ≡ outcome_of matches.entry.rest))
         (FailsToPrint (W.told writer.old) (W.told writer.new) (lines matches.entry.rest)) }
 {
     let mut text = String::new(alloc);
@@ -80,7 +82,8 @@ pub(crate) fn print_found<A: Allocator + Clone, W: Sink>(
     writer: &mut W,
 ) -> Result<Outcome, Fault>
     ensures { MatchResult result
-        (λ outcome. WritesAll (W.told writer.old) (W.told writer.new) (lines (option_to_list found)) × (outcome ≡ outcome_of (option_to_list found)))
+        (λ outcome. WritesAll (W.told writer.old) (W.told writer.new) (lines (option_to_list found))
+        × (outcome ≡ outcome_of (option_to_list found)))
         (FailsToPrint (W.told writer.old) (W.told writer.new) (lines (option_to_list found))) }
 {
     let Some(m) = found else {

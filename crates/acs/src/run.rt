@@ -22,15 +22,17 @@ pub enum Outcome {
     Nothing,
 }
 
-/// Searches all that a reader gives for what the words ask for, and writes a line for each match: its pattern's number, its
-/// start and its end.
+/// Searches all that a reader gives for what the words ask for, and writes a line for each match: its pattern's
+/// number, its start and its end.
 ///
-/// The words are tested first, then the searcher is built, then the whole input is read, and only then something is written.
+/// The words are tested first, then the searcher is built, then the whole input is read, and only then
+/// something is written.
 ///
 /// # Errors
-/// `Usage` exactly where the words ask for nothing that there is; then nothing is read or written. Any other fault comes for
-/// its cause alone: the build was refused, memory was, a read or a write has failed, or a write took no byte. Nothing is
-/// written before the whole input was read; what was written until then is a beginning of the lines.
+/// `Usage` exactly where the words ask for nothing that there is; then nothing is read or written. Any other
+/// fault comes for its cause alone: the build was refused, memory was, a read or a write has failed, or a write
+/// took no byte. Nothing is written before the whole input was read; what was written until then is a beginning
+/// of the lines.
 pub fn run<A: Allocator + Clone, R: Source, W: Sink>(
     alloc: A,
     words: &[&str],
@@ -38,10 +40,13 @@ pub fn run<A: Allocator + Clone, R: Source, W: Sink>(
     writer: &mut W,
 ) -> Result<Outcome, Fault>
     ensures { MatchOption (request_of (map (λ w. w.now) words.now))
-        ((result ≡ Err Fault.Usage) × (R.told reader.new ≡ R.told reader.old) × (W.told writer.new ≡ W.told writer.old))
+        ((result ≡ Err Fault.Usage)
+        × (R.told reader.new ≡ R.told reader.old) × (W.told writer.new ≡ W.told writer.old))
         (λ request. MatchResult result
-        (HasRun request (patterns_of (map (λ w. w.now) words.now)) (R.told reader.old) (R.told reader.new) (W.told writer.old) (W.told writer.new))
-        (HasFailed request (patterns_of (map (λ w. w.now) words.now)) (R.told reader.old) (R.told reader.new) (W.told writer.old) (W.told writer.new))) }
+        (HasRun request (patterns_of (map (λ w. w.now) words.now))
+        (R.told reader.old) (R.told reader.new) (W.told writer.old) (W.told writer.new))
+        (HasFailed request (patterns_of (map (λ w. w.now) words.now))
+        (R.told reader.old) (R.told reader.new) (W.told writer.old) (W.told writer.new))) }
 {
     let Some(request) = request_of(words) else {
         return Err(Fault::Usage);
@@ -61,8 +66,10 @@ fn search<A: Allocator + Clone, R: Source, W: Sink>(
     writer: &mut W,
 ) -> Result<Outcome, Fault>
     ensures { MatchResult result
-        (HasRun request (map (λ w. w.now) words.now) (R.told reader.old) (R.told reader.new) (W.told writer.old) (W.told writer.new))
-        (HasFailed request (map (λ w. w.now) words.now) (R.told reader.old) (R.told reader.new) (W.told writer.old) (W.told writer.new)) }
+        (HasRun request (map (λ w. w.now) words.now)
+        (R.told reader.old) (R.told reader.new) (W.told writer.old) (W.told writer.new))
+        (HasFailed request (map (λ w. w.now) words.now)
+        (R.told reader.old) (R.told reader.new) (W.told writer.old) (W.told writer.new)) }
 {
     let patterns = patterns_of(alloc.clone()?, words)?;
     let searcher = searcher_for(alloc.clone()?, request, &patterns)?;
