@@ -1,5 +1,5 @@
 //! All bytes of a reader.
-ghost use Rattle.std.specs.Prelude.{◌≡◌, ◌+◌, List, ℕ, MatchResult};
+ghost use Rattle.std.specs.Prelude.{MatchResult};
 ghost use Rattle.acs.specs.Runs.{FailsToRead, ReadsAll};
 
 use crate::fault::Fault;

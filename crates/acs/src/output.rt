@@ -1,6 +1,5 @@
 //! Lines for matches, written in large pieces.
-ghost use Rattle.std.specs.Prelude.{◌≡◌, ◌++◌, List, ℕ};
-ghost use Rattle.std.specs.Prelude.{MatchResult, OnOk, option_to_list, string_bytes};
+ghost use Rattle.std.specs.Prelude.{◌≡◌, ◌++◌, MatchResult, OnOk, option_to_list, string_bytes};
 ghost use Rattle.acs.specs.Lines.{line, lines, outcome_of};
 ghost use Rattle.acs.specs.Runs.{FailsToPrint, FailsToWrite, WritesAll};
 
