@@ -1,7 +1,7 @@
 -- The pigeonhole principle: distinct elements of one list that all stand in another are no more than that has.
 use Rattle.std.proofs.Common.{◌≡◌, ◌≢◌, suc, ◌≤◌, List, [], ◌∷◌, length, inl, inr, refl, sym, ◌∙◌, subst, arith}
-use Rattle.std.specs.Prelude.{Contains, AllPairs}
-use Rattle.ac_util.proofs.Lists.{IsIn, IsOrdered, Contains-from_IsIn, IsIn-from_Contains}
+use Rattle.std.specs.Prelude.{AllPairs}
+use Rattle.ac_util.proofs.Lists.{IsIn, IsOrdered, Contains-from_IsIn}
 
 -- pairs of elements are ordered, as seen from each element on
 pub IsOrdered-from_AllPairs : {X : Type 0} (R : X → X → Type 0) (xs : List X) → AllPairs R xs → IsOrdered R xs
@@ -47,10 +47,3 @@ length-le-from_IsOrdered (x ∷ xs) ys apart into =
     let shorter = cut.1.shorter in
     let rest = length-le-from_IsOrdered xs cut.0 apart.1 (λ z h. cut.1.others z (apart.0 z h) (into z (inr h))) in
     omega arith
-
--- the same in the words of std
-pub length-le-from_distinct : {X : Type 0} (xs ys : List X) → AllPairs (λ x y. x ≢ y) xs
-    → ((x : X) → Contains xs x → Contains ys x) → length xs ≤ length ys
-length-le-from_distinct xs ys apart into =
-    length-le-from_IsOrdered xs ys (IsOrdered-from_AllPairs (λ x y. x ≢ y) xs apart)
-    (λ x h. IsIn-from_Contains x ys (into x (Contains-from_IsIn x xs h)))

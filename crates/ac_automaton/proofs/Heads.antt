@@ -10,6 +10,7 @@ use Rattle.ac_util.specs.Occurrence.{Occurrence, occurrence}
 use Rattle.ac_util.specs.Search.{pattern_of}
 use Rattle.ac_util.specs.Node.{Node}
 use Rattle.ac_util.specs.Built.{Built}
+use Rattle.ac_util.proofs.Advance.{append_nil_left}
 use Rattle.ac_util.proofs.Lists.{IsIn, IsIn-append_left}
 use Rattle.ac_util.proofs.Participants.{IsIn-from_equal_to}
 use Rattle.ac_util.proofs.Found.{matches-fits, matches-whole}
@@ -35,10 +36,6 @@ front_first : (xs ys : List ℕ) (p : ℕ) → slice_get (xs ++ ys) 0 ≡ Some p
 front_first [] ys p e some = absurd (some refl)
 front_first (x ∷ xs) ys p e some = e
 
-nil_left : (xs ys : List ℕ) → xs ++ ys ≡ [] → xs ≡ []
-nil_left [] ys e = refl
-nil_left (x ∷ xs) ys e = absurd (cc)
-
 -- what a list of matches lists first
 module _ (built : Built) (listed : List ℕ) (start end : ℕ) where
   -- without matches nothing is found
@@ -46,7 +43,7 @@ module _ (built : Built) (listed : List ℕ) (start end : ℕ) where
   found-none No u lists none = ap (λ (ns : List ℕ). option_map (place_of built end) (slice_get ns 0)) (sym lists ∙ none)
   found-none Yes u lists none =
       ap (λ (ns : List ℕ). option_map (place_of built end) (slice_get ns 0))
-      (nil_left (matches_of built Yes u) lists.passed_over (sym lists.own ∙ none))
+      (append_nil_left (matches_of built Yes u) lists.passed_over (sym lists.own ∙ none))
 
   -- a state that lists matches is not dead
   node_of : (anchored : Anchored) (u : Node) (p : ℕ) → Lists built anchored u listed → slice_get listed 0 ≡ Some p → u ≢ None
@@ -54,7 +51,7 @@ module _ (built : Built) (listed : List ℕ) (start end : ℕ) where
       let none : listed ≡ [] = lists ∙ ap (matches_of built No) dead in
       let nothing : slice_get listed 0 ≡ None = ap (λ (ns : List ℕ). slice_get ns 0) none in absurd (cc)
   node_of Yes u p lists e dead =
-      let none : listed ≡ [] = nil_left listed lists.left_out (sym lists.front ∙ ap (matches_of built No) dead) in
+      let none : listed ≡ [] = append_nil_left listed lists.left_out (sym lists.front ∙ ap (matches_of built No) dead) in
       let nothing : slice_get listed 0 ≡ None = ap (λ (ns : List ℕ). slice_get ns 0) none in absurd (cc)
 
   -- the first pattern listed is one of the matches

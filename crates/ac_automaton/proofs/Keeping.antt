@@ -491,17 +491,6 @@ pub record Keeps (fold : Bool) (all members : List Member) (kept at : ℕ) (fron
   pub standing : (patterns : List (List ℕ)) → IsOrder Standard patterns (keyed fold all)
       → Standing patterns (keyed fold all) at (keyed fold fronts)
 
--- before the loop nothing was kept
-pub Keeps-start : (fold : Bool) (all : List Member) → Keeps fold all all 0 0 []
-Keeps-start fold all = record {
-  behind = omega arith;
-  long = refl;
-  short = λ h. h;
-  numbers_small = λ h. h;
-  first = λ patterns order. record { front = refl; rest = refl; behind = omega arith; within = omega arith; long = refl };
-  standing = λ patterns order. Standing-start patterns (keyed fold all);
-}
-
 -- what stands at the place is as it was
 unmoved : {X : Type 0} (p : X → Bool) (all members : List X) (kept at : ℕ) (x : X)
     → FiltersInPlace p all members kept at → x ≡ get_or members at x → x ≡ get_or all at x

@@ -3,6 +3,7 @@ use Rattle.std.proofs.Common.{◌≡◌, ◌≢◌, ℕ, ◌+◌, ◌-◌, ◌<�
 use Rattle.std.specs.Prelude.{slice_get}
 use Rattle.std.proofs.lemmas.List.{append-nil}
 use Rattle.std.proofs.lemmas.Option.{slice_get-get_or}
+use Rattle.ac_util.proofs.Advance.{append_nil_left}
 use Rattle.ac_util.proofs.Found.{matches-nil, matches-failure}
 use Rattle.ac_automaton.specs.declared.nfa.noncontiguous.state.State.{State}
 use Rattle.ac_automaton.specs.Growths.{LinkIsDue}
@@ -19,10 +20,6 @@ own-some order t l within none =
 
 pub own-none : (order : List ℕ) (t : State) → t.own_end ≤ t.own → own_of order t ≡ []
 own-none order t l = ap (λ (n : ℕ). take n (drop t.own order)) (let none : t.own_end - t.own ≡ 0 = omega arith in none)
-
-front_none : (xs ys : List ℕ) → xs ++ ys ≡ [] → xs ≡ []
-front_none [] ys e = refl
-front_none (x ∷ xs) ys e = absurd (cc)
 
 module _ (g : Meaning) (states : List State) where
   -- the start finds its own patterns alone
@@ -65,7 +62,7 @@ module _ (g : Meaning) (states : List State) where
         finds = matches-failure g.kind g.patterns x u;
         useful = λ apart none.
             own-some g.order (state_at states fail) some r.within
-            (r.own ∙ front_none (own_matches g (miss g.kind g.patterns (Some (x ∷ u)))) (all_matches g r.links.linked) (sym r.links.finds ∙ none));
+            (r.own ∙ append_nil_left (own_matches g (miss g.kind g.patterns (Some (x ∷ u)))) (all_matches g r.links.linked) (sym r.links.finds ∙ none));
       }
 
   -- else what the target is linked to

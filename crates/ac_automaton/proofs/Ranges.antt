@@ -1,4 +1,4 @@
--- The members that begin with one string stand side by side: first those that are the string, and then a run for each next byte.
+-- The members that begin with one string stand side by side: first those that are the string, then a run for each next byte.
 use Rattle.std.proofs.Common.{◌≡◌, ◌≢◌, ℕ, suc, ◌+◌, ◌-◌, ◌<◌, ◌≤◌, true, List, [], ◌∷◌, ◌++◌, length, inl, inr, refl, ap, sym, ◌∙◌, subst, arith, Option, Some, None, get_or}
 use Rattle.std.specs.Prelude.{nat_eq, bytes_eq, option_map, slice_get, slice_range}
 use Rattle.std.specs.Cmp.Lexicographic.{slice_cmp, nat_list_cmp_total}

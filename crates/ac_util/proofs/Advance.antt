@@ -23,7 +23,7 @@ use Rattle.ac_util.proofs.Found.{matches-nil, matches-cons}
 use Rattle.ac_util.proofs.Standing.{Stands, place_of, IsPickIn, first-by_start, first-one_on, first-at_one_end, Fronts-cases, Fronts-length, Fronts-equal, Stands-more, Stands-cases, Stands-behind, Stands-from_behind, Stands-from_Fronts}
 
 -- the front of an empty list is empty
-append_nil_left : (xs ys : List ℕ) → xs ++ ys ≡ [] → xs ≡ []
+pub append_nil_left : (xs ys : List ℕ) → xs ++ ys ≡ [] → xs ≡ []
 append_nil_left [] ys e = refl
 append_nil_left (x ∷ xs) ys e = absurd (cc)
 

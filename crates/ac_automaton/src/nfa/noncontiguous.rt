@@ -33,8 +33,9 @@ pub use builder::Builder;
 
 /// An automaton that follows failure links.
 ///
-/// It takes little memory and is built in time linear in the bytes of the patterns; a search looks at states at most twice for
-/// each byte that it reads. It serves unanchored and anchored searches. This ports `nfa::noncontiguous::NFA`.
+/// It takes little memory and is built in time linear in the bytes of the patterns; a search looks at states at
+/// most twice for each byte that it reads. It serves unanchored and anchored searches. This ports
+/// `nfa::noncontiguous::NFA`.
 #[derive(Drop)]
 pub struct NFA<A: Allocator = Global> {
     patterns: Rc<Patterns<A>, A>,

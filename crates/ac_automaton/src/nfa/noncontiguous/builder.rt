@@ -80,9 +80,9 @@ impl Builder {
     /// Time is linear in the bytes of the patterns but for the sort of the list, and so is memory.
     ///
     /// # Errors
-    /// `PatternIdOverflow` and `PatternTooLong` exactly where a limit is passed, before any memory is asked for.
-    /// Else `StateIdOverflow` only where there are more nodes than state numbers, and `Memory` where a request for
-    /// memory is refused.
+    /// `PatternIdOverflow` and `PatternTooLong` exactly where a limit is passed, before any memory is asked
+    /// for. Else `StateIdOverflow` only where there are more nodes than state numbers, and `Memory` where a
+    /// request for memory is refused.
     pub fn build<A: Allocator + Clone>(
         &self,
         alloc: A,
@@ -121,7 +121,8 @@ struct Whole<A: Allocator> {
 /// Returns the lists of an automaton over these patterns.
 ///
 /// # Errors
-/// `StateIdOverflow` where there are more nodes than state numbers, `Memory` where a request for memory is refused.
+/// `StateIdOverflow` where there are more nodes than state numbers, `Memory` where a request for memory is
+/// refused.
 fn whole_of<A: Allocator + Clone>(
     alloc: A,
     patterns: &Patterns<A>,

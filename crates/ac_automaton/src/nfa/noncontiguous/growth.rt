@@ -1,9 +1,11 @@
 //! Growing a trie with failure links, breadth first.
 //!
-//! A state is told by the members that begin with its string: they stand side by side. Its own patterns come first among them,
-//! and then each run of members with one more byte in common is a child. So each byte of each pattern is looked at a few times,
-//! and nothing is moved. A child's failure target is a step from that of its parent; along a pattern each byte makes the target
-//! at most one longer and each failure link shorter, so n bytes of patterns take at most 2n looks.
+//! A state is told by the members that begin with its string: they stand side by side. Its own patterns come
+//! first among them, and then each run of members with one more byte in common is a child. So each byte of each
+//! pattern is looked at a few times, and no member is moved: only a state's transitions are sorted, since that by
+//! a capital comes before those by small letters. A child's failure target is a step from that of its parent;
+//! along a pattern each byte makes the target at most one longer and each failure link shorter, so n bytes of
+//! patterns take at most 2n looks.
 ghost use Rattle.std.specs.Prelude.{◌≡◌, ◌≢◌, ◌⊎◌, ◌++◌, ◌∷◌, [], ℕ, ◌+◌, ◌<◌, ◌≤◌, Bool, List, MatchResult, None, Some, length, map, slice_get};
 ghost use Rattle.ac_util.specs.declared.error.BuildError.TheVariants.{Memory, StateIdOverflow};
 ghost use Rattle.ac_util.specs.declared.primitives.TheConstants.{GREATEST};
@@ -44,7 +46,7 @@ pub(crate) struct Growth<A: Allocator> {
 }
 
 impl<A: Allocator> Growth<A> {
-    /// Adds a state, and the transitions to it by a plain byte: where case is ignored by a letter's capital too.
+    /// Adds a state and the transitions to it by a plain byte, where case is ignored by a letter's capital too.
     ///
     /// # Errors
     /// `StateIdOverflow` where no number is left for it, `Memory` where a request for memory is refused.
@@ -85,7 +87,8 @@ pub(crate) struct Grown<A: Allocator> {
 /// Grows a whole trie.
 ///
 /// # Errors
-/// `StateIdOverflow` where there are more nodes than state numbers, `Memory` where a request for memory is refused.
+/// `StateIdOverflow` where there are more nodes than state numbers, `Memory` where a request for memory is
+/// refused.
 pub(crate) fn grow<A: Allocator + Clone, B: Allocator>(
     alloc: A,
     members: &Members<'_, B>,

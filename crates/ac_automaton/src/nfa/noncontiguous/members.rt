@@ -199,8 +199,8 @@ fn compare(a: &Member<'_>, b: &Member<'_>, fold: bool) -> Ordering
 
 /// Keeps those of all patterns that take part under `LeftmostFirst`.
 ///
-/// Patterns that begin with a string stand right behind it, so that a stack has the kept ones that are fronts of
-/// the pattern at hand: each has a lesser number than the one below it, and only the last is compared.
+/// Patterns that begin with a string stand right behind it, so that a stack has the kept ones that are fronts
+/// of the pattern at hand: each has a lesser number than the one below it, and only the last is compared.
 ///
 /// # Errors
 /// `AllocError` where a request for memory is refused, and some members may then have been moved.
@@ -232,8 +232,8 @@ fn keep_participants<'p, A: Allocator>(
     Ok(())
 }
 
-/// Drops the patterns from the end of the stack that are no fronts of the member, and tells whether the one that
-/// is then the last has a lesser number.
+/// Drops the patterns from the end of the stack that are no fronts of the member, and tells whether the one
+/// that is then the last has a lesser number.
 fn is_shadowed<'p, A: Allocator>(
     fronts: &mut Vec<Member<'p>, A>,
     member: &Member<'p>,

@@ -20,8 +20,9 @@ pub(crate) struct Transition {
 
 /// A state: which states follow it, and which patterns end there.
 ///
-/// The transitions of all states stand in one list, those of a state side by side in ascending order of their bytes. Where
-/// case is ignored there is one for each case of a letter, so that a step has nothing to do for it.
+/// The transitions of all states stand in one list, those of a state side by side in ascending order of their
+/// bytes. Where case is ignored there is one for each case of a letter, so that a step has nothing to do for
+/// it.
 #[derive(Clone, Copy)]
 pub(crate) struct State {
     /// Where the transitions begin.
@@ -108,8 +109,8 @@ fn target(state: &State, transitions: &[Transition], byte: u8) -> Option<StateID
 
 /// Returns where a byte leads from a state, and counts a look at each state on the way.
 ///
-/// An unanchored search goes on along the failure targets as long as there is no transition by the byte. Each target is a shorter string, so
-/// n bytes take at most 2n looks.
+/// An unanchored search goes on along the failure targets as long as there is no transition by the byte. Each
+/// target is a shorter string, so n bytes take at most 2n looks.
 #[inline]
 pub(crate) fn follow(
     states: &[State],
