@@ -1,5 +1,5 @@
 //! A trie with failure links: small, and quickly built.
-ghost use Rattle.std.specs.Prelude.{◌≡◌, Err, List, MatchOption, MatchResult, false, map, ℕ};
+ghost use Rattle.std.specs.Prelude.{◌≡◌, Err, List, MatchOption, MatchResult, false, map};
 ghost use Rattle.ac_util.specs.declared.search.MatchKind.TheVariants.{Standard};
 ghost use Rattle.ac_util.specs.Limits.{limit_refusal};
 ghost use Rattle.ac_automaton.specs.Builds.{IsBuilt, IsRefused, usual_settings};
@@ -50,7 +50,6 @@ pub struct NFA<A: Allocator = Global> {
 
 impl<A: Allocator> Model for NFA<A> {
     ghost use Rattle.std.specs.Prelude.{◌≡◌, List};
-    ghost use Rattle.ac_util.specs.declared.search.StartKind.TheVariants.{Both};
     ghost use Rattle.ac_util.specs.Node.{Node};
     ghost use Rattle.ac_util.specs.Stream.{longest_len, shortest_len};
     ghost use Rattle.ac_automaton.specs.Tries.{IsTable, Trie, trie_of};

@@ -4,7 +4,7 @@ use ac_util::error::BuildError;
 use ac_util::plain::{Query, find, walk};
 use ac_util::search::Anchored::{No, Yes};
 use ac_util::search::MatchKind::{LeftmostFirst, LeftmostLongest, Standard};
-use ac_util::search::{Anchored, Input, Match, MatchKind, Span};
+use ac_util::search::{Input, Match, MatchKind, Span};
 use std::alloc::Global;
 use std::test::Fail;
 
