@@ -15,7 +15,7 @@ use Rattle.ac_util.specs.Input.{Asked}
 use Rattle.ac_util.specs.Built.{Built, search_in, found}
 use Rattle.ac_util.proofs.Walks.{IsInSpan, pick-in_span, walk_after-None}
 use Rattle.ac_automaton.specs.Cores.{Grows, Reads, StopsAtMatch, Tells, asked_of, kept, most_looks}
-use Rattle.ac_automaton.specs.Iterators.{Left, IsPaid, after}
+use Rattle.ac_automaton.specs.Iterators.{Left, after}
 
 paid_total : (most r n looks looks_then : ℕ) → r ≤ n → looks ≤ most * r → looks_then ≤ looks + most * (n - r) → looks_then ≤ most * n
 paid_total most r n looks looks_then l a b =
@@ -143,19 +143,6 @@ module _ (most : ℕ) (built : Built) (asked : Asked) (from : ℕ) where
   Left-repeated tape counts r last then same e le again left =
       subst (λ (i : Asked). Left most built i from tape counts) (sym same)
       (Left-later (asked.start + 1) tape counts (omega arith) (subst (λ (n : ℕ). Left most built (record asked { start = n }) from tape counts) (after-repeated r last e le again) left))
-
-  -- what was counted is paid
-  pub Left-paid : (tape : Taped) (counts : Counts) → Left most built asked from tape counts
-      → IsPaid most (record {
-        rest = [];
-        order = order_of built.kind asked.earliest;
-        anchored = asked.anchored;
-        span = asked.end - from;
-        counts = counts;
-      })
-  Left-paid tape counts left =
-      let w = left.within in let r = left.reads in
-      record { reads = omega arith; looked = left.looked; looks = left.looks; calls = left.calls }
 
   -- after a find
   pub Left-found : (tape tape_then : Taped) (counts counts_then : Counts) (r : Option Occurrence) → asked.start ≤ asked.end + 1
