@@ -31,9 +31,9 @@ pub enum Outcome {
 /// # Errors
 /// `Usage` exactly where the words ask for nothing that there is; then nothing is read or written. Any other
 /// fault comes for its cause alone: the build was refused, memory was, a read or a write has failed, or a write
-/// took no byte. Whether memory was refused the contract doesn't see; `Memory` is told only where no read or write
-/// has failed and none took nothing. Where the input was not read to its end nothing is written; else what was
-/// written until then is a beginning of the lines.
+/// took no byte. Whether memory was refused the contract doesn't see; `Memory` is told only where no read or
+/// write has failed and no write took nothing. Where the input was not read to its end nothing is written; else
+/// what was written until then is a beginning of the lines.
 pub fn run<A: Allocator + Clone, R: Source, W: Sink>(
     alloc: A,
     words: &[&str],
