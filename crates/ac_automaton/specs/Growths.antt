@@ -4,6 +4,8 @@ use Rattle.std.specs.Char.{is_ascii_lowercase, to_ascii_uppercase}
 use Rattle.std.specs.List.{starts_with}
 use Rattle.std.specs.List.Sorted.{IsPermutation, IsSortedByKey}
 use Rattle.std.specs.Ordering.{nat_cmp}
+use Rattle.ac_util.specs.declared.error.BuildError.{BuildError}
+use Rattle.ac_util.specs.declared.error.BuildError.TheVariants.{Memory, StateIdOverflow}
 use Rattle.ac_util.specs.declared.primitives.TheConstants.{GREATEST}
 use Rattle.ac_util.specs.declared.search.MatchKind.{MatchKind}
 use Rattle.ac_util.specs.Node.{Node}
@@ -28,6 +30,18 @@ abbrev pub leading : Bool → ℕ → ℕ → List Transition
 leading fold byte target =
     record { byte = byte; target = target }
     ∷ (if fold && is_ascii_lowercase byte then record { byte = to_ascii_uppercase byte; target = target } ∷ [] else [])
+
+-- a waiting state has been put behind the queue, and the transitions to it by a plain byte behind the others
+pub record HasPushed (fold : Bool) (byte : ℕ) (p : Pending) (transitions : List Transition) (queue : List Pending)
+    (new_transitions : List Transition) (new_queue : List Pending) : Type 0 where
+  pub leads : new_transitions ≡ transitions ++ leading fold byte (4 + length queue)
+  pub waits : new_queue ≡ queue ++ p ∷ []
+  pub numbered : length queue + 4 < GREATEST + 1
+
+-- it has not: for want of memory, or as no number is left for it
+abbrev pub IsNotPushed : List Pending → BuildError → Type 0
+IsNotPushed queue e =
+    (e ≡ Memory) ⊎ ((e ≡ StateIdOverflow GREATEST (GREATEST + 1)) × (length queue + 4 ≡ GREATEST + 1))
 
 -- the transitions from a place on have been put in ascending order of their bytes
 pub record HasSorted (first : ℕ) (old new : List Transition) : Type 0 where

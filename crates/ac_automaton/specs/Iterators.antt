@@ -67,7 +67,15 @@ pub record Left (most : ℕ) (built : Built) (asked : Asked) (from : ℕ) (tape 
   pub calls : counts.calls ≤ asked.end - from
   pub called : order_of built.kind asked.earliest ≡ Standard → counts.calls ≤ min asked.start asked.end - from
 
+-- what a walk that has come to this input keeps of its counts
+abbrev pub kept_in : Built → Asked → Counts → Counts
+kept_in built asked counts = kept (order_of built.kind asked.earliest) counts
+
 -- where a walk goes on after a find
 abbrev pub after : Asked → Option Occurrence → ℕ
 after asked None = asked.end + 1
 after asked (Some m) = m.end
+
+-- the same walk's input once a find has answered: it goes on where the match ended, or past the end
+abbrev pub moved : Asked → Option Occurrence → Asked
+moved asked found = record asked { start = after asked found }

@@ -1,5 +1,5 @@
 -- How the states of a trie with failure links stand for nodes.
-use Rattle.std.specs.Prelude.{◌≡◌, ◌≢◌, ◌↔◌, ℕ, zero, suc, ◌-◌, ◌<◌, ◌≤◌, ◌&&◌, Bool, List, [], ◌∷◌, ◌++◌, length, map, slice_get, slice_range, slice_index_or, Contains, None, Some, if◌then◌else◌}
+use Rattle.std.specs.Prelude.{◌≡◌, ◌≢◌, ◌↔◌, ℕ, zero, suc, ◌-◌, ◌<◌, ◌≤◌, ◌&&◌, Bool, List, [], ◌∷◌, ◌++◌, length, map, slice_get, slice_range, slice_index_or, Contains, Option, None, Some, MatchOption, if◌then◌else◌}
 use Rattle.std.specs.List.Sorted.{IsStrictlyIncreasing}
 use Rattle.std.proofs.Common.{sym, ◌∙◌, arith}
 use Rattle.std.proofs.lemmas.List.{append-nil}
@@ -40,13 +40,21 @@ dead_state = record { transitions = 0; transitions_end = 0; fail = 0; own = 0; o
 abbrev pub state_at : List State → ℕ → State
 state_at states s = slice_index_or states s dead_state
 
--- the transitions of a state, their bytes, and the patterns that a state has of its own
+-- the transitions of a state, and their bytes
 abbrev pub transitions_of : List Transition → State → List Transition
 transitions_of transitions t = slice_range transitions t.transitions t.transitions_end
 
 abbrev pub bytes_of : List Transition → List ℕ
 bytes_of transitions = map (λ t. t.byte) transitions
 
+-- what is found for a byte among the transitions: the target of the one by it, or that there is none
+abbrev pub IsTarget : List Transition → ℕ → Option ℕ → Type 0
+IsTarget transitions byte result =
+    MatchOption result
+    (Contains (bytes_of transitions) byte → ⊥)
+    (λ target. (k : ℕ) × (slice_get transitions k ≡ Some (record { byte = byte; target = target })))
+
+-- the patterns that a state has of its own
 abbrev pub own_of : List ℕ → State → List ℕ
 own_of order t = slice_range order t.own t.own_end
 

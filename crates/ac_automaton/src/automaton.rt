@@ -5,7 +5,7 @@ ghost use Rattle.ac_util.specs.Built.{Built, find_refusal, found};
 ghost use Rattle.ac_util.specs.Inputs.{asked};
 ghost use Rattle.ac_util.specs.Counts.{more_looks};
 ghost use Rattle.ac_util.specs.Node.{Node};
-ghost use Rattle.ac_util.specs.Refusal.{start_refusal};
+ghost use Rattle.ac_util.specs.Refusal.{AnswersUnless, start_refusal};
 ghost use Rattle.ac_util.specs.Search.{pattern_of};
 ghost use Rattle.ac_util.specs.Stream.{longest_len, shortest_len};
 ghost use Rattle.ac_automaton.specs.Iterators.{begun};
@@ -69,7 +69,8 @@ pub trait Automaton {
     /// Returns whether the state is dead: nothing is found from it on.
     fn is_dead(&self, sid: StateID) -> bool
         requires state { (anchored : Anchored) × IsState (stands self.now anchored) sid }
-        ensures { (anchored : Anchored) (u : Node) → stands self.now anchored sid u → IsTrue result ↔ (u ≡ None) };
+        ensures { (anchored : Anchored) (u : Node) → stands self.now anchored sid u
+            → IsTrue result ↔ (u ≡ None) };
 
     /// Returns whether the state has matches.
     fn is_match(&self, sid: StateID) -> bool
@@ -136,10 +137,8 @@ pub trait Automaton {
     final fn try_find(&self, input: Input<'_>) -> Result<Option<Match>, MatchError>
     where
         Self: Sized,
-        ensures { MatchResult result
-            (λ r. (find_refusal (built self.now) (asked input.entry) ≡ None)
-            × (r ≡ found (built self.now) (asked input.entry)))
-            (λ e. find_refusal (built self.now) (asked input.entry) ≡ Some e) }
+        ensures { AnswersUnless (find_refusal (built self.now) (asked input.entry))
+            (found (built self.now) (asked input.entry)) result }
     {
         let anchored = input.get_anchored();
         let _start = self.start_state(anchored)?;
@@ -167,10 +166,8 @@ pub trait Automaton {
     ) -> Result<FindIter<'a, 'h, Self>, MatchError>
     where
         Self: Sized,
-        ensures { MatchResult result
-            (λ matches. (find_refusal (built self.now) (asked input.entry) ≡ None)
-            × (matches ≡ begun (built self.now) (asked input.entry)))
-            (λ e. find_refusal (built self.now) (asked input.entry) ≡ Some e) }
+        ensures { AnswersUnless (find_refusal (built self.now) (asked input.entry))
+            (begun (built self.now) (asked input.entry)) result }
     {
         let _start = self.start_state(input.get_anchored())?;
         Ok(FindIter::new(self, input))

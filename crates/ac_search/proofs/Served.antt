@@ -1,6 +1,6 @@
 -- An engine that has all starts answers for a searcher that supports some of them.
 use Rattle.std.proofs.Common.{◌≡◌, Bool, [], ◌∷◌, refl, ap, sym, ◌∙◌, Option, Some, None}
-use Rattle.std.specs.Prelude.{Result, Ok, Err, MatchResult}
+use Rattle.std.specs.Prelude.{Result, Ok, Err}
 use Rattle.ac_util.specs.declared.error.MatchError.{MatchError}
 use Rattle.ac_util.specs.declared.search.MatchKind.{MatchKind}
 use Rattle.ac_util.specs.declared.search.MatchKind.TheVariants.{Standard, LeftmostFirst, LeftmostLongest}
@@ -8,7 +8,7 @@ use Rattle.ac_util.specs.declared.search.StartKind.{StartKind}
 use Rattle.ac_util.specs.declared.search.StartKind.TheVariants.{Both}
 use Rattle.ac_util.specs.Built.{Built, find_refusal, has_empty}
 use Rattle.ac_util.specs.Input.{Asked}
-use Rattle.ac_util.specs.Refusal.{Find, empty_refusal, first_refusal, form_refusal, kind_refusal, start_refusal}
+use Rattle.ac_util.specs.Refusal.{AnswersUnless, Find, empty_refusal, first_refusal, form_refusal, kind_refusal, start_refusal}
 
 -- a find or a walk is refused for its start alone
 find-refusal : (built : Built) (asked : Asked) → find_refusal built asked ≡ start_refusal built.start_kind asked.anchored
@@ -25,8 +25,7 @@ find-refusal built asked = by (start_refusal built.start_kind asked.anchored) bu
 pub served : {T : Type 0} (built engine : Built) (asked : Asked) (r : Result T MatchError) (f : Built → T)
     → built ≡ record engine { start_kind = built.start_kind } → f built ≡ f engine
     → engine.start_kind ≡ Both → start_refusal built.start_kind asked.anchored ≡ None
-    → MatchResult r (λ x. (find_refusal engine asked ≡ None) × (x ≡ f engine)) (λ e. find_refusal engine asked ≡ Some e)
-    → MatchResult r (λ x. (find_refusal built asked ≡ None) × (x ≡ f built)) (λ e. find_refusal built asked ≡ Some e)
+    → AnswersUnless (find_refusal engine asked) (f engine) r → AnswersUnless (find_refusal built asked) (f built) r
 served built engine asked (Ok x) f is same both free h = (find-refusal built asked ∙ free, h.1 ∙ sym same)
 served built engine asked (Err e) f is same both free h =
     absurd (let none : None ≡ Some e = sym (find-refusal engine asked ∙ ap (λ (s : StartKind). start_refusal s asked.anchored) both) ∙ h in cc)

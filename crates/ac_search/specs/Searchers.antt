@@ -1,13 +1,11 @@
 -- What is seen of a searcher: what it was built from, and the name of its engine. No answer of a search hangs on the name.
-use Rattle.std.specs.Prelude.{◌≡◌, ℕ, ◌+◌, ◌≤◌, Bool, false, List, map, Option, None, unwrap_or}
-use Rattle.ac_util.specs.declared.primitives.TheConstants.{GREATEST}
+use Rattle.std.specs.Prelude.{◌≡◌, ℕ, Bool, false, List, Option, None, unwrap_or}
 use Rattle.ac_util.specs.declared.search.MatchKind.{MatchKind}
 use Rattle.ac_util.specs.declared.search.MatchKind.TheVariants.{Standard}
 use Rattle.ac_util.specs.declared.search.StartKind.{StartKind}
 use Rattle.ac_util.specs.declared.search.StartKind.TheVariants.{Unanchored}
 use Rattle.ac_util.specs.Built.{Built}
-use Rattle.ac_util.specs.Sameness.{plain}
-use Rattle.ac_util.specs.Sizes.{state_count}
+use Rattle.ac_automaton.specs.Builds.{IsAllowed, Settings as EngineSettings}
 use Rattle.ac_search.specs.declared.ahocorasick.AhoCorasickKind.{AhoCorasickKind}
 use Rattle.ac_search.specs.declared.ahocorasick.AhoCorasickKind.TheVariants.{NoncontiguousNFA}
 
@@ -37,7 +35,11 @@ searcher_by settings patterns = record {
   kind = unwrap_or settings.kind NoncontiguousNFA;
 }
 
--- a build by these settings has succeeded: the nodes of its engine have numbers
+-- the settings of its engine
+abbrev pub engine_settings : Settings → EngineSettings
+engine_settings settings = record { kind = settings.match_kind; fold = settings.fold }
+
+-- a build by these settings has succeeded: no limit refused it
 pub record IsBuilt (settings : Settings) (patterns : List (List ℕ)) (searcher : Searcher) : Type 0 where
   pub value : searcher ≡ searcher_by settings patterns
-  pub few : state_count settings.match_kind (map (plain settings.fold) patterns) ≤ GREATEST + 1
+  pub allowed : IsAllowed (engine_settings settings) patterns

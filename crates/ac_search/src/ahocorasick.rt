@@ -1,18 +1,17 @@
 //! The searcher, which chooses its engine.
-ghost use Rattle.std.specs.Prelude.{◌≡◌, ◌↔◌, Err, IsTrue, MatchOption, MatchResult, None, Some, length, map};
-ghost use Rattle.ac_util.specs.declared.search.StartKind;
+ghost use Rattle.std.specs.Prelude.{◌≡◌, ◌↔◌, IsTrue, MatchResult, None, length};
 ghost use Rattle.std.specs.Iterator.{YieldsFirst, item_count};
+ghost use Rattle.ac_util.specs.declared.search.StartKind;
+ghost use Rattle.ac_util.specs.Borrowed.{bytes_of};
 ghost use Rattle.ac_util.specs.Built.{find_refusal, found, search_in};
 ghost use Rattle.ac_util.specs.Inputs.{asked};
-ghost use Rattle.ac_util.specs.Limits.{limit_refusal};
 ghost use Rattle.ac_util.specs.Occurrence.{Occurrence};
-ghost use Rattle.ac_util.specs.Refusal.{start_refusal};
-ghost use Rattle.ac_util.specs.Sameness.{plain};
+ghost use Rattle.ac_util.specs.Refusal.{AnswersUnless, start_refusal};
 ghost use Rattle.ac_util.specs.Search.{Occurs};
 ghost use Rattle.ac_util.specs.Stream.{longest_len, shortest_len};
-ghost use Rattle.ac_automaton.specs.Builds.{IsRefused};
+ghost use Rattle.ac_automaton.specs.Builds.{Refuses};
 ghost use Rattle.ac_automaton.specs.Iterators.{begun};
-ghost use Rattle.ac_search.specs.Searchers.{IsBuilt, usual_settings};
+ghost use Rattle.ac_search.specs.Searchers.{IsBuilt, engine_settings, usual_settings};
 
 use ac_automaton::automaton;
 use ac_automaton::automaton::Automaton;
@@ -85,11 +84,9 @@ impl<A: Allocator + Clone> AhoCorasick<A> {
     /// # Errors
     /// As `AhoCorasickBuilder::build`.
     pub fn new(alloc: A, patterns: &[&[u8]]) -> Result<AhoCorasick<A>, BuildError>
-        ensures { MatchOption (limit_refusal (map (λ p. p.now) patterns.now))
-            (MatchResult result
-            (λ searcher. IsBuilt usual_settings (map (λ p. p.now) patterns.now) searcher)
-            (IsRefused usual_settings.match_kind (map (plain usual_settings.fold) (map (λ p. p.now) patterns.now))))
-            (λ refusal. result ≡ Err refusal) }
+        ensures { MatchResult result
+            (IsBuilt usual_settings (bytes_of patterns.now))
+            (Refuses (engine_settings usual_settings) (bytes_of patterns.now)) }
     {
         AhoCorasickBuilder::new().build(alloc, patterns)
     }
@@ -111,7 +108,8 @@ impl<A: Allocator> AhoCorasick<A> {
     #[inline]
     pub fn is_match(&self, input: Input<'_>) -> bool
         requires supported { find_refusal self.now.built (asked input) ≡ None }
-        ensures { IsTrue result ↔ ((m : Occurrence) × Occurs (search_in self.now.built (asked input.entry)) m) }
+        ensures { IsTrue result
+            ↔ ((m : Occurrence) × Occurs (search_in self.now.built (asked input.entry)) m) }
     {
         self.find(input.earliest(true)).is_some()
     }
@@ -151,9 +149,8 @@ impl<A: Allocator> AhoCorasick<A> {
     /// `InvalidInputAnchored` or `InvalidInputUnanchored` where the searcher doesn't support the input's anchoring.
     #[inline]
     pub fn try_find(&self, input: Input<'_>) -> Result<Option<Match>, MatchError>
-        ensures { MatchResult result
-            (λ r. (find_refusal self.now.built (asked input.entry) ≡ None) × (r ≡ found self.now.built (asked input.entry)))
-            (λ e. find_refusal self.now.built (asked input.entry) ≡ Some e) }
+        ensures { AnswersUnless (find_refusal self.now.built (asked input.entry))
+            (found self.now.built (asked input.entry)) result }
     {
         check_start(self.start_kind(), input.get_anchored())?;
         self.nfa().try_find(input)
@@ -168,9 +165,8 @@ impl<A: Allocator> AhoCorasick<A> {
         &'a self,
         input: Input<'h>,
     ) -> Result<FindIter<'a, 'h, A>, MatchError>
-        ensures { MatchResult result
-            (λ matches. (find_refusal self.now.built (asked input.entry) ≡ None) × (matches ≡ begun self.now.built (asked input.entry)))
-            (λ e. find_refusal self.now.built (asked input.entry) ≡ Some e) }
+        ensures { AnswersUnless (find_refusal self.now.built (asked input.entry))
+            (begun self.now.built (asked input.entry)) result }
     {
         check_start(self.start_kind(), input.get_anchored())?;
         let finding = Finding::ByNoncontiguous(self.nfa().try_find_iter(input)?);
@@ -189,7 +185,8 @@ impl<A: Allocator> AhoCorasick<A> {
     /// Returns the engine, which has both starts.
     #[inline]
     fn nfa(&self) -> &NFA<A>
-        ensures built { self.now.built ≡ record result.now.built { start_kind = self.now.built.start_kind } }
+        ensures built { self.now.built
+            ≡ record result.now.built { start_kind = self.now.built.start_kind } }
         ensures both { result.now.built.start_kind ≡ StartKind.Both }
     {
         match &self.engine {
@@ -241,7 +238,7 @@ impl<A: Allocator> AhoCorasick<A> {
 /// Tests that a start kind supports an anchoring.
 #[inline]
 fn check_start(start_kind: StartKind, anchored: Anchored) -> Result<(), MatchError>
-    ensures { MatchResult result (λ _. start_refusal start_kind anchored ≡ None) (λ e. start_refusal start_kind anchored ≡ Some e) }
+    ensures { AnswersUnless (start_refusal start_kind anchored) tt result }
 {
     match (start_kind, anchored) {
         (StartKind::Unanchored, Anchored::Yes) => Err(MatchError::InvalidInputAnchored),
@@ -304,9 +301,19 @@ impl Model for AhoCorasickBuilder {
 
     ghost Value = { Settings };
 
-    ghost view = { λ b. record { match_kind = b.match_kind; start_kind = b.start_kind; fold = b.fold; kind = b.kind } };
+    ghost view = { λ b. record {
+      match_kind = b.match_kind;
+      start_kind = b.start_kind;
+      fold = b.fold;
+      kind = b.kind;
+    } };
 
-    ghost inverse = { λ v. record { match_kind = v.match_kind; start_kind = v.start_kind; fold = v.fold; kind = v.kind } };
+    ghost inverse = { λ v. record {
+      match_kind = v.match_kind;
+      start_kind = v.start_kind;
+      fold = v.fold;
+      kind = v.kind;
+    } };
 }
 
 impl Default for AhoCorasickBuilder {
@@ -378,11 +385,9 @@ impl AhoCorasickBuilder {
         alloc: A,
         patterns: &[&[u8]],
     ) -> Result<AhoCorasick<A>, BuildError>
-        ensures { MatchOption (limit_refusal (map (λ p. p.now) patterns.now))
-            (MatchResult result
-            (λ searcher. IsBuilt self.now (map (λ p. p.now) patterns.now) searcher)
-            (IsRefused self.now.match_kind (map (plain self.now.fold) (map (λ p. p.now) patterns.now))))
-            (λ refusal. result ≡ Err refusal) }
+        ensures { MatchResult result
+            (IsBuilt self.now (bytes_of patterns.now))
+            (Refuses (engine_settings self.now) (bytes_of patterns.now)) }
     {
         check_limits(patterns)?;
         let mut builder = noncontiguous::Builder::new();

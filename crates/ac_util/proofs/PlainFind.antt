@@ -8,7 +8,7 @@ use Rattle.std.proofs.lemmas.Bool.{cases_lt, cases_eq}
 use Rattle.ac_util.specs.declared.search.MatchKind.{MatchKind}
 use Rattle.ac_util.specs.Occurrence.{Occurrence, occurrence}
 use Rattle.ac_util.specs.Search.{Search, Occurs, pattern_of}
-use Rattle.ac_util.specs.Plain.{bytes_of}
+use Rattle.ac_util.specs.Borrowed.{bytes_of}
 use Rattle.ac_util.specs.Pick.{IsFirst, IsPick, beats, better, pick}
 use Rattle.ac_util.proofs.Picks.{beats-true, beats-false, IsFirst-itself, IsFirst-trans, pick-from_IsPick, same_occurrence, end_from}
 

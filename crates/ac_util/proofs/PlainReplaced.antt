@@ -10,7 +10,8 @@ use Rattle.ac_util.specs.Occurrence.{Occurrence}
 use Rattle.ac_util.specs.Search.{Search, from}
 use Rattle.ac_util.specs.Pick.{pick}
 use Rattle.ac_util.specs.Walk.{repeats, unless_repeated, next_match, continued, walk_after, walk}
-use Rattle.ac_util.specs.Plain.{bytes_of, IsReplaceable, EndsBy}
+use Rattle.ac_util.specs.Borrowed.{bytes_of}
+use Rattle.ac_util.specs.Plain.{IsReplaceable, EndsBy}
 use Rattle.ac_util.specs.Replaced.{replaced, replaced_from}
 use Rattle.ac_util.proofs.Walks.{pick-Occurs, next-in_span, walk-ordered}
 

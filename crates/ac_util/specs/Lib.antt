@@ -16,6 +16,7 @@ pub mod Input
 pub mod Inputs
 pub mod Counts
 pub mod Device
+pub mod Borrowed
 pub mod Limits
 pub mod Pieces
 pub mod Classes

@@ -1,11 +1,6 @@
 -- The words of the plain search.
-use Rattle.std.specs.Prelude.{ℕ, ◌<◌, ◌≤◌, List, map}
-use Rattle.std.specs.Borrow.{Bor}
+use Rattle.std.specs.Prelude.{ℕ, ◌<◌, ◌≤◌}
 use Rattle.ac_util.specs.Occurrence.{Occurrence}
-
--- the strings that are borrowed
-abbrev pub bytes_of : List (Bor (List ℕ)) → List (List ℕ)
-bytes_of strings = map (λ s. s.now) strings
 
 -- m can be exchanged for a text: it lies within so many bytes, and its pattern is one of so many
 pub record IsReplaceable (bytes texts : ℕ) (m : Occurrence) : Type 0 where

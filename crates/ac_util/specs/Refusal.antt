@@ -1,5 +1,5 @@
 -- Which searches are refused before anything is read, and with which error.
-use Rattle.std.specs.Prelude.{Bool, true, Option, None, Some, List, [], ◌∷◌}
+use Rattle.std.specs.Prelude.{◌≡◌, Bool, true, Option, None, Some, List, [], ◌∷◌, Result, MatchResult}
 use Rattle.ac_util.specs.declared.search.MatchKind.{MatchKind}
 use Rattle.ac_util.specs.declared.search.MatchKind.TheVariants.{Standard}
 use Rattle.ac_util.specs.declared.search.StartKind.{StartKind}
@@ -8,6 +8,10 @@ use Rattle.ac_util.specs.declared.search.Anchored.{Anchored}
 use Rattle.ac_util.specs.declared.search.Anchored.TheVariants.{No, Yes}
 use Rattle.ac_util.specs.declared.error.MatchError.{MatchError}
 use Rattle.ac_util.specs.declared.error.MatchError.TheVariants.{InvalidInputAnchored, InvalidInputUnanchored, UnsupportedOverlapping, UnsupportedStream, UnsupportedEmpty}
+
+-- a call answers the value where nothing refuses it, and else why it is refused
+abbrev pub AnswersUnless : {A : Type 0} → Option MatchError → A → Result A MatchError → Type 0
+AnswersUnless refusal value result = MatchResult result (λ r. (refusal ≡ None) × (r ≡ value)) (λ e. refusal ≡ Some e)
 
 -- the calls that differ in what they refuse: finds and walks, replacement, overlapping search by a state and by an iterator,
 -- and streams. Replacement and streams have no anchored form

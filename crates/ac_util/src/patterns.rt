@@ -1,7 +1,8 @@
 //! The patterns of a searcher, stored once.
-ghost use Rattle.std.specs.Prelude.{◌≡◌, ◌+◌, ◌<◌, ◌≤◌, length, map, slice_get, Some, Ok, Err};
+ghost use Rattle.std.specs.Prelude.{◌≡◌, ◌+◌, ◌<◌, ◌≤◌, length, slice_get, Some, Ok, Err};
 ghost use Rattle.std.specs.Prelude.{MatchOption, MatchResult};
 ghost use Rattle.ac_util.specs.declared.error.BuildError.TheVariants.{Memory};
+ghost use Rattle.ac_util.specs.Borrowed.{bytes_of};
 ghost use Rattle.ac_util.specs.Limits.{limit_refusal};
 ghost use Rattle.ac_util.specs.Pieces.{AreBounds, pieces};
 
@@ -71,8 +72,8 @@ impl<A: Allocator + Clone> Patterns<A> {
     /// `PatternIdOverflow` and `PatternTooLong` exactly where a limit is passed, tested over the whole list in
     /// this order before any memory is asked for; else `Memory` where a request for memory is refused.
     pub fn new(alloc: A, patterns: &[&[u8]]) -> Result<Patterns<A>, BuildError>
-        ensures { MatchOption (limit_refusal (map (λ p. p.now) patterns.now))
-            (MatchResult result (λ stored. stored ≡ map (λ p. p.now) patterns.now) (λ e. e ≡ Memory))
+        ensures { MatchOption (limit_refusal (bytes_of patterns.now))
+            (MatchResult result (λ stored. stored ≡ bytes_of patterns.now) (λ e. e ≡ Memory))
             (λ refusal. result ≡ Err refusal) }
     {
         check_limits(patterns)?;
@@ -105,7 +106,7 @@ fn piece<'a>(bytes: &'a [u8], bounds: &[usize], number: usize) -> &'a [u8]
 /// # Errors
 /// `PatternIdOverflow` or `PatternTooLong`, whichever limit is passed first.
 pub fn check_limits(patterns: &[&[u8]]) -> Result<(), BuildError>
-    ensures { MatchOption (limit_refusal (map (λ p. p.now) patterns.now))
+    ensures { MatchOption (limit_refusal (bytes_of patterns.now))
         (result ≡ Ok tt)
         (λ refusal. result ≡ Err refusal) }
 {

@@ -2,9 +2,9 @@
 //!
 //! Every faster search is held against it.
 ghost use Rattle.std.specs.Prelude.{◌≡◌, ◌↔◌, ◌+◌, ◌≤◌, ◌<◌, IsTrue, length};
+ghost use Rattle.ac_util.specs.Borrowed.{bytes_of};
 ghost use Rattle.ac_util.specs.Occurrence.{occurrence};
 ghost use Rattle.ac_util.specs.Pick.{beats, better, pick};
-ghost use Rattle.ac_util.specs.Plain.{bytes_of};
 ghost use Rattle.ac_util.specs.Sameness.{plain_byte, IsSame};
 ghost use Rattle.ac_util.specs.Search.{Occurs, from};
 
@@ -36,7 +36,7 @@ pub struct Query<'a> {
 impl<'a> Model for Query<'a> {
     ghost use Rattle.std.specs.Prelude.{◌+◌, ◌≤◌, length};
     ghost use Rattle.ac_util.specs.declared.primitives.TheConstants.{GREATEST};
-    ghost use Rattle.ac_util.specs.Plain.{bytes_of};
+    ghost use Rattle.ac_util.specs.Borrowed.{bytes_of};
     ghost use Rattle.ac_util.specs.Search.{Search};
 
     ghost Value = { Search };

@@ -1,5 +1,6 @@
 //! What the words after the program's name ask for.
-ghost use Rattle.std.specs.Prelude.{◌≡◌, IfOk, map};
+ghost use Rattle.std.specs.Prelude.{◌≡◌, IfOk};
+ghost use Rattle.ac_util.specs.Borrowed.{bytes_of};
 ghost use Rattle.acs.specs.Requests.{engine_of, kind_of, mode_of, request_of};
 
 use ac_search::{AhoCorasickKind, MatchKind};
@@ -24,7 +25,7 @@ pub(crate) struct Request {
 
 /// Returns what the words ask for, or `None` where they ask for nothing that there is.
 pub(crate) fn request_of(words: &[&str]) -> Option<Request>
-    ensures { result ≡ request_of (map (λ w. w.now) words.now) }
+    ensures { result ≡ request_of (bytes_of words.now) }
 {
     if words.len() < 3 {
         return None;
@@ -76,7 +77,7 @@ pub(crate) fn patterns_of<'w, A: Allocator>(
     alloc: A,
     words: &[&'w str],
 ) -> Result<Vec<&'w [u8], A>, AllocError>
-    ensures { IfOk result (λ patterns. map (λ p. p.now) patterns.items ≡ map (λ w. w.now) words.now) }
+    ensures { IfOk result (λ patterns. bytes_of patterns.items ≡ bytes_of words.now) }
 {
     let mut patterns = Vec::new(alloc);
     for word in words {

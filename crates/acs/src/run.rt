@@ -1,8 +1,10 @@
 //! The program over any reader and writer.
-ghost use Rattle.std.specs.Prelude.{◌≡◌, Err, MatchOption, MatchResult, map};
+ghost use Rattle.std.specs.Prelude.{◌≡◌, Err, MatchOption, MatchResult};
+ghost use Rattle.ac_util.specs.Borrowed.{bytes_of};
+ghost use Rattle.ac_search.specs.Searchers.{IsBuilt};
 ghost use Rattle.acs.specs.declared.fault.Fault;
 ghost use Rattle.acs.specs.Lines.{status_of};
-ghost use Rattle.acs.specs.Faults.{IsBuiltFor, IsRefusal};
+ghost use Rattle.acs.specs.Faults.{IsRefusal};
 ghost use Rattle.acs.specs.Requests.{patterns_of, request_of, settings_of};
 ghost use Rattle.acs.specs.Runs.{HasFailed, HasRun};
 
@@ -40,13 +42,13 @@ pub fn run<A: Allocator + Clone, R: Source, W: Sink>(
     reader: &mut R,
     writer: &mut W,
 ) -> Result<Outcome, Fault>
-    ensures { MatchOption (request_of (map (λ w. w.now) words.now))
+    ensures { MatchOption (request_of (bytes_of words.now))
         ((result ≡ Err Fault.Usage)
         × (R.told reader.new ≡ R.told reader.old) × (W.told writer.new ≡ W.told writer.old))
         (λ request. MatchResult result
-        (HasRun request (patterns_of (map (λ w. w.now) words.now))
+        (HasRun request (patterns_of (bytes_of words.now))
         (R.told reader.old) (R.told reader.new) (W.told writer.old) (W.told writer.new))
-        (HasFailed request (patterns_of (map (λ w. w.now) words.now))
+        (HasFailed request (patterns_of (bytes_of words.now))
         (R.told reader.old) (R.told reader.new) (W.told writer.old) (W.told writer.new))) }
 {
     let Some(request) = request_of(words) else {
@@ -67,9 +69,9 @@ fn search<A: Allocator + Clone, R: Source, W: Sink>(
     writer: &mut W,
 ) -> Result<Outcome, Fault>
     ensures { MatchResult result
-        (HasRun request (map (λ w. w.now) words.now)
+        (HasRun request (bytes_of words.now)
         (R.told reader.old) (R.told reader.new) (W.told writer.old) (W.told writer.new))
-        (HasFailed request (map (λ w. w.now) words.now)
+        (HasFailed request (bytes_of words.now)
         (R.told reader.old) (R.told reader.new) (W.told writer.old) (W.told writer.new)) }
 {
     let patterns = patterns_of(alloc.clone()?, words)?;
@@ -92,8 +94,8 @@ fn searcher_for<A: Allocator + Clone>(
     patterns: &[&[u8]],
 ) -> Result<AhoCorasick<A>, Fault>
     ensures { MatchResult result
-        (IsBuiltFor (settings_of request) (map (λ p. p.now) patterns.now))
-        (IsRefusal (settings_of request) (map (λ p. p.now) patterns.now)) }
+        (IsBuilt (settings_of request) (bytes_of patterns.now))
+        (IsRefusal (settings_of request) (bytes_of patterns.now)) }
 {
     let mut builder = AhoCorasickBuilder::new();
     builder.match_kind(request.kind);

@@ -39,11 +39,13 @@ pub fn find_core<A: Automaton>(
     requires unread { tape.old.place ≤ start }
     ensures pick { result ≡ found (A.built automaton.now)
         (asked_of tape.old.bytes start end anchored earliest) }
-    ensures reads { Reads (most_looks anchored A.LOOKS) start end tape.old tape.new looks.old looks.new }
+    ensures reads { Reads (most_looks anchored A.LOOKS) start end
+        tape.old tape.new looks.old looks.new }
     ensures tells { IfSome result (Tells looks.old looks.new) }
     ensures stops { StopsAtMatch (A.built automaton.now).kind earliest start result
         tape.old tape.new looks.old looks.new }
-    ensures dead { StopsAtDead (A.built automaton.now) (asked_of tape.old.bytes start end anchored earliest) tape.new }
+    ensures dead { StopsAtDead (A.built automaton.now)
+        (asked_of tape.old.bytes start end anchored earliest) tape.new }
 {
     let Ok(mut sid) = automaton.start_state(anchored) else {
         unreachable!()
@@ -93,7 +95,8 @@ fn match_at<A: Automaton>(
     start: usize,
     end: usize,
 ) -> Option<Match>
-    requires state { (u : Node) × A.stands automaton.now anchored sid u × FitsIn anchored u start end }
+    requires state { (u : Node) × A.stands automaton.now anchored sid u
+        × FitsIn anchored u start end }
     ensures { (u : Node) → A.stands automaton.now anchored sid u → FitsIn anchored u start end
         → result ≡ found_at (A.built automaton.now) anchored u end }
 {

@@ -3,11 +3,10 @@ ghost use Rattle.std.specs.Prelude.{◌≡◌, ◌+◌, ◌≤◌, ℕ, [], ◌�
 ghost use Rattle.std.specs.Iterator.{MakesProgress, YieldsFirst, item_count};
 ghost use Rattle.ac_util.specs.Built.{found};
 ghost use Rattle.ac_util.specs.Inputs.{asked};
-ghost use Rattle.ac_util.specs.Pick.{order_of};
 ghost use Rattle.ac_util.specs.Refusal.{start_refusal};
 ghost use Rattle.ac_util.specs.Walk.{repeats};
 ghost use Rattle.ac_automaton.specs.Cores.{Grows, Tells, kept};
-ghost use Rattle.ac_automaton.specs.Iterators.{GoesOn, IsPaid, Left, after, begun, next_of};
+ghost use Rattle.ac_automaton.specs.Iterators.{GoesOn, IsPaid, Left, after, begun, kept_in, moved, next_of};
 
 use super::Automaton;
 use super::find::{find_core, stops_at_match};
@@ -51,7 +50,8 @@ impl<'a, 'h, A: Automaton> Model for FindIter<'a, 'h, A> {
       counts = s.looks;
     } };
 
-    ghost invariant = { λ s. Left A.LOOKS (A.built s.automaton.now) (asked s.input) s.from.value s.tape s.looks
+    ghost invariant = { λ s. Left A.LOOKS (A.built s.automaton.now) (asked s.input) s.from.value
+        s.tape s.looks
         × IfSome s.last (λ e. e ≤ s.input.start) };
 }
 
@@ -59,7 +59,8 @@ impl<'a, 'h, A: Automaton> FindIter<'a, 'h, A> {
     /// Returns an iterator over the matches of an input whose anchoring the automaton supports.
     #[inline]
     pub(super) fn new(automaton: &'a A, input: Input<'h>) -> FindIter<'a, 'h, A>
-        requires supported { start_refusal (A.built automaton.now).start_kind (asked input).anchored ≡ None }
+        requires supported { start_refusal (A.built automaton.now).start_kind (asked input).anchored
+            ≡ None }
         ensures { result ≡ begun (A.built automaton.now) (asked input.entry) }
     {
         let (tape, looks) = open(&input);
@@ -107,15 +108,17 @@ fn next_left<'h, A: Automaton>(
     tape: &mut Tape<'h>,
     looks: &mut Looks,
 ) -> Option<Match>
-    requires left { (from : ℕ) × Left A.LOOKS (A.built automaton.now) (asked input.old) from tape.old looks.old }
+    requires left { (from : ℕ)
+        × Left A.LOOKS (A.built automaton.now) (asked input.old) from tape.old looks.old }
     requires behind { IfSome last (λ e. e ≤ (asked input.old).start) }
     ensures next { result ≡ next_of (A.built automaton.now) (asked input.old) last }
-    ensures moves { asked input.new ≡ record (asked input.old) { start = after (asked input.old) result } }
-    ensures left { (from : ℕ) → Left A.LOOKS (A.built automaton.now) (asked input.old) from tape.old looks.old
+    ensures moves { asked input.new ≡ moved (asked input.old) result }
+    ensures left { (from : ℕ)
+        → Left A.LOOKS (A.built automaton.now) (asked input.old) from tape.old looks.old
         → Left A.LOOKS (A.built automaton.now) (asked input.new) from tape.new looks.new }
-    ensures grows { Grows (kept (order_of (A.built automaton.now).kind (asked input.old).earliest) looks.old) looks.new }
+    ensures grows { Grows (kept_in (A.built automaton.now) (asked input.old) looks.old) looks.new }
     ensures tells { IfSome result
-        (Tells (kept (order_of (A.built automaton.now).kind (asked input.old).earliest) looks.old) looks.new) }
+        (Tells (kept_in (A.built automaton.now) (asked input.old) looks.old) looks.new) }
 {
     let first = find_left(automaton, input, tape, looks);
     if repeats(&first, last) {
@@ -132,7 +135,7 @@ fn next_left<'h, A: Automaton>(
 #[inline]
 fn go_on(input: &mut Input<'_>, found: &Option<Match>)
     requires within { after (asked input.old) found.now ≤ (asked input.old).end + 1 }
-    ensures { asked input.new ≡ record (asked input.old) { start = after (asked input.old) found.now } }
+    ensures { asked input.new ≡ moved (asked input.old) found.now }
 {
     let start = match found {
         Some(found) => found.end(),
@@ -160,14 +163,15 @@ fn find_left<'h, A: Automaton>(
     tape: &mut Tape<'h>,
     looks: &mut Looks,
 ) -> Option<Match>
-    requires left { (from : ℕ) × Left A.LOOKS (A.built automaton.now) (asked input.now) from tape.old looks.old }
+    requires left { (from : ℕ)
+        × Left A.LOOKS (A.built automaton.now) (asked input.now) from tape.old looks.old }
     ensures pick { result ≡ found (A.built automaton.now) (asked input.now) }
-    ensures left { (from : ℕ) → Left A.LOOKS (A.built automaton.now) (asked input.now) from tape.old looks.old
-        → Left A.LOOKS (A.built automaton.now) (record (asked input.now) { start = after (asked input.now) result })
-        from tape.new looks.new }
-    ensures grows { Grows (kept (order_of (A.built automaton.now).kind (asked input.now).earliest) looks.old) looks.new }
+    ensures left { (from : ℕ)
+        → Left A.LOOKS (A.built automaton.now) (asked input.now) from tape.old looks.old
+        → Left A.LOOKS (A.built automaton.now) (moved (asked input.now) result) from tape.new looks.new }
+    ensures grows { Grows (kept_in (A.built automaton.now) (asked input.now) looks.old) looks.new }
     ensures tells { IfSome result
-        (Tells (kept (order_of (A.built automaton.now).kind (asked input.now).earliest) looks.old) looks.new) }
+        (Tells (kept_in (A.built automaton.now) (asked input.now) looks.old) looks.new) }
 {
     let earliest = input.get_earliest();
     if !stops_at_match(automaton.match_kind(), earliest) {

@@ -1,12 +1,10 @@
 //! A trie with failure links: small, and quickly built.
-ghost use Rattle.std.specs.Prelude.{◌≡◌, Err, List, MatchOption, MatchResult, false, map};
-ghost use Rattle.ac_util.specs.declared.search.MatchKind.TheVariants.{Standard};
-ghost use Rattle.ac_util.specs.Limits.{limit_refusal};
-ghost use Rattle.ac_automaton.specs.Builds.{IsBuilt, IsRefused, usual_settings};
+ghost use Rattle.std.specs.Prelude.{◌≡◌, List, MatchResult};
 ghost use Rattle.std.proofs.Common.{inr, refl};
-ghost use Rattle.ac_util.specs.Sameness.{plain};
+ghost use Rattle.ac_util.specs.Borrowed.{bytes_of};
 ghost use Rattle.ac_util.specs.Node.{Node};
 ghost use Rattle.ac_util.specs.Stream.{longest_len, shortest_len};
+ghost use Rattle.ac_automaton.specs.Builds.{IsBuilt, Refuses, usual_settings};
 ghost use Rattle.ac_automaton.specs.Tries.{IsTable, StandsFor, listed_within, stands-lists};
 ghost use Rattle.ac_automaton.specs.declared.nfa.noncontiguous.state.State.{State};
 
@@ -56,10 +54,12 @@ impl<A: Allocator> Model for NFA<A> {
 
     ghost Value = { Trie };
 
-    ghost view = { λ n. trie_of n.patterns.value n.fold n.kind n.order.items n.transitions.items n.states.items };
+    ghost view = { λ n. trie_of n.patterns.value n.fold n.kind
+        n.order.items n.transitions.items n.states.items };
 
     ghost invariant = { λ n. record {
-      table : (nodes : List Node) × IsTable (trie_of n.patterns.value n.fold n.kind n.order.items n.transitions.items n.states.items) nodes;
+      table : (nodes : List Node) × IsTable (trie_of n.patterns.value n.fold n.kind
+          n.order.items n.transitions.items n.states.items) nodes;
       shortest : n.shortest ≡ shortest_len n.patterns.value;
       longest : n.longest ≡ longest_len n.patterns.value;
     } };
@@ -71,11 +71,9 @@ impl<A: Allocator + Clone> NFA<A> {
     /// # Errors
     /// As `Builder::build`.
     pub fn new(alloc: A, patterns: &[&[u8]]) -> Result<NFA<A>, BuildError>
-        ensures { MatchOption (limit_refusal (map (λ p. p.now) patterns.now))
-            (MatchResult result
-            (λ nfa. IsBuilt usual_settings (map (λ p. p.now) patterns.now) nfa.built)
-            (IsRefused Standard (map (plain false) (map (λ p. p.now) patterns.now))))
-            (λ refusal. result ≡ Err refusal) }
+        ensures { MatchResult result
+            (λ nfa. IsBuilt usual_settings (bytes_of patterns.now) nfa.built)
+            (Refuses usual_settings (bytes_of patterns.now)) }
     {
         Builder::new().build(alloc, patterns)
     }

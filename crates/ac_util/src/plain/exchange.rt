@@ -1,6 +1,7 @@
 //! Matches exchanged for texts.
 ghost use Rattle.std.specs.Prelude.{◌≡◌, ◌≤◌, length, All, AllPairs, IfOk};
-ghost use Rattle.ac_util.specs.Plain.{bytes_of, IsReplaceable, EndsBy};
+ghost use Rattle.ac_util.specs.Borrowed.{bytes_of};
+ghost use Rattle.ac_util.specs.Plain.{IsReplaceable, EndsBy};
 ghost use Rattle.ac_util.specs.Replaced.{replaced};
 ghost use Rattle.ac_util.specs.Walk.{walk};
 

@@ -1,8 +1,8 @@
 //! Builds of a trie with failure links.
-ghost use Rattle.std.specs.Prelude.{◌≡◌, Err, IfOk, MatchOption, MatchResult, map};
-ghost use Rattle.ac_util.specs.Limits.{limit_refusal};
+ghost use Rattle.std.specs.Prelude.{◌≡◌, IfOk, MatchResult, map};
+ghost use Rattle.ac_util.specs.Borrowed.{bytes_of};
 ghost use Rattle.ac_util.specs.Sameness.{plain};
-ghost use Rattle.ac_automaton.specs.Builds.{IsBuilt, IsRefused, usual_settings};
+ghost use Rattle.ac_automaton.specs.Builds.{IsBuilt, IsRefused, Refuses, usual_settings};
 ghost use Rattle.ac_automaton.specs.Growths.{IsWhole};
 ghost use Rattle.ac_automaton.specs.Members.{numbers};
 
@@ -88,11 +88,9 @@ impl Builder {
         alloc: A,
         patterns: &[&[u8]],
     ) -> Result<NFA<A>, BuildError>
-        ensures { MatchOption (limit_refusal (map (λ p. p.now) patterns.now))
-            (MatchResult result
-            (λ nfa. IsBuilt self.now (map (λ p. p.now) patterns.now) nfa.built)
-            (IsRefused self.now.kind (map (plain self.now.fold) (map (λ p. p.now) patterns.now))))
-            (λ refusal. result ≡ Err refusal) }
+        ensures { MatchResult result
+            (λ nfa. IsBuilt self.now (bytes_of patterns.now) nfa.built)
+            (Refuses self.now (bytes_of patterns.now)) }
     {
         check_limits(patterns)?;
         let patterns = Patterns::new(alloc.clone()?, patterns)?;
@@ -130,7 +128,8 @@ fn whole_of<A: Allocator + Clone>(
     fold: bool,
 ) -> Result<Whole<A>, BuildError>
     ensures { MatchResult result
-        (λ whole. IsWhole patterns.now fold kind whole.order.items whole.transitions.items whole.states.items)
+        (λ whole. IsWhole patterns.now fold kind
+        whole.order.items whole.transitions.items whole.states.items)
         (IsRefused kind (map (plain fold) patterns.now)) }
 {
     let members = Members::of(alloc.clone()?, patterns, kind, fold)?;

@@ -6,14 +6,13 @@
 //! a capital comes before those by small letters. A child's failure target is a step from that of its parent;
 //! along a pattern each byte makes the target at most one longer and each failure link shorter, so n bytes of
 //! patterns take at most 2n looks.
-ghost use Rattle.std.specs.Prelude.{◌≡◌, ◌≢◌, ◌⊎◌, ◌++◌, ◌∷◌, [], ℕ, ◌+◌, ◌<◌, ◌≤◌, Bool, List, MatchResult, None, Some, length, map, slice_get};
-ghost use Rattle.ac_util.specs.declared.error.BuildError.TheVariants.{Memory, StateIdOverflow};
+ghost use Rattle.std.specs.Prelude.{◌≡◌, ◌≢◌, ◌++◌, ◌∷◌, [], ℕ, ◌+◌, ◌<◌, ◌≤◌, Bool, List, MatchResult, None, Some, length, map, slice_get};
 ghost use Rattle.ac_util.specs.declared.primitives.TheConstants.{GREATEST};
 ghost use Rattle.ac_util.specs.Node.{is_leftmost as is_leftmost_of};
 ghost use Rattle.ac_util.specs.Sameness.{plain};
 ghost use Rattle.ac_automaton.specs.declared.nfa.noncontiguous.growth.Pending.{Pending};
 ghost use Rattle.ac_automaton.specs.Builds.{IsRefused};
-ghost use Rattle.ac_automaton.specs.Growths.{HasBranched, HasChild, HasSorted, IsReady, IsWhole, LinkIsDue, Waits, leading, nodes_of, word};
+ghost use Rattle.ac_automaton.specs.Growths.{HasBranched, HasChild, HasPushed, HasSorted, IsNotPushed, IsReady, IsWhole, LinkIsDue, Waits, nodes_of, word};
 ghost use Rattle.ac_automaton.specs.Members.{IsOrder, byte_at, numbers};
 ghost use Rattle.ac_automaton.specs.Tries.{AreStates, Links, Meaning, miss};
 
@@ -53,11 +52,9 @@ impl<A: Allocator> Growth<A> {
     fn push(&mut self, byte: u8, fold: bool, pending: Pending) -> Result<(), BuildError>
         requires few { length self.old.queue.items + 4 ≤ GREATEST + 1 }
         ensures { MatchResult result
-            (λ _. (self.new.transitions.items ≡ self.old.transitions.items ++ leading fold byte (4 + length self.old.queue.items))
-            × (self.new.queue.items ≡ self.old.queue.items ++ pending ∷ [])
-            × (length self.old.queue.items + 4 < GREATEST + 1))
-            (λ e. (e ≡ Memory)
-            ⊎ ((e ≡ StateIdOverflow GREATEST (GREATEST + 1)) × (length self.old.queue.items + 4 ≡ GREATEST + 1))) }
+            (λ _. HasPushed fold byte pending self.old.transitions.items self.old.queue.items
+            self.new.transitions.items self.new.queue.items)
+            (IsNotPushed self.old.queue.items) }
     {
         let number = FIRST_INNER + self.queue.len();
         if number > GREATEST {
@@ -98,7 +95,8 @@ pub(crate) fn grow<A: Allocator + Clone, B: Allocator>(
     requires order { (texts : List (List ℕ)) × IsOrder kind (map (plain fold) texts) members.now }
     ensures { (texts : List (List ℕ)) → IsOrder kind (map (plain fold) texts) members.now
         → MatchResult result
-        (λ grown. IsWhole texts fold kind (numbers members.now) grown.transitions.items grown.states.items)
+        (λ grown. IsWhole texts fold kind (numbers members.now)
+        grown.transitions.items grown.states.items)
         (IsRefused kind (map (plain fold) texts)) }
 {
     let mut growth = Growth {
@@ -133,7 +131,8 @@ pub(crate) fn grow<A: Allocator + Clone, B: Allocator>(
 
 /// Returns the start, which waits for its children.
 fn start<B: Allocator>(members: &Members<'_, B>, kind: MatchKind) -> Pending
-    ensures waits { (patterns : List (List ℕ)) → IsOrder kind patterns members.now → Waits kind patterns members.now [] 2 result }
+    ensures waits { (patterns : List (List ℕ)) → IsOrder kind patterns members.now
+        → Waits kind patterns members.now [] 2 result }
     ensures depth { result.depth ≡ 0 }
 {
     let fail = if is_leftmost(kind) && members.len() > 0 && members.byte(0, 0).is_none() {
@@ -161,12 +160,13 @@ pub(crate) fn branch<A: Allocator, B: Allocator>(
     growth: &mut Growth<A>,
     pending: Pending,
 ) -> Result<State, BuildError>
-    requires ready { (patterns : List (List ℕ))
-        × IsReady kind fold patterns members.now states.now growth.old.transitions.items growth.old.queue.items pending }
-    ensures { (patterns : List (List ℕ))
-        → IsReady kind fold patterns members.now states.now growth.old.transitions.items growth.old.queue.items pending
+    requires ready { (patterns : List (List ℕ)) × IsReady kind fold patterns members.now states.now
+        growth.old.transitions.items growth.old.queue.items pending }
+    ensures { (patterns : List (List ℕ)) → IsReady kind fold patterns members.now states.now
+        growth.old.transitions.items growth.old.queue.items pending
         → MatchResult result
-        (λ t. HasBranched kind fold patterns members.now states.now growth.old.queue.items pending t growth.new.transitions.items growth.new.queue.items)
+        (λ t. HasBranched kind fold patterns members.now states.now growth.old.queue.items pending t
+        growth.new.transitions.items growth.new.queue.items)
         (IsRefused kind patterns) }
 {
     let (to, depth) = (pending.to as usize, pending.depth as usize);
@@ -222,7 +222,8 @@ fn own_end<B: Allocator>(members: &Members<'_, B>, pending: &Pending) -> usize
     requires within { pending.now.to ≤ length members.now }
     ensures later { pending.now.from ≤ result }
     ensures within { result ≤ pending.now.to }
-    ensures own { (k : ℕ) → pending.now.from ≤ k → k < result → byte_at members.now pending.now.depth k ≡ None }
+    ensures own { (k : ℕ) → pending.now.from ≤ k → k < result
+        → byte_at members.now pending.now.depth k ≡ None }
     ensures other { result < pending.now.to → byte_at members.now pending.now.depth result ≢ None }
 {
     let (from, to) = (pending.from as usize, pending.to as usize);
@@ -245,10 +246,13 @@ fn child_fail<B: Allocator>(
     byte: u8,
 ) -> StateID
     requires child { (fold : Bool) × (patterns : List (List ℕ)) × (queue : List Pending)
-        × HasChild kind fold patterns members.now states.now transitions.now queue pending.now place byte }
+        × HasChild kind fold patterns members.now states.now transitions.now queue
+        pending.now place byte }
     ensures { (fold : Bool) (patterns : List (List ℕ)) (queue : List Pending)
-        → HasChild kind fold patterns members.now states.now transitions.now queue pending.now place byte
-        → slice_get (nodes_of members.now queue) result ≡ Some (miss kind patterns (Some (word members.now pending.now ++ byte ∷ []))) }
+        → HasChild kind fold patterns members.now states.now transitions.now queue
+        pending.now place byte
+        → slice_get (nodes_of members.now queue) result
+        ≡ Some (miss kind patterns (Some (word members.now pending.now ++ byte ∷ []))) }
 {
     if is_leftmost(kind) && members.byte(place, pending.depth as usize + 1).is_none() {
         return StateID::must(0);
@@ -279,7 +283,8 @@ fn is_leftmost(kind: MatchKind) -> bool
 /// Returns the first state from a failure target on along the links that has patterns of its own, or 0.
 fn link_of(states: &[State], fail: StateID) -> StateID
     requires { (g : Meaning) × AreStates g states.now }
-    ensures { (g : Meaning) (u : List ℕ) → AreStates g states.now → LinkIsDue g (length states.now) u fail
+    ensures { (g : Meaning) (u : List ℕ) → AreStates g states.now
+        → LinkIsDue g (length states.now) u fail
         → Links g (length states.now) (Some u) result }
 {
     if fail.as_usize() >= states.len() {

@@ -1,11 +1,11 @@
 //! The states of a trie with failure links, and the walks over them.
-ghost use Rattle.std.specs.Prelude.{◌≡◌, ℕ, ◌+◌, ◌-◌, ◌<◌, ◌≤◌, Contains, MatchOption, Some, length, slice_get};
+ghost use Rattle.std.specs.Prelude.{◌≡◌, ℕ, ◌+◌, ◌-◌, ◌<◌, ◌≤◌, Some, length, slice_get};
 ghost use Rattle.std.specs.List.Sorted.{IsStrictlyIncreasing};
 ghost use Rattle.ac_util.specs.Counts.{more_looks};
 ghost use Rattle.ac_util.specs.Looks.{looks as looks_of_node};
 ghost use Rattle.ac_util.specs.Node.{Node, step};
 ghost use Rattle.ac_util.specs.Sameness.{plain_byte};
-ghost use Rattle.ac_automaton.specs.Tries.{Meaning, HasState, all_matches, bytes_of, dead_state, transitions_of};
+ghost use Rattle.ac_automaton.specs.Tries.{HasState, IsTarget, Meaning, all_matches, bytes_of, dead_state, transitions_of};
 
 use ac_util::looks::Looks;
 use ac_util::primitives::{PatternID, StateID};
@@ -77,8 +77,7 @@ const FEW: usize = 8;
 /// Returns the target of the transition by a byte, if there is one.
 #[inline]
 fn target_among(own: &[Transition], byte: u8) -> Option<StateID>
-    ensures { MatchOption result (Contains (bytes_of own.now) byte → ⊥) (λ target.
-        (k : ℕ) × (slice_get own.now k ≡ Some (record { byte = byte; target = target }))) }
+    ensures { IsTarget own.now byte result }
 {
     for next in own {
         if next.byte == byte {
@@ -93,9 +92,9 @@ fn target_among(own: &[Transition], byte: u8) -> Option<StateID>
 fn target(state: &State, transitions: &[Transition], byte: u8) -> Option<StateID>
     requires ordered { state.now.transitions ≤ state.now.transitions_end }
     requires listed { state.now.transitions_end ≤ length transitions.now }
-    requires ascending { IsStrictlyIncreasing (bytes_of (transitions_of transitions.now state.now)) }
-    ensures { MatchOption result (Contains (bytes_of (transitions_of transitions.now state.now)) byte → ⊥) (λ target.
-        (k : ℕ) × (slice_get (transitions_of transitions.now state.now) k ≡ Some (record { byte = byte; target = target }))) }
+    requires ascending { IsStrictlyIncreasing
+        (bytes_of (transitions_of transitions.now state.now)) }
+    ensures { IsTarget (transitions_of transitions.now state.now) byte result }
 {
     let own = &transitions[state.transitions as usize..state.transitions_end as usize];
     if own.len() <= FEW {
@@ -120,11 +119,16 @@ pub(crate) fn follow(
     byte: u8,
     looks: &mut Looks,
 ) -> StateID
-    requires state { (g : Meaning) × (u : Node) × (g.transitions ≡ transitions.now) × HasState g states.now from u }
-    ensures steps { (g : Meaning) (u : Node) → g.transitions ≡ transitions.now → HasState g states.now from u
-        → slice_get g.nodes result ≡ Some (step g.kind g.patterns anchored u (plain_byte g.fold byte)) }
-    ensures looks { (g : Meaning) (u : Node) → g.transitions ≡ transitions.now → HasState g states.now from u
-        → looks.new ≡ more_looks (looks_of_node g.kind g.patterns anchored u (plain_byte g.fold byte)) looks.old }
+    requires state { (g : Meaning) × (u : Node) × (g.transitions ≡ transitions.now)
+        × HasState g states.now from u }
+    ensures steps { (g : Meaning) (u : Node) → g.transitions ≡ transitions.now
+        → HasState g states.now from u
+        → slice_get g.nodes result
+        ≡ Some (step g.kind g.patterns anchored u (plain_byte g.fold byte)) }
+    ensures looks { (g : Meaning) (u : Node) → g.transitions ≡ transitions.now
+        → HasState g states.now from u
+        → looks.new
+        ≡ more_looks (looks_of_node g.kind g.patterns anchored u (plain_byte g.fold byte)) looks.old }
 {
     let mut at = from;
     loop {
@@ -146,7 +150,8 @@ pub(crate) fn follow(
 /// Returns how many patterns a state and those behind it by their links have.
 pub(crate) fn listed_len(states: &[State], from: StateID) -> usize
     requires state { (g : Meaning) × (u : Node) × HasState g states.now from u }
-    ensures { (g : Meaning) (u : Node) → HasState g states.now from u → result ≡ length (all_matches g u) }
+    ensures { (g : Meaning) (u : Node) → HasState g states.now from u
+        → result ≡ length (all_matches g u) }
 {
     let mut at = from.as_usize();
     let mut count = 0;
@@ -167,8 +172,8 @@ pub(crate) fn listed_pattern(
     from: StateID,
     index: usize,
 ) -> PatternID
-    requires state { (g : Meaning) × (u : Node) × (g.order ≡ order.now) × HasState g states.now from u
-        × (index < length (all_matches g u)) }
+    requires state { (g : Meaning) × (u : Node) × (g.order ≡ order.now)
+        × HasState g states.now from u × (index < length (all_matches g u)) }
     ensures { (g : Meaning) (u : Node) → g.order ≡ order.now → HasState g states.now from u
         → slice_get (all_matches g u) index ≡ Some result }
 {

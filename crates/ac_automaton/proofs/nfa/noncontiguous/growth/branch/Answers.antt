@@ -81,11 +81,11 @@ loop-place-preserved g c = λ patterns ready.
     c.loop-place.growth.transitions.items c.loop-place.growth.queue.items h c.loop-place-test.true e.later e.within byte e.same e.other in
     let fails = c.child_fail-fail.ensures c.args.fold patterns c.loop-place.growth.queue.items (rw c.deref.ensures.value child) in
     let pushed = c.in_ok-push.ensures in
-    rw (pushed.0, pushed.1)
+    rw (pushed.leads, pushed.waits)
     (branching-goes_on c.args.kind patterns c.args.members.now c.args.fold c.args.states.now c.args.growth.now.transitions.items c.args.growth.now.queue.items
     c.args.pending ready c.own_end-own_end.result c.loop-place.place c.run_end-end.result c.in-Some.byte c.child_fail-fail.result
     c.loop-place.growth.transitions.items c.loop-place.growth.queue.items h c.loop-place-test.true e.later e.within byte e.same e.other fails
-    pushed.2)
+    pushed.numbered)
 
 pub sort_from-requires : goal.sort_from-requires
 sort_from-requires g c =
