@@ -1,5 +1,5 @@
 -- Once all its children have come a state is whole.
-use Rattle.std.proofs.Common.{◌≡◌, ◌≢◌, ℕ, zero, suc, ◌+◌, ◌-◌, ◌<◌, ◌≤◌, true, Bool, List, [], ◌∷◌, ◌++◌, length, length-append, take, drop, inl, inr, refl, ap, sym, ◌∙◌, subst, arith, Some, None}
+use Rattle.std.proofs.Common.{◌≡◌, ◌≢◌, ℕ, zero, suc, ◌+◌, ◌-◌, ◌<◌, ◌≤◌, true, List, [], ◌∷◌, ◌++◌, length, length-append, take, drop, inl, inr, refl, ap, sym, ◌∙◌, subst, arith, Some, None}
 use Rattle.std.specs.Prelude.{nat_eq, slice_get, slice_range, Contains, ◌↔◌}
 use Rattle.std.specs.List.{starts_with}
 use Rattle.std.specs.List.Sorted.{IsPermutation, IsStrictlyIncreasing}
@@ -16,10 +16,10 @@ use Rattle.ac_util.proofs.Lists.{AllPairs-from_IsOrdered, Contains-from_IsIn, Is
 use Rattle.ac_automaton.specs.declared.nfa.noncontiguous.growth.Pending.{Pending}
 use Rattle.ac_automaton.specs.declared.nfa.noncontiguous.state.State.{State}
 use Rattle.ac_automaton.specs.declared.nfa.noncontiguous.state.Transition.{Transition}
-use Rattle.ac_automaton.specs.Growths.{HasBranched, HasSorted, IsGrown, IsNext, IsReady, LinkIsDue, grown_meaning, nodes_of, word}
+use Rattle.ac_automaton.specs.Growths.{HasBranched, HasSorted, IsGrown, IsNext, LinkIsDue, grown_meaning, nodes_of}
 use Rattle.ac_automaton.specs.Members.{IsOrder, Keyed, byte_at, key_at}
 use Rattle.ac_automaton.specs.Tries.{AreStates, Links, bytes_of}
-use Rattle.ac_automaton.proofs.Branching.{IsBranching, word-length}
+use Rattle.ac_automaton.proofs.Branching.{IsBranching, Site, string, word-length}
 use Rattle.ac_automaton.proofs.Grown.{AreStates-more}
 use Rattle.ac_automaton.proofs.Leading.{sorted-ascends}
 use Rattle.ac_automaton.proofs.Places.{IsIn-place}
@@ -44,37 +44,32 @@ pub some_node : (kind : MatchKind) (patterns : List (List ℕ)) (members : List 
 some_node kind patterns members order [] b node = node-member kind patterns members order b [] node
 some_node kind patterns members order (x ∷ u) b node = node-member kind patterns members order x (u ++ b ∷ []) node
 
-module _ (kind : MatchKind) (patterns : List (List ℕ)) (members : List Keyed) (fold : Bool)
-    (states : List State) (transitions0 : List Transition) (queue0 : List Pending) (p : Pending)
-    (ready : IsReady kind fold patterns members states transitions0 queue0 p) (own_end : ℕ)
-    (later : p.from ≤ own_end) (within : own_end ≤ p.to)
-    (own : (k : ℕ) → p.from ≤ k → k < own_end → byte_at members p.depth k ≡ None)
-    (other : own_end < p.to → byte_at members p.depth own_end ≢ None)
-    (unsorted : List Transition) (queue : List Pending)
-    (h : IsBranching kind patterns members fold states transitions0 queue0 p ready own_end p.to unsorted queue)
-    (transitions : List Transition) (s : HasSorted (length transitions0) unsorted transitions) where
-  long : length (word members p) ≡ p.depth
-  long = word-length kind patterns members queue (length states) p h.waits
+-- a state all of whose children have come, and whose transitions have been sorted
+module _ (site : Site) (unsorted : List Transition) (queue : List Pending)
+    (h : IsBranching site site.pending.to unsorted queue)
+    (transitions : List Transition) (s : HasSorted (length site.transitions) unsorted transitions) where
+  long : length (string site) ≡ site.pending.depth
+  long = word-length site.kind site.patterns site.members queue (length site.states) site.pending h.waits
 
   -- the transitions behind the old ones are the new ones, sorted
-  split : transitions ≡ transitions0 ++ s.sorted
-  split = s.split ∙ ap (λ (ts : List Transition). ts ++ s.sorted) (ap (take (length transitions0)) h.split ∙ take-append_seam transitions0 h.added)
+  split : transitions ≡ site.transitions ++ s.sorted
+  split = s.split ∙ ap (λ (ts : List Transition). ts ++ s.sorted) (ap (take (length site.transitions)) h.split ∙ take-append_seam site.transitions h.added)
 
   sorted-from : IsPermutation h.added s.sorted
   sorted-from =
       subst (λ (ts : List Transition). IsPermutation ts s.sorted)
-      (ap (drop (length transitions0)) h.split ∙ drop-append_seam transitions0 h.added) s.permutation
+      (ap (drop (length site.transitions)) h.split ∙ drop-append_seam site.transitions h.added) s.permutation
 
   abbrev range : List Transition
-  range = slice_range transitions (length transitions0) (length transitions)
+  range = slice_range transitions (length site.transitions) (length transitions)
 
   range-is : range ≡ s.sorted
   range-is =
-      let count : length transitions - length transitions0 ≡ length s.sorted =
-      (let l = ap length split in omega (arith, length-append transitions0 s.sorted)) in
-      ap (λ (n : ℕ). take n (drop (length transitions0) transitions)) count
-      ∙ ap (λ (ts : List Transition). take (length s.sorted) (drop (length transitions0) ts)) split
-      ∙ ap (take (length s.sorted)) (drop-append_seam transitions0 s.sorted)
+      let count : length transitions - length site.transitions ≡ length s.sorted =
+      (let l = ap length split in omega (arith, length-append site.transitions s.sorted)) in
+      ap (λ (n : ℕ). take n (drop (length site.transitions) transitions)) count
+      ∙ ap (λ (ts : List Transition). take (length s.sorted) (drop (length site.transitions) ts)) split
+      ∙ ap (take (length s.sorted)) (drop-append_seam site.transitions s.sorted)
       ∙ take-length s.sorted
 
   in-range : (t : Transition) → IsIn t h.added → IsIn t range
@@ -93,112 +88,112 @@ module _ (kind : MatchKind) (patterns : List (List ℕ)) (members : List Keyed) 
       subst (λ (ts : List Transition). IsStrictlyIncreasing (bytes_of ts)) (sym range-is)
       (sorted-ascends h.added s.sorted (AllPairs-from_IsOrdered (λ (a b : Transition). a.byte ≢ b.byte) h.added h.apart) sorted-from s.order)
 
-  own' : (k : ℕ) → p.from ≤ k → k < own_end → byte_at members (length (word members p)) k ≡ None
-  own' k a c = subst (λ (n : ℕ). byte_at members n k ≡ None) (sym long) (own k a c)
+  own' : (k : ℕ) → site.pending.from ≤ k → k < site.own_end → byte_at site.members (length (string site)) k ≡ None
+  own' k a c = subst (λ (n : ℕ). byte_at site.members n k ≡ None) (sym long) (site.ends.own k a c)
 
-  other' : own_end < p.to → byte_at members (length (word members p)) own_end ≢ None
-  other' l = subst (λ (n : ℕ). byte_at members n own_end ≢ None) (sym long) (other l)
+  other' : site.own_end < site.pending.to → byte_at site.members (length (string site)) site.own_end ≢ None
+  other' l = subst (λ (n : ℕ). byte_at site.members n site.own_end ≢ None) (sym long) (site.ends.other l)
 
   -- there is a transition by a byte exactly if it makes a node
-  transition-node : (t : Transition) → IsIn t h.added → is_node kind patterns (word members p ++ plain_byte fold t.byte ∷ []) ≡ true
+  transition-node : (t : Transition) → IsIn t h.added → is_node site.kind site.patterns (string site ++ plain_byte site.fold t.byte ∷ []) ≡ true
   transition-node t has =
       let m = h.by_members t has in
-      let inside : m.0 < length members = (let w = h.waits.range.within in omega (arith, m.2)) in
+      let inside : m.0 < length site.members = (let w = h.waits.range.within in omega (arith, m.2)) in
       let front = (h.waits.range.begins m.0 inside).0 ((omega (arith, m.1)), m.2) in
-      member-node kind patterns members ready.order m.0 (word members p ++ plain_byte fold t.byte ∷ []) inside
-      (starts_with-push (key_at members m.0) (word members p) (plain_byte fold t.byte) front
-      (subst (λ (n : ℕ). byte_at members n m.0 ≡ Some (plain_byte fold t.byte)) (sym long) m.3))
+      member-node site.kind site.patterns site.members site.ready.order m.0 (string site ++ plain_byte site.fold t.byte ∷ []) inside
+      (starts_with-push (key_at site.members m.0) (string site) (plain_byte site.fold t.byte) front
+      (subst (λ (n : ℕ). byte_at site.members n m.0 ≡ Some (plain_byte site.fold t.byte)) (sym long) m.3))
 
-  node-transition : (b : ℕ) → is_node kind patterns (word members p ++ plain_byte fold b ∷ []) ≡ true → Contains (bytes_of range) b
+  node-transition : (b : ℕ) → is_node site.kind site.patterns (string site ++ plain_byte site.fold b ∷ []) ≡ true → Contains (bytes_of range) b
   node-transition b node =
-      let m = some_node kind patterns members ready.order (word members p) (plain_byte fold b) node in
-      let there = (h.waits.range.begins m.0 m.1).1 (starts_with-front (key_at members m.0) (word members p) (plain_byte fold b) m.2) in
-      let byte = starts_with-last (key_at members m.0) (word members p) (plain_byte fold b) m.2 in
-      elim (cases_lt m.0 own_end) [
+      let m = some_node site.kind site.patterns site.members site.ready.order (string site) (plain_byte site.fold b) node in
+      let there = (h.waits.range.begins m.0 m.1).1 (starts_with-front (key_at site.members m.0) (string site) (plain_byte site.fold b) m.2) in
+      let byte = starts_with-last (key_at site.members m.0) (string site) (plain_byte site.fold b) m.2 in
+      elim (cases_lt m.0 site.own_end) [
         | inl before ↦ absurd (let none = own' m.0 there.0 before in cc)
         | inr le ↦
-            let t = h.covered m.0 (plain_byte fold b) b le there.1 (subst (λ (n : ℕ). byte_at members n m.0 ≡ Some (plain_byte fold b)) long byte) refl in
+            let t = h.covered m.0 (plain_byte site.fold b) b le there.1 (subst (λ (n : ℕ). byte_at site.members n m.0 ≡ Some (plain_byte site.fold b)) long byte) refl in
             subst (Contains (bytes_of range)) t.2
             (Contains-from_IsIn t.0.byte (bytes_of range) (IsIn-map (λ (x : Transition). x.byte) t.0 range (in-range t.0 t.1)))
       ]
 
-  branches : (b : ℕ) → Contains (bytes_of range) b ↔ (step kind patterns Yes (Some (word members p)) (plain_byte fold b) ≢ None)
+  branches : (b : ℕ) → Contains (bytes_of range) b ↔ (step site.kind site.patterns Yes (Some (string site)) (plain_byte site.fold b) ≢ None)
   branches b = (
     (λ has none.
         let t = IsIn-from_map (λ (x : Transition). x.byte) b range (IsIn-from_Contains b (bytes_of range) has) in
         let node = transition-node t.0 (from-range t.0 t.1) in
-        let some = held-is kind patterns (word members p) (plain_byte fold t.0.byte) node in
-        let same = ap (λ (x : ℕ). step kind patterns Yes (Some (word members p)) (plain_byte fold x)) t.2 in
+        let some = held-is site.kind site.patterns (string site) (plain_byte site.fold t.0.byte) node in
+        let same = ap (λ (x : ℕ). step site.kind site.patterns Yes (Some (string site)) (plain_byte site.fold x)) t.2 in
         absurd (cc)),
-    (λ some. node-transition b (held-node kind patterns (word members p) (plain_byte fold b) some)),
+    (λ some. node-transition b (held-node site.kind site.patterns (string site) (plain_byte site.fold b) some)),
   )
 
   leads : (k : ℕ) (t : Transition) → slice_get range k ≡ Some t
-      → slice_get (nodes_of members queue) t.target ≡ Some (step kind patterns Yes (Some (word members p)) (plain_byte fold t.byte))
+      → slice_get (nodes_of site.members queue) t.target ≡ Some (step site.kind site.patterns Yes (Some (string site)) (plain_byte site.fold t.byte))
   leads k t e =
       let has = from-range t (IsIn-place t range k e) in
-      h.leads t has ∙ ap (λ (v : Node). Some v) (sym (held-is kind patterns (word members p) (plain_byte fold t.byte) (transition-node t has)))
+      h.leads t has ∙ ap (λ (v : Node). Some v) (sym (held-is site.kind site.patterns (string site) (plain_byte site.fold t.byte) (transition-node t has)))
 
   -- the states that were whole stay what they are
-  pub still-meant : AreStates (grown_meaning kind fold patterns members transitions queue) states
-  still-meant = AreStates-more (grown_meaning kind fold patterns members transitions0 queue) transitions s.sorted split (nodes_of members queue)
-      (λ k v e. e) states (omega arith) h.meant
+  pub still-meant : AreStates (grown_meaning site.kind site.fold site.patterns site.members transitions queue) site.states
+  still-meant = AreStates-more (grown_meaning site.kind site.fold site.patterns site.members site.transitions queue) transitions s.sorted split (nodes_of site.members queue)
+      (λ k v e. e) site.states (omega arith) h.meant
 
   -- the failure target decides the link
-  pub link-due : LinkIsDue (grown_meaning kind fold patterns members transitions queue) (length states) (word members p) p.fail
+  pub link-due : LinkIsDue (grown_meaning site.kind site.fold site.patterns site.members transitions queue) (length site.states) (string site) site.pending.fail
   link-due = record {
     fails = h.waits.fails;
     dead = refl;
-    near = λ some. near some ready.next;
-    start = λ none l. start none l ready.next;
+    near = λ some. near some site.ready.next;
+    start = λ none l. start none l site.ready.next;
   }
     where
-      near : word members p ≢ [] → IsNext kind patterns members queue0 (length states) p → p.fail < length states
-      near some (inl start) = absurd (some (ap (λ (n : ℕ). take n (key_at members p.from)) start.2))
+      near : string site ≢ [] → IsNext site.kind site.patterns site.members site.queue (length site.states) site.pending → site.pending.fail < length site.states
+      near some (inl start) = absurd (some (ap (λ (n : ℕ). take n (key_at site.members site.pending.from)) start.2))
       near some (inr later) = h.waits.back (let s = later.1 in omega arith)
 
-      first_two : (f : ℕ) → f < 2 → slice_get (nodes_of members queue) f ≡ Some None
+      first_two : (f : ℕ) → f < 2 → slice_get (nodes_of site.members queue) f ≡ Some None
       first_two zero l = refl
       first_two (suc zero) l = refl
       first_two (suc (suc f)) l = absurd (omega arith)
 
-      start : word members p ≡ [] → p.fail < length states → IsNext kind patterns members queue0 (length states) p
-          → (p.fail < 2) × (slice_get (nodes_of members queue) p.fail ≡ Some None)
-      start none l (inl first) = let f : p.fail < 2 = (let s = first.0 in omega arith) in (f, first_two p.fail f)
+      start : string site ≡ [] → site.pending.fail < length site.states → IsNext site.kind site.patterns site.members site.queue (length site.states) site.pending
+          → (site.pending.fail < 2) × (slice_get (nodes_of site.members queue) site.pending.fail ≡ Some None)
+      start none l (inl first) = let f : site.pending.fail < 2 = (let s = first.0 in omega arith) in (f, first_two site.pending.fail f)
       start none l (inr later) =
           absurd (let s = later.1 in let d = h.waits.inner (omega arith) in let e = ap length none in let m = long in omega arith)
 
-  -- the state that stands for the string
+  -- the state that stands for the (string site)
   abbrev pub whole_state : ℕ → State
   whole_state link = record {
-    transitions = length transitions0;
+    transitions = length site.transitions;
     transitions_end = length transitions;
-    fail = p.fail;
-    own = p.from;
-    own_end = own_end;
+    fail = site.pending.fail;
+    own = site.pending.from;
+    own_end = site.own_end;
     link = link;
-    depth = p.depth;
+    depth = site.pending.depth;
   }
 
-  pub has-branched : (link : ℕ) → Links (grown_meaning kind fold patterns members transitions queue) (length states) (Some (word members p)) link
-      → HasBranched kind fold patterns members states queue0 p (whole_state link) transitions queue
+  pub has-branched : (link : ℕ) → Links (grown_meaning site.kind site.fold site.patterns site.members transitions queue) (length site.states) (Some (string site)) link
+      → HasBranched site.kind site.fold site.patterns site.members site.states site.queue site.pending (whole_state link) transitions queue
   has-branched link links = record {
     grown = still-grown;
     meant = still-meant;
     represents = record {
-      ordered = (let l = ap length split in omega (arith, length-append transitions0 s.sorted));
+      ordered = (let l = ap length split in omega (arith, length-append site.transitions s.sorted));
       listed = omega arith;
       ascending = ascending;
       branches = branches;
       leads = leads;
       fails = h.waits.fails;
       back = h.waits.back;
-      owned = later;
-      within = (let w = h.waits.range.within in let m = length-map members (λ (q : Keyed). q.number) in omega arith);
-      own = own-range kind patterns members ready.order (word members p) p.from p.to h.waits.range own_end later within own' other';
+      owned = site.ends.later;
+      within = (let w = h.waits.range.within in let m = length-map site.members (λ (q : Keyed). q.number) in omega arith);
+      own = own-range site.kind site.patterns site.members site.ready.order (string site) site.pending.from site.pending.to h.waits.range site.own_end site.ends.later site.ends.within own' other';
       links = links;
       long = sym long;
-      outer = λ l. let m = long in outer l ready.next;
+      outer = λ l. let m = long in outer l site.ready.next;
       inner = λ l. let m = long in let d = h.waits.inner l in omega arith;
     };
     kept = h.kept;
@@ -209,9 +204,9 @@ module _ (kind : MatchKind) (patterns : List (List ℕ)) (members : List Keyed) 
           let l = ap length split in
           let m = ap length h.split in
           let n = length_permutation h.added s.sorted sorted-from in
-          omega (arith, length-append transitions0 s.sorted, length-append transitions0 h.added)
+          omega (arith, length-append site.transitions s.sorted, length-append site.transitions h.added)
 
-      still-grown : IsGrown kind patterns members (length states + 1) transitions queue
+      still-grown : IsGrown site.kind site.patterns site.members (length site.states + 1) transitions queue
       still-grown = record {
         few = h.grown.few;
         counted = (let l = as-many in let m = h.grown.counted in omega arith);
@@ -220,6 +215,6 @@ module _ (kind : MatchKind) (patterns : List (List ℕ)) (members : List Keyed) 
         parents = h.grown.parents;
       }
 
-      outer : length states < 4 → IsNext kind patterns members queue0 (length states) p → length (word members p) ≡ 0
+      outer : length site.states < 4 → IsNext site.kind site.patterns site.members site.queue (length site.states) site.pending → length (string site) ≡ 0
       outer l (inl start) = long ∙ start.2
       outer l (inr later) = absurd (let n = later.1 in omega arith)

@@ -14,7 +14,7 @@ use Rattle.ac_util.proofs.Lists.{IsIn, IsIn-append_cases, IsIn-append_left, IsIn
 use Rattle.ac_automaton.specs.declared.nfa.noncontiguous.growth.Pending.{Pending}
 use Rattle.ac_automaton.specs.declared.nfa.noncontiguous.state.State.{State}
 use Rattle.ac_automaton.specs.declared.nfa.noncontiguous.state.Transition.{Transition}
-use Rattle.ac_automaton.specs.Growths.{HasChild, IsGrown, IsNext, IsRangeOf, IsReady, Waits, grown_meaning, leading, nodes_of, word}
+use Rattle.ac_automaton.specs.Growths.{EndsOwn, HasChild, IsGrown, IsNext, IsRangeOf, IsReady, Waits, grown_meaning, leading, nodes_of, word}
 use Rattle.ac_automaton.specs.Members.{Keyed, byte_at, key_at}
 use Rattle.ac_automaton.specs.Tries.{AreStates, miss}
 use Rattle.ac_automaton.proofs.Grown.{AreStates-more, IsInner, nodes-cases, nodes-inner, nodes-more}
@@ -65,344 +65,364 @@ module _ (kind : MatchKind) (patterns : List (List ℕ)) (members : List Keyed) 
   next-node queue s p (inr later) =
       subst (λ (k : ℕ). slice_get (nodes_of members queue) k ≡ Some (Some (word members p))) (sym later.1) (nodes-inner members queue later.0 p later.2)
 
-  module _ (fold : Bool) (states : List State) (transitions0 : List Transition) (queue0 : List Pending) (p : Pending)
-      (ready : IsReady kind fold patterns members states transitions0 queue0 p) (own_end : ℕ) where
-    -- the children of the members up to a place have come
-    pub record IsBranching (place : ℕ) (transitions : List Transition) (queue : List Pending) : Type 0 where
-      pub grown : IsGrown kind patterns members (length states + 1) transitions queue
-      pub meant : AreStates (grown_meaning kind fold patterns members transitions0 queue) states
-      pub waits : Waits kind patterns members queue (length states) p
-      pub node : slice_get (nodes_of members queue) (length states) ≡ Some (Some (word members p))
-      pub kept : (k : ℕ) (q : Pending) → slice_get queue0 k ≡ Some q → slice_get queue k ≡ Some q
-      pub more : length queue0 ≤ length queue
-      pub begun : p.from ≤ own_end
-      pub low : own_end ≤ place
-      pub high : place ≤ p.to
-      pub children : (c : ℕ) (q : Pending) → length queue0 ≤ c → slice_get queue c ≡ Some q
-          → (k b : ℕ) × (own_end ≤ k) × (k < place) × (byte_at members p.depth k ≡ Some b) × (word members q ≡ word members p ++ b ∷ [])
-      pub added : List Transition
-      pub split : transitions ≡ transitions0 ++ added
-      pub leads : (t : Transition) → IsIn t added
-          → slice_get (nodes_of members queue) t.target ≡ Some (Some (word members p ++ plain_byte fold t.byte ∷ []))
-      pub by_members : (t : Transition) → IsIn t added
-          → (k : ℕ) × (own_end ≤ k) × (k < place) × (byte_at members p.depth k ≡ Some (plain_byte fold t.byte))
-      pub covered : (k b x : ℕ) → own_end ≤ k → k < place → byte_at members p.depth k ≡ Some b → plain_byte fold x ≡ b
-          → (t : Transition) × IsIn t added × (t.byte ≡ x)
-      pub apart : IsOrdered (λ s t. s.byte ≢ t.byte) added
-      pub smaller : place < p.to → (k : ℕ) → p.from ≤ k → k < place
-          → rank (byte_at members p.depth k) < rank (byte_at members p.depth place)
+-- a state whose children come: the trie as far as it has grown, the state, and where the patterns end that are its string
+pub record Site : Type 0 where
+  pub kind : MatchKind
+  pub fold : Bool
+  pub patterns : List (List ℕ)
+  pub members : List Keyed
+  pub states : List State
+  pub transitions : List Transition
+  pub queue : List Pending
+  pub pending : Pending
+  pub ready : IsReady kind fold patterns members states transitions queue pending
+  pub own_end : ℕ
+  pub ends : EndsOwn members pending own_end
 
-    rank-some : (r : Option ℕ) → r ≢ None → 0 < rank r
-    rank-some None some = absurd (some refl)
-    rank-some (Some b) some = omega arith
+module _ (site : Site) where
+  -- the string of the state, and the byte with which a member goes on behind it
+  abbrev pub string : List ℕ
+  string = word site.members site.pending
 
-    -- it begins behind the patterns that are the string
-    pub branching-begins : (p.from ≤ own_end) → own_end ≤ p.to
-        → ((k : ℕ) → p.from ≤ k → k < own_end → byte_at members p.depth k ≡ None)
-        → (own_end < p.to → byte_at members p.depth own_end ≢ None) → IsBranching own_end transitions0 queue0
-    branching-begins low high own other = record {
-      grown = record {
-        few = ready.grown.few;
-        counted = ready.grown.counted;
-        waits = ready.grown.waits;
-        apart = ready.grown.apart;
-        parents = λ k q e. let r = ready.grown.parents k q e in (r.0, omega (arith, r.1), r.2);
-      };
-      meant = ready.meant;
-      waits = ready.waits;
-      node = next-node queue0 (length states) p ready.next;
-      kept = λ k q e. e;
-      more = omega arith;
-      begun = low;
-      low = omega arith;
-      high = high;
-      children = λ c q le e. absurd (let l = slice_get_within queue0 c q e in omega arith);
-      added = [];
-      split = sym (append-nil transitions0);
-      leads = λ t none. absurd none;
-      by_members = λ t none. absurd none;
-      covered = λ k b x l h e f. absurd (omega arith);
-      apart = tt;
-      smaller = λ more k a b.
-          let zero : rank (byte_at members p.depth k) ≡ 0 = ap rank (own k a b) in
-          let one = rank-some (byte_at members p.depth own_end) (other more) in
-          omega arith;
+  abbrev pub next_byte : ℕ → Option ℕ
+  next_byte k = byte_at site.members site.pending.depth k
+
+  -- the children of the members up to a place have come
+  pub record IsBranching (place : ℕ) (transitions : List Transition) (queue : List Pending) : Type 0 where
+    pub grown : IsGrown site.kind site.patterns site.members (length site.states + 1) transitions queue
+    pub meant : AreStates (grown_meaning site.kind site.fold site.patterns site.members site.transitions queue) site.states
+    pub waits : Waits site.kind site.patterns site.members queue (length site.states) site.pending
+    pub node : slice_get (nodes_of site.members queue) (length site.states) ≡ Some (Some string)
+    pub kept : (k : ℕ) (q : Pending) → slice_get site.queue k ≡ Some q → slice_get queue k ≡ Some q
+    pub more : length site.queue ≤ length queue
+    pub low : site.own_end ≤ place
+    pub high : place ≤ site.pending.to
+    pub children : (c : ℕ) (q : Pending) → length site.queue ≤ c → slice_get queue c ≡ Some q
+        → (k b : ℕ) × (site.own_end ≤ k) × (k < place) × (next_byte k ≡ Some b) × (word site.members q ≡ string ++ b ∷ [])
+    pub added : List Transition
+    pub split : transitions ≡ site.transitions ++ added
+    pub leads : (t : Transition) → IsIn t added
+        → slice_get (nodes_of site.members queue) t.target ≡ Some (Some (string ++ plain_byte site.fold t.byte ∷ []))
+    pub by_members : (t : Transition) → IsIn t added
+        → (k : ℕ) × (site.own_end ≤ k) × (k < place) × (next_byte k ≡ Some (plain_byte site.fold t.byte))
+    pub covered : (k b x : ℕ) → site.own_end ≤ k → k < place → next_byte k ≡ Some b → plain_byte site.fold x ≡ b
+        → (t : Transition) × IsIn t added × (t.byte ≡ x)
+    pub apart : IsOrdered (λ s t. s.byte ≢ t.byte) added
+    pub smaller : place < site.pending.to → (k : ℕ) → site.pending.from ≤ k → k < place
+        → rank (next_byte k) < rank (next_byte place)
+
+  rank-some : (r : Option ℕ) → r ≢ None → 0 < rank r
+  rank-some None some = absurd (some refl)
+  rank-some (Some b) some = omega arith
+
+  -- it begins behind the patterns that are the string
+  pub branching-begins : IsBranching site.own_end site.transitions site.queue
+  branching-begins = record {
+    grown = record {
+      few = site.ready.grown.few;
+      counted = site.ready.grown.counted;
+      waits = site.ready.grown.waits;
+      apart = site.ready.grown.apart;
+      parents = λ k q e. let r = site.ready.grown.parents k q e in (r.0, omega (arith, r.1), r.2);
+    };
+    meant = site.ready.meant;
+    waits = site.ready.waits;
+    node = next-node site.kind site.patterns site.members site.queue (length site.states) site.pending site.ready.next;
+    kept = λ k q e. e;
+    more = omega arith;
+    low = omega arith;
+    high = site.ends.within;
+    children = λ c q le e. absurd (let l = slice_get_within site.queue c q e in omega arith);
+    added = [];
+    split = sym (append-nil site.transitions);
+    leads = λ t none. absurd none;
+    by_members = λ t none. absurd none;
+    covered = λ k b x l h e f. absurd (omega arith);
+    apart = tt;
+    smaller = λ more k a b.
+        let zero : rank (next_byte k) ≡ 0 = ap rank (site.ends.own k a b) in
+        let one = rank-some (next_byte site.own_end) (site.ends.other more) in
+        omega arith;
+  }
+
+  -- behind the patterns that are the string each member has a further byte
+  pub goes-on : (place : ℕ) (transitions : List Transition) (queue : List Pending) → IsBranching place transitions queue
+      → place < site.pending.to → next_byte place ≢ None
+  goes-on place transitions queue h more =
+      let same = word-length site.kind site.patterns site.members queue (length site.states) site.pending h.waits in
+      subst (λ (n : ℕ). byte_at site.members n place ≢ None) same
+      (longer site.kind site.patterns site.members site.ready.order string site.pending.from site.pending.to h.waits.range site.own_end site.ends.later (let l = h.low in omega arith)
+      (λ k a c. subst (λ (n : ℕ). byte_at site.members n k ≡ None) (sym same) (site.ends.own k a c))
+      (λ l. subst (λ (n : ℕ). byte_at site.members n site.own_end ≢ None) (sym same) (site.ends.other l)) place h.low more)
+
+  -- the members from a place up to another go on with the byte, and the next one doesn't
+  pub record IsRun (place end b : ℕ) : Type 0 where
+    pub more : place < site.pending.to
+    pub some : place < end
+    pub high : end ≤ site.pending.to
+    pub byte : next_byte place ≡ Some b
+    pub same : (k : ℕ) → place ≤ k → k < end → next_byte k ≡ next_byte place
+    pub other : end < site.pending.to → next_byte end ≢ next_byte place
+
+  -- such a run is that of a child
+  module _ (place end b : ℕ) (transitions : List Transition) (queue : List Pending) (h : IsBranching place transitions queue)
+      (run : IsRun place end b) where
+    long : length string ≡ site.pending.depth
+    long = word-length site.kind site.patterns site.members queue (length site.states) site.pending h.waits
+
+    below : (k : ℕ) → site.pending.from ≤ k → k < place → rank (next_byte k) < suc b
+    below k a c =
+        let r = h.smaller run.more k a c in
+        let at : rank (next_byte place) ≡ suc b = ap rank run.byte in
+        omega arith
+
+    -- the members of the run are those that begin with the child's string
+    pub child-members : IsRangeOf site.members (string ++ b ∷ []) place end
+    child-members =
+        child-range site.kind site.patterns site.members site.ready.order string site.pending.from site.pending.to h.waits.range place end b
+        (let l = h.low in let m = site.ends.later in omega arith) run.some run.high
+        (subst (λ (n : ℕ). byte_at site.members n place ≡ Some b) (sym long) run.byte)
+        (λ k a c. subst (λ (n : ℕ). rank (byte_at site.members n k) < suc b) (sym long) (below k a c))
+        (λ k a c. subst (λ (n : ℕ). byte_at site.members n k ≡ byte_at site.members n place) (sym long) (run.same k a c))
+        (λ l. subst (λ (n : ℕ). byte_at site.members n end ≢ byte_at site.members n place) (sym long) (run.other l))
+
+    greater : end < site.pending.to → suc b < rank (next_byte end)
+    greater l =
+        subst (λ (n : ℕ). suc b < rank (byte_at site.members n end)) long
+        (next-greater site.kind site.patterns site.members site.ready.order string site.pending.from site.pending.to h.waits.range place end b
+        (let m = h.low in let n = site.ends.later in omega arith) run.some run.high
+        (subst (λ (n : ℕ). byte_at site.members n place ≡ Some b) (sym long) run.byte)
+        (λ k a c. subst (λ (n : ℕ). rank (byte_at site.members n k) < suc b) (sym long) (below k a c))
+        (λ k a c. subst (λ (n : ℕ). byte_at site.members n k ≡ byte_at site.members n place) (sym long) (run.same k a c))
+        (λ m. subst (λ (n : ℕ). byte_at site.members n end ≢ byte_at site.members n place) (sym long) (run.other m)) l)
+
+    pushed : length (string ++ b ∷ []) ≡ site.pending.depth + 1
+    pushed = let l = length_push string b in let m = long in omega arith
+
+    front : starts_with nat_eq (key_at site.members place) (string ++ b ∷ []) ≡ true
+    front = (child-members.begins place (let w = h.waits.range.within in omega arith)).0 (omega arith, run.some)
+
+    -- the pattern at the place has the byte
+    pub child-deep : site.pending.depth + 1 ≤ length (key_at site.members place)
+    child-deep = let l = starts_with-length (key_at site.members place) (string ++ b ∷ []) front in let m = pushed in omega arith
+
+    -- what the child's failure target is told by
+    pub has-child : HasChild site.kind site.fold site.patterns site.members site.states transitions queue site.pending place b
+    has-child = record {
+      order = site.ready.order;
+      settled = site.ready.settled place site.pending.depth b run.byte;
+      meant = AreStates-more (grown_meaning site.kind site.fold site.patterns site.members site.transitions queue) transitions h.added h.split (nodes_of site.members queue)
+          (λ s v e. e) site.states (omega arith) h.meant;
+      waits = h.waits;
+      near = λ deep. near deep site.ready.next;
+      to = end;
+      range = child-members;
+      some = run.some;
     }
+      where
+        near : site.pending.depth ≢ 0 → IsNext site.kind site.patterns site.members site.queue (length site.states) site.pending → site.pending.fail < length site.states
+        near deep (inl start) = absurd (deep start.2)
+        near deep (inr later) = h.waits.back (let n = later.1 in omega arith)
 
-    -- behind the patterns that are the string each member has a further byte
-    pub goes-on : (place : ℕ) (transitions : List Transition) (queue : List Pending) → IsBranching place transitions queue
-        → ((k : ℕ) → p.from ≤ k → k < own_end → byte_at members p.depth k ≡ None)
-        → (own_end < p.to → byte_at members p.depth own_end ≢ None) → place < p.to → byte_at members p.depth place ≢ None
-    goes-on place transitions queue h own other more =
-        let same = word-length queue (length states) p h.waits in
-        subst (λ (n : ℕ). byte_at members n place ≢ None) same
-        (longer kind patterns members ready.order (word members p) p.from p.to h.waits.range own_end h.begun (let l = h.low in omega arith)
-        (λ k a c. subst (λ (n : ℕ). byte_at members n k ≡ None) (sym same) (own k a c))
-        (λ l. subst (λ (n : ℕ). byte_at members n own_end ≢ None) (sym same) (other l)) place h.low more)
+    -- the child that waits for them
+    module _ (fail : ℕ) (fails : slice_get (nodes_of site.members queue) fail ≡ Some (miss site.kind site.patterns (Some (string ++ b ∷ [])))) where
+      abbrev child : Pending
+      child = record { from = place; to = end; depth = site.pending.depth + 1; fail = fail }
 
-    -- a run of members with one byte, which is the string of a child
-    module _ (place end b fail : ℕ) (transitions : List Transition) (queue : List Pending) (h : IsBranching place transitions queue)
-        (more : place < p.to) (some : place < end) (high : end ≤ p.to)
-        (byte : byte_at members p.depth place ≡ Some b)
-        (same : (k : ℕ) → place ≤ k → k < end → byte_at members p.depth k ≡ byte_at members p.depth place)
-        (other : end < p.to → byte_at members p.depth end ≢ byte_at members p.depth place) where
-      long : length (word members p) ≡ p.depth
-      long = word-length queue (length states) p h.waits
+      child-word : word site.members child ≡ string ++ b ∷ []
+      child-word =
+          ap (λ (n : ℕ). take n (key_at site.members place)) (sym pushed)
+          ∙ front-is (key_at site.members place) (string ++ b ∷ []) front
 
-      below : (k : ℕ) → p.from ≤ k → k < place → rank (byte_at members p.depth k) < suc b
-      below k a c =
-          let r = h.smaller more k a c in
-          let at : rank (byte_at members p.depth place) ≡ suc b = ap rank byte in
-          omega arith
-
-      -- the members of the run are those that begin with the child's string
-      pub child-members : IsRangeOf members (word members p ++ b ∷ []) place end
-      child-members =
-          child-range kind patterns members ready.order (word members p) p.from p.to h.waits.range place end b
-          (let l = h.low in let m = h.begun in omega arith) some high
-          (subst (λ (n : ℕ). byte_at members n place ≡ Some b) (sym long) byte)
-          (λ k a c. subst (λ (n : ℕ). rank (byte_at members n k) < suc b) (sym long) (below k a c))
-          (λ k a c. subst (λ (n : ℕ). byte_at members n k ≡ byte_at members n place) (sym long) (same k a c))
-          (λ l. subst (λ (n : ℕ). byte_at members n end ≢ byte_at members n place) (sym long) (other l))
-
-      greater : end < p.to → suc b < rank (byte_at members p.depth end)
-      greater l =
-          subst (λ (n : ℕ). suc b < rank (byte_at members n end)) long
-          (next-greater kind patterns members ready.order (word members p) p.from p.to h.waits.range place end b
-          (let m = h.low in let n = h.begun in omega arith) some high
-          (subst (λ (n : ℕ). byte_at members n place ≡ Some b) (sym long) byte)
-          (λ k a c. subst (λ (n : ℕ). rank (byte_at members n k) < suc b) (sym long) (below k a c))
-          (λ k a c. subst (λ (n : ℕ). byte_at members n k ≡ byte_at members n place) (sym long) (same k a c))
-          (λ m. subst (λ (n : ℕ). byte_at members n end ≢ byte_at members n place) (sym long) (other m)) l)
-
-      pushed : length (word members p ++ b ∷ []) ≡ p.depth + 1
-      pushed = let l = length_push (word members p) b in let m = long in omega arith
-
-      front : starts_with nat_eq (key_at members place) (word members p ++ b ∷ []) ≡ true
-      front = (child-members.begins place (let w = h.waits.range.within in omega arith)).0 (omega arith, some)
-
-      -- the pattern at the place has the byte
-      pub child-deep : p.depth + 1 ≤ length (key_at members place)
-      child-deep = let l = starts_with-length (key_at members place) (word members p ++ b ∷ []) front in let m = pushed in omega arith
-
-      -- what the child's failure target is told by
-      pub has-child : HasChild kind fold patterns members states transitions queue p place b
-      has-child = record {
-        order = ready.order;
-        settled = ready.settled place p.depth b byte;
-        meant = AreStates-more (grown_meaning kind fold patterns members transitions0 queue) transitions h.added h.split (nodes_of members queue)
-            (λ s v e. e) states (omega arith) h.meant;
-        waits = h.waits;
-        near = λ deep. near deep ready.next;
-        to = end;
-        range = child-members;
-        some = some;
-      }
+      -- a state that was there before has another string: else it would have this parent
+      old-child : (k : ℕ) (q : Pending) → k < length site.queue → slice_get queue k ≡ Some q → word site.members q ≡ string ++ b ∷ [] → ⊥
+      old-child k q l e w =
+          let known = slice_get-get_or site.queue k q l in
+          let is : get_or site.queue k q ≡ q = get-same queue k (get_or site.queue k q) q (h.kept k (get_or site.queue k q) known) e in
+          let there : slice_get site.queue k ≡ Some q = known ∙ ap (λ (r : Pending). Some r) is in
+          let parent = site.ready.grown.parents k q there in
+          let waits = site.ready.grown.waits k q there in
+          let depth : q.depth - 1 ≡ site.pending.depth =
+          (let m = word-length site.kind site.patterns site.members site.queue (4 + k) q waits in let n = ap length w in let o = pushed in omega arith) in
+          let same_string : take (q.depth - 1) (word site.members q) ≡ string =
+          ap (λ (n : ℕ). take n (word site.members q)) (depth ∙ sym long) ∙ ap (take (length string)) w ∙ take-append_seam string (b ∷ []) in
+          same-parent parent.0 parent.1 (parent.2 ∙ ap (λ (v : List ℕ). Some (Some v)) same_string)
         where
-          near : p.depth ≢ 0 → IsNext kind patterns members queue0 (length states) p → p.fail < length states
-          near deep (inl start) = absurd (deep start.2)
-          near deep (inr later) = h.waits.back (let n = later.1 in omega arith)
+          same-parent : (j : ℕ) → j < length site.states → slice_get (nodes_of site.members site.queue) j ≡ Some (Some string) → ⊥
+          same-parent j l node = elim (nodes-cases site.members site.queue j (Some string) node) [
+            | inl dead ↦ absurd (let e = dead.1 in cc)
+            | inr (inl start) ↦ at-start j l start.0 (let e : Some string ≡ Some [] = start.2 in let f : string ≡ [] = cc in f) site.ready.next
+            | inr (inr inner) ↦ at-inner j l inner site.ready.next
+          ]
+            where
+              at-start : (j : ℕ) → j < length site.states → 2 ≤ j → string ≡ [] → IsNext site.kind site.patterns site.members site.queue (length site.states) site.pending → ⊥
+              at-start j l low none (inl start) = absurd (let n = start.0 in omega arith)
+              at-start j l low none (inr later) =
+                  let s = later.1 in
+                  let d = site.ready.waits.inner (omega arith) in
+                  let e = ap length none in
+                  let m = long in
+                  absurd (omega arith)
 
-      -- the child that waits for them
-      module _ (fails : slice_get (nodes_of members queue) fail ≡ Some (miss kind patterns (Some (word members p ++ b ∷ [])))) where
-        abbrev child : Pending
-        child = record { from = place; to = end; depth = p.depth + 1; fail = fail }
+              at-inner : (j : ℕ) → j < length site.states → IsInner site.members site.queue j (Some string) → IsNext site.kind site.patterns site.members site.queue (length site.states) site.pending → ⊥
+              at-inner j l inner (inl start) = absurd (let n = start.0 in let m = inner.number in omega arith)
+              at-inner j l inner (inr later) =
+                  let e : word site.members inner.pending ≡ string = (let w : Some string ≡ Some (word site.members inner.pending) = inner.node in let v : string ≡ word site.members inner.pending = cc in sym v) in
+                  let at = site.ready.grown.apart inner.place later.0 inner.pending site.pending inner.waits later.2 e in
+                  let m = inner.number in
+                  let n = later.1 in
+                  absurd (omega arith)
 
-        child-word : word members child ≡ word members p ++ b ∷ []
-        child-word =
-            ap (λ (n : ℕ). take n (key_at members place)) (sym pushed)
-            ∙ front-is (key_at members place) (word members p ++ b ∷ []) front
+      -- nor does a child that came before have this string
+      pub fresh : (k : ℕ) (q : Pending) → slice_get queue k ≡ Some q → word site.members q ≡ string ++ b ∷ [] → ⊥
+      fresh k q e w = elim (cases_lt k (length site.queue)) [
+        | inl before ↦ old-child k q before e w
+        | inr le ↦
+            let member = h.children k q le e in
+            let x = member.1 in
+            let same_byte : x ≡ b = (push-injective string string x b (sym member.5 ∙ w)).1 in
+            let less = h.smaller run.more member.0 (let m = site.ends.later in omega (arith, member.2)) member.3 in
+            let r : rank (next_byte member.0) ≡ suc x = ap rank member.4 in
+            let s : rank (next_byte place) ≡ suc b = ap rank run.byte in
+            absurd (omega arith)
+      ]
 
-        -- a state that was there before has another string: else it would have this parent
-        old-child : (k : ℕ) (q : Pending) → k < length queue0 → slice_get queue k ≡ Some q → word members q ≡ word members p ++ b ∷ [] → ⊥
-        old-child k q l e w =
-            let known = slice_get-get_or queue0 k q l in
-            let is : get_or queue0 k q ≡ q = get-same queue k (get_or queue0 k q) q (h.kept k (get_or queue0 k q) known) e in
-            let there : slice_get queue0 k ≡ Some q = known ∙ ap (λ (r : Pending). Some r) is in
-            let parent = ready.grown.parents k q there in
-            let waits = ready.grown.waits k q there in
-            let depth : q.depth - 1 ≡ p.depth =
-            (let m = word-length queue0 (4 + k) q waits in let n = ap length w in let o = pushed in omega arith) in
-            let string : take (q.depth - 1) (word members q) ≡ word members p =
-            ap (λ (n : ℕ). take n (word members q)) (depth ∙ sym long) ∙ ap (take (length (word members p))) w ∙ take-append_seam (word members p) (b ∷ []) in
-            same-parent parent.0 parent.1 (parent.2 ∙ ap (λ (v : List ℕ). Some (Some v)) string)
-          where
-            same-parent : (j : ℕ) → j < length states → slice_get (nodes_of members queue0) j ≡ Some (Some (word members p)) → ⊥
-            same-parent j l node = elim (nodes-cases members queue0 j (Some (word members p)) node) [
-              | inl dead ↦ absurd (let e = dead.1 in cc)
-              | inr (inl start) ↦ at-start j l start.0 (let e : Some (word members p) ≡ Some [] = start.2 in let f : word members p ≡ [] = cc in f) ready.next
-              | inr (inr inner) ↦ at-inner j l inner ready.next
-            ]
-              where
-                at-start : (j : ℕ) → j < length states → 2 ≤ j → word members p ≡ [] → IsNext kind patterns members queue0 (length states) p → ⊥
-                at-start j l low none (inl start) = absurd (let n = start.0 in omega arith)
-                at-start j l low none (inr later) =
-                    let s = later.1 in
-                    let d = ready.waits.inner (omega arith) in
-                    let e = ap length none in
-                    let m = long in
-                    absurd (omega arith)
+      child-waits : Waits site.kind site.patterns site.members (queue ++ child ∷ []) (4 + length queue) child
+      child-waits =
+          let front_long = starts_with-length (key_at site.members place) (string ++ b ∷ []) front in
+          let named = slice_get_within (nodes_of site.members queue) fail (miss site.kind site.patterns (Some (string ++ b ∷ []))) fails in
+          let count = length-map queue (λ (q : Pending). Some (word site.members q)) in
+          record {
+            deep = (let l = pushed in omega arith);
+            range = subst (λ (v : List ℕ). IsRangeOf site.members v place end) (sym child-word) child-members;
+            fails = nodes-more site.members queue (child ∷ []) fail _
+                (fails ∙ ap (λ (v : List ℕ). Some (miss site.kind site.patterns (Some v))) (sym child-word));
+            back = λ l. omega arith;
+            some = λ l. run.some;
+            inner = λ l. omega arith;
+          }
 
-                at-inner : (j : ℕ) → j < length states → IsInner members queue0 j (Some (word members p)) → IsNext kind patterns members queue0 (length states) p → ⊥
-                at-inner j l inner (inl start) = absurd (let n = start.0 in let m = inner.number in omega arith)
-                at-inner j l inner (inr later) =
-                    let e : word members inner.pending ≡ word members p = (let w : Some (word members p) ≡ Some (word members inner.pending) = inner.node in let v : word members p ≡ word members inner.pending = cc in sym v) in
-                    let at = ready.grown.apart inner.place later.0 inner.pending p inner.waits later.2 e in
-                    let m = inner.number in
-                    let n = later.1 in
-                    absurd (omega arith)
+      still-apart : (j k : ℕ) (q r : Pending) → slice_get (queue ++ child ∷ []) j ≡ Some q → slice_get (queue ++ child ∷ []) k ≡ Some r
+          → word site.members q ≡ word site.members r → j ≡ k
+      still-apart j k q r e f w = by (get-added_cases queue child q j e) (get-added_cases queue child r k f)
+        where
+          by : ((slice_get queue j ≡ Some q) ⊎ ((j ≡ length queue) × (child ≡ q)))
+              → ((slice_get queue k ≡ Some r) ⊎ ((k ≡ length queue) × (child ≡ r))) → j ≡ k
+          by (inl old) (inl old') = h.grown.apart j k q r old old' w
+          by (inl old) (inr new) = absurd (fresh j q old (w ∙ ap (word site.members) (sym new.1) ∙ child-word))
+          by (inr new) (inl old) = absurd (fresh k r old (sym w ∙ ap (word site.members) (sym new.1) ∙ child-word))
+          by (inr new) (inr new') = new.0 ∙ sym new'.0
 
-        -- nor does a child that came before have this string
-        pub fresh : (k : ℕ) (q : Pending) → slice_get queue k ≡ Some q → word members q ≡ word members p ++ b ∷ [] → ⊥
-        fresh k q e w = elim (cases_lt k (length queue0)) [
-          | inl before ↦ old-child k q before e w
-          | inr le ↦
-              let member = h.children k q le e in
-              let x = member.1 in
-              let same_byte : x ≡ b = (push-injective (word members p) (word members p) x b (sym member.5 ∙ w)).1 in
-              let less = h.smaller more member.0 (let m = h.begun in omega (arith, member.2)) member.3 in
-              let r : rank (byte_at members p.depth member.0) ≡ suc x = ap rank member.4 in
-              let s : rank (byte_at members p.depth place) ≡ suc b = ap rank byte in
-              absurd (omega arith)
-        ]
+      parent-string : take (child.depth - 1) (word site.members child) ≡ string
+      parent-string =
+          let back : site.pending.depth + 1 - 1 ≡ length string = (let l = long in omega arith) in
+          ap (λ (n : ℕ). take n (word site.members child)) back
+          ∙ ap (take (length string)) child-word
+          ∙ take-append_seam string (b ∷ [])
 
-        child-waits : Waits kind patterns members (queue ++ child ∷ []) (4 + length queue) child
-        child-waits =
-            let front_long = starts_with-length (key_at members place) (word members p ++ b ∷ []) front in
-            let named = slice_get_within (nodes_of members queue) fail (miss kind patterns (Some (word members p ++ b ∷ []))) fails in
-            let count = length-map queue (λ (q : Pending). Some (word members q)) in
-            record {
-              deep = (let l = pushed in omega arith);
-              range = subst (λ (v : List ℕ). IsRangeOf members v place end) (sym child-word) child-members;
-              fails = nodes-more members queue (child ∷ []) fail _
-                  (fails ∙ ap (λ (v : List ℕ). Some (miss kind patterns (Some v))) (sym child-word));
-              back = λ l. omega arith;
-              some = λ l. some;
-              inner = λ l. omega arith;
-            }
+      -- the transitions to it
+      abbrev pub more_transitions : List Transition
+      more_transitions = leading site.fold b (4 + length queue)
 
-        still-apart : (j k : ℕ) (q r : Pending) → slice_get (queue ++ child ∷ []) j ≡ Some q → slice_get (queue ++ child ∷ []) k ≡ Some r
-            → word members q ≡ word members r → j ≡ k
-        still-apart j k q r e f w = by (get-added_cases queue child q j e) (get-added_cases queue child r k f)
-          where
-            by : ((slice_get queue j ≡ Some q) ⊎ ((j ≡ length queue) × (child ≡ q)))
-                → ((slice_get queue k ≡ Some r) ⊎ ((k ≡ length queue) × (child ≡ r))) → j ≡ k
-            by (inl old) (inl old') = h.grown.apart j k q r old old' w
-            by (inl old) (inr new) = absurd (fresh j q old (w ∙ ap (word members) (sym new.1) ∙ child-word))
-            by (inr new) (inl old) = absurd (fresh k r old (sym w ∙ ap (word members) (sym new.1) ∙ child-word))
-            by (inr new) (inr new') = new.0 ∙ sym new'.0
+      settled : plain_byte site.fold b ≡ b
+      settled = site.ready.settled place site.pending.depth b run.byte
 
-        parent-string : take (child.depth - 1) (word members child) ≡ word members p
-        parent-string =
-            let back : p.depth + 1 - 1 ≡ length (word members p) = (let l = long in omega arith) in
-            ap (λ (n : ℕ). take n (word members child)) back
-            ∙ ap (take (length (word members p))) child-word
-            ∙ take-append_seam (word members p) (b ∷ [])
-
-        -- the transitions to it
-        abbrev pub more_transitions : List Transition
-        more_transitions = leading fold b (4 + length queue)
-
-        settled : plain_byte fold b ≡ b
-        settled = ready.settled place p.depth b byte
-
-        still-grown : length queue + 4 < GREATEST + 1
-            → IsGrown kind patterns members (length states + 1) (transitions ++ more_transitions) (queue ++ child ∷ [])
-        still-grown few = record {
-          counted = (let l = h.grown.counted in let m = length-append transitions more_transitions in let o = leading-length fold b (4 + length queue) in let n = length_push queue child in omega arith);
-          few = (let n = length_push queue child in omega arith);
-          waits = λ k q e. elim (get-added_cases queue child q k e) [
-            | inl old ↦ Waits-more queue (child ∷ []) (4 + k) q (h.grown.waits k q old)
-            | inr new ↦
-                subst (λ (r : Pending). Waits kind patterns members (queue ++ child ∷ []) (4 + k) r) new.1
-                (subst (λ (n : ℕ). Waits kind patterns members (queue ++ child ∷ []) (4 + n) child) (sym new.0) child-waits)
-          ];
-          apart = still-apart;
-          parents = λ k q e. elim (get-added_cases queue child q k e) [
-            | inl old ↦ let r = h.grown.parents k q old in (r.0, r.1, nodes-more members queue (child ∷ []) r.0 _ r.2)
-            | inr new ↦ (
-              length states,
-              omega arith,
-              subst (λ (r : Pending). slice_get (nodes_of members (queue ++ child ∷ [])) (length states) ≡ Some (Some (take (r.depth - 1) (word members r)))) new.1
-                  (nodes-more members queue (child ∷ []) (length states) _ (h.node ∙ ap (λ (v : List ℕ). Some (Some v)) (sym parent-string))),
-            )
-          ];
-        }
-
-        step-leads : (t : Transition) → IsIn t (h.added ++ more_transitions)
-            → slice_get (nodes_of members (queue ++ child ∷ [])) t.target ≡ Some (Some (word members p ++ plain_byte fold t.byte ∷ []))
-        step-leads t has = elim (IsIn-append_cases t h.added more_transitions has) [
-          | inl old ↦ nodes-more members queue (child ∷ []) t.target _ (h.leads t old)
+      still-grown : length queue + 4 < GREATEST + 1
+          → IsGrown site.kind site.patterns site.members (length site.states + 1) (transitions ++ more_transitions) (queue ++ child ∷ [])
+      still-grown few = record {
+        counted = (let l = h.grown.counted in let m = length-append transitions more_transitions in let o = leading-length site.fold b (4 + length queue) in let n = length_push queue child in omega arith);
+        few = (let n = length_push queue child in omega arith);
+        waits = λ k q e. elim (get-added_cases queue child q k e) [
+          | inl old ↦ Waits-more site.kind site.patterns site.members queue (child ∷ []) (4 + k) q (h.grown.waits k q old)
           | inr new ↦
-              let by = leading-plain fold b (4 + length queue) settled t new in
-              ap (slice_get (nodes_of members (queue ++ child ∷ []))) by.1
-              ∙ nodes-inner members (queue ++ child ∷ []) (length queue) child (get-added queue child)
-              ∙ ap (λ (v : List ℕ). Some (Some v)) (child-word ∙ ap (λ (y : ℕ). word members p ++ y ∷ []) (sym by.0))
-        ]
+              subst (λ (r : Pending). Waits site.kind site.patterns site.members (queue ++ child ∷ []) (4 + k) r) new.1
+              (subst (λ (n : ℕ). Waits site.kind site.patterns site.members (queue ++ child ∷ []) (4 + n) child) (sym new.0) child-waits)
+        ];
+        apart = still-apart;
+        parents = λ k q e. elim (get-added_cases queue child q k e) [
+          | inl old ↦ let r = h.grown.parents k q old in (r.0, r.1, nodes-more site.members queue (child ∷ []) r.0 _ r.2)
+          | inr new ↦ (
+            length site.states,
+            omega arith,
+            subst (λ (r : Pending). slice_get (nodes_of site.members (queue ++ child ∷ [])) (length site.states) ≡ Some (Some (take (r.depth - 1) (word site.members r)))) new.1
+                (nodes-more site.members queue (child ∷ []) (length site.states) _ (h.node ∙ ap (λ (v : List ℕ). Some (Some v)) (sym parent-string))),
+          )
+        ];
+      }
 
-        step-by_members : (t : Transition) → IsIn t (h.added ++ more_transitions)
-            → (k : ℕ) × (own_end ≤ k) × (k < end) × (byte_at members p.depth k ≡ Some (plain_byte fold t.byte))
-        step-by_members t has = elim (IsIn-append_cases t h.added more_transitions has) [
-          | inl old ↦ let r = h.by_members t old in (r.0, r.1, omega (arith, r.2), r.3)
-          | inr new ↦ (place, h.low, some, byte ∙ ap (λ (y : ℕ). Some y) (sym (leading-plain fold b (4 + length queue) settled t new).0))
-        ]
+      step-leads : (t : Transition) → IsIn t (h.added ++ more_transitions)
+          → slice_get (nodes_of site.members (queue ++ child ∷ [])) t.target ≡ Some (Some (string ++ plain_byte site.fold t.byte ∷ []))
+      step-leads t has = elim (IsIn-append_cases t h.added more_transitions has) [
+        | inl old ↦ nodes-more site.members queue (child ∷ []) t.target _ (h.leads t old)
+        | inr new ↦
+            let by = leading-plain site.fold b (4 + length queue) settled t new in
+            ap (slice_get (nodes_of site.members (queue ++ child ∷ []))) by.1
+            ∙ nodes-inner site.members (queue ++ child ∷ []) (length queue) child (get-added queue child)
+            ∙ ap (λ (v : List ℕ). Some (Some v)) (child-word ∙ ap (λ (y : ℕ). string ++ y ∷ []) (sym by.0))
+      ]
 
-        step-covered : (k c x : ℕ) → own_end ≤ k → k < end → byte_at members p.depth k ≡ Some c → plain_byte fold x ≡ c
-            → (t : Transition) × IsIn t (h.added ++ more_transitions) × (t.byte ≡ x)
-        step-covered k c x l m e is = elim (cases_lt k place) [
-          | inl before ↦ let r = h.covered k c x l before e is in (r.0, IsIn-append_left r.0 h.added more_transitions r.1, r.2)
-          | inr le ↦
-              let same_byte : c ≡ b = (let f : Some c ≡ Some b = sym e ∙ same k le m ∙ byte in cc) in (
-                record { byte = x; target = 4 + length queue },
-                IsIn-append_right _ h.added more_transitions (leading-has fold b (4 + length queue) settled x (is ∙ same_byte)),
-                refl,
-              )
-        ]
+      step-by_members : (t : Transition) → IsIn t (h.added ++ more_transitions)
+          → (k : ℕ) × (site.own_end ≤ k) × (k < end) × (next_byte k ≡ Some (plain_byte site.fold t.byte))
+      step-by_members t has = elim (IsIn-append_cases t h.added more_transitions has) [
+        | inl old ↦ let r = h.by_members t old in (r.0, r.1, omega (arith, r.2), r.3)
+        | inr new ↦ (place, h.low, run.some, run.byte ∙ ap (λ (y : ℕ). Some y) (sym (leading-plain site.fold b (4 + length queue) settled t new).0))
+      ]
 
-        step-apart : IsOrdered (λ s t. s.byte ≢ t.byte) (h.added ++ more_transitions)
-        step-apart = IsOrdered-append (λ (s t : Transition). s.byte ≢ t.byte) h.added more_transitions h.apart (leading-apart fold b (4 + length queue))
-            (λ s t old new e.
-            let member = h.by_members s old in
-            let less = h.smaller more member.0 (let m = h.begun in omega (arith, member.1)) member.2 in
-            let low : rank (byte_at members p.depth member.0) ≡ suc (plain_byte fold s.byte) = ap rank member.3 in
-            let high : rank (byte_at members p.depth place) ≡ suc b = ap rank byte in
-            let is : plain_byte fold s.byte ≡ b = ap (plain_byte fold) e ∙ (leading-plain fold b (4 + length queue) settled t new).0 in
-            absurd (omega arith))
+      step-covered : (k c x : ℕ) → site.own_end ≤ k → k < end → next_byte k ≡ Some c → plain_byte site.fold x ≡ c
+          → (t : Transition) × IsIn t (h.added ++ more_transitions) × (t.byte ≡ x)
+      step-covered k c x l m e is = elim (cases_lt k place) [
+        | inl before ↦ let r = h.covered k c x l before e is in (r.0, IsIn-append_left r.0 h.added more_transitions r.1, r.2)
+        | inr le ↦
+            let same_byte : c ≡ b = (let f : Some c ≡ Some b = sym e ∙ run.same k le m ∙ run.byte in cc) in (
+              record { byte = x; target = 4 + length queue },
+              IsIn-append_right _ h.added more_transitions (leading-has site.fold b (4 + length queue) settled x (is ∙ same_byte)),
+              refl,
+            )
+      ]
 
-        step-smaller : end < p.to → (k : ℕ) → p.from ≤ k → k < end → rank (byte_at members p.depth k) < rank (byte_at members p.depth end)
-        step-smaller l k low m =
-            let up = greater l in
-            elim (cases_lt k place) [
-              | inl before ↦ let r = below k low before in omega arith
-              | inr le ↦ let r : rank (byte_at members p.depth k) ≡ suc b = ap rank (same k le m ∙ byte) in omega arith
-            ]
+      step-apart : IsOrdered (λ s t. s.byte ≢ t.byte) (h.added ++ more_transitions)
+      step-apart = IsOrdered-append (λ (s t : Transition). s.byte ≢ t.byte) h.added more_transitions h.apart (leading-apart site.fold b (4 + length queue))
+          (λ s t old new e.
+          let member = h.by_members s old in
+          let less = h.smaller run.more member.0 (let m = site.ends.later in omega (arith, member.1)) member.2 in
+          let low : rank (next_byte member.0) ≡ suc (plain_byte site.fold s.byte) = ap rank member.3 in
+          let high : rank (next_byte place) ≡ suc b = ap rank run.byte in
+          let is : plain_byte site.fold s.byte ≡ b = ap (plain_byte site.fold) e ∙ (leading-plain site.fold b (4 + length queue) settled t new).0 in
+          absurd (omega arith))
 
-        -- with the child behind the queue the children up to the end of its run have come
-        pub branching-goes_on : length queue + 4 < GREATEST + 1 → IsBranching end (transitions ++ more_transitions) (queue ++ child ∷ [])
-        branching-goes_on few = record {
-          grown = still-grown few;
-          meant = AreStates-more (grown_meaning kind fold patterns members transitions0 queue) transitions0 [] (sym (append-nil transitions0))
-              (nodes_of members (queue ++ child ∷ [])) (nodes-more members queue (child ∷ [])) states
-              (let m = length-map queue (λ (q : Pending). Some (word members q)) in
-              let n = length-map (queue ++ child ∷ []) (λ (q : Pending). Some (word members q)) in
-              let o = length_push queue child in omega arith)
-              h.meant;
-          waits = Waits-more queue (child ∷ []) (length states) p h.waits;
-          node = nodes-more members queue (child ∷ []) (length states) _ h.node;
-          kept = λ k q e. get-append queue (child ∷ []) k q (h.kept k q e);
-          more = (let m = h.more in let n = length_push queue child in omega arith);
-          begun = h.begun;
-          low = (let m = h.low in omega arith);
-          high = high;
-          children = λ c q le e. elim (get-added_cases queue child q c e) [
-            | inl old ↦ let r = h.children c q le old in (r.0, r.1, r.2, omega (arith, r.3), r.4, r.5)
-            | inr new ↦ (place, b, h.low, some, byte, sym (ap (word members) new.1) ∙ child-word)
-          ];
-          added = h.added ++ more_transitions;
-          split = ap (λ (ts : List Transition). ts ++ more_transitions) h.split ∙ append_assoc transitions0 h.added more_transitions;
-          leads = step-leads;
-          by_members = step-by_members;
-          covered = step-covered;
-          apart = step-apart;
-          smaller = step-smaller;
-        }
+      step-smaller : end < site.pending.to → (k : ℕ) → site.pending.from ≤ k → k < end → rank (next_byte k) < rank (next_byte end)
+      step-smaller l k low m =
+          let up = greater l in
+          elim (cases_lt k place) [
+            | inl before ↦ let r = below k low before in omega arith
+            | inr le ↦ let r : rank (next_byte k) ≡ suc b = ap rank (run.same k le m ∙ run.byte) in omega arith
+          ]
+
+      -- with the child behind the queue the children up to the end of its run have come
+      pub branching-goes_on : length queue + 4 < GREATEST + 1 → IsBranching end (transitions ++ more_transitions) (queue ++ child ∷ [])
+      branching-goes_on few = record {
+        grown = still-grown few;
+        meant = AreStates-more (grown_meaning site.kind site.fold site.patterns site.members site.transitions queue) site.transitions [] (sym (append-nil site.transitions))
+            (nodes_of site.members (queue ++ child ∷ [])) (nodes-more site.members queue (child ∷ [])) site.states
+            (let m = length-map queue (λ (q : Pending). Some (word site.members q)) in
+            let n = length-map (queue ++ child ∷ []) (λ (q : Pending). Some (word site.members q)) in
+            let o = length_push queue child in omega arith)
+            h.meant;
+        waits = Waits-more site.kind site.patterns site.members queue (child ∷ []) (length site.states) site.pending h.waits;
+        node = nodes-more site.members queue (child ∷ []) (length site.states) _ h.node;
+        kept = λ k q e. get-append queue (child ∷ []) k q (h.kept k q e);
+        more = (let m = h.more in let n = length_push queue child in omega arith);
+        low = (let m = h.low in omega arith);
+        high = run.high;
+        children = λ c q le e. elim (get-added_cases queue child q c e) [
+          | inl old ↦ let r = h.children c q le old in (r.0, r.1, r.2, omega (arith, r.3), r.4, r.5)
+          | inr new ↦ (place, b, h.low, run.some, run.byte, sym (ap (word site.members) new.1) ∙ child-word)
+        ];
+        added = h.added ++ more_transitions;
+        split = ap (λ (ts : List Transition). ts ++ more_transitions) h.split ∙ append_assoc site.transitions h.added more_transitions;
+        leads = step-leads;
+        by_members = step-by_members;
+        covered = step-covered;
+        apart = step-apart;
+        smaller = step-smaller;
+      }

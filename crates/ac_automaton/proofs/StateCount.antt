@@ -1,5 +1,5 @@
 -- A trie has as many states as there are nodes: each node has one state, and a build is refused only where there are too many.
-use Rattle.std.proofs.Common.{◌≡◌, ◌≢◌, ℕ, zero, suc, ◌+◌, ◌<◌, ◌≤◌, Bool, true, List, [], ◌∷◌, ◌++◌, map, length, ◌⊎◌, inl, inr, refl, ap, sym, ◌∙◌, subst, arith, Some}
+use Rattle.std.proofs.Common.{◌≡◌, ◌≢◌, ℕ, zero, suc, ◌+◌, ◌<◌, Bool, true, List, [], ◌∷◌, ◌++◌, map, length, inl, inr, refl, ap, sym, ◌∙◌, subst, arith, Some, None}
 use Rattle.std.specs.Prelude.{slice_get, option_map}
 use Rattle.std.proofs.lemmas.List.{length-map, length_push}
 use Rattle.std.proofs.lemmas.Option.{slice_get-map, slice_get_within}
@@ -16,13 +16,12 @@ use Rattle.ac_automaton.specs.declared.nfa.noncontiguous.growth.Pending.{Pending
 use Rattle.ac_automaton.specs.declared.nfa.noncontiguous.state.State.{State}
 use Rattle.ac_automaton.specs.declared.nfa.noncontiguous.state.Transition.{Transition}
 use Rattle.ac_util.specs.declared.error.BuildError.{BuildError}
-use Rattle.ac_util.specs.declared.error.BuildError.TheVariants.{Memory, StateIdOverflow}
 use Rattle.ac_automaton.specs.Builds.{IsRefused}
-use Rattle.ac_automaton.specs.Growths.{IsGrown, IsRangeOf, IsReady, grown_meaning, nodes_of, word}
+use Rattle.ac_automaton.specs.Growths.{IsGrown, IsNotPushed, IsRangeOf, grown_meaning, nodes_of, word}
 use Rattle.ac_automaton.specs.Members.{Keyed, IsOrder, byte_at, key_at}
-use Rattle.ac_automaton.specs.Tries.{AreStates, bytes_of, transitions_of, miss, state_at}
+use Rattle.ac_automaton.specs.Tries.{AreStates, Represents, bytes_of, transitions_of, miss, state_at}
 use Rattle.ac_automaton.proofs.Branched.{held-is, some_node}
-use Rattle.ac_automaton.proofs.Branching.{IsBranching, child-members, fresh, word-length}
+use Rattle.ac_automaton.proofs.Branching.{IsBranching, IsRun, Site, child-members, fresh, string, word-length}
 use Rattle.ac_automaton.proofs.Counting.{IsOrdered-from_AllPairs, length-le-from_IsOrdered}
 use Rattle.ac_automaton.proofs.Grown.{nodes-cases}
 use Rattle.ac_automaton.proofs.Places.{place-of, IsIn-place, IsOrdered-places}
@@ -87,12 +86,38 @@ module _ (kind : MatchKind) (patterns : List (List ℕ)) (members : List Keyed) 
   module _ (fold : Bool) (settled : (place depth b : ℕ) → byte_at members depth place ≡ Some b → plain_byte fold b ≡ b)
       (states : List State) (meant : AreStates (grown_meaning kind fold patterns members transitions queue) states)
       (all : length states ≡ 4 + length queue) where
-    -- a node's last byte is that of a member
-    node-member_last : (w : List ℕ) (b : ℕ) → is_node kind patterns (w ++ b ∷ []) ≡ true
-        → (k : ℕ) × (byte_at members (length w) k ≡ Some b)
-    node-member_last w b node =
-        let m = some_node kind patterns members order w b node in
-        (m.0, starts_with-last (key_at members m.0) w b m.2)
+    -- where the state of a string stands, and the byte that makes a longer node of it
+    module _ (w : List ℕ) (b s : ℕ) (at : slice_get (nodes_of members queue) s ≡ Some (Some w))
+        (longer : is_node kind patterns (w ++ b ∷ []) ≡ true) where
+      settled-byte : plain_byte fold b ≡ b
+      settled-byte =
+          let m = some_node kind patterns members order w b longer in
+          settled m.0 (length w) b (starts_with-last (key_at members m.0) w b m.2)
+
+      held : step kind patterns Yes (Some w) (plain_byte fold b) ≡ Some (w ++ b ∷ [])
+      held = ap (step kind patterns Yes (Some w)) settled-byte ∙ held-is kind patterns w b longer
+
+      represented : Represents (grown_meaning kind fold patterns members transitions queue) s (Some w) (state_at states s)
+      represented =
+          let count = length-map queue (λ (q : Pending). Some (word members q)) in
+          let named = slice_get_within (nodes_of members queue) s (Some w) at in
+          meant.each s (Some w) (omega arith) at
+
+      -- a transition by the byte leads to the state of the longer string
+      leads-on : (t : Transition) (k : ℕ) → slice_get (transitions_of transitions (state_at states s)) k ≡ Some t → t.byte ≡ b
+          → slice_get (nodes_of members queue) t.target ≡ Some (Some (w ++ b ∷ []))
+      leads-on t k e is =
+          represented.leads k t e
+          ∙ ap (λ (v : Node). Some v) (ap (λ (x : ℕ). step kind patterns Yes (Some w) (plain_byte fold x)) is ∙ held)
+
+      -- and there is one
+      onward : (next : ℕ) × (slice_get (nodes_of members queue) next ≡ Some (Some (w ++ b ∷ [])))
+      onward =
+          let own = transitions_of transitions (state_at states s) in
+          let some : step kind patterns Yes (Some w) (plain_byte fold b) ≢ None = λ none. let e = sym held ∙ none in absurd (cc) in
+          let t = IsIn-from_map (λ (x : Transition). x.byte) b own (IsIn-from_Contains b (bytes_of own) ((represented.branches b).1 some)) in
+          let k = place-of t.0 own t.1 in
+          (t.0.target, leads-on t.0 k.0 k.1 t.2)
 
     -- each node has a state
     reaches : (n : ℕ) (u : List ℕ) → length u ≡ n → is_node kind patterns u ≡ true
@@ -102,26 +127,11 @@ module _ (kind : MatchKind) (patterns : List (List ℕ)) (members : List Keyed) 
     reaches (suc n) [] l node = absurd (omega arith)
     reaches (suc n) (x ∷ u) l node =
         let last = last-byte x u in
-        let w = last.0 in
-        let b = last.1 in
-        let longer : is_node kind patterns (w ++ b ∷ []) ≡ true = subst (λ (v : List ℕ). is_node kind patterns v ≡ true) last.2 node in
-        let len : length w ≡ n = (let m = length_push w b in let o = ap length last.2 in omega arith) in
-        let s = reaches n w len (is_node-front kind patterns w b longer) in
-        let count = length-map queue (λ (q : Pending). Some (word members q)) in
-        let named = slice_get_within (nodes_of members queue) s.0 (Some w) s.1 in
-        let r = meant.each s.0 (Some w) (omega arith) s.1 in
-        let m = node-member_last w b longer in
-        let same : plain_byte fold b ≡ b = settled m.0 (length w) b m.1 in
-        let is = ap (step kind patterns Yes (Some w)) same ∙ held-is kind patterns w b longer in
-        let own = transitions_of transitions (state_at states s.0) in
-        let t = IsIn-from_map (λ (x : Transition). x.byte) b own
-        (IsIn-from_Contains b (bytes_of own) ((r.branches b).1 (λ none. absurd (cc)))) in
-        let k = place-of t.0 own t.1 in (
-          t.0.target,
-          r.leads k.0 t.0 k.1
-              ∙ ap (λ (v : Node). Some v)
-              (ap (λ (x : ℕ). step kind patterns Yes (Some w) (plain_byte fold x)) t.2 ∙ is ∙ ap (λ (v : List ℕ). Some v) (sym last.2)),
-        )
+        let longer : is_node kind patterns (last.0 ++ last.1 ∷ []) ≡ true = subst (λ (v : List ℕ). is_node kind patterns v ≡ true) last.2 node in
+        let len : length last.0 ≡ n = (let m = length_push last.0 last.1 in let o = ap length last.2 in omega arith) in
+        let s = reaches n last.0 len (is_node-front kind patterns last.0 last.1 longer) in
+        let next = onward last.0 last.1 s.0 s.1 longer in
+        (next.0, next.1 ∙ ap (λ (v : List ℕ). Some (Some v)) (sym last.2))
 
     inner-word : (u : List ℕ) → IsIn u (inner_nodes kind patterns) → IsIn u words
     inner-word u h =
@@ -146,22 +156,14 @@ module _ (kind : MatchKind) (patterns : List (List ℕ)) (members : List Keyed) 
         omega arith
 
 -- a child for which there is no number is one node too many
-module _ (kind : MatchKind) (patterns : List (List ℕ)) (members : List Keyed) (fold : Bool)
-    (states : List State) (transitions0 : List Transition) (queue0 : List Pending) (p : Pending)
-    (ready : IsReady kind fold patterns members states transitions0 queue0 p) (own_end : ℕ)
-    (place end b fail : ℕ) (transitions : List Transition) (queue : List Pending)
-    (h : IsBranching kind patterns members fold states transitions0 queue0 p ready own_end place transitions queue)
-    (more : place < p.to) (some : place < end) (high : end ≤ p.to)
-    (byte : byte_at members p.depth place ≡ Some b)
-    (same : (k : ℕ) → place ≤ k → k < end → byte_at members p.depth k ≡ byte_at members p.depth place)
-    (other : end < p.to → byte_at members p.depth end ≢ byte_at members p.depth place)
-    (fails : slice_get (nodes_of members queue) fail ≡ Some (miss kind patterns (Some (word members p ++ b ∷ [])))) where
-  pub refused : (e : BuildError) → (e ≡ Memory) ⊎ ((e ≡ StateIdOverflow GREATEST (GREATEST + 1)) × (length queue + 4 ≡ GREATEST + 1))
-      → IsRefused kind patterns e
+module _ (site : Site) (place end b : ℕ) (transitions : List Transition) (queue : List Pending)
+    (h : IsBranching site place transitions queue) (run : IsRun site place end b)
+    (fail : ℕ) (fails : slice_get (nodes_of site.members queue) fail ≡ Some (miss site.kind site.patterns (Some (string site ++ b ∷ [])))) where
+  pub refused : (e : BuildError) → IsNotPushed queue e → IsRefused site.kind site.patterns e
   refused e (inl memory) = inl memory
   refused e (inr full) = inr (
     full.0,
-    too-many kind patterns members ready.order (length states + 1) transitions queue h.grown (word members p) b place end
-        (child-members kind patterns members fold states transitions0 queue0 p ready own_end place end b fail transitions queue h more some high byte same other) some
-        (fresh kind patterns members fold states transitions0 queue0 p ready own_end place end b fail transitions queue h more some high byte same other fails) full.1,
+    too-many site.kind site.patterns site.members site.ready.order (length site.states + 1) transitions queue h.grown (string site) b place end
+        (child-members site place end b transitions queue h run) run.some
+        (fresh site place end b transitions queue h run fail fails) full.1,
   )

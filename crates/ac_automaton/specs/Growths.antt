@@ -50,6 +50,13 @@ pub record HasSorted (first : ℕ) (old new : List Transition) : Type 0 where
   pub permutation : IsPermutation (drop first old) sorted
   pub order : IsSortedByKey (λ t. t.byte) nat_cmp sorted
 
+-- the patterns that are the whole string of a waiting state end at the place: the next one has a further byte
+pub record EndsOwn (members : List Keyed) (p : Pending) (place : ℕ) : Type 0 where
+  pub later : p.from ≤ place
+  pub within : place ≤ p.to
+  pub own : (k : ℕ) → p.from ≤ k → k < place → byte_at members p.depth k ≡ None
+  pub other : place < p.to → byte_at members p.depth place ≢ None
+
 -- the members from one place up to another are those that begin with the string
 pub record IsRangeOf (members : List Keyed) (u : List ℕ) (from to : ℕ) : Type 0 where
   pub ordered : from ≤ to

@@ -12,7 +12,7 @@ ghost use Rattle.ac_util.specs.Node.{is_leftmost as is_leftmost_of};
 ghost use Rattle.ac_util.specs.Sameness.{plain};
 ghost use Rattle.ac_automaton.specs.declared.nfa.noncontiguous.growth.Pending.{Pending};
 ghost use Rattle.ac_automaton.specs.Builds.{IsRefused};
-ghost use Rattle.ac_automaton.specs.Growths.{HasBranched, HasChild, HasPushed, HasSorted, IsNotPushed, IsReady, IsWhole, LinkIsDue, Waits, nodes_of, word};
+ghost use Rattle.ac_automaton.specs.Growths.{EndsOwn, HasBranched, HasChild, HasPushed, HasSorted, IsNotPushed, IsReady, IsWhole, LinkIsDue, Waits, nodes_of, word};
 ghost use Rattle.ac_automaton.specs.Members.{IsOrder, byte_at, numbers};
 ghost use Rattle.ac_automaton.specs.Tries.{AreStates, Links, Meaning, miss};
 
@@ -220,11 +220,7 @@ fn sort_from(transitions: &mut [Transition], first: usize)
 fn own_end<B: Allocator>(members: &Members<'_, B>, pending: &Pending) -> usize
     requires ordered { pending.now.from ≤ pending.now.to }
     requires within { pending.now.to ≤ length members.now }
-    ensures later { pending.now.from ≤ result }
-    ensures within { result ≤ pending.now.to }
-    ensures own { (k : ℕ) → pending.now.from ≤ k → k < result
-        → byte_at members.now pending.now.depth k ≡ None }
-    ensures other { result < pending.now.to → byte_at members.now pending.now.depth result ≢ None }
+    ensures { EndsOwn members.now pending.now result }
 {
     let (from, to) = (pending.from as usize, pending.to as usize);
     let depth = pending.depth as usize;

@@ -1,13 +1,27 @@
 use Rattle.std.proofs.Common.{◌-◌, ℕ, List}
-use Rattle.ac_automaton.specs.Growths.{IsReady}
+use Rattle.ac_automaton.specs.Growths.{EndsOwn, IsReady}
 use Rattle.ac_automaton.proofs.Branching.{IsBranching}
 use Rattle.ac_automaton.proofs.nfa.noncontiguous.growth.branch.Given as goal
 
+-- the children of the members up to the place have come
 abbrev pub invariant-loop-place : goal.invariant-loop-place
 invariant-loop-place g l =
     (patterns : List (List ℕ))
     (ready : IsReady l.kind l.fold patterns l.members l.states l.fn.growth.transitions.items l.fn.growth.queue.items l.pending)
-    → IsBranching l.kind patterns l.members l.fold l.states l.fn.growth.transitions.items l.fn.growth.queue.items l.pending ready l.own_end
+    (ends : EndsOwn l.members l.pending l.own_end)
+    → IsBranching (record {
+      kind = l.kind;
+      fold = l.fold;
+      patterns = patterns;
+      members = l.members;
+      states = l.states;
+      transitions = l.fn.growth.transitions.items;
+      queue = l.fn.growth.queue.items;
+      pending = l.pending;
+      ready = ready;
+      own_end = l.own_end;
+      ends = ends;
+    })
     l.place l.growth.transitions.items l.growth.queue.items
 
 abbrev pub decreases-loop-place : goal.decreases-loop-place
