@@ -25,12 +25,13 @@ pub use iter::FindIter;
 
 /// An automaton that finds patterns: states, and where each byte leads from a state.
 ///
-/// A state is told by its number. Contracts see which node a number stands for, in an unanchored or in an anchored search: a
-/// string of bytes, or the dead node from which nothing is found any more. State numbers that are handed in have to stand for
-/// some node: `start_state` gives such a number, and `next_state` gives one where it was handed one, under the same anchoring.
+/// A state is told by its number. Contracts see which node a number stands for, in an unanchored or in an
+/// anchored search: a string of bytes, or the dead node from which nothing is found any more. State numbers
+/// that are handed in have to stand for some node: `start_state` gives such a number, and `next_state` gives
+/// one where it was handed one, under the same anchoring.
 pub trait Automaton {
-    /// How many looks at states a search may take for each byte that it reads, on the whole: 2 where failed transitions are
-    /// followed one after another, 1 in a table.
+    /// How many looks at states a search may take for each byte that it reads, on the whole: 2 where failed
+    /// transitions are followed one after another, 1 in a table.
     const LOOKS: usize;
 
     ghost LOOKS: { ℕ };
@@ -59,8 +60,8 @@ pub trait Automaton {
         ensures looks { (u : Node) → stands self.now anchored sid u
             → looks.new ≡ more_looks (looks_of LOOKS (built self.now) anchored u byte) looks.old };
 
-    /// Returns whether the state may be dead, a match state or a start. Where it is none of them, most searches have nothing to
-    /// do but to go on.
+    /// Returns whether the state may be dead, a match state or a start. Where it is none of them, most searches
+    /// have nothing to do but to go on.
     fn is_special(&self, sid: StateID) -> bool
         requires state { (anchored : Anchored) × IsState (stands self.now anchored) sid }
         ensures { (anchored : Anchored) (u : Node) → stands self.now anchored sid u
@@ -128,11 +129,12 @@ pub trait Automaton {
     ghost lists: { (automaton : Self) (anchored : Anchored) (s : ℕ) (u : Node)
         → stands automaton anchored s u → Lists (built automaton) anchored u (listed automaton s) };
 
-    /// Returns the match that the match kind picks of all that occur in the span of an input, or with `earliest` the one that
-    /// `MatchKind::Standard` picks. This ports `Automaton::try_find`.
+    /// Returns the match that the match kind picks of all that occur in the span of an input, or with
+    /// `earliest` the one that `MatchKind::Standard` picks. This ports `Automaton::try_find`.
     ///
     /// # Errors
-    /// `InvalidInputAnchored` or `InvalidInputUnanchored` where the automaton has no start for the input's anchoring.
+    /// `InvalidInputAnchored` or `InvalidInputUnanchored` where the automaton has no start for the input's
+    /// anchoring.
     #[inline]
     final fn try_find(&self, input: Input<'_>) -> Result<Option<Match>, MatchError>
     where
@@ -154,8 +156,8 @@ pub trait Automaton {
         ))
     }
 
-    /// Returns an iterator over the matches of an input that don't overlap, each picked from where the one before it ended. This
-    /// ports `Automaton::try_find_iter`.
+    /// Returns an iterator over the matches of an input that don't overlap, each picked from where the one
+    /// before it ended. This ports `Automaton::try_find_iter`.
     ///
     /// # Errors
     /// As `try_find`.

@@ -39,8 +39,8 @@ enum Engine<A: Allocator> {
 
 /// A searcher for many patterns.
 ///
-/// It is seen as what it was built from: patterns, match kind, case setting and start kind decide every answer, whichever
-/// engine serves it. This ports `AhoCorasick`.
+/// It is seen as what it was built from: patterns, match kind, case setting and start kind decide every answer,
+/// whichever engine serves it. This ports `AhoCorasick`.
 ///
 /// ```
 /// let searcher = AhoCorasick::new(alloc, &[b"he", b"she"])?;
@@ -79,7 +79,8 @@ impl<A: Allocator> Clone for AhoCorasick<A> {
 }
 
 impl<A: Allocator + Clone> AhoCorasick<A> {
-    /// Builds a searcher with the usual settings: `MatchKind::Standard`, unanchored searches alone, case counts.
+    /// Builds a searcher with the usual settings: `MatchKind::Standard`, unanchored searches alone, case
+    /// counts.
     ///
     /// # Errors
     /// As `AhoCorasickBuilder::build`.
@@ -114,8 +115,8 @@ impl<A: Allocator> AhoCorasick<A> {
         self.find(input.earliest(true)).is_some()
     }
 
-    /// Returns the match that the match kind picks of all that occur in the span of the input, or with `earliest` the one that
-    /// `MatchKind::Standard` picks.
+    /// Returns the match that the match kind picks of all that occur in the span of the input, or with
+    /// `earliest` the one that `MatchKind::Standard` picks.
     ///
     /// The searcher has to support the input's anchoring.
     #[inline]
@@ -129,7 +130,8 @@ impl<A: Allocator> AhoCorasick<A> {
         found
     }
 
-    /// Returns an iterator over the matches of the input that don't overlap, each picked from where the one before it ended.
+    /// Returns an iterator over the matches of the input that don't overlap, each picked from where the one
+    /// before it ended.
     ///
     /// The searcher has to support the input's anchoring.
     #[inline]
@@ -146,7 +148,8 @@ impl<A: Allocator> AhoCorasick<A> {
     /// Returns the same as `find`.
     ///
     /// # Errors
-    /// `InvalidInputAnchored` or `InvalidInputUnanchored` where the searcher doesn't support the input's anchoring.
+    /// `InvalidInputAnchored` or `InvalidInputUnanchored` where the searcher doesn't support the input's
+    /// anchoring.
     #[inline]
     pub fn try_find(&self, input: Input<'_>) -> Result<Option<Match>, MatchError>
         ensures { AnswersUnless (find_refusal self.now.built (asked input.entry))
@@ -325,8 +328,8 @@ impl Default for AhoCorasickBuilder {
 }
 
 impl AhoCorasickBuilder {
-    /// Returns a builder with the usual settings: `MatchKind::Standard`, unanchored searches alone, case counts, and the engine
-    /// is chosen.
+    /// Returns a builder with the usual settings: `MatchKind::Standard`, unanchored searches alone, case
+    /// counts, and the engine is chosen.
     pub fn new() -> AhoCorasickBuilder
         ensures { result ≡ usual_settings }
     {
@@ -377,9 +380,9 @@ impl AhoCorasickBuilder {
     /// Builds a searcher over a list of patterns. An empty list is fine: nothing is then found.
     ///
     /// # Errors
-    /// `PatternIdOverflow` and `PatternTooLong` exactly where a limit is passed, before any memory is asked for. Else
-    /// `StateIdOverflow` only where the engine would need more states than there are numbers, and `Memory` where a request
-    /// for memory is refused.
+    /// `PatternIdOverflow` and `PatternTooLong` exactly where a limit is passed, before any memory is asked
+    /// for. Else `StateIdOverflow` only where the engine would need more states than there are numbers, and
+    /// `Memory` where a request for memory is refused.
     pub fn build<A: Allocator + Clone>(
         &self,
         alloc: A,

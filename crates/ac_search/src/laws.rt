@@ -1,5 +1,5 @@
-//! Laws that users of a searcher may rest on, each as the contract of a function that does nothing. They speak of the
-//! definitions that the contracts of the searches are made of: nothing is called, nothing is assumed.
+//! Laws that users of a searcher may rest on, each as the contract of a function that does nothing. They speak
+//! of the definitions that the contracts of the searches are made of: nothing is called, nothing is assumed.
 ghost use Rattle.std.specs.Prelude.{◌≡◌, ◌≢◌, ◌↔◌, IsTrue, None};
 ghost use Rattle.ac_util.specs.Built.{Built, found, has_empty, search_in};
 ghost use Rattle.ac_util.specs.Input.{Asked};

@@ -13,16 +13,16 @@ use ac_util::looks::{Looks, Tape};
 use ac_util::primitives::StateID;
 use ac_util::search::{Anchored, Match, MatchKind, Span};
 
-/// Returns the match that the automaton's match kind picks in the span `start..end` of a tape's haystack, or with `earliest`
-/// the one that `MatchKind::Standard` picks.
+/// Returns the match that the automaton's match kind picks in the span `start..end` of a tape's haystack, or
+/// with `earliest` the one that `MatchKind::Standard` picks.
 ///
-/// The automaton has to support the anchoring; the span has to end within the haystack, to start no later than one past its
-/// end, and not before the tape's place of reading. Each byte is read at most once, and each byte of the match is. For each
-/// byte read states are looked at once in an anchored search, and else at least once and at most `LOOKS` times on the whole.
-/// No byte is read from the dead node on, where nothing more is found: there an anchored search stands once it has left all
-/// patterns, and a leftmost one once its match can't change.
-/// Under `MatchKind::Standard` or with `earliest` no byte past the end of the match is read, so the next find can go on with
-/// the same tape.
+/// The automaton has to support the anchoring; the span has to end within the haystack, to start no later than
+/// one past its end, and not before the tape's place of reading. Each byte is read at most once, and each byte
+/// of the match is. For each byte read states are looked at once in an anchored search, and else at least once
+/// and at most `LOOKS` times on the whole. No byte is read from the dead node on, where nothing more is found:
+/// there an anchored search stands once it has left all patterns, and a leftmost one once its match can't
+/// change. Under `MatchKind::Standard` or with `earliest` no byte past the end of the match is read, so the
+/// next find can go on with the same tape.
 #[inline]
 pub fn find_core<A: Automaton>(
     automaton: &A,

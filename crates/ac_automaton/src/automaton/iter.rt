@@ -17,10 +17,11 @@ use std::snapshot::Snapshot;
 
 /// An iterator over the matches of an input that don't overlap, made by `Automaton::try_find_iter`.
 ///
-/// After its end it keeps giving `None`. Contracts see the matches still to come and what was counted: each byte of a match
-/// that it gives was read, and for each byte read it has looked at states once where it is anchored, and else at least once
-/// and at most `LOOKS` times on the whole. Under `MatchKind::Standard`, or with `earliest`, it reads each byte at most once on
-/// the whole; else it counts anew for each search, since a leftmost one may read on past the end of what it picks.
+/// After its end it keeps giving `None`. Contracts see the matches still to come and what was counted: each
+/// byte of a match that it gives was read, and for each byte read it has looked at states once where it is
+/// anchored, and else at least once and at most `LOOKS` times on the whole. Under `MatchKind::Standard`, or
+/// with `earliest`, it reads each byte at most once on the whole; else it counts anew for each search, since a
+/// leftmost one may read on past the end of what it picks.
 #[derive(Drop)]
 pub struct FindIter<'a, 'h, A: Automaton> {
     automaton: &'a A,

@@ -2,10 +2,10 @@
 //!
 //! A state is told by the members that begin with its string: they stand side by side. Its own patterns come
 //! first among them, and then each run of members with one more byte in common is a child. So each byte of each
-//! pattern is looked at a few times, and no member is moved: only a state's transitions are sorted, since that by
-//! a capital comes before those by small letters. A child's failure target is a step from that of its parent;
-//! along a pattern each byte makes the target at most one longer and each failure link shorter, so n bytes of
-//! patterns take at most 2n looks.
+//! pattern is looked at a few times, and no member is moved: only a state's transitions are sorted, since that
+//! by a capital comes before those by small letters. A child's failure target is a step from that of its
+//! parent; along a pattern each byte makes the target at most one longer and each failure link shorter, so n
+//! bytes of patterns take at most 2n looks.
 ghost use Rattle.std.specs.Prelude.{◌≡◌, ◌≢◌, ◌++◌, ◌∷◌, [], ℕ, ◌+◌, ◌<◌, ◌≤◌, Bool, List, MatchResult, None, Some, length, map, slice_get};
 ghost use Rattle.ac_util.specs.declared.primitives.TheConstants.{GREATEST};
 ghost use Rattle.ac_util.specs.Node.{is_leftmost as is_leftmost_of};
