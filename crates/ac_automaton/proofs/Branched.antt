@@ -26,11 +26,13 @@ use Rattle.ac_automaton.proofs.Places.{IsIn-place}
 use Rattle.ac_automaton.proofs.Ranges.{member-node, node-member, own-range, starts_with-last, starts_with-push}
 
 -- an anchored search goes on exactly by the bytes that make a node
-pub held-is : (kind : MatchKind) (patterns : List (List ℕ)) (u : List ℕ) (b : ℕ) → is_node kind patterns (u ++ b ∷ []) ≡ true
+pub held-is : (kind : MatchKind) (patterns : List (List ℕ)) (u : List ℕ) (b : ℕ)
+    → is_node kind patterns (u ++ b ∷ []) ≡ true
     → step kind patterns Yes (Some u) b ≡ Some (u ++ b ∷ [])
 held-is kind patterns u b node = cond-true (is_node kind patterns (u ++ b ∷ [])) (Some (u ++ b ∷ [])) None node
 
-pub held-node : (kind : MatchKind) (patterns : List (List ℕ)) (u : List ℕ) (b : ℕ) → step kind patterns Yes (Some u) b ≢ None
+pub held-node : (kind : MatchKind) (patterns : List (List ℕ)) (u : List ℕ) (b : ℕ)
+    → step kind patterns Yes (Some u) b ≢ None
     → is_node kind patterns (u ++ b ∷ []) ≡ true
 held-node kind patterns u b some = elim (cases_Bool (is_node kind patterns (u ++ b ∷ []))) [
   | inl t ↦ t
@@ -38,11 +40,13 @@ held-node kind patterns u b some = elim (cases_Bool (is_node kind patterns (u ++
 ]
 
 -- some member begins with a node
-pub some_node : (kind : MatchKind) (patterns : List (List ℕ)) (members : List Keyed) → IsOrder kind patterns members
+pub some_node : (kind : MatchKind) (patterns : List (List ℕ)) (members : List Keyed)
+    → IsOrder kind patterns members
     → (u : List ℕ) (b : ℕ) → is_node kind patterns (u ++ b ∷ []) ≡ true
     → (k : ℕ) × (k < length members) × (starts_with nat_eq (key_at members k) (u ++ b ∷ []) ≡ true)
 some_node kind patterns members order [] b node = node-member kind patterns members order b [] node
-some_node kind patterns members order (x ∷ u) b node = node-member kind patterns members order x (u ++ b ∷ []) node
+some_node kind patterns members order (x ∷ u) b node =
+    node-member kind patterns members order x (u ++ b ∷ []) node
 
 -- a state all of whose children have come, and whose transitions have been sorted
 module _ (site : Site) (unsorted : List Transition) (queue : List Pending)
@@ -53,7 +57,9 @@ module _ (site : Site) (unsorted : List Transition) (queue : List Pending)
 
   -- the transitions behind the old ones are the new ones, sorted
   split : transitions ≡ site.transitions ++ s.sorted
-  split = s.split ∙ ap (λ (ts : List Transition). ts ++ s.sorted) (ap (take (length site.transitions)) h.split ∙ take-append_seam site.transitions h.added)
+  split =
+      s.split ∙ ap (λ (ts : List Transition). ts ++ s.sorted)
+      (ap (take (length site.transitions)) h.split ∙ take-append_seam site.transitions h.added)
 
   sorted-from : IsPermutation h.added s.sorted
   sorted-from =
@@ -75,7 +81,8 @@ module _ (site : Site) (unsorted : List Transition) (queue : List Pending)
   in-range : (t : Transition) → IsIn t h.added → IsIn t range
   in-range t has =
       subst (IsIn t) (sym range-is)
-      (IsIn-from_Contains t s.sorted (Contains-permutation h.added s.sorted t sorted-from (Contains-from_IsIn t h.added has)))
+      (IsIn-from_Contains t s.sorted
+      (Contains-permutation h.added s.sorted t sorted-from (Contains-from_IsIn t h.added has)))
 
   from-range : (t : Transition) → IsIn t range → IsIn t h.added
   from-range t has =
@@ -86,61 +93,87 @@ module _ (site : Site) (unsorted : List Transition) (queue : List Pending)
   ascending : IsStrictlyIncreasing (bytes_of range)
   ascending =
       subst (λ (ts : List Transition). IsStrictlyIncreasing (bytes_of ts)) (sym range-is)
-      (sorted-ascends h.added s.sorted (AllPairs-from_IsOrdered (λ (a b : Transition). a.byte ≢ b.byte) h.added h.apart) sorted-from s.order)
+      (sorted-ascends h.added s.sorted
+      (AllPairs-from_IsOrdered (λ (a b : Transition). a.byte ≢ b.byte) h.added h.apart) sorted-from s.order)
 
-  own' : (k : ℕ) → site.pending.from ≤ k → k < site.own_end → byte_at site.members (length (string site)) k ≡ None
+  own' : (k : ℕ) → site.pending.from ≤ k → k < site.own_end
+      → byte_at site.members (length (string site)) k ≡ None
   own' k a c = subst (λ (n : ℕ). byte_at site.members n k ≡ None) (sym long) (site.ends.own k a c)
 
   other' : site.own_end < site.pending.to → byte_at site.members (length (string site)) site.own_end ≢ None
   other' l = subst (λ (n : ℕ). byte_at site.members n site.own_end ≢ None) (sym long) (site.ends.other l)
 
   -- there is a transition by a byte exactly if it makes a node
-  transition-node : (t : Transition) → IsIn t h.added → is_node site.kind site.patterns (string site ++ plain_byte site.fold t.byte ∷ []) ≡ true
+  transition-node : (t : Transition) → IsIn t h.added
+      → is_node site.kind site.patterns (string site ++ plain_byte site.fold t.byte ∷ []) ≡ true
   transition-node t has =
       let m = h.by_members t has in
       let inside : m.0 < length site.members = (let w = h.waits.range.within in omega (arith, m.2)) in
       let front = (h.waits.range.begins m.0 inside).0 ((omega (arith, m.1)), m.2) in
-      member-node site.kind site.patterns site.members site.ready.order m.0 (string site ++ plain_byte site.fold t.byte ∷ []) inside
+      member-node site.kind site.patterns site.members site.ready.order m.0
+      (string site ++ plain_byte site.fold t.byte ∷ []) inside
       (starts_with-push (key_at site.members m.0) (string site) (plain_byte site.fold t.byte) front
       (subst (λ (n : ℕ). byte_at site.members n m.0 ≡ Some (plain_byte site.fold t.byte)) (sym long) m.3))
 
-  node-transition : (b : ℕ) → is_node site.kind site.patterns (string site ++ plain_byte site.fold b ∷ []) ≡ true → Contains (bytes_of range) b
+  node-transition : (b : ℕ)
+      → is_node site.kind site.patterns (string site ++ plain_byte site.fold b ∷ []) ≡ true
+      → Contains (bytes_of range) b
   node-transition b node =
-      let m = some_node site.kind site.patterns site.members site.ready.order (string site) (plain_byte site.fold b) node in
-      let there = (h.waits.range.begins m.0 m.1).1 (starts_with-front (key_at site.members m.0) (string site) (plain_byte site.fold b) m.2) in
+      let m =
+      some_node site.kind site.patterns site.members site.ready.order (string site)
+      (plain_byte site.fold b) node in
+      let there =
+      (h.waits.range.begins m.0 m.1).1
+      (starts_with-front (key_at site.members m.0) (string site) (plain_byte site.fold b) m.2) in
       let byte = starts_with-last (key_at site.members m.0) (string site) (plain_byte site.fold b) m.2 in
       elim (cases_lt m.0 site.own_end) [
         | inl before ↦ absurd (let none = own' m.0 there.0 before in cc)
         | inr le ↦
-            let t = h.covered m.0 (plain_byte site.fold b) b le there.1 (subst (λ (n : ℕ). byte_at site.members n m.0 ≡ Some (plain_byte site.fold b)) long byte) refl in
+            let t =
+            h.covered m.0 (plain_byte site.fold b) b le there.1
+            (subst (λ (n : ℕ). byte_at site.members n m.0 ≡ Some (plain_byte site.fold b)) long byte) refl
+            in
             subst (Contains (bytes_of range)) t.2
-            (Contains-from_IsIn t.0.byte (bytes_of range) (IsIn-map (λ (x : Transition). x.byte) t.0 range (in-range t.0 t.1)))
+            (Contains-from_IsIn t.0.byte (bytes_of range)
+            (IsIn-map (λ (x : Transition). x.byte) t.0 range (in-range t.0 t.1)))
       ]
 
-  branches : (b : ℕ) → Contains (bytes_of range) b ↔ (step site.kind site.patterns Yes (Some (string site)) (plain_byte site.fold b) ≢ None)
+  branches : (b : ℕ) → Contains (bytes_of range) b ↔
+      (step site.kind site.patterns Yes (Some (string site)) (plain_byte site.fold b) ≢ None)
   branches b = (
     (λ has none.
-        let t = IsIn-from_map (λ (x : Transition). x.byte) b range (IsIn-from_Contains b (bytes_of range) has) in
+        let t =
+        IsIn-from_map (λ (x : Transition). x.byte) b range (IsIn-from_Contains b (bytes_of range) has) in
         let node = transition-node t.0 (from-range t.0 t.1) in
         let some = held-is site.kind site.patterns (string site) (plain_byte site.fold t.0.byte) node in
-        let same = ap (λ (x : ℕ). step site.kind site.patterns Yes (Some (string site)) (plain_byte site.fold x)) t.2 in
+        let same =
+        ap (λ (x : ℕ). step site.kind site.patterns Yes (Some (string site)) (plain_byte site.fold x)) t.2 in
         absurd (cc)),
     (λ some. node-transition b (held-node site.kind site.patterns (string site) (plain_byte site.fold b) some)),
   )
 
   leads : (k : ℕ) (t : Transition) → slice_get range k ≡ Some t
-      → slice_get (nodes_of site.members queue) t.target ≡ Some (step site.kind site.patterns Yes (Some (string site)) (plain_byte site.fold t.byte))
+      → slice_get (nodes_of site.members queue) t.target
+      ≡ Some (step site.kind site.patterns Yes (Some (string site)) (plain_byte site.fold t.byte))
   leads k t e =
       let has = from-range t (IsIn-place t range k e) in
-      h.leads t has ∙ ap (λ (v : Node). Some v) (sym (held-is site.kind site.patterns (string site) (plain_byte site.fold t.byte) (transition-node t has)))
+      h.leads t has
+      ∙ ap (λ (v : Node). Some v)
+      (sym (held-is site.kind site.patterns (string site) (plain_byte site.fold t.byte)
+      (transition-node t has)))
 
   -- the states that were whole stay what they are
-  pub still-meant : AreStates (grown_meaning site.kind site.fold site.patterns site.members transitions queue) site.states
-  still-meant = AreStates-more (grown_meaning site.kind site.fold site.patterns site.members site.transitions queue) transitions s.sorted split (nodes_of site.members queue)
+  pub still-meant : AreStates
+      (grown_meaning site.kind site.fold site.patterns site.members transitions queue) site.states
+  still-meant =
+      AreStates-more
+      (grown_meaning site.kind site.fold site.patterns site.members site.transitions queue) transitions
+      s.sorted split (nodes_of site.members queue)
       (λ k v e. e) site.states (omega arith) h.meant
 
   -- the failure target decides the link
-  pub link-due : LinkIsDue (grown_meaning site.kind site.fold site.patterns site.members transitions queue) (length site.states) (string site) site.pending.fail
+  pub link-due : LinkIsDue (grown_meaning site.kind site.fold site.patterns site.members transitions queue)
+      (length site.states) (string site) site.pending.fail
   link-due = record {
     fails = h.waits.fails;
     dead = refl;
@@ -148,8 +181,11 @@ module _ (site : Site) (unsorted : List Transition) (queue : List Pending)
     start = λ none l. start none l site.ready.next;
   }
     where
-      near : string site ≢ [] → IsNext site.kind site.patterns site.members site.queue (length site.states) site.pending → site.pending.fail < length site.states
-      near some (inl start) = absurd (some (ap (λ (n : ℕ). take n (key_at site.members site.pending.from)) start.2))
+      near : string site ≢ []
+          → IsNext site.kind site.patterns site.members site.queue (length site.states) site.pending
+          → site.pending.fail < length site.states
+      near some (inl start) =
+          absurd (some (ap (λ (n : ℕ). take n (key_at site.members site.pending.from)) start.2))
       near some (inr later) = h.waits.back (let s = later.1 in omega arith)
 
       first_two : (f : ℕ) → f < 2 → slice_get (nodes_of site.members queue) f ≡ Some None
@@ -157,11 +193,14 @@ module _ (site : Site) (unsorted : List Transition) (queue : List Pending)
       first_two (suc zero) l = refl
       first_two (suc (suc f)) l = absurd (omega arith)
 
-      start : string site ≡ [] → site.pending.fail < length site.states → IsNext site.kind site.patterns site.members site.queue (length site.states) site.pending
+      start : string site ≡ [] → site.pending.fail < length site.states
+          → IsNext site.kind site.patterns site.members site.queue (length site.states) site.pending
           → (site.pending.fail < 2) × (slice_get (nodes_of site.members queue) site.pending.fail ≡ Some None)
-      start none l (inl first) = let f : site.pending.fail < 2 = (let s = first.0 in omega arith) in (f, first_two site.pending.fail f)
+      start none l (inl first) =
+          let f : site.pending.fail < 2 = (let s = first.0 in omega arith) in (f, first_two site.pending.fail f)
       start none l (inr later) =
-          absurd (let s = later.1 in let d = h.waits.inner (omega arith) in let e = ap length none in let m = long in omega arith)
+          absurd (let s = later.1 in let d = h.waits.inner (omega arith) in let e = ap length none in
+          let m = long in omega arith)
 
   -- the state that stands for the (string site)
   abbrev pub whole_state : ℕ → State
@@ -175,8 +214,11 @@ module _ (site : Site) (unsorted : List Transition) (queue : List Pending)
     depth = site.pending.depth;
   }
 
-  pub has-branched : (link : ℕ) → Links (grown_meaning site.kind site.fold site.patterns site.members transitions queue) (length site.states) (Some (string site)) link
-      → HasBranched site.kind site.fold site.patterns site.members site.states site.queue site.pending (whole_state link) transitions queue
+  pub has-branched : (link : ℕ)
+      → Links (grown_meaning site.kind site.fold site.patterns site.members transitions queue)
+      (length site.states) (Some (string site)) link
+      → HasBranched site.kind site.fold site.patterns site.members site.states site.queue site.pending
+      (whole_state link) transitions queue
   has-branched link links = record {
     grown = still-grown;
     meant = still-meant;
@@ -189,8 +231,11 @@ module _ (site : Site) (unsorted : List Transition) (queue : List Pending)
       fails = h.waits.fails;
       back = h.waits.back;
       owned = site.ends.later;
-      within = (let w = h.waits.range.within in let m = length-map site.members (λ (q : Keyed). q.number) in omega arith);
-      own = own-range site.kind site.patterns site.members site.ready.order (string site) site.pending.from site.pending.to h.waits.range site.own_end site.ends.later site.ends.within own' other';
+      within = (let w = h.waits.range.within in let m = length-map site.members (λ (q : Keyed). q.number) in
+          omega arith);
+      own = own-range site.kind site.patterns site.members site.ready.order
+          (string site) site.pending.from site.pending.to h.waits.range site.own_end site.ends.later
+          site.ends.within own' other';
       links = links;
       long = sym long;
       outer = λ l. let m = long in outer l site.ready.next;
@@ -215,6 +260,8 @@ module _ (site : Site) (unsorted : List Transition) (queue : List Pending)
         parents = h.grown.parents;
       }
 
-      outer : length site.states < 4 → IsNext site.kind site.patterns site.members site.queue (length site.states) site.pending → length (string site) ≡ 0
+      outer : length site.states < 4
+          → IsNext site.kind site.patterns site.members site.queue (length site.states) site.pending
+          → length (string site) ≡ 0
       outer l (inl start) = long ∙ start.2
       outer l (inr later) = absurd (let n = later.1 in omega arith)

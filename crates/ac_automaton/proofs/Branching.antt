@@ -43,11 +43,13 @@ front-is w v h = sym ((bytes_eq-Decides v (take (length v) w)).0 h)
 
 module _ (kind : MatchKind) (patterns : List (List ℕ)) (members : List Keyed) where
   -- the string of a waiting state has as many bytes as the state is deep
-  pub word-length : (queue : List Pending) (s : ℕ) (p : Pending) → Waits kind patterns members queue s p → length (word members p) ≡ p.depth
+  pub word-length : (queue : List Pending) (s : ℕ) (p : Pending) → Waits kind patterns members queue s p
+      → length (word members p) ≡ p.depth
   word-length queue s p w = length-take-le p.depth (key_at members p.from) w.deep
 
   -- what waits still does when more has come
-  pub Waits-more : (queue more : List Pending) (s : ℕ) (p : Pending) → Waits kind patterns members queue s p → Waits kind patterns members (queue ++ more) s p
+  pub Waits-more : (queue more : List Pending) (s : ℕ) (p : Pending) → Waits kind patterns members queue s p
+      → Waits kind patterns members (queue ++ more) s p
   Waits-more queue more s p w = record {
     deep = w.deep;
     range = w.range;
@@ -58,14 +60,18 @@ module _ (kind : MatchKind) (patterns : List (List ℕ)) (members : List Keyed) 
   }
 
   -- the number of a state that is next stands for its string
-  pub next-node : (queue : List Pending) (s : ℕ) (p : Pending) → IsNext kind patterns members queue s p → slice_get (nodes_of members queue) s ≡ Some (Some (word members p))
+  pub next-node : (queue : List Pending) (s : ℕ) (p : Pending) → IsNext kind patterns members queue s p
+      → slice_get (nodes_of members queue) s ≡ Some (Some (word members p))
   next-node queue s p (inl start) =
       let none : word members p ≡ [] = ap (λ (n : ℕ). take n (key_at members p.from)) start.2 in
-      subst (λ (k : ℕ). slice_get (nodes_of members queue) k ≡ Some (Some (word members p))) (sym start.0) (ap (λ (w : List ℕ). Some (Some w)) (sym none))
+      subst (λ (k : ℕ). slice_get (nodes_of members queue) k ≡ Some (Some (word members p))) (sym start.0)
+      (ap (λ (w : List ℕ). Some (Some w)) (sym none))
   next-node queue s p (inr later) =
-      subst (λ (k : ℕ). slice_get (nodes_of members queue) k ≡ Some (Some (word members p))) (sym later.1) (nodes-inner members queue later.0 p later.2)
+      subst (λ (k : ℕ). slice_get (nodes_of members queue) k ≡ Some (Some (word members p))) (sym later.1)
+      (nodes-inner members queue later.0 p later.2)
 
--- a state whose children come: the trie as far as it has grown, the state, and where the patterns end that are its string
+-- a state whose children come: the trie as far as it has grown, the state, and where the patterns end that are
+-- its string
 pub record Site : Type 0 where
   pub kind : MatchKind
   pub fold : Bool
@@ -90,7 +96,8 @@ module _ (site : Site) where
   -- the children of the members up to a place have come
   pub record IsBranching (place : ℕ) (transitions : List Transition) (queue : List Pending) : Type 0 where
     pub grown : IsGrown site.kind site.patterns site.members (length site.states + 1) transitions queue
-    pub meant : AreStates (grown_meaning site.kind site.fold site.patterns site.members site.transitions queue) site.states
+    pub meant : AreStates
+        (grown_meaning site.kind site.fold site.patterns site.members site.transitions queue) site.states
     pub waits : Waits site.kind site.patterns site.members queue (length site.states) site.pending
     pub node : slice_get (nodes_of site.members queue) (length site.states) ≡ Some (Some string)
     pub kept : (k : ℕ) (q : Pending) → slice_get site.queue k ≡ Some q → slice_get queue k ≡ Some q
@@ -98,11 +105,13 @@ module _ (site : Site) where
     pub low : site.own_end ≤ place
     pub high : place ≤ site.pending.to
     pub children : (c : ℕ) (q : Pending) → length site.queue ≤ c → slice_get queue c ≡ Some q
-        → (k b : ℕ) × (site.own_end ≤ k) × (k < place) × (next_byte k ≡ Some b) × (word site.members q ≡ string ++ b ∷ [])
+        → (k b : ℕ) × (site.own_end ≤ k) × (k < place) × (next_byte k ≡ Some b)
+        × (word site.members q ≡ string ++ b ∷ [])
     pub added : List Transition
     pub split : transitions ≡ site.transitions ++ added
     pub leads : (t : Transition) → IsIn t added
-        → slice_get (nodes_of site.members queue) t.target ≡ Some (Some (string ++ plain_byte site.fold t.byte ∷ []))
+        → slice_get (nodes_of site.members queue) t.target
+        ≡ Some (Some (string ++ plain_byte site.fold t.byte ∷ []))
     pub by_members : (t : Transition) → IsIn t added
         → (k : ℕ) × (site.own_end ≤ k) × (k < place) × (next_byte k ≡ Some (plain_byte site.fold t.byte))
     pub covered : (k b x : ℕ) → site.own_end ≤ k → k < place → next_byte k ≡ Some b → plain_byte site.fold x ≡ b
@@ -127,7 +136,8 @@ module _ (site : Site) where
     };
     meant = site.ready.meant;
     waits = site.ready.waits;
-    node = next-node site.kind site.patterns site.members site.queue (length site.states) site.pending site.ready.next;
+    node = next-node site.kind site.patterns site.members site.queue
+        (length site.states) site.pending site.ready.next;
     kept = λ k q e. e;
     more = omega arith;
     low = omega arith;
@@ -146,14 +156,18 @@ module _ (site : Site) where
   }
 
   -- behind the patterns that are the string each member has a further byte
-  pub goes-on : (place : ℕ) (transitions : List Transition) (queue : List Pending) → IsBranching place transitions queue
+  pub goes-on : (place : ℕ) (transitions : List Transition) (queue : List Pending)
+      → IsBranching place transitions queue
       → place < site.pending.to → next_byte place ≢ None
   goes-on place transitions queue h more =
-      let same = word-length site.kind site.patterns site.members queue (length site.states) site.pending h.waits in
+      let same =
+      word-length site.kind site.patterns site.members queue (length site.states) site.pending h.waits in
       subst (λ (n : ℕ). byte_at site.members n place ≢ None) same
-      (longer site.kind site.patterns site.members site.ready.order string site.pending.from site.pending.to h.waits.range site.own_end site.ends.later (let l = h.low in omega arith)
+      (longer site.kind site.patterns site.members site.ready.order string site.pending.from site.pending.to
+      h.waits.range site.own_end site.ends.later (let l = h.low in omega arith)
       (λ k a c. subst (λ (n : ℕ). byte_at site.members n k ≡ None) (sym same) (site.ends.own k a c))
-      (λ l. subst (λ (n : ℕ). byte_at site.members n site.own_end ≢ None) (sym same) (site.ends.other l)) place h.low more)
+      (λ l. subst (λ (n : ℕ). byte_at site.members n site.own_end ≢ None) (sym same) (site.ends.other l)) place
+      h.low more)
 
   -- the members from a place up to another go on with the byte, and the next one doesn't
   pub record IsRun (place end b : ℕ) : Type 0 where
@@ -165,7 +179,8 @@ module _ (site : Site) where
     pub other : end < site.pending.to → next_byte end ≢ next_byte place
 
   -- such a run is that of a child
-  module _ (place end b : ℕ) (transitions : List Transition) (queue : List Pending) (h : IsBranching place transitions queue)
+  module _ (place end b : ℕ) (transitions : List Transition) (queue : List Pending)
+      (h : IsBranching place transitions queue)
       (run : IsRun place end b) where
     long : length string ≡ site.pending.depth
     long = word-length site.kind site.patterns site.members queue (length site.states) site.pending h.waits
@@ -179,22 +194,28 @@ module _ (site : Site) where
     -- the members of the run are those that begin with the child's string
     pub child-members : IsRangeOf site.members (string ++ b ∷ []) place end
     child-members =
-        child-range site.kind site.patterns site.members site.ready.order string site.pending.from site.pending.to h.waits.range place end b
+        child-range site.kind site.patterns site.members site.ready.order string site.pending.from
+        site.pending.to h.waits.range place end b
         (let l = h.low in let m = site.ends.later in omega arith) run.some run.high
         (subst (λ (n : ℕ). byte_at site.members n place ≡ Some b) (sym long) run.byte)
         (λ k a c. subst (λ (n : ℕ). rank (byte_at site.members n k) < suc b) (sym long) (below k a c))
-        (λ k a c. subst (λ (n : ℕ). byte_at site.members n k ≡ byte_at site.members n place) (sym long) (run.same k a c))
-        (λ l. subst (λ (n : ℕ). byte_at site.members n end ≢ byte_at site.members n place) (sym long) (run.other l))
+        (λ k a c. subst (λ (n : ℕ). byte_at site.members n k ≡ byte_at site.members n place) (sym long)
+        (run.same k a c))
+        (λ l. subst (λ (n : ℕ). byte_at site.members n end ≢ byte_at site.members n place) (sym long)
+        (run.other l))
 
     greater : end < site.pending.to → suc b < rank (next_byte end)
     greater l =
         subst (λ (n : ℕ). suc b < rank (byte_at site.members n end)) long
-        (next-greater site.kind site.patterns site.members site.ready.order string site.pending.from site.pending.to h.waits.range place end b
+        (next-greater site.kind site.patterns site.members site.ready.order string site.pending.from
+        site.pending.to h.waits.range place end b
         (let m = h.low in let n = site.ends.later in omega arith) run.some run.high
         (subst (λ (n : ℕ). byte_at site.members n place ≡ Some b) (sym long) run.byte)
         (λ k a c. subst (λ (n : ℕ). rank (byte_at site.members n k) < suc b) (sym long) (below k a c))
-        (λ k a c. subst (λ (n : ℕ). byte_at site.members n k ≡ byte_at site.members n place) (sym long) (run.same k a c))
-        (λ m. subst (λ (n : ℕ). byte_at site.members n end ≢ byte_at site.members n place) (sym long) (run.other m)) l)
+        (λ k a c. subst (λ (n : ℕ). byte_at site.members n k ≡ byte_at site.members n place) (sym long)
+        (run.same k a c))
+        (λ m. subst (λ (n : ℕ). byte_at site.members n end ≢ byte_at site.members n place) (sym long)
+        (run.other m)) l)
 
     pushed : length (string ++ b ∷ []) ≡ site.pending.depth + 1
     pushed = let l = length_push string b in let m = long in omega arith
@@ -204,14 +225,21 @@ module _ (site : Site) where
 
     -- the pattern at the place has the byte
     pub child-deep : site.pending.depth + 1 ≤ length (key_at site.members place)
-    child-deep = let l = starts_with-length (key_at site.members place) (string ++ b ∷ []) front in let m = pushed in omega arith
+    child-deep =
+        let l = starts_with-length (key_at site.members place) (string ++ b ∷ []) front in
+        let m = pushed in
+        omega arith
 
     -- what the child's failure target is told by
-    pub has-child : HasChild site.kind site.fold site.patterns site.members site.states transitions queue site.pending place b
+    pub has-child : HasChild site.kind site.fold site.patterns site.members site.states transitions queue
+        site.pending place b
     has-child = record {
       order = site.ready.order;
       settled = site.ready.settled place site.pending.depth b run.byte;
-      meant = AreStates-more (grown_meaning site.kind site.fold site.patterns site.members site.transitions queue) transitions h.added h.split (nodes_of site.members queue)
+      meant =
+          AreStates-more
+          (grown_meaning site.kind site.fold site.patterns site.members site.transitions queue) transitions
+          h.added h.split (nodes_of site.members queue)
           (λ s v e. e) site.states (omega arith) h.meant;
       waits = h.waits;
       near = λ deep. near deep site.ready.next;
@@ -220,12 +248,16 @@ module _ (site : Site) where
       some = run.some;
     }
       where
-        near : site.pending.depth ≢ 0 → IsNext site.kind site.patterns site.members site.queue (length site.states) site.pending → site.pending.fail < length site.states
+        near : site.pending.depth ≢ 0
+            → IsNext site.kind site.patterns site.members site.queue (length site.states) site.pending
+            → site.pending.fail < length site.states
         near deep (inl start) = absurd (deep start.2)
         near deep (inr later) = h.waits.back (let n = later.1 in omega arith)
 
     -- the child that waits for them
-    module _ (fail : ℕ) (fails : slice_get (nodes_of site.members queue) fail ≡ Some (miss site.kind site.patterns (Some (string ++ b ∷ [])))) where
+    module _ (fail : ℕ)
+        (fails : slice_get (nodes_of site.members queue) fail
+        ≡ Some (miss site.kind site.patterns (Some (string ++ b ∷ [])))) where
       abbrev child : Pending
       child = record { from = place; to = end; depth = site.pending.depth + 1; fail = fail }
 
@@ -235,27 +267,35 @@ module _ (site : Site) where
           ∙ front-is (key_at site.members place) (string ++ b ∷ []) front
 
       -- a state that was there before has another string: else it would have this parent
-      old-child : (k : ℕ) (q : Pending) → k < length site.queue → slice_get queue k ≡ Some q → word site.members q ≡ string ++ b ∷ [] → ⊥
+      old-child : (k : ℕ) (q : Pending) → k < length site.queue → slice_get queue k ≡ Some q
+          → word site.members q ≡ string ++ b ∷ [] → ⊥
       old-child k q l e w =
           let known = slice_get-get_or site.queue k q l in
-          let is : get_or site.queue k q ≡ q = get-same queue k (get_or site.queue k q) q (h.kept k (get_or site.queue k q) known) e in
+          let is : get_or site.queue k q ≡ q =
+          get-same queue k (get_or site.queue k q) q (h.kept k (get_or site.queue k q) known) e in
           let there : slice_get site.queue k ≡ Some q = known ∙ ap (λ (r : Pending). Some r) is in
           let parent = site.ready.grown.parents k q there in
           let waits = site.ready.grown.waits k q there in
           let depth : q.depth - 1 ≡ site.pending.depth =
-          (let m = word-length site.kind site.patterns site.members site.queue (4 + k) q waits in let n = ap length w in let o = pushed in omega arith) in
+          (let m = word-length site.kind site.patterns site.members site.queue (4 + k) q waits in
+          let n = ap length w in let o = pushed in omega arith) in
           let same_string : take (q.depth - 1) (word site.members q) ≡ string =
-          ap (λ (n : ℕ). take n (word site.members q)) (depth ∙ sym long) ∙ ap (take (length string)) w ∙ take-append_seam string (b ∷ []) in
+          ap (λ (n : ℕ). take n (word site.members q)) (depth ∙ sym long) ∙ ap (take (length string)) w
+          ∙ take-append_seam string (b ∷ []) in
           same-parent parent.0 parent.1 (parent.2 ∙ ap (λ (v : List ℕ). Some (Some v)) same_string)
         where
-          same-parent : (j : ℕ) → j < length site.states → slice_get (nodes_of site.members site.queue) j ≡ Some (Some string) → ⊥
+          same-parent : (j : ℕ) → j < length site.states
+              → slice_get (nodes_of site.members site.queue) j ≡ Some (Some string) → ⊥
           same-parent j l node = elim (nodes-cases site.members site.queue j (Some string) node) [
             | inl dead ↦ absurd (let e = dead.1 in cc)
-            | inr (inl start) ↦ at-start j l start.0 (let e : Some string ≡ Some [] = start.2 in let f : string ≡ [] = cc in f) site.ready.next
+            | inr (inl start) ↦
+                at-start j l start.0
+                (let e : Some string ≡ Some [] = start.2 in let f : string ≡ [] = cc in f) site.ready.next
             | inr (inr inner) ↦ at-inner j l inner site.ready.next
           ]
             where
-              at-start : (j : ℕ) → j < length site.states → 2 ≤ j → string ≡ [] → IsNext site.kind site.patterns site.members site.queue (length site.states) site.pending → ⊥
+              at-start : (j : ℕ) → j < length site.states → 2 ≤ j → string ≡ []
+                  → IsNext site.kind site.patterns site.members site.queue (length site.states) site.pending → ⊥
               at-start j l low none (inl start) = absurd (let n = start.0 in omega arith)
               at-start j l low none (inr later) =
                   let s = later.1 in
@@ -264,24 +304,30 @@ module _ (site : Site) where
                   let m = long in
                   absurd (omega arith)
 
-              at-inner : (j : ℕ) → j < length site.states → IsInner site.members site.queue j (Some string) → IsNext site.kind site.patterns site.members site.queue (length site.states) site.pending → ⊥
+              at-inner : (j : ℕ) → j < length site.states → IsInner site.members site.queue j (Some string)
+                  → IsNext site.kind site.patterns site.members site.queue (length site.states) site.pending → ⊥
               at-inner j l inner (inl start) = absurd (let n = start.0 in let m = inner.number in omega arith)
               at-inner j l inner (inr later) =
-                  let e : word site.members inner.pending ≡ string = (let w : Some string ≡ Some (word site.members inner.pending) = inner.node in let v : string ≡ word site.members inner.pending = cc in sym v) in
-                  let at = site.ready.grown.apart inner.place later.0 inner.pending site.pending inner.waits later.2 e in
+                  let e : word site.members inner.pending ≡ string =
+                  (let w : Some string ≡ Some (word site.members inner.pending) = inner.node in
+                  let v : string ≡ word site.members inner.pending = cc in sym v) in
+                  let at =
+                  site.ready.grown.apart inner.place later.0 inner.pending site.pending inner.waits later.2 e in
                   let m = inner.number in
                   let n = later.1 in
                   absurd (omega arith)
 
       -- nor does a child that came before have this string
-      pub fresh : (k : ℕ) (q : Pending) → slice_get queue k ≡ Some q → word site.members q ≡ string ++ b ∷ [] → ⊥
+      pub fresh : (k : ℕ) (q : Pending) → slice_get queue k ≡ Some q → word site.members q ≡ string ++ b ∷ []
+          → ⊥
       fresh k q e w = elim (cases_lt k (length site.queue)) [
         | inl before ↦ old-child k q before e w
         | inr le ↦
             let member = h.children k q le e in
             let x = member.1 in
             let same_byte : x ≡ b = (push-injective string string x b (sym member.5 ∙ w)).1 in
-            let less = h.smaller run.more member.0 (let m = site.ends.later in omega (arith, member.2)) member.3 in
+            let less =
+            h.smaller run.more member.0 (let m = site.ends.later in omega (arith, member.2)) member.3 in
             let r : rank (next_byte member.0) ≡ suc x = ap rank member.4 in
             let s : rank (next_byte place) ≡ suc b = ap rank run.byte in
             absurd (omega arith)
@@ -290,7 +336,9 @@ module _ (site : Site) where
       child-waits : Waits site.kind site.patterns site.members (queue ++ child ∷ []) (4 + length queue) child
       child-waits =
           let front_long = starts_with-length (key_at site.members place) (string ++ b ∷ []) front in
-          let named = slice_get_within (nodes_of site.members queue) fail (miss site.kind site.patterns (Some (string ++ b ∷ []))) fails in
+          let named =
+          slice_get_within (nodes_of site.members queue) fail
+          (miss site.kind site.patterns (Some (string ++ b ∷ []))) fails in
           let count = length-map queue (λ (q : Pending). Some (word site.members q)) in
           record {
             deep = (let l = pushed in omega arith);
@@ -302,7 +350,8 @@ module _ (site : Site) where
             inner = λ l. omega arith;
           }
 
-      still-apart : (j k : ℕ) (q r : Pending) → slice_get (queue ++ child ∷ []) j ≡ Some q → slice_get (queue ++ child ∷ []) k ≡ Some r
+      still-apart : (j k : ℕ) (q r : Pending) → slice_get (queue ++ child ∷ []) j ≡ Some q
+          → slice_get (queue ++ child ∷ []) k ≡ Some r
           → word site.members q ≡ word site.members r → j ≡ k
       still-apart j k q r e f w = by (get-added_cases queue child q j e) (get-added_cases queue child r k f)
         where
@@ -310,7 +359,8 @@ module _ (site : Site) where
               → ((slice_get queue k ≡ Some r) ⊎ ((k ≡ length queue) × (child ≡ r))) → j ≡ k
           by (inl old) (inl old') = h.grown.apart j k q r old old' w
           by (inl old) (inr new) = absurd (fresh j q old (w ∙ ap (word site.members) (sym new.1) ∙ child-word))
-          by (inr new) (inl old) = absurd (fresh k r old (sym w ∙ ap (word site.members) (sym new.1) ∙ child-word))
+          by (inr new) (inl old) =
+              absurd (fresh k r old (sym w ∙ ap (word site.members) (sym new.1) ∙ child-word))
           by (inr new) (inr new') = new.0 ∙ sym new'.0
 
       parent-string : take (child.depth - 1) (word site.members child) ≡ string
@@ -328,30 +378,43 @@ module _ (site : Site) where
       settled = site.ready.settled place site.pending.depth b run.byte
 
       still-grown : length queue + 4 < GREATEST + 1
-          → IsGrown site.kind site.patterns site.members (length site.states + 1) (transitions ++ more_transitions) (queue ++ child ∷ [])
+          → IsGrown site.kind site.patterns site.members (length site.states + 1)
+          (transitions ++ more_transitions) (queue ++ child ∷ [])
       still-grown few = record {
-        counted = (let l = h.grown.counted in let m = length-append transitions more_transitions in let o = leading-length site.fold b (4 + length queue) in let n = length_push queue child in omega arith);
+        counted = (let l = h.grown.counted in let m = length-append transitions more_transitions in
+            let o = leading-length site.fold b (4 + length queue) in
+            let n = length_push queue child in
+            omega arith);
         few = (let n = length_push queue child in omega arith);
         waits = λ k q e. elim (get-added_cases queue child q k e) [
-          | inl old ↦ Waits-more site.kind site.patterns site.members queue (child ∷ []) (4 + k) q (h.grown.waits k q old)
+          | inl old ↦
+              Waits-more site.kind site.patterns site.members queue (child ∷ []) (4 + k) q
+              (h.grown.waits k q old)
           | inr new ↦
-              subst (λ (r : Pending). Waits site.kind site.patterns site.members (queue ++ child ∷ []) (4 + k) r) new.1
-              (subst (λ (n : ℕ). Waits site.kind site.patterns site.members (queue ++ child ∷ []) (4 + n) child) (sym new.0) child-waits)
+              subst (λ (r : Pending). Waits site.kind site.patterns site.members (queue ++ child ∷ [])
+              (4 + k) r) new.1
+              (subst (λ (n : ℕ). Waits site.kind site.patterns site.members (queue ++ child ∷ []) (4 + n) child)
+              (sym new.0) child-waits)
         ];
         apart = still-apart;
         parents = λ k q e. elim (get-added_cases queue child q k e) [
-          | inl old ↦ let r = h.grown.parents k q old in (r.0, r.1, nodes-more site.members queue (child ∷ []) r.0 _ r.2)
+          | inl old ↦
+              let r = h.grown.parents k q old in
+              (r.0, r.1, nodes-more site.members queue (child ∷ []) r.0 _ r.2)
           | inr new ↦ (
             length site.states,
             omega arith,
-            subst (λ (r : Pending). slice_get (nodes_of site.members (queue ++ child ∷ [])) (length site.states) ≡ Some (Some (take (r.depth - 1) (word site.members r)))) new.1
-                (nodes-more site.members queue (child ∷ []) (length site.states) _ (h.node ∙ ap (λ (v : List ℕ). Some (Some v)) (sym parent-string))),
+            subst (λ (r : Pending). slice_get (nodes_of site.members (queue ++ child ∷ [])) (length site.states)
+                ≡ Some (Some (take (r.depth - 1) (word site.members r)))) new.1
+                (nodes-more site.members queue (child ∷ []) (length site.states) _
+                (h.node ∙ ap (λ (v : List ℕ). Some (Some v)) (sym parent-string))),
           )
         ];
       }
 
       step-leads : (t : Transition) → IsIn t (h.added ++ more_transitions)
-          → slice_get (nodes_of site.members (queue ++ child ∷ [])) t.target ≡ Some (Some (string ++ plain_byte site.fold t.byte ∷ []))
+          → slice_get (nodes_of site.members (queue ++ child ∷ [])) t.target
+          ≡ Some (Some (string ++ plain_byte site.fold t.byte ∷ []))
       step-leads t has = elim (IsIn-append_cases t h.added more_transitions has) [
         | inl old ↦ nodes-more site.members queue (child ∷ []) t.target _ (h.leads t old)
         | inr new ↦
@@ -365,32 +428,47 @@ module _ (site : Site) where
           → (k : ℕ) × (site.own_end ≤ k) × (k < end) × (next_byte k ≡ Some (plain_byte site.fold t.byte))
       step-by_members t has = elim (IsIn-append_cases t h.added more_transitions has) [
         | inl old ↦ let r = h.by_members t old in (r.0, r.1, omega (arith, r.2), r.3)
-        | inr new ↦ (place, h.low, run.some, run.byte ∙ ap (λ (y : ℕ). Some y) (sym (leading-plain site.fold b (4 + length queue) settled t new).0))
+        | inr new ↦ (
+          place,
+          h.low,
+          run.some,
+          run.byte
+              ∙ ap (λ (y : ℕ). Some y) (sym (leading-plain site.fold b (4 + length queue) settled t new).0),
+        )
       ]
 
-      step-covered : (k c x : ℕ) → site.own_end ≤ k → k < end → next_byte k ≡ Some c → plain_byte site.fold x ≡ c
+      step-covered : (k c x : ℕ) → site.own_end ≤ k → k < end → next_byte k ≡ Some c
+          → plain_byte site.fold x ≡ c
           → (t : Transition) × IsIn t (h.added ++ more_transitions) × (t.byte ≡ x)
       step-covered k c x l m e is = elim (cases_lt k place) [
-        | inl before ↦ let r = h.covered k c x l before e is in (r.0, IsIn-append_left r.0 h.added more_transitions r.1, r.2)
+        | inl before ↦
+            let r = h.covered k c x l before e is in
+            (r.0, IsIn-append_left r.0 h.added more_transitions r.1, r.2)
         | inr le ↦
             let same_byte : c ≡ b = (let f : Some c ≡ Some b = sym e ∙ run.same k le m ∙ run.byte in cc) in (
               record { byte = x; target = 4 + length queue },
-              IsIn-append_right _ h.added more_transitions (leading-has site.fold b (4 + length queue) settled x (is ∙ same_byte)),
+              IsIn-append_right _ h.added more_transitions
+                  (leading-has site.fold b (4 + length queue) settled x (is ∙ same_byte)),
               refl,
             )
       ]
 
       step-apart : IsOrdered (λ s t. s.byte ≢ t.byte) (h.added ++ more_transitions)
-      step-apart = IsOrdered-append (λ (s t : Transition). s.byte ≢ t.byte) h.added more_transitions h.apart (leading-apart site.fold b (4 + length queue))
+      step-apart =
+          IsOrdered-append (λ (s t : Transition). s.byte ≢ t.byte) h.added more_transitions h.apart
+          (leading-apart site.fold b (4 + length queue))
           (λ s t old new e.
           let member = h.by_members s old in
-          let less = h.smaller run.more member.0 (let m = site.ends.later in omega (arith, member.1)) member.2 in
+          let less =
+          h.smaller run.more member.0 (let m = site.ends.later in omega (arith, member.1)) member.2 in
           let low : rank (next_byte member.0) ≡ suc (plain_byte site.fold s.byte) = ap rank member.3 in
           let high : rank (next_byte place) ≡ suc b = ap rank run.byte in
-          let is : plain_byte site.fold s.byte ≡ b = ap (plain_byte site.fold) e ∙ (leading-plain site.fold b (4 + length queue) settled t new).0 in
+          let is : plain_byte site.fold s.byte ≡ b =
+          ap (plain_byte site.fold) e ∙ (leading-plain site.fold b (4 + length queue) settled t new).0 in
           absurd (omega arith))
 
-      step-smaller : end < site.pending.to → (k : ℕ) → site.pending.from ≤ k → k < end → rank (next_byte k) < rank (next_byte end)
+      step-smaller : end < site.pending.to → (k : ℕ) → site.pending.from ≤ k → k < end
+          → rank (next_byte k) < rank (next_byte end)
       step-smaller l k low m =
           let up = greater l in
           elim (cases_lt k place) [
@@ -399,16 +477,22 @@ module _ (site : Site) where
           ]
 
       -- with the child behind the queue the children up to the end of its run have come
-      pub branching-goes_on : length queue + 4 < GREATEST + 1 → IsBranching end (transitions ++ more_transitions) (queue ++ child ∷ [])
+      pub branching-goes_on : length queue + 4 < GREATEST + 1
+          → IsBranching end (transitions ++ more_transitions) (queue ++ child ∷ [])
       branching-goes_on few = record {
         grown = still-grown few;
-        meant = AreStates-more (grown_meaning site.kind site.fold site.patterns site.members site.transitions queue) site.transitions [] (sym (append-nil site.transitions))
-            (nodes_of site.members (queue ++ child ∷ [])) (nodes-more site.members queue (child ∷ [])) site.states
+        meant =
+            AreStates-more
+            (grown_meaning site.kind site.fold site.patterns site.members site.transitions queue)
+            site.transitions [] (sym (append-nil site.transitions))
+            (nodes_of site.members (queue ++ child ∷ []))
+            (nodes-more site.members queue (child ∷ [])) site.states
             (let m = length-map queue (λ (q : Pending). Some (word site.members q)) in
             let n = length-map (queue ++ child ∷ []) (λ (q : Pending). Some (word site.members q)) in
             let o = length_push queue child in omega arith)
             h.meant;
-        waits = Waits-more site.kind site.patterns site.members queue (child ∷ []) (length site.states) site.pending h.waits;
+        waits = Waits-more site.kind site.patterns site.members queue (child ∷ [])
+            (length site.states) site.pending h.waits;
         node = nodes-more site.members queue (child ∷ []) (length site.states) _ h.node;
         kept = λ k q e. get-append queue (child ∷ []) k q (h.kept k q e);
         more = (let m = h.more in let n = length_push queue child in omega arith);
@@ -419,7 +503,8 @@ module _ (site : Site) where
           | inr new ↦ (place, b, h.low, run.some, run.byte, sym (ap (word site.members) new.1) ∙ child-word)
         ];
         added = h.added ++ more_transitions;
-        split = ap (λ (ts : List Transition). ts ++ more_transitions) h.split ∙ append_assoc site.transitions h.added more_transitions;
+        split = ap (λ (ts : List Transition). ts ++ more_transitions) h.split
+            ∙ append_assoc site.transitions h.added more_transitions;
         leads = step-leads;
         by_members = step-by_members;
         covered = step-covered;

@@ -16,8 +16,10 @@ use Rattle.ac_automaton.proofs.Branching.{word-length}
 use Rattle.ac_automaton.proofs.Misses.{miss-child, miss-own, miss-start}
 use Rattle.ac_automaton.proofs.Ranges.{own-first, own-none}
 
-module _ (kind : MatchKind) (fold : Bool) (patterns : List (List ℕ)) (members : List Keyed) (states : List State) (transitions : List Transition)
-    (queue : List Pending) (p : Pending) (place b : ℕ) (h : HasChild kind fold patterns members states transitions queue p place b) where
+module _ (kind : MatchKind) (fold : Bool) (patterns : List (List ℕ)) (members : List Keyed)
+    (states : List State) (transitions : List Transition)
+    (queue : List Pending) (p : Pending) (place b : ℕ)
+    (h : HasChild kind fold patterns members states transitions queue p place b) where
   long : length (word members p) ≡ p.depth
   long = word-length kind patterns members queue (length states) p h.waits
 
@@ -43,25 +45,34 @@ module _ (kind : MatchKind) (fold : Bool) (patterns : List (List ℕ)) (members 
       → slice_get (nodes_of members queue) p.fail ≡ Some (miss kind patterns (Some (word members p ++ b ∷ [])))
   fail-start goes_on start = h.waits.fails ∙ ap (λ (v : Node). Some v) (by (word members p) refl)
     where
-      by : (u : List ℕ) → word members p ≡ u → miss kind patterns (Some u) ≡ miss kind patterns (Some (word members p ++ b ∷ []))
+      by : (u : List ℕ) → word members p ≡ u
+          → miss kind patterns (Some u) ≡ miss kind patterns (Some (word members p ++ b ∷ []))
       by [] e =
           sym (ap (λ (v : List ℕ). miss kind patterns (Some (v ++ b ∷ []))) e
-          ∙ miss-start kind patterns b (λ leftmost. sym (ap (λ (v : List ℕ). equal_to kind patterns (v ++ b ∷ [])) e) ∙ no-own goes_on leftmost))
+          ∙ miss-start kind patterns b
+          (λ leftmost. sym (ap (λ (v : List ℕ). equal_to kind patterns (v ++ b ∷ [])) e)
+          ∙ no-own goes_on leftmost))
       by (x ∷ u) e = absurd (let l = long in let m = ap length e in omega arith)
 
   -- any other child fails to where the byte leads from the failure target of its parent
   pub fail-step : (is_leftmost kind ≡ true → byte_at members (p.depth + 1) place ≢ None) → p.depth ≢ 0
-      → step kind patterns No (miss kind patterns (Some (word members p))) b ≡ miss kind patterns (Some (word members p ++ b ∷ []))
+      → step kind patterns No (miss kind patterns (Some (word members p))) b
+      ≡ miss kind patterns (Some (word members p ++ b ∷ []))
   fail-step goes_on deep = by (word members p) refl
     where
       by : (u : List ℕ) → word members p ≡ u
-          → step kind patterns No (miss kind patterns (Some (word members p))) b ≡ miss kind patterns (Some (word members p ++ b ∷ []))
+          → step kind patterns No (miss kind patterns (Some (word members p))) b
+          ≡ miss kind patterns (Some (word members p ++ b ∷ []))
       by [] e = absurd (deep (let l = long in let m = ap length e in omega arith))
       by (x ∷ u) e =
           ap (λ (v : List ℕ). step kind patterns No (miss kind patterns (Some v)) b) e
-          ∙ sym (miss-child kind patterns x u b (λ leftmost. sym (ap (λ (v : List ℕ). equal_to kind patterns (v ++ b ∷ [])) e) ∙ no-own goes_on leftmost))
+          ∙ sym (miss-child kind patterns x u b
+          (λ leftmost. sym (ap (λ (v : List ℕ). equal_to kind patterns (v ++ b ∷ [])) e)
+          ∙ no-own goes_on leftmost))
           ∙ ap (λ (v : List ℕ). miss kind patterns (Some (v ++ b ∷ []))) (sym e)
 
   -- the failure target of a state that isn't the start is among the states
-  pub fail-state : p.depth ≢ 0 → HasState (grown_meaning kind fold patterns members transitions queue) states p.fail (miss kind patterns (Some (word members p)))
+  pub fail-state : p.depth ≢ 0
+      → HasState (grown_meaning kind fold patterns members transitions queue) states p.fail
+      (miss kind patterns (Some (word members p)))
   fail-state deep = record { meant = h.meant; there = h.near deep; named = h.waits.fails }

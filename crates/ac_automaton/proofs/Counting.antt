@@ -45,5 +45,6 @@ length-le-from_IsOrdered [] ys apart into = omega arith
 length-le-from_IsOrdered (x ∷ xs) ys apart into =
     let cut = without x ys (into x (inl refl)) in
     let shorter = cut.1.shorter in
-    let rest = length-le-from_IsOrdered xs cut.0 apart.1 (λ z h. cut.1.others z (apart.0 z h) (into z (inr h))) in
+    let rest =
+    length-le-from_IsOrdered xs cut.0 apart.1 (λ z h. cut.1.others z (apart.0 z h) (into z (inr h))) in
     omega arith

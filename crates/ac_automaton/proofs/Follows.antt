@@ -1,4 +1,5 @@
--- A walk from state to state along the failure targets: it keeps where the byte leads at last, and counts its looks.
+-- A walk from state to state along the failure targets: it keeps where the byte leads at last, and counts its
+-- looks.
 use Rattle.std.proofs.Common.{◌≡◌, ◌≢◌, ℕ, ◌+◌, ◌<◌, List, get_or, refl, ap, sym, subst, ◌∙◌, arith, Some, None, Contains}
 use Rattle.std.specs.Prelude.{slice_get}
 use Rattle.std.proofs.lemmas.List.{get_or_read}
@@ -34,21 +35,26 @@ more_looks-twice n m counts =
 pub represented : (g : Meaning) (states : List State) (s : ℕ) (v : Node) (t : State)
     → HasState g states s v → t ≡ get_or states s t → Represents g s v t
 represented g states s v t h is =
-    subst (λ (x : State). Represents g s v x) (sym (get_or_read states s t h.there is _)) (h.meant.each s v h.there h.named)
+    subst (λ (x : State). Represents g s v x) (sym (get_or_read states s t h.there is _))
+    (h.meant.each s v h.there h.named)
 
 module _ (g : Meaning) (transitions : List Transition) (same : g.transitions ≡ transitions)
     (s : ℕ) (v : Node) (t : State) (r : Represents g s v t) (b : ℕ) where
   -- a byte with a transition leads on
-  pub leads-on : (k target : ℕ) → slice_get (transitions_of transitions t) k ≡ Some (record { byte = b; target = target }) → held g v b ≢ None
+  pub leads-on : (k target : ℕ)
+      → slice_get (transitions_of transitions t) k ≡ Some (record { byte = b; target = target })
+      → held g v b ≢ None
   leads-on k target at =
       let own = transitions_of g.transitions t in
       let there : slice_get own k ≡ Some (record { byte = b; target = target }) = rw same at in
       (r.branches b).0
-      (Contains-from_IsIn b (bytes_of own) (IsIn-map (λ (x : Transition). x.byte) (record { byte = b; target = target }) own
+      (Contains-from_IsIn b (bytes_of own)
+      (IsIn-map (λ (x : Transition). x.byte) (record { byte = b; target = target }) own
       (IsIn-place (record { byte = b; target = target }) own k there)))
 
   -- and it leads to the target
-  pub leads-to : (k target : ℕ) → slice_get (transitions_of transitions t) k ≡ Some (record { byte = b; target = target })
+  pub leads-to : (k target : ℕ)
+      → slice_get (transitions_of transitions t) k ≡ Some (record { byte = b; target = target })
       → slice_get g.nodes target ≡ Some (held g v b)
   leads-to k target at = r.leads k (record { byte = b; target = target }) (rw same at)
 
@@ -56,26 +62,33 @@ module _ (g : Meaning) (transitions : List Transition) (same : g.transitions ≡
   pub leads-nowhere : (Contains (bytes_of (transitions_of transitions t)) b → ⊥) → held g v b ≡ None
   leads-nowhere none =
       none-from (held g v b)
-      (λ on. none (subst (λ (ts : List Transition). Contains (bytes_of (transitions_of ts t)) b) same ((r.branches b).1 on)))
+      (λ on. none (subst (λ (ts : List Transition). Contains (bytes_of (transitions_of ts t)) b) same
+      ((r.branches b).1 on)))
 
--- on the way to where the byte leads from the node, the walk is at a state, and has counted what it took to come there
-pub record Onward (g : Meaning) (states : List State) (anchored : Anchored) (b : ℕ) (u : Node) (old now : Counts) (at : ℕ)
+-- on the way to where the byte leads from the node, the walk is at a state, and has counted what it took to
+-- come there
+pub record Onward (g : Meaning) (states : List State) (anchored : Anchored) (b : ℕ) (u : Node)
+    (old now : Counts) (at : ℕ)
     : Type 0 where
   pub node : Node
   pub state : HasState g states at node
-  pub steps : step g.kind g.patterns anchored u (plain_byte g.fold b) ≡ step g.kind g.patterns anchored node (plain_byte g.fold b)
+  pub steps : step g.kind g.patterns anchored u (plain_byte g.fold b) ≡ step g.kind g.patterns anchored node
+      (plain_byte g.fold b)
   pub taken : ℕ
-  pub looks : looks g.kind g.patterns anchored u (plain_byte g.fold b) ≡ taken + looks g.kind g.patterns anchored node (plain_byte g.fold b)
+  pub looks : looks g.kind g.patterns anchored u
+      (plain_byte g.fold b) ≡ taken + looks g.kind g.patterns anchored node (plain_byte g.fold b)
   pub counted : now ≡ more_looks taken old
 
 -- at its end it is where the byte leads, and has counted all looks
-pub record Ended (g : Meaning) (anchored : Anchored) (b : ℕ) (u : Node) (old new : Counts) (next : ℕ) : Type 0 where
+pub record Ended (g : Meaning) (anchored : Anchored) (b : ℕ) (u : Node) (old new : Counts)
+    (next : ℕ) : Type 0 where
   pub steps : slice_get g.nodes next ≡ Some (step g.kind g.patterns anchored u (plain_byte g.fold b))
   pub looks : new ≡ more_looks (looks g.kind g.patterns anchored u (plain_byte g.fold b)) old
 
 module _ (g : Meaning) (states : List State) (b : ℕ) (u : Node) (old : Counts) where
   -- before the first look the walk is on the way
-  pub onward-start : (anchored : Anchored) (s : ℕ) → HasState g states s u → Onward g states anchored b u old old s
+  pub onward-start : (anchored : Anchored) (s : ℕ) → HasState g states s u
+      → Onward g states anchored b u old old s
   onward-start anchored s h = record {
     node = u;
     state = h;
@@ -94,19 +107,23 @@ module _ (g : Meaning) (states : List State) (b : ℕ) (u : Node) (old : Counts)
       ∙ ap (λ (n : ℕ). more_looks n old) (let l = o.looks in omega arith)
 
   -- a byte that leads on leads to one node in any search, with one look
-  step-leads : (anchored : Anchored) (v : Node) → held g v b ≢ None → step g.kind g.patterns anchored v (plain_byte g.fold b) ≡ held g v b
+  step-leads : (anchored : Anchored) (v : Node) → held g v b ≢ None
+      → step g.kind g.patterns anchored v (plain_byte g.fold b) ≡ held g v b
   step-leads No v on = step-held g.kind g.patterns v (plain_byte g.fold b) on
   step-leads Yes v on = refl
 
-  looks-leads : (anchored : Anchored) (v : Node) → held g v b ≢ None → looks g.kind g.patterns anchored v (plain_byte g.fold b) ≡ 1
+  looks-leads : (anchored : Anchored) (v : Node) → held g v b ≢ None
+      → looks g.kind g.patterns anchored v (plain_byte g.fold b) ≡ 1
   looks-leads No v on = looks-held g.kind g.patterns v (plain_byte g.fold b) on
   looks-leads Yes v on = refl
 
   -- what holds after a look at the state t of the number s
-  module _ (transitions : List Transition) (same : g.transitions ≡ transitions) (now new : Counts) (more : new ≡ more_looks 1 now)
+  module _ (transitions : List Transition) (same : g.transitions ≡ transitions) (now new : Counts)
+      (more : new ≡ more_looks 1 now)
       (s : ℕ) (t : State) (is : t ≡ get_or states s t) where
     -- at a state that has a transition by the byte the walk ends at its target
-    pub ends-target : (anchored : Anchored) (k target : ℕ) → slice_get (transitions_of transitions t) k ≡ Some (record { byte = b; target = target })
+    pub ends-target : (anchored : Anchored) (k target : ℕ)
+        → slice_get (transitions_of transitions t) k ≡ Some (record { byte = b; target = target })
         → Onward g states anchored b u old now s → Ended g anchored b u old new target
     ends-target anchored k target at o =
         let r = represented g states s o.node t o.state is in
@@ -138,7 +155,8 @@ module _ (g : Meaning) (states : List State) (b : ℕ) (u : Node) (old : Counts)
           let off = leads-nowhere g transitions same s o.node t r b none in
           let goes = step-miss g.kind g.patterns o.node (plain_byte g.fold b) off (r.outer small) in record {
             steps = r.fails ∙ ap (λ (v : Node). Some v) (sym (o.steps ∙ goes));
-            looks = counted-last No now new s o (looks-short g.kind g.patterns o.node (plain_byte g.fold b) (r.outer small)) more;
+            looks = counted-last No now new s o
+                (looks-short g.kind g.patterns o.node (plain_byte g.fold b) (r.outer small)) more;
           }
 
       -- and goes on at the failure target of any other

@@ -48,7 +48,8 @@ module _ (members : List Keyed) where
       subst (λ (s : ℕ). slice_get (nodes_of members queue) s ≡ Some (Some (word members p))) four
       (slice_get-map (λ q. Some (word members q)) queue k ∙ ap (option_map (λ q. Some (word members q))) e)
 
-  words_from : (queue : List Pending) (k : ℕ) (v : Node) → slice_get (map (λ p. Some (word members p)) queue) k ≡ Some v
+  words_from : (queue : List Pending) (k : ℕ) (v : Node)
+      → slice_get (map (λ p. Some (word members p)) queue) k ≡ Some v
       → (p : Pending) × (slice_get queue k ≡ Some p) × (v ≡ Some (word members p))
   words_from [] k v e = absurd (cc)
   words_from (p ∷ queue) zero v e = (p, refl, (cc))
@@ -77,10 +78,12 @@ more_meaning g transitions nodes = record {
 }
 
 -- with more transitions, and with nodes of which each keeps its number
-module _ (g : Meaning) (transitions more : List Transition) (split : transitions ≡ g.transitions ++ more) (nodes : List Node)
+module _ (g : Meaning) (transitions more : List Transition) (split : transitions ≡ g.transitions ++ more)
+    (nodes : List Node)
     (keeps : (s : ℕ) (v : Node) → slice_get g.nodes s ≡ Some v → slice_get nodes s ≡ Some v) where
   -- a state that is whole stays what it is
-  pub Represents-more : (s : ℕ) (v : Node) (t : State) → Represents g s v t → Represents (more_meaning g transitions nodes) s v t
+  pub Represents-more : (s : ℕ) (v : Node) (t : State) → Represents g s v t
+      → Represents (more_meaning g transitions nodes) s v t
   Represents-more s v t r =
       let e : transitions_of transitions t ≡ transitions_of g.transitions t =
       ap (λ (ts : List Transition). transitions_of ts t) split
@@ -91,8 +94,10 @@ module _ (g : Meaning) (transitions more : List Transition) (split : transitions
         ordered = r.ordered;
         listed = longer;
         ascending = subst (λ (ts : List Transition). IsStrictlyIncreasing (bytes_of ts)) (sym e) r.ascending;
-        branches = λ b. subst (λ (ts : List Transition). Contains (bytes_of ts) b ↔ (held g v b ≢ None)) (sym e) (r.branches b);
-        leads = λ k next h. keeps _ _ (r.leads k next (sym (ap (λ (ts : List Transition). slice_get ts k) e) ∙ h));
+        branches = λ b. subst (λ (ts : List Transition). Contains (bytes_of ts) b ↔ (held g v b ≢ None)) (sym e)
+            (r.branches b);
+        leads =
+            λ k next h. keeps _ _ (r.leads k next (sym (ap (λ (ts : List Transition). slice_get ts k) e) ∙ h));
         fails = keeps _ _ r.fails;
         back = r.back;
         owned = r.owned;
@@ -125,15 +130,18 @@ module _ (g : Meaning) (transitions more : List Transition) (split : transitions
 
 -- one more state is whole
 module _ (g : Meaning) (states : List State) (v : Node) (t : State) where
-  pub AreStates-push : AreStates g states → slice_get g.nodes (length states) ≡ Some v → Represents g (length states) v t
+  pub AreStates-push : AreStates g states → slice_get g.nodes (length states) ≡ Some v
+      → Represents g (length states) v t
       → AreStates g (states ++ t ∷ [])
   AreStates-push a node r = record {
     dead = a.dead;
-    named = (let l = slice_get_within g.nodes (length states) v node in let m = length_push states t in omega arith);
+    named = (let l = slice_get_within g.nodes (length states) v node in let m = length_push states t in
+        omega arith);
     each = λ s w l e. each s w e (cases_lt s (length states)) (let m = length_push states t in omega arith);
   }
     where
-      each : (s : ℕ) (w : Node) → slice_get g.nodes s ≡ Some w → (s < length states) ⊎ (length states ≤ s) → s ≤ length states
+      each : (s : ℕ) (w : Node) → slice_get g.nodes s ≡ Some w → (s < length states) ⊎ (length states ≤ s)
+          → s ≤ length states
           → Represents g s w (state_at (states ++ t ∷ []) s)
       each s w e (inl before) l =
           subst (λ (u : State). Represents g s w u)
@@ -145,6 +153,7 @@ module _ (g : Meaning) (states : List State) (v : Node) (t : State) where
           (subst (λ (x : Node). Represents g s x t) same (subst (λ (k : ℕ). Represents g k v t) here r))
 
 -- a state that was read by its number
-pub state-read : (states : List State) (t : State) (k s : ℕ) → k ≡ s → s < length states → t ≡ get_or states k t → t ≡ state_at states s
+pub state-read : (states : List State) (t : State) (k s : ℕ) → k ≡ s → s < length states → t ≡ get_or states k t
+    → t ≡ state_at states s
 state-read states t k s same l is =
     is ∙ ap (λ (j : ℕ). get_or states j t) same ∙ get_or_default states s t (state_at [] 0) l

@@ -18,9 +18,11 @@ use Rattle.ac_automaton.specs.Automata.{plain_of, matches_of, Lists}
 use Rattle.ac_automaton.specs.Cores.{place_of, FitsIn, found_at}
 
 -- a pattern is as long as its plain string
-pub plain_length : (built : Built) (n : ℕ) → length (pattern_of (plain_of built) n) ≡ length (pattern_of built.patterns n)
+pub plain_length : (built : Built) (n : ℕ)
+    → length (pattern_of (plain_of built) n) ≡ length (pattern_of built.patterns n)
 plain_length built n =
-    ap length (get_or-map (plain built.fold) built.patterns n []) ∙ length-map (pattern_of built.patterns n) (plain_byte built.fold)
+    ap length (get_or-map (plain built.fold) built.patterns n [])
+    ∙ length-map (pattern_of built.patterns n) (plain_byte built.fold)
 
 -- a place told by its length
 abbrev pub place_of_len : ℕ → ℕ → ℕ → Occurrence
@@ -39,76 +41,101 @@ front_first (x ∷ xs) ys p e some = e
 -- what a list of matches lists first
 module _ (built : Built) (listed : List ℕ) (start end : ℕ) where
   -- without matches nothing is found
-  pub found-none : (anchored : Anchored) (u : Node) → Lists built anchored u listed → listed ≡ [] → found_at built anchored u end ≡ None
-  found-none No u lists none = ap (λ (ns : List ℕ). option_map (place_of built end) (slice_get ns 0)) (sym lists ∙ none)
+  pub found-none : (anchored : Anchored) (u : Node) → Lists built anchored u listed → listed ≡ []
+      → found_at built anchored u end ≡ None
+  found-none No u lists none =
+      ap (λ (ns : List ℕ). option_map (place_of built end) (slice_get ns 0)) (sym lists ∙ none)
   found-none Yes u lists none =
       ap (λ (ns : List ℕ). option_map (place_of built end) (slice_get ns 0))
       (append_nil_left (matches_of built Yes u) lists.passed_over (sym lists.own ∙ none))
 
   -- a state that lists matches is not dead
-  node_of : (anchored : Anchored) (u : Node) (p : ℕ) → Lists built anchored u listed → slice_get listed 0 ≡ Some p → u ≢ None
+  node_of : (anchored : Anchored) (u : Node) (p : ℕ) → Lists built anchored u listed
+      → slice_get listed 0 ≡ Some p → u ≢ None
   node_of No u p lists e dead =
       let none : listed ≡ [] = lists ∙ ap (matches_of built No) dead in
       let nothing : slice_get listed 0 ≡ None = ap (λ (ns : List ℕ). slice_get ns 0) none in absurd (cc)
   node_of Yes u p lists e dead =
-      let none : listed ≡ [] = append_nil_left listed lists.left_out (sym lists.front ∙ ap (matches_of built No) dead) in
+      let none : listed ≡ [] =
+      append_nil_left listed lists.left_out (sym lists.front ∙ ap (matches_of built No) dead) in
       let nothing : slice_get listed 0 ≡ None = ap (λ (ns : List ℕ). slice_get ns 0) none in absurd (cc)
 
   -- the first pattern listed is one of the matches
-  among : (anchored : Anchored) (u : Node) (p : ℕ) → Lists built anchored u listed → slice_get listed 0 ≡ Some p → IsIn p (matches_of built No u)
+  among : (anchored : Anchored) (u : Node) (p : ℕ) → Lists built anchored u listed → slice_get listed 0 ≡ Some p
+      → IsIn p (matches_of built No u)
   among No u p lists e = subst (λ (ns : List ℕ). IsIn p ns) lists (in_front p listed e)
   among Yes u p lists e =
-      subst (λ (ns : List ℕ). IsIn p ns) (sym lists.front) (IsIn-append_left p listed lists.left_out (in_front p listed e))
+      subst (λ (ns : List ℕ). IsIn p ns) (sym lists.front)
+      (IsIn-append_left p listed lists.left_out (in_front p listed e))
 
   -- the first pattern listed has a number, and isn't longer than what was read
   pub record HeadFits (p : ℕ) : Type 0 where
     pub numbered : p < length built.patterns
     pub short : length (pattern_of built.patterns p) ≤ end - start
 
-  pub head-fits : (anchored : Anchored) (u : Node) (p : ℕ) → Lists built anchored u listed → FitsIn anchored u start end
+  pub head-fits : (anchored : Anchored) (u : Node) (p : ℕ) → Lists built anchored u listed
+      → FitsIn anchored u start end
       → slice_get listed 0 ≡ Some p → HeadFits p
   head-fits anchored None p lists fits e = absurd (node_of anchored None p lists e refl)
   head-fits anchored (Some u) p lists fits e =
       let f = matches-fits built.kind (plain_of built) u p (among anchored (Some u) p lists e) in
-      let n = f.numbered in let s = f.short in let l = plain_length built p in let m = length-map built.patterns (plain built.fold) in
+      let n = f.numbered in
+      let s = f.short in
+      let l = plain_length built p in
+      let m = length-map built.patterns (plain built.fold) in
       let d = fits.short in
       record { numbered = omega arith; short = omega arith }
 
   own_of : (u : List ℕ) (p : ℕ) → Lists built Yes (Some u) listed → slice_get listed 0 ≡ Some p
       → length (pattern_of built.patterns p) ≡ length u → matches_of built Yes (Some u) ≢ []
   own_of u p lists e l none =
-      let whole = matches-whole built.kind (plain_of built) u p (among Yes (Some u) p lists e) (plain_length built p ∙ l) in
+      let whole =
+      matches-whole built.kind (plain_of built) u p (among Yes (Some u) p lists e) (plain_length built p ∙ l) in
       subst (λ (ns : List ℕ). IsIn p ns) none whole
 
   -- it counts, unless the search is anchored and it is shorter than what was read
-  pub found-first : (anchored : Anchored) (u : Node) (p : ℕ) → Lists built anchored u listed → FitsIn anchored u start end
+  pub found-first : (anchored : Anchored) (u : Node) (p : ℕ) → Lists built anchored u listed
+      → FitsIn anchored u start end
       → slice_get listed 0 ≡ Some p → (anchored ≡ Yes → length (pattern_of built.patterns p) ≡ end - start)
       → found_at built anchored u end ≡ Some (place_of built end p)
-  found-first No u p lists fits e whole = ap (λ (r : Option ℕ). option_map (place_of built end) r) (ap (λ (ns : List ℕ). slice_get ns 0) (sym lists) ∙ e)
+  found-first No u p lists fits e whole =
+      ap (λ (r : Option ℕ). option_map (place_of built end) r)
+      (ap (λ (ns : List ℕ). slice_get ns 0) (sym lists) ∙ e)
   found-first Yes None p lists fits e whole = absurd (node_of Yes None p lists e refl)
   found-first Yes (Some u) p lists fits e whole =
       let long : length u ≡ end - start = fits.whole refl (λ n. absurd (cc)) in
       let some = own_of u p lists e (whole refl ∙ sym long) in
       ap (λ (r : Option ℕ). option_map (place_of built end) r)
-      (front_first (matches_of built Yes (Some u)) lists.passed_over p (ap (λ (ns : List ℕ). slice_get ns 0) (sym lists.own) ∙ e) some)
+      (front_first (matches_of built Yes (Some u)) lists.passed_over p
+      (ap (λ (ns : List ℕ). slice_get ns 0) (sym lists.own) ∙ e) some)
 
   pub found-passed_over : (u : Node) (p : ℕ) → Lists built Yes u listed → FitsIn Yes u start end
-      → slice_get listed 0 ≡ Some p → length (pattern_of built.patterns p) ≢ end - start → found_at built Yes u end ≡ None
+      → slice_get listed 0 ≡ Some p → length (pattern_of built.patterns p) ≢ end - start
+      → found_at built Yes u end ≡ None
   found-passed_over None p lists fits e short = refl
   found-passed_over (Some u) p lists fits e short = by (matches_of built Yes (Some u)) refl
     where
-      by : (ns : List ℕ) → matches_of built Yes (Some u) ≡ ns → option_map (place_of built end) (slice_get ns 0) ≡ None
+      by : (ns : List ℕ) → matches_of built Yes (Some u) ≡ ns
+          → option_map (place_of built end) (slice_get ns 0) ≡ None
       by [] is = refl
       by (n ∷ ns) is =
-          let first : slice_get (n ∷ ns) 0 ≡ Some p = front_first (n ∷ ns) lists.passed_over p (ap (λ (ms : List ℕ). slice_get ms 0) (ap (λ (ms : List ℕ). ms ++ lists.passed_over) (sym is) ∙ sym lists.own) ∙ e) (λ k. absurd (cc)) in
+          let first : slice_get (n ∷ ns) 0 ≡ Some p =
+          front_first (n ∷ ns) lists.passed_over p
+          (ap (λ (ms : List ℕ). slice_get ms 0)
+          (ap (λ (ms : List ℕ). ms ++ lists.passed_over) (sym is) ∙ sym lists.own) ∙ e)
+          (λ k. absurd (cc)) in
           let same : n ≡ p = cc in
-          let equal = IsIn-from_equal_to built.kind (plain_of built) u p (subst (λ (ms : List ℕ). IsIn p ms) (sym is) (inl same)) in
+          let equal =
+          IsIn-from_equal_to built.kind (plain_of built) u p
+          (subst (λ (ms : List ℕ). IsIn p ms) (sym is) (inl same)) in
           let long = fits.whole refl (λ k. absurd (cc)) in
           absurd (short (sym (plain_length built p) ∙ ap length equal.same ∙ long))
 
   -- the same where the anchoring isn't known from the start
-  pub found-short : (anchored : Anchored) (u : Node) (p : ℕ) → anchored ≡ Yes → Lists built anchored u listed → FitsIn anchored u start end
-      → slice_get listed 0 ≡ Some p → length (pattern_of built.patterns p) ≢ end - start → found_at built anchored u end ≡ None
+  pub found-short : (anchored : Anchored) (u : Node) (p : ℕ) → anchored ≡ Yes → Lists built anchored u listed
+      → FitsIn anchored u start end
+      → slice_get listed 0 ≡ Some p → length (pattern_of built.patterns p) ≢ end - start
+      → found_at built anchored u end ≡ None
   found-short No u p is lists fits e short = absurd (cc)
   found-short Yes u p is lists fits e short = found-passed_over u p lists fits e short
 

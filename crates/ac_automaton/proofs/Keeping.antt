@@ -29,7 +29,8 @@ use Rattle.ac_automaton.proofs.Orders.{head-no_greater}
 -- a test of a front compares the bytes at one place, and then those behind it
 starts_with-step : (f : ℕ → ℕ) (w p : List ℕ) (k : ℕ) → k < length w → k < length p
     → starts_with nat_eq (drop k (map f w)) (drop k (map f p))
-    ≡ (nat_eq (f (get_or p k 0)) (f (get_or w k 0)) && starts_with nat_eq (drop (suc k) (map f w)) (drop (suc k) (map f p)))
+    ≡ (nat_eq (f (get_or p k 0)) (f (get_or w k 0)) && starts_with nat_eq (drop (suc k) (map f w))
+    (drop (suc k) (map f p)))
 starts_with-step f [] p k l m = absurd (omega arith)
 starts_with-step f (x ∷ w) [] k l m = absurd (omega arith)
 starts_with-step f (x ∷ w) (y ∷ p) zero l m = refl
@@ -40,7 +41,8 @@ pub starts_with-differs : (f : ℕ → ℕ) (w p : List ℕ) (k : ℕ) → lengt
     → starts_with nat_eq (map f w) (map f p) ≡ starts_with nat_eq (drop k (map f w)) (drop k (map f p))
     → f (get_or p k 0) ≢ f (get_or w k 0) → false ≡ starts_with nat_eq (map f w) (map f p)
 starts_with-differs f w p k long within so_far other =
-    let differs = false_from_ne_true (nat_eq (f (get_or p k 0)) (f (get_or w k 0))) (λ e. other (eqb-true _ _ e)) in
+    let differs =
+    false_from_ne_true (nat_eq (f (get_or p k 0)) (f (get_or w k 0))) (λ e. other (eqb-true _ _ e)) in
     sym (so_far ∙ starts_with-step f w p k (omega arith) within
     ∙ ap (λ t. t && starts_with nat_eq (drop (suc k) (map f w)) (drop (suc k) (map f p))) differs)
 
@@ -48,7 +50,8 @@ starts_with-differs f w p k long within so_far other =
 pub starts_with-agrees : (f : ℕ → ℕ) (w p : List ℕ) (k : ℕ) → length p ≤ length w → k < length p
     → starts_with nat_eq (map f w) (map f p) ≡ starts_with nat_eq (drop k (map f w)) (drop k (map f p))
     → f (get_or p k 0) ≡ f (get_or w k 0)
-    → starts_with nat_eq (map f w) (map f p) ≡ starts_with nat_eq (drop (k + 1) (map f w)) (drop (k + 1) (map f p))
+    → starts_with nat_eq (map f w) (map f p)
+    ≡ starts_with nat_eq (drop (k + 1) (map f w)) (drop (k + 1) (map f p))
 starts_with-agrees f w p k long within so_far same =
     so_far ∙ starts_with-step f w p k (omega arith) within
     ∙ ap (λ t. t && starts_with nat_eq (drop (suc k) (map f w)) (drop (suc k) (map f p))) (eq-eqb _ _ same)
@@ -74,7 +77,8 @@ place-take d m n xs h =
     (r.0, below, within, sym (get_or-take n xs r.0 d below) ∙ r.2)
 
 -- an element below place n is among the first n
-IsIn-take : {X : Type 0} (d m : X) (n p : ℕ) (xs : List X) → p < n → p < length xs → get_or xs p d ≡ m → IsIn m (take n xs)
+IsIn-take : {X : Type 0} (d m : X) (n p : ℕ) (xs : List X) → p < n → p < length xs → get_or xs p d ≡ m
+    → IsIn m (take n xs)
 IsIn-take d m n p xs below within is =
     let long = length-take n xs in
     IsIn-at m d (take n xs) p (omega arith) (get_or-take n xs p d below ∙ is)
@@ -106,8 +110,10 @@ front-between (x ∷ a) (y ∷ b) (z ∷ c) h k front =
     let first : x ≡ y = omega arith in
     let second : y ≡ z = omega arith in
     and_from (nat_eq x y) (starts_with nat_eq b a) (eq-eqb x y first)
-    (front-between a b c (rest-no_greater x y (nat_cmp x y) (slice_cmp nat_cmp a b) (ranked x y (nat_cmp x y) refl) first h)
-    (rest-no_greater y z (nat_cmp y z) (slice_cmp nat_cmp b c) (ranked y z (nat_cmp y z) refl) second k) parts.1)
+    (front-between a b c
+    (rest-no_greater x y (nat_cmp x y) (slice_cmp nat_cmp a b) (ranked x y (nat_cmp x y) refl) first h)
+    (rest-no_greater y z (nat_cmp y z) (slice_cmp nat_cmp b c) (ranked y z (nat_cmp y z) refl) second k)
+    parts.1)
 
 -- a string is never less than a front of it
 front-no_less : (a b : List ℕ) → starts_with nat_eq b a ≡ true → is_lt (slice_cmp nat_cmp b a) ≡ false
@@ -116,9 +122,11 @@ front-no_less [] (y ∷ b) front = refl
 front-no_less (x ∷ a) [] front = absurd (false≢true front)
 front-no_less (x ∷ a) (y ∷ b) front =
     let parts = and_parts (nat_eq x y) (starts_with nat_eq b a) front in
-    same_head (nat_cmp y x) (slice_cmp nat_cmp b a) (ranked y x (nat_cmp y x) refl) (eqb-true x y parts.0) (front-no_less a b parts.1)
+    same_head (nat_cmp y x) (slice_cmp nat_cmp b a) (ranked y x (nat_cmp y x) refl) (eqb-true x y parts.0)
+    (front-no_less a b parts.1)
   where
-    same_head : {x y : ℕ} (o rest : Ordering) → MatchOrdering o (y < x) (y ≡ x) (x < y) → x ≡ y → is_lt rest ≡ false
+    same_head : {x y : ℕ} (o rest : Ordering) → MatchOrdering o (y < x) (y ≡ x) (x < y) → x ≡ y
+        → is_lt rest ≡ false
         → is_lt (ordering_then o rest) ≡ false
     same_head Less rest m same e = absurd (omega arith)
     same_head Equal rest m same e = e
@@ -146,12 +154,14 @@ pub record Standing (patterns : List (List ℕ)) (all : List Keyed) (at : ℕ) (
 module _ (patterns : List (List ℕ)) (all : List Keyed) (order : IsOrder Standard patterns all) where
   -- a member is the pattern of its number
   named : (m : Keyed) → IsIn m all → m.key ≡ pattern_of patterns m.number
-  named m h = All-contains (λ k. k.key ≡ pattern_of patterns k.number) all m order.named (Contains-from_IsIn m all h)
+  named m h =
+      All-contains (λ k. k.key ≡ pattern_of patterns k.number) all m order.named (Contains-from_IsIn m all h)
 
   -- a member's number is one of a pattern
   numbered : (m : Keyed) → IsIn m all → m.number < length patterns
   numbered m h =
-      let c = (order.lists m.number).0 (Contains-from_IsIn m.number (numbers all) (IsIn-map (λ k. k.number) m all h)) in
+      let c =
+      (order.lists m.number).0 (Contains-from_IsIn m.number (numbers all) (IsIn-map (λ k. k.number) m all h)) in
       let f = IsIn-from_filter (participates Standard patterns) m.number (range_with_len 0 (length patterns))
       (IsIn-from_Contains m.number (participants Standard patterns) c) in
       let r = IsIn-from_range m.number 0 (length patterns) f.0 in omega arith
@@ -165,7 +175,8 @@ module _ (patterns : List (List ℕ)) (all : List Keyed) (order : IsOrder Standa
       IsIn-from_map (λ k. k.number) n all (IsIn-from_Contains n (numbers all) c)
 
   -- a member that is a front of another has its pattern as a front
-  Fronts-from_member : (w : List ℕ) (m : Keyed) → IsIn m all → starts_with nat_eq w m.key ≡ true → Fronts patterns w m.number
+  Fronts-from_member : (w : List ℕ) (m : Keyed) → IsIn m all → starts_with nat_eq w m.key ≡ true
+      → Fronts patterns w m.number
   Fronts-from_member w m h front = record {
     numbered = numbered m h;
     front = subst (λ (p : List ℕ). starts_with nat_eq w p ≡ true) (named m h) front;
@@ -212,12 +223,16 @@ module _ (patterns : List (List ℕ)) (all : List Keyed) (order : IsOrder Standa
     pub no_part : (m : Keyed) → IsIn m all → starts_with nat_eq here.key m.key ≡ true → m.number < here.number
         → participates LeftmostFirst patterns here.number ≡ false
     no_part m h front below =
-        not_from_true _ (begins-before patterns (pattern_of patterns here.number) m.number here.number below (numbered here here-in)
-        (subst (λ (w : List ℕ). Fronts patterns w m.number) (named here here-in) (Fronts-from_member here.key m h front)))
+        not_from_true _
+        (begins-before patterns (pattern_of patterns here.number) m.number here.number below
+        (numbered here here-in)
+        (subst (λ (w : List ℕ). Fronts patterns w m.number) (named here here-in)
+        (Fronts-from_member here.key m h front)))
 
     module _ (stack : List Keyed) (s : Standing patterns all at stack) where
       -- those from a place of the stack on that are no front can go
-      pub Standing-shrink : (n : ℕ) → ((k : ℕ) → n ≤ k → k < length stack → starts_with nat_eq here.key (key_at stack k) ≡ false)
+      pub Standing-shrink : (n : ℕ)
+          → ((k : ℕ) → n ≤ k → k < length stack → starts_with nat_eq here.key (key_at stack k) ≡ false)
           → Standing patterns all at (take n stack)
       Standing-shrink n gone = record {
         falling = λ i j d below more.
@@ -231,22 +246,31 @@ module _ (patterns : List (List ℕ)) (all : List Keyed) (order : IsOrder Standa
             elim (cases_lt p.0 n) [
               | inl kept ↦ IsIn-take none m n p.0 stack kept p.1 p.2
               | inr dropped ↦
-                  let other = subst (λ (w : Keyed). starts_with nat_eq here.key w.key ≡ false) p.2 (gone p.0 dropped p.1) in
+                  let other =
+                  subst (λ (w : Keyed). starts_with nat_eq here.key w.key ≡ false) p.2 (gone p.0 dropped p.1) in
                   absurd (false≢true (sym other ∙ front-here m h j le below front))
             ];
       }
 
       -- an earlier pattern that is a front and takes part stands in the stack
-      leader_stands : (j : ℕ) → IsLeader patterns here.key j → j < here.number → (m : Keyed) × IsIn m stack × (m.number ≡ j)
+      leader_stands : (j : ℕ) → IsLeader patterns here.key j → j < here.number
+          → (m : Keyed) × IsIn m stack × (m.number ≡ j)
       leader_stands j lead below =
           let m = member_of j lead.fronts.numbered in
           let front : starts_with nat_eq here.key m.0.key ≡ true =
           subst (λ (p : List ℕ). starts_with nat_eq here.key p ≡ true)
           (ap (pattern_of patterns) (sym m.2) ∙ sym (named m.0 m.1)) lead.fronts.front in
           let p = place none m.0 all m.1 in
-          let takes = ap (participates LeftmostFirst patterns) m.2 ∙ leader-takes_part patterns LeftmostFirst here.key j lead in
+          let takes =
+          ap (participates LeftmostFirst patterns) m.2
+          ∙ leader-takes_part patterns LeftmostFirst here.key j lead in
           elim (cases_lt p.0 at) [
-            | inl earlier ↦ (m.0, s.stands m.0 (IsIn-take none m.0 at p.0 all earlier p.1 p.2) takes at (omega arith) within front, m.2)
+            | inl earlier ↦ (
+              m.0,
+              s.stands m.0 (IsIn-take none m.0 at p.0 all earlier p.1 p.2) takes at
+                  (omega arith) within front,
+              m.2,
+            )
             | inr later ↦ absurd (not_later m.0 p.0 m.2 p.1 p.2 front later)
           ]
         where
@@ -259,7 +283,8 @@ module _ (patterns : List (List ℕ)) (all : List Keyed) (order : IsOrder Standa
             ]
             | inr reached ↦
                 let same : p ≡ at = omega arith in
-                let one = ap (λ (w : Keyed). w.number) (sym is ∙ ap (λ (i : ℕ). get_or all i none) same) in omega arith
+                let one = ap (λ (w : Keyed). w.number) (sym is ∙ ap (λ (i : ℕ). get_or all i none) same) in
+                omega arith
           ]
 
       -- a member takes part if none in the stack has a lesser number
@@ -269,18 +294,26 @@ module _ (patterns : List (List ℕ)) (all : List Keyed) (order : IsOrder Standa
           let mine = Fronts-from_member here.key here here-in (starts_with-itself here.key) in
           let lead = leader patterns here.key (begins-from_Fronts patterns here.key here.number mine) in
           elim (cases_lt lead.0 here.number) [
-            | inl below ↦ let m = leader_stands lead.0 lead.1 below in let le = least m.0 m.1 in let e = m.2 in absurd (omega arith)
+            | inl below ↦
+                let m = leader_stands lead.0 lead.1 below in
+                let le = least m.0 m.1 in
+                let e = m.2 in
+                absurd (omega arith)
             | inr above ↦
                 let le = leader-least patterns here.key lead.0 here.number lead.1 mine in
                 let same : lead.0 ≡ here.number = omega arith in
                 takes_part patterns LeftmostFirst here.number
-                (ap (λ (w : List ℕ). begins_with_pattern (take here.number patterns) w) (sym (named here here-in))
-                ∙ ap (λ (n : ℕ). begins_with_pattern (take n patterns) here.key) (sym same) ∙ lead.1.none_before)
+                (ap (λ (w : List ℕ). begins_with_pattern (take here.number patterns) w)
+                (sym (named here here-in))
+                ∙ ap (λ (n : ℕ). begins_with_pattern (take n patterns) here.key) (sym same)
+                ∙ lead.1.none_before)
           ]
 
       -- a member before here is among those up to here
       later-in : (m : Keyed) → IsIn m (take at all) → IsIn m (take (at + 1) all)
-      later-in m h = let p = place-take none m at all h in IsIn-take none m (at + 1) p.0 all (let b = p.1 in omega arith) p.2 p.3
+      later-in m h =
+          let p = place-take none m at all h in
+          IsIn-take none m (at + 1) p.0 all (let b = p.1 in omega arith) p.2 p.3
 
       -- a member among those up to here is before here or here
       earlier-or-here : (m : Keyed) → IsIn m (take (at + 1) all) → IsIn m (take at all) ⊎ (here ≡ m)
@@ -294,18 +327,23 @@ module _ (patterns : List (List ℕ)) (all : List Keyed) (order : IsOrder Standa
           ]
 
       -- where the member here takes no part the stack stays
-      pub Standing-skip : participates LeftmostFirst patterns here.number ≡ false → Standing patterns all (at + 1) stack
+      pub Standing-skip : participates LeftmostFirst patterns here.number ≡ false
+          → Standing patterns all (at + 1) stack
       Standing-skip none_here = record {
         falling = s.falling;
         before = λ m h. later-in m (s.before m h);
         stands = λ m h takes j le below front. elim (earlier-or-here m h) [
           | inl earlier ↦ s.stands m earlier takes j (omega arith) below front
-          | inr same ↦ absurd (false≢true (sym none_here ∙ ap (λ (w : Keyed). participates LeftmostFirst patterns w.number) same ∙ takes))
+          | inr same ↦
+              absurd (false≢true
+              (sym none_here ∙ ap (λ (w : Keyed). participates LeftmostFirst patterns w.number) same
+              ∙ takes))
         ];
       }
 
       -- where it takes part it goes on the stack
-      pub Standing-keep : ((m : Keyed) → IsIn m stack → here.number ≤ m.number) → Standing patterns all (at + 1) (stack ++ here ∷ [])
+      pub Standing-keep : ((m : Keyed) → IsIn m stack → here.number ≤ m.number)
+          → Standing patterns all (at + 1) (stack ++ here ∷ [])
       Standing-keep least = record {
         falling = all_pairs_push (λ a b. b.number < a.number) stack here s.falling (λ k d l.
             let m = get_or stack k d in
@@ -316,10 +354,14 @@ module _ (patterns : List (List ℕ)) (all : List Keyed) (order : IsOrder Standa
             let le = least m h in omega arith);
         before = λ m h. elim (IsIn-append_cases m stack (here ∷ []) h) [
           | inl old ↦ later-in m (s.before m old)
-          | inr last ↦ elim last [ inl e ↦ IsIn-take none m (at + 1) at all (omega arith) within e | inr nothing ↦ absurd nothing ]
+          | inr last ↦ elim last [
+            | inl e ↦ IsIn-take none m (at + 1) at all (omega arith) within e
+            | inr nothing ↦ absurd nothing
+          ]
         ];
         stands = λ m h takes j le below front. elim (earlier-or-here m h) [
-          | inl earlier ↦ IsIn-append_left m stack (here ∷ []) (s.stands m earlier takes j (omega arith) below front)
+          | inl earlier ↦
+              IsIn-append_left m stack (here ∷ []) (s.stands m earlier takes j (omega arith) below front)
           | inr same ↦ IsIn-append_right m stack (here ∷ []) (inl same)
         ];
       }
@@ -334,7 +376,8 @@ Standing-start patterns all = record {
 
 -- the last of a stack has the least number
 least-from_last : (stack : List Keyed) (d : Keyed) (n : ℕ) → AllPairs (λ a b. b.number < a.number) stack
-    → (0 < length stack → n ≤ (get_or stack (length stack - 1) d).number) → (m : Keyed) → IsIn m stack → n ≤ m.number
+    → (0 < length stack → n ≤ (get_or stack (length stack - 1) d).number) → (m : Keyed) → IsIn m stack
+    → n ≤ m.number
 least-from_last stack d n falling last m h =
     let p = place d m stack h in
     let l = p.1 in
@@ -359,14 +402,17 @@ keyed-filter : (fold : Bool) (f : ℕ → Bool) (members : List Member)
 keyed-filter fold f [] = refl
 keyed-filter fold f (m ∷ members) = elim (f m.number) as (λ b.
     keyed fold (cond b (m ∷ filter (λ k. f k.number) members) (filter (λ k. f k.number) members))
-    ≡ cond b (keyed_one fold m ∷ filter (λ k. f k.number) (keyed fold members)) (filter (λ k. f k.number) (keyed fold members))) [
+    ≡ cond b (keyed_one fold m ∷ filter (λ k. f k.number) (keyed fold members))
+    (filter (λ k. f k.number) (keyed fold members))) [
       | true ↦ ap (λ w. keyed_one fold m ∷ w) (keyed-filter fold f members)
       | false ↦ keyed-filter fold f members
     ]
 
 -- those that take part, in order
-pub IsOrder-kept : (fold : Bool) (patterns : List (List ℕ)) (members : List Member) → IsOrder Standard patterns (keyed fold members)
-    → IsOrder LeftmostFirst patterns (keyed fold (filter (λ m. participates LeftmostFirst patterns m.number) members))
+pub IsOrder-kept : (fold : Bool) (patterns : List (List ℕ)) (members : List Member)
+    → IsOrder Standard patterns (keyed fold members)
+    → IsOrder LeftmostFirst patterns
+    (keyed fold (filter (λ m. participates LeftmostFirst patterns m.number) members))
 IsOrder-kept fold patterns members order =
     let all = keyed fold members in
     let takes = λ (m : Keyed). participates LeftmostFirst patterns m.number in
@@ -375,15 +421,19 @@ IsOrder-kept fold patterns members order =
       named = All-filter takes (λ m. m.key ≡ pattern_of patterns m.number) all order.named;
       lists = λ n. (
         (λ h.
-            let m = IsIn-from_map (λ (k : Keyed). k.number) n (filter takes all) (IsIn-from_Contains n (numbers (filter takes all)) h) in
+            let m =
+            IsIn-from_map (λ (k : Keyed). k.number) n (filter takes all)
+            (IsIn-from_Contains n (numbers (filter takes all)) h) in
             let f = IsIn-from_filter takes m.0 all m.1 in
             let within = numbered patterns all order m.0 f.0 in
             let e = m.2 in
             Contains-from_IsIn n (participants LeftmostFirst patterns)
             (IsIn-filter (participates LeftmostFirst patterns) n (range_with_len 0 (length patterns))
-            (IsIn-range n 0 (length patterns) (omega arith) (omega arith)) (ap (participates LeftmostFirst patterns) (sym e) ∙ f.1))),
+            (IsIn-range n 0 (length patterns) (omega arith) (omega arith))
+            (ap (participates LeftmostFirst patterns) (sym e) ∙ f.1))),
         (λ h.
-            let f = IsIn-from_filter (participates LeftmostFirst patterns) n (range_with_len 0 (length patterns))
+            let f =
+            IsIn-from_filter (participates LeftmostFirst patterns) n (range_with_len 0 (length patterns))
             (IsIn-from_Contains n (participants LeftmostFirst patterns) h) in
             let r = IsIn-from_range n 0 (length patterns) f.0 in
             let m = member_of patterns all order n (omega arith) in
@@ -393,9 +443,11 @@ IsOrder-kept fold patterns members order =
             (IsIn-filter takes m.0 all m.1 (ap (participates LeftmostFirst patterns) m.2 ∙ f.1))))),
       );
     } in
-    subst (IsOrder LeftmostFirst patterns) (sym (keyed-filter fold (participates LeftmostFirst patterns) members)) kept
+    subst (IsOrder LeftmostFirst patterns)
+    (sym (keyed-filter fold (participates LeftmostFirst patterns) members)) kept
 
-module _ (fold : Bool) (patterns : List (List ℕ)) (all : List Member) (order : IsOrder Standard patterns (keyed fold all)) (at : ℕ)
+module _ (fold : Bool) (patterns : List (List ℕ)) (all : List Member)
+    (order : IsOrder Standard patterns (keyed fold all)) (at : ℕ)
     (within : at < length all) (member : Member) (is : member ≡ get_or all at member) (old new : List Member)
     (s : Standing patterns (keyed fold all) at (keyed fold old)) (left : new ≡ take (length new) old)
     (gone : AllWithin (λ p. is_front fold member p ≡ false) old (length new) (length old)) where
@@ -411,8 +463,10 @@ module _ (fold : Bool) (patterns : List (List ℕ)) (all : List Member) (order :
   shrunk : Standing patterns (keyed fold all) at (keyed fold new)
   shrunk =
       let l = length-map old (keyed_one fold) in
-      subst (Standing patterns (keyed fold all) at) (sym (ap (keyed fold) left ∙ sym (take-map (keyed_one fold) (length new) old)))
-      (Standing-shrink patterns (keyed fold all) order at within-view (keyed fold old) s (length new) (λ k le below.
+      subst (Standing patterns (keyed fold all) at)
+      (sym (ap (keyed fold) left ∙ sym (take-map (keyed_one fold) (length new) old)))
+      (Standing-shrink patterns (keyed fold all) order at within-view (keyed fold old) s (length new)
+      (λ k le below.
       let inside : k < length old = omega arith in
       subst (λ (w : Keyed). starts_with nat_eq w.key (key_at (keyed fold old) k) ≡ false) (sym here-is)
       (subst (λ (w : Keyed). starts_with nat_eq (plain fold member.bytes.now) w.key ≡ false)
@@ -435,14 +489,16 @@ module _ (fold : Bool) (patterns : List (List ℕ)) (all : List Member) (order :
       let number = ap (λ (w : Keyed). w.number) here-is in
       ap (λ (w : Keyed). participates LeftmostFirst patterns w.number) (sym here-is)
       ∙ no_part patterns (keyed fold all) order at within-view (keyed_one fold last)
-      (IsIn-from_take (keyed_one fold last) at (keyed fold all) (shrunk.before (keyed_one fold last) (last-in h.0)))
+      (IsIn-from_take (keyed_one fold last) at (keyed fold all)
+      (shrunk.before (keyed_one fold last) (last-in h.0)))
       (subst (λ (w : Keyed). starts_with nat_eq w.key (plain fold last.bytes.now) ≡ true) (sym here-is) front)
       (omega arith)
 
   -- it is passed over, and the stack stays
   pub shadowed-skips : (0 < length new)
       × HoldsAt (λ p. (is_front fold member p ≡ true) × (p.number < member.number)) new (length new - 1)
-      → (participates LeftmostFirst patterns member.number ≡ false) × Standing patterns (keyed fold all) (at + 1) (keyed fold new)
+      → (participates LeftmostFirst patterns member.number ≡ false)
+      × Standing patterns (keyed fold all) (at + 1) (keyed fold new)
   shadowed-skips h =
       let takes = shadowed-part h in (
         takes,
@@ -457,7 +513,8 @@ module _ (fold : Bool) (patterns : List (List ℕ)) (all : List Member) (order :
   free-keeps h =
       let long = length-map new (keyed_one fold) in
       let number = ap (λ (w : Keyed). w.number) here-is in
-      let least = least-from_last (keyed fold new) none (get_or (keyed fold all) at none).number shrunk.falling (λ some.
+      let least =
+      least-from_last (keyed fold new) none (get_or (keyed fold all) at none).number shrunk.falling (λ some.
       let l = h (omega arith) member in
       let e = ap (λ (w : Keyed). w.number) (ap (λ (i : ℕ). get_or (keyed fold new) (i - 1) none) long
       ∙ get_or-map (keyed_one fold) new (length new - 1) member none (omega arith)) in
@@ -465,13 +522,15 @@ module _ (fold : Bool) (patterns : List (List ℕ)) (all : List Member) (order :
         ap (λ (w : Keyed). participates LeftmostFirst patterns w.number) (sym here-is)
             ∙ takes_part_here patterns (keyed fold all) order at within-view (keyed fold new) shrunk least,
         subst (Standing patterns (keyed fold all) (at + 1))
-            (ap (λ (w : Keyed). keyed fold new ++ w ∷ []) here-is ∙ sym (map-append (keyed_one fold) new (member ∷ [])))
+            (ap (λ (w : Keyed). keyed fold new ++ w ∷ []) here-is
+            ∙ sym (map-append (keyed_one fold) new (member ∷ [])))
             (Standing-keep patterns (keyed fold all) order at within-view (keyed fold new) shrunk least),
       )
 
 -- under the other kinds all patterns take part
 pub IsOrder-all : (kind : MatchKind) (patterns : List (List ℕ)) (members : List Keyed)
-    → (kind ≡ Standard) ⊎ (kind ≡ LeftmostLongest) → IsOrder Standard patterns members → IsOrder kind patterns members
+    → (kind ≡ Standard) ⊎ (kind ≡ LeftmostLongest) → IsOrder Standard patterns members
+    → IsOrder kind patterns members
 IsOrder-all kind patterns members (inl e) order = subst (λ k. IsOrder k patterns members) (sym e) order
 IsOrder-all kind patterns members (inr e) order =
     let longest : IsOrder LeftmostLongest patterns members =
@@ -504,7 +563,8 @@ unmoved p all members kept at x f is =
     behind xs = get_or-drop at xs 0 x ∙ ap (λ i. get_or xs i x) (plus-zero at)
 
 module _ (fold : Bool) (all members : List Member) (kept at : ℕ) (old new : List Member) (member : Member)
-    (keeps : Keeps fold all members kept at old) (within : at < length members) (is : member ≡ get_or members at member)
+    (keeps : Keeps fold all members kept at old) (within : at < length members)
+    (is : member ≡ get_or members at member)
     (left : new ≡ take (length new) old)
     (gone : AllWithin (λ p. is_front fold member p ≡ false) old (length new) (length old)) where
   module _ (patterns : List (List ℕ)) (order : IsOrder Standard patterns (keyed fold all)) where
@@ -514,7 +574,9 @@ module _ (fold : Bool) (all members : List Member) (kept at : ℕ) (old new : Li
 
     -- and has the member as it was
     is_in_all : member ≡ get_or all at member
-    is_in_all = unmoved (λ m. participates LeftmostFirst patterns m.number) all members kept at member (keeps.first patterns order) is
+    is_in_all =
+        unmoved (λ m. participates LeftmostFirst patterns m.number) all members kept at member
+        (keeps.first patterns order) is
 
   -- a member that is behind a lesser number is passed over
   pub Keeps-skip : (0 < length new)
@@ -522,14 +584,16 @@ module _ (fold : Bool) (all members : List Member) (kept at : ℕ) (old new : Li
       → Keeps fold all members kept (at + 1) new
   Keeps-skip h =
       let step = λ (patterns : List (List ℕ)) (order : IsOrder Standard patterns (keyed fold all)).
-      shadowed-skips fold patterns all order at (in_all patterns order) member (is_in_all patterns order) old new
+      shadowed-skips fold patterns all order at (in_all patterns order) member
+      (is_in_all patterns order) old new
       (keeps.standing patterns order) left gone h in
       let b = keeps.behind in record {
         behind = omega arith;
         long = keeps.long;
         short = keeps.short;
         numbers_small = keeps.numbers_small;
-        first = λ patterns order. FiltersInPlace-more_no {x = member} (keeps.first patterns order) within (step patterns order).0 is;
+        first = λ patterns order. FiltersInPlace-more_no {x = member} (keeps.first patterns order) within
+            (step patterns order).0 is;
         standing = λ patterns order. (step patterns order).1;
       }
 
@@ -544,16 +608,21 @@ module _ (fold : Bool) (all members : List Member) (kept at : ℕ) (old new : Li
         behind = omega arith;
         long = length-set members kept member ∙ keeps.long;
         short = λ small. All-set (λ p. length p.bytes.now ≤ GREATEST) members kept member
-            (subst (λ (w : Member). length w.bytes.now ≤ GREATEST) (sym is) (keeps.short small at member within)) (keeps.short small);
+            (subst (λ (w : Member). length w.bytes.now ≤ GREATEST) (sym is)
+            (keeps.short small at member within)) (keeps.short small);
         numbers_small = λ small. All-set (λ p. p.number ≤ GREATEST) members kept member
-            (subst (λ (w : Member). w.number ≤ GREATEST) (sym is) (keeps.numbers_small small at member within)) (keeps.numbers_small small);
-        first = λ patterns order. FiltersInPlace-more_set {x = member} (keeps.first patterns order) within (step patterns order).0 is;
+            (subst (λ (w : Member). w.number ≤ GREATEST) (sym is) (keeps.numbers_small small at member within))
+            (keeps.numbers_small small);
+        first = λ patterns order. FiltersInPlace-more_set {x = member} (keeps.first patterns order) within
+            (step patterns order).0 is;
         standing = λ patterns order. (step patterns order).1;
       }
 
 -- after the loop those that take part are left
-pub Keeps-end : (fold : Bool) (all members cut : List Member) (kept at : ℕ) (fronts : List Member) → Keeps fold all members kept at fronts
-    → length all ≤ at → cut ≡ take kept members → (patterns : List (List ℕ)) → IsOrder Standard patterns (keyed fold all)
+pub Keeps-end : (fold : Bool) (all members cut : List Member) (kept at : ℕ) (fronts : List Member)
+    → Keeps fold all members kept at fronts
+    → length all ≤ at → cut ≡ take kept members → (patterns : List (List ℕ))
+    → IsOrder Standard patterns (keyed fold all)
     → IsOrder LeftmostFirst patterns (keyed fold cut)
 Keeps-end fold all members cut kept at fronts keeps done is patterns order =
     subst (λ (w : List Member). IsOrder LeftmostFirst patterns (keyed fold w))

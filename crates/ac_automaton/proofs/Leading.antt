@@ -18,11 +18,13 @@ use Rattle.ac_automaton.specs.Growths.{leading}
 use Rattle.ac_automaton.specs.Tries.{bytes_of}
 
 -- a small letter and its capital are one letter, and differ
-capital : (b : ℕ) → is_ascii_lowercase b ≡ true → (to_ascii_lowercase (to_ascii_uppercase b) ≡ b) × (to_ascii_uppercase b ≢ b)
+capital : (b : ℕ) → is_ascii_lowercase b ≡ true
+    → (to_ascii_lowercase (to_ascii_uppercase b) ≡ b) × (to_ascii_uppercase b ≢ b)
 capital b small = (grind (arith, nat_tests), grind (arith, nat_tests))
 
 -- the small letter of a byte is the byte, or that of which it is the capital
-small-of : (x b : ℕ) → to_ascii_lowercase x ≡ b → to_ascii_lowercase b ≡ b → x ≢ b → (is_ascii_lowercase b ≡ true) × (to_ascii_uppercase b ≡ x)
+small-of : (x b : ℕ) → to_ascii_lowercase x ≡ b → to_ascii_lowercase b ≡ b → x ≢ b
+    → (is_ascii_lowercase b ≡ true) × (to_ascii_uppercase b ≡ x)
 small-of x b is plain apart = (grind (arith, nat_tests), grind (arith, nat_tests))
 
 -- the transitions by one byte alone, and by it and another
@@ -35,55 +37,82 @@ two b x target = record { byte = b; target = target } ∷ one x target
 -- they are those of a letter in both cases, or of the byte alone
 abbrev AreOneOrTwo : Bool → ℕ → ℕ → Type 0
 AreOneOrTwo fold b target =
-    ((fold ≡ true) × (is_ascii_lowercase b ≡ true) × (leading fold b target ≡ two b (to_ascii_uppercase b) target))
+    ((fold ≡ true) × (is_ascii_lowercase b ≡ true)
+    × (leading fold b target ≡ two b (to_ascii_uppercase b) target))
     ⊎ (leading fold b target ≡ one b target)
 
 leading-cases : (fold : Bool) (b target : ℕ) → AreOneOrTwo fold b target
 leading-cases false b target = inr refl
 leading-cases true b target = elim (cases_Bool (is_ascii_lowercase b)) [
-  | inl small ↦ inl (refl, small, ap (λ (ts : List Transition). record { byte = b; target = target } ∷ ts) (cond-true (is_ascii_lowercase b) (one (to_ascii_uppercase b) target) [] small))
-  | inr other ↦ inr (ap (λ (ts : List Transition). record { byte = b; target = target } ∷ ts) (cond-false (is_ascii_lowercase b) (one (to_ascii_uppercase b) target) [] other))
+  | inl small ↦
+      inl (
+        refl,
+        small,
+        ap (λ (ts : List Transition). record { byte = b; target = target } ∷ ts)
+            (cond-true (is_ascii_lowercase b) (one (to_ascii_uppercase b) target) [] small),
+      )
+  | inr other ↦
+      inr (ap (λ (ts : List Transition). record { byte = b; target = target } ∷ ts)
+      (cond-false (is_ascii_lowercase b) (one (to_ascii_uppercase b) target) [] other))
 ]
 
 module _ (fold : Bool) (b target : ℕ) (settled : plain_byte fold b ≡ b) where
   -- each is by a byte that is one with the plain byte, and leads to the target
-  pub leading-plain : (t : Transition) → IsIn t (leading fold b target) → (plain_byte fold t.byte ≡ b) × (t.target ≡ target)
+  pub leading-plain : (t : Transition) → IsIn t (leading fold b target)
+      → (plain_byte fold t.byte ≡ b) × (t.target ≡ target)
   leading-plain t h = by (leading-cases fold b target)
     where
       by : AreOneOrTwo fold b target → (plain_byte fold t.byte ≡ b) × (t.target ≡ target)
       by (inl both) = elim (subst (λ (ts : List Transition). IsIn t ts) both.2 h) [
-        | inl is ↦ (ap (λ (s : Transition). plain_byte fold s.byte) (sym is) ∙ settled, ap (λ (s : Transition). s.target) (sym is))
+        | inl is ↦ (
+          ap (λ (s : Transition). plain_byte fold s.byte) (sym is)
+              ∙ settled,
+          ap (λ (s : Transition). s.target) (sym is),
+        )
         | inr (inl is) ↦ (
-          ap (λ (s : Transition). plain_byte fold s.byte) (sym is) ∙ ap (λ (f : Bool). plain_byte f (to_ascii_uppercase b)) both.0 ∙ (capital b both.1).0,
+          ap (λ (s : Transition). plain_byte fold s.byte) (sym is)
+              ∙ ap (λ (f : Bool). plain_byte f (to_ascii_uppercase b)) both.0 ∙ (capital b both.1).0,
           ap (λ (s : Transition). s.target) (sym is),
         )
         | inr (inr none) ↦ absurd none
       ]
       by (inr alone) = elim (subst (λ (ts : List Transition). IsIn t ts) alone h) [
-        | inl is ↦ (ap (λ (s : Transition). plain_byte fold s.byte) (sym is) ∙ settled, ap (λ (s : Transition). s.target) (sym is))
+        | inl is ↦ (
+          ap (λ (s : Transition). plain_byte fold s.byte) (sym is)
+              ∙ settled,
+          ap (λ (s : Transition). s.target) (sym is),
+        )
         | inr none ↦ absurd none
       ]
 
   -- each byte that is one with it has one
-  pub leading-has : (x : ℕ) → plain_byte fold x ≡ b → IsIn (record { byte = x; target = target }) (leading fold b target)
+  pub leading-has : (x : ℕ) → plain_byte fold x ≡ b
+      → IsIn (record { byte = x; target = target }) (leading fold b target)
   leading-has x is = elim (cases_Bool (nat_eq x b)) [
     | inl same ↦ inl (ap (λ (y : ℕ). record { byte = y; target = target }) (sym (eqb-true x b same)))
     | inr apart ↦ other fold settled is (λ e. false≢true (sym apart ∙ eq-eqb x b e))
   ]
     where
-      other : (f : Bool) → plain_byte f b ≡ b → plain_byte f x ≡ b → x ≢ b → IsIn (record { byte = x; target = target }) (leading f b target)
+      other : (f : Bool) → plain_byte f b ≡ b → plain_byte f x ≡ b → x ≢ b
+          → IsIn (record { byte = x; target = target }) (leading f b target)
       other false plain is apart = absurd (apart is)
       other true plain is apart =
           let capital_of = small-of x b is plain apart in
           subst (λ (ts : List Transition). IsIn (record { byte = x; target = target }) ts)
-          (sym (ap (λ (ts : List Transition). record { byte = b; target = target } ∷ ts) (cond-true (is_ascii_lowercase b) (one (to_ascii_uppercase b) target) [] capital_of.0)))
+          (sym (ap (λ (ts : List Transition). record { byte = b; target = target } ∷ ts)
+          (cond-true (is_ascii_lowercase b) (one (to_ascii_uppercase b) target) [] capital_of.0)))
           (inr (inl (ap (λ (y : ℕ). record { byte = y; target = target }) capital_of.1)))
 
 -- they are by different bytes
 pub leading-apart : (fold : Bool) (b target : ℕ) → IsOrdered (λ s t. s.byte ≢ t.byte) (leading fold b target)
 leading-apart fold b target = elim (leading-cases fold b target) [
-  | inl both ↦ subst (IsOrdered (λ s t. s.byte ≢ t.byte)) (sym both.2)
-      ((λ t h. elim h [ inl is ↦ (λ e. (capital b both.1).1 (sym (e ∙ ap (λ (s : Transition). s.byte) (sym is)))) | inr none ↦ absurd none ]), ((λ t none. absurd none), tt))
+  | inl both ↦ subst (IsOrdered (λ s t. s.byte ≢ t.byte)) (sym both.2) (
+    (λ t h. elim h [
+      | inl is ↦ (λ e. (capital b both.1).1 (sym (e ∙ ap (λ (s : Transition). s.byte) (sym is))))
+      | inr none ↦ absurd none
+    ]),
+    ((λ t none. absurd none), tt),
+  )
   | inr alone ↦ subst (IsOrdered (λ s t. s.byte ≢ t.byte)) (sym alone) ((λ t none. absurd none), tt)
 ]
 
@@ -95,7 +124,8 @@ leading-length fold b target = elim (leading-cases fold b target) [
 ]
 
 -- transitions by different bytes that are sorted by them rise strictly
-pub sorted-ascends : (old sorted : List Transition) → AllPairs (λ s t. s.byte ≢ t.byte) old → IsPermutation old sorted
+pub sorted-ascends : (old sorted : List Transition) → AllPairs (λ s t. s.byte ≢ t.byte) old
+    → IsPermutation old sorted
     → IsSortedByKey (λ t. t.byte) nat_cmp sorted → IsStrictlyIncreasing (bytes_of sorted)
 sorted-ascends old sorted apart moved up k within =
     let byte = λ (t : Transition). t.byte in
@@ -109,7 +139,8 @@ sorted-ascends old sorted apart moved up k within =
     (IsPermutation-map byte old sorted moved) before) in
     let n = length-map sorted byte in
     let none : Transition = record { byte = 0; target = 0 } in
-    let low : (get_or sorted k none).byte ≤ (get_or sorted (k + 1) none).byte = ge_from_not_lt _ _ (up k none (omega arith) (omega arith)) in
+    let low : (get_or sorted k none).byte ≤ (get_or sorted (k + 1) none).byte =
+    ge_from_not_lt _ _ (up k none (omega arith) (omega arith)) in
     let first = get_or-map byte sorted k none 0 (omega arith) in
     let second = get_or-map byte sorted (k + 1) none 0 (omega arith) in
     let differ = after k (k + 1) 0 (omega arith) within in

@@ -6,25 +6,30 @@ use Rattle.std.specs.Prelude.{slice_get}
 use Rattle.ac_util.specs.Stream.{longest_len, shortest_len}
 
 -- what is left of a list from a place on begins with the element there
-drop-slice_get : {X : Type 0} (xs : List X) (i : ℕ) (x : X) → slice_get xs i ≡ Some x → drop i xs ≡ x ∷ drop (i + 1) xs
+drop-slice_get : {X : Type 0} (xs : List X) (i : ℕ) (x : X) → slice_get xs i ≡ Some x
+    → drop i xs ≡ x ∷ drop (i + 1) xs
 drop-slice_get xs i x at =
-    drop_more xs i x (slice_get_within xs i x at) ∙ ap (λ y. y ∷ drop (i + 1) xs) (get_or_from_slice_get xs i x x at)
+    drop_more xs i x (slice_get_within xs i x at)
+    ∙ ap (λ y. y ∷ drop (i + 1) xs) (get_or_from_slice_get xs i x x at)
 
 -- the shortest of no list of patterns passes the greatest usize
 pub shortest_len-le : (ps : List (List ℕ)) → shortest_len ps ≤ 18446744073709551615
 shortest_len-le [] = omega arith
 shortest_len-le (p ∷ ps) = let rest = shortest_len-le ps in omega arith
 
--- the shortest so far and that of the patterns from a place on give the same as when the pattern there is counted too
+-- the shortest so far and that of the patterns from a place on give the same as when the pattern there is
+-- counted too
 pub shortest_len-drop : (ps : List (List ℕ)) (i so_far : ℕ) (p : List ℕ) → slice_get ps i ≡ Some p
     → min (min so_far (length p)) (shortest_len (drop (i + 1) ps)) ≡ min so_far (shortest_len (drop i ps))
 shortest_len-drop ps i so_far p at = let e = ap shortest_len (drop-slice_get ps i p at) in omega arith
 
 -- past the end of the patterns the shortest of those left is the greatest usize
-pub shortest_len-end : (ps : List (List ℕ)) (i : ℕ) → length ps ≤ i → shortest_len (drop i ps) ≡ 18446744073709551615
+pub shortest_len-end : (ps : List (List ℕ)) (i : ℕ) → length ps ≤ i
+    → shortest_len (drop i ps) ≡ 18446744073709551615
 shortest_len-end ps i past = ap shortest_len (drop_all i ps past)
 
--- the longest so far and that of the patterns from a place on give the same as when the pattern there is counted too
+-- the longest so far and that of the patterns from a place on give the same as when the pattern there is
+-- counted too
 pub longest_len-drop : (ps : List (List ℕ)) (i so_far : ℕ) (p : List ℕ) → slice_get ps i ≡ Some p
     → max (max so_far (length p)) (longest_len (drop (i + 1) ps)) ≡ max so_far (longest_len (drop i ps))
 longest_len-drop ps i so_far p at = let e = ap longest_len (drop-slice_get ps i p at) in omega arith

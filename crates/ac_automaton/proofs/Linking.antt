@@ -13,13 +13,16 @@ use Rattle.ac_automaton.proofs.Places.{get-range}
 -- a state has patterns of its own exactly if its range of them isn't empty
 pub own-some : (order : List ℕ) (t : State) → t.own < t.own_end → t.own_end ≤ length order → own_of order t ≢ []
 own-some order t l within none =
-    let there : slice_get order (t.own + 0) ≡ Some (get_or order (t.own + 0) 0) = slice_get-get_or order (t.own + 0) 0 (omega arith) in
-    let first : slice_get (own_of order t) 0 ≡ slice_get order (t.own + 0) = get-range order t.own t.own_end 0 (omega arith) in
+    let there : slice_get order (t.own + 0) ≡ Some (get_or order (t.own + 0) 0) =
+    slice_get-get_or order (t.own + 0) 0 (omega arith) in
+    let first : slice_get (own_of order t) 0 ≡ slice_get order (t.own + 0) =
+    get-range order t.own t.own_end 0 (omega arith) in
     let nothing : slice_get (own_of order t) 0 ≡ None = ap (λ (ns : List ℕ). slice_get ns 0) none in
     absurd (cc)
 
 pub own-none : (order : List ℕ) (t : State) → t.own_end ≤ t.own → own_of order t ≡ []
-own-none order t l = ap (λ (n : ℕ). take n (drop t.own order)) (let none : t.own_end - t.own ≡ 0 = omega arith in none)
+own-none order t l =
+    ap (λ (n : ℕ). take n (drop t.own order)) (let none : t.own_end - t.own ≡ 0 = omega arith in none)
 
 module _ (g : Meaning) (states : List State) where
   -- the start finds its own patterns alone
@@ -39,7 +42,8 @@ module _ (g : Meaning) (states : List State) where
   link-far (x ∷ u) fail due l = absurd (let near = due.near (λ e. absurd (cc)) in omega arith)
 
   -- the failure target as a state
-  target : (u : List ℕ) (fail : ℕ) → AreStates g states → LinkIsDue g (length states) u fail → fail < length states
+  target : (u : List ℕ) (fail : ℕ) → AreStates g states → LinkIsDue g (length states) u fail
+      → fail < length states
       → Represents g fail (miss g.kind g.patterns (Some u)) (state_at states fail)
   target u fail a due l = a.each fail (miss g.kind g.patterns (Some u)) l due.fails
 
@@ -48,7 +52,8 @@ module _ (g : Meaning) (states : List State) where
   dead_target fail a due l = a.each fail None l (due.start refl l).1
 
   -- a failure target that has patterns of its own is linked
-  pub link-here : (u : List ℕ) (fail : ℕ) → AreStates g states → LinkIsDue g (length states) u fail → fail < length states
+  pub link-here : (u : List ℕ) (fail : ℕ) → AreStates g states → LinkIsDue g (length states) u fail
+      → fail < length states
       → (state_at states fail).own < (state_at states fail).own_end → Links g (length states) (Some u) fail
   link-here [] fail a due l some =
       let r = dead_target fail a due l in
@@ -62,25 +67,31 @@ module _ (g : Meaning) (states : List State) where
         finds = matches-failure g.kind g.patterns x u;
         useful = λ apart none.
             own-some g.order (state_at states fail) some r.within
-            (r.own ∙ append_nil_left (own_matches g (miss g.kind g.patterns (Some (x ∷ u)))) (all_matches g r.links.linked) (sym r.links.finds ∙ none));
+            (r.own ∙ append_nil_left (own_matches g (miss g.kind g.patterns (Some (x ∷ u))))
+            (all_matches g r.links.linked) (sym r.links.finds ∙ none));
       }
 
   -- else what the target is linked to
-  pub link-behind : (u : List ℕ) (fail : ℕ) → AreStates g states → LinkIsDue g (length states) u fail → fail < length states
-      → (state_at states fail).own_end ≤ (state_at states fail).own → Links g (length states) (Some u) (state_at states fail).link
+  pub link-behind : (u : List ℕ) (fail : ℕ) → AreStates g states → LinkIsDue g (length states) u fail
+      → fail < length states
+      → (state_at states fail).own_end ≤ (state_at states fail).own
+      → Links g (length states) (Some u) (state_at states fail).link
   link-behind [] fail a due l none =
       let back = (dead_target fail a due l).links.back in
       let first = (due.start refl l).0 in
-      subst (λ (k : ℕ). Links g (length states) (Some []) k) (let zero : 0 ≡ (state_at states fail).link = omega arith in zero) (link-start fail due)
+      subst (λ (k : ℕ). Links g (length states) (Some []) k)
+      (let zero : 0 ≡ (state_at states fail).link = omega arith in zero) (link-start fail due)
   link-behind (x ∷ u) fail a due l none =
       let r = target (x ∷ u) fail a due l in
-      let nothing : own_matches g (miss g.kind g.patterns (Some (x ∷ u))) ≡ [] = sym r.own ∙ own-none g.order (state_at states fail) none in
+      let nothing : own_matches g (miss g.kind g.patterns (Some (x ∷ u))) ≡ [] =
+      sym r.own ∙ own-none g.order (state_at states fail) none in
       let later : all_matches g (miss g.kind g.patterns (Some (x ∷ u))) ≡ all_matches g r.links.linked =
       r.links.finds ∙ ap (λ (ns : List ℕ). ns ++ all_matches g r.links.linked) nothing in
       record {
         linked = r.links.linked;
         leads = r.links.leads;
         back = (let b = r.links.back in omega arith);
-        finds = matches-failure g.kind g.patterns x u ∙ ap (λ (ns : List ℕ). own_matches g (Some (x ∷ u)) ++ ns) later;
+        finds = matches-failure g.kind g.patterns x u
+            ∙ ap (λ (ns : List ℕ). own_matches g (Some (x ∷ u)) ++ ns) later;
         useful = r.links.useful;
       }

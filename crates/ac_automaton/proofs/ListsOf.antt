@@ -15,7 +15,8 @@ slice_get-left [] ys k h = absurd (omega arith)
 slice_get-left (x ∷ xs) ys zero h = refl
 slice_get-left (x ∷ xs) ys (suc k) h = slice_get-left xs ys k (omega arith)
 
-slice_get-right : (xs ys : List ℕ) (k : ℕ) → length xs ≤ k → slice_get (xs ++ ys) k ≡ slice_get ys (k - length xs)
+slice_get-right : (xs ys : List ℕ) (k : ℕ) → length xs ≤ k
+    → slice_get (xs ++ ys) k ≡ slice_get ys (k - length xs)
 slice_get-right [] ys k h = ap (slice_get ys) (let e : k ≡ k - 0 = omega arith in e)
 slice_get-right (x ∷ xs) ys zero h = absurd (omega arith)
 slice_get-right (x ∷ xs) ys (suc k) h =
@@ -53,7 +54,8 @@ module _ (g : Meaning) (states : List State) where
         ∙ ap (λ (n : ℕ). n + length (all_matches g r.links.linked)) length-own
 
     -- one of its own, by place
-    pub own-at : (k d : ℕ) → k < t.own_end - t.own → slice_get (all_matches g v) k ≡ Some (get_or g.order (t.own + k) d)
+    pub own-at : (k d : ℕ) → k < t.own_end - t.own
+        → slice_get (all_matches g v) k ≡ Some (get_or g.order (t.own + k) d)
     own-at k d inside =
         let l = length-own in
         ap (λ (ns : List ℕ). slice_get ns k) all-listed
@@ -71,7 +73,8 @@ module _ (g : Meaning) (states : List State) where
         ∙ slice_get-right (own_of g.order t) (all_matches g r.links.linked) k (omega arith)
         ∙ ap (λ (n : ℕ). slice_get (all_matches g r.links.linked) (k - n)) length-own
 
-  -- along the links, of which there are no more than numbers up to a state's own, the state lists the matches of its node
+  -- along the links, of which there are no more than numbers up to a state's own, the state lists the matches
+  -- of its node
   pub listed_within-matches : (n s : ℕ) (v : Node) → HasState g states s v → s ≤ n
       → listed_within g.order states n s ≡ all_matches g v
   listed_within-matches zero s v h few = sym (ap (all_matches g) (dead_first s v h (omega arith)))
@@ -108,7 +111,8 @@ module _ (g : Meaning) (states : List State) where
         }
 
     -- and where the link is to the first state, that was all
-    pub counting-end : (count : ℕ) → Counting u s count → t.link ≡ 0 → count + (t.own_end - t.own) ≡ length (all_matches g u)
+    pub counting-end : (count : ℕ) → Counting u s count → t.link ≡ 0
+        → count + (t.own_end - t.own) ≡ length (all_matches g u)
     counting-end count o last =
         let r = represented g states s o.node t o.state is in
         let l = length-listed s o.node t o.state r in

@@ -21,7 +21,8 @@ module _ (kind : MatchKind) (patterns : List (List ℕ)) where
         false_from_ne_true _ (λ t.
         let l = leader patterns (w ++ b ∷ []) t in
         let no_front = false_from_ne_true _ (λ s.
-        false≢true (sym f ∙ begins-from_Fronts patterns w l.0 (record { numbered = l.1.fronts.numbered; front = s }))) in
+        false≢true (sym f
+        ∙ begins-from_Fronts patterns w l.0 (record { numbered = l.1.fronts.numbered; front = s }))) in
         none-from_nil l.0 (equal_to kind patterns (w ++ b ∷ [])) none
         (IsIn-equal_to kind patterns (w ++ b ∷ []) l.0 (record {
           numbered = l.1.fronts.numbered;
@@ -32,11 +33,13 @@ module _ (kind : MatchKind) (patterns : List (List ℕ)) where
   ]
 
   -- a string with one more byte that is no pattern lets matches start where it did before
-  pub stops-child : (w : List ℕ) (b : ℕ) → equal_to kind patterns (w ++ b ∷ []) ≡ [] → stops kind patterns (w ++ b ∷ []) ≡ stops kind patterns w
+  pub stops-child : (w : List ℕ) (b : ℕ) → equal_to kind patterns (w ++ b ∷ []) ≡ []
+      → stops kind patterns (w ++ b ∷ []) ≡ stops kind patterns w
   stops-child w b none = ap (λ (t : Bool). is_leftmost kind && t) (begins-same w b none)
 
   -- a pattern lets none start later
-  pub stops-own : (w : List ℕ) → is_leftmost kind ≡ true → equal_to kind patterns w ≢ [] → stops kind patterns w ≡ true
+  pub stops-own : (w : List ℕ) → is_leftmost kind ≡ true → equal_to kind patterns w ≢ []
+      → stops kind patterns w ≡ true
   stops-own w leftmost some =
       ap (λ (l : Bool). l && begins_with_pattern patterns w) leftmost
       ∙ elim (cases_Bool (begins_with_pattern patterns w)) [
@@ -52,10 +55,12 @@ module _ (kind : MatchKind) (patterns : List (List ℕ)) where
       → miss kind patterns (Some (w ++ b ∷ [])) ≡ None
   miss-own [] b leftmost some =
       failure-cons kind patterns b []
-      ∙ cond-true (stops kind patterns (b ∷ [])) None (reached kind patterns No []) (stops-own (b ∷ []) leftmost some)
+      ∙ cond-true (stops kind patterns (b ∷ [])) None (reached kind patterns No [])
+      (stops-own (b ∷ []) leftmost some)
   miss-own (x ∷ w) b leftmost some =
       failure-cons kind patterns x (w ++ b ∷ [])
-      ∙ cond-true (stops kind patterns (x ∷ w ++ b ∷ [])) None (reached kind patterns No (w ++ b ∷ [])) (stops-own (x ∷ w ++ b ∷ []) leftmost some)
+      ∙ cond-true (stops kind patterns (x ∷ w ++ b ∷ [])) None (reached kind patterns No (w ++ b ∷ []))
+      (stops-own (x ∷ w ++ b ∷ []) leftmost some)
 
   same-stop : (w : List ℕ) (b : ℕ) → (is_leftmost kind ≡ true → equal_to kind patterns (w ++ b ∷ []) ≡ [])
       → stops kind patterns (w ++ b ∷ []) ≡ stops kind patterns w
@@ -72,13 +77,17 @@ module _ (kind : MatchKind) (patterns : List (List ℕ)) where
       ∙ ap (λ (s : Bool). cond s None (reached kind patterns No [])) (same-stop [] b none)
       ∙ ap (λ (v : Node). cond (stops kind patterns []) None v) (reached-nil kind patterns No)
 
-  stepped : (w : List ℕ) (b : ℕ) (s : Bool) → cond s None (reached kind patterns No (w ++ b ∷ [])) ≡ step kind patterns No (cond s None (reached kind patterns No w)) b
+  stepped : (w : List ℕ) (b : ℕ) (s : Bool)
+      → cond s None (reached kind patterns No (w ++ b ∷ []))
+      ≡ step kind patterns No (cond s None (reached kind patterns No w)) b
   stepped w b true = refl
   stepped w b false = sym (step-reached kind patterns No w b)
 
   -- and any other child fails to where the byte leads from the failure target of its parent
-  pub miss-child : (x : ℕ) (w : List ℕ) (b : ℕ) → (is_leftmost kind ≡ true → equal_to kind patterns (x ∷ w ++ b ∷ []) ≡ [])
-      → miss kind patterns (Some (x ∷ w ++ b ∷ [])) ≡ step kind patterns No (miss kind patterns (Some (x ∷ w))) b
+  pub miss-child : (x : ℕ) (w : List ℕ) (b : ℕ)
+      → (is_leftmost kind ≡ true → equal_to kind patterns (x ∷ w ++ b ∷ []) ≡ [])
+      → miss kind patterns (Some (x ∷ w ++ b ∷ []))
+      ≡ step kind patterns No (miss kind patterns (Some (x ∷ w))) b
   miss-child x w b none =
       failure-cons kind patterns x (w ++ b ∷ [])
       ∙ ap (λ (s : Bool). cond s None (reached kind patterns No (w ++ b ∷ []))) (same-stop (x ∷ w) b none)

@@ -24,30 +24,36 @@ head-no_greater x y Equal rest m e = omega arith
 head-no_greater x y Greater rest m e = absurd (false≢true (sym e))
 
 -- where they compare as less and the two are equal, the rest compares as less
-rest-ascends : (x y : ℕ) (o rest : Ordering) → MatchOrdering o (x < y) (x ≡ y) (y < x) → x ≡ y → ordering_then o rest ≡ Less
+rest-ascends : (x y : ℕ) (o rest : Ordering) → MatchOrdering o (x < y) (x ≡ y) (y < x) → x ≡ y
+    → ordering_then o rest ≡ Less
     → rest ≡ Less
 rest-ascends x y Less rest m same e = absurd (omega arith)
 rest-ascends x y Equal rest m same e = e
 rest-ascends x y Greater rest m same e = absurd (omega arith)
 
 -- of two strings with one front, the lesser has no greater byte behind it
-rank-ascends : (u a b : List ℕ) → slice_cmp nat_cmp a b ≡ Less → starts_with nat_eq a u ≡ true → starts_with nat_eq b u ≡ true
+rank-ascends : (u a b : List ℕ) → slice_cmp nat_cmp a b ≡ Less → starts_with nat_eq a u ≡ true
+    → starts_with nat_eq b u ≡ true
     → rank (slice_get a (length u)) ≤ rank (slice_get b (length u))
 rank-ascends [] [] b less p q = omega arith
 rank-ascends [] (x ∷ a) [] less p q = absurd (cc)
 rank-ascends [] (x ∷ a) (y ∷ b) less p q =
-    let le = head-no_greater x y (nat_cmp x y) (slice_cmp nat_cmp a b) (ranked x y (nat_cmp x y) refl) (ap is_gt less) in omega arith
+    let le =
+    head-no_greater x y (nat_cmp x y) (slice_cmp nat_cmp a b) (ranked x y (nat_cmp x y) refl) (ap is_gt less) in
+    omega arith
 rank-ascends (z ∷ u) [] b less p q = absurd (false≢true p)
 rank-ascends (z ∷ u) (x ∷ a) [] less p q = absurd (false≢true q)
 rank-ascends (z ∷ u) (x ∷ a) (y ∷ b) less p q =
     let left = and_parts (nat_eq z x) (starts_with nat_eq a u) p in
     let right = and_parts (nat_eq z y) (starts_with nat_eq b u) q in
     let same : x ≡ y = sym (eqb-true z x left.0) ∙ eqb-true z y right.0 in
-    let later = rest-ascends x y (nat_cmp x y) (slice_cmp nat_cmp a b) (ranked x y (nat_cmp x y) refl) same less in
+    let later =
+    rest-ascends x y (nat_cmp x y) (slice_cmp nat_cmp a b) (ranked x y (nat_cmp x y) refl) same less in
     rank-ascends u a b later left.1 right.1
 
 -- the members that begin with u have ascending bytes behind it, those that are u first
-pub byte_at-ascends : (kind : MatchKind) (patterns : List (List ℕ)) (members : List Keyed) → IsOrder kind patterns members
+pub byte_at-ascends : (kind : MatchKind) (patterns : List (List ℕ)) (members : List Keyed)
+    → IsOrder kind patterns members
     → (u : List ℕ) (j k : ℕ) → j ≤ k → k < length members
     → starts_with nat_eq (key_at members j) u ≡ true → starts_with nat_eq (key_at members k) u ≡ true
     → rank (byte_at members (length u) j) ≤ rank (byte_at members (length u) k)

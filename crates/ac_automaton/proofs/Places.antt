@@ -7,7 +7,8 @@ use Rattle.std.proofs.Math.Seq.{take-append_seam, take-suc}
 use Rattle.ac_util.proofs.Lists.{IsIn, IsOrdered}
 
 -- an element stays at its place as the list grows
-pub get-append : {X : Type 0} (xs ys : List X) (k : ℕ) (x : X) → slice_get xs k ≡ Some x → slice_get (xs ++ ys) k ≡ Some x
+pub get-append : {X : Type 0} (xs ys : List X) (k : ℕ) (x : X) → slice_get xs k ≡ Some x
+    → slice_get (xs ++ ys) k ≡ Some x
 get-append [] ys k x e = absurd (cc)
 get-append (z ∷ xs) ys zero x e = e
 get-append (z ∷ xs) ys (suc k) x e = get-append xs ys k x e
@@ -29,7 +30,8 @@ get-added_cases (z ∷ xs) y x (suc k) e = elim (get-added_cases xs y x k e) [
 ]
 
 -- a place has one element
-pub get-same : {X : Type 0} (xs : List X) (k : ℕ) (x y : X) → slice_get xs k ≡ Some x → slice_get xs k ≡ Some y → x ≡ y
+pub get-same : {X : Type 0} (xs : List X) (k : ℕ) (x y : X) → slice_get xs k ≡ Some x → slice_get xs k ≡ Some y
+    → x ≡ y
 get-same xs k x y e f = let g : Some x ≡ Some y = sym e ∙ f in cc
 
 get-take : {X : Type 0} (n : ℕ) (xs : List X) (k : ℕ) → k < n → slice_get (take n xs) k ≡ slice_get xs k
@@ -45,7 +47,8 @@ get-drop {X} (suc n) (x ∷ xs) k =
     get-drop n xs k ∙ ap (slice_get (x ∷ xs)) (let j : suc (n + k) ≡ suc n + k = omega arith in j)
 
 -- an element of a part by its place in the part
-pub get-range : {X : Type 0} (xs : List X) (a b k : ℕ) → a + k < b → slice_get (slice_range xs a b) k ≡ slice_get xs (a + k)
+pub get-range : {X : Type 0} (xs : List X) (a b k : ℕ) → a + k < b
+    → slice_get (slice_range xs a b) k ≡ slice_get xs (a + k)
 get-range xs a b k l = get-take (b - a) (drop a xs) k (omega arith) ∙ get-drop a xs k
 
 past-take : {X : Type 0} (n : ℕ) (xs : List X) (k : ℕ) (x : X) → slice_get (take n xs) k ≡ Some x → k < n
@@ -97,13 +100,15 @@ refused-by (Ok x) e P Q is q = absurd is
 refused-by (Err y) e P Q is q = subst Q (sym is) q
 
 -- one element more of a list
-pub take-next : {X : Type 0} (xs : List X) (i : ℕ) (x : X) → slice_get xs i ≡ Some x → take (i + 1) xs ≡ take i xs ++ x ∷ []
+pub take-next : {X : Type 0} (xs : List X) (i : ℕ) (x : X) → slice_get xs i ≡ Some x
+    → take (i + 1) xs ≡ take i xs ++ x ∷ []
 take-next xs i x e =
     ap (λ (n : ℕ). take n xs) (let next : i + 1 ≡ suc i = omega arith in next)
     ∙ take-suc xs i x (slice_get_within xs i x e)
     ∙ ap (λ y. take i xs ++ y ∷ []) (get_or_from_slice_get xs i x x e)
 
 -- a buffer that was lent as a whole is what came back
-pub written-whole : {X : Type 0} (xs ys : List X) (len : ℕ) → length xs ≡ len → take len (xs ++ drop (length xs) ys) ≡ xs
+pub written-whole : {X : Type 0} (xs ys : List X) (len : ℕ) → length xs ≡ len
+    → take len (xs ++ drop (length xs) ys) ≡ xs
 written-whole xs ys len l =
     ap (λ (n : ℕ). take n (xs ++ drop (length xs) ys)) (sym l) ∙ take-append_seam xs (drop (length xs) ys)

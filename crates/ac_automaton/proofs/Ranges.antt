@@ -1,4 +1,5 @@
--- The members that begin with one string stand side by side: first those that are the string, then a run for each next byte.
+-- The members that begin with one string stand side by side: first those that are the string, then a run for
+-- each next byte.
 use Rattle.std.proofs.Common.{◌≡◌, ◌≢◌, ℕ, suc, ◌+◌, ◌-◌, ◌<◌, ◌≤◌, true, List, [], ◌∷◌, ◌++◌, length, inl, inr, refl, ap, sym, ◌∙◌, subst, arith, Option, Some, None, get_or}
 use Rattle.std.specs.Prelude.{nat_eq, bytes_eq, option_map, slice_get, slice_range}
 use Rattle.std.specs.Cmp.Lexicographic.{slice_cmp, nat_list_cmp_total}
@@ -33,11 +34,13 @@ starts_with-push (x ∷ w) (y ∷ u) b h e =
     and_from _ _ parts.0 (starts_with-push w u b parts.1 e)
 
 -- the last byte of a front stands behind the rest of it
-pub starts_with-last : (w u : List ℕ) (b : ℕ) → starts_with nat_eq w (u ++ b ∷ []) ≡ true → slice_get w (length u) ≡ Some b
+pub starts_with-last : (w u : List ℕ) (b : ℕ) → starts_with nat_eq w (u ++ b ∷ []) ≡ true
+    → slice_get w (length u) ≡ Some b
 starts_with-last [] [] b h = absurd (false≢true h)
 starts_with-last [] (y ∷ u) b h = absurd (false≢true h)
 starts_with-last (x ∷ w) [] b h = ap (λ (z : ℕ). Some z) (sym (eqb-true b x (and_parts (nat_eq b x) true h).0))
-starts_with-last (x ∷ w) (y ∷ u) b h = starts_with-last w u b (and_parts (nat_eq y x) (starts_with nat_eq w (u ++ b ∷ [])) h).1
+starts_with-last (x ∷ w) (y ∷ u) b h =
+    starts_with-last w u b (and_parts (nat_eq y x) (starts_with nat_eq w (u ++ b ∷ [])) h).1
 
 -- a string without a byte behind a front is that front
 pub starts_with-ended : (w u : List ℕ) → starts_with nat_eq w u ≡ true → slice_get w (length u) ≡ None → w ≡ u
@@ -57,10 +60,12 @@ not-less u e =
 abbrev member_at : List Keyed → ℕ → Keyed
 member_at members k = get_or members k (record { key = []; number = 0 })
 
-number-at : (members : List Keyed) (k : ℕ) → k < length members → slice_get (numbers members) k ≡ Some (member_at members k).number
+number-at : (members : List Keyed) (k : ℕ) → k < length members
+    → slice_get (numbers members) k ≡ Some (member_at members k).number
 number-at members k within =
     slice_get-map (λ (q : Keyed). q.number) members k
-    ∙ ap (option_map (λ (q : Keyed). q.number)) (slice_get-get_or members k (record { key = []; number = 0 }) within)
+    ∙ ap (option_map (λ (q : Keyed). q.number))
+    (slice_get-get_or members k (record { key = []; number = 0 }) within)
 
 rank-None : (r : Option ℕ) → rank r ≤ 0 → r ≡ None
 rank-None None l = refl
@@ -70,7 +75,8 @@ rank-Some : (r : Option ℕ) (b : ℕ) → rank r ≡ suc b → r ≡ Some b
 rank-Some None b e = absurd (omega arith)
 rank-Some (Some x) b e = ap (λ (z : ℕ). Some z) (let same : x ≡ b = omega arith in same)
 
-module _ (kind : MatchKind) (patterns : List (List ℕ)) (members : List Keyed) (order : IsOrder kind patterns members) where
+module _ (kind : MatchKind) (patterns : List (List ℕ)) (members : List Keyed)
+    (order : IsOrder kind patterns members) where
   -- what stands at a place: a pattern that takes part, by its number and its bytes
   pub record Stands (k n : ℕ) : Type 0 where
     pub within : k < length members
@@ -89,7 +95,8 @@ module _ (kind : MatchKind) (patterns : List (List ℕ)) (members : List Keyed) 
           number = number;
           key = All-slice_get (λ (q : Keyed). q.key ≡ pattern_of patterns q.number) members k m order.named is;
           takes_part = IsIn-from_Contains m.number (participants kind patterns)
-              ((order.lists m.number).0 (Contains-from_IsIn m.number (numbers members) (IsIn-place m.number (numbers members) k number)));
+              ((order.lists m.number).0
+              (Contains-from_IsIn m.number (numbers members) (IsIn-place m.number (numbers members) k number)));
         },
       )
 
@@ -97,23 +104,30 @@ module _ (kind : MatchKind) (patterns : List (List ℕ)) (members : List Keyed) 
   pub place-at : (n : ℕ) → IsIn n (participants kind patterns) → (k : ℕ) × Stands k n
   place-at n h =
       let p = place-of n (numbers members)
-      (IsIn-from_Contains n (numbers members) ((order.lists n).1 (Contains-from_IsIn n (participants kind patterns) h))) in
-      let within : p.0 < length members = (let l = slice_get_within (numbers members) p.0 n p.1 in let m = length-map members (λ (q : Keyed). q.number) in omega arith) in
+      (IsIn-from_Contains n (numbers members)
+      ((order.lists n).1 (Contains-from_IsIn n (participants kind patterns) h))) in
+      let within : p.0 < length members =
+      (let l = slice_get_within (numbers members) p.0 n p.1 in
+      let m = length-map members (λ (q : Keyed). q.number) in omega arith) in
       let s = at-place p.0 within in
       (p.0, subst (λ (m : ℕ). Stands p.0 m) (get-same (numbers members) p.0 s.0 n s.1.number p.1) s.1)
 
   -- a front of a member leads to a node
-  pub member-node : (k : ℕ) (u : List ℕ) → k < length members → starts_with nat_eq (key_at members k) u ≡ true → is_node kind patterns u ≡ true
+  pub member-node : (k : ℕ) (u : List ℕ) → k < length members → starts_with nat_eq (key_at members k) u ≡ true
+      → is_node kind patterns u ≡ true
   member-node k u within front =
       let s = at-place k within in
-      or_right (is_empty u) _ (list_any-from_IsIn (λ n. starts_with nat_eq (pattern_of patterns n) u) s.0 (participants kind patterns) s.1.takes_part
+      or_right (is_empty u) _
+      (list_any-from_IsIn (λ n. starts_with nat_eq (pattern_of patterns n) u) s.0
+      (participants kind patterns) s.1.takes_part
       (subst (λ (w : List ℕ). starts_with nat_eq w u ≡ true) s.1.key front))
 
   -- and a node that isn't the start is a front of some member
   pub node-member : (x : ℕ) (u : List ℕ) → is_node kind patterns (x ∷ u) ≡ true
       → (k : ℕ) × (k < length members) × (starts_with nat_eq (key_at members k) (x ∷ u) ≡ true)
   node-member x u node =
-      let r = any_passes (λ n. starts_with nat_eq (pattern_of patterns n) (x ∷ u)) (participants kind patterns) node in
+      let r =
+      any_passes (λ n. starts_with nat_eq (pattern_of patterns n) (x ∷ u)) (participants kind patterns) node in
       let s = place-at r.0 r.1 in
       (s.0, s.1.within, subst (λ (w : List ℕ). starts_with nat_eq w (x ∷ u) ≡ true) (sym s.1.key) r.2)
 
@@ -122,7 +136,8 @@ module _ (kind : MatchKind) (patterns : List (List ℕ)) (members : List Keyed) 
     begins k low high = (range.begins k (let w = range.within in omega arith)).0 (low, high)
 
     -- where one in the range has a byte behind the string, all later ones have one that isn't less
-    pub range-ascends : (j k : ℕ) → from ≤ j → j ≤ k → k < to → rank (byte_at members (length u) j) ≤ rank (byte_at members (length u) k)
+    pub range-ascends : (j k : ℕ) → from ≤ j → j ≤ k → k < to
+        → rank (byte_at members (length u) j) ≤ rank (byte_at members (length u) k)
     range-ascends j k low le high =
         byte_at-ascends kind patterns members order u j k le (let w = range.within in omega arith)
         (begins j low (omega arith)) (begins k (omega arith) high)
@@ -156,13 +171,17 @@ module _ (kind : MatchKind) (patterns : List (List ℕ)) (members : List Keyed) 
           let e = IsIn-from_filter (λ m. bytes_eq (pattern_of patterns m) u) n (participants kind patterns) h in
           let s = place-at n e.0 in
           let key : key_at members s.0 ≡ u = s.1.key ∙ (bytes_eq-Decides (pattern_of patterns n) u).0 e.1 in
-          let there = (range.begins s.0 s.1.within).1 (subst (λ (w : List ℕ). starts_with nat_eq w u ≡ true) (sym key) (starts_with-itself u)) in
+          let there =
+          (range.begins s.0 s.1.within).1
+          (subst (λ (w : List ℕ). starts_with nat_eq w u ≡ true) (sym key) (starts_with-itself u)) in
           elim (cases_lt s.0 end) [
             | inl before ↦
                 IsIn-place n (slice_range (numbers members) from end) (s.0 - from)
                 (get-range (numbers members) from end (s.0 - from) (omega (arith, there.0))
-                ∙ ap (slice_get (numbers members)) (let at : from + (s.0 - from) ≡ s.0 = omega (arith, there.0) in at) ∙ s.1.number)
-            | inr behind ↦ absurd (longer s.0 behind there.1 (ap (λ (w : List ℕ). slice_get w (length u)) key ∙ ended u))
+                ∙ ap (slice_get (numbers members))
+                (let at : from + (s.0 - from) ≡ s.0 = omega (arith, there.0) in at) ∙ s.1.number)
+            | inr behind ↦
+                absurd (longer s.0 behind there.1 (ap (λ (w : List ℕ). slice_get w (length u)) key ∙ ended u))
           ]
 
       own-ordered : IsOrdered (λ m n. m < n) (slice_range (numbers members) from end)
@@ -174,16 +193,21 @@ module _ (kind : MatchKind) (patterns : List (List ℕ)) (members : List Keyed) 
           get-same (numbers members) (from + j) _ m (number-at members (from + j) (omega (arith, p.0))) p.1 in
           let second : (member_at members (from + k)).number ≡ n =
           get-same (numbers members) (from + k) _ n (number-at members (from + k) (omega (arith, q.0))) q.1 in
-          elim (order.ascending (from + j) (from + k) (record { key = []; number = 0 }) (omega arith) (omega (arith, q.0))) [
+          elim (order.ascending (from + j) (from + k) (record { key = []; number = 0 }) (omega arith)
+          (omega (arith, q.0))) [
             | inl less ↦
                 let a = whole (from + j) (omega arith) p.0 in
                 let b = whole (from + k) (omega arith) q.0 in
-                absurd (not-less u (sym (ap (λ (w : List ℕ). slice_cmp nat_cmp w (key_at members (from + k))) a ∙ ap (slice_cmp nat_cmp u) b) ∙ less))
+                absurd (not-less u
+                (sym (ap (λ (w : List ℕ). slice_cmp nat_cmp w (key_at members (from + k))) a
+                ∙ ap (slice_cmp nat_cmp u) b) ∙ less))
             | inr below ↦ let c = below.1 in omega arith
           ])
 
       pub own-range : slice_range (numbers members) from end ≡ equal_to kind patterns u
-      own-range = IsOrdered-unique (λ m n. m < n) (λ m n l h. absurd (omega arith)) _ _ own-among own-all own-ordered (equal_to-ordered kind patterns u)
+      own-range =
+          IsOrdered-unique (λ m n. m < n) (λ m n l h. absurd (omega arith)) _ _ own-among own-all own-ordered
+          (equal_to-ordered kind patterns u)
 
     -- the first of the range is the string exactly if some pattern that takes part is
     pub own-first : from < to → byte_at members (length u) from ≡ None → equal_to kind patterns u ≢ []
@@ -200,7 +224,9 @@ module _ (kind : MatchKind) (patterns : List (List ℕ)) (members : List Keyed) 
         let e = IsIn-from_filter (λ m. bytes_eq (pattern_of patterns m) u) n (participants kind patterns) h in
         let s = place-at n e.0 in
         let key : key_at members s.0 ≡ u = s.1.key ∙ (bytes_eq-Decides (pattern_of patterns n) u).0 e.1 in
-        let there = (range.begins s.0 s.1.within).1 (subst (λ (w : List ℕ). starts_with nat_eq w u ≡ true) (sym key) (starts_with-itself u)) in
+        let there =
+        (range.begins s.0 s.1.within).1
+        (subst (λ (w : List ℕ). starts_with nat_eq w u ≡ true) (sym key) (starts_with-itself u)) in
         let up = range-ascends from s.0 (omega arith) there.0 there.1 in
         let zero : rank (byte_at members (length u) s.0) ≡ 0 =
         ap rank (ap (λ (w : List ℕ). slice_get w (length u)) key ∙ ended u) in
@@ -223,12 +249,15 @@ module _ (kind : MatchKind) (patterns : List (List ℕ)) (members : List Keyed) 
       ]
 
       child-within : (k : ℕ) → place ≤ k → k < end → starts_with nat_eq (key_at members k) (u ++ b ∷ []) ≡ true
-      child-within k a c = starts_with-push (key_at members k) u b (begins k (omega arith) (omega arith)) (same k a c ∙ byte)
+      child-within k a c =
+          starts_with-push (key_at members k) u b (begins k (omega arith) (omega arith)) (same k a c ∙ byte)
 
-      child-only : (k : ℕ) → k < length members → starts_with nat_eq (key_at members k) (u ++ b ∷ []) ≡ true → (place ≤ k) × (k < end)
+      child-only : (k : ℕ) → k < length members → starts_with nat_eq (key_at members k) (u ++ b ∷ []) ≡ true
+          → (place ≤ k) × (k < end)
       child-only k within h =
           let there = (range.begins k within).1 (starts_with-front (key_at members k) u b h) in
-          let r : rank (byte_at members (length u) k) ≡ suc b = ap rank (starts_with-last (key_at members k) u b h) in (
+          let r : rank (byte_at members (length u) k) ≡ suc b =
+          ap rank (starts_with-last (key_at members k) u b h) in (
             elim (cases_lt k place) [
               | inl before ↦ absurd (let s = smaller k there.0 before in omega arith)
               | inr le ↦ le

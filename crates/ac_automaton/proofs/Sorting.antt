@@ -75,7 +75,8 @@ map-range-push f xs ys n x is before at =
     zero-plus n = omega arith
 
 -- a fact of each element, and of one more
-pub All-pushed : {X : Type 0} (P : X → Type 0) (xs ys : List X) (x : X) → ys ≡ xs ++ x ∷ [] → All P xs → P x → All P ys
+pub All-pushed : {X : Type 0} (P : X → Type 0) (xs ys : List X) (x : X) → ys ≡ xs ++ x ∷ [] → All P xs → P x
+    → All P ys
 All-pushed P xs ys x is all here = All-same P ys (xs ++ x ∷ []) is (All-push P xs x all here)
 
 -- the comparison is a total order
@@ -85,7 +86,8 @@ compared-total fold =
     (on_total (λ (m : Member). m.number) nat_cmp_total)
 
 -- what a sort ensures whose closure answers by the comparison
-pub IsSortedBy-from_calls : (fold : Bool) {F : Type 0} {g : Mut F (Bor Member × (Bor Member × Unit {0})) Ordering} {f : F}
+pub IsSortedBy-from_calls :
+    (fold : Bool) {F : Type 0} {g : Mut F (Bor Member × (Bor Member × Unit {0})) Ordering} {f : F}
     (members : List Member) → IsSortedByClosure g f members
     → ((a : Bor Member × (Bor Member × Unit {0})) (r : Ordering) (f' : F) → Called g f a r f'
     → (r ≡ compared fold a.0.now a.1.0.now) × (f' ≡ f))
@@ -102,12 +104,14 @@ is_gt-reverse Equal = refl
 is_gt-reverse Greater = refl
 
 -- of two keys that compare as no greater and differ by number, the first comes before the second
-Precedes-by_parts : (a b : Keyed) (o p : Ordering) → slice_cmp nat_cmp a.key b.key ≡ o → nat_cmp a.number b.number ≡ p
+Precedes-by_parts : (a b : Keyed) (o p : Ordering) → slice_cmp nat_cmp a.key b.key ≡ o
+    → nat_cmp a.number b.number ≡ p
     → is_gt (ordering_then o p) ≡ false → a.number ≢ b.number → Precedes a b
 Precedes-by_parts a b Less p bytes numbers le apart = inl bytes
 Precedes-by_parts a b Equal Less bytes numbers le apart =
     inr (exact_bytes a.key b.key bytes, ranked a.number b.number Less (sym numbers))
-Precedes-by_parts a b Equal Equal bytes numbers le apart = absurd (apart (exact_unsigned a.number b.number numbers))
+Precedes-by_parts a b Equal Equal bytes numbers le apart =
+    absurd (apart (exact_unsigned a.number b.number numbers))
 Precedes-by_parts a b Equal Greater bytes numbers le apart = absurd (false≢true (sym le))
 Precedes-by_parts a b Greater p bytes numbers le apart = absurd (false≢true (sym le))
 
@@ -118,9 +122,11 @@ record StandsBefore (fold : Bool) (a b : Member) : Type 0 where
 
 -- such members precede each other in the view
 Precedes-from_StandsBefore : (fold : Bool) (a b : Member) → StandsBefore fold a b
-    → Precedes (record { key = plain fold a.bytes.now; number = a.number }) (record { key = plain fold b.bytes.now; number = b.number })
+    → Precedes (record { key = plain fold a.bytes.now; number = a.number })
+    (record { key = plain fold b.bytes.now; number = b.number })
 Precedes-from_StandsBefore fold a b s =
-    Precedes-by_parts (record { key = plain fold a.bytes.now; number = a.number }) (record { key = plain fold b.bytes.now; number = b.number })
+    Precedes-by_parts (record { key = plain fold a.bytes.now; number = a.number })
+    (record { key = plain fold b.bytes.now; number = b.number })
     (slice_cmp nat_cmp (plain fold a.bytes.now) (plain fold b.bytes.now)) (nat_cmp a.number b.number) refl refl
     (ap is_gt ((compared-total fold).antisymm a b) ∙ is_gt-reverse (compared fold b a) ∙ s.no_greater) s.apart
 
@@ -133,15 +139,18 @@ all_kept (x ∷ xs) = ap (λ w. x ∷ w) (all_kept xs)
 pub participants-Standard : (fold : Bool) (patterns : List (List ℕ))
     → participants Standard (map (plain fold) patterns) ≡ range_with_len 0 (length patterns)
 participants-Standard fold patterns =
-    all_kept (range_with_len 0 (length (map (plain fold) patterns))) ∙ ap (range_with_len 0) (length-map patterns (plain fold))
+    all_kept (range_with_len 0 (length (map (plain fold) patterns)))
+    ∙ ap (range_with_len 0) (length-map patterns (plain fold))
 
 -- the view has the numbers of the stored patterns
-numbers-keyed : (fold : Bool) (members : List Member) → numbers (keyed fold members) ≡ map (λ m. m.number) members
+numbers-keyed : (fold : Bool) (members : List Member)
+    → numbers (keyed fold members) ≡ map (λ m. m.number) members
 numbers-keyed fold [] = refl
 numbers-keyed fold (m ∷ members) = ap (λ w. m.number ∷ w) (numbers-keyed fold members)
 
 -- a weaker order of the same elements
-IsOrdered-weaker : {X : Type 0} (R S : X → X → Type 0) → ((x y : X) → R x y → S x y) → (xs : List X) → IsOrdered R xs → IsOrdered S xs
+IsOrdered-weaker : {X : Type 0} (R S : X → X → Type 0) → ((x y : X) → R x y → S x y) → (xs : List X)
+    → IsOrdered R xs → IsOrdered S xs
 IsOrdered-weaker R S weaker [] o = tt
 IsOrdered-weaker R S weaker (x ∷ xs) o = ((λ y h. weaker x y (o.0 y h)), IsOrdered-weaker R S weaker xs o.1)
 
@@ -176,7 +185,8 @@ module _ (fold : Bool) (patterns : List (List ℕ)) (listed : List Member) (are 
       let range = range_with_len 0 (length patterns) in
       subst (AllPairs (λ (x y : ℕ). x ≢ y)) (sym are.numbers)
       (AllPairs-from_IsOrdered (λ x y. x ≢ y) range
-      (IsOrdered-weaker (λ x y. x < y) (λ x y. x ≢ y) (λ x y less. omega arith) range (IsOrdered-range 0 (length patterns))))
+      (IsOrdered-weaker (λ x y. x < y) (λ x y. x ≢ y) (λ x y less. omega arith) range
+      (IsOrdered-range 0 (length patterns))))
 
   module _ (sorted : List Member) (moved : IsPermutation listed sorted) where
     numbers-moved : IsPermutation (map number_of listed) (map number_of sorted)
@@ -187,7 +197,8 @@ module _ (fold : Bool) (patterns : List (List ℕ)) (listed : List Member) (are 
     sorted-apart i j d below within =
         let before = IsDistinct-from_AllPairs Decides-eqb (map number_of listed) listed-apart in
         let after = AllPairs-from_IsDistinct Decides-eqb (map number_of sorted)
-        (IsDistinct-IsPermutation nat_eq (λ x y. nat_eq_equiv.symm x y) (map number_of listed) (map number_of sorted)
+        (IsDistinct-IsPermutation nat_eq (λ x y. nat_eq_equiv.symm x y) (map number_of listed)
+        (map number_of sorted)
         numbers-moved before) in
         let long = length-map sorted number_of in
         let apart = after i j d.number below (omega arith) in
@@ -196,7 +207,8 @@ module _ (fold : Bool) (patterns : List (List ℕ)) (listed : List Member) (are 
 
     -- and they are those of the patterns that take part
     numbers-kept : (n : ℕ)
-        → Contains (numbers (keyed fold sorted)) n ↔ Contains (participants Standard (map (plain fold) patterns)) n
+        → Contains (numbers (keyed fold sorted)) n
+        ↔ Contains (participants Standard (map (plain fold) patterns)) n
     numbers-kept n =
         let is = are.numbers ∙ sym (participants-Standard fold patterns) in (
           (λ h. subst (λ w. Contains w n) is
@@ -219,9 +231,11 @@ module _ (fold : Bool) (patterns : List (List ℕ)) (listed : List Member) (are 
           apart = sorted-apart i j d below within;
         }) in record {
           ascending = AllPairs-from_IsOrdered Precedes (keyed fold sorted)
-              (IsOrdered-map (StandsBefore fold) Precedes keyed_one sorted (Precedes-from_StandsBefore fold) before);
+              (IsOrdered-map (StandsBefore fold) Precedes keyed_one sorted
+              (Precedes-from_StandsBefore fold) before);
           named = All-map (λ m. m.key ≡ pattern_of (map (plain fold) patterns) m.number) keyed_one sorted
-              (All-permutation (λ m. plain fold m.bytes.now ≡ pattern_of (map (plain fold) patterns) m.number) listed sorted
+              (All-permutation
+              (λ m. plain fold m.bytes.now ≡ pattern_of (map (plain fold) patterns) m.number) listed sorted
               moved listed-named);
           lists = numbers-kept;
         }

@@ -19,7 +19,8 @@ no-bytes : (w : List ℕ) → length w ≤ 0 → w ≡ []
 no-bytes [] l = refl
 no-bytes (x ∷ w) l = absurd (omega arith)
 
-module _ (kind : MatchKind) (patterns : List (List ℕ)) (members : List Keyed) (order : IsOrder kind patterns members) where
+module _ (kind : MatchKind) (patterns : List (List ℕ)) (members : List Keyed)
+    (order : IsOrder kind patterns members) where
   all-range : IsRangeOf members [] 0 (length members)
   all-range = record {
     ordered = omega arith;
@@ -35,7 +36,8 @@ module _ (kind : MatchKind) (patterns : List (List ℕ)) (members : List Keyed) 
       (IsIn-equal_to kind patterns [] l.0 (record {
         numbered = l.1.fronts.numbered;
         takes_part = leader-takes_part patterns kind [] l.0 l.1;
-        same = no-bytes (pattern_of patterns l.0) (starts_with-length [] (pattern_of patterns l.0) l.1.fronts.front);
+        same = no-bytes (pattern_of patterns l.0)
+            (starts_with-length [] (pattern_of patterns l.0) l.1.fronts.front);
       }))
 
   own-begins : equal_to kind patterns [] ≢ [] → begins_with_pattern patterns [] ≡ true
@@ -45,9 +47,11 @@ module _ (kind : MatchKind) (patterns : List (List ℕ)) (members : List Keyed) 
   ]
 
   -- under a leftmost kind an empty pattern lets no match start later
-  miss-dead : is_leftmost kind ≡ true → 0 < length members → byte_at members 0 0 ≡ None → miss kind patterns (Some []) ≡ None
+  miss-dead : is_leftmost kind ≡ true → 0 < length members → byte_at members 0 0 ≡ None
+      → miss kind patterns (Some []) ≡ None
   miss-dead leftmost some ends =
-      let begins = own-begins (own-first kind patterns members order [] 0 (length members) all-range some ends) in
+      let begins =
+      own-begins (own-first kind patterns members order [] 0 (length members) all-range some ends) in
       cond-true (is_leftmost kind && begins_with_pattern patterns []) None (Some [])
       (ap (λ (t : Bool). t && begins_with_pattern patterns []) leftmost ∙ begins)
 
@@ -55,12 +59,15 @@ module _ (kind : MatchKind) (patterns : List (List ℕ)) (members : List Keyed) 
   none-begins goes_on = false_from_ne_true _ (λ t. begins-own t (elim (cases_lt 0 (length members)) [
     | inl some ↦ own-none kind patterns members order [] 0 (length members) all-range (goes_on some)
     | inr none ↦ nil-from_none (equal_to kind patterns []) (λ n h.
-        let s = place-at kind patterns members order n (IsIn-from_filter (λ m. bytes_eq (pattern_of patterns m) []) n (participants kind patterns) h).0 in
+        let s =
+        place-at kind patterns members order n
+        (IsIn-from_filter (λ m. bytes_eq (pattern_of patterns m) []) n (participants kind patterns) h).0 in
         let w = s.1.within in
         absurd (omega arith))
   ]))
 
-  miss-stays : (is_leftmost kind ≡ true → 0 < length members → byte_at members 0 0 ≢ None) → miss kind patterns (Some []) ≡ Some []
+  miss-stays : (is_leftmost kind ≡ true → 0 < length members → byte_at members 0 0 ≢ None)
+      → miss kind patterns (Some []) ≡ Some []
   miss-stays goes_on = elim (cases_Bool (is_leftmost kind)) [
     | inl leftmost ↦
         cond-false (is_leftmost kind && begins_with_pattern patterns []) None (Some [])
@@ -74,7 +81,8 @@ module _ (kind : MatchKind) (patterns : List (List ℕ)) (members : List Keyed) 
   abbrev pub start_pending : ℕ → Pending
   start_pending fail = record { from = 0; to = length members; depth = 0; fail = fail }
 
-  waits : (fail : ℕ) → slice_get (None ∷ None ∷ Some [] ∷ Some [] ∷ []) fail ≡ Some (miss kind patterns (Some []))
+  waits : (fail : ℕ) → slice_get (None ∷ None ∷ Some [] ∷ Some [] ∷ []) fail ≡ Some
+      (miss kind patterns (Some []))
       → Waits kind patterns members [] 2 (start_pending fail)
   waits fail e = record {
     deep = omega arith;

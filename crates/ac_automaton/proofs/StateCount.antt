@@ -1,4 +1,5 @@
--- A trie has as many states as there are nodes: each node has one state, and a build is refused only where there are too many.
+-- A trie has as many states as there are nodes: each node has one state, and a build is refused only where
+-- there are too many.
 use Rattle.std.proofs.Common.{◌≡◌, ◌≢◌, ℕ, zero, suc, ◌+◌, ◌<◌, Bool, true, List, [], ◌∷◌, ◌++◌, map, length, inl, inr, refl, ap, sym, ◌∙◌, subst, arith, Some, None}
 use Rattle.std.specs.Prelude.{slice_get, option_map}
 use Rattle.std.proofs.lemmas.List.{length-map, length_push}
@@ -32,16 +33,20 @@ last-byte : (x : ℕ) (u : List ℕ) → (w : List ℕ) × (b : ℕ) × (x ∷ u
 last-byte x [] = ([], x, refl)
 last-byte x (y ∷ u) = let r = last-byte y u in (x ∷ r.0, r.1, ap (λ (w : List ℕ). x ∷ w) r.2)
 
-module _ (kind : MatchKind) (patterns : List (List ℕ)) (members : List Keyed) (order : IsOrder kind patterns members)
-    (whole : ℕ) (transitions : List Transition) (queue : List Pending) (grown : IsGrown kind patterns members whole transitions queue) where
+module _ (kind : MatchKind) (patterns : List (List ℕ)) (members : List Keyed)
+    (order : IsOrder kind patterns members)
+    (whole : ℕ) (transitions : List Transition) (queue : List Pending)
+    (grown : IsGrown kind patterns members whole transitions queue) where
   -- the strings of the queue
   abbrev words : List (List ℕ)
   words = map (word members) queue
 
-  word-at : (k : ℕ) (w : List ℕ) → slice_get words k ≡ Some w → (q : Pending) × (slice_get queue k ≡ Some q) × (word members q ≡ w)
+  word-at : (k : ℕ) (w : List ℕ) → slice_get words k ≡ Some w
+      → (q : Pending) × (slice_get queue k ≡ Some q) × (word members q ≡ w)
   word-at k w e = by queue k e
     where
-      by : (qs : List Pending) (j : ℕ) → slice_get (map (word members) qs) j ≡ Some w → (q : Pending) × (slice_get qs j ≡ Some q) × (word members q ≡ w)
+      by : (qs : List Pending) (j : ℕ) → slice_get (map (word members) qs) j ≡ Some w
+          → (q : Pending) × (slice_get qs j ≡ Some q) × (word members q ≡ w)
       by [] j e = absurd (cc)
       by (q ∷ qs) zero e = (q, refl, (cc))
       by (q ∷ qs) (suc j) e = by qs j e
@@ -53,7 +58,8 @@ module _ (kind : MatchKind) (patterns : List (List ℕ)) (members : List Keyed) 
       let at = grown.apart j k q.0 r.0 q.1 r.1 (q.2 ∙ same ∙ sym r.2) in
       absurd (omega arith))
 
-  range-node : (u : List ℕ) (from to : ℕ) → IsRangeOf members u from to → from < to → is_node kind patterns u ≡ true
+  range-node : (u : List ℕ) (from to : ℕ) → IsRangeOf members u from to → from < to
+      → is_node kind patterns u ≡ true
   range-node u from to range some =
       let inside : from < length members = (let w = range.within in omega arith) in
       member-node kind patterns members order from u inside ((range.begins from inside).0 (omega arith, some))
@@ -65,9 +71,11 @@ module _ (kind : MatchKind) (patterns : List (List ℕ)) (members : List Keyed) 
       let w = grown.waits k.0 q.0 q.1 in
       let node = range-node (word members q.0) q.0.from q.0.to w.range (w.some (omega arith)) in
       let some : word members q.0 ≢ [] =
-      (λ e. let l = word-length kind patterns members queue (4 + k.0) q.0 w in let m = ap length e in let d = w.inner (omega arith) in absurd (omega arith)) in
+      (λ e. let l = word-length kind patterns members queue (4 + k.0) q.0 w in let m = ap length e in
+      let d = w.inner (omega arith) in absurd (omega arith)) in
       subst (λ (v : List ℕ). IsIn v (inner_nodes kind patterns)) q.2
-      (IsIn-from_Contains (word members q.0) (inner_nodes kind patterns) (inner_nodes-has kind patterns (word members q.0) node some))
+      (IsIn-from_Contains (word members q.0) (inner_nodes kind patterns)
+      (inner_nodes-has kind patterns (word members q.0) node some))
 
   -- with a further string the queue would have more states than there are numbers
   pub too-many : (u : List ℕ) (b from to : ℕ) → IsRangeOf members (u ++ b ∷ []) from to → from < to
@@ -75,16 +83,27 @@ module _ (kind : MatchKind) (patterns : List (List ℕ)) (members : List Keyed) 
       → length queue + 4 ≡ GREATEST + 1 → GREATEST + 1 < state_count kind patterns
   too-many u b from to range some fresh full =
       let node = range-node (u ++ b ∷ []) from to range some in
-      let longer : u ++ b ∷ [] ≢ [] = (λ e. let l = length_push u b in let m = ap length e in absurd (omega arith)) in
-      let here = IsIn-from_Contains (u ++ b ∷ []) (inner_nodes kind patterns) (inner_nodes-has kind patterns (u ++ b ∷ []) node longer) in
-      let count = length-le-from_IsOrdered ((u ++ b ∷ []) ∷ words) (inner_nodes kind patterns)
-      ((λ w h same. let k = place-of w words h in let q = word-at k.0 w k.1 in fresh k.0 q.0 q.1 (q.2 ∙ sym same)), words-apart)
-      (λ w h. elim h [ inl e ↦ subst (λ (v : List ℕ). IsIn v (inner_nodes kind patterns)) e here | inr later ↦ word-inner w later ]) in
+      let longer : u ++ b ∷ [] ≢ [] =
+      (λ e. let l = length_push u b in let m = ap length e in absurd (omega arith)) in
+      let here =
+      IsIn-from_Contains (u ++ b ∷ []) (inner_nodes kind patterns)
+      (inner_nodes-has kind patterns (u ++ b ∷ []) node longer) in
+      let count = length-le-from_IsOrdered ((u ++ b ∷ []) ∷ words) (inner_nodes kind patterns) (
+        (λ w h same. let k = place-of w words h in let q = word-at k.0 w k.1 in
+            fresh k.0 q.0 q.1 (q.2 ∙ sym same)),
+        words-apart,
+      )
+      (λ w h. elim h [
+        | inl e ↦ subst (λ (v : List ℕ). IsIn v (inner_nodes kind patterns)) e here
+        | inr later ↦ word-inner w later
+      ]) in
       let l = length-map queue (word members) in
       omega arith
 
-  module _ (fold : Bool) (settled : (place depth b : ℕ) → byte_at members depth place ≡ Some b → plain_byte fold b ≡ b)
-      (states : List State) (meant : AreStates (grown_meaning kind fold patterns members transitions queue) states)
+  module _ (fold : Bool)
+      (settled : (place depth b : ℕ) → byte_at members depth place ≡ Some b → plain_byte fold b ≡ b)
+      (states : List State)
+      (meant : AreStates (grown_meaning kind fold patterns members transitions queue) states)
       (all : length states ≡ 4 + length queue) where
     -- where the state of a string stands, and the byte that makes a longer node of it
     module _ (w : List ℕ) (b s : ℕ) (at : slice_get (nodes_of members queue) s ≡ Some (Some w))
@@ -97,25 +116,32 @@ module _ (kind : MatchKind) (patterns : List (List ℕ)) (members : List Keyed) 
       held : step kind patterns Yes (Some w) (plain_byte fold b) ≡ Some (w ++ b ∷ [])
       held = ap (step kind patterns Yes (Some w)) settled-byte ∙ held-is kind patterns w b longer
 
-      represented : Represents (grown_meaning kind fold patterns members transitions queue) s (Some w) (state_at states s)
+      represented : Represents (grown_meaning kind fold patterns members transitions queue) s (Some w)
+          (state_at states s)
       represented =
           let count = length-map queue (λ (q : Pending). Some (word members q)) in
           let named = slice_get_within (nodes_of members queue) s (Some w) at in
           meant.each s (Some w) (omega arith) at
 
       -- a transition by the byte leads to the state of the longer string
-      leads-on : (t : Transition) (k : ℕ) → slice_get (transitions_of transitions (state_at states s)) k ≡ Some t → t.byte ≡ b
+      leads-on : (t : Transition) (k : ℕ)
+          → slice_get (transitions_of transitions (state_at states s)) k ≡ Some t → t.byte ≡ b
           → slice_get (nodes_of members queue) t.target ≡ Some (Some (w ++ b ∷ []))
       leads-on t k e is =
           represented.leads k t e
-          ∙ ap (λ (v : Node). Some v) (ap (λ (x : ℕ). step kind patterns Yes (Some w) (plain_byte fold x)) is ∙ held)
+          ∙ ap (λ (v : Node). Some v)
+          (ap (λ (x : ℕ). step kind patterns Yes (Some w) (plain_byte fold x)) is ∙ held)
 
       -- and there is one
       onward : (next : ℕ) × (slice_get (nodes_of members queue) next ≡ Some (Some (w ++ b ∷ [])))
       onward =
           let own = transitions_of transitions (state_at states s) in
-          let some : step kind patterns Yes (Some w) (plain_byte fold b) ≢ None = λ none. let e = sym held ∙ none in absurd (cc) in
-          let t = IsIn-from_map (λ (x : Transition). x.byte) b own (IsIn-from_Contains b (bytes_of own) ((represented.branches b).1 some)) in
+          let some : step kind patterns Yes (Some w) (plain_byte fold b) ≢ None =
+          λ none. let e = sym held ∙ none in
+          absurd (cc) in
+          let t =
+          IsIn-from_map (λ (x : Transition). x.byte) b own
+          (IsIn-from_Contains b (bytes_of own) ((represented.branches b).1 some)) in
           let k = place-of t.0 own t.1 in
           (t.0.target, leads-on t.0 k.0 k.1 t.2)
 
@@ -127,8 +153,10 @@ module _ (kind : MatchKind) (patterns : List (List ℕ)) (members : List Keyed) 
     reaches (suc n) [] l node = absurd (omega arith)
     reaches (suc n) (x ∷ u) l node =
         let last = last-byte x u in
-        let longer : is_node kind patterns (last.0 ++ last.1 ∷ []) ≡ true = subst (λ (v : List ℕ). is_node kind patterns v ≡ true) last.2 node in
-        let len : length last.0 ≡ n = (let m = length_push last.0 last.1 in let o = ap length last.2 in omega arith) in
+        let longer : is_node kind patterns (last.0 ++ last.1 ∷ []) ≡ true =
+        subst (λ (v : List ℕ). is_node kind patterns v ≡ true) last.2 node in
+        let len : length last.0 ≡ n =
+        (let m = length_push last.0 last.1 in let o = ap length last.2 in omega arith) in
         let s = reaches n last.0 len (is_node-front kind patterns last.0 last.1 longer) in
         let next = onward last.0 last.1 s.0 s.1 longer in
         (next.0, next.1 ∙ ap (λ (v : List ℕ). Some (Some v)) (sym last.2))
@@ -141,9 +169,12 @@ module _ (kind : MatchKind) (patterns : List (List ℕ)) (members : List Keyed) 
           | inl dead ↦ absurd (let e = dead.1 in cc)
           | inr (inl start) ↦ absurd (only.1 (let e : Some u ≡ Some [] = start.2 in let f : u ≡ [] = cc in f))
           | inr (inr inner) ↦
-              let e : u ≡ word members inner.pending = (let f : Some u ≡ Some (word members inner.pending) = inner.node in let g : u ≡ word members inner.pending = cc in g) in
+              let e : u ≡ word members inner.pending =
+              (let f : Some u ≡ Some (word members inner.pending) = inner.node in
+              let g : u ≡ word members inner.pending = cc in g) in
               IsIn-place u words inner.place
-              (slice_get-map (word members) queue inner.place ∙ ap (option_map (word members)) inner.waits ∙ ap (λ (v : List ℕ). Some v) (sym e))
+              (slice_get-map (word members) queue inner.place ∙ ap (option_map (word members)) inner.waits
+              ∙ ap (λ (v : List ℕ). Some v) (sym e))
         ]
 
     -- a whole trie has as many states as there are
@@ -152,18 +183,21 @@ module _ (kind : MatchKind) (patterns : List (List ℕ)) (members : List Keyed) 
         let l = length-map queue (word members) in
         let few = length-le-from_IsOrdered words (inner_nodes kind patterns) words-apart word-inner in
         let many = length-le-from_IsOrdered (inner_nodes kind patterns) words
-        (IsOrdered-from_AllPairs (λ u w. u ≢ w) (inner_nodes kind patterns) (inner_nodes-apart kind patterns)) inner-word in
+        (IsOrdered-from_AllPairs (λ u w. u ≢ w) (inner_nodes kind patterns) (inner_nodes-apart kind patterns))
+        inner-word in
         omega arith
 
 -- a child for which there is no number is one node too many
 module _ (site : Site) (place end b : ℕ) (transitions : List Transition) (queue : List Pending)
     (h : IsBranching site place transitions queue) (run : IsRun site place end b)
-    (fail : ℕ) (fails : slice_get (nodes_of site.members queue) fail ≡ Some (miss site.kind site.patterns (Some (string site ++ b ∷ [])))) where
+    (fail : ℕ) (fails : slice_get (nodes_of site.members queue) fail
+    ≡ Some (miss site.kind site.patterns (Some (string site ++ b ∷ [])))) where
   pub refused : (e : BuildError) → IsNotPushed queue e → IsRefused site.kind site.patterns e
   refused e (inl memory) = inl memory
   refused e (inr full) = inr (
     full.0,
-    too-many site.kind site.patterns site.members site.ready.order (length site.states + 1) transitions queue h.grown (string site) b place end
+    too-many site.kind site.patterns site.members site.ready.order
+        (length site.states + 1) transitions queue h.grown (string site) b place end
         (child-members site place end b transitions queue h run) run.some
         (fresh site place end b transitions queue h run fail fails) full.1,
   )

@@ -1,5 +1,5 @@
--- How a step and the looks that it takes follow from what a state knows: the bytes that lead on, and where a search goes on by
--- any other byte.
+-- How a step and the looks that it takes follow from what a state knows: the bytes that lead on, and where a
+-- search goes on by any other byte.
 use Rattle.std.proofs.Common.{◌≡◌, ◌≢◌, ℕ, zero, suc, ◌+◌, ◌≤◌, ◌<◌, Bool, true, false, cond, List, [], ◌∷◌, ◌++◌, length, refl, ap, sym, ◌∙◌, arith, Some, None}
 use Rattle.std.proofs.lemmas.Bool.{cond-false, cond-true}
 use Rattle.ac_util.specs.declared.search.MatchKind.{MatchKind}
@@ -28,10 +28,12 @@ module _ (kind : MatchKind) (patterns : List (List ℕ)) where
 
   -- a step from the start
   from_start : (b : ℕ) → stepped (Some []) b
-      ≡ cond (is_node kind patterns (b ∷ [])) (Some (b ∷ [])) (cond (stops kind patterns (b ∷ [])) None (Some []))
+      ≡ cond (is_node kind patterns (b ∷ [])) (Some (b ∷ []))
+      (cond (stops kind patterns (b ∷ [])) None (Some []))
   from_start b =
       step-all kind patterns [] b ∙ reached-cons kind patterns b []
-      ∙ ap (λ (v : Node). cond (is_node kind patterns (b ∷ [])) (Some (b ∷ [])) (cond (stops kind patterns (b ∷ [])) None v))
+      ∙ ap (λ (v : Node). cond (is_node kind patterns (b ∷ [])) (Some (b ∷ []))
+      (cond (stops kind patterns (b ∷ [])) None v))
       (reached-nil kind patterns No)
 
   -- where a byte leads on in an anchored search it leads there in any search
@@ -40,7 +42,8 @@ module _ (kind : MatchKind) (patterns : List (List ℕ)) where
   step-held (Some []) b on =
       let own = leads (b ∷ []) (is_node kind patterns (b ∷ [])) on in
       from_start b
-      ∙ cond-true (is_node kind patterns (b ∷ [])) (Some (b ∷ [])) (cond (stops kind patterns (b ∷ [])) None (Some [])) own
+      ∙ cond-true (is_node kind patterns (b ∷ [])) (Some (b ∷ []))
+      (cond (stops kind patterns (b ∷ [])) None (Some [])) own
       ∙ sym (cond-true (is_node kind patterns (b ∷ [])) (Some (b ∷ [])) None own)
   step-held (Some (x ∷ u)) b on =
       let own = leads (x ∷ u ++ b ∷ []) (is_node kind patterns (x ∷ u ++ b ∷ [])) on in
@@ -53,12 +56,14 @@ module _ (kind : MatchKind) (patterns : List (List ℕ)) where
   step-miss (Some []) b off short =
       let none = stays (b ∷ []) (is_node kind patterns (b ∷ [])) off in
       from_start b
-      ∙ cond-false (is_node kind patterns (b ∷ [])) (Some (b ∷ [])) (cond (stops kind patterns (b ∷ [])) None (Some [])) none
+      ∙ cond-false (is_node kind patterns (b ∷ [])) (Some (b ∷ []))
+      (cond (stops kind patterns (b ∷ [])) None (Some [])) none
       ∙ ap (λ (t : Bool). cond t None (Some [])) (sym (stops-same kind patterns [] b none))
   step-miss (Some (x ∷ u)) b off short = absurd (omega arith)
 
   -- and a longer node steps as its failure target does
-  pub step-on : (v : Node) (b : ℕ) → held v b ≡ None → 0 < depth v → stepped v b ≡ stepped (miss kind patterns v) b
+  pub step-on : (v : Node) (b : ℕ) → held v b ≡ None → 0 < depth v
+      → stepped v b ≡ stepped (miss kind patterns v) b
   step-on None b off long = refl
   step-on (Some []) b off long = absurd (omega arith)
   step-on (Some (x ∷ u)) b off long =
@@ -79,7 +84,10 @@ module _ (kind : MatchKind) (patterns : List (List ℕ)) where
   -- the looks from a longer node, by whether the byte leads on
   counted : (x : ℕ) (u : List ℕ) (b : ℕ) (t : Bool) → is_node kind patterns (x ∷ u ++ b ∷ []) ≡ t
       → looks kind patterns No (Some (x ∷ u)) b
-      ≡ elim t [ true ↦ 1 | false ↦ suc (looks_within kind patterns (length u) (failure kind patterns (x ∷ u)) b) ]
+      ≡ elim t [
+        | true ↦ 1
+        | false ↦ suc (looks_within kind patterns (length u) (failure kind patterns (x ∷ u)) b)
+      ]
   counted x u b t is =
       let behind = looks_within kind patterns (length u) (failure kind patterns (x ∷ u)) b in
       ap (λ (w : Bool). elim w [ true ↦ 1 | false ↦ suc behind ]) is

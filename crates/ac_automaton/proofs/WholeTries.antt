@@ -51,26 +51,31 @@ plain-twice : (fold : Bool) (b : ℕ) → plain_byte fold (plain_byte fold b) �
 plain-twice false b = refl
 plain-twice true b = grind (arith, nat_tests)
 
-plain-byte : (fold : Bool) (text : List ℕ) (k b : ℕ) → slice_get (plain fold text) k ≡ Some b → plain_byte fold b ≡ b
+plain-byte : (fold : Bool) (text : List ℕ) (k b : ℕ) → slice_get (plain fold text) k ≡ Some b
+    → plain_byte fold b ≡ b
 plain-byte fold [] k b e = absurd (cc)
-plain-byte fold (x ∷ text) zero b e = let is : plain_byte fold x ≡ b = cc in ap (plain_byte fold) (sym is) ∙ plain-twice fold x ∙ is
+plain-byte fold (x ∷ text) zero b e =
+    let is : plain_byte fold x ≡ b = cc in ap (plain_byte fold) (sym is) ∙ plain-twice fold x ∙ is
 plain-byte fold (x ∷ text) (suc k) b e = plain-byte fold text k b e
 
-plain-pattern : (fold : Bool) (texts : List (List ℕ)) (n k b : ℕ) → slice_get (pattern_of (map (plain fold) texts) n) k ≡ Some b
+plain-pattern : (fold : Bool) (texts : List (List ℕ)) (n k b : ℕ)
+    → slice_get (pattern_of (map (plain fold) texts) n) k ≡ Some b
     → plain_byte fold b ≡ b
 plain-pattern fold [] n k b e = absurd (cc)
 plain-pattern fold (t ∷ texts) zero k b e = plain-byte fold t k b e
 plain-pattern fold (t ∷ texts) (suc n) k b e = plain-pattern fold texts n k b e
 
 -- the bytes of members that are plain patterns are plain
-pub members-plain : (kind : MatchKind) (fold : Bool) (texts : List (List ℕ)) (members : List Keyed) → IsOrder kind (map (plain fold) texts) members
+pub members-plain : (kind : MatchKind) (fold : Bool) (texts : List (List ℕ)) (members : List Keyed)
+    → IsOrder kind (map (plain fold) texts) members
     → (place depth b : ℕ) → byte_at members depth place ≡ Some b → plain_byte fold b ≡ b
 members-plain kind fold texts members order place depth b e =
     let none : Keyed = record { key = []; number = 0 } in
     elim (cases_lt place (length members)) [
       | inl l ↦
           let is = order.named place none l in
-          plain-pattern fold texts (get_or members place none).number depth b (sym (ap (λ (w : List ℕ). slice_get w depth) is) ∙ e)
+          plain-pattern fold texts (get_or members place none).number depth b
+          (sym (ap (λ (w : List ℕ). slice_get w depth) is) ∙ e)
       | inr past ↦
           let is = get_or_past members place none past in
           absurd (let f : None ≡ Some b = sym (ap (λ (m : Keyed). slice_get m.key depth) is) ∙ e in cc)
@@ -81,7 +86,8 @@ module _ (kind : MatchKind) (fold : Bool) (patterns : List (List ℕ)) (members 
   abbrev pub first_states : List State
   first_states = dead_state ∷ dead_state ∷ []
 
-  dead-represents : (s : ℕ) → s < 2 → Represents (grown_meaning kind fold patterns members [] []) s None dead_state
+  dead-represents : (s : ℕ) → s < 2
+      → Represents (grown_meaning kind fold patterns members [] []) s None dead_state
   dead-represents s l = record {
     ordered = omega arith;
     listed = omega arith;
@@ -93,7 +99,14 @@ module _ (kind : MatchKind) (fold : Bool) (patterns : List (List ℕ)) (members 
     owned = omega arith;
     within = omega arith;
     own = refl;
-    links = record { linked = None; leads = refl; back = omega arith; finds = refl; useful = λ apart. absurd (apart refl) };
+    links = record {
+      linked = None;
+      leads = refl;
+      back = omega arith;
+      finds = refl;
+      useful = λ apart. absurd
+          (apart refl);
+    };
     long = refl;
     outer = λ h. refl;
     inner = λ h. absurd (omega arith);
@@ -106,14 +119,20 @@ module _ (kind : MatchKind) (fold : Bool) (patterns : List (List ℕ)) (members 
     each = λ s v l e. each s v l e;
   }
     where
-      each : (s : ℕ) (v : Node) → s < 2 → slice_get (nodes_of members []) s ≡ Some v → Represents (grown_meaning kind fold patterns members [] []) s v (state_at first_states s)
-      each zero v l e = subst (λ (w : Node). Represents (grown_meaning kind fold patterns members [] []) 0 w dead_state) (let same : None ≡ v = cc in same) (dead-represents 0 l)
-      each (suc zero) v l e = subst (λ (w : Node). Represents (grown_meaning kind fold patterns members [] []) 1 w dead_state) (let same : None ≡ v = cc in same) (dead-represents 1 l)
+      each : (s : ℕ) (v : Node) → s < 2 → slice_get (nodes_of members []) s ≡ Some v
+          → Represents (grown_meaning kind fold patterns members [] []) s v (state_at first_states s)
+      each zero v l e =
+          subst (λ (w : Node). Represents (grown_meaning kind fold patterns members [] []) 0 w dead_state)
+          (let same : None ≡ v = cc in same) (dead-represents 0 l)
+      each (suc zero) v l e =
+          subst (λ (w : Node). Represents (grown_meaning kind fold patterns members [] []) 1 w dead_state)
+          (let same : None ≡ v = cc in same) (dead-represents 1 l)
       each (suc (suc s)) v l e = absurd (omega arith)
 
   -- the start is next
   pub start-ready : (p : Pending) → IsOrder kind patterns members
-      → ((place depth b : ℕ) → byte_at members depth place ≡ Some b → plain_byte fold b ≡ b) → Waits kind patterns members [] 2 p → p.depth ≡ 0
+      → ((place depth b : ℕ) → byte_at members depth place ≡ Some b → plain_byte fold b ≡ b)
+      → Waits kind patterns members [] 2 p → p.depth ≡ 0
       → IsReady kind fold patterns members first_states [] [] p
   start-ready p order settled waits depth = record {
     order = order;
@@ -131,7 +150,8 @@ module _ (kind : MatchKind) (fold : Bool) (patterns : List (List ℕ)) (members 
   }
 
   -- the states up to those of the queue before `at` are whole
-  pub record IsGoing (states : List State) (transitions : List Transition) (queue : List Pending) (at : ℕ) : Type 0 where
+  pub record IsGoing (states : List State) (transitions : List Transition) (queue : List Pending)
+      (at : ℕ) : Type 0 where
     pub order : IsOrder kind patterns members
     pub settled : (place depth b : ℕ) → byte_at members depth place ≡ Some b → plain_byte fold b ≡ b
     pub grown : IsGrown kind patterns members (length states) transitions queue
@@ -139,7 +159,8 @@ module _ (kind : MatchKind) (fold : Bool) (patterns : List (List ℕ)) (members 
     pub count : length states ≡ 4 + at
     pub within : at ≤ length queue
 
-  later-grown : (m n : ℕ) (transitions : List Transition) (queue : List Pending) → m ≤ n → IsGrown kind patterns members m transitions queue → IsGrown kind patterns members n transitions queue
+  later-grown : (m n : ℕ) (transitions : List Transition) (queue : List Pending) → m ≤ n
+      → IsGrown kind patterns members m transitions queue → IsGrown kind patterns members n transitions queue
   later-grown m n transitions queue l grown = record {
     few = grown.few;
     counted = grown.counted;
@@ -149,14 +170,18 @@ module _ (kind : MatchKind) (fold : Bool) (patterns : List (List ℕ)) (members 
   }
 
   -- with the start at both its numbers the first four are whole
-  pub start-going : (p : Pending) (t : State) (transitions : List Transition) (queue : List Pending) → IsOrder kind patterns members
+  pub start-going : (p : Pending) (t : State) (transitions : List Transition) (queue : List Pending)
+      → IsOrder kind patterns members
       → ((place depth b : ℕ) → byte_at members depth place ≡ Some b → plain_byte fold b ≡ b) → p.depth ≡ 0
-      → HasBranched kind fold patterns members first_states [] p t transitions queue → IsGoing ((first_states ++ t ∷ []) ++ t ∷ []) transitions queue 0
+      → HasBranched kind fold patterns members first_states [] p t transitions queue
+      → IsGoing ((first_states ++ t ∷ []) ++ t ∷ []) transitions queue 0
   start-going p t transitions queue order settled depth h = record {
     order = order;
     settled = settled;
     grown = later-grown 3 4 transitions queue (omega arith) h.grown;
-    meant = AreStates-push (grown_meaning kind fold patterns members transitions queue) (first_states ++ t ∷ []) (Some []) t once refl
+    meant =
+        AreStates-push (grown_meaning kind fold patterns members transitions queue) (first_states ++ t ∷ [])
+        (Some []) t once refl
         (Represents-beside (grown_meaning kind fold patterns members transitions queue) (Some []) t start);
     count = refl;
     within = omega arith;
@@ -164,14 +189,18 @@ module _ (kind : MatchKind) (fold : Bool) (patterns : List (List ℕ)) (members 
     where
       start : Represents (grown_meaning kind fold patterns members transitions queue) 2 (Some []) t
       start =
-          subst (λ (v : List ℕ). Represents (grown_meaning kind fold patterns members transitions queue) 2 (Some v) t)
+          subst (λ (v : List ℕ). Represents (grown_meaning kind fold patterns members transitions queue) 2
+          (Some v) t)
           (ap (λ (n : ℕ). take n (key_at members p.from)) depth) h.represents
 
       once : AreStates (grown_meaning kind fold patterns members transitions queue) (first_states ++ t ∷ [])
-      once = AreStates-push (grown_meaning kind fold patterns members transitions queue) first_states (Some []) t h.meant refl start
+      once =
+          AreStates-push (grown_meaning kind fold patterns members transitions queue) first_states
+          (Some []) t h.meant refl start
 
   -- the first in the queue that isn't whole is next
-  pub going-ready : (states : List State) (transitions : List Transition) (queue : List Pending) (at : ℕ) (p : Pending) → IsGoing states transitions queue at
+  pub going-ready : (states : List State) (transitions : List Transition) (queue : List Pending) (at : ℕ)
+      (p : Pending) → IsGoing states transitions queue at
       → slice_get queue at ≡ Some p → IsReady kind fold patterns members states transitions queue p
   going-ready states transitions queue at p h e = record {
     order = h.order;
@@ -182,29 +211,38 @@ module _ (kind : MatchKind) (fold : Bool) (patterns : List (List ℕ)) (members 
     next = inr (at, h.count, e);
   }
 
-  pub going-on : (states : List State) (transitions : List Transition) (queue : List Pending) (at : ℕ) (p : Pending) (t : State)
-      (new_transitions : List Transition) (new_queue : List Pending) → IsGoing states transitions queue at → slice_get queue at ≡ Some p
-      → HasBranched kind fold patterns members states queue p t new_transitions new_queue → IsGoing (states ++ t ∷ []) new_transitions new_queue (at + 1)
+  pub going-on : (states : List State) (transitions : List Transition) (queue : List Pending) (at : ℕ)
+      (p : Pending) (t : State)
+      (new_transitions : List Transition) (new_queue : List Pending) → IsGoing states transitions queue at
+      → slice_get queue at ≡ Some p
+      → HasBranched kind fold patterns members states queue p t new_transitions new_queue
+      → IsGoing (states ++ t ∷ []) new_transitions new_queue (at + 1)
   going-on states transitions queue at p t new_transitions new_queue h e b = record {
     order = h.order;
     settled = h.settled;
-    grown = subst (λ (n : ℕ). IsGrown kind patterns members n new_transitions new_queue) (let l = length_push states t in omega arith) b.grown;
-    meant = AreStates-push (grown_meaning kind fold patterns members new_transitions new_queue) states (Some (word members p)) t b.meant node b.represents;
+    grown = subst (λ (n : ℕ). IsGrown kind patterns members n new_transitions new_queue)
+        (let l = length_push states t in omega arith) b.grown;
+    meant = AreStates-push (grown_meaning kind fold patterns members new_transitions new_queue) states
+        (Some (word members p)) t b.meant node b.represents;
     count = (let l = length_push states t in let m = h.count in omega arith);
     within = (let l = slice_get_within new_queue at p (b.kept at p e) in omega arith);
   }
     where
       node : slice_get (nodes_of members new_queue) (length states) ≡ Some (Some (word members p))
-      node = ap (slice_get (nodes_of members new_queue)) h.count ∙ nodes-inner members new_queue at p (b.kept at p e)
+      node =
+          ap (slice_get (nodes_of members new_queue)) h.count
+          ∙ nodes-inner members new_queue at p (b.kept at p e)
 
 -- where the whole queue is, the states are those of an automaton
 module _ (texts : List (List ℕ)) (fold : Bool) (kind : MatchKind) (members : List Keyed)
     (states : List State) (transitions : List Transition) (queue : List Pending) (at : ℕ)
-    (h : IsGoing kind fold (map (plain fold) texts) members states transitions queue at) (all : length queue ≤ at) where
+    (h : IsGoing kind fold (map (plain fold) texts) members states transitions queue at)
+    (all : length queue ≤ at) where
   counted : length states ≡ 4 + length queue
   counted = let l = h.count in let m = h.within in omega arith
 
-  pub whole-table : IsTable (trie_of texts fold kind (numbers members) transitions states) (nodes_of members queue)
+  pub whole-table : IsTable (trie_of texts fold kind (numbers members) transitions states)
+      (nodes_of members queue)
   whole-table =
       let named = length-map queue (λ (q : Pending). Some (word members q)) in
       record {
@@ -215,10 +253,12 @@ module _ (texts : List (List ℕ)) (fold : Bool) (kind : MatchKind) (members : L
         start = refl;
         anchored_start = refl;
         lists = λ s v e.
-            listed_within-matches (grown_meaning kind fold (map (plain fold) texts) members transitions queue) states s s v
+            listed_within-matches
+            (grown_meaning kind fold (map (plain fold) texts) members transitions queue) states s s v
             (record {
               meant = h.meant;
-              there = (let l = slice_get_within (nodes_of members queue) s v e in let c = counted in omega arith);
+              there =
+                  (let l = slice_get_within (nodes_of members queue) s v e in let c = counted in omega arith);
               named = e;
             })
             (omega arith);
@@ -227,7 +267,8 @@ module _ (texts : List (List ℕ)) (fold : Bool) (kind : MatchKind) (members : L
   -- and there are as many as nodes
   pub whole-count : state_count kind (map (plain fold) texts) ≤ GREATEST + 1
   whole-count =
-      let c = state-count kind (map (plain fold) texts) members h.order (length states) transitions queue h.grown
+      let c =
+      state-count kind (map (plain fold) texts) members h.order (length states) transitions queue h.grown
       fold h.settled states h.meant counted in
       let few = h.grown.few in
       let d = counted in

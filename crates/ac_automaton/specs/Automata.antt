@@ -17,7 +17,8 @@ abbrev pub step_of : Built → Anchored → Node → ℕ → Node
 step_of built anchored u byte = step built.kind (plain_of built) anchored u (plain_byte built.fold byte)
 
 abbrev pub looks_of : ℕ → Built → Anchored → Node → ℕ → ℕ
-looks_of most built anchored u byte = looks_by most built.kind (plain_of built) anchored u (plain_byte built.fold byte)
+looks_of most built anchored u byte =
+    looks_by most built.kind (plain_of built) anchored u (plain_byte built.fold byte)
 
 abbrev pub matches_of : Built → Anchored → Node → List ℕ
 matches_of built anchored u = matches built.kind (plain_of built) anchored u
@@ -26,7 +27,8 @@ matches_of built anchored u = matches built.kind (plain_of built) anchored u
 abbrev pub IsState : (ℕ → Node → Type 0) → ℕ → Type 0
 IsState stands s = (u : Node) × stands s u
 
--- the list has the matches that count in an anchored search in front, and is itself a front of all matches of the node
+-- the list has the matches that count in an anchored search in front, and is itself a front of all matches of
+-- the node
 pub record ListsOwn (built : Built) (u : Node) (listed : List ℕ) : Type 0 where
   pub passed_over : List ℕ
   pub own : listed ≡ matches_of built Yes u ++ passed_over

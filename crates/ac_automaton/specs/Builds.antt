@@ -38,8 +38,8 @@ pub record IsBuilt (settings : Settings) (patterns : List (List ℕ)) (built : B
   pub value : built ≡ built_by settings patterns
   pub allowed : IsAllowed settings patterns
 
--- why a trie of these plain patterns, which are within the limits, is refused: for want of memory, or as there are too many
--- nodes
+-- why a trie of these plain patterns, which are within the limits, is refused: for want of memory, or as there
+-- are too many nodes
 abbrev pub IsRefused : MatchKind → List (List ℕ) → BuildError → Type 0
 IsRefused kind patterns e =
     (e ≡ Memory) ⊎ ((e ≡ StateIdOverflow GREATEST (GREATEST + 1)) × (GREATEST + 1 < state_count kind patterns))

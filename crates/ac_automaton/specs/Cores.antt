@@ -24,8 +24,8 @@ asked_of bytes start end anchored earliest = record {
   earliest = earliest;
 }
 
--- how many looks a search may take for each byte read, where an unanchored one may take `most`: an anchored one follows no
--- failed transition, so it looks once
+-- how many looks a search may take for each byte read, where an unanchored one may take `most`: an anchored one
+-- follows no failed transition, so it looks once
 abbrev pub most_looks : Anchored → ℕ → ℕ
 most_looks No most = most
 most_looks Yes most = 1
@@ -40,16 +40,17 @@ pub record Grows (counts new_counts : Counts) : Type 0 where
 pub record Tells (counts new_counts : Counts) (m : Occurrence) : Type 0 where
   pub reads : counts.reads + (m.end - m.start) ≤ new_counts.reads
 
--- what a walk that picks by this order keeps of its counts as it goes on: under Standard all of them; else none, since a
--- leftmost search may have read on past its match
+-- what a walk that picks by this order keeps of its counts as it goes on: under Standard all of them; else
+-- none, since a leftmost search may have read on past its match
 abbrev pub kept : MatchKind → Counts → Counts
 kept Standard counts = counts
 kept LeftmostFirst counts = no_counts
 kept LeftmostLongest counts = no_counts
 
--- a search of start..end has read on from the start, each byte once and none past the end, and has counted that it did: each
--- byte that it passed over, unless it called the prefilter; it has looked at states at least once and at most `most` times for
--- each byte read, and has called the prefilter at most once for each byte of the span
+-- a search of start..end has read on from the start, each byte once and none past the end, and has counted that
+-- it did: each byte that it passed over, unless it called the prefilter; it has looked at states at least once
+-- and at most `most` times for each byte read, and has called the prefilter at most once for each byte of the
+-- span
 pub record Reads (most start end : ℕ) (tape new_tape : Taped) (counts new_counts : Counts) : Type 0 where
   pub bytes : new_tape.bytes ≡ tape.bytes
   pub onward : tape.place ≤ new_tape.place
@@ -62,7 +63,8 @@ pub record Reads (most start end : ℕ) (tape new_tape : Taped) (counts new_coun
   pub calls : new_counts.calls ≤ counts.calls + (end - start)
 
 -- nothing past the end of the match was read, and the prefilter was called at most once for each byte up to it
-pub record ReadsTo (m : Occurrence) (start : ℕ) (tape new_tape : Taped) (counts new_counts : Counts) : Type 0 where
+pub record ReadsTo (m : Occurrence) (start : ℕ) (tape new_tape : Taped)
+    (counts new_counts : Counts) : Type 0 where
   pub place : new_tape.place ≤ max tape.place m.end
   pub calls : new_counts.calls ≤ counts.calls + (m.end - start)
 
@@ -73,11 +75,13 @@ StopsAtMatch kind earliest start r tape new_tape counts new_counts =
 
 -- the node that an automaton reaches by what it is asked to search, read up to a place
 abbrev pub node_at : Built → Asked → ℕ → Node
-node_at built asked at = reached built.kind (plain_of built) asked.anchored (text (record (search_in built asked) { high = at }))
+node_at built asked at =
+    reached built.kind (plain_of built) asked.anchored (text (record (search_in built asked) { high = at }))
 
 -- no byte was read from the dead node on: there nothing more is found
 abbrev pub StopsAtDead : Built → Asked → Taped → Type 0
-StopsAtDead built asked new_tape = (at : ℕ) → asked.start ≤ at → at < new_tape.place → node_at built asked at ≢ None
+StopsAtDead built asked new_tape =
+    (at : ℕ) → asked.start ≤ at → at < new_tape.place → node_at built asked at ≢ None
 
 -- where a pattern stands that ends at a place
 abbrev pub place_of : Built → ℕ → ℕ → Occurrence

@@ -29,10 +29,12 @@ nodes_of members queue = None ∷ None ∷ Some [] ∷ Some [] ∷ map (λ p. So
 abbrev pub leading : Bool → ℕ → ℕ → List Transition
 leading fold byte target =
     record { byte = byte; target = target }
-    ∷ (if fold && is_ascii_lowercase byte then record { byte = to_ascii_uppercase byte; target = target } ∷ [] else [])
+    ∷ (if fold && is_ascii_lowercase byte then record { byte = to_ascii_uppercase byte; target = target } ∷ []
+    else [])
 
 -- a waiting state has been put behind the queue, and the transitions to it by a plain byte behind the others
-pub record HasPushed (fold : Bool) (byte : ℕ) (p : Pending) (transitions : List Transition) (queue : List Pending)
+pub record HasPushed (fold : Bool) (byte : ℕ) (p : Pending) (transitions : List Transition)
+    (queue : List Pending)
     (new_transitions : List Transition) (new_queue : List Pending) : Type 0 where
   pub leads : new_transitions ≡ transitions ++ leading fold byte (4 + length queue)
   pub waits : new_queue ≡ queue ++ p ∷ []
@@ -82,7 +84,8 @@ module _ (kind : MatchKind) (patterns : List (List ℕ)) (members : List Keyed) 
     pub apart : (j k : ℕ) (p q : Pending) → slice_get queue j ≡ Some p → slice_get queue k ≡ Some q
         → word members p ≡ word members q → j ≡ k
     pub parents : (k : ℕ) (q : Pending) → slice_get queue k ≡ Some q
-        → (j : ℕ) × (j < whole) × (slice_get (nodes_of members queue) j ≡ Some (Some (take (q.depth - 1) (word members q))))
+        → (j : ℕ) × (j < whole)
+        × (slice_get (nodes_of members queue) j ≡ Some (Some (take (q.depth - 1) (word members q))))
 
   -- the next state is the start, or the first in the queue that isn't whole
   abbrev pub IsNext : List Pending → ℕ → Pending → Type 0
@@ -102,7 +105,8 @@ module _ (kind : MatchKind) (fold : Bool) (patterns : List (List ℕ)) (members 
   }
 
   -- the states are whole up to one that is next
-  pub record IsReady (states : List State) (transitions : List Transition) (queue : List Pending) (p : Pending) : Type 0 where
+  pub record IsReady (states : List State) (transitions : List Transition) (queue : List Pending)
+      (p : Pending) : Type 0 where
     pub order : IsOrder kind patterns members
     pub settled : (place depth b : ℕ) → byte_at members depth place ≡ Some b → plain_byte fold b ≡ b
     pub grown : IsGrown kind patterns members (length states) transitions queue
@@ -111,7 +115,8 @@ module _ (kind : MatchKind) (fold : Bool) (patterns : List (List ℕ)) (members 
     pub next : IsNext kind patterns members queue (length states) p
 
   -- a waiting state has a child by the byte: the members from the place on lead to it
-  pub record HasChild (states : List State) (transitions : List Transition) (queue : List Pending) (p : Pending) (place byte : ℕ) : Type 0 where
+  pub record HasChild (states : List State) (transitions : List Transition) (queue : List Pending) (p : Pending)
+      (place byte : ℕ) : Type 0 where
     pub order : IsOrder kind patterns members
     pub settled : plain_byte fold byte ≡ byte
     pub meant : AreStates (grown_meaning transitions queue) states
@@ -122,14 +127,17 @@ module _ (kind : MatchKind) (fold : Bool) (patterns : List (List ℕ)) (members 
     pub some : place < to
 
   -- its children have been put behind the queue, and it is whole
-  pub record HasBranched (states : List State) (queue : List Pending) (p : Pending) (t : State) (new_transitions : List Transition)
+  pub record HasBranched (states : List State) (queue : List Pending) (p : Pending) (t : State)
+      (new_transitions : List Transition)
       (new_queue : List Pending) : Type 0 where
     pub grown : IsGrown kind patterns members (length states + 1) new_transitions new_queue
     pub meant : AreStates (grown_meaning new_transitions new_queue) states
-    pub represents : Represents (grown_meaning new_transitions new_queue) (length states) (Some (word members p)) t
+    pub represents : Represents (grown_meaning new_transitions new_queue) (length states)
+        (Some (word members p)) t
     pub kept : (k : ℕ) (q : Pending) → slice_get queue k ≡ Some q → slice_get new_queue k ≡ Some q
 
--- the fail number stands for the failure target of the node, and is among the states below s, but for the start's
+-- the fail number stands for the failure target of the node, and is among the states below s, but for the
+-- start's
 pub record LinkIsDue (g : Meaning) (s : ℕ) (u : List ℕ) (fail : ℕ) : Type 0 where
   pub fails : slice_get g.nodes fail ≡ Some (miss g.kind g.patterns (Some u))
   pub dead : slice_get g.nodes 0 ≡ Some None
@@ -137,7 +145,8 @@ pub record LinkIsDue (g : Meaning) (s : ℕ) (u : List ℕ) (fail : ℕ) : Type 
   pub start : u ≡ [] → fail < s → (fail < 2) × (slice_get g.nodes fail ≡ Some None)
 
 -- the transitions and states are those of an automaton, which has no more states than there are numbers
-pub record IsWhole (texts : List (List ℕ)) (fold : Bool) (kind : MatchKind) (order : List ℕ) (transitions : List Transition) (states : List State) : Type 0 where
+pub record IsWhole (texts : List (List ℕ)) (fold : Bool) (kind : MatchKind) (order : List ℕ)
+    (transitions : List Transition) (states : List State) : Type 0 where
   pub nodes : List Node
   pub table : IsTable (trie_of texts fold kind order transitions states) nodes
   pub few : state_count kind (map (plain fold) texts) ≤ GREATEST + 1

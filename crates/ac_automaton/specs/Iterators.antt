@@ -12,8 +12,8 @@ use Rattle.ac_util.specs.Pick.{order_of}
 use Rattle.ac_util.specs.Refusal.{start_refusal}
 use Rattle.ac_automaton.specs.Cores.{Grows, kept, most_looks}
 
--- the matches still to come, the order by which they are picked, the anchoring, how many bytes the span had, and what was
--- counted
+-- the matches still to come, the order by which they are picked, the anchoring, how many bytes the span had,
+-- and what was counted
 pub record Walking : Type 0 where
   pub rest : List Occurrence
   pub order : MatchKind
@@ -38,8 +38,9 @@ begun built asked = record {
   counts = no_counts;
 }
 
--- each byte of the span was read at most once, with at least one look for each byte read and at most `most`, or where the walk
--- is anchored with exactly one; and the prefilter was called at most once for each byte of the span
+-- each byte of the span was read at most once, with at least one look for each byte read and at most `most`, or
+-- where the walk is anchored with exactly one; and the prefilter was called at most once for each byte of the
+-- span
 pub record IsPaid (most : ℕ) (walking : Walking) : Type 0 where
   pub reads : walking.counts.reads ≤ walking.span
   pub looked : walking.counts.reads ≤ walking.counts.looks
@@ -53,9 +54,11 @@ pub record GoesOn (walking new_walking : Walking) : Type 0 where
   pub span : new_walking.span ≡ walking.span
   pub counts : Grows (kept walking.order walking.counts) new_walking.counts
 
--- a walk that has gone as far as the start of this input: in what it has counted since `from` each byte was read at most
--- once, and each look and call is paid; where the searches stop at the first match, none of the bytes left was read
-pub record Left (most : ℕ) (built : Built) (asked : Asked) (from : ℕ) (tape : Taped) (counts : Counts) : Type 0 where
+-- a walk that has gone as far as the start of this input: in what it has counted since `from` each byte was
+-- read at most once, and each look and call is paid; where the searches stop at the first match, none of the
+-- bytes left was read
+pub record Left (most : ℕ) (built : Built) (asked : Asked) (from : ℕ) (tape : Taped)
+    (counts : Counts) : Type 0 where
   pub supported : start_refusal built.start_kind asked.anchored ≡ None
   pub bytes : tape.bytes ≡ asked.haystack
   pub unread : order_of built.kind asked.earliest ≡ Standard → tape.place ≤ asked.start

@@ -1,4 +1,5 @@
--- The patterns that take part in ascending order of their bytes, so that those with one front stand side by side.
+-- The patterns that take part in ascending order of their bytes, so that those with one front stand side by
+-- side.
 use Rattle.std.specs.Prelude.{◌≡◌, ◌↔◌, ◌⊎◌, ℕ, ◌<◌, Bool, nat_eq, List, [], Option, map, length, slice_get, slice_index_or, All, AllPairs, Contains}
 use Rattle.std.specs.Cmp.Lexicographic.{slice_cmp}
 use Rattle.std.specs.List.{range_with_len, starts_with}
@@ -33,7 +34,8 @@ byte_at members depth place = slice_get (key_at members place) depth
 -- how two patterns compare: by their plain bytes, and then by number
 abbrev pub compared : Bool → Member → Member → Ordering
 compared fold a b =
-    ordering_then (slice_cmp nat_cmp (plain fold a.bytes.now) (plain fold b.bytes.now)) (nat_cmp a.number b.number)
+    ordering_then (slice_cmp nat_cmp (plain fold a.bytes.now) (plain fold b.bytes.now))
+    (nat_cmp a.number b.number)
 
 -- whether b's plain bytes are a front of a's
 abbrev pub is_front : Bool → Member → Member → Bool

@@ -16,8 +16,8 @@ use Rattle.ac_automaton.specs.declared.nfa.noncontiguous.state.State.{State}
 use Rattle.ac_automaton.specs.declared.nfa.noncontiguous.state.Transition.{Transition}
 use Rattle.ac_automaton.specs.Automata.{plain_of, Lists}
 
--- what an automaton was built from, the patterns that take part in ascending order of their bytes, the transitions of all
--- states, and the states
+-- what an automaton was built from, the patterns that take part in ascending order of their bytes, the
+-- transitions of all states, and the states
 pub record Trie : Type 0 where
   pub built : Built
   pub order : List ℕ
@@ -34,7 +34,8 @@ trie_of patterns fold kind order transitions states = record {
 
 -- a state from which nothing leads on
 abbrev pub dead_state : State
-dead_state = record { transitions = 0; transitions_end = 0; fail = 0; own = 0; own_end = 0; link = 0; depth = 0 }
+dead_state =
+    record { transitions = 0; transitions_end = 0; fail = 0; own = 0; own_end = 0; link = 0; depth = 0 }
 
 -- a state by its number
 abbrev pub state_at : List State → ℕ → State
@@ -64,15 +65,16 @@ listed_within order states zero s = []
 listed_within order states (suc n) s =
     own_of order (state_at states s) ++ listed_within order states n (state_at states s).link
 
--- where an unanchored search goes on from a node by a byte that leads to no longer node: from the start it stays there, unless
--- an empty pattern has begun the match
+-- where an unanchored search goes on from a node by a byte that leads to no longer node: from the start it
+-- stays there, unless an empty pattern has begun the match
 abbrev pub miss : MatchKind → List (List ℕ) → Node → Node
 miss kind patterns None = None
 miss kind patterns (Some []) = if is_leftmost kind && begins_with_pattern patterns [] then None else Some []
 miss kind patterns (Some (x ∷ u)) = failure kind patterns (x ∷ u)
 
--- what the numbers of a trie's states mean: the kind, whether case is ignored, the plain patterns, the list in which each state
--- has its own patterns, the list in which each has its transitions, and the node of each number
+-- what the numbers of a trie's states mean: the kind, whether case is ignored, the plain patterns, the list in
+-- which each state has its own patterns, the list in which each has its transitions, and the node of each
+-- number
 pub record Meaning : Type 0 where
   pub kind : MatchKind
   pub fold : Bool
@@ -100,9 +102,10 @@ module _ (g : Meaning) where
     pub finds : all_matches v ≡ own_matches v ++ all_matches linked
     pub useful : link ≢ 0 → all_matches linked ≢ []
 
-  -- the state with this number stands for the node: its transitions are by the bytes by which an anchored search goes on, in
-  -- ascending order, and lead to states that stand for where it then is, and its failure target stands for where an unanchored
-  -- one goes on by any other byte. The first four stand for the dead node and the start
+  -- the state with this number stands for the node: its transitions are by the bytes by which an anchored
+  -- search goes on, in ascending order, and lead to states that stand for where it then is, and its failure
+  -- target stands for where an unanchored one goes on by any other byte. The first four stand for the dead node
+  -- and the start
   pub record Represents (s : ℕ) (v : Node) (t : State) : Type 0 where
     pub ordered : t.transitions ≤ t.transitions_end
     pub listed : t.transitions_end ≤ length g.transitions
@@ -124,7 +127,8 @@ module _ (g : Meaning) where
   pub record AreStates (states : List State) : Type 0 where
     pub dead : slice_get g.nodes 0 ≡ Some None
     pub named : length states ≤ length g.nodes
-    pub each : (s : ℕ) (v : Node) → s < length states → slice_get g.nodes s ≡ Some v → Represents s v (state_at states s)
+    pub each : (s : ℕ) (v : Node) → s < length states → slice_get g.nodes s ≡ Some v
+        → Represents s v (state_at states s)
 
   -- one of the states stands for the node
   pub record HasState (states : List State) (s : ℕ) (u : Node) : Type 0 where
@@ -143,8 +147,8 @@ meaning_of trie nodes = record {
   nodes = nodes;
 }
 
--- the states are those of an automaton that has both starts: the first four are the dead state, one that no search reaches,
--- and the two starts
+-- the states are those of an automaton that has both starts: the first four are the dead state, one that no
+-- search reaches, and the two starts
 pub record IsTable (trie : Trie) (nodes : List Node) : Type 0 where
   pub both : trie.built.start_kind ≡ Both
   pub states : AreStates (meaning_of trie nodes) trie.states

@@ -11,11 +11,14 @@ use Rattle.ac_util.specs.Input.{Asked}
 use Rattle.ac_util.specs.Refusal.{AnswersUnless, Find, empty_refusal, first_refusal, form_refusal, kind_refusal, start_refusal}
 
 -- a find or a walk is refused for its start alone
-find-refusal : (built : Built) (asked : Asked) → find_refusal built asked ≡ start_refusal built.start_kind asked.anchored
+find-refusal : (built : Built) (asked : Asked)
+    → find_refusal built asked ≡ start_refusal built.start_kind asked.anchored
 find-refusal built asked = by (start_refusal built.start_kind asked.anchored) built.kind (has_empty built)
   where
     by : (r : Option MatchError) (kind : MatchKind) (empty : Bool)
-        → first_refusal (r ∷ kind_refusal kind (Find asked.anchored) ∷ form_refusal (Find asked.anchored) ∷ empty_refusal (Find asked.anchored) empty ∷ []) ≡ r
+        → first_refusal
+        (r ∷ kind_refusal kind (Find asked.anchored) ∷ form_refusal (Find asked.anchored) ∷ empty_refusal
+        (Find asked.anchored) empty ∷ []) ≡ r
     by None Standard empty = refl
     by None LeftmostFirst empty = refl
     by None LeftmostLongest empty = refl
@@ -25,19 +28,28 @@ find-refusal built asked = by (start_refusal built.start_kind asked.anchored) bu
 pub served : {T : Type 0} (built engine : Built) (asked : Asked) (r : Result T MatchError) (f : Built → T)
     → built ≡ record engine { start_kind = built.start_kind } → f built ≡ f engine
     → engine.start_kind ≡ Both → start_refusal built.start_kind asked.anchored ≡ None
-    → AnswersUnless (find_refusal engine asked) (f engine) r → AnswersUnless (find_refusal built asked) (f built) r
+    → AnswersUnless (find_refusal engine asked) (f engine) r
+    → AnswersUnless (find_refusal built asked) (f built) r
 served built engine asked (Ok x) f is same both free h = (find-refusal built asked ∙ free, h.1 ∙ sym same)
 served built engine asked (Err e) f is same both free h =
-    absurd (let none : None ≡ Some e = sym (find-refusal engine asked ∙ ap (λ (s : StartKind). start_refusal s asked.anchored) both) ∙ h in cc)
+    absurd (let none : None
+    ≡ Some e =
+    sym (find-refusal engine asked ∙ ap (λ (s : StartKind). start_refusal s asked.anchored) both) ∙ h in
+    cc)
 
 -- without the start the searcher refuses the search
-pub refuses : (built : Built) (asked : Asked) (e : MatchError) → start_refusal built.start_kind asked.anchored ≡ Some e → find_refusal built asked ≡ Some e
+pub refuses : (built : Built) (asked : Asked) (e : MatchError)
+    → start_refusal built.start_kind asked.anchored ≡ Some e → find_refusal built asked ≡ Some e
 refuses built asked e h = find-refusal built asked ∙ h
 
 -- an engine with both starts refuses nothing
-pub not-refused : (engine : Built) (asked : Asked) (e : MatchError) → engine.start_kind ≡ Both → find_refusal engine asked ≡ Some e → ⊥
+pub not-refused : (engine : Built) (asked : Asked) (e : MatchError) → engine.start_kind ≡ Both
+    → find_refusal engine asked ≡ Some e → ⊥
 not-refused engine asked e both h =
-    let none : None ≡ Some e = sym (find-refusal engine asked ∙ ap (λ (s : StartKind). start_refusal s asked.anchored) both) ∙ h in absurd (cc)
+    let none : None ≡ Some e =
+    sym (find-refusal engine asked ∙ ap (λ (s : StartKind). start_refusal s asked.anchored) both) ∙ h in
+    absurd (cc)
 
-pub supported : (built : Built) (asked : Asked) → start_refusal built.start_kind asked.anchored ≡ None → find_refusal built asked ≡ None
+pub supported : (built : Built) (asked : Asked) → start_refusal built.start_kind asked.anchored ≡ None
+    → find_refusal built asked ≡ None
 supported built asked h = find-refusal built asked ∙ h

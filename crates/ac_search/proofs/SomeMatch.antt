@@ -8,11 +8,13 @@ use Rattle.ac_util.specs.Pick.{IsPick, pick}
 use Rattle.ac_util.specs.Search.{Search, Occurs}
 use Rattle.ac_util.proofs.Picks.{pick-IsPick}
 
-picks-some : (kind : MatchKind) (q : Search) (r : Option Occurrence) → IsPick kind q r → IsTrue (is_some r) ↔ ((m : Occurrence) × Occurs q m)
+picks-some : (kind : MatchKind) (q : Search) (r : Option Occurrence) → IsPick kind q r
+    → IsTrue (is_some r) ↔ ((m : Occurrence) × Occurs q m)
 picks-some kind q None h = ((λ t. absurd (false≢true t)), (λ o. absurd (h o.0 o.1)))
 picks-some kind q (Some m) h = ((λ t. (m, h.0)), (λ o. refl))
 
-pub some-match : (kind : MatchKind) (q : Search) (r : Option Occurrence) → r ≡ pick kind q → IsTrue (is_some r) ↔ ((m : Occurrence) × Occurs q m)
+pub some-match : (kind : MatchKind) (q : Search) (r : Option Occurrence) → r ≡ pick kind q
+    → IsTrue (is_some r) ↔ ((m : Occurrence) × Occurs q m)
 some-match kind q r e = picks-some kind q r (subst (IsPick kind q) (sym e) (pick-IsPick kind q))
 
 some-or-none : (r : Option Occurrence) → (IsTrue (is_some r) → r ≢ None) × (r ≢ None → IsTrue (is_some r))

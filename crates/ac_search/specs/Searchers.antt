@@ -1,4 +1,5 @@
--- What is seen of a searcher: what it was built from, and the name of its engine. No answer of a search hangs on the name.
+-- What is seen of a searcher: what it was built from, and the name of its engine. No answer of a search hangs
+-- on the name.
 use Rattle.std.specs.Prelude.{◌≡◌, ℕ, Bool, false, List, Option, None, unwrap_or}
 use Rattle.ac_util.specs.declared.search.MatchKind.{MatchKind}
 use Rattle.ac_util.specs.declared.search.MatchKind.TheVariants.{Standard}

@@ -43,12 +43,15 @@ module _ (kind : MatchKind) (patterns : List (List ℕ)) where
   -- there is always one
   preferred_by : (w : List ℕ) (n : ℕ) → Fronts patterns w n → (l : Bool) → participates kind patterns n ≡ l
       → (j : ℕ) × Preferred w n j
-  preferred_by w n f true takes = (n, record { fronts = f; takes_part = takes; first = IsFirst-itself kind (front_place n) })
+  preferred_by w n f true takes =
+      (n, record { fronts = f; takes_part = takes; first = IsFirst-itself kind (front_place n) })
   preferred_by w n f false takes = only_first kind refl
     where
       only_first : (k : MatchKind) → k ≡ kind → (j : ℕ) × Preferred w n j
-      only_first Standard same = absurd (false≢true (sym takes ∙ ap (λ (m : MatchKind). participates m patterns n) (sym same)))
-      only_first LeftmostLongest same = absurd (false≢true (sym takes ∙ ap (λ (m : MatchKind). participates m patterns n) (sym same)))
+      only_first Standard same =
+          absurd (false≢true (sym takes ∙ ap (λ (m : MatchKind). participates m patterns n) (sym same)))
+      only_first LeftmostLongest same =
+          absurd (false≢true (sym takes ∙ ap (λ (m : MatchKind). participates m patterns n) (sym same)))
       only_first LeftmostFirst same =
           let l = leader patterns w (begins-from_Fronts patterns w n f) in
           let least = leader-least patterns w l.0 n l.1 f in (
@@ -56,7 +59,8 @@ module _ (kind : MatchKind) (patterns : List (List ℕ)) where
             record {
               fronts = l.1.fronts;
               takes_part = leader-takes_part patterns kind w l.0 l.1;
-              first = subst (λ (m : MatchKind). IsFirst m (front_place l.0) (front_place n)) same (record { starts = omega arith; patterns = λ _. least });
+              first = subst (λ (m : MatchKind). IsFirst m (front_place l.0) (front_place n)) same
+                  (record { starts = omega arith; patterns = λ _. least });
             },
           )
 
@@ -71,7 +75,8 @@ module _ (kind : MatchKind) (patterns : List (List ℕ)) where
       elim (Fronts-cases patterns w b p.0 p.1.fronts) [
         | inl before ↦ (p.0, before, p.1.first)
         | inr whole ↦ absurd (none-from_nil p.0 (own (w ++ b ∷ [])) none
-            (IsIn-equal_to kind patterns (w ++ b ∷ []) p.0 (record { numbered = p.1.fronts.numbered; takes_part = p.1.takes_part; same = whole })))
+            (IsIn-equal_to kind patterns (w ++ b ∷ []) p.0
+            (record { numbered = p.1.fronts.numbered; takes_part = p.1.takes_part; same = whole })))
       ]
 
   -- pattern j stands at place k of w and is no worse than pattern n at s
@@ -79,13 +84,15 @@ module _ (kind : MatchKind) (patterns : List (List ℕ)) where
     stands : Stands patterns anchored w j k
     first : IsFirst kind (place_of patterns j k) (place_of patterns n s)
 
-  better_front : (anchored : Anchored) (w : List ℕ) (b n : ℕ) → own (w ++ b ∷ []) ≡ [] → Fronts patterns (w ++ b ∷ []) n
+  better_front : (anchored : Anchored) (w : List ℕ) (b n : ℕ) → own (w ++ b ∷ []) ≡ []
+      → Fronts patterns (w ++ b ∷ []) n
       → (j : ℕ) × (k : ℕ) × Better anchored w n 0 j k
   better_front anchored w b n none f =
       let p = kept_front w b n none f in
       (p.0, 0, record { stands = Stands-from_Fronts patterns anchored w p.0 p.1; first = p.2 })
 
-  better_free : (w : List ℕ) (b n s : ℕ) → matches kind patterns No (Some (w ++ b ∷ [])) ≡ [] → Stands patterns No (w ++ b ∷ []) n s
+  better_free : (w : List ℕ) (b n s : ℕ) → matches kind patterns No (Some (w ++ b ∷ [])) ≡ []
+      → Stands patterns No (w ++ b ∷ []) n s
       → (j : ℕ) × (k : ℕ) × Better No w n s j k
   better_free [] b n zero none h =
       better_front No [] b n (append_nil_left _ _ (sym (matches-cons kind patterns b []) ∙ none)) h.fronts
@@ -94,18 +101,22 @@ module _ (kind : MatchKind) (patterns : List (List ℕ)) where
     0,
     record {
       stands = Stands-from_Fronts patterns No [] n h.fronts;
-      first = first-by_start kind (place_of patterns n 0) (place_of patterns n 1) (omega arith) (inr (omega arith));
+      first =
+          first-by_start kind (place_of patterns n 0) (place_of patterns n 1) (omega arith) (inr (omega arith));
     },
   )
   better_free [] b n (suc (suc s)) none h = absurd (let i = h.within in omega arith)
   better_free (x ∷ w) b n zero none h =
-      better_front No (x ∷ w) b n (append_nil_left _ _ (sym (matches-cons kind patterns x (w ++ b ∷ [])) ∙ none)) h.fronts
+      better_front No (x ∷ w) b n
+      (append_nil_left _ _ (sym (matches-cons kind patterns x (w ++ b ∷ [])) ∙ none)) h.fronts
   better_free (x ∷ w) b n (suc s) none h =
-      behind (stops kind patterns (x ∷ w ++ b ∷ [])) refl (sym (matches-cons kind patterns x (w ++ b ∷ [])) ∙ none)
+      behind (stops kind patterns (x ∷ w ++ b ∷ [])) refl
+      (sym (matches-cons kind patterns x (w ++ b ∷ [])) ∙ none)
       (λ e. better_free w b n s e (Stands-from_behind patterns x (w ++ b ∷ []) n s h))
     where
       behind : (t : Bool) → stops kind patterns (x ∷ w ++ b ∷ []) ≡ t
-          → own (x ∷ w ++ b ∷ []) ++ cond (stops kind patterns (x ∷ w ++ b ∷ [])) [] (matches kind patterns No (Some (w ++ b ∷ []))) ≡ []
+          → own (x ∷ w ++ b ∷ []) ++ cond (stops kind patterns (x ∷ w ++ b ∷ [])) []
+          (matches kind patterns No (Some (w ++ b ∷ []))) ≡ []
           → (matches kind patterns No (Some (w ++ b ∷ [])) ≡ [] → (j : ℕ) × (k : ℕ) × Better No w n s j k)
           → (j : ℕ) × (k : ℕ) × Better No (x ∷ w) n (suc s) j k
       behind true stop none later =
@@ -116,13 +127,17 @@ module _ (kind : MatchKind) (patterns : List (List ℕ)) where
             0,
             record {
               stands = Stands-from_Fronts patterns No (x ∷ w) p.0 p.1;
-              first = first-by_start kind (place_of patterns p.0 0) (place_of patterns n (suc s)) (omega arith) (inl both.0);
+              first = first-by_start kind (place_of patterns p.0 0) (place_of patterns n (suc s)) (omega arith)
+                  (inl both.0);
             },
           )
       behind false stop none later =
           let no_own = append_nil_left (own (x ∷ w ++ b ∷ [])) _ none in
-          let r = later (sym (cond-false (stops kind patterns (x ∷ w ++ b ∷ [])) [] (matches kind patterns No (Some (w ++ b ∷ []))) stop)
-          ∙ sym (ap (λ (ns : List ℕ). ns ++ cond (stops kind patterns (x ∷ w ++ b ∷ [])) [] (matches kind patterns No (Some (w ++ b ∷ [])))) no_own) ∙ none) in (
+          let r =
+          later (sym (cond-false (stops kind patterns (x ∷ w ++ b ∷ [])) []
+          (matches kind patterns No (Some (w ++ b ∷ []))) stop)
+          ∙ sym (ap (λ (ns : List ℕ). ns ++ cond (stops kind patterns (x ∷ w ++ b ∷ [])) []
+          (matches kind patterns No (Some (w ++ b ∷ [])))) no_own) ∙ none) in (
             r.0,
             suc r.1,
             record {
@@ -132,36 +147,42 @@ module _ (kind : MatchKind) (patterns : List (List ℕ)) where
           )
 
   -- where the node reached has no match, what stands in the longer text is no better than what stood before
-  better_than : (anchored : Anchored) (w : List ℕ) (b n s : ℕ) → matches kind patterns anchored (Some (w ++ b ∷ [])) ≡ []
+  better_than : (anchored : Anchored) (w : List ℕ) (b n s : ℕ)
+      → matches kind patterns anchored (Some (w ++ b ∷ [])) ≡ []
       → Stands patterns anchored (w ++ b ∷ []) n s → (j : ℕ) × (k : ℕ) × Better anchored w n s j k
   better_than No w b n s none h = better_free w b n s none h
   better_than Yes w b n zero none h = better_front Yes w b n none h.fronts
   better_than Yes w b n (suc s) none h = absurd (let e = h.at_front refl in omega arith)
 
   -- then the pick stays
-  pub pick-stays : (anchored : Anchored) (w : List ℕ) (b : ℕ) (r : Option Occurrence) → matches kind patterns anchored (Some (w ++ b ∷ [])) ≡ []
+  pub pick-stays : (anchored : Anchored) (w : List ℕ) (b : ℕ) (r : Option Occurrence)
+      → matches kind patterns anchored (Some (w ++ b ∷ [])) ≡ []
       → IsPickIn kind patterns anchored w r → IsPickIn kind patterns anchored (w ++ b ∷ []) r
-  pick-stays anchored w b None none h = λ n s stands. let p = better_than anchored w b n s none stands in h p.0 p.1 p.2.stands
+  pick-stays anchored w b None none h =
+      λ n s stands. let p = better_than anchored w b n s none stands in h p.0 p.1 p.2.stands
   pick-stays anchored w b (Some m) none h = record {
     stands = Stands-more patterns anchored w b m.pattern m.start h.stands;
     as_long = h.as_long;
     first = (λ n s stands.
         let p = better_than anchored w b n s none stands in
-        IsFirst-trans kind m (place_of patterns p.0 p.1) (place_of patterns n s) (h.first p.0 p.1 p.2.stands) p.2.first);
+        IsFirst-trans kind m (place_of patterns p.0 p.1) (place_of patterns n s)
+        (h.first p.0 p.1 p.2.stands) p.2.first);
   }
 
-  -- number i is the first match of the text v: it ends with v, and nothing that counts is preferred to it. Under a leftmost
-  -- kind all that stands in v counts, else what ends with it
+  -- number i is the first match of the text v: it ends with v, and nothing that counts is preferred to it.
+  -- Under a leftmost kind all that stands in v counts, else what ends with it
   abbrev Counts : List ℕ → ℕ → ℕ → Type 0
   Counts v n s = (is_leftmost kind ≡ true) ⊎ (s + length (pattern_of patterns n) ≡ length v)
 
   pub record IsHead (anchored : Anchored) (v : List ℕ) (i k : ℕ) : Type 0 where
     pub stands : Stands patterns anchored v i k
     pub whole : k + length (pattern_of patterns i) ≡ length v
-    pub first : (n s : ℕ) → Stands patterns anchored v n s → Counts v n s → IsFirst kind (place_of patterns i k) (place_of patterns n s)
+    pub first : (n s : ℕ) → Stands patterns anchored v n s → Counts v n s
+        → IsFirst kind (place_of patterns i k) (place_of patterns n s)
 
   -- the first of the patterns that are v
-  own_least : (v : List ℕ) (i : ℕ) (rest : List ℕ) → own v ≡ i ∷ rest → (n : ℕ) → Equals kind patterns v n → i ≤ n
+  own_least : (v : List ℕ) (i : ℕ) (rest : List ℕ) → own v ≡ i ∷ rest → (n : ℕ) → Equals kind patterns v n
+      → i ≤ n
   own_least v i rest e n equals =
       least (subst (λ (ns : List ℕ). IsOrdered (λ x y. x < y) ns) e (equal_to-ordered kind patterns v))
       (subst (λ (ns : List ℕ). IsIn n ns) e (IsIn-equal_to kind patterns v n equals))
@@ -171,9 +192,11 @@ module _ (kind : MatchKind) (patterns : List (List ℕ)) where
       least o (inr later) = let l = o.0 n later in omega arith
 
   own_head : (v : List ℕ) (i : ℕ) (rest : List ℕ) → own v ≡ i ∷ rest → Equals kind patterns v i
-  own_head v i rest e = IsIn-from_equal_to kind patterns v i (subst (λ (ns : List ℕ). IsIn i ns) (sym e) (inl refl))
+  own_head v i rest e =
+      IsIn-from_equal_to kind patterns v i (subst (λ (ns : List ℕ). IsIn i ns) (sym e) (inl refl))
 
-  head_front : (v : List ℕ) (i : ℕ) (rest : List ℕ) → own v ≡ i ∷ rest → (n : ℕ) → Fronts patterns v n → Counts v n 0 → IsFirst kind (front_place i) (front_place n)
+  head_front : (v : List ℕ) (i : ℕ) (rest : List ℕ) → own v ≡ i ∷ rest → (n : ℕ) → Fronts patterns v n
+      → Counts v n 0 → IsFirst kind (front_place i) (front_place n)
   head_front v i rest e n f counts = at kind refl
     where
       head : Equals kind patterns v i
@@ -182,11 +205,14 @@ module _ (kind : MatchKind) (patterns : List (List ℕ)) where
       same_length : length (pattern_of patterns i) ≡ length v
       same_length = ap length head.same
 
-      equals : participates kind patterns n ≡ true → length (pattern_of patterns n) ≡ length v → Equals kind patterns v n
-      equals takes l = record { numbered = f.numbered; takes_part = takes; same = Fronts-equal patterns v n f l }
+      equals : participates kind patterns n ≡ true → length (pattern_of patterns n) ≡ length v
+          → Equals kind patterns v n
+      equals takes l =
+          record { numbered = f.numbered; takes_part = takes; same = Fronts-equal patterns v n f l }
 
       at : (k : MatchKind) → k ≡ kind → IsFirst kind (front_place i) (front_place n)
-      at Standard same = subst (λ (m : MatchKind). IsFirst m (front_place i) (front_place n)) same (standard counts)
+      at Standard same =
+          subst (λ (m : MatchKind). IsFirst m (front_place i) (front_place n)) same (standard counts)
         where
           standard : Counts v n 0 → IsFirst Standard (front_place i) (front_place n)
           standard (inl leftmost) = absurd (false≢true (ap is_leftmost same ∙ leftmost))
@@ -198,7 +224,8 @@ module _ (kind : MatchKind) (patterns : List (List ℕ)) where
       at LeftmostFirst same =
           let takes = ap (λ (m : MatchKind). participates m patterns i) same ∙ head.takes_part in
           let least = participant-least patterns v i n head.numbered takes head.same f in
-          subst (λ (m : MatchKind). IsFirst m (front_place i) (front_place n)) same (record { starts = omega arith; patterns = λ _. least })
+          subst (λ (m : MatchKind). IsFirst m (front_place i) (front_place n)) same
+          (record { starts = omega arith; patterns = λ _. least })
       at LeftmostLongest same =
           let takes = ap (λ (m : MatchKind). participates m patterns n) (sym same) in
           let l = Fronts-length patterns v n f in
@@ -209,7 +236,8 @@ module _ (kind : MatchKind) (patterns : List (List ℕ)) where
             patterns = (λ _ ends. own_least v i rest e n (equals takes (omega arith)));
           })
 
-  own_stands : (anchored : Anchored) (v : List ℕ) (i : ℕ) (rest : List ℕ) → own v ≡ i ∷ rest → Stands patterns anchored v i 0
+  own_stands : (anchored : Anchored) (v : List ℕ) (i : ℕ) (rest : List ℕ) → own v ≡ i ∷ rest
+      → Stands patterns anchored v i 0
   own_stands anchored v i rest e =
       let head = own_head v i rest e in
       Stands-from_Fronts patterns anchored v i (record {
@@ -217,104 +245,138 @@ module _ (kind : MatchKind) (patterns : List (List ℕ)) where
         front = subst (λ (p : List ℕ). starts_with nat_eq v p ≡ true) (sym head.same) (starts_with-itself v);
       })
 
-  own_whole : (v : List ℕ) (i : ℕ) (rest : List ℕ) → own v ≡ i ∷ rest → 0 + length (pattern_of patterns i) ≡ length v
+  own_whole : (v : List ℕ) (i : ℕ) (rest : List ℕ) → own v ≡ i ∷ rest
+      → 0 + length (pattern_of patterns i) ≡ length v
   own_whole v i rest e = let l = ap length (own_head v i rest e).same in omega arith
 
   -- where a pattern is the whole text, the first such is the head
-  head_own : (anchored : Anchored) (v : List ℕ) (i : ℕ) (rest : List ℕ) → own v ≡ i ∷ rest → IsHead anchored v i 0
+  head_own : (anchored : Anchored) (v : List ℕ) (i : ℕ) (rest : List ℕ) → own v ≡ i ∷ rest
+      → IsHead anchored v i 0
   head_own anchored v i rest e = record {
     stands = own_stands anchored v i rest e;
     whole = own_whole v i rest e;
     first = first;
   }
     where
-      first : (n s : ℕ) → Stands patterns anchored v n s → Counts v n s → IsFirst kind (front_place i) (place_of patterns n s)
+      first : (n s : ℕ) → Stands patterns anchored v n s → Counts v n s
+          → IsFirst kind (front_place i) (place_of patterns n s)
       first n zero stands counts = head_front v i rest e n stands.fronts counts
-      first n (suc s) stands (inl leftmost) = first-by_start kind (front_place i) (place_of patterns n (suc s)) (omega arith) (inl leftmost)
+      first n (suc s) stands (inl leftmost) =
+          first-by_start kind (front_place i) (place_of patterns n (suc s)) (omega arith) (inl leftmost)
       first n (suc s) stands (inr ends) =
           let l = own_whole v i rest e in
           first-by_start kind (front_place i) (place_of patterns n (suc s)) (omega arith) (inr (omega arith))
 
   -- where none is, the head is that of the text without its first byte
-  head_behind : (x : ℕ) (v : List ℕ) (i k : ℕ) → own (x ∷ v) ≡ [] → stops kind patterns (x ∷ v) ≡ false → IsHead No v i k → IsHead No (x ∷ v) i (suc k)
+  head_behind : (x : ℕ) (v : List ℕ) (i k : ℕ) → own (x ∷ v) ≡ [] → stops kind patterns (x ∷ v) ≡ false
+      → IsHead No v i k → IsHead No (x ∷ v) i (suc k)
   head_behind x v i k none goes_on head = record {
     stands = Stands-behind patterns x v i k head.stands;
     whole = (let w = head.whole in omega arith);
     first = first;
   }
     where
-      no_front : (n : ℕ) → Fronts patterns (x ∷ v) n → (l : Bool) → is_leftmost kind ≡ l → Counts (x ∷ v) n 0 → ⊥
+      no_front : (n : ℕ) → Fronts patterns (x ∷ v) n → (l : Bool) → is_leftmost kind ≡ l → Counts (x ∷ v) n 0
+          → ⊥
       no_front n f true leftmost counts =
-          false≢true (sym goes_on ∙ (ap (λ (l : Bool). l && begins_with_pattern patterns (x ∷ v)) leftmost ∙ begins-from_Fronts patterns (x ∷ v) n f))
+          false≢true (sym goes_on
+          ∙ (ap (λ (l : Bool). l && begins_with_pattern patterns (x ∷ v)) leftmost
+          ∙ begins-from_Fronts patterns (x ∷ v) n f))
       no_front n f false leftmost (inl e) = false≢true (sym leftmost ∙ e)
-      no_front n f false leftmost (inr ends) = none-from_nil n (own (x ∷ v)) none (IsIn-equal_to kind patterns (x ∷ v) n (record {
-        numbered = f.numbered;
-        takes_part = all_take_part patterns kind leftmost n;
-        same = Fronts-equal patterns (x ∷ v) n f (omega arith);
-      }))
+      no_front n f false leftmost (inr ends) =
+          none-from_nil n (own (x ∷ v)) none (IsIn-equal_to kind patterns (x ∷ v) n (record {
+            numbered = f.numbered;
+            takes_part = all_take_part patterns kind leftmost n;
+            same = Fronts-equal patterns (x ∷ v) n f (omega arith);
+          }))
 
       counts_behind : (n s : ℕ) → Counts (x ∷ v) n (suc s) → Counts v n s
       counts_behind n s (inl e) = inl e
       counts_behind n s (inr e) = inr (omega arith)
 
-      first : (n s : ℕ) → Stands patterns No (x ∷ v) n s → Counts (x ∷ v) n s → IsFirst kind (place_of patterns i (suc k)) (place_of patterns n s)
+      first : (n s : ℕ) → Stands patterns No (x ∷ v) n s → Counts (x ∷ v) n s
+          → IsFirst kind (place_of patterns i (suc k)) (place_of patterns n s)
       first n zero stands counts = absurd (no_front n stands.fronts (is_leftmost kind) refl counts)
       first n (suc s) stands counts =
-          first-one_on kind patterns i k n s (head.first n s (Stands-from_behind patterns x v n s stands) (counts_behind n s counts))
+          first-one_on kind patterns i k n s
+          (head.first n s (Stands-from_behind patterns x v n s stands) (counts_behind n s counts))
 
-  head_free : (v : List ℕ) (i : ℕ) (rest : List ℕ) → matches kind patterns No (Some v) ≡ i ∷ rest → (k : ℕ) × IsHead No v i k
+  head_free : (v : List ℕ) (i : ℕ) (rest : List ℕ) → matches kind patterns No (Some v) ≡ i ∷ rest
+      → (k : ℕ) × IsHead No v i k
   head_free [] i rest e = (0, head_own No [] i rest (sym (matches-nil kind patterns) ∙ e))
   head_free (x ∷ v) i rest e =
-      by_own (own (x ∷ v)) refl (stops kind patterns (x ∷ v)) refl (sym (matches-cons kind patterns x v) ∙ e) (λ f. head_free v i rest f)
+      by_own (own (x ∷ v)) refl (stops kind patterns (x ∷ v)) refl (sym (matches-cons kind patterns x v) ∙ e)
+      (λ f. head_free v i rest f)
     where
       by_own : (ns : List ℕ) → own (x ∷ v) ≡ ns → (t : Bool) → stops kind patterns (x ∷ v) ≡ t
           → own (x ∷ v) ++ cond (stops kind patterns (x ∷ v)) [] (matches kind patterns No (Some v)) ≡ i ∷ rest
-          → (matches kind patterns No (Some v) ≡ i ∷ rest → (k : ℕ) × IsHead No v i k) → (k : ℕ) × IsHead No (x ∷ v) i k
+          → (matches kind patterns No (Some v) ≡ i ∷ rest → (k : ℕ) × IsHead No v i k) → (k : ℕ)
+          × IsHead No (x ∷ v) i k
       by_own (n ∷ ns) is t stop h later =
-          let listed : n ∷ ns ++ cond (stops kind patterns (x ∷ v)) [] (matches kind patterns No (Some v)) ≡ i ∷ rest = sym (ap (λ (ms : List ℕ). ms ++ cond (stops kind patterns (x ∷ v)) [] (matches kind patterns No (Some v))) is) ∙ h in
+          let listed : n ∷ ns ++ cond (stops kind patterns (x ∷ v)) [] (matches kind patterns No (Some v))
+          ≡ i ∷ rest =
+          sym (ap (λ (ms : List ℕ). ms ++ cond (stops kind patterns (x ∷ v)) []
+          (matches kind patterns No (Some v))) is) ∙ h in
           let same : n ≡ i = cc in
           (0, head_own No (x ∷ v) i ns (is ∙ ap (λ (m : ℕ). m ∷ ns) same))
       by_own [] is true stop h later =
-          let listed : [] ≡ i ∷ rest = sym (ap (λ (ms : List ℕ). ms ++ cond (stops kind patterns (x ∷ v)) [] (matches kind patterns No (Some v))) is ∙ cond-true (stops kind patterns (x ∷ v)) [] (matches kind patterns No (Some v)) stop) ∙ h in
+          let listed : [] ≡ i ∷ rest =
+          sym (ap (λ (ms : List ℕ). ms ++ cond (stops kind patterns (x ∷ v)) []
+          (matches kind patterns No (Some v))) is
+          ∙ cond-true (stops kind patterns (x ∷ v)) [] (matches kind patterns No (Some v)) stop) ∙ h in
           absurd (cc)
       by_own [] is false stop h later =
-          let listed : matches kind patterns No (Some v) ≡ i ∷ rest = sym (ap (λ (ms : List ℕ). ms ++ cond (stops kind patterns (x ∷ v)) [] (matches kind patterns No (Some v))) is ∙ cond-false (stops kind patterns (x ∷ v)) [] (matches kind patterns No (Some v)) stop) ∙ h in
+          let listed : matches kind patterns No (Some v) ≡ i ∷ rest =
+          sym (ap (λ (ms : List ℕ). ms ++ cond (stops kind patterns (x ∷ v)) []
+          (matches kind patterns No (Some v))) is
+          ∙ cond-false (stops kind patterns (x ∷ v)) [] (matches kind patterns No (Some v)) stop) ∙ h in
           let r = later listed in
           (suc r.0, head_behind x v i r.0 is stop r.1)
 
   -- the first match of the node reached is the head of what was read
-  pub head : (anchored : Anchored) (v : List ℕ) (i : ℕ) (rest : List ℕ) → matches kind patterns anchored (Some v) ≡ i ∷ rest → (k : ℕ) × IsHead anchored v i k
+  pub head : (anchored : Anchored) (v : List ℕ) (i : ℕ) (rest : List ℕ)
+      → matches kind patterns anchored (Some v) ≡ i ∷ rest → (k : ℕ) × IsHead anchored v i k
   head No v i rest e = head_free v i rest e
   head Yes v i rest e = (0, head_own Yes v i rest e)
 
   -- under a leftmost kind it is the pick
-  pub pick-becomes : (anchored : Anchored) (v : List ℕ) (i k : ℕ) → is_leftmost kind ≡ true → IsHead anchored v i k
+  pub pick-becomes : (anchored : Anchored) (v : List ℕ) (i k : ℕ) → is_leftmost kind ≡ true
+      → IsHead anchored v i k
       → IsPickIn kind patterns anchored v (Some (place_of patterns i k))
   pick-becomes anchored v i k leftmost h =
       record { stands = h.stands; as_long = refl; first = λ n s stands. h.first n s stands (inl leftmost) }
 
   -- where nothing stood before it is what Standard picks
-  pub first-becomes : (anchored : Anchored) (w : List ℕ) (b i k : ℕ) → ((n s : ℕ) → ¬ Stands patterns anchored w n s)
-      → IsHead anchored (w ++ b ∷ []) i k → IsPickIn Standard patterns anchored (w ++ b ∷ []) (Some (place_of patterns i k))
+  pub first-becomes : (anchored : Anchored) (w : List ℕ) (b i k : ℕ)
+      → ((n s : ℕ) → ¬ Stands patterns anchored w n s)
+      → IsHead anchored (w ++ b ∷ []) i k
+      → IsPickIn Standard patterns anchored (w ++ b ∷ []) (Some (place_of patterns i k))
   first-becomes anchored w b i k none h = record {
     stands = h.stands;
     as_long = refl;
     first = (λ n s stands.
         let ends = new_end n s stands in
         let whole = h.whole in
-        first-at_one_end kind (place_of patterns i k) (place_of patterns n s) (omega arith) (h.first n s stands (inr ends)));
+        first-at_one_end kind (place_of patterns i k) (place_of patterns n s) (omega arith)
+        (h.first n s stands (inr ends)));
   }
     where
-      new_end : (n s : ℕ) → Stands patterns anchored (w ++ b ∷ []) n s → s + length (pattern_of patterns n) ≡ length (w ++ b ∷ [])
-      new_end n s stands = elim (Stands-cases patterns anchored w b n s stands) [ inl before ↦ absurd (none n s before) | inr e ↦ e ]
+      new_end : (n s : ℕ) → Stands patterns anchored (w ++ b ∷ []) n s
+          → s + length (pattern_of patterns n) ≡ length (w ++ b ∷ [])
+      new_end n s stands = elim (Stands-cases patterns anchored w b n s stands) [
+        | inl before ↦ absurd (none n s before)
+        | inr e ↦ e
+      ]
 
   -- in the empty text only the empty pattern stands, so the matches of the start say what is picked there
-  start_stands : (anchored : Anchored) (n s : ℕ) → Stands patterns anchored [] n s → (s ≡ 0) × Fronts patterns [] n
+  start_stands : (anchored : Anchored) (n s : ℕ) → Stands patterns anchored [] n s
+      → (s ≡ 0) × Fronts patterns [] n
   start_stands anchored n zero h = (refl, h.fronts)
   start_stands anchored n (suc s) h = absurd (let i = h.within in omega arith)
 
   -- where the start has no match nothing stands in the empty text
-  pub start-stays : (anchored : Anchored) → matches kind patterns anchored (Some []) ≡ [] → (n s : ℕ) → ¬ Stands patterns anchored [] n s
+  pub start-stays : (anchored : Anchored) → matches kind patterns anchored (Some []) ≡ [] → (n s : ℕ)
+      → ¬ Stands patterns anchored [] n s
   start-stays anchored none n s h =
       let f = start_stands anchored n s h in
       let p = preferred [] n f.1 in
@@ -340,5 +402,6 @@ module _ (kind : MatchKind) (patterns : List (List ℕ)) where
         let f = start_stands anchored n s stands in
         let l = Fronts-length patterns [] n f.1 in
         let w = h.whole in
-        also (place_of patterns i k) (place_of patterns n s) (omega arith) (h.first n s stands (inr (omega arith))));
+        also (place_of patterns i k) (place_of patterns n s) (omega arith)
+        (h.first n s stands (inr (omega arith))));
   }

@@ -10,7 +10,8 @@ use Rattle.ac_util.specs.Node.{Node, is_node, suffixes, open_suffixes, reached, 
 use Rattle.ac_util.specs.Looks.{looks, looks_within}
 use Rattle.ac_util.proofs.Reached.{stops, starting_by-cons, reached-nil, reached-cons, step-cons, step-all, step-reached}
 
-find_rest : (p : List ℕ → Bool) (t : Bool) (y : List ℕ) (ws : List (List ℕ)) → find p (drop 1 (cond t (y ∷ []) (y ∷ ws))) ≡ cond t None (find p ws)
+find_rest : (p : List ℕ → Bool) (t : Bool) (y : List ℕ) (ws : List (List ℕ))
+    → find p (drop 1 (cond t (y ∷ []) (y ∷ ws))) ≡ cond t None (find p ws)
 find_rest p true y ws = refl
 find_rest p false y ws = refl
 
@@ -21,13 +22,17 @@ module _ (kind : MatchKind) (patterns : List (List ℕ)) where
   abbrev stepped : Node → ℕ → Node
   stepped v b = step kind patterns No v b
 
-  -- the failure target is the node that the rest of the string reaches, or dead where a pattern begins at its front
-  pub failure-cons : (x : ℕ) (u : List ℕ) → failure kind patterns (x ∷ u) ≡ cond (stops kind patterns (x ∷ u)) None (free u)
+  -- the failure target is the node that the rest of the string reaches, or dead where a pattern begins at its
+  -- front
+  pub failure-cons : (x : ℕ) (u : List ℕ)
+      → failure kind patterns (x ∷ u) ≡ cond (stops kind patterns (x ∷ u)) None (free u)
   failure-cons x u =
-      ap (λ (ws : List (List ℕ)). find (is_node kind patterns) (drop 1 ws)) (starting_by-cons kind patterns x u (x ∷ u) (suffixes u))
+      ap (λ (ws : List (List ℕ)). find (is_node kind patterns) (drop 1 ws))
+      (starting_by-cons kind patterns x u (x ∷ u) (suffixes u))
       ∙ find_rest (is_node kind patterns) (stops kind patterns (x ∷ u)) (x ∷ u) (open_suffixes kind patterns u)
 
-  step_after : (u : List ℕ) (b : ℕ) (t : Bool) → cond t None (stepped (Some u) b) ≡ stepped (cond t None (free u)) b
+  step_after : (u : List ℕ) (b : ℕ) (t : Bool)
+      → cond t None (stepped (Some u) b) ≡ stepped (cond t None (free u)) b
   step_after u b true = refl
   step_after u b false = step-all kind patterns u b ∙ sym (step-reached kind patterns No u b)
 
@@ -36,14 +41,16 @@ module _ (kind : MatchKind) (patterns : List (List ℕ)) where
       → stepped (Some (x ∷ u)) b ≡ Some (x ∷ u ++ b ∷ [])
   step-own x u b own =
       step-cons kind patterns x b u
-      ∙ cond-true (is_node kind patterns (x ∷ u ++ b ∷ [])) (Some (x ∷ u ++ b ∷ [])) (cond (stops kind patterns (x ∷ u)) None (stepped (Some u) b)) own
+      ∙ cond-true (is_node kind patterns (x ∷ u ++ b ∷ [])) (Some (x ∷ u ++ b ∷ []))
+      (cond (stops kind patterns (x ∷ u)) None (stepped (Some u) b)) own
 
   -- without one it steps as its failure target does
   pub step-failure : (x : ℕ) (u : List ℕ) (b : ℕ) → is_node kind patterns (x ∷ u ++ b ∷ []) ≡ false
       → stepped (Some (x ∷ u)) b ≡ stepped (failure kind patterns (x ∷ u)) b
   step-failure x u b none =
       step-cons kind patterns x b u
-      ∙ cond-false (is_node kind patterns (x ∷ u ++ b ∷ [])) (Some (x ∷ u ++ b ∷ [])) (cond (stops kind patterns (x ∷ u)) None (stepped (Some u) b)) none
+      ∙ cond-false (is_node kind patterns (x ∷ u ++ b ∷ [])) (Some (x ∷ u ++ b ∷ []))
+      (cond (stops kind patterns (x ∷ u)) None (stepped (Some u) b)) none
       ∙ step_after u b (stops kind patterns (x ∷ u))
       ∙ ap (λ (v : Node). stepped v b) (sym (failure-cons x u))
 
@@ -57,7 +64,8 @@ module _ (kind : MatchKind) (patterns : List (List ℕ)) where
   pub depth-reached : (w : List ℕ) → depth (free w) ≤ length w
   depth-reached [] = rw (reached-nil kind patterns No) (omega arith)
   depth-reached (x ∷ w) =
-      rw (reached-cons kind patterns x w) (shorter x w (is_node kind patterns (x ∷ w)) (stops kind patterns (x ∷ w)) (depth-reached w))
+      rw (reached-cons kind patterns x w)
+      (shorter x w (is_node kind patterns (x ∷ w)) (stops kind patterns (x ∷ w)) (depth-reached w))
 
   dead_or_reached : (w : List ℕ) (s : Bool) → depth (cond s None (free w)) ≤ length w
   dead_or_reached w true = omega arith
@@ -71,26 +79,34 @@ module _ (kind : MatchKind) (patterns : List (List ℕ)) where
   one_at_most b = rw (step-all kind patterns [] b) (depth-reached (b ∷ []))
 
   paid : (n x : ℕ) (u : List ℕ) (b : ℕ) (t : Bool) → is_node kind patterns (x ∷ u ++ b ∷ []) ≡ t
-      → looks_within kind patterns n (failure kind patterns (x ∷ u)) b + depth (stepped (failure kind patterns (x ∷ u)) b)
+      → looks_within kind patterns n (failure kind patterns (x ∷ u)) b + depth
+      (stepped (failure kind patterns (x ∷ u)) b)
       ≤ depth (failure kind patterns (x ∷ u)) + 2
-      → (elim t [ true ↦ 1 | false ↦ suc (looks_within kind patterns n (failure kind patterns (x ∷ u)) b) ]) + depth (stepped (Some (x ∷ u)) b)
+      → (elim t [
+        | true ↦ 1
+        | false ↦ suc (looks_within kind patterns n (failure kind patterns (x ∷ u)) b)
+      ]) + depth (stepped (Some (x ∷ u)) b)
       ≤ length (x ∷ u) + 2
   paid n x u b true own later = rw (step-own x u b own) (let l = length_push u b in omega arith)
   paid n x u b false none later = rw (step-failure x u b none) (let l = depth-failure x u in omega arith)
 
-  paid_within : (n : ℕ) (v : Node) (b : ℕ) → depth v ≤ n → looks_within kind patterns n v b + depth (stepped v b) ≤ depth v + 2
+  paid_within : (n : ℕ) (v : Node) (b : ℕ) → depth v ≤ n
+      → looks_within kind patterns n v b + depth (stepped v b) ≤ depth v + 2
   paid_within n None b h = omega arith
   paid_within n (Some []) b h = let l = one_at_most b in omega arith
   paid_within zero (Some (x ∷ u)) b h = absurd (omega arith)
   paid_within (suc n) (Some (x ∷ u)) b h =
       let l = depth-failure x u in
-      paid n x u b (is_node kind patterns (x ∷ u ++ b ∷ [])) refl (paid_within n (failure kind patterns (x ∷ u)) b (omega arith))
+      paid n x u b (is_node kind patterns (x ∷ u ++ b ∷ [])) refl
+      (paid_within n (failure kind patterns (x ∷ u)) b (omega arith))
 
-  one_longer_at_most : (u : List ℕ) (b : ℕ) (t : Bool) → 1 + depth (cond t (Some (u ++ b ∷ [])) None) ≤ length u + 2
+  one_longer_at_most : (u : List ℕ) (b : ℕ) (t : Bool)
+      → 1 + depth (cond t (Some (u ++ b ∷ [])) None) ≤ length u + 2
   one_longer_at_most u b true = let l = length_push u b in omega arith
   one_longer_at_most u b false = omega arith
 
-  -- the looks of a step, and the length of the node that it leads to, are paid by the length of the node it comes from and two
+  -- the looks of a step, and the length of the node that it leads to, are paid by the length of the node it
+  -- comes from and two
   pub looks-paid : (anchored : Anchored) (v : Node) (b : ℕ)
       → looks kind patterns anchored v b + depth (step kind patterns anchored v b) ≤ depth v + 2
   looks-paid No v b = paid_within (depth v) v b (omega arith)

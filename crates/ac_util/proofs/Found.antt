@@ -1,4 +1,5 @@
--- The matches of the node reached are those of all that was read, and those of a node are its own and its failure target's.
+-- The matches of the node reached are those of all that was read, and those of a node are its own and its
+-- failure target's.
 use Rattle.std.proofs.Common.{◌≡◌, ℕ, suc, Bool, true, false, ◌&&◌, cond, List, [], ◌∷◌, ◌++◌, refl, ap, sym, ◌∙◌, Option, Some, None, ◌<◌, ◌≤◌, length, inl, inr, arith}
 use Rattle.std.specs.Prelude.{flat_map, option_map}
 use Rattle.std.proofs.lemmas.Bool.{cond-false, cond-true}
@@ -31,22 +32,26 @@ module _ (kind : MatchKind) (patterns : List (List ℕ)) where
   matches-nil = ap (flat_map own) (open_suffixes-nil kind patterns) ∙ append-nil (own [])
 
   -- the matches of a string are those that equal it, and then those of the rest unless nothing may start later
-  pub matches-cons : (x : ℕ) (u : List ℕ) → found (Some (x ∷ u)) ≡ own (x ∷ u) ++ cond (stops kind patterns (x ∷ u)) [] (found (Some u))
+  pub matches-cons : (x : ℕ) (u : List ℕ)
+      → found (Some (x ∷ u)) ≡ own (x ∷ u) ++ cond (stops kind patterns (x ∷ u)) [] (found (Some u))
   matches-cons x u =
       ap (flat_map own) (starting_by-cons kind patterns x u (x ∷ u) (suffixes u))
       ∙ flat_map-cond own (stops kind patterns (x ∷ u)) (x ∷ u) (open_suffixes kind patterns u)
 
-  found_by : (x : ℕ) (w : List ℕ) (t s : Bool) → is_node kind patterns (x ∷ w) ≡ t → stops kind patterns (x ∷ w) ≡ s
+  found_by : (x : ℕ) (w : List ℕ) (t s : Bool) → is_node kind patterns (x ∷ w) ≡ t
+      → stops kind patterns (x ∷ w) ≡ s
       → found (reached kind patterns No w) ≡ found (Some w)
       → found (cond t (Some (x ∷ w)) (cond s None (reached kind patterns No w))) ≡ found (Some (x ∷ w))
   found_by x w true s node stop later = refl
   found_by x w false true node stop later =
       sym (matches-cons x w
-      ∙ ap (λ (ns : List ℕ). ns ++ cond (stops kind patterns (x ∷ w)) [] (found (Some w))) (equal_to-none kind patterns (x ∷ w) node)
+      ∙ ap (λ (ns : List ℕ). ns ++ cond (stops kind patterns (x ∷ w)) [] (found (Some w)))
+      (equal_to-none kind patterns (x ∷ w) node)
       ∙ cond-true (stops kind patterns (x ∷ w)) [] (found (Some w)) stop)
   found_by x w false false node stop later =
       later ∙ sym (matches-cons x w
-      ∙ ap (λ (ns : List ℕ). ns ++ cond (stops kind patterns (x ∷ w)) [] (found (Some w))) (equal_to-none kind patterns (x ∷ w) node)
+      ∙ ap (λ (ns : List ℕ). ns ++ cond (stops kind patterns (x ∷ w)) [] (found (Some w)))
+      (equal_to-none kind patterns (x ∷ w) node)
       ∙ cond-false (stops kind patterns (x ∷ w)) [] (found (Some w)) stop)
 
   found_free : (w : List ℕ) → found (reached kind patterns No w) ≡ found (Some w)
@@ -55,46 +60,58 @@ module _ (kind : MatchKind) (patterns : List (List ℕ)) where
       ap found (reached-cons kind patterns x w)
       ∙ found_by x w (is_node kind patterns (x ∷ w)) (stops kind patterns (x ∷ w)) refl refl (found_free w)
 
-  found_held : (w : List ℕ) (t : Bool) → is_node kind patterns w ≡ t → matches kind patterns Yes (cond t (Some w) None) ≡ own w
+  found_held : (w : List ℕ) (t : Bool) → is_node kind patterns w ≡ t
+      → matches kind patterns Yes (cond t (Some w) None) ≡ own w
   found_held w true node = refl
   found_held w false node = sym (equal_to-none kind patterns w node)
 
   -- the matches of the node reached are those of all that was read
-  pub matches-reached : (anchored : Anchored) (w : List ℕ) → matches kind patterns anchored (reached kind patterns anchored w) ≡ matches kind patterns anchored (Some w)
+  pub matches-reached : (anchored : Anchored) (w : List ℕ)
+      → matches kind patterns anchored (reached kind patterns anchored w)
+      ≡ matches kind patterns anchored (Some w)
   matches-reached No w = found_free w
   matches-reached Yes w = found_held w (is_node kind patterns w) refl
 
-  found_after : (u : List ℕ) (s : Bool) → cond s [] (found (Some u)) ≡ found (cond s None (reached kind patterns No u))
+  found_after : (u : List ℕ) (s : Bool)
+      → cond s [] (found (Some u)) ≡ found (cond s None (reached kind patterns No u))
   found_after u true = refl
   found_after u false = sym (found_free u)
 
   -- those of a node are its own and then those of its failure target
-  pub matches-failure : (x : ℕ) (u : List ℕ) → found (Some (x ∷ u)) ≡ own (x ∷ u) ++ found (failure kind patterns (x ∷ u))
+  pub matches-failure : (x : ℕ) (u : List ℕ)
+      → found (Some (x ∷ u)) ≡ own (x ∷ u) ++ found (failure kind patterns (x ∷ u))
   matches-failure x u =
       matches-cons x u
-      ∙ ap (λ (ns : List ℕ). own (x ∷ u) ++ ns) (found_after u (stops kind patterns (x ∷ u)) ∙ ap found (sym (failure-cons kind patterns x u)))
+      ∙ ap (λ (ns : List ℕ). own (x ∷ u) ++ ns)
+      (found_after u (stops kind patterns (x ∷ u)) ∙ ap found (sym (failure-cons kind patterns x u)))
 
-  matches_at-suc : (x : ℕ) (u : List ℕ) (r : Option ℕ) → matches_at kind patterns (x ∷ u) (option_map suc r) ≡ matches_at kind patterns u r
+  matches_at-suc : (x : ℕ) (u : List ℕ) (r : Option ℕ)
+      → matches_at kind patterns (x ∷ u) (option_map suc r) ≡ matches_at kind patterns u r
   matches_at-suc x u None = refl
   matches_at-suc x u (Some c) = refl
 
-  first_of_nil : (t : Bool) → begins_with_pattern patterns [] ≡ t → own [] ≡ matches_at kind patterns [] (cond t (Some 0) None)
+  first_of_nil : (t : Bool) → begins_with_pattern patterns [] ≡ t
+      → own [] ≡ matches_at kind patterns [] (cond t (Some 0) None)
   first_of_nil true begins = refl
   first_of_nil false begins = equal_to-none_begins kind patterns [] begins
 
-  first_of_cons : (x : ℕ) (u : List ℕ) (t : Bool) → begins_with_pattern patterns (x ∷ u) ≡ t → found (Some u) ≡ matches_at kind patterns u (least_start patterns u)
-      → own (x ∷ u) ++ cond t [] (found (Some u)) ≡ matches_at kind patterns (x ∷ u) (cond t (Some 0) (option_map suc (least_start patterns u)))
+  first_of_cons : (x : ℕ) (u : List ℕ) (t : Bool) → begins_with_pattern patterns (x ∷ u) ≡ t
+      → found (Some u) ≡ matches_at kind patterns u (least_start patterns u)
+      → own (x ∷ u) ++ cond t [] (found (Some u))
+      ≡ matches_at kind patterns (x ∷ u) (cond t (Some 0) (option_map suc (least_start patterns u)))
   first_of_cons x u true begins later = append-nil (own (x ∷ u))
   first_of_cons x u false begins later =
       ap (λ (ns : List ℕ). ns ++ found (Some u)) (equal_to-none_begins kind patterns (x ∷ u) begins)
       ∙ later ∙ sym (matches_at-suc x u (least_start patterns u))
 
   -- under a leftmost kind the matches of a string are those of its patterns that start at its first occurrence
-  pub matches-leftmost : is_leftmost kind ≡ true → (u : List ℕ) → found (Some u) ≡ matches_at kind patterns u (least_start patterns u)
+  pub matches-leftmost : is_leftmost kind ≡ true → (u : List ℕ)
+      → found (Some u) ≡ matches_at kind patterns u (least_start patterns u)
   matches-leftmost leftmost [] = matches-nil ∙ first_of_nil (begins_with_pattern patterns []) refl
   matches-leftmost leftmost (x ∷ u) =
       matches-cons x u
-      ∙ ap (λ (l : Bool). own (x ∷ u) ++ cond (l && begins_with_pattern patterns (x ∷ u)) [] (found (Some u))) leftmost
+      ∙ ap (λ (l : Bool). own (x ∷ u) ++ cond (l && begins_with_pattern patterns (x ∷ u)) [] (found (Some u)))
+      leftmost
       ∙ first_of_cons x u (begins_with_pattern patterns (x ∷ u)) refl (matches-leftmost leftmost u)
 
   -- a match of a string is a pattern that isn't longer than the string
@@ -107,14 +124,16 @@ module _ (kind : MatchKind) (patterns : List (List ℕ)) where
       let e = IsIn-from_equal_to kind patterns u n h in
       record { numbered = e.numbered; short = (let l = ap length e.same in omega arith) }
 
-  behind-fits : (x : ℕ) (u : List ℕ) (n : ℕ) (s : Bool) → (IsIn n (found (Some u)) → Fits u n) → IsIn n (cond s [] (found (Some u))) → Fits u n
+  behind-fits : (x : ℕ) (u : List ℕ) (n : ℕ) (s : Bool) → (IsIn n (found (Some u)) → Fits u n)
+      → IsIn n (cond s [] (found (Some u))) → Fits u n
   behind-fits x u n true later h = absurd h
   behind-fits x u n false later h = later h
 
   pub matches-fits : (u : List ℕ) (n : ℕ) → IsIn n (found (Some u)) → Fits u n
   matches-fits [] n h = own-fits [] n (rw matches-nil at h)
   matches-fits (x ∷ u) n h =
-      elim (IsIn-append_cases n (own (x ∷ u)) (cond (stops kind patterns (x ∷ u)) [] (found (Some u))) (rw (matches-cons x u) at h)) [
+      elim (IsIn-append_cases n (own (x ∷ u)) (cond (stops kind patterns (x ∷ u)) [] (found (Some u)))
+      (rw (matches-cons x u) at h)) [
         | inl here ↦ own-fits (x ∷ u) n here
         | inr later ↦
             let f = behind-fits x u n (stops kind patterns (x ∷ u)) (matches-fits u n) later in
@@ -122,10 +141,14 @@ module _ (kind : MatchKind) (patterns : List (List ℕ)) where
       ]
 
   -- one that is as long is the whole string
-  pub matches-whole : (u : List ℕ) (n : ℕ) → IsIn n (found (Some u)) → length (pattern_of patterns n) ≡ length u → IsIn n (own u)
+  pub matches-whole : (u : List ℕ) (n : ℕ) → IsIn n (found (Some u)) → length (pattern_of patterns n) ≡ length u
+      → IsIn n (own u)
   matches-whole [] n h l = rw matches-nil at h
   matches-whole (x ∷ u) n h l =
-      elim (IsIn-append_cases n (own (x ∷ u)) (cond (stops kind patterns (x ∷ u)) [] (found (Some u))) (rw (matches-cons x u) at h)) [
+      elim (IsIn-append_cases n (own (x ∷ u)) (cond (stops kind patterns (x ∷ u)) [] (found (Some u)))
+      (rw (matches-cons x u) at h)) [
         | inl here ↦ here
-        | inr later ↦ absurd (let f = behind-fits x u n (stops kind patterns (x ∷ u)) (matches-fits u n) later in let s = f.short in omega arith)
+        | inr later ↦
+            absurd (let f = behind-fits x u n (stops kind patterns (x ∷ u)) (matches-fits u n) later in
+            let s = f.short in omega arith)
       ]

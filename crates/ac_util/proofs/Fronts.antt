@@ -11,14 +11,16 @@ starts_with-itself [] = refl
 starts_with-itself (x ∷ w) = and_from _ _ (eq-eqb x x refl) (starts_with-itself w)
 
 -- what is left of a front without its last byte is a front
-pub starts_with-front : (p v : List ℕ) (b : ℕ) → starts_with nat_eq p (v ++ b ∷ []) ≡ true → starts_with nat_eq p v ≡ true
+pub starts_with-front : (p v : List ℕ) (b : ℕ) → starts_with nat_eq p (v ++ b ∷ []) ≡ true
+    → starts_with nat_eq p v ≡ true
 starts_with-front p [] b h = refl
 starts_with-front [] (x ∷ v) b h = absurd (false≢true h)
 starts_with-front (y ∷ p) (x ∷ v) b h =
     let parts = and_parts _ _ h in and_from _ _ parts.0 (starts_with-front p v b parts.1)
 
 -- a front of w is a front of w with one more byte
-pub starts_with-more : (w p : List ℕ) (b : ℕ) → starts_with nat_eq w p ≡ true → starts_with nat_eq (w ++ b ∷ []) p ≡ true
+pub starts_with-more : (w p : List ℕ) (b : ℕ) → starts_with nat_eq w p ≡ true
+    → starts_with nat_eq (w ++ b ∷ []) p ≡ true
 starts_with-more w [] b h = refl
 starts_with-more [] (y ∷ p) b h = absurd (false≢true h)
 starts_with-more (x ∷ w) (y ∷ p) b h =
@@ -33,7 +35,8 @@ starts_with-whole [] (y ∷ z ∷ p) b h n = absurd (false≢true (and_parts (eq
 starts_with-whole (x ∷ w) (y ∷ p) b h n =
     let parts = and_parts (eqb y x) (starts_with nat_eq (w ++ b ∷ []) p) h in
     let e = eqb-true y x parts.0 in
-    let no_front = false_from_ne_true _ (λ t. false≢true (sym n ∙ and_from (eqb y x) (starts_with nat_eq w p) parts.0 t)) in
+    let no_front =
+    false_from_ne_true _ (λ t. false≢true (sym n ∙ and_from (eqb y x) (starts_with nat_eq w p) parts.0 t)) in
     let rest = starts_with-whole w p b parts.1 no_front in
     λ i. e i ∷ rest i
 
@@ -83,7 +86,8 @@ list_any-weaker f g weaker (x ∷ xs) h = elim (or_cases (f x) (list_any f xs) h
 ]
 
 -- some element passes where this one does
-pub list_any-from_IsIn : {X : Type 0} (f : X → Bool) (x : X) (xs : List X) → IsIn x xs → f x ≡ true → list_any f xs ≡ true
+pub list_any-from_IsIn : {X : Type 0} (f : X → Bool) (x : X) (xs : List X) → IsIn x xs → f x ≡ true
+    → list_any f xs ≡ true
 list_any-from_IsIn f x [] h t = absurd h
 list_any-from_IsIn f x (y ∷ xs) (inl e) t = or_left _ _ (ap f e ∙ t)
 list_any-from_IsIn f x (y ∷ xs) (inr h) t = or_right _ _ (list_any-from_IsIn f x xs h t)
@@ -99,7 +103,8 @@ either : (a c : Bool) → a ≡ false → c ≡ false → (a || c) ≡ false
 either a c p q = ap (λ (z : Bool). z || c) p ∙ q
 
 -- where some element passes there is a first one
-pub first_any : {X : Type 0} (f : X → Bool) (d : X) (xs : List X) → list_any f xs ≡ true → (i : ℕ) × IsFirstAny f d xs i
+pub first_any : {X : Type 0} (f : X → Bool) (d : X) (xs : List X) → list_any f xs ≡ true
+    → (i : ℕ) × IsFirstAny f d xs i
 first_any f d [] h = absurd (false≢true h)
 first_any f d (x ∷ xs) h = at (f x) refl (λ later. first_any f d xs later) h
   where

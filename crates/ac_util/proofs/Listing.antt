@@ -13,31 +13,42 @@ use Rattle.ac_util.specs.Listing.{all, places, places_at, places_ending_at, up_t
 use Rattle.ac_util.proofs.Lists.{IsIn, IsOrdered, IsIn-map, IsIn-from_map, IsIn-flat_map, IsIn-from_flat_map, IsIn-filter, IsIn-from_filter, IsIn-range, IsOrdered-map, IsOrdered-flat_map, IsOrdered-filter, IsOrdered-range, IsOrdered-unique, Contains-from_IsIn, IsIn-from_Contains, AllPairs-from_IsOrdered}
 
 -- a place is in the list of places exactly if the span has room for it
-pub place_in_span : (q : Search) (m : Occurrence) → m.pattern < length q.patterns → q.low ≤ m.start → m.start ≤ m.end → m.end ≤ q.high → IsIn m (places q)
+pub place_in_span : (q : Search) (m : Occurrence) → m.pattern < length q.patterns → q.low ≤ m.start
+    → m.start ≤ m.end → m.end ≤ q.high → IsIn m (places q)
 place_in_span q m numbered low order high =
-    IsIn-flat_map (places_ending_at q) m m.end (up_to q.low q.high) (IsIn-range m.end q.low (q.high + 1 - q.low) (omega arith) (omega arith))
-    (IsIn-flat_map (places_at q m.end) m m.start (up_to q.low m.end) (IsIn-range m.start q.low (m.end + 1 - q.low) (omega arith) (omega arith))
-    (IsIn-map (λ number. occurrence number m.start m.end) m.pattern (range_with_len 0 (length q.patterns)) (IsIn-range m.pattern 0 (length q.patterns) (omega arith) (omega arith))))
+    IsIn-flat_map (places_ending_at q) m m.end (up_to q.low q.high)
+    (IsIn-range m.end q.low (q.high + 1 - q.low) (omega arith) (omega arith))
+    (IsIn-flat_map (places_at q m.end) m m.start (up_to q.low m.end)
+    (IsIn-range m.start q.low (m.end + 1 - q.low) (omega arith) (omega arith))
+    (IsIn-map (λ number. occurrence number m.start m.end) m.pattern (range_with_len 0 (length q.patterns))
+    (IsIn-range m.pattern 0 (length q.patterns) (omega arith) (omega arith))))
 
 -- what is tried at a start and an end starts and ends there
-pub ends_at : (q : Search) (m : Occurrence) (end start : ℕ) → IsIn m (places_at q end start) → (m.end ≡ end) × (m.start ≡ start)
-ends_at q m end start h = let r = IsIn-from_map (λ number. occurrence number start end) m (range_with_len 0 (length q.patterns)) h in (ap (λ (o : Occurrence). o.end) (sym r.2), ap (λ (o : Occurrence). o.start) (sym r.2))
+pub ends_at : (q : Search) (m : Occurrence) (end start : ℕ) → IsIn m (places_at q end start)
+    → (m.end ≡ end) × (m.start ≡ start)
+ends_at q m end start h =
+    let r = IsIn-from_map (λ number. occurrence number start end) m (range_with_len 0 (length q.patterns)) h in
+    (ap (λ (o : Occurrence). o.end) (sym r.2), ap (λ (o : Occurrence). o.start) (sym r.2))
 
 -- what is tried at an end ends there
 pub ends_at_end : (q : Search) (m : Occurrence) (end : ℕ) → IsIn m (places_ending_at q end) → m.end ≡ end
-ends_at_end q m end h = let r = IsIn-from_flat_map (places_at q end) m (up_to q.low end) h in (ends_at q m end r.0 r.2).0
+ends_at_end q m end h =
+    let r = IsIn-from_flat_map (places_at q end) m (up_to q.low end) h in (ends_at q m end r.0 r.2).0
 
 -- what is tried comes in order
 pub places-ordered : (q : Search) → IsOrdered IsBefore (places q)
 places-ordered q =
     IsOrdered-flat_map (λ x y. x < y) IsBefore (places_ending_at q) (up_to q.low q.high)
     (λ end. IsOrdered-flat_map (λ x y. x < y) IsBefore (places_at q end) (up_to q.low end)
-    (λ start. IsOrdered-map (λ x y. x < y) IsBefore (λ number. occurrence number start end) (range_with_len 0 (length q.patterns))
+    (λ start. IsOrdered-map (λ x y. x < y) IsBefore (λ number. occurrence number start end)
+    (range_with_len 0 (length q.patterns))
     (λ x y l. record { ends = omega arith; starts = λ e. omega arith; patterns = λ e f. omega arith })
     (IsOrdered-range 0 (length q.patterns)))
-    (λ s t u v l h k. let a = ends_at q u end s h in let b = ends_at q v end t k in record { ends = omega arith; starts = λ e. omega arith; patterns = λ e f. omega arith })
+    (λ s t u v l h k. let a = ends_at q u end s h in let b = ends_at q v end t k in
+    record { ends = omega arith; starts = λ e. omega arith; patterns = λ e f. omega arith })
     (IsOrdered-range q.low (end + 1 - q.low)))
-    (λ s t u v l h k. let a = ends_at_end q u s h in let b = ends_at_end q v t k in record { ends = omega arith; starts = λ e. omega arith; patterns = λ e f. omega arith })
+    (λ s t u v l h k. let a = ends_at_end q u s h in let b = ends_at_end q v t k in
+    record { ends = omega arith; starts = λ e. omega arith; patterns = λ e f. omega arith })
     (IsOrdered-range q.low (q.high + 1 - q.low))
 
 -- the test and the fact agree
@@ -48,7 +59,8 @@ occurs-true q m o =
     (le-leb q.low m.start o.from_low))
     (eq-eqb (m.start + length (pattern_of q.patterns m.pattern)) m.end o.as_long))
     (le-leb m.end q.high o.to_high))
-    ((bytes_eq-Decides (plain q.fold (pattern_of q.patterns m.pattern)) (plain q.fold (slice_range q.haystack m.start m.end))).1 o.reads))
+    ((bytes_eq-Decides (plain q.fold (pattern_of q.patterns m.pattern))
+    (plain q.fold (slice_range q.haystack m.start m.end))).1 o.reads))
     (may_start-true q.anchored q.low m.start o.at_low)
   where
     may_start-true : (a : Anchored) (low start : ℕ) → (a ≡ Yes → start ≡ low) → may_start a low start ≡ true
@@ -68,7 +80,8 @@ Occurs-from_test q m t =
       from_low = leb-true q.low m.start e.1;
       as_long = eqb-true (m.start + length (pattern_of q.patterns m.pattern)) m.end d.1;
       to_high = leb-true m.end q.high c.1;
-      reads = (bytes_eq-Decides (plain q.fold (pattern_of q.patterns m.pattern)) (plain q.fold (slice_range q.haystack m.start m.end))).0 b.1;
+      reads = (bytes_eq-Decides (plain q.fold (pattern_of q.patterns m.pattern))
+          (plain q.fold (slice_range q.haystack m.start m.end))).0 b.1;
       at_low = from_may_start q.anchored q.low m.start a.1;
     }
   where
@@ -79,7 +92,10 @@ Occurs-from_test q m t =
 -- the list has exactly the occurrences
 pub all-has : (q : Search) (m : Occurrence) → Occurs q m → IsIn m (all q)
 unfolding all
-all-has q m o = IsIn-filter (occurs q) m (places q) (place_in_span q m o.numbered o.from_low (let e = o.as_long in omega arith) o.to_high) (occurs-true q m o)
+all-has q m o =
+    IsIn-filter (occurs q) m (places q)
+    (place_in_span q m o.numbered o.from_low (let e = o.as_long in omega arith) o.to_high)
+    (occurs-true q m o)
 
 -- what is listed occurs
 pub all-only : (q : Search) (m : Occurrence) → IsIn m (all q) → Occurs q m
@@ -93,12 +109,19 @@ all-ordered q = IsOrdered-filter IsBefore (occurs q) (places q) (places-ordered 
 
 -- no two stand before one another
 pub IsBefore-apart : (a b : Occurrence) → IsBefore a b → IsBefore b a → ⊥
-IsBefore-apart a b x y = let e : a.end ≡ b.end = omega arith in let s : a.start ≡ b.start = let k = x.starts e in let l = y.starts (sym e) in omega arith in
+IsBefore-apart a b x y =
+    let e : a.end ≡ b.end = omega arith in
+    let s : a.start ≡ b.start = let k = x.starts e in
+    let l = y.starts (sym e) in
+    omega arith in
     let k = x.patterns e s in let l = y.patterns (sym e) (sym s) in omega arith
 
 -- no other list does
-pub all-unique : (q : Search) (ms : List Occurrence) → ((m : Occurrence) → Occurs q m → IsIn m ms) → ((m : Occurrence) → IsIn m ms → Occurs q m) → IsOrdered IsBefore ms → ms ≡ all q
-all-unique q ms has only o = IsOrdered-unique IsBefore IsBefore-apart ms (all q) (λ m h. all-has q m (only m h)) (λ m h. has m (all-only q m h)) o (all-ordered q)
+pub all-unique : (q : Search) (ms : List Occurrence) → ((m : Occurrence) → Occurs q m → IsIn m ms)
+    → ((m : Occurrence) → IsIn m ms → Occurs q m) → IsOrdered IsBefore ms → ms ≡ all q
+all-unique q ms has only o =
+    IsOrdered-unique IsBefore IsBefore-apart ms (all q) (λ m h. all-has q m (only m h))
+    (λ m h. has m (all-only q m h)) o (all-ordered q)
 
 -- the same in the words of std
 pub Contains-all : (q : Search) (m : Occurrence) → Occurs q m → Contains (all q) m

@@ -1,4 +1,5 @@
--- A span that is one place longer: its listing goes on with the matches of the node that an automaton reaches at its end.
+-- A span that is one place longer: its listing goes on with the matches of the node that an automaton reaches
+-- at its end.
 use Rattle.std.proofs.Common.{◌≡◌, ℕ, zero, suc, ◌+◌, ◌-◌, ◌<◌, ◌≤◌, true, List, [], ◌∷◌, ◌++◌, map, length, inl, inr, refl, ap, sym, subst, arith, Some}
 use Rattle.std.proofs.lemmas.Bool.{cases_lt}
 use Rattle.ac_util.specs.declared.search.MatchKind.TheVariants.{Standard}
@@ -55,25 +56,41 @@ module _ (patterns : List (List ℕ)) where
   in_free : (v : List ℕ) (n s : ℕ) → EndsWith No v n s → IsIn n (found No v)
   in_free [] n zero e = rw (matches-nil Standard patterns) (in_own No [] n e)
   in_free [] n (suc s) e = absurd (let i = e.stands.within in omega arith)
-  in_free (x ∷ v) n zero e = rw (matches-cons Standard patterns x v) (IsIn-append_left n (own (x ∷ v)) (found No v) (in_own No (x ∷ v) n e))
-  in_free (x ∷ v) n (suc s) e = rw (matches-cons Standard patterns x v) (IsIn-append_right n (own (x ∷ v)) (found No v)
-      (in_free v n s (record { stands = Stands-from_behind patterns x v n s e.stands; whole = (let w = e.whole in omega arith) })))
+  in_free (x ∷ v) n zero e =
+      rw (matches-cons Standard patterns x v)
+      (IsIn-append_left n (own (x ∷ v)) (found No v) (in_own No (x ∷ v) n e))
+  in_free (x ∷ v) n (suc s) e =
+      rw (matches-cons Standard patterns x v) (IsIn-append_right n (own (x ∷ v)) (found No v)
+      (in_free v n s
+      (record {
+        stands = Stands-from_behind patterns x v n s e.stands;
+        whole =
+            (let w = e.whole in omega arith);
+      })))
 
   from_free : (v : List ℕ) (n : ℕ) → IsIn n (found No v) → (s : ℕ) × EndsWith No v n s
   from_free [] n h = (0, from_own No [] n (rw (matches-nil Standard patterns) at h))
-  from_free (x ∷ v) n h = elim (IsIn-append_cases n (own (x ∷ v)) (found No v) (rw (matches-cons Standard patterns x v) at h)) [
-    | inl here ↦ (0, from_own No (x ∷ v) n here)
-    | inr later ↦
-        let r = from_free v n later in
-        (suc r.0, record { stands = Stands-behind patterns x v n r.0 r.1.stands; whole = (let w = r.1.whole in omega arith) })
-  ]
+  from_free (x ∷ v) n h =
+      elim (IsIn-append_cases n (own (x ∷ v)) (found No v) (rw (matches-cons Standard patterns x v) at h)) [
+        | inl here ↦ (0, from_own No (x ∷ v) n here)
+        | inr later ↦
+            let r = from_free v n later in (
+              suc r.0,
+              record {
+                stands = Stands-behind patterns x v n r.0 r.1.stands;
+                whole =
+                    (let w = r.1.whole in omega arith);
+              },
+            )
+      ]
 
   in_found : (anchored : Anchored) (v : List ℕ) (n s : ℕ) → EndsWith anchored v n s → IsIn n (found anchored v)
   in_found No v n s e = in_free v n s e
   in_found Yes v n zero e = in_own Yes v n e
   in_found Yes v n (suc s) e = absurd (let z = e.stands.at_front refl in omega arith)
 
-  from_found : (anchored : Anchored) (v : List ℕ) (n : ℕ) → IsIn n (found anchored v) → (s : ℕ) × EndsWith anchored v n s
+  from_found : (anchored : Anchored) (v : List ℕ) (n : ℕ) → IsIn n (found anchored v)
+      → (s : ℕ) × EndsWith anchored v n s
   from_found No v n h = from_free v n h
   from_found Yes v n h = (0, from_own Yes v n h)
 
@@ -82,7 +99,8 @@ module _ (patterns : List (List ℕ)) where
     longer : length (pattern_of patterns j) ≤ length (pattern_of patterns i)
     lesser : length (pattern_of patterns i) ≡ length (pattern_of patterns j) → i < j
 
-  own_ordered : (v : List ℕ) (ns : List ℕ) → ((i : ℕ) → IsIn i ns → pattern_of patterns i ≡ v) → IsOrdered (λ x y. x < y) ns → IsOrdered IsAhead ns
+  own_ordered : (v : List ℕ) (ns : List ℕ) → ((i : ℕ) → IsIn i ns → pattern_of patterns i ≡ v)
+      → IsOrdered (λ x y. x < y) ns → IsOrdered IsAhead ns
   own_ordered v [] same o = tt
   own_ordered v (n ∷ ns) same o = (
     (λ j h.
@@ -92,7 +110,9 @@ module _ (patterns : List (List ℕ)) where
   )
 
   ordered_own : (v : List ℕ) → IsOrdered IsAhead (own v)
-  ordered_own v = own_ordered v (own v) (λ i h. (IsIn-from_equal_to Standard patterns v i h).same) (equal_to-ordered Standard patterns v)
+  ordered_own v =
+      own_ordered v (own v) (λ i h. (IsIn-from_equal_to Standard patterns v i h).same)
+      (equal_to-ordered Standard patterns v)
 
   -- they are listed longest first, and then by number
   ordered_free : (v : List ℕ) → IsOrdered IsAhead (found No v)
@@ -124,17 +144,22 @@ module _ (q : Search) (order : q.low ≤ q.high) (inside : q.high ≤ length q.h
       let a = o.as_long in let b = o.from_low in
       let ends : EndsWith (plain_patterns q) q.anchored (text q) m.pattern (m.start - q.low) =
       record { stands = Stands-from_Occurs q order inside m o; whole = omega arith } in
-      subst (λ (x : Occurrence). IsIn x at_end) (same_occurrence (ending q m.pattern) m refl (omega arith) (sym e))
+      subst (λ (x : Occurrence). IsIn x at_end)
+      (same_occurrence (ending q m.pattern) m refl (omega arith) (sym e))
       (IsIn-map (ending q) m.pattern (found_at_end Standard q)
-      (subst (λ (ns : List ℕ). IsIn m.pattern ns) (sym text_is) (in_found (plain_patterns q) q.anchored (text q) m.pattern (m.start - q.low) ends)))
+      (subst (λ (ns : List ℕ). IsIn m.pattern ns) (sym text_is)
+      (in_found (plain_patterns q) q.anchored (text q) m.pattern (m.start - q.low) ends)))
 
   occurs_ending : (n : ℕ) → IsIn n (found_at_end Standard q) → Occurs q (ending q n)
   occurs_ending n h =
-      let r = from_found (plain_patterns q) q.anchored (text q) n (subst (λ (ns : List ℕ). IsIn n ns) text_is h) in
+      let r =
+      from_found (plain_patterns q) q.anchored (text q) n (subst (λ (ns : List ℕ). IsIn n ns) text_is h) in
       let t = text_length q order inside in
       let l = pattern_length q order inside n in
       let w = r.1.whole in
-      subst (Occurs q) (same_occurrence (outward q.low (place_of (plain_patterns q) n r.0)) (ending q n) refl (omega arith) (omega arith))
+      subst (Occurs q)
+      (same_occurrence (outward q.low (place_of (plain_patterns q) n r.0)) (ending q n) refl (omega arith)
+      (omega arith))
       (Occurs-from_Stands q order inside n r.0 r.1.stands)
 
   only_ending : (m : Occurrence) → IsIn m at_end → Occurs q m × (m.end ≡ q.high)
@@ -152,7 +177,13 @@ module _ (q : Search) (order : q.low ≤ q.high) (inside : q.high ≤ length q.h
         let longer = a.longer in
         let x = pattern_length q order inside n in let y = pattern_length q order inside f.0 in
         let u = fits n (inl refl) in let v = fits f.0 (inr f.1) in
-        subst (IsBefore (ending q n)) f.2 (record { ends = omega arith; starts = λ _. omega arith; patterns = λ _ e. a.lesser (omega arith) })),
+        subst (IsBefore (ending q n)) f.2
+        (record {
+          ends = omega arith;
+          starts = λ _. omega arith;
+          patterns = λ _ e. a.lesser
+              (omega arith);
+        })),
     in_order ns (λ i h. fits i (inr h)) o.1,
   )
 
@@ -160,13 +191,16 @@ module _ (q : Search) (order : q.low ≤ q.high) (inside : q.high ≤ length q.h
   ordered_ending =
       in_order (found_at_end Standard q)
       (λ i h. let o = occurs_ending i h in let a = o.as_long in let b = o.from_low in omega arith)
-      (subst (IsOrdered (IsAhead (plain_patterns q))) (sym text_is) (ordered_found (plain_patterns q) q.anchored (text q)))
+      (subst (IsOrdered (IsAhead (plain_patterns q))) (sym text_is)
+      (ordered_found (plain_patterns q) q.anchored (text q)))
 
 -- the listing of an empty span is the matches of the start
-pub all-empty : (q : Search) → q.low ≡ q.high → q.high ≤ length q.haystack → all q ≡ map (ending q) (found_at_end Standard q)
+pub all-empty : (q : Search) → q.low ≡ q.high → q.high ≤ length q.haystack
+    → all q ≡ map (ending q) (found_at_end Standard q)
 all-empty q empty inside =
     sym (all-unique q (map (ending q) (found_at_end Standard q))
-    (λ m o. has_ending q (omega arith) inside m o (let a = o.as_long in let b = o.from_low in let c = o.to_high in omega arith))
+    (λ m o. has_ending q (omega arith) inside m o
+    (let a = o.as_long in let b = o.from_low in let c = o.to_high in omega arith))
     (λ m h. (only_ending q (omega arith) inside m h).0)
     (ordered_ending q (omega arith) inside))
 
@@ -197,7 +231,9 @@ module _ (q : Search) (order : q.low ≤ q.high) (room : q.high < length q.hayst
   has : (m : Occurrence) → Occurs (one_longer q) m → IsIn m (all q ++ new)
   has m o = elim (cases_lt q.high m.end) [
     | inr old ↦ IsIn-append_left m (all q) new (all-has q m (shorter_has m o old))
-    | inl late ↦ IsIn-append_right m (all q) new (has_ending (one_longer q) (omega arith) (omega arith) m o (let h = o.to_high in omega arith))
+    | inl late ↦
+        IsIn-append_right m (all q) new
+        (has_ending (one_longer q) (omega arith) (omega arith) m o (let h = o.to_high in omega arith))
   ]
 
   only : (m : Occurrence) → IsIn m (all q ++ new) → Occurs (one_longer q) m
@@ -208,7 +244,8 @@ module _ (q : Search) (order : q.low ≤ q.high) (room : q.high < length q.hayst
 
   ordered : IsOrdered IsBefore (all q ++ new)
   ordered =
-      IsOrdered-append IsBefore (all q) new (all-ordered q) (ordered_ending (one_longer q) (omega arith) (omega arith))
+      IsOrdered-append IsBefore (all q) new (all-ordered q)
+      (ordered_ending (one_longer q) (omega arith) (omega arith))
       (λ a b h k.
       let o = all-only q a h in
       let t = o.to_high in
@@ -216,5 +253,6 @@ module _ (q : Search) (order : q.low ≤ q.high) (room : q.high < length q.hayst
       record { ends = omega arith; starts = λ same. absurd (omega arith); patterns = λ same s. absurd (omega arith) })
 
   -- the listing of the longer span is that of the shorter one, and then the matches of the node reached
-  pub all-longer : all (one_longer q) ≡ all q ++ map (ending (one_longer q)) (found_at_end Standard (one_longer q))
+  pub all-longer : all (one_longer q) ≡ all q ++ map (ending (one_longer q))
+      (found_at_end Standard (one_longer q))
   all-longer = sym (all-unique (one_longer q) (all q ++ new) has only ordered)

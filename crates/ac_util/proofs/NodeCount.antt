@@ -24,7 +24,8 @@ IsIn-distinct u [] h = h
 IsIn-distinct u (x ∷ us) (inl e) = inl e
 IsIn-distinct u (x ∷ us) (inr h) = elim (cases_Bool (bytes_eq x u)) [
   | inl same ↦ inl ((bytes_eq-Decides x u).0 same)
-  | inr other ↦ inr (IsIn-filter (λ w. not (bytes_eq x w)) u (distinct us) (IsIn-distinct u us h) (ap not other))
+  | inr other ↦
+      inr (IsIn-filter (λ w. not (bytes_eq x w)) u (distinct us) (IsIn-distinct u us h) (ap not other))
 ]
 
 -- no two of the distinct strings are equal
@@ -42,7 +43,8 @@ IsIn-fronts : (p : List ℕ) (x : ℕ) (u : List ℕ) → starts_with nat_eq p (
 IsIn-fronts p x u h =
     let short = starts_with-length p (x ∷ u) h in
     subst (λ (w : List ℕ). IsIn w (fronts p)) (sym ((bytes_eq-Decides (x ∷ u) (take (length (x ∷ u)) p)).0 h))
-    (IsIn-map (λ n. take n p) (length (x ∷ u)) (range_with_len 1 (length p)) (IsIn-range (length (x ∷ u)) 1 (length p) (omega arith) (omega arith)))
+    (IsIn-map (λ n. take n p) (length (x ∷ u)) (range_with_len 1 (length p))
+    (IsIn-range (length (x ∷ u)) 1 (length p) (omega arith) (omega arith)))
 
 -- u is a front of the pattern and isn't empty
 record IsFrontOf (p u : List ℕ) : Type 0 where
@@ -71,24 +73,32 @@ module _ (kind : MatchKind) (patterns : List (List ℕ)) where
   all_fronts = flat_map (λ number. fronts (pattern_of patterns number)) (participants kind patterns)
 
   -- a string that isn't empty is counted exactly if it leads to a node
-  pub inner_nodes-has : (u : List ℕ) → is_node kind patterns u ≡ true → u ≢ [] → Contains (inner_nodes kind patterns) u
+  pub inner_nodes-has : (u : List ℕ) → is_node kind patterns u ≡ true → u ≢ []
+      → Contains (inner_nodes kind patterns) u
   inner_nodes-has [] node some = absurd (some refl)
   inner_nodes-has (x ∷ u) node some =
-      let r = any_passes (λ number. starts_with nat_eq (pattern_of patterns number) (x ∷ u)) (participants kind patterns) node in
+      let r =
+      any_passes (λ number. starts_with nat_eq (pattern_of patterns number) (x ∷ u))
+      (participants kind patterns) node in
       Contains-from_IsIn (x ∷ u) (inner_nodes kind patterns) (IsIn-distinct (x ∷ u) all_fronts
-      (IsIn-flat_map (λ number. fronts (pattern_of patterns number)) (x ∷ u) r.0 (participants kind patterns) r.1
+      (IsIn-flat_map (λ number. fronts (pattern_of patterns number)) (x ∷ u) r.0
+      (participants kind patterns) r.1
       (IsIn-fronts (pattern_of patterns r.0) x u r.2)))
 
   -- what is counted is a node and not empty
-  pub inner_nodes-only : (u : List ℕ) → Contains (inner_nodes kind patterns) u → (is_node kind patterns u ≡ true) × (u ≢ [])
+  pub inner_nodes-only : (u : List ℕ) → Contains (inner_nodes kind patterns) u
+      → (is_node kind patterns u ≡ true) × (u ≢ [])
   inner_nodes-only u h =
       let f = IsIn-from_flat_map (λ number. fronts (pattern_of patterns number)) u (participants kind patterns)
       (IsIn-from_distinct u all_fronts (IsIn-from_Contains u (inner_nodes kind patterns) h)) in
       let front = IsIn-from_fronts (pattern_of patterns f.0) u f.2 in (
-        or_right (is_empty u) _ (list_any-from_IsIn (λ number. starts_with nat_eq (pattern_of patterns number) u) f.0 (participants kind patterns) f.1 front.front),
+        or_right (is_empty u) _
+            (list_any-from_IsIn (λ number. starts_with nat_eq (pattern_of patterns number) u) f.0
+            (participants kind patterns) f.1 front.front),
         (λ e. let l = ap length e in let s = front.some in omega arith),
       )
 
   -- nothing is counted twice
   pub inner_nodes-apart : AllPairs (λ u w. u ≢ w) (inner_nodes kind patterns)
-  inner_nodes-apart = AllPairs-from_IsOrdered (λ u w. u ≢ w) (inner_nodes kind patterns) (distinct-apart all_fronts)
+  inner_nodes-apart =
+      AllPairs-from_IsOrdered (λ u w. u ≢ w) (inner_nodes kind patterns) (distinct-apart all_fronts)

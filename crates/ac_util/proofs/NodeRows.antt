@@ -168,22 +168,28 @@ twice-matches-standard-ab = refl
 twice-matches-first-ab : matches LeftmostFirst (codes "ab" ∷ codes "ab" ∷ []) No (Some (codes "ab")) ≡ 0 ∷ []
 twice-matches-first-ab = refl
 
-twice-matches-longest-ab : matches LeftmostLongest (codes "ab" ∷ codes "ab" ∷ []) No (Some (codes "ab")) ≡ 0 ∷ 1 ∷ []
+twice-matches-longest-ab : matches LeftmostLongest (codes "ab" ∷ codes "ab" ∷ []) No
+    (Some (codes "ab")) ≡ 0 ∷ 1 ∷ []
 twice-matches-longest-ab = refl
 
--- with an empty pattern every step of a leftmost kind is an anchored one, and every failure target the dead node
-with-empty-step-first-ab-by-d : step LeftmostFirst (codes "abc" ∷ codes "bd" ∷ codes "" ∷ []) No (Some (codes "ab")) 100
+-- with an empty pattern every step of a leftmost kind is an anchored one, and every failure target the dead
+-- node
+with-empty-step-first-ab-by-d : step LeftmostFirst (codes "abc" ∷ codes "bd" ∷ codes "" ∷ []) No
+    (Some (codes "ab")) 100
     ≡ None
 with-empty-step-first-ab-by-d = refl
 
-with-empty-step-first-start-by-c : step LeftmostFirst (codes "abc" ∷ codes "bd" ∷ codes "" ∷ []) No (Some []) 99 ≡ None
+with-empty-step-first-start-by-c : step LeftmostFirst (codes "abc" ∷ codes "bd" ∷ codes "" ∷ []) No
+    (Some []) 99 ≡ None
 with-empty-step-first-start-by-c = refl
 
-with-empty-step-first-ab-by-c : step LeftmostFirst (codes "abc" ∷ codes "bd" ∷ codes "" ∷ []) No (Some (codes "ab")) 99
+with-empty-step-first-ab-by-c : step LeftmostFirst (codes "abc" ∷ codes "bd" ∷ codes "" ∷ []) No
+    (Some (codes "ab")) 99
     ≡ Some (codes "abc")
 with-empty-step-first-ab-by-c = refl
 
-with-empty-failure-first-ab : failure LeftmostFirst (codes "abc" ∷ codes "bd" ∷ codes "" ∷ []) (codes "ab") ≡ None
+with-empty-failure-first-ab : failure LeftmostFirst (codes "abc" ∷ codes "bd" ∷ codes "" ∷ [])
+    (codes "ab") ≡ None
 with-empty-failure-first-ab = refl
 
 with-empty-failure-first-a : failure LeftmostFirst (codes "abc" ∷ codes "bd" ∷ codes "" ∷ []) (codes "a") ≡ None

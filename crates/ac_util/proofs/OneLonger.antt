@@ -19,15 +19,18 @@ use Rattle.ac_util.proofs.Spans.{inward, pattern_length, text_length, text_longe
 
 -- a head of the text, told from the haystack's front, ends where the span does
 ending-head : (kind : MatchKind) (q : Search) (i k : ℕ) → q.low ≤ q.high → q.high ≤ length q.haystack
-    → IsHead kind (plain_patterns q) q.anchored (text q) i k → outward q.low (place_of (plain_patterns q) i k) ≡ ending q i
+    → IsHead kind (plain_patterns q) q.anchored (text q) i k
+    → outward q.low (place_of (plain_patterns q) i k) ≡ ending q i
 ending-head kind q i k order inside h =
     let l = pattern_length q order inside i in
     let t = text_length q order inside in
     let w = h.whole in
-    same_occurrence (outward q.low (place_of (plain_patterns q) i k)) (ending q i) refl (omega arith) (omega arith)
+    same_occurrence (outward q.low (place_of (plain_patterns q) i k)) (ending q i) refl (omega arith)
+    (omega arith)
 
 -- what is found at the end is found in the whole text
-pub found-text : (kind : MatchKind) (q : Search) → found_at_end kind q ≡ matches kind (plain_patterns q) q.anchored (Some (text q))
+pub found-text : (kind : MatchKind) (q : Search)
+    → found_at_end kind q ≡ matches kind (plain_patterns q) q.anchored (Some (text q))
 found-text kind q = matches-reached kind (plain_patterns q) q.anchored (text q)
 
 -- nothing is picked where nothing stands in the text
@@ -40,13 +43,15 @@ abbrev pub byte_in : Search → ℕ
 byte_in q = plain_byte q.fold (get_or q.haystack q.high 0)
 
 module _ (kind : MatchKind) (q : Search) (order : q.low ≤ q.high) (room : q.high < length q.haystack) where
-  now-text : found_at_end kind (one_longer q) ≡ matches kind (plain_patterns q) q.anchored (Some (text q ++ byte_in q ∷ []))
+  now-text : found_at_end kind (one_longer q) ≡ matches kind (plain_patterns q) q.anchored
+      (Some (text q ++ byte_in q ∷ []))
   now-text =
       found-text kind (one_longer q)
       ∙ ap (λ (w : List ℕ). matches kind (plain_patterns q) q.anchored (Some w)) (text_longer q order room)
 
   -- what is the pick in the longer text is the pick of the longer search
-  longer : (k : MatchKind) (r : Option Occurrence) → IsPickIn k (plain_patterns q) q.anchored (text q ++ byte_in q ∷ []) r
+  longer : (k : MatchKind) (r : Option Occurrence)
+      → IsPickIn k (plain_patterns q) q.anchored (text q ++ byte_in q ∷ []) r
       → option_map (outward q.low) r ≡ pick k (one_longer q)
   longer k r h =
       pick-from_text (one_longer q) (omega arith) (omega arith) k r
@@ -56,22 +61,26 @@ module _ (kind : MatchKind) (q : Search) (order : q.low ≤ q.high) (room : q.hi
   pub pick-longer_stays : found_at_end kind (one_longer q) ≡ [] → pick kind (one_longer q) ≡ pick kind q
   pick-longer_stays none =
       sym (longer kind (option_map (inward q.low) (pick kind q))
-      (pick-stays kind (plain_patterns q) q.anchored (text q) (byte_in q) (option_map (inward q.low) (pick kind q)) (sym now-text ∙ none)
+      (pick-stays kind (plain_patterns q) q.anchored (text q) (byte_in q)
+      (option_map (inward q.low) (pick kind q)) (sym now-text ∙ none)
       (pick-in_text q order (omega arith) kind)))
       ∙ pick-out_again q order (omega arith) kind
 
   longer_head : (i : ℕ) (rest : List ℕ) → found_at_end kind (one_longer q) ≡ i ∷ rest
       → (k : ℕ) × IsHead kind (plain_patterns q) q.anchored (text q ++ byte_in q ∷ []) i k
-  longer_head i rest e = head kind (plain_patterns q) q.anchored (text q ++ byte_in q ∷ []) i rest (sym now-text ∙ e)
+  longer_head i rest e =
+      head kind (plain_patterns q) q.anchored (text q ++ byte_in q ∷ []) i rest (sym now-text ∙ e)
 
   ends_there : (i k : ℕ) → IsHead kind (plain_patterns q) q.anchored (text q ++ byte_in q ∷ []) i k
       → outward q.low (place_of (plain_patterns q) i k) ≡ ending (one_longer q) i
   ends_there i k h =
       ending-head kind (one_longer q) i k (omega arith) (omega arith)
-      (subst (λ (w : List ℕ). IsHead kind (plain_patterns q) q.anchored w i k) (sym (text_longer q order room)) h)
+      (subst (λ (w : List ℕ). IsHead kind (plain_patterns q) q.anchored w i k)
+      (sym (text_longer q order room)) h)
 
   -- under a leftmost kind it is the first match of that node where it has one
-  pub pick-longer_becomes : is_leftmost kind ≡ true → (i : ℕ) (rest : List ℕ) → found_at_end kind (one_longer q) ≡ i ∷ rest
+  pub pick-longer_becomes : is_leftmost kind ≡ true → (i : ℕ) (rest : List ℕ)
+      → found_at_end kind (one_longer q) ≡ i ∷ rest
       → pick kind (one_longer q) ≡ Some (ending (one_longer q) i)
   pick-longer_becomes leftmost i rest e =
       let h = longer_head i rest e in
@@ -81,26 +90,32 @@ module _ (kind : MatchKind) (q : Search) (order : q.low ≤ q.high) (room : q.hi
 
   nothing_stands : (k : MatchKind) → pick k q ≡ None → IsPickIn k (plain_patterns q) q.anchored (text q) None
   nothing_stands k none =
-      subst (λ (r : Option Occurrence). IsPickIn k (plain_patterns q) q.anchored (text q) (option_map (inward q.low) r)) none
+      subst (λ (r : Option Occurrence). IsPickIn k (plain_patterns q) q.anchored (text q)
+      (option_map (inward q.low) r)) none
       (pick-in_text q order (omega arith) k)
 
   -- as long as nothing occurs each kind of automaton finds what Standard picks
-  pub first-longer_stays : pick Standard q ≡ None → found_at_end kind (one_longer q) ≡ [] → pick Standard (one_longer q) ≡ None
+  pub first-longer_stays : pick Standard q ≡ None → found_at_end kind (one_longer q) ≡ []
+      → pick Standard (one_longer q) ≡ None
   first-longer_stays none e =
       sym (longer Standard None
-      (pick-stays kind (plain_patterns q) q.anchored (text q) (byte_in q) None (sym now-text ∙ e) (nothing_stands Standard none)))
+      (pick-stays kind (plain_patterns q) q.anchored (text q) (byte_in q) None (sym now-text ∙ e)
+      (nothing_stands Standard none)))
 
   -- where Standard picks nothing yet, the first match found with one more byte is what it picks
-  pub first-longer_becomes : pick Standard q ≡ None → (i : ℕ) (rest : List ℕ) → found_at_end kind (one_longer q) ≡ i ∷ rest
+  pub first-longer_becomes : pick Standard q ≡ None → (i : ℕ) (rest : List ℕ)
+      → found_at_end kind (one_longer q) ≡ i ∷ rest
       → pick Standard (one_longer q) ≡ Some (ending (one_longer q) i)
   first-longer_becomes none i rest e =
       let h = longer_head i rest e in
       sym (longer Standard (Some (place_of (plain_patterns q) i h.0))
-      (first-becomes kind (plain_patterns q) q.anchored (text q) (byte_in q) i h.0 (nothing_stands Standard none) h.1))
+      (first-becomes kind (plain_patterns q) q.anchored (text q) (byte_in q) i h.0
+      (nothing_stands Standard none) h.1))
       ∙ ap (λ (o : Occurrence). Some o) (ends_there i h.0 h.1)
 
   -- the node reached is the step from the one before
-  pub step-longer : step kind (plain_patterns q) q.anchored (reached kind (plain_patterns q) q.anchored (text q)) (byte_in q)
+  pub step-longer : step kind (plain_patterns q) q.anchored
+      (reached kind (plain_patterns q) q.anchored (text q)) (byte_in q)
       ≡ reached kind (plain_patterns q) q.anchored (text (one_longer q))
   step-longer =
       step-reached kind (plain_patterns q) q.anchored (text q) (byte_in q)
@@ -115,16 +130,20 @@ text-empty q e = ap (plain q.fold) (ap (λ (n : ℕ). slice_range q.haystack q.l
 
 module _ (kind : MatchKind) (q : Search) (empty : q.low ≡ q.high) (inside : q.high ≤ length q.haystack) where
   start-text : found_at_end kind q ≡ matches kind (plain_patterns q) q.anchored (Some [])
-  start-text = found-text kind q ∙ ap (λ (w : List ℕ). matches kind (plain_patterns q) q.anchored (Some w)) (text-empty q empty)
+  start-text =
+      found-text kind q
+      ∙ ap (λ (w : List ℕ). matches kind (plain_patterns q) q.anchored (Some w)) (text-empty q empty)
 
   -- in such a span nothing is picked where the start has no match
   pub pick-empty_none : (k : MatchKind) → found_at_end kind q ≡ [] → pick k q ≡ None
   pick-empty_none k none =
       none-from_text k q (omega arith) inside
-      (subst (λ (w : List ℕ). (n s : ℕ) → ¬ Stands (plain_patterns q) q.anchored w n s) (sym (text-empty q empty))
+      (subst (λ (w : List ℕ). (n s : ℕ) → ¬ Stands (plain_patterns q) q.anchored w n s)
+      (sym (text-empty q empty))
       (start-stays kind (plain_patterns q) q.anchored (sym start-text ∙ none)))
 
-  same_order : (earliest : Bool) (a b : Occurrence) → a.end ≡ b.end → IsFirst kind a b → IsFirst (order_of kind earliest) a b
+  same_order : (earliest : Bool) (a b : Occurrence) → a.end ≡ b.end → IsFirst kind a b
+      → IsFirst (order_of kind earliest) a b
   same_order true a b e f = first-at_one_end kind a b e f
   same_order false a b e f = f
 
@@ -133,23 +152,33 @@ module _ (kind : MatchKind) (q : Search) (empty : q.low ≡ q.high) (inside : q.
       → pick (order_of kind earliest) q ≡ Some (ending q i)
   pick-empty_some earliest i rest e =
       let h = head kind (plain_patterns q) q.anchored [] i rest (sym start-text ∙ e) in
-      let there = subst (λ (w : List ℕ). IsHead kind (plain_patterns q) q.anchored w i h.0) (sym (text-empty q empty)) h.1 in
-      sym (pick-from_text q (omega arith) inside (order_of kind earliest) (Some (place_of (plain_patterns q) i h.0))
-      (subst (λ (w : List ℕ). IsPickIn (order_of kind earliest) (plain_patterns q) q.anchored w (Some (place_of (plain_patterns q) i h.0))) (sym (text-empty q empty))
-      (start-becomes kind (plain_patterns q) (order_of kind earliest) q.anchored i h.0 h.1 (same_order earliest))))
+      let there =
+      subst (λ (w : List ℕ). IsHead kind (plain_patterns q) q.anchored w i h.0)
+      (sym (text-empty q empty)) h.1 in
+      sym (pick-from_text q (omega arith) inside (order_of kind earliest)
+      (Some (place_of (plain_patterns q) i h.0))
+      (subst (λ (w : List ℕ). IsPickIn (order_of kind earliest) (plain_patterns q) q.anchored w
+      (Some (place_of (plain_patterns q) i h.0))) (sym (text-empty q empty))
+      (start-becomes kind (plain_patterns q) (order_of kind earliest) q.anchored i h.0 h.1
+      (same_order earliest))))
       ∙ ap (λ (o : Occurrence). Some o) (ending-head kind q i h.0 (omega arith) inside there)
 
 -- what an automaton that has reached the dead node has picked is picked from any longer span
-module _ (kind : MatchKind) (q : Search) (order : q.low ≤ q.high) (dead : reached kind (plain_patterns q) q.anchored (text q) ≡ None) where
+module _ (kind : MatchKind) (q : Search) (order : q.low ≤ q.high)
+    (dead : reached kind (plain_patterns q) q.anchored (text q) ≡ None) where
   longer-suc : (n : ℕ) → longer_by q (suc n) ≡ one_longer (longer_by q n)
   longer-suc n = ap (λ (h : ℕ). record q { high = h }) (omega arith)
 
-  still_dead : (n : ℕ) → q.high + n ≤ length q.haystack → reached kind (plain_patterns q) q.anchored (text (longer_by q n)) ≡ None
-  still_dead zero room = ap (λ (h : ℕ). reached kind (plain_patterns q) q.anchored (text (record q { high = h }))) (omega arith) ∙ dead
+  still_dead : (n : ℕ) → q.high + n ≤ length q.haystack
+      → reached kind (plain_patterns q) q.anchored (text (longer_by q n)) ≡ None
+  still_dead zero room =
+      ap (λ (h : ℕ). reached kind (plain_patterns q) q.anchored (text (record q { high = h }))) (omega arith)
+      ∙ dead
   still_dead (suc n) room =
       ap (λ (s : Search). reached kind (plain_patterns q) q.anchored (text s)) (longer-suc n)
       ∙ sym (step-longer kind (longer_by q n) (omega arith) (omega arith))
-      ∙ ap (λ (v : Node). step kind (plain_patterns q) q.anchored v (byte_in (longer_by q n))) (still_dead n (omega arith))
+      ∙ ap (λ (v : Node). step kind (plain_patterns q) q.anchored v (byte_in (longer_by q n)))
+      (still_dead n (omega arith))
 
   nothing_found : (n : ℕ) → q.high + n ≤ length q.haystack → found_at_end kind (longer_by q n) ≡ []
   nothing_found n room = ap (matches kind (plain_patterns q) q.anchored) (still_dead n room)
@@ -164,7 +193,8 @@ module _ (kind : MatchKind) (q : Search) (order : q.low ≤ q.high) (dead : reac
       ∙ pick-dead n (omega arith)
 
   -- and where Standard picked nothing it stays so
-  pub first-dead : pick Standard q ≡ None → (n : ℕ) → q.high + n ≤ length q.haystack → pick Standard (longer_by q n) ≡ None
+  pub first-dead : pick Standard q ≡ None → (n : ℕ) → q.high + n ≤ length q.haystack
+      → pick Standard (longer_by q n) ≡ None
   first-dead none zero room = ap (λ (h : ℕ). pick Standard (record q { high = h })) (omega arith) ∙ none
   first-dead none (suc n) room =
       ap (pick Standard) (longer-suc n)

@@ -6,7 +6,8 @@ use Rattle.std.proofs.lemmas.Grind.{common_steps}
 use Rattle.ac_util.specs.Pieces.{AreBounds, pieces}
 
 -- a list that bounds has one more than there are pieces
-pub length-pieces : (bytes bounds : List ℕ) (last : ℕ) → AreBounds bounds last → length (pieces bytes bounds) + 1 ≡ length bounds
+pub length-pieces : (bytes bounds : List ℕ) (last : ℕ) → AreBounds bounds last
+    → length (pieces bytes bounds) + 1 ≡ length bounds
 length-pieces bytes [] last h = absurd h
 length-pieces bytes (b ∷ []) last h = omega arith
 length-pieces bytes (b ∷ e ∷ es) last h = let l = length-pieces bytes (e ∷ es) last h.1 in omega arith
@@ -17,10 +18,12 @@ pub record IsPiece (bounds : List ℕ) (last i j : ℕ) : Type 0 where
   pub within : get_or bounds j 0 ≤ last
 
 -- each bound is no greater than the next one
-pub bounds-rise : (bounds : List ℕ) (last i j : ℕ) → AreBounds bounds last → j ≡ suc i → j < length bounds → IsPiece bounds last i j
+pub bounds-rise : (bounds : List ℕ) (last i j : ℕ) → AreBounds bounds last → j ≡ suc i → j < length bounds
+    → IsPiece bounds last i j
 bounds-rise [] last i j h next within = absurd h
 bounds-rise (b ∷ []) last i j h next within = absurd (omega arith)
-bounds-rise (b ∷ e ∷ []) last zero (suc zero) h next within = record { ordered = h.0; within = (let s = h.1 in omega arith) }
+bounds-rise (b ∷ e ∷ []) last zero (suc zero) h next within =
+    record { ordered = h.0; within = (let s = h.1 in omega arith) }
 bounds-rise (b ∷ e ∷ f ∷ es) last zero (suc zero) h next within =
     let r = bounds-rise (e ∷ f ∷ es) last 0 1 h.1 refl (omega arith) in
     record { ordered = h.0; within = (let o = r.ordered in let w = r.within in omega arith) }
@@ -40,20 +43,25 @@ piece-at bytes (b ∷ e ∷ es) last zero (suc zero) h next within = refl
 piece-at bytes (b ∷ e ∷ es) last zero zero h next within = absurd (omega arith)
 piece-at bytes (b ∷ e ∷ es) last zero (suc (suc j)) h next within = absurd (omega arith)
 piece-at bytes (b ∷ e ∷ es) last (suc i) zero h next within = absurd (omega arith)
-piece-at bytes (b ∷ e ∷ es) last (suc i) (suc j) h next within = piece-at bytes (e ∷ es) last i j h.1 (omega arith) (omega arith)
+piece-at bytes (b ∷ e ∷ es) last (suc i) (suc j) h next within =
+    piece-at bytes (e ∷ es) last i j h.1 (omega arith) (omega arith)
 
 -- a part of the front isn't changed by what is added behind
-pub slice_range-append : {X : Type 0} (bytes more : List X) (s e : ℕ) → s ≤ e → e ≤ length bytes → slice_range (bytes ++ more) s e ≡ slice_range bytes s e
+pub slice_range-append : {X : Type 0} (bytes more : List X) (s e : ℕ) → s ≤ e → e ≤ length bytes
+    → slice_range (bytes ++ more) s e ≡ slice_range bytes s e
 slice_range-append bytes more s e ordered within =
     let d = length-drop s bytes in
-    ap (take (e - s)) (drop-append-le s bytes more (omega arith)) ∙ take-append-le (e - s) (drop s bytes) more (omega arith)
+    ap (take (e - s)) (drop-append-le s bytes more (omega arith))
+    ∙ take-append-le (e - s) (drop s bytes) more (omega arith)
 
 -- what is added behind stands there
-slice_range-behind : (bytes more : List ℕ) → slice_range (bytes ++ more) (length bytes) (length bytes + length more) ≡ more
+slice_range-behind : (bytes more : List ℕ)
+    → slice_range (bytes ++ more) (length bytes) (length bytes + length more) ≡ more
 slice_range-behind bytes more = grind (arith, common_steps)
 
 -- one more bound after the last adds one more piece
-pub AreBounds-push : (bounds : List ℕ) (last more : ℕ) → AreBounds bounds last → AreBounds (bounds ++ (last + more) ∷ []) (last + more)
+pub AreBounds-push : (bounds : List ℕ) (last more : ℕ) → AreBounds bounds last
+    → AreBounds (bounds ++ (last + more) ∷ []) (last + more)
 AreBounds-push [] last more h = absurd h
 AreBounds-push (b ∷ []) last more h = (omega arith, refl)
 AreBounds-push (b ∷ e ∷ es) last more h = (h.0, AreBounds-push (e ∷ es) last more h.1)
@@ -77,9 +85,11 @@ pub one_more_piece : (bytes bounds more bytes' bounds' : List ℕ) (last : ℕ) 
     → AreBounds bounds' (length bytes') × (pieces bytes' bounds' ≡ pieces bytes bounds ++ more ∷ [])
 one_more_piece bytes bounds more bytes' bounds' last h added last_is bounded =
     let whole : length bytes' ≡ length bytes + length more = ap length added ∙ length-append bytes more in
-    let here : bounds' ≡ bounds ++ (length bytes + length more) ∷ [] = bounded ∙ ap (λ (n : ℕ). bounds ++ n ∷ []) (last_is ∙ whole) in (
+    let here : bounds' ≡ bounds ++ (length bytes + length more) ∷ [] =
+    bounded ∙ ap (λ (n : ℕ). bounds ++ n ∷ []) (last_is ∙ whole) in (
       subst (λ (n : ℕ). AreBounds bounds' n) (sym whole)
-          (subst (λ (bs : List ℕ). AreBounds bs (length bytes + length more)) (sym here) (AreBounds-push bounds (length bytes) (length more) h)),
+          (subst (λ (bs : List ℕ). AreBounds bs (length bytes + length more)) (sym here)
+          (AreBounds-push bounds (length bytes) (length more) h)),
       ap (λ (bs : List ℕ). pieces bytes' bs) here
           ∙ ap (λ (xs : List ℕ). pieces xs (bounds ++ (length bytes + length more) ∷ [])) added
           ∙ pieces-push bytes more bounds h,

@@ -14,7 +14,9 @@ use Rattle.ac_util.proofs.Picks.{beats-true, beats-false, IsFirst-itself, IsFirs
 
 -- r is the pick among the occurrences at places that were tried
 abbrev pub IsBestOf : MatchKind → Search → (Occurrence → Type 0) → Option Occurrence → Type 0
-IsBestOf kind q Tried r = MatchOption r ((o : Occurrence) → Occurs q o → ¬ Tried o) (λ m. Occurs q m × ((o : Occurrence) → Occurs q o → Tried o → IsFirst kind m o))
+IsBestOf kind q Tried r =
+    MatchOption r ((o : Occurrence) → Occurs q o → ¬ Tried o)
+    (λ m. Occurs q m × ((o : Occurrence) → Occurs q o → Tried o → IsFirst kind m o))
 
 -- o is one of the first n numbers
 abbrev pub IsBelow : ℕ → Occurrence → Type 0
@@ -26,14 +28,22 @@ pub record IsReached (n at : ℕ) (o : Occurrence) : Type 0 where
   pub starts : o.pattern ≡ n → o.start < at
 
 -- fewer places tried
-fewer : (kind : MatchKind) (q : Search) (P Q : Occurrence → Type 0) (r : Option Occurrence) → ((o : Occurrence) → Occurs q o → Q o → P o) → IsBestOf kind q P r → IsBestOf kind q Q r
+fewer : (kind : MatchKind) (q : Search) (P Q : Occurrence → Type 0) (r : Option Occurrence)
+    → ((o : Occurrence) → Occurs q o → Q o → P o) → IsBestOf kind q P r → IsBestOf kind q Q r
 fewer kind q P Q None w h = λ o occurs tried. h o occurs (w o occurs tried)
 fewer kind q P Q (Some m) w h = (h.0, λ o occurs tried. h.1 o occurs (w o occurs tried))
 
 -- m or the best so far, as the kind prefers
-better_of : (kind : MatchKind) (q : Search) (P Q : Occurrence → Type 0) (m b : Occurrence) (t : Bool) → beats kind b m ≡ t → Occurs q m → ((o : Occurrence) → Occurs q o → Q o → P o ⊎ (o ≡ m))
+better_of : (kind : MatchKind) (q : Search) (P Q : Occurrence → Type 0) (m b : Occurrence) (t : Bool)
+    → beats kind b m ≡ t → Occurs q m → ((o : Occurrence) → Occurs q o → Q o → P o ⊎ (o ≡ m))
     → IsBestOf kind q P (Some b) → IsBestOf kind q Q (Some (cond t b m))
-better_of kind q P Q m b true e om w h = (h.0, λ o occurs tried. elim (w o occurs tried) [ inl p ↦ h.1 o occurs p | inr same ↦ subst (λ (x : Occurrence). IsFirst kind b x) (sym same) (beats-true kind b m e) ])
+better_of kind q P Q m b true e om w h = (
+  h.0,
+  λ o occurs tried. elim (w o occurs tried) [
+    | inl p ↦ h.1 o occurs p
+    | inr same ↦ subst (λ (x : Occurrence). IsFirst kind b x) (sym same) (beats-true kind b m e)
+  ],
+)
 better_of kind q P Q m b false e om w h = (
   om,
   λ o occurs tried. elim (w o occurs tried) [
@@ -43,32 +53,53 @@ better_of kind q P Q m b false e om w h = (
 )
 
 -- one more place tried, where m occurs
-one_more : (kind : MatchKind) (q : Search) (P Q : Occurrence → Type 0) (m : Occurrence) (r : Option Occurrence) → Occurs q m → ((o : Occurrence) → Occurs q o → Q o → P o ⊎ (o ≡ m))
+one_more : (kind : MatchKind) (q : Search) (P Q : Occurrence → Type 0) (m : Occurrence) (r : Option Occurrence)
+    → Occurs q m → ((o : Occurrence) → Occurs q o → Q o → P o ⊎ (o ≡ m))
     → IsBestOf kind q P r → IsBestOf kind q Q (Some (better kind m r))
-one_more kind q P Q m None om w h = (om, λ o occurs tried. elim (w o occurs tried) [ inl p ↦ absurd (h o occurs p) | inr same ↦ subst (λ (x : Occurrence). IsFirst kind m x) (sym same) (IsFirst-itself kind m) ])
+one_more kind q P Q m None om w h = (
+  om,
+  λ o occurs tried. elim (w o occurs tried) [
+    | inl p ↦ absurd (h o occurs p)
+    | inr same ↦ subst (λ (x : Occurrence). IsFirst kind m x) (sym same) (IsFirst-itself kind m)
+  ],
+)
 one_more kind q P Q m (Some b) om w h = better_of kind q P Q m b (beats kind b m) refl om w h
 
 -- up to a start and with it: before it, or at it
-reached_or_at : (q : Search) (n at : ℕ) (o : Occurrence) → Occurs q o → IsReached n (at + 1) o → IsReached n at o ⊎ ((o.pattern ≡ n) × (o.start ≡ at))
+reached_or_at : (q : Search) (n at : ℕ) (o : Occurrence) → Occurs q o → IsReached n (at + 1) o
+    → IsReached n at o ⊎ ((o.pattern ≡ n) × (o.start ≡ at))
 reached_or_at q n at o occurs tried = elim (cases_eq o.pattern n) [
-  | inl same ↦ elim (cases_lt o.start at) [ inl l ↦ inl (record { patterns = omega arith; starts = λ e. l }) | inr l ↦ inr (same, omega (arith, tried.starts same)) ]
+  | inl same ↦ elim (cases_lt o.start at) [
+    | inl l ↦ inl (record { patterns = omega arith; starts = λ e. l })
+    | inr l ↦ inr (same, omega (arith, tried.starts same))
+  ]
   | inr other ↦ inl (record { patterns = tried.patterns; starts = λ e. absurd (other e) })
 ]
 
 -- one more start, where nothing of this number occurs
-place_without : (kind : MatchKind) (q : Search) (n at : ℕ) (r : Option Occurrence) → ((o : Occurrence) → Occurs q o → o.pattern ≡ n → o.start ≡ at → ⊥)
+place_without : (kind : MatchKind) (q : Search) (n at : ℕ) (r : Option Occurrence)
+    → ((o : Occurrence) → Occurs q o → o.pattern ≡ n → o.start ≡ at → ⊥)
     → IsBestOf kind q (IsReached n at) r → IsBestOf kind q (IsReached n (at + 1)) r
 place_without kind q n at r none h = fewer kind q (IsReached n at) (IsReached n (at + 1)) r
-    (λ o occurs tried. elim (reached_or_at q n at o occurs tried) [ inl p ↦ p | inr p ↦ absurd (none o occurs p.0 p.1) ]) h
+    (λ o occurs tried. elim (reached_or_at q n at o occurs tried) [
+      | inl p ↦ p
+      | inr p ↦ absurd (none o occurs p.0 p.1)
+    ]) h
 
 -- one more start, where m occurs
-place_with : (kind : MatchKind) (q : Search) (m : Occurrence) (r : Option Occurrence) → Occurs q m → IsBestOf kind q (IsReached m.pattern m.start) r
+place_with : (kind : MatchKind) (q : Search) (m : Occurrence) (r : Option Occurrence) → Occurs q m
+    → IsBestOf kind q (IsReached m.pattern m.start) r
     → IsBestOf kind q (IsReached m.pattern (m.start + 1)) (Some (better kind m r))
-place_with kind q m r om h = one_more kind q (IsReached m.pattern m.start) (IsReached m.pattern (m.start + 1)) m r om
-    (λ o occurs tried. elim (reached_or_at q m.pattern m.start o occurs tried) [ inl p ↦ inl p | inr p ↦ inr (same_occurrence o m p.0 p.1 (end_from q o m occurs om p.0 p.1)) ]) h
+place_with kind q m r om h =
+    one_more kind q (IsReached m.pattern m.start) (IsReached m.pattern (m.start + 1)) m r om
+    (λ o occurs tried. elim (reached_or_at q m.pattern m.start o occurs tried) [
+      | inl p ↦ inl p
+      | inr p ↦ inr (same_occurrence o m p.0 p.1 (end_from q o m occurs om p.0 p.1))
+    ]) h
 
 -- the best of all numbers is the pick
-all_tried : (kind : MatchKind) (q : Search) (r : Option Occurrence) → IsBestOf kind q (IsBelow (length q.patterns)) r → r ≡ pick kind q
+all_tried : (kind : MatchKind) (q : Search) (r : Option Occurrence)
+    → IsBestOf kind q (IsBelow (length q.patterns)) r → r ≡ pick kind q
 all_tried kind q r h = pick-from_IsPick kind q r (at r h)
   where
     at : (r : Option Occurrence) → IsBestOf kind q (IsBelow (length q.patterns)) r → IsPick kind q r
@@ -76,32 +107,46 @@ all_tried kind q r h = pick-from_IsPick kind q r (at r h)
     at (Some m) h = (h.0, λ o occurs. h.1 o occurs occurs.numbered)
 
 -- what is borrowed under a number is the pattern of that number
-pub pattern_of-bytes_of : (strings : List (Bor (List ℕ))) (n : ℕ) (d : Bor (List ℕ)) → d.now ≡ [] → pattern_of (bytes_of strings) n ≡ (get_or strings n d).now
-pattern_of-bytes_of strings n d empty = ap (λ (e : List ℕ). get_or (bytes_of strings) n e) (sym empty) ∙ get_or-map (λ (s : Bor (List ℕ)). s.now) strings n d
+pub pattern_of-bytes_of : (strings : List (Bor (List ℕ))) (n : ℕ) (d : Bor (List ℕ)) → d.now ≡ []
+    → pattern_of (bytes_of strings) n ≡ (get_or strings n d).now
+pattern_of-bytes_of strings n d empty =
+    ap (λ (e : List ℕ). get_or (bytes_of strings) n e) (sym empty)
+    ∙ get_or-map (λ (s : Bor (List ℕ)). s.now) strings n d
 
 -- one more start, where the pattern occurs
-pub start_with : (kind : MatchKind) (q : Search) (n start end : ℕ) (m : Occurrence) (best new : Option Occurrence) → Occurs q (occurrence n start end) → m ≡ occurrence n start end → new ≡ Some (better kind m best)
+pub start_with : (kind : MatchKind) (q : Search) (n start end : ℕ) (m : Occurrence)
+    (best new : Option Occurrence) → Occurs q (occurrence n start end) → m ≡ occurrence n start end
+    → new ≡ Some (better kind m best)
     → IsBestOf kind q (IsReached n start) best → IsBestOf kind q (IsReached n (start + 1)) new
 start_with kind q n start end m best new occurs is new_is h =
-    subst (IsBestOf kind q (IsReached n (start + 1))) (sym (new_is ∙ ap (λ (o : Occurrence). Some (better kind o best)) is))
+    subst (IsBestOf kind q (IsReached n (start + 1)))
+    (sym (new_is ∙ ap (λ (o : Occurrence). Some (better kind o best)) is))
     (place_with kind q (occurrence n start end) best occurs h)
 
 -- one more start, where it does not: `end` is right where the pattern has room in the span
-pub start_without : (kind : MatchKind) (q : Search) (n start end : ℕ) (best new : Option Occurrence) → (start + length (pattern_of q.patterns n) ≤ q.high → end ≡ start + length (pattern_of q.patterns n))
-    → ¬ Occurs q (occurrence n start end) → new ≡ best → IsBestOf kind q (IsReached n start) best → IsBestOf kind q (IsReached n (start + 1)) new
+pub start_without : (kind : MatchKind) (q : Search) (n start end : ℕ) (best new : Option Occurrence)
+    → (start + length (pattern_of q.patterns n) ≤ q.high → end ≡ start + length (pattern_of q.patterns n))
+    → ¬ Occurs q (occurrence n start end) → new ≡ best → IsBestOf kind q (IsReached n start) best
+    → IsBestOf kind q (IsReached n (start + 1)) new
 start_without kind q n start end best new right none new_is h =
-    subst (IsBestOf kind q (IsReached n (start + 1))) (sym new_is) (place_without kind q n start best no_other h)
+    subst (IsBestOf kind q (IsReached n (start + 1))) (sym new_is)
+    (place_without kind q n start best no_other h)
   where
     no_other : (o : Occurrence) → Occurs q o → o.pattern ≡ n → o.start ≡ start → ⊥
     no_other o occurs number at =
-        let long : o.end ≡ start + length (pattern_of q.patterns n) = sym occurs.as_long ∙ ap (λ (k : ℕ). o.start + length (pattern_of q.patterns k)) number ∙ ap (λ (k : ℕ). k + length (pattern_of q.patterns n)) at in
+        let long : o.end ≡ start + length (pattern_of q.patterns n) =
+        sym occurs.as_long ∙ ap (λ (k : ℕ). o.start + length (pattern_of q.patterns k)) number
+        ∙ ap (λ (k : ℕ). k + length (pattern_of q.patterns n)) at in
         let fits = occurs.to_high in
         let same : o.end ≡ end = long ∙ sym (right (omega arith)) in
-        none (subst (λ (m : Occurrence). Occurs q m) (same_occurrence o (occurrence n start end) number at same) occurs)
+        none (subst (λ (m : Occurrence). Occurs q m)
+        (same_occurrence o (occurrence n start end) number at same) occurs)
 
 -- all numbers were tried
-pub numbers_tried : (kind : MatchKind) (q : Search) (n : ℕ) (strings : List (Bor (List ℕ))) (best : Option Occurrence) → q.patterns ≡ bytes_of strings → n ≤ length strings → length strings ≤ n
+pub numbers_tried : (kind : MatchKind) (q : Search) (n : ℕ) (strings : List (Bor (List ℕ)))
+    (best : Option Occurrence) → q.patterns ≡ bytes_of strings → n ≤ length strings → length strings ≤ n
     → IsBestOf kind q (IsBelow n) best → best ≡ pick kind q
 numbers_tried kind q n strings best is l m h =
-    let all : n ≡ length q.patterns = omega (arith, ap length is, length-map strings (λ (s : Bor (List ℕ)). s.now)) in
+    let all : n ≡ length q.patterns =
+    omega (arith, ap length is, length-map strings (λ (s : Bor (List ℕ)). s.now)) in
     all_tried kind q best (subst (λ (k : ℕ). IsBestOf kind q (IsBelow k) best) all h)

@@ -32,11 +32,14 @@ occurs-is q m false h = not_true (occurs q m) (λ t. absurd (false_is_not (h.1 (
     not_true false h = refl
 
 -- one more number
-pub occurring-number : (q : Search) (start end n : ℕ) (b : Bool) → (IsTrue b ↔ Occurs q (occurrence n start end))
-    → occurring q (first_numbers start end (n + 1)) ≡ occurring q (first_numbers start end n) ++ cond b (occurrence n start end ∷ []) []
+pub occurring-number : (q : Search) (start end n : ℕ) (b : Bool)
+    → (IsTrue b ↔ Occurs q (occurrence n start end))
+    → occurring q (first_numbers start end (n + 1))
+    ≡ occurring q (first_numbers start end n) ++ cond b (occurrence n start end ∷ []) []
 occurring-number q start end n b h =
     filter_of_map_range_with_len_more (occurs q) (λ number. occurrence number start end) 0 n n (omega arith)
-    ∙ ap (λ t. occurring q (first_numbers start end n) ++ cond t (occurrence n start end ∷ []) []) (occurs-is q (occurrence n start end) b h)
+    ∙ ap (λ t. occurring q (first_numbers start end n) ++ cond t (occurrence n start end ∷ []) [])
+    (occurs-is q (occurrence n start end) b h)
 
 -- a range and the number after it
 range-more : (a n j : ℕ) → a + n ≡ j → range_with_len a (suc n) ≡ range_with_len a n ++ j ∷ []
@@ -45,30 +48,39 @@ range-more a (suc n) j e = ap (λ ks. a ∷ ks) (range-more (a + 1) n j (omega a
 
 -- one more start, or one more end
 pub occurring-more : (q : Search) (places : ℕ → List Occurrence) (a n k j : ℕ) → suc n ≡ k → a + n ≡ j
-    → occurring q (flat_map places (range_with_len a k)) ≡ occurring q (flat_map places (range_with_len a n)) ++ occurring q (places j)
+    → occurring q (flat_map places (range_with_len a k))
+    ≡ occurring q (flat_map places (range_with_len a n)) ++ occurring q (places j)
 occurring-more q places a n k j e f =
     ap (λ k. occurring q (flat_map places (range_with_len a k))) (sym e)
     ∙ ap (λ ks. occurring q (flat_map places ks)) (range-more a n j f)
-    ∙ ap (occurring q) (flat_map-append places (range_with_len a n) (j ∷ []) ∙ ap (λ ms. flat_map places (range_with_len a n) ++ ms) (append-nil (places j)))
+    ∙ ap (occurring q)
+    (flat_map-append places (range_with_len a n) (j ∷ [])
+    ∙ ap (λ ms. flat_map places (range_with_len a n) ++ ms) (append-nil (places j)))
     ∙ filter-append (occurs q) (flat_map places (range_with_len a n)) (places j)
 
 -- what a round of a loop adds to what the rounds before it added
-pub added_more : (q : Search) (places : ℕ → List Occurrence) (a n k j : ℕ) (before items new : List Occurrence) → suc n ≡ k → a + n ≡ j
-    → items ≡ before ++ occurring q (flat_map places (range_with_len a n)) → new ≡ items ++ occurring q (places j) → new ≡ before ++ occurring q (flat_map places (range_with_len a k))
+pub added_more : (q : Search) (places : ℕ → List Occurrence) (a n k j : ℕ) (before items new : List Occurrence)
+    → suc n ≡ k → a + n ≡ j
+    → items ≡ before ++ occurring q (flat_map places (range_with_len a n))
+    → new ≡ items ++ occurring q (places j) → new ≡ before ++ occurring q (flat_map places (range_with_len a k))
 added_more q places a n k j before items new e f is more =
     more ∙ ap (λ ms. ms ++ occurring q (places j)) is
     ∙ append_assoc before (occurring q (flat_map places (range_with_len a n))) (occurring q (places j))
     ∙ ap (λ ms. before ++ ms) (sym (occurring-more q places a n k j e f))
 
 -- what a number adds, by whether it occurs
-pub number_added : (q : Search) (start end n : ℕ) (b : Bool) (before items new : List Occurrence) → (IsTrue b ↔ Occurs q (occurrence n start end))
-    → items ≡ before ++ occurring q (first_numbers start end n) → new ≡ items ++ cond b (occurrence n start end ∷ []) [] → new ≡ before ++ occurring q (first_numbers start end (n + 1))
+pub number_added : (q : Search) (start end n : ℕ) (b : Bool) (before items new : List Occurrence)
+    → (IsTrue b ↔ Occurs q (occurrence n start end))
+    → items ≡ before ++ occurring q (first_numbers start end n)
+    → new ≡ items ++ cond b (occurrence n start end ∷ []) []
+    → new ≡ before ++ occurring q (first_numbers start end (n + 1))
 number_added q start end n b before items new h is more =
     more ∙ ap (λ ms. ms ++ cond b (occurrence n start end ∷ []) []) is
     ∙ append_assoc before (occurring q (first_numbers start end n)) (cond b (occurrence n start end ∷ []) [])
     ∙ ap (λ ms. before ++ ms) (sym (occurring-number q start end n b h))
 
 -- what occurs at all ends is all that occurs
-pub all-from_ends : (q : Search) (n : ℕ) → n ≡ q.high + 1 - q.low → occurring q (flat_map (places_ending_at q) (range_with_len q.low n)) ≡ all q
+pub all-from_ends : (q : Search) (n : ℕ) → n ≡ q.high + 1 - q.low
+    → occurring q (flat_map (places_ending_at q) (range_with_len q.low n)) ≡ all q
 unfolding all
 all-from_ends q n e = ap (λ k. occurring q (flat_map (places_ending_at q) (range_with_len q.low k))) e

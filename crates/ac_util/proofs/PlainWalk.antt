@@ -11,7 +11,12 @@ use Rattle.ac_util.proofs.Walks.{pick-Occurs, next-in_span, next-beyond, walk_af
 
 -- a span in which something is picked starts no later than it ends
 pub pick-low : (kind : MatchKind) (q : Search) (m : Occurrence) → pick kind q ≡ Some m → q.low ≤ q.high
-pick-low kind q m e = let o = pick-Occurs kind q m e in let a = o.from_low in let b = o.as_long in let c = o.to_high in omega arith
+pick-low kind q m e =
+    let o = pick-Occurs kind q m e in
+    let a = o.from_low in
+    let b = o.as_long in
+    let c = o.to_high in
+    omega arith
 
 -- the walk from its next match on
 abbrev pub walk_from : MatchKind → Search → Option Occurrence → List Occurrence
@@ -19,7 +24,8 @@ walk_from kind q None = []
 walk_from kind q (Some m) = m ∷ walk_after kind (from q m.end) (Some m.end)
 
 -- the walk after `last` is the one from its next match on
-pub walk_after-walk_from : (kind : MatchKind) (q : Search) (last : Option ℕ) (next : Option Occurrence) → next_match kind q last ≡ next → walk_after kind q last ≡ walk_from kind q next
+pub walk_after-walk_from : (kind : MatchKind) (q : Search) (last : Option ℕ) (next : Option Occurrence)
+    → next_match kind q last ≡ next → walk_after kind q last ≡ walk_from kind q next
 walk_after-walk_from kind q last None e = walk_after-None kind q last e
 walk_after-walk_from kind q last (Some m) e = walk_after-Some kind q last m e
 
@@ -33,12 +39,14 @@ abbrev pub EndsWithin : Search → Option Occurrence → Type 0
 EndsWithin q next = MatchOption next (Unit {0}) (λ m. m.end ≤ q.high)
 
 -- as each next match does
-pub next-EndsWithin : (kind : MatchKind) (q : Search) (last : Option ℕ) (next : Option Occurrence) → next_match kind q last ≡ next → EndsWithin q next
+pub next-EndsWithin : (kind : MatchKind) (q : Search) (last : Option ℕ) (next : Option Occurrence)
+    → next_match kind q last ≡ next → EndsWithin q next
 next-EndsWithin kind q last None e = tt
 next-EndsWithin kind q last (Some m) e = let o = next-in_span kind q last m e in o.to_high
 
 -- each next match leaves less room
-pub room-falls : (kind : MatchKind) (q : Search) (m : Occurrence) (next : Option Occurrence) → m.end ≤ q.high → next_match kind (from q m.end) (Some m.end) ≡ next → room_after q next < room_after q (Some m)
+pub room-falls : (kind : MatchKind) (q : Search) (m : Occurrence) (next : Option Occurrence) → m.end ≤ q.high
+    → next_match kind (from q m.end) (Some m.end) ≡ next → room_after q next < room_after q (Some m)
 room-falls kind q m None l e = omega arith
 room-falls kind q m (Some n) l e =
     let o = next-in_span kind (from q m.end) (Some m.end) n e in
@@ -47,15 +55,19 @@ room-falls kind q m (Some n) l e =
     omega arith
 
 -- the walk begins with its first match
-pub begun : (kind : MatchKind) (q : Search) (matches : List Occurrence) (next : Option Occurrence) → matches ≡ [] → next_match kind q None ≡ next → matches ++ walk_from kind q next ≡ walk kind q
-begun kind q matches next none e = ap (λ ms. ms ++ walk_from kind q next) none ∙ sym (walk_after-walk_from kind q None next e)
+pub begun : (kind : MatchKind) (q : Search) (matches : List Occurrence) (next : Option Occurrence)
+    → matches ≡ [] → next_match kind q None ≡ next → matches ++ walk_from kind q next ≡ walk kind q
+begun kind q matches next none e =
+    ap (λ ms. ms ++ walk_from kind q next) none ∙ sym (walk_after-walk_from kind q None next e)
 
 -- a match is taken, and what follows it is left
-pub taken : (kind : MatchKind) (q : Search) (matches more : List Occurrence) (m : Occurrence) (next : Option Occurrence) → more ≡ matches ++ m ∷ [] → next_match kind (from q m.end) (Some m.end) ≡ next
+pub taken : (kind : MatchKind) (q : Search) (matches more : List Occurrence) (m : Occurrence)
+    (next : Option Occurrence) → more ≡ matches ++ m ∷ [] → next_match kind (from q m.end) (Some m.end) ≡ next
     → more ++ walk_from kind q next ≡ matches ++ walk_from kind q (Some m)
 taken kind q matches more m next is e =
     ap (λ ms. ms ++ walk_from kind q next) is ∙ append_assoc matches (m ∷ []) (walk_from kind q next)
-    ∙ ap (λ ms. matches ++ m ∷ ms) (from_any next ∙ sym (walk_after-walk_from kind (from q m.end) (Some m.end) next e))
+    ∙ ap (λ ms. matches ++ m ∷ ms)
+    (from_any next ∙ sym (walk_after-walk_from kind (from q m.end) (Some m.end) next e))
   where
     from_any : (r : Option Occurrence) → walk_from kind q r ≡ walk_from kind (from q m.end) r
     from_any None = refl

@@ -37,7 +37,8 @@ pub open_suffixes-nil : (kind : MatchKind) (patterns : List (List ℕ)) → open
 open_suffixes-nil kind patterns = starting_by-one (is_leftmost kind) (begins_with_pattern patterns [])
 
 starting_by-two : (p : List ℕ → Bool) (l t : Bool) (y : List ℕ) → p [] ≡ true
-    → find p (starting_by (cond l (cond t (Some 0) None) None) (y ∷ [] ∷ [])) ≡ cond (p y) (Some y) (cond (l && t) None (Some []))
+    → find p (starting_by (cond l (cond t (Some 0) None) None) (y ∷ [] ∷ []))
+    ≡ cond (p y) (Some y) (cond (l && t) None (Some []))
 starting_by-two p false t y nil = ap (λ (s : Bool). cond (p y) (Some y) (cond s (Some []) None)) nil
 starting_by-two p true true y nil = refl
 starting_by-two p true false y nil = ap (λ (s : Bool). cond (p y) (Some y) (cond s (Some []) None)) nil
@@ -74,15 +75,20 @@ module _ (kind : MatchKind) (patterns : List (List ℕ)) where
   abbrev stepped : List ℕ → ℕ → Node
   stepped u b = step kind patterns No (Some u) b
 
-  -- a step from a string: the whole with the byte, or dead where it may not start later, or the step from the rest
+  -- a step from a string: the whole with the byte, or dead where it may not start later, or the step from the
+  -- rest
   pub step-cons : (x b : ℕ) (u : List ℕ)
-      → stepped (x ∷ u) b ≡ cond (node (x ∷ u ++ b ∷ [])) (Some (x ∷ u ++ b ∷ [])) (cond (stop (x ∷ u)) None (stepped u b))
+      → stepped (x ∷ u) b
+      ≡ cond (node (x ∷ u ++ b ∷ [])) (Some (x ∷ u ++ b ∷ [])) (cond (stop (x ∷ u)) None (stepped u b))
   step-cons x b u =
-      ap (find (is_node kind patterns)) (starting_by-cons kind patterns x u (x ∷ u ++ b ∷ []) (suffixes (u ++ b ∷ [])))
-      ∙ find-cond (is_node kind patterns) (stop (x ∷ u)) (x ∷ u ++ b ∷ []) (starting_by (last_start kind patterns u) (suffixes (u ++ b ∷ [])))
+      ap (find (is_node kind patterns))
+      (starting_by-cons kind patterns x u (x ∷ u ++ b ∷ []) (suffixes (u ++ b ∷ [])))
+      ∙ find-cond (is_node kind patterns) (stop (x ∷ u)) (x ∷ u ++ b ∷ [])
+      (starting_by (last_start kind patterns u) (suffixes (u ++ b ∷ [])))
 
   step-nil : (b : ℕ) → stepped [] b ≡ cond (node (b ∷ [])) (Some (b ∷ [])) (cond (stop []) None (Some []))
-  step-nil b = starting_by-two (is_node kind patterns) (is_leftmost kind) (begins_with_pattern patterns []) (b ∷ []) refl
+  step-nil b =
+      starting_by-two (is_node kind patterns) (is_leftmost kind) (begins_with_pattern patterns []) (b ∷ []) refl
 
   -- where one more byte makes no node, it makes no pattern begin either
   begins_same : (v : List ℕ) (b : ℕ) → node (v ++ b ∷ []) ≡ false
@@ -100,18 +106,21 @@ module _ (kind : MatchKind) (patterns : List (List ℕ)) where
   from_node : (x b : ℕ) (w u : List ℕ) (t s : Bool) → node (x ∷ w) ≡ t → stop (x ∷ w) ≡ s
       → cond t (Some (x ∷ w)) (cond s None (free w)) ≡ Some u
       → (free w ≡ Some u → stepped u b ≡ stepped w b) → stepped u b ≡ stepped (x ∷ w) b
-  from_node x b w u true s is stop_is e later = let same : (x ∷ w) ≡ u = cc in ap (λ (v : List ℕ). stepped v b) (sym same)
+  from_node x b w u true s is stop_is e later =
+      let same : (x ∷ w) ≡ u = cc in ap (λ (v : List ℕ). stepped v b) (sym same)
   from_node x b w u false true is stop_is e later = absurd (cc)
   from_node x b w u false false is stop_is e later =
       later e ∙ sym (step-cons x b w
-      ∙ cond-false (node (x ∷ w ++ b ∷ [])) (Some (x ∷ w ++ b ∷ [])) (cond (stop (x ∷ w)) None (stepped w b)) (is_node-more kind patterns (x ∷ w) b is)
+      ∙ cond-false (node (x ∷ w ++ b ∷ [])) (Some (x ∷ w ++ b ∷ [])) (cond (stop (x ∷ w)) None (stepped w b))
+      (is_node-more kind patterns (x ∷ w) b is)
       ∙ cond-false (stop (x ∷ w)) None (stepped w b) stop_is)
 
   step-from_node : (w u : List ℕ) (b : ℕ) → free w ≡ Some u → stepped u b ≡ stepped w b
   step-from_node [] u b e =
       let same : [] ≡ u = let nil = reached-nil No in cc in ap (λ (v : List ℕ). stepped v b) (sym same)
   step-from_node (x ∷ w) u b e =
-      from_node x b w u (node (x ∷ w)) (stop (x ∷ w)) refl refl (sym (reached-cons x w) ∙ e) (λ f. step-from_node w u b f)
+      from_node x b w u (node (x ∷ w)) (stop (x ∷ w)) refl refl (sym (reached-cons x w) ∙ e)
+      (λ f. step-from_node w u b f)
 
   -- where the dead node was reached, no step from all that was read leads on
   from_dead : (x b : ℕ) (w : List ℕ) (t s : Bool) → node (x ∷ w) ≡ t → stop (x ∷ w) ≡ s
@@ -120,27 +129,32 @@ module _ (kind : MatchKind) (patterns : List (List ℕ)) where
   from_dead x b w true s is stop_is e later = absurd (cc)
   from_dead x b w false true is stop_is e later =
       step-cons x b w
-      ∙ cond-false (node (x ∷ w ++ b ∷ [])) (Some (x ∷ w ++ b ∷ [])) (cond (stop (x ∷ w)) None (stepped w b)) (is_node-more kind patterns (x ∷ w) b is)
+      ∙ cond-false (node (x ∷ w ++ b ∷ [])) (Some (x ∷ w ++ b ∷ [])) (cond (stop (x ∷ w)) None (stepped w b))
+      (is_node-more kind patterns (x ∷ w) b is)
       ∙ cond-true (stop (x ∷ w)) None (stepped w b) stop_is
   from_dead x b w false false is stop_is e later =
       step-cons x b w
-      ∙ cond-false (node (x ∷ w ++ b ∷ [])) (Some (x ∷ w ++ b ∷ [])) (cond (stop (x ∷ w)) None (stepped w b)) (is_node-more kind patterns (x ∷ w) b is)
+      ∙ cond-false (node (x ∷ w ++ b ∷ [])) (Some (x ∷ w ++ b ∷ [])) (cond (stop (x ∷ w)) None (stepped w b))
+      (is_node-more kind patterns (x ∷ w) b is)
       ∙ cond-false (stop (x ∷ w)) None (stepped w b) stop_is
       ∙ later e
 
   step-from_dead : (w : List ℕ) (b : ℕ) → free w ≡ None → stepped w b ≡ None
   step-from_dead [] b e = let nil = reached-nil No in absurd (cc)
   step-from_dead (x ∷ w) b e =
-      from_dead x b w (node (x ∷ w)) (stop (x ∷ w)) refl refl (sym (reached-cons x w) ∙ e) (λ f. step-from_dead w b f)
+      from_dead x b w (node (x ∷ w)) (stop (x ∷ w)) refl refl (sym (reached-cons x w) ∙ e)
+      (λ f. step-from_dead w b f)
 
   one_byte : (b : ℕ) (t : Bool) → node (b ∷ []) ≡ t
-      → cond t (Some (b ∷ [])) (cond (stop []) None (Some [])) ≡ cond t (Some (b ∷ [])) (cond (stop (b ∷ [])) None (free []))
+      → cond t (Some (b ∷ [])) (cond (stop []) None (Some []))
+      ≡ cond t (Some (b ∷ [])) (cond (stop (b ∷ [])) None (free []))
   one_byte b true is = refl
   one_byte b false is =
       ap (λ (s : Bool). cond s None (Some [])) (stops-same [] b is)
       ∙ ap (λ (r : Node). cond (stop (b ∷ [])) None r) (sym (reached-nil No))
 
-  one_more_byte : (x b : ℕ) (w : List ℕ) (t : Bool) → node (x ∷ w ++ b ∷ []) ≡ t → stepped w b ≡ free (w ++ b ∷ [])
+  one_more_byte : (x b : ℕ) (w : List ℕ) (t : Bool) → node (x ∷ w ++ b ∷ []) ≡ t
+      → stepped w b ≡ free (w ++ b ∷ [])
       → cond t (Some (x ∷ w ++ b ∷ [])) (cond (stop (x ∷ w)) None (stepped w b))
       ≡ cond t (Some (x ∷ w ++ b ∷ [])) (cond (stop (x ∷ w ++ b ∷ [])) None (free (w ++ b ∷ [])))
   one_more_byte x b w true is later = refl
@@ -163,10 +177,12 @@ module _ (kind : MatchKind) (patterns : List (List ℕ)) where
   step_held : (w : List ℕ) (b : ℕ) (t : Bool) → node w ≡ t
       → step kind patterns Yes (cond t (Some w) None) b ≡ reached kind patterns Yes (w ++ b ∷ [])
   step_held w b true is = refl
-  step_held w b false is = sym (cond-false (node (w ++ b ∷ [])) (Some (w ++ b ∷ [])) None (is_node-more kind patterns w b is))
+  step_held w b false is =
+      sym (cond-false (node (w ++ b ∷ [])) (Some (w ++ b ∷ [])) None (is_node-more kind patterns w b is))
 
   -- a step leads from the node reached to the one reached with one more byte
   pub step-reached : (anchored : Anchored) (w : List ℕ) (b : ℕ)
-      → step kind patterns anchored (reached kind patterns anchored w) b ≡ reached kind patterns anchored (w ++ b ∷ [])
+      → step kind patterns anchored (reached kind patterns anchored w) b
+      ≡ reached kind patterns anchored (w ++ b ∷ [])
   step-reached No w b = step_free w b (free w) refl
   step-reached Yes w b = step_held w b (node w) refl

@@ -83,7 +83,8 @@ unfolding pick all
 nested-find-longest = refl
 
 -- a search that wants the earliest end picks as Standard does, whatever its kind
-nested-earliest-standard : pick (order_of Standard true) (in_text nested_words (codes "abcd")) ≡ Some (occurrence 0 1 2)
+nested-earliest-standard : pick (order_of Standard true) (in_text nested_words (codes "abcd")) ≡ Some
+    (occurrence 0 1 2)
 unfolding pick all
 nested-earliest-standard = refl
 
@@ -146,7 +147,8 @@ append-listing : all (in_text append_words append_text)
 unfolding all
 append-listing = refl
 
-append-listing-anchored : all (at_start (in_text append_words append_text)) ≡ occurrence 2 0 3 ∷ occurrence 0 0 6 ∷ []
+append-listing-anchored : all
+    (at_start (in_text append_words append_text)) ≡ occurrence 2 0 3 ∷ occurrence 0 0 6 ∷ []
 unfolding all
 append-listing-anchored = refl
 
@@ -188,28 +190,33 @@ alphabet-with-b-walk-first : walk LeftmostFirst (in_text (alphabet_words_after (
 unfolding walk_after pick all
 alphabet-with-b-walk-first = refl
 
-alphabet-with-b-walk-longest : walk LeftmostLongest (in_text (alphabet_words_after (codes "b")) (codes "abcdefghz"))
+alphabet-with-b-walk-longest : walk LeftmostLongest
+    (in_text (alphabet_words_after (codes "b")) (codes "abcdefghz"))
     ≡ occurrence 3 0 8 ∷ []
 unfolding walk_after pick all
 alphabet-with-b-walk-longest = refl
 
 -- the empty pattern last in the list is picked where no earlier one starts
-trailing-empty-find-first : pick LeftmostFirst (in_text (codes "abc" ∷ codes "bd" ∷ codes "" ∷ []) (codes "abd"))
+trailing-empty-find-first : pick LeftmostFirst
+    (in_text (codes "abc" ∷ codes "bd" ∷ codes "" ∷ []) (codes "abd"))
     ≡ Some (occurrence 2 0 0)
 unfolding pick all
 trailing-empty-find-first = refl
 
-trailing-empty-walk-first : walk LeftmostFirst (in_text (codes "abc" ∷ codes "bd" ∷ codes "" ∷ []) (codes "abd"))
+trailing-empty-walk-first : walk LeftmostFirst
+    (in_text (codes "abc" ∷ codes "bd" ∷ codes "" ∷ []) (codes "abd"))
     ≡ occurrence 2 0 0 ∷ occurrence 1 1 3 ∷ []
 unfolding walk_after pick all
 trailing-empty-walk-first = refl
 
 -- one pattern twice: the lesser number is picked, both are listed
-twice-find-standard : pick Standard (in_text (codes "ab" ∷ codes "ab" ∷ []) (codes "abab")) ≡ Some (occurrence 0 0 2)
+twice-find-standard : pick Standard (in_text (codes "ab" ∷ codes "ab" ∷ []) (codes "abab")) ≡ Some
+    (occurrence 0 0 2)
 unfolding pick all
 twice-find-standard = refl
 
-twice-find-first : pick LeftmostFirst (in_text (codes "ab" ∷ codes "ab" ∷ []) (codes "abab")) ≡ Some (occurrence 0 0 2)
+twice-find-first : pick LeftmostFirst (in_text (codes "ab" ∷ codes "ab" ∷ []) (codes "abab")) ≡ Some
+    (occurrence 0 0 2)
 unfolding pick all
 twice-find-first = refl
 
@@ -240,7 +247,8 @@ later-nested-first-anchored-from-4 = refl
 
 -- an anchored walk goes on as long as one match stands right after another
 foo-bar-quux-anchored-walk :
-    walk LeftmostFirst (at_start (in_text (codes "foo" ∷ codes "bar" ∷ codes "quux" ∷ []) (codes "fooquuxbar foo")))
+    walk LeftmostFirst
+    (at_start (in_text (codes "foo" ∷ codes "bar" ∷ codes "quux" ∷ []) (codes "fooquuxbar foo")))
     ≡ occurrence 0 0 3 ∷ occurrence 2 3 7 ∷ occurrence 1 7 10 ∷ []
 unfolding walk_after pick all
 foo-bar-quux-anchored-walk = refl
@@ -295,7 +303,8 @@ empty-find-past-the-end-first : pick LeftmostFirst (within 4 3 (in_text (codes "
 unfolding pick all
 empty-find-past-the-end-first = refl
 
-empty-find-past-the-end-longest : pick LeftmostLongest (within 4 3 (in_text (codes "" ∷ []) (codes "abc"))) ≡ None
+empty-find-past-the-end-longest : pick LeftmostLongest
+    (within 4 3 (in_text (codes "" ∷ []) (codes "abc"))) ≡ None
 unfolding pick all
 empty-find-past-the-end-longest = refl
 
@@ -365,16 +374,19 @@ unfolding walk_after pick all
 foo-bar-baz-caseless-first = refl
 
 foo-bar-baz-caseless-longest :
-    walk LeftmostLongest (caseless (in_text (codes "FOO" ∷ codes "bAr" ∷ codes "BaZ" ∷ []) (codes "foo bar baz")))
+    walk LeftmostLongest
+    (caseless (in_text (codes "FOO" ∷ codes "bAr" ∷ codes "BaZ" ∷ []) (codes "foo bar baz")))
     ≡ occurrence 0 0 3 ∷ occurrence 1 4 7 ∷ occurrence 2 8 11 ∷ []
 unfolding walk_after pick all
 foo-bar-baz-caseless-longest = refl
 
-foo-bar-baz-standard : walk Standard (in_text (codes "FOO" ∷ codes "bAr" ∷ codes "BaZ" ∷ []) (codes "foo bar baz")) ≡ []
+foo-bar-baz-standard : walk Standard
+    (in_text (codes "FOO" ∷ codes "bAr" ∷ codes "BaZ" ∷ []) (codes "foo bar baz")) ≡ []
 unfolding walk_after pick all
 foo-bar-baz-standard = refl
 
-foo-bar-baz-first : walk LeftmostFirst (in_text (codes "FOO" ∷ codes "bAr" ∷ codes "BaZ" ∷ []) (codes "foo bar baz"))
+foo-bar-baz-first : walk LeftmostFirst
+    (in_text (codes "FOO" ∷ codes "bAr" ∷ codes "BaZ" ∷ []) (codes "foo bar baz"))
     ≡ []
 unfolding walk_after pick all
 foo-bar-baz-first = refl
@@ -423,7 +435,8 @@ empty-walk-ab : walk Standard (in_text (codes "" ∷ []) (codes "ab"))
 unfolding walk_after pick all
 empty-walk-ab = refl
 
-bc-before-abcd : pick Standard (in_text (codes "bc" ∷ codes "abcd" ∷ []) (codes "abcd")) ≡ Some (occurrence 0 1 3)
+bc-before-abcd : pick Standard (in_text (codes "bc" ∷ codes "abcd" ∷ []) (codes "abcd")) ≡ Some
+    (occurrence 0 1 3)
 unfolding pick all
 bc-before-abcd = refl
 
@@ -433,7 +446,8 @@ abcd-fails-bc-found : pick LeftmostFirst (in_text (codes "abcd" ∷ codes "bc" �
 unfolding pick all
 abcd-fails-bc-found = refl
 
-abcd-found : pick LeftmostFirst (in_text (codes "abcd" ∷ codes "bc" ∷ []) (codes "abcd")) ≡ Some (occurrence 0 0 4)
+abcd-found : pick LeftmostFirst (in_text (codes "abcd" ∷ codes "bc" ∷ []) (codes "abcd")) ≡ Some
+    (occurrence 0 0 4)
 unfolding pick all
 abcd-found = refl
 
@@ -482,7 +496,8 @@ unfolding pick all
 bracket-caseless-longest = refl
 
 -- patterns inside each other, anchored
-nested-anchored-standard : pick Standard (at_start (in_text nested_words (codes "abcd"))) ≡ Some (occurrence 1 0 3)
+nested-anchored-standard : pick Standard (at_start (in_text nested_words (codes "abcd"))) ≡ Some
+    (occurrence 1 0 3)
 unfolding pick all
 nested-anchored-standard = refl
 
@@ -491,7 +506,8 @@ nested-anchored-longest : pick LeftmostLongest (at_start (in_text nested_words (
 unfolding pick all
 nested-anchored-longest = refl
 
-nested-anchored-longest-earliest : pick (order_of LeftmostLongest true) (at_start (in_text nested_words (codes "abcd")))
+nested-anchored-longest-earliest : pick (order_of LeftmostLongest true)
+    (at_start (in_text nested_words (codes "abcd")))
     ≡ Some (occurrence 1 0 3)
 unfolding pick all
 nested-anchored-longest-earliest = refl
@@ -518,7 +534,8 @@ unfolding all
 xb-listing-anchored = refl
 
 -- listings: by end, then by start
-ushers-listing : all (in_text pronouns (codes "ushers")) ≡ occurrence 1 1 4 ∷ occurrence 0 2 4 ∷ occurrence 3 2 6 ∷ []
+ushers-listing : all (in_text pronouns (codes "ushers"))
+    ≡ occurrence 1 1 4 ∷ occurrence 0 2 4 ∷ occurrence 3 2 6 ∷ []
 unfolding all
 ushers-listing = refl
 
@@ -528,6 +545,7 @@ a-aa-aaa-listing : all (within 1 4 (in_text (codes "a" ∷ codes "aa" ∷ codes 
 unfolding all
 a-aa-aaa-listing = refl
 
-b-abc-listing-anchored : all (at_start (in_text (codes "b" ∷ codes "abc" ∷ []) (codes "abc"))) ≡ occurrence 1 0 3 ∷ []
+b-abc-listing-anchored : all
+    (at_start (in_text (codes "b" ∷ codes "abc" ∷ []) (codes "abc"))) ≡ occurrence 1 0 3 ∷ []
 unfolding all
 b-abc-listing-anchored = refl

@@ -15,14 +15,16 @@ use Rattle.ac_util.proofs.Picks.{pick-IsPick, pick-from_IsPick, same_occurrence}
 use Rattle.ac_util.proofs.Standing.{Stands, place_of, IsPickIn, Stands-end}
 
 -- a part of the first m elements is a part of the list
-take_drop_take : {X : Type 0} (n k m : ℕ) (xs : List X) → k + n ≤ m → take n (drop k (take m xs)) ≡ take n (drop k xs)
+take_drop_take : {X : Type 0} (n k m : ℕ) (xs : List X) → k + n ≤ m
+    → take n (drop k (take m xs)) ≡ take n (drop k xs)
 take_drop_take n zero m xs h = take-take n m xs (omega arith)
 take_drop_take n (suc k) zero xs h = absurd (omega arith)
 take_drop_take n (suc k) (suc m) [] h = refl
 take_drop_take n (suc k) (suc m) (x ∷ xs) h = take_drop_take n k m xs (omega arith)
 
 -- a part of the haystack that lies in a span is a part of the haystack cut there
-slice_range-cut : (h : List ℕ) (low high s e : ℕ) → s ≤ e → low + e ≤ high → slice_range (slice_range h low high) s e ≡ slice_range h (low + s) (low + e)
+slice_range-cut : (h : List ℕ) (low high s e : ℕ) → s ≤ e → low + e ≤ high
+    → slice_range (slice_range h low high) s e ≡ slice_range h (low + s) (low + e)
 slice_range-cut h low high s e ordered within =
     take_drop_take (e - s) s (high - low) (drop low h) (omega arith)
     ∙ ap (take (e - s)) (drop-drop s low h)
@@ -33,13 +35,15 @@ abbrev pub inward : ℕ → Occurrence → Occurrence
 inward low o = occurrence o.pattern (o.start - low) (o.end - low)
 
 -- the order of preference doesn't depend on where places are told from
-pub first-outward : (kind : MatchKind) (low : ℕ) (a b : Occurrence) → IsFirst kind a b → IsFirst kind (outward low a) (outward low b)
+pub first-outward : (kind : MatchKind) (low : ℕ) (a b : Occurrence) → IsFirst kind a b
+    → IsFirst kind (outward low a) (outward low b)
 first-outward Standard low a b f = record {
   ends = (let e = f.ends in omega arith);
   starts = (λ e. let g = f.starts (omega arith) in omega arith);
   patterns = (λ e s. f.patterns (omega arith) (omega arith));
 }
-first-outward LeftmostFirst low a b f = record { starts = (let e = f.starts in omega arith); patterns = λ s. f.patterns (omega arith) }
+first-outward LeftmostFirst low a b f =
+    record { starts = (let e = f.starts in omega arith); patterns = λ s. f.patterns (omega arith) }
 first-outward LeftmostLongest low a b f = record {
   starts = (let e = f.starts in omega arith);
   ends = (λ s. let g = f.ends (omega arith) in omega arith);
@@ -47,13 +51,15 @@ first-outward LeftmostLongest low a b f = record {
 }
 
 -- and back
-pub first-from_outward : (kind : MatchKind) (low : ℕ) (a b : Occurrence) → IsFirst kind (outward low a) (outward low b) → IsFirst kind a b
+pub first-from_outward : (kind : MatchKind) (low : ℕ) (a b : Occurrence)
+    → IsFirst kind (outward low a) (outward low b) → IsFirst kind a b
 first-from_outward Standard low a b f = record {
   ends = (let e = f.ends in omega arith);
   starts = (λ e. let g = f.starts (omega arith) in omega arith);
   patterns = (λ e s. f.patterns (omega arith) (omega arith));
 }
-first-from_outward LeftmostFirst low a b f = record { starts = (let e = f.starts in omega arith); patterns = λ s. f.patterns (omega arith) }
+first-from_outward LeftmostFirst low a b f =
+    record { starts = (let e = f.starts in omega arith); patterns = λ s. f.patterns (omega arith) }
 first-from_outward LeftmostLongest low a b f = record {
   starts = (let e = f.starts in omega arith);
   ends = (λ s. let g = f.ends (omega arith) in omega arith);
@@ -61,7 +67,8 @@ first-from_outward LeftmostLongest low a b f = record {
 }
 
 -- what occurs in the haystack cut to the span occurs in the span, and the other way round
-pub Occurs-from_cut : (q : Search) (m : Occurrence) → q.low ≤ q.high → Occurs (cut q) m → Occurs q (outward q.low m)
+pub Occurs-from_cut : (q : Search) (m : Occurrence) → q.low ≤ q.high → Occurs (cut q) m
+    → Occurs q (outward q.low m)
 Occurs-from_cut q m order o =
     let a = o.as_long in let c = o.to_high in
     record {
@@ -69,12 +76,15 @@ Occurs-from_cut q m order o =
       from_low = omega arith;
       as_long = omega arith;
       to_high = omega arith;
-      reads = o.reads ∙ ap (plain q.fold) (slice_range-cut q.haystack q.low q.high m.start m.end (omega arith) (omega arith));
+      reads = o.reads
+          ∙ ap (plain q.fold)
+          (slice_range-cut q.haystack q.low q.high m.start m.end (omega arith) (omega arith));
       at_low = (λ e. let z = o.at_low e in omega arith);
     }
 
 -- and back
-pub Occurs-to_cut : (q : Search) (m : Occurrence) → q.low ≤ q.high → Occurs q (outward q.low m) → Occurs (cut q) m
+pub Occurs-to_cut : (q : Search) (m : Occurrence) → q.low ≤ q.high → Occurs q (outward q.low m)
+    → Occurs (cut q) m
 Occurs-to_cut q m order o =
     let a = o.as_long in let c = o.to_high in
     record {
@@ -82,17 +92,23 @@ Occurs-to_cut q m order o =
       from_low = omega arith;
       as_long = omega arith;
       to_high = omega arith;
-      reads = o.reads ∙ sym (ap (plain q.fold) (slice_range-cut q.haystack q.low q.high m.start m.end (omega arith) (omega arith)));
+      reads = o.reads
+          ∙ sym (ap (plain q.fold)
+          (slice_range-cut q.haystack q.low q.high m.start m.end (omega arith) (omega arith)));
       at_low = (λ e. let z = o.at_low e in omega arith);
     }
 
 -- where the span begins past its end nothing occurs
 pub nothing-past_end : (q : Search) (m : Occurrence) → q.high < q.low → ¬ Occurs q m
-nothing-past_end q m past = λ o. let a = o.as_long in let b = o.from_low in let c = o.to_high in absurd (omega arith)
+nothing-past_end q m past =
+    λ o. let a = o.as_long in let b = o.from_low in let c = o.to_high in absurd (omega arith)
 
 -- in a span without bytes only empty patterns do
-pub only_empty-in_empty : (q : Search) (m : Occurrence) → q.low ≡ q.high → Occurs q m → pattern_of q.patterns m.pattern ≡ []
-only_empty-in_empty q m empty o = length-zero (pattern_of q.patterns m.pattern) (let a = o.as_long in let b = o.from_low in let c = o.to_high in omega arith)
+pub only_empty-in_empty : (q : Search) (m : Occurrence) → q.low ≡ q.high → Occurs q m
+    → pattern_of q.patterns m.pattern ≡ []
+only_empty-in_empty q m empty o =
+    length-zero (pattern_of q.patterns m.pattern)
+    (let a = o.as_long in let b = o.from_low in let c = o.to_high in omega arith)
   where
     length-zero : (w : List ℕ) → length w ≡ 0 → w ≡ []
     length-zero [] e = refl
@@ -115,7 +131,8 @@ module _ (q : Search) (order : q.low ≤ q.high) (inside : q.high ≤ length q.h
       ∙ (let d = length-drop q.low q.haystack in omega arith)
 
   -- a part of the text is the plain part of the haystack
-  part : (k n : ℕ) → k + n ≤ q.high - q.low → take n (drop k (text q)) ≡ plain q.fold (slice_range q.haystack (q.low + k) (q.low + k + n))
+  part : (k n : ℕ) → k + n ≤ q.high - q.low
+      → take n (drop k (text q)) ≡ plain q.fold (slice_range q.haystack (q.low + k) (q.low + k + n))
   part k n h =
       ap (take n) (drop-map (plain_byte q.fold) k (slice_range q.haystack q.low q.high))
       ∙ take-map (plain_byte q.fold) n (drop k (slice_range q.haystack q.low q.high))
@@ -124,7 +141,8 @@ module _ (q : Search) (order : q.low ≤ q.high) (inside : q.high ≤ length q.h
       ∙ ap (λ (m : ℕ). take m (drop (q.low + k) q.haystack)) (omega arith))
 
   -- what occurs stands in the text
-  pub Stands-from_Occurs : (o : Occurrence) → Occurs q o → Stands (plain_patterns q) q.anchored (text q) o.pattern (o.start - q.low)
+  pub Stands-from_Occurs : (o : Occurrence) → Occurs q o
+      → Stands (plain_patterns q) q.anchored (text q) o.pattern (o.start - q.low)
   Stands-from_Occurs o h =
       let p = pattern_of (plain_patterns q) o.pattern in
       let l = pattern_length o.pattern in
@@ -132,7 +150,8 @@ module _ (q : Search) (order : q.low ≤ q.high) (inside : q.high ≤ length q.h
       let same : take (length p) (drop (o.start - q.low) (text q)) ≡ p =
       ap (λ (n : ℕ). take n (drop (o.start - q.low) (text q))) l
       ∙ part (o.start - q.low) (length (pattern_of q.patterns o.pattern)) (omega arith)
-      ∙ ap (λ (s : ℕ). plain q.fold (slice_range q.haystack s (s + length (pattern_of q.patterns o.pattern)))) (omega arith)
+      ∙ ap (λ (s : ℕ). plain q.fold (slice_range q.haystack s (s + length (pattern_of q.patterns o.pattern))))
+      (omega arith)
       ∙ ap (λ (e : ℕ). plain q.fold (slice_range q.haystack o.start e)) a
       ∙ sym h.reads
       ∙ sym (pattern_plain o.pattern) in
@@ -146,13 +165,15 @@ module _ (q : Search) (order : q.low ≤ q.high) (inside : q.high ≤ length q.h
       }
 
   -- and what stands in the text occurs
-  pub Occurs-from_Stands : (n s : ℕ) → Stands (plain_patterns q) q.anchored (text q) n s → Occurs q (outward q.low (place_of (plain_patterns q) n s))
+  pub Occurs-from_Stands : (n s : ℕ) → Stands (plain_patterns q) q.anchored (text q) n s
+      → Occurs q (outward q.low (place_of (plain_patterns q) n s))
   Occurs-from_Stands n s h =
       let p = pattern_of (plain_patterns q) n in
       let l = pattern_length n in
       let t = text_length in
       let e = Stands-end (plain_patterns q) q.anchored (text q) n s h in
-      let same : p ≡ take (length p) (drop s (text q)) = (bytes_eq-Decides p (take (length p) (drop s (text q)))).0 h.fronts.front in
+      let same : p ≡ take (length p) (drop s (text q)) =
+      (bytes_eq-Decides p (take (length p) (drop s (text q)))).0 h.fronts.front in
       record {
         numbered = (let m = length-map q.patterns (plain q.fold) in let k = h.fronts.numbered in omega arith);
         from_low = omega arith;
@@ -165,62 +186,81 @@ module _ (q : Search) (order : q.low ≤ q.high) (inside : q.high ≤ length q.h
       }
 
   -- an occurrence is the place of its pattern at its start
-  outward_inward : (o : Occurrence) → Occurs q o → outward q.low (place_of (plain_patterns q) o.pattern (o.start - q.low)) ≡ o
+  outward_inward : (o : Occurrence) → Occurs q o
+      → outward q.low (place_of (plain_patterns q) o.pattern (o.start - q.low)) ≡ o
   outward_inward o h =
       let l = pattern_length o.pattern in let a = h.as_long in let b = h.from_low in
-      same_occurrence (outward q.low (place_of (plain_patterns q) o.pattern (o.start - q.low))) o refl (omega arith) (omega arith)
+      same_occurrence (outward q.low (place_of (plain_patterns q) o.pattern (o.start - q.low))) o refl
+      (omega arith) (omega arith)
 
   -- the pick in the text is one of the search
-  is_pick : (kind : MatchKind) (r : Option Occurrence) → IsPickIn kind (plain_patterns q) q.anchored (text q) r → IsPick kind q (option_map (outward q.low) r)
+  is_pick : (kind : MatchKind) (r : Option Occurrence) → IsPickIn kind (plain_patterns q) q.anchored (text q) r
+      → IsPick kind q (option_map (outward q.low) r)
   is_pick kind None h = λ o occurs. h o.pattern (o.start - q.low) (Stands-from_Occurs o occurs)
   is_pick kind (Some m) h = (
-    subst (λ (o : Occurrence). Occurs q (outward q.low o)) (same_occurrence (place_of (plain_patterns q) m.pattern m.start) m refl refl h.as_long)
+    subst (λ (o : Occurrence). Occurs q (outward q.low o))
+        (same_occurrence (place_of (plain_patterns q) m.pattern m.start) m refl refl h.as_long)
         (Occurs-from_Stands m.pattern m.start h.stands),
     λ o occurs. subst (λ (b : Occurrence). IsFirst kind (outward q.low m) b) (outward_inward o occurs)
-        (first-outward kind q.low m (place_of (plain_patterns q) o.pattern (o.start - q.low)) (h.first o.pattern (o.start - q.low) (Stands-from_Occurs o occurs))),
+        (first-outward kind q.low m (place_of (plain_patterns q) o.pattern (o.start - q.low))
+        (h.first o.pattern (o.start - q.low) (Stands-from_Occurs o occurs))),
   )
 
   -- the pick in the text is the pick of the search
-  pub pick-from_text : (kind : MatchKind) (r : Option Occurrence) → IsPickIn kind (plain_patterns q) q.anchored (text q) r → option_map (outward q.low) r ≡ pick kind q
+  pub pick-from_text : (kind : MatchKind) (r : Option Occurrence)
+      → IsPickIn kind (plain_patterns q) q.anchored (text q) r → option_map (outward q.low) r ≡ pick kind q
   pick-from_text kind r h = pick-from_IsPick kind q (option_map (outward q.low) r) (is_pick kind r h)
 
   -- a pick of the search is one in the text
-  in_text : (kind : MatchKind) (r : Option Occurrence) → IsPick kind q r → IsPickIn kind (plain_patterns q) q.anchored (text q) (option_map (inward q.low) r)
-  in_text kind None h = λ n s stands. h (outward q.low (place_of (plain_patterns q) n s)) (Occurs-from_Stands n s stands)
+  in_text : (kind : MatchKind) (r : Option Occurrence) → IsPick kind q r
+      → IsPickIn kind (plain_patterns q) q.anchored (text q) (option_map (inward q.low) r)
+  in_text kind None h =
+      λ n s stands. h (outward q.low (place_of (plain_patterns q) n s)) (Occurs-from_Stands n s stands)
   in_text kind (Some m) h = record {
     stands = Stands-from_Occurs m h.0;
     as_long = (let l = pattern_length m.pattern in let a = h.0.as_long in let b = h.0.from_low in omega arith);
     first = (λ n s stands.
         first-from_outward kind q.low (inward q.low m) (place_of (plain_patterns q) n s)
-        (subst (λ (a : Occurrence). IsFirst kind a (outward q.low (place_of (plain_patterns q) n s))) (sym (inward_outward m h.0))
+        (subst (λ (a : Occurrence). IsFirst kind a (outward q.low (place_of (plain_patterns q) n s)))
+        (sym (inward_outward m h.0))
         (h.1 (outward q.low (place_of (plain_patterns q) n s)) (Occurs-from_Stands n s stands))));
   }
     where
       inward_outward : (o : Occurrence) → Occurs q o → outward q.low (inward q.low o) ≡ o
       inward_outward o x =
-          let a = x.as_long in let b = x.from_low in same_occurrence (outward q.low (inward q.low o)) o refl (omega arith) (omega arith)
+          let a = x.as_long in
+          let b = x.from_low in
+          same_occurrence (outward q.low (inward q.low o)) o refl (omega arith) (omega arith)
 
   -- told from the low end and back, an occurrence is the same
-  back_out : (kind : MatchKind) (r : Option Occurrence) → IsPick kind q r → option_map (outward q.low) (option_map (inward q.low) r) ≡ r
+  back_out : (kind : MatchKind) (r : Option Occurrence) → IsPick kind q r
+      → option_map (outward q.low) (option_map (inward q.low) r) ≡ r
   back_out kind None h = refl
   back_out kind (Some m) h =
       let a = h.0.as_long in let b = h.0.from_low in
-      ap (λ (o : Occurrence). Some o) (same_occurrence (outward q.low (inward q.low m)) m refl (omega arith) (omega arith))
+      ap (λ (o : Occurrence). Some o)
+      (same_occurrence (outward q.low (inward q.low m)) m refl (omega arith) (omega arith))
 
   -- the pick of the search, told from the span's low end, is the pick in the text
-  pub pick-in_text : (kind : MatchKind) → IsPickIn kind (plain_patterns q) q.anchored (text q) (option_map (inward q.low) (pick kind q))
+  pub pick-in_text : (kind : MatchKind)
+      → IsPickIn kind (plain_patterns q) q.anchored (text q) (option_map (inward q.low) (pick kind q))
   pick-in_text kind = in_text kind (pick kind q) (pick-IsPick kind q)
 
   -- so is the pick
-  pub pick-out_again : (kind : MatchKind) → option_map (outward q.low) (option_map (inward q.low) (pick kind q)) ≡ pick kind q
+  pub pick-out_again : (kind : MatchKind)
+      → option_map (outward q.low) (option_map (inward q.low) (pick kind q)) ≡ pick kind q
   pick-out_again kind = back_out kind (pick kind q) (pick-IsPick kind q)
 
 -- the text of a span that is one place longer has one byte more
-pub text_longer : (q : Search) → q.low ≤ q.high → q.high < length q.haystack → text (one_longer q) ≡ text q ++ plain_byte q.fold (get_or q.haystack q.high 0) ∷ []
+pub text_longer : (q : Search) → q.low ≤ q.high → q.high < length q.haystack
+    → text (one_longer q) ≡ text q ++ plain_byte q.fold (get_or q.haystack q.high 0) ∷ []
 text_longer q order room =
     let d = length-drop q.low q.haystack in
-    let part : slice_range q.haystack q.low (q.high + 1) ≡ slice_range q.haystack q.low q.high ++ get_or q.haystack q.high 0 ∷ [] =
+    let part : slice_range q.haystack q.low (q.high + 1)
+    ≡ slice_range q.haystack q.low q.high ++ get_or q.haystack q.high 0 ∷ [] =
     ap (λ (n : ℕ). take n (drop q.low q.haystack)) (omega arith)
     ∙ take_more (drop q.low q.haystack) (q.high - q.low) 0 (omega arith)
-    ∙ ap (λ (x : ℕ). slice_range q.haystack q.low q.high ++ x ∷ []) (get_or-drop q.low q.haystack (q.high - q.low) 0 ∙ ap (λ (k : ℕ). get_or q.haystack k 0) (omega arith)) in
-    ap (plain q.fold) part ∙ map-append (plain_byte q.fold) (slice_range q.haystack q.low q.high) (get_or q.haystack q.high 0 ∷ [])
+    ∙ ap (λ (x : ℕ). slice_range q.haystack q.low q.high ++ x ∷ [])
+    (get_or-drop q.low q.haystack (q.high - q.low) 0 ∙ ap (λ (k : ℕ). get_or q.haystack k 0) (omega arith)) in
+    ap (plain q.fold) part
+    ∙ map-append (plain_byte q.fold) (slice_range q.haystack q.low q.high) (get_or q.haystack q.high 0 ∷ [])

@@ -26,7 +26,8 @@ abbrev pub place_of : List (List ℕ) → ℕ → ℕ → Occurrence
 place_of patterns n s = occurrence n s (s + length (pattern_of patterns n))
 
 -- m stands in w, and nothing that stands there is preferred to it
-pub record IsBestIn (kind : MatchKind) (patterns : List (List ℕ)) (anchored : Anchored) (w : List ℕ) (m : Occurrence) : Type 0 where
+pub record IsBestIn (kind : MatchKind) (patterns : List (List ℕ)) (anchored : Anchored) (w : List ℕ)
+    (m : Occurrence) : Type 0 where
   pub stands : Stands patterns anchored w m.pattern m.start
   pub as_long : m.start + length (pattern_of patterns m.pattern) ≡ m.end
   pub first : (n s : ℕ) → Stands patterns anchored w n s → IsFirst kind m (place_of patterns n s)
@@ -37,14 +38,18 @@ IsPickIn kind patterns anchored w r =
     MatchOption r ((n s : ℕ) → ¬ Stands patterns anchored w n s) (IsBestIn kind patterns anchored w)
 
 -- how the order of preference goes with places
-pub first-by_start : (kind : MatchKind) (a b : Occurrence) → a.start < b.start → (is_leftmost kind ≡ true) ⊎ (a.end ≤ b.end) → IsFirst kind a b
+pub first-by_start : (kind : MatchKind) (a b : Occurrence) → a.start < b.start
+    → (is_leftmost kind ≡ true) ⊎ (a.end ≤ b.end) → IsFirst kind a b
 first-by_start Standard a b l (inl e) = absurd (cc)
-first-by_start Standard a b l (inr e) = record { ends = e; starts = λ _. omega arith; patterns = λ _ s. omega arith }
+first-by_start Standard a b l (inr e) =
+    record { ends = e; starts = λ _. omega arith; patterns = λ _ s. omega arith }
 first-by_start LeftmostFirst a b l e = record { starts = omega arith; patterns = λ s. omega arith }
-first-by_start LeftmostLongest a b l e = record { starts = omega arith; ends = λ s. omega arith; patterns = λ s _. omega arith }
+first-by_start LeftmostLongest a b l e =
+    record { starts = omega arith; ends = λ s. omega arith; patterns = λ s _. omega arith }
 
 -- the order stays where both places are one further on
-pub first-one_on : (kind : MatchKind) (patterns : List (List ℕ)) (j k n s : ℕ) → IsFirst kind (place_of patterns j k) (place_of patterns n s)
+pub first-one_on : (kind : MatchKind) (patterns : List (List ℕ)) (j k n s : ℕ)
+    → IsFirst kind (place_of patterns j k) (place_of patterns n s)
     → IsFirst kind (place_of patterns j (suc k)) (place_of patterns n (suc s))
 first-one_on Standard patterns j k n s f = record {
   ends = (let e = f.ends in omega arith);
@@ -62,18 +67,23 @@ first-one_on LeftmostLongest patterns j k n s f = record {
 }
 
 -- of matches that end together the one that any kind prefers is the one that Standard prefers
-pub first-at_one_end : (kind : MatchKind) (a b : Occurrence) → a.end ≡ b.end → IsFirst kind a b → IsFirst Standard a b
+pub first-at_one_end : (kind : MatchKind) (a b : Occurrence) → a.end ≡ b.end → IsFirst kind a b
+    → IsFirst Standard a b
 first-at_one_end Standard a b e f = f
-first-at_one_end LeftmostFirst a b e f = record { ends = omega arith; starts = λ _. f.starts; patterns = λ _ s. f.patterns s }
-first-at_one_end LeftmostLongest a b e f = record { ends = omega arith; starts = λ _. f.starts; patterns = λ k s. f.patterns s k }
+first-at_one_end LeftmostFirst a b e f =
+    record { ends = omega arith; starts = λ _. f.starts; patterns = λ _ s. f.patterns s }
+first-at_one_end LeftmostLongest a b e f =
+    record { ends = omega arith; starts = λ _. f.starts; patterns = λ k s. f.patterns s k }
 
 module _ (patterns : List (List ℕ)) where
   -- a front of w is a front of w with one more byte, and a new one is the whole
   pub Fronts-more : (w : List ℕ) (b n : ℕ) → Fronts patterns w n → Fronts patterns (w ++ b ∷ []) n
-  Fronts-more w b n f = record { numbered = f.numbered; front = starts_with-more w (pattern_of patterns n) b f.front }
+  Fronts-more w b n f =
+      record { numbered = f.numbered; front = starts_with-more w (pattern_of patterns n) b f.front }
 
   -- a pattern that is a front with one more byte was a front before or is the whole
-  pub Fronts-cases : (w : List ℕ) (b n : ℕ) → Fronts patterns (w ++ b ∷ []) n → Fronts patterns w n ⊎ (pattern_of patterns n ≡ w ++ b ∷ [])
+  pub Fronts-cases : (w : List ℕ) (b n : ℕ) → Fronts patterns (w ++ b ∷ []) n
+      → Fronts patterns w n ⊎ (pattern_of patterns n ≡ w ++ b ∷ [])
   Fronts-cases w b n f = elim (cases_Bool (starts_with nat_eq w (pattern_of patterns n))) [
     | inl t ↦ inl (record { numbered = f.numbered; front = t })
     | inr t ↦ inr (starts_with-whole w (pattern_of patterns n) b f.front t)
@@ -84,20 +94,27 @@ module _ (patterns : List (List ℕ)) where
   Fronts-length w n f = starts_with-length w (pattern_of patterns n) f.front
 
   -- one that is as long is the string
-  pub Fronts-equal : (w : List ℕ) (n : ℕ) → Fronts patterns w n → length (pattern_of patterns n) ≡ length w → pattern_of patterns n ≡ w
+  pub Fronts-equal : (w : List ℕ) (n : ℕ) → Fronts patterns w n → length (pattern_of patterns n) ≡ length w
+      → pattern_of patterns n ≡ w
   Fronts-equal w n f l = starts_with-equal w (pattern_of patterns n) f.front l
 
   module _ (anchored : Anchored) where
     -- what stands in w ends within it
-    pub Stands-end : (w : List ℕ) (n s : ℕ) → Stands patterns anchored w n s → s + length (pattern_of patterns n) ≤ length w
+    pub Stands-end : (w : List ℕ) (n s : ℕ) → Stands patterns anchored w n s
+        → s + length (pattern_of patterns n) ≤ length w
     Stands-end w n s h =
-        let l = Fronts-length (drop s w) n h.fronts in let d = length-drop s w in let i = h.within in omega arith
+        let l = Fronts-length (drop s w) n h.fronts in
+        let d = length-drop s w in
+        let i = h.within in
+        omega arith
 
     -- what stands in w stands in w with one more byte
-    pub Stands-more : (w : List ℕ) (b n s : ℕ) → Stands patterns anchored w n s → Stands patterns anchored (w ++ b ∷ []) n s
+    pub Stands-more : (w : List ℕ) (b n s : ℕ) → Stands patterns anchored w n s
+        → Stands patterns anchored (w ++ b ∷ []) n s
     Stands-more w b n s h = record {
       within = (let l = length_push w b in let i = h.within in omega arith);
-      fronts = subst (λ (v : List ℕ). Fronts patterns v n) (sym (drop-append-le s w (b ∷ []) h.within)) (Fronts-more (drop s w) b n h.fronts);
+      fronts = subst (λ (v : List ℕ). Fronts patterns v n) (sym (drop-append-le s w (b ∷ []) h.within))
+          (Fronts-more (drop s w) b n h.fronts);
       at_front = h.at_front;
     }
 
@@ -106,7 +123,9 @@ module _ (patterns : List (List ℕ)) where
         → Stands patterns anchored w n s ⊎ (s + length (pattern_of patterns n) ≡ length (w ++ b ∷ []))
     Stands-cases w b n s h = elim (cases_lt (length w) s) [
       | inl past ↦ inr (let e = Stands-end (w ++ b ∷ []) n s h in let l = length_push w b in omega arith)
-      | inr in' ↦ inside in' (Fronts-cases (drop s w) b n (subst (λ (v : List ℕ). Fronts patterns v n) (drop-append-le s w (b ∷ []) in') h.fronts))
+      | inr in' ↦
+          inside in' (Fronts-cases (drop s w) b n
+          (subst (λ (v : List ℕ). Fronts patterns v n) (drop-append-le s w (b ∷ []) in') h.fronts))
     ]
       where
         inside : s ≤ length w → Fronts patterns (drop s w) n ⊎ (pattern_of patterns n ≡ drop s w ++ b ∷ [])
@@ -118,19 +137,25 @@ module _ (patterns : List (List ℕ)) where
             inr (omega arith)
 
     -- what ends with w is the whole rest of it
-    pub Stands-whole : (w : List ℕ) (n s : ℕ) → Stands patterns anchored w n s → s + length (pattern_of patterns n) ≡ length w
+    pub Stands-whole : (w : List ℕ) (n s : ℕ) → Stands patterns anchored w n s
+        → s + length (pattern_of patterns n) ≡ length w
         → pattern_of patterns n ≡ drop s w
     Stands-whole w n s h e =
         let d = length-drop s w in let i = h.within in Fronts-equal (drop s w) n h.fronts (omega arith)
 
   -- what stands in w stands one further on behind one more byte, and the other way round
-  pub Stands-behind : (x : ℕ) (w : List ℕ) (n s : ℕ) → Stands patterns No w n s → Stands patterns No (x ∷ w) n (suc s)
-  Stands-behind x w n s h = record { within = (let i = h.within in omega arith); fronts = h.fronts; at_front = λ e. absurd (cc) }
+  pub Stands-behind : (x : ℕ) (w : List ℕ) (n s : ℕ) → Stands patterns No w n s
+      → Stands patterns No (x ∷ w) n (suc s)
+  Stands-behind x w n s h =
+      record { within = (let i = h.within in omega arith); fronts = h.fronts; at_front = λ e. absurd (cc) }
 
   -- what stands behind the first byte stands in the rest
-  pub Stands-from_behind : (x : ℕ) (w : List ℕ) (n s : ℕ) → Stands patterns No (x ∷ w) n (suc s) → Stands patterns No w n s
-  Stands-from_behind x w n s h = record { within = (let i = h.within in omega arith); fronts = h.fronts; at_front = λ e. absurd (cc) }
+  pub Stands-from_behind : (x : ℕ) (w : List ℕ) (n s : ℕ) → Stands patterns No (x ∷ w) n (suc s)
+      → Stands patterns No w n s
+  Stands-from_behind x w n s h =
+      record { within = (let i = h.within in omega arith); fronts = h.fronts; at_front = λ e. absurd (cc) }
 
   -- a front stands at the front
-  pub Stands-from_Fronts : (anchored : Anchored) (w : List ℕ) (n : ℕ) → Fronts patterns w n → Stands patterns anchored w n 0
+  pub Stands-from_Fronts : (anchored : Anchored) (w : List ℕ) (n : ℕ) → Fronts patterns w n
+      → Stands patterns anchored w n 0
   Stands-from_Fronts anchored w n f = record { within = omega arith; fronts = f; at_front = λ e. refl }

@@ -1,4 +1,5 @@
--- Values of the other definitions that users see, as they compute: replaced texts, streams, refusals, places, sameness.
+-- Values of the other definitions that users see, as they compute: replaced texts, streams, refusals, places,
+-- sameness.
 use Rattle.std.specs.Prelude.{◌≡◌, ℕ, ◌-◌, true, false, List, [], ◌∷◌, ◌++◌, None, Some, length, take, codes, refl}
 use Rattle.ac_util.specs.declared.search.MatchKind.{MatchKind}
 use Rattle.ac_util.specs.declared.search.MatchKind.TheVariants.{Standard, LeftmostFirst, LeftmostLongest}
@@ -34,7 +35,8 @@ text_replaced_until n kind patterns texts haystack =
 -- what a stream has written once these bytes were read: the replaced text without the bytes that are held back
 abbrev written : MatchKind → List (List ℕ) → List (List ℕ) → List ℕ → List ℕ
 written kind patterns texts bytes =
-    let whole = bytes_replaced kind patterns texts bytes in take (length whole - held kind patterns false bytes) whole
+    let whole = bytes_replaced kind patterns texts bytes in
+    take (length whole - held kind patterns false bytes) whole
 
 -- the texts and the patterns that several rows share
 abbrev numbers : List (List ℕ)
@@ -50,12 +52,14 @@ abbrev fox_texts : List (List ℕ)
 fox_texts = codes "sloth" ∷ codes "grey" ∷ codes "slow" ∷ []
 
 -- three patterns exchanged for letters
-append-replaced-text : text_replaced LeftmostFirst append_words (codes "x" ∷ codes "y" ∷ codes "z" ∷ []) append_text
+append-replaced-text : text_replaced LeftmostFirst append_words
+    (codes "x" ∷ codes "y" ∷ codes "z" ∷ []) append_text
     ≡ codes "x the z to the xage"
 unfolding walk_after pick all
 append-replaced-text = refl
 
-append-replaced-bytes : bytes_replaced LeftmostFirst append_words (codes "x" ∷ codes "y" ∷ codes "z" ∷ []) append_text
+append-replaced-bytes : bytes_replaced LeftmostFirst append_words
+    (codes "x" ∷ codes "y" ∷ codes "z" ∷ []) append_text
     ≡ codes "x the z to the xage"
 unfolding walk_after pick all
 append-replaced-bytes = refl
@@ -72,7 +76,8 @@ unfolding walk_after pick all
 append-numbered-twice = refl
 
 -- one match dropped and the rest copied
-append-dropped-once : text_replaced_until 1 LeftmostFirst append_words (codes "" ∷ codes "" ∷ codes "" ∷ []) append_text
+append-dropped-once : text_replaced_until 1 LeftmostFirst append_words
+    (codes "" ∷ codes "" ∷ codes "" ∷ []) append_text
     ≡ codes " the app to the appendage"
 unfolding walk_after pick all
 append-dropped-once = refl
@@ -91,7 +96,8 @@ dashes-in-ab : bytes_replaced Standard (codes "" ∷ []) (codes "-" ∷ []) (cod
 unfolding walk_after pick all
 dashes-in-ab = refl
 
-dashes-in-bytes : bytes_replaced Standard (codes "" ∷ []) (codes "-" ∷ []) e_acute ≡ 45 ∷ 195 ∷ 45 ∷ 169 ∷ 45 ∷ []
+dashes-in-bytes : bytes_replaced Standard (codes "" ∷ [])
+    (codes "-" ∷ []) e_acute ≡ 45 ∷ 195 ∷ 45 ∷ 169 ∷ 45 ∷ []
 unfolding walk_after pick all
 dashes-in-bytes = refl
 
@@ -108,7 +114,8 @@ no-patterns-longest-len : longest_len [] ≡ 0
 no-patterns-longest-len = refl
 
 -- a sentence replaced by texts, by numbers and by nothing
-fox-replaced : bytes_replaced Standard fox_words fox_texts (codes "The quick brown fox.") ≡ codes "The slow grey sloth."
+fox-replaced : bytes_replaced Standard fox_words fox_texts
+    (codes "The quick brown fox.") ≡ codes "The slow grey sloth."
 unfolding walk_after pick all
 fox-replaced = refl
 
@@ -116,13 +123,15 @@ fox-numbered : bytes_replaced Standard fox_words numbers (codes "The quick brown
 unfolding walk_after pick all
 fox-numbered = refl
 
-fox-emptied : bytes_replaced Standard fox_words (codes "" ∷ codes "" ∷ codes "" ∷ []) (codes "The quick brown fox.")
+fox-emptied : bytes_replaced Standard fox_words (codes "" ∷ codes "" ∷ codes "" ∷ [])
+    (codes "The quick brown fox.")
     ≡ codes "The   ."
 unfolding walk_after pick all
 fox-emptied = refl
 
 -- a stream that ends too early: its matches, what is held back and what is written
-fox-found-after-12 : walk Standard (stream_search fox_words false (codes "The quick br")) ≡ occurrence 2 4 9 ∷ []
+fox-found-after-12 : walk Standard
+    (stream_search fox_words false (codes "The quick br")) ≡ occurrence 2 4 9 ∷ []
 unfolding walk_after pick all
 fox-found-after-12 = refl
 
@@ -178,7 +187,8 @@ fox-held-after-19 : held Standard fox_words false (codes "The quick brown fox") 
 unfolding walk_after pick all
 fox-held-after-19 = refl
 
-fox-written-after-19 : written Standard fox_words fox_texts (codes "The quick brown fox") ≡ codes "The slow grey sloth"
+fox-written-after-19 : written Standard fox_words fox_texts
+    (codes "The quick brown fox") ≡ codes "The slow grey sloth"
 unfolding walk_after pick all
 fox-written-after-19 = refl
 
@@ -186,7 +196,8 @@ fox-held-after-20 : held Standard fox_words false (codes "The quick brown fox.")
 unfolding walk_after pick all
 fox-held-after-20 = refl
 
-fox-written-after-20 : written Standard fox_words fox_texts (codes "The quick brown fox.") ≡ codes "The slow grey sloth"
+fox-written-after-20 : written Standard fox_words fox_texts
+    (codes "The quick brown fox.") ≡ codes "The slow grey sloth"
 unfolding walk_after pick all
 fox-written-after-20 = refl
 
@@ -203,7 +214,8 @@ overlapping-iterator-wants-standard = refl
 stream-wants-standard : refusal Unanchored LeftmostFirst Stream false ≡ Some (UnsupportedStream LeftmostFirst)
 stream-wants-standard = refl
 
-stream-wants-standard-first : refusal Unanchored LeftmostFirst Stream true ≡ Some (UnsupportedStream LeftmostFirst)
+stream-wants-standard-first : refusal Unanchored LeftmostFirst Stream true ≡ Some
+    (UnsupportedStream LeftmostFirst)
 stream-wants-standard-first = refl
 
 stream-wants-no-empty-pattern : refusal Unanchored Standard Stream true ≡ Some UnsupportedEmpty
@@ -214,7 +226,8 @@ overlapping-wants-its-start-first : refusal Unanchored LeftmostFirst (Overlappin
     ≡ Some InvalidInputAnchored
 overlapping-wants-its-start-first = refl
 
-overlapping-iterator-never-anchored : refusal Both Standard (OverlappingIterator Yes) false ≡ Some InvalidInputAnchored
+overlapping-iterator-never-anchored : refusal Both Standard
+    (OverlappingIterator Yes) false ≡ Some InvalidInputAnchored
 overlapping-iterator-never-anchored = refl
 
 stream-wants-its-start-first : refusal AnchoredAlone LeftmostFirst Stream false ≡ Some InvalidInputUnanchored
@@ -320,7 +333,8 @@ append-anchored-place-after-2 : place_after (at_start (in_text append_words appe
 unfolding all
 append-anchored-place-after-2 = refl
 
--- sameness: letters in their two cases, where case is ignored; a bracket and a brace, 32 apart too, are no letters
+-- sameness: letters in their two cases, where case is ignored; a bracket and a brace, 32 apart too, are no
+-- letters
 a-and-capital-a-caseless : same_byte true 97 65 ≡ true
 a-and-capital-a-caseless = refl
 

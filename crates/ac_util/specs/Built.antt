@@ -1,4 +1,5 @@
--- What an automaton or a searcher was built from, and what it answers: this and nothing else decides every answer.
+-- What an automaton or a searcher was built from, and what it answers: this and nothing else decides every
+-- answer.
 use Rattle.std.specs.Prelude.{ℕ, Bool, ◌==◌, List, Option, length}
 use Rattle.std.specs.List.{list_any}
 use Rattle.ac_util.specs.declared.search.MatchKind.{MatchKind}

@@ -10,8 +10,8 @@ abbrev pub IsNode : MatchKind → List (List ℕ) → Node → Type 0
 IsNode kind patterns None = ⊤
 IsNode kind patterns (Some u) = is_node kind patterns u ≡ true
 
--- an automaton may step by the class of a byte in place of the byte: byte 0 has class 0, classes rise by at most one along
--- the bytes, and two bytes of one class lead alike from every node
+-- an automaton may step by the class of a byte in place of the byte: byte 0 has class 0, classes rise by at
+-- most one along the bytes, and two bytes of one class lead alike from every node
 pub record IsLawful (class : ℕ → ℕ) (kind : MatchKind) (fold : Bool) (patterns : List (List ℕ)) : Type 0 where
   pub begins : class 0 ≡ 0
   pub rises : (b : ℕ) → b < 255 → class b ≤ class (b + 1)

@@ -2,15 +2,15 @@
 use Rattle.std.specs.Prelude.{◌≡◌, ℕ, ◌+◌, ◌<◌, ◌≤◌, ◌&&◌, ◌==◌, nat_lt, List, length, take, Option, IfSome, Result, Ok, MatchResult, min, if◌then◌else◌}
 use Rattle.std.specs.Io.KnownBytes.{Consumes, IsAtEnd, Appends}
 
--- the bytes that a reader has left, if it tells them; how many of its calls failed; and how many reads into a slice that
--- isn't empty gave no byte
+-- the bytes that a reader has left, if it tells them; how many of its calls failed; and how many reads into a
+-- slice that isn't empty gave no byte
 pub record Reading : Type 0 where
   pub left : Option (List ℕ)
   pub failed : ℕ
   pub empties : ℕ
 
--- the bytes that a writer holds, if it tells them; how many of its calls failed; and how many writes of a piece that isn't
--- empty took no byte
+-- the bytes that a writer holds, if it tells them; how many of its calls failed; and how many writes of a piece
+-- that isn't empty took no byte
 pub record Writing : Type 0 where
   pub held : Option (List ℕ)
   pub failed : ℕ

@@ -30,7 +30,8 @@ pub record IsBefore (a b : Occurrence) : Type 0 where
   pub starts : a.end ≡ b.end → a.start ≤ b.start
   pub patterns : a.end ≡ b.end → a.start ≡ b.start → a.pattern < b.pattern
 
--- an overlapping search has a place: how many items it has given. This is the item that it gives next, if there is one
+-- an overlapping search has a place: how many items it has given. This is the item that it gives next, if there
+-- is one
 abbrev pub item_at : Search → ℕ → Option Occurrence
 item_at q place = slice_get (all q) place
 

@@ -5,9 +5,9 @@ use Rattle.ac_util.specs.declared.search.Anchored.{Anchored}
 use Rattle.ac_util.specs.declared.search.Anchored.TheVariants.{No, Yes}
 use Rattle.ac_util.specs.Node.{Node, is_node, failure, depth}
 
--- the nodes from this one, of at most n bytes, along the failure targets up to the first with an own transition by b,
--- that one counted. The start and the dead node have one by every byte. A failure target is shorter than its node, so n is
--- never too small
+-- the nodes from this one, of at most n bytes, along the failure targets up to the first with an own transition
+-- by b, that one counted. The start and the dead node have one by every byte. A failure target is shorter than
+-- its node, so n is never too small
 abbrev pub looks_within : MatchKind → List (List ℕ) → ℕ → Node → ℕ → ℕ
 looks_within kind patterns n None b = 1
 looks_within kind patterns n (Some []) b = 1
@@ -23,7 +23,7 @@ abbrev pub looks : MatchKind → List (List ℕ) → Anchored → Node → ℕ �
 looks kind patterns No u b = looks_within kind patterns (depth u) u b
 looks kind patterns Yes u b = 1
 
--- the looks of a step in an automaton that is allowed `most` of them for each byte: one that is allowed a single one has no
--- failure targets to follow
+-- the looks of a step in an automaton that is allowed `most` of them for each byte: one that is allowed a
+-- single one has no failure targets to follow
 abbrev pub looks_by : ℕ → MatchKind → List (List ℕ) → Anchored → Node → ℕ → ℕ
 looks_by most kind patterns anchored u b = if most == 1 then 1 else looks kind patterns anchored u b

@@ -8,10 +8,11 @@ use Rattle.ac_util.specs.Node.{Node, participants, open_suffixes}
 
 -- the patterns that take part and are this string, by number
 abbrev pub equal_to : MatchKind → List (List ℕ) → List ℕ → List ℕ
-equal_to kind patterns w = filter (λ number. bytes_eq (pattern_of patterns number) w) (participants kind patterns)
+equal_to kind patterns w =
+    filter (λ number. bytes_eq (pattern_of patterns number) w) (participants kind patterns)
 
--- the patterns that end the node's string, longest first and then by number: under a leftmost kind those of its first
--- occurrence alone, and in an anchored search those that are the whole string
+-- the patterns that end the node's string, longest first and then by number: under a leftmost kind those of its
+-- first occurrence alone, and in an anchored search those that are the whole string
 abbrev pub matches : MatchKind → List (List ℕ) → Anchored → Node → List ℕ
 matches kind patterns anchored None = []
 matches kind patterns No (Some u) = flat_map (equal_to kind patterns) (open_suffixes kind patterns u)

@@ -28,8 +28,8 @@ is_leftmost LeftmostLongest = true
 abbrev pub begins_with_pattern : List (List ℕ) → List ℕ → Bool
 begins_with_pattern patterns w = list_any (λ p. starts_with nat_eq w p) patterns
 
--- whether a pattern takes part: under LeftmostFirst not if an earlier one is a front of it or equals it, since it is then
--- never picked
+-- whether a pattern takes part: under LeftmostFirst not if an earlier one is a front of it or equals it, since
+-- it is then never picked
 abbrev pub participates : MatchKind → List (List ℕ) → ℕ → Bool
 participates Standard patterns number = true
 participates LeftmostFirst patterns number =
@@ -47,7 +47,8 @@ is_empty (b ∷ u) = false
 -- whether the string leads to a node: it is empty, or a front of a pattern that takes part
 abbrev pub is_node : MatchKind → List (List ℕ) → List ℕ → Bool
 is_node kind patterns u =
-    is_empty u || list_any (λ number. starts_with nat_eq (pattern_of patterns number) u) (participants kind patterns)
+    is_empty u || list_any (λ number. starts_with nat_eq (pattern_of patterns number) u)
+    (participants kind patterns)
 
 -- the string itself and all that is left of it when bytes are dropped at its front, down to the empty string
 abbrev pub suffixes : List ℕ → List (List ℕ)
@@ -60,7 +61,8 @@ least_start patterns [] = if begins_with_pattern patterns [] then Some 0 else No
 least_start patterns (b ∷ u) =
     if begins_with_pattern patterns (b ∷ u) then Some 0 else option_map suc (least_start patterns u)
 
--- where a match may start at the latest once u was read: under a leftmost kind where the first occurrence starts
+-- where a match may start at the latest once u was read: under a leftmost kind where the first occurrence
+-- starts
 abbrev pub last_start : MatchKind → List (List ℕ) → List ℕ → Option ℕ
 last_start kind patterns u = if is_leftmost kind then least_start patterns u else None
 
@@ -77,8 +79,8 @@ open_suffixes kind patterns u = starting_by (last_start kind patterns u) (suffix
 abbrev pub first_node : MatchKind → List (List ℕ) → List (List ℕ) → Node
 first_node kind patterns ws = find (is_node kind patterns) ws
 
--- where an automaton stands that has read w: at the longest suffix that is a node and doesn't start too late, or if
--- anchored at w itself
+-- where an automaton stands that has read w: at the longest suffix that is a node and doesn't start too late,
+-- or if anchored at w itself
 abbrev pub reached : MatchKind → List (List ℕ) → Anchored → List ℕ → Node
 reached kind patterns No w = first_node kind patterns (open_suffixes kind patterns w)
 reached kind patterns Yes w = first_node kind patterns (w ∷ [])
@@ -90,6 +92,7 @@ step kind patterns No (Some u) b =
     first_node kind patterns (starting_by (last_start kind patterns u) (suffixes (u ++ b ∷ [])))
 step kind patterns Yes (Some u) b = first_node kind patterns ((u ++ b ∷ []) ∷ [])
 
--- the failure target of a node that isn't empty: the longest shorter suffix that is a node and doesn't start too late
+-- the failure target of a node that isn't empty: the longest shorter suffix that is a node and doesn't start
+-- too late
 abbrev pub failure : MatchKind → List (List ℕ) → List ℕ → Node
 failure kind patterns u = first_node kind patterns (drop 1 (open_suffixes kind patterns u))

@@ -11,10 +11,11 @@ use Rattle.ac_util.specs.declared.error.MatchError.TheVariants.{InvalidInputAnch
 
 -- a call answers the value where nothing refuses it, and else why it is refused
 abbrev pub AnswersUnless : {A : Type 0} → Option MatchError → A → Result A MatchError → Type 0
-AnswersUnless refusal value result = MatchResult result (λ r. (refusal ≡ None) × (r ≡ value)) (λ e. refusal ≡ Some e)
+AnswersUnless refusal value result =
+    MatchResult result (λ r. (refusal ≡ None) × (r ≡ value)) (λ e. refusal ≡ Some e)
 
--- the calls that differ in what they refuse: finds and walks, replacement, overlapping search by a state and by an iterator,
--- and streams. Replacement and streams have no anchored form
+-- the calls that differ in what they refuse: finds and walks, replacement, overlapping search by a state and by
+-- an iterator, and streams. Replacement and streams have no anchored form
 pub data Call : Type 0 where
   Find : Anchored → Call
   Replace : Call

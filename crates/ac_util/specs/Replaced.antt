@@ -6,7 +6,8 @@ use Rattle.ac_util.specs.Occurrence.{Occurrence}
 abbrev pub replaced_from : List ℕ → List (List ℕ) → ℕ → List Occurrence → List ℕ
 replaced_from haystack texts place [] = drop place haystack
 replaced_from haystack texts place (m ∷ ms) =
-    slice_range haystack place m.start ++ slice_index_or texts m.pattern [] ++ replaced_from haystack texts m.end ms
+    slice_range haystack place m.start ++ slice_index_or texts m.pattern []
+    ++ replaced_from haystack texts m.end ms
 
 -- the whole haystack so
 abbrev pub replaced : List ℕ → List (List ℕ) → List Occurrence → List ℕ
@@ -15,7 +16,8 @@ replaced haystack texts ms = replaced_from haystack texts 0 ms
 -- whether a character of the text begins at this place, or the text ends there: `IsCharBoundary` as a test
 abbrev pub is_char_boundary : List ℕ → ℕ → Bool
 is_char_boundary text i =
-    nat_le i (length text) && (nat_le (length text) i || nat_lt (slice_index text i) 128 || nat_le 192 (slice_index text i))
+    nat_le i (length text) &&
+    (nat_le (length text) i || nat_lt (slice_index text i) 128 || nat_le 192 (slice_index text i))
 
 -- those of the matches of a walk that cut no character; the walk isn't taken again
 abbrev pub whole_characters : List ℕ → List Occurrence → List Occurrence

@@ -5,8 +5,8 @@ use Rattle.ac_util.specs.declared.search.Anchored.TheVariants.{No, Yes}
 use Rattle.ac_util.specs.Occurrence.{Occurrence}
 use Rattle.ac_util.specs.Sameness.{IsSame, same_string}
 
--- these patterns, in the bytes of the haystack from low up to high, and if anchored only at low;
--- with fold the case of ASCII letters is ignored. Whoever asks for a search sees to it that high lies in the haystack
+-- these patterns, in the bytes of the haystack from low up to high, and if anchored only at low; with fold the
+-- case of ASCII letters is ignored. Whoever asks for a search sees to it that high lies in the haystack
 pub record Search : Type 0 where
   pub patterns : List (List ℕ)
   pub fold : Bool
@@ -23,7 +23,8 @@ from q place = record q { low = place }
 abbrev pub pattern_of : List (List ℕ) → ℕ → List ℕ
 pattern_of patterns number = slice_index_or patterns number []
 
--- the pattern stands in the haystack from the start to the end of m, within the span, and if anchored at its low end
+-- the pattern stands in the haystack from the start to the end of m, within the span, and if anchored at its
+-- low end
 pub record Occurs (q : Search) (m : Occurrence) : Type 0 where
   pub numbered : m.pattern < length q.patterns
   pub from_low : q.low ≤ m.start

@@ -16,7 +16,8 @@ distinct (u ∷ us) = u ∷ filter (λ w. not (bytes_eq u w)) (distinct us)
 
 -- the nodes other than the empty and the dead one
 abbrev pub inner_nodes : MatchKind → List (List ℕ) → List (List ℕ)
-inner_nodes kind patterns = distinct (flat_map (λ number. fronts (pattern_of patterns number)) (participants kind patterns))
+inner_nodes kind patterns =
+    distinct (flat_map (λ number. fronts (pattern_of patterns number)) (participants kind patterns))
 
 -- these, the dead and the fail state, and one start for each anchoring. The patterns are plain ones
 abbrev pub state_count : MatchKind → List (List ℕ) → ℕ

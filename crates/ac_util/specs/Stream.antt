@@ -33,8 +33,9 @@ last_end [] = 0
 last_end (m ∷ []) = m.end
 last_end (m ∷ n ∷ ms) = last_end (n ∷ ms)
 
--- how many of the bytes read so far are kept back before the next read: one fewer than the longest pattern has, but none of
--- a match and of what stands before it
+-- how many of the bytes read so far are kept back before the next read: one fewer than the longest pattern has,
+-- but none of a match and of what stands before it
 abbrev pub held : MatchKind → List (List ℕ) → Bool → List ℕ → ℕ
 held kind patterns fold bytes =
-    min (max 1 (longest_len patterns) - 1) (length bytes - last_end (walk kind (stream_search patterns fold bytes)))
+    min (max 1 (longest_len patterns) - 1)
+    (length bytes - last_end (walk kind (stream_search patterns fold bytes)))

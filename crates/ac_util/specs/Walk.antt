@@ -26,8 +26,8 @@ continued kind q zero m = []
 continued kind q (suc n) None = []
 continued kind q (suc n) (Some m) = m ∷ continued kind q n (next_match kind (from q m.end) (Some m.end))
 
--- the matches of the span after one that ended at `last`, which is its low end, or None where there was none. Their ends
--- rise, so the span has no room for more than these
+-- the matches of the span after one that ended at `last`, which is its low end, or None where there was none.
+-- Their ends rise, so the span has no room for more than these
 unfoldable pub walk_after : MatchKind → Search → Option ℕ → List Occurrence
 walk_after kind q last = continued kind q (q.high + 1 - q.low) (next_match kind q last)
 

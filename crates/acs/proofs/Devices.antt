@@ -9,14 +9,16 @@ use Rattle.std.proofs.KnownBytes.{Appends-trans, Consumes-trans}
 use Rattle.ac_util.specs.Device.{Reading, Took, idle}
 
 -- what was read so far with what a read has taken
-pub read-more : (a b c : Reading) (bs piece : List ℕ) (n : ℕ) → Consumes a.left b.left bs → Took b c piece n → Consumes a.left c.left (bs ++ take n piece)
+pub read-more : (a b c : Reading) (bs piece : List ℕ) (n : ℕ) → Consumes a.left b.left bs → Took b c piece n
+    → Consumes a.left c.left (bs ++ take n piece)
 read-more a b c bs piece n p t = Consumes-trans a.left b.left c.left bs (take n piece) p t.moved
 
 -- what was written so far with what a write has taken
 pub append-more : (a b c : Option (List ℕ)) (bytes : List ℕ) (at n : ℕ)
     → Appends a b (take at bytes) → Appends b c (take n (drop at bytes)) → Appends a c (take (at + n) bytes)
 append-more a b c bytes at n p q =
-    subst (Appends a c) (sym (take-add at n bytes)) (Appends-trans a b c (take at bytes) (take n (drop at bytes)) p q)
+    subst (Appends a c) (sym (take-add at n bytes))
+    (Appends-trans a b c (take at bytes) (take n (drop at bytes)) p q)
 
 -- the first bytes are a beginning
 pub beginning : (at : ℕ) (bytes : List ℕ) → StartsWith bytes (take at bytes)

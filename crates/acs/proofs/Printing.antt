@@ -17,7 +17,8 @@ use Rattle.acs.specs.Runs.{FailsToPrint, FailsToWrite, WritesAll}
 -- the lines of two lists one after the other
 lines-append : (xs ys : List Occurrence) → lines (xs ++ ys) ≡ lines xs ++ lines ys
 lines-append [] ys = refl
-lines-append (x ∷ xs) ys = ap (λ (w : List ℕ). line x ++ w) (lines-append xs ys) ∙ sym (append_assoc (line x) (lines xs) (lines ys))
+lines-append (x ∷ xs) ys =
+    ap (λ (w : List ℕ). line x ++ w) (lines-append xs ys) ∙ sym (append_assoc (line x) (lines xs) (lines ys))
 
 found-more : (xs : List Occurrence) (m : Occurrence) → outcome_of (xs ++ m ∷ []) ≡ Found
 found-more [] m = refl
@@ -27,7 +28,8 @@ starts-from : (all part rest : List ℕ) → all ≡ part ++ rest → StartsWith
 starts-from all part rest e = ap (take (length part)) e ∙ take-append_seam part rest
 
 -- of all the matches some are printed and the rest is not: the lines of the first are written, but for the text
-pub record IsPrinting (all rest : List Occurrence) (old new : Writing) (text : List ℕ) (outcome : Outcome) : Type 0 where
+pub record IsPrinting (all rest : List Occurrence) (old new : Writing) (text : List ℕ)
+    (outcome : Outcome) : Type 0 where
   pub done : List Occurrence
   pub parted : done ++ rest ≡ all
   pub out : List ℕ
@@ -53,15 +55,18 @@ printing-begins all old = record {
 module _ (all rest : List Occurrence) (old new : Writing) (text : List ℕ) (outcome : Outcome)
     (h : IsPrinting all rest old new text outcome) where
   -- the line of the next match is added to the text
-  pub printing-adds : (m : Occurrence) (later : List Occurrence) → rest ≡ m ∷ later → IsPrinting all later old new (text ++ line m) Found
+  pub printing-adds : (m : Occurrence) (later : List Occurrence) → rest ≡ m ∷ later
+      → IsPrinting all later old new (text ++ line m) Found
   printing-adds m later e = record {
     done = h.done ++ m ∷ [];
-    parted = append_assoc h.done (m ∷ []) later ∙ ap (λ (ms : List Occurrence). h.done ++ ms) (sym e) ∙ h.parted;
+    parted =
+        append_assoc h.done (m ∷ []) later ∙ ap (λ (ms : List Occurrence). h.done ++ ms) (sym e) ∙ h.parted;
     out = h.out;
     moved = h.moved;
     written =
         sym (append_assoc h.out text (line m)) ∙ ap (λ (w : List ℕ). w ++ line m) h.written
-        ∙ ap (λ (w : List ℕ). lines h.done ++ w) (sym (append-nil (line m))) ∙ sym (lines-append h.done (m ∷ []));
+        ∙ ap (λ (w : List ℕ). lines h.done ++ w) (sym (append-nil (line m)))
+        ∙ sym (lines-append h.done (m ∷ []));
     failed = h.failed;
     idles = h.idles;
     outcome_is = sym (found-more h.done m);
@@ -86,12 +91,15 @@ module _ (all rest : List Occurrence) (old new : Writing) (text : List ℕ) (out
       ∙ ap (λ (w : List ℕ). w ++ lines rest) (sym h.written) ∙ append_assoc h.out text (lines rest)
 
   -- with the last text all is written
-  pub printing-ends : (later : Writing) → rest ≡ [] → WritesAll new later text → WritesAll old later (lines all) × (outcome ≡ outcome_of all)
+  pub printing-ends : (later : Writing) → rest ≡ [] → WritesAll new later text
+      → WritesAll old later (lines all) × (outcome ≡ outcome_of all)
   printing-ends later e w =
-      let whole : h.done ≡ all = sym (append-nil h.done) ∙ ap (λ (ms : List Occurrence). h.done ++ ms) (sym e) ∙ h.parted in
+      let whole : h.done ≡ all =
+      sym (append-nil h.done) ∙ ap (λ (ms : List Occurrence). h.done ++ ms) (sym e) ∙ h.parted in
       let bytes : lines all ≡ h.out ++ text = ap lines (sym whole) ∙ sym h.written in (
         record {
-          moved = subst (Appends old.held later.held) (sym bytes) (Appends-trans old.held new.held later.held h.out text h.moved w.moved);
+          moved = subst (Appends old.held later.held) (sym bytes)
+              (Appends-trans old.held new.held later.held h.out text h.moved w.moved);
           failed = w.failed ∙ h.failed;
           idles = w.idles ∙ h.idles;
         },
@@ -108,14 +116,17 @@ module _ (all rest : List Occurrence) (old new : Writing) (text : List ℕ) (out
   )
 
   -- a write fails that has taken a part of the text
-  pub printing-fails : (later : Writing) (fault : Fault) → FailsToWrite new later text fault → FailsToPrint old later (lines all) fault
+  pub printing-fails : (later : Writing) (fault : Fault) → FailsToWrite new later text fault
+      → FailsToPrint old later (lines all) fault
   printing-fails later fault f =
       let part = f.some.part in
       let behind = drop (length part) text in
-      let split : text ≡ part ++ behind = sym (take-append-drop (length part) text) ∙ ap (λ (w : List ℕ). w ++ behind) f.some.begins in
+      let split : text ≡ part ++ behind =
+      sym (take-append-drop (length part) text) ∙ ap (λ (w : List ℕ). w ++ behind) f.some.begins in
       let begun : lines all ≡ (h.out ++ part) ++ (behind ++ lines rest) =
       all-lines ∙ ap (λ (w : List ℕ). h.out ++ (w ++ lines rest)) split
-      ∙ ap (λ (w : List ℕ). h.out ++ w) (append_assoc part behind (lines rest)) ∙ sym (append_assoc h.out part (behind ++ lines rest)) in
+      ∙ ap (λ (w : List ℕ). h.out ++ w) (append_assoc part behind (lines rest))
+      ∙ sym (append_assoc h.out part (behind ++ lines rest)) in
       inl (record {
         some = record {
           part = h.out ++ part;

@@ -54,11 +54,13 @@ FailsToPrint old new bytes fault =
 
 -- the lines of a request's answer for a haystack are those of these matches
 abbrev pub answer : Request → List (List ℕ) → List ℕ → List Occurrence
-answer request patterns haystack = printed request.mode (searcher_by (settings_of request) patterns).built haystack
+answer request patterns haystack =
+    printed request.mode (searcher_by (settings_of request) patterns).built haystack
 
-module _ (request : Request) (patterns : List (List ℕ)) (reader new_reader : Reading) (writer new_writer : Writing) where
-  -- no limit refused the searcher, and the run has written a line for each match in all that the reader gave, and says
-  -- whether there was one
+module _ (request : Request) (patterns : List (List ℕ)) (reader new_reader : Reading)
+    (writer new_writer : Writing) where
+  -- no limit refused the searcher, and the run has written a line for each match in all that the reader gave,
+  -- and says whether there was one
   pub record HasRun (outcome : Outcome) : Type 0 where
     pub allowed : IsAllowed (engine_settings (settings_of request)) patterns
     pub haystack : List ℕ
@@ -68,13 +70,17 @@ module _ (request : Request) (patterns : List (List ℕ)) (reader new_reader : R
 
   -- there was no searcher, or no memory before the first read: reader and writer are as they were
   abbrev pub FailsAtFirst : Fault → Type 0
-  FailsAtFirst fault = IsNotBuilt (settings_of request) patterns fault × (new_reader ≡ reader) × (new_writer ≡ writer)
+  FailsAtFirst fault =
+      IsNotBuilt (settings_of request) patterns fault × (new_reader ≡ reader) × (new_writer ≡ writer)
 
   -- no limit refused the searcher; while the run read it has ended with a fault, with nothing written
   abbrev pub FailsReading : Fault → Type 0
-  FailsReading fault = IsAllowed (engine_settings (settings_of request)) patterns × FailsToRead reader new_reader fault × (new_writer ≡ writer)
+  FailsReading fault =
+      IsAllowed (engine_settings (settings_of request)) patterns × FailsToRead reader new_reader fault
+      × (new_writer ≡ writer)
 
-  -- no limit refused the searcher; while the run wrote the lines of all that the reader gave it has ended with a fault
+  -- no limit refused the searcher; while the run wrote the lines of all that the reader gave it has ended with
+  -- a fault
   pub record FailsPrinting (fault : Fault) : Type 0 where
     pub allowed : IsAllowed (engine_settings (settings_of request)) patterns
     pub haystack : List ℕ

@@ -13,4 +13,8 @@ returns-then-plain_byte c = (
 
 -- no places differ
 pub returns : goal.returns
-returns c = ((λ e. IsSame-from_places c.args.fold c.args.left.now c.args.right.now (omega arith) (λ k l. c.loop-i.invariant k (omega arith))), (λ same. search rules))
+returns c = (
+  (λ e. IsSame-from_places c.args.fold c.args.left.now c.args.right.now (omega arith)
+      (λ k l. c.loop-i.invariant k (omega arith))),
+  (λ same. search rules),
+)

@@ -14,9 +14,13 @@ returns-in_err-extend_from_slice-in-Ok g c =
     c.from_residual-in_err-extend_from_slice-in-Ok.ensures.1
     (record {
       bytes = c.loop.bytes.items ++ take c.in-Ok.n c.read_some.new.into;
-      moved = read-more (told c.args.reader.now) (told c.loop.reader) (told c.read_some.new.self) c.loop.bytes.items c.read_some.new.into c.in-Ok.n
+      moved =
+          read-more (told c.args.reader.now) (told c.loop.reader)
+          (told c.read_some.new.self) c.loop.bytes.items c.read_some.new.into c.in-Ok.n
           c.loop.invariant.moved c.in-Ok.ensures;
-      empties = not-empty (told c.loop.reader) (told c.read_some.new.self) c.read_some.new.into c.in-Ok.n (λ e. absurd (omega (arith, c.in-Ok.n-test))) c.in-Ok.ensures
+      empties =
+          not-empty (told c.loop.reader) (told c.read_some.new.self) c.read_some.new.into c.in-Ok.n
+          (λ e. absurd (omega (arith, c.in-Ok.n-test))) c.in-Ok.ensures
           ∙ c.loop.invariant.empties;
       cause = inr (refl, c.in-Ok.ensures.failed ∙ c.loop.invariant.failed);
     })
@@ -24,18 +28,25 @@ returns-in_err-extend_from_slice-in-Ok g c =
 pub loop-preserved : goal.loop-preserved
 loop-preserved g c =
     let told = g.R.Source.told in
-    let long : length c.read_some.new.into ≡ c.loop.piece.len = c.read_some.auto.into ∙ c.deref_mut.ensures.len in
+    let long : length c.read_some.new.into ≡ c.loop.piece.len =
+    c.read_some.auto.into ∙ c.deref_mut.ensures.len in
     let whole = written-whole c.read_some.new.into c.loop.piece.items c.loop.piece.len long in
     let came : c.extend_from_slice.new.self.items ≡ c.loop.bytes.items ++ take c.in-Ok.n c.read_some.new.into =
     c.in_ok-extend_from_slice-in-Ok.ensures.items
     ∙ ap (λ (xs : List ℕ). c.loop.bytes.items ++ take c.in-Ok.n xs) (c.deref.ensures.value ∙ whole) in
     record {
       moved = subst (Consumes (told c.args.reader.now).left (told c.read_some.new.self).left) (sym came)
-          (read-more (told c.args.reader.now) (told c.loop.reader) (told c.read_some.new.self) c.loop.bytes.items c.read_some.new.into c.in-Ok.n
+          (read-more (told c.args.reader.now) (told c.loop.reader)
+          (told c.read_some.new.self) c.loop.bytes.items c.read_some.new.into c.in-Ok.n
           c.loop.invariant.moved c.in-Ok.ensures);
       failed = c.in-Ok.ensures.failed ∙ c.loop.invariant.failed;
-      empties = not-empty (told c.loop.reader) (told c.read_some.new.self) c.read_some.new.into c.in-Ok.n (λ e. absurd (omega (arith, c.in-Ok.n-test))) c.in-Ok.ensures
+      empties =
+          not-empty (told c.loop.reader) (told c.read_some.new.self) c.read_some.new.into c.in-Ok.n
+          (λ e. absurd (omega (arith, c.in-Ok.n-test))) c.in-Ok.ensures
           ∙ c.loop.invariant.empties;
       room = ap length whole ∙ long ∙ c.loop.piece.ok.0 ∙ c.loop.invariant.room;
-      count = (let l = ap length came in let m = c.loop.invariant.count in let t = length-take-le c.in-Ok.n c.read_some.new.into c.in-Ok.ensures.within in let a = length-append c.loop.bytes.items (take c.in-Ok.n c.read_some.new.into) in omega (arith, c.in-Ok.n-test));
+      count = (let l = ap length came in let m = c.loop.invariant.count in
+          let t = length-take-le c.in-Ok.n c.read_some.new.into c.in-Ok.ensures.within in
+          let a = length-append c.loop.bytes.items (take c.in-Ok.n c.read_some.new.into) in
+          omega (arith, c.in-Ok.n-test));
     }

@@ -16,10 +16,17 @@ loop-at-preserved g c =
     subst (λ (piece : List ℕ). c.in-Ok.n ≤ length piece) rest gave.within in
     record {
       within = (let d = length-drop c.loop-at.at c.args.bytes.now in omega (arith, c.loop-at-test.true));
-      moved = append-more (told c.args.writer.now).held (told c.loop-at.writer).held (told c.write_some.new.self).held c.args.bytes.now c.loop-at.at c.in-Ok.n
-          h.moved (subst (λ (piece : List ℕ). Appends (told c.loop-at.writer).held (told c.write_some.new.self).held (take c.in-Ok.n piece)) rest gave.moved);
+      moved =
+          append-more (told c.args.writer.now).held (told c.loop-at.writer).held
+          (told c.write_some.new.self).held c.args.bytes.now c.loop-at.at c.in-Ok.n
+          h.moved (subst
+          (λ (piece : List ℕ). Appends (told c.loop-at.writer).held (told c.write_some.new.self).held
+          (take c.in-Ok.n piece)) rest gave.moved);
       failed = gave.failed ∙ h.failed;
-      idles = gave.idles ∙ (let none = not-idle c.in-Ok.n (length (slice_range c.args.bytes.now c.loop-at.at (length c.args.bytes.now))) (λ e. absurd (omega arith)) in let k = h.idles in omega arith);
+      idles = gave.idles
+          ∙ (let none = not-idle c.in-Ok.n
+          (length (slice_range c.args.bytes.now c.loop-at.at (length c.args.bytes.now)))
+          (λ e. absurd (omega arith)) in let k = h.idles in omega arith);
     }
 
 pub returns-in-Err : goal.returns-in-Err
@@ -33,5 +40,10 @@ returns-in-Err g c =
         begins = beginning c.loop-at.at c.args.bytes.now;
         moved = rw failed h.moved;
       };
-      cause = inl (refl, (let f = ap (λ (w : Writing). w.failed) failed in let k = h.failed in omega arith), ap (λ (w : Writing). w.idles) failed ∙ h.idles);
+      cause = inl (
+        refl,
+        (let f = ap (λ (w : Writing). w.failed) failed in let k = h.failed in omega arith),
+        ap
+            (λ (w : Writing). w.idles) failed ∙ h.idles,
+      );
     }

@@ -14,7 +14,10 @@ use Rattle.ac_automaton.proofs.automaton.iter.next_left.Goals as goal
 pub set_start-requires : goal.set_start-requires
 set_start-requires g c =
     let A = g.A.Automaton in
-    let room = room-repeated A.LOOKS (A.built c.args.automaton.now) (asked c.args.input.now) 0 c.find_left-first.result c.args.last c.find_left-first.ensures.pick (sym c.repeats.ensures ∙ c.if-repeats.true) in
+    let room =
+    room-repeated A.LOOKS (A.built c.args.automaton.now)
+    (asked c.args.input.now) 0 c.find_left-first.result c.args.last c.find_left-first.ensures.pick
+    (sym c.repeats.ensures ∙ c.if-repeats.true) in
     record { legal = omega (arith, c.start.ensures) }
 
 -- the second find begins with what the first has left
@@ -27,8 +30,11 @@ find_left-second-requires g c =
     record {
       left = (
         given.0,
-        Left-repeated A.LOOKS (A.built c.args.automaton.now) i given.0 c.find_left-first.new.tape c.find_left-first.new.looks c.find_left-first.result c.args.last (asked c.set_start.new.self) moved
-            c.find_left-first.ensures.pick c.requires.behind (sym c.repeats.ensures ∙ c.if-repeats.true) (c.find_left-first.ensures.left given.0 given.1),
+        Left-repeated A.LOOKS
+            (A.built c.args.automaton.now) i given.0 c.find_left-first.new.tape c.find_left-first.new.looks
+            c.find_left-first.result c.args.last (asked c.set_start.new.self) moved
+            c.find_left-first.ensures.pick c.requires.behind (sym c.repeats.ensures ∙ c.if-repeats.true)
+            (c.find_left-first.ensures.left given.0 given.1),
       );
     }
 
@@ -44,10 +50,13 @@ returns-then-repeats-clause-left g c =
     let i = asked c.args.input.now in
     let moved = c.set_start.ensures.value ∙ ap (λ (n : ℕ). record i { start = n + 1 }) c.start.ensures in
     λ from left.
-    subst (λ (j : Asked). Left A.LOOKS built j from c.find_left-second.new.tape c.find_left-second.new.looks) (sym c.go_on.ensures)
+    subst (λ (j : Asked). Left A.LOOKS built j from c.find_left-second.new.tape c.find_left-second.new.looks)
+    (sym c.go_on.ensures)
     (c.find_left-second.ensures.left from
-    (Left-repeated A.LOOKS built i from c.find_left-first.new.tape c.find_left-first.new.looks c.find_left-first.result c.args.last (asked c.set_start.new.self) moved
-    c.find_left-first.ensures.pick c.requires.behind (sym c.repeats.ensures ∙ c.if-repeats.true) (c.find_left-first.ensures.left from left)))
+    (Left-repeated A.LOOKS built i from c.find_left-first.new.tape c.find_left-first.new.looks
+    c.find_left-first.result c.args.last (asked c.set_start.new.self) moved
+    c.find_left-first.ensures.pick c.requires.behind (sym c.repeats.ensures ∙ c.if-repeats.true)
+    (c.find_left-first.ensures.left from left)))
 
 pub go_on-requires-2 : goal.go_on-requires-2
 go_on-requires-2 g c =
@@ -61,20 +70,29 @@ module _ (g : Over) (c : After-find_left-second g) where
 
   -- the order by which the second find picks is that of the first
   same : order_of (g.A.Automaton.built c.args.automaton.now).kind (asked c.set_start.new.self).earliest ≡ order
-  same = ap (λ (i : Asked). order_of (g.A.Automaton.built c.args.automaton.now).kind i.earliest) c.set_start.ensures.value
+  same =
+      ap (λ (i : Asked). order_of (g.A.Automaton.built c.args.automaton.now).kind i.earliest)
+      c.set_start.ensures.value
 
   grown : Grows (kept order c.args.looks.now) c.find_left-second.new.looks
   grown =
-      Grows-kept order c.args.looks.now c.find_left-first.new.looks c.find_left-second.new.looks c.find_left-first.ensures.grows
-      (subst (λ (k : MatchKind). Grows (kept k c.find_left-first.new.looks) c.find_left-second.new.looks) same c.find_left-second.ensures.grows)
+      Grows-kept order c.args.looks.now c.find_left-first.new.looks c.find_left-second.new.looks
+      c.find_left-first.ensures.grows
+      (subst (λ (k : MatchKind). Grows (kept k c.find_left-first.new.looks) c.find_left-second.new.looks) same
+      c.find_left-second.ensures.grows)
 
   told : IfSome c.find_left-second.result (Tells (kept order c.args.looks.now) c.find_left-second.new.looks)
   told =
-      Tells-kept order c.args.looks.now c.find_left-first.new.looks c.find_left-second.new.looks c.find_left-second.result c.find_left-first.ensures.grows
-      (subst (λ (k : MatchKind). IfSome c.find_left-second.result (Tells (kept k c.find_left-first.new.looks) c.find_left-second.new.looks)) same c.find_left-second.ensures.tells)
+      Tells-kept order c.args.looks.now c.find_left-first.new.looks c.find_left-second.new.looks
+      c.find_left-second.result c.find_left-first.ensures.grows
+      (subst (λ (k : MatchKind). IfSome c.find_left-second.result
+      (Tells (kept k c.find_left-first.new.looks) c.find_left-second.new.looks)) same
+      c.find_left-second.ensures.tells)
 
 pub returns-then-repeats-clause-grows : goal.returns-then-repeats-clause-grows
-returns-then-repeats-clause-grows g c = grown g (goal.at.returns-then-repeats-clause-grows g c).After-find_left-second
+returns-then-repeats-clause-grows g c =
+    grown g (goal.at.returns-then-repeats-clause-grows g c).After-find_left-second
 
 pub returns-then-repeats-clause-tells : goal.returns-then-repeats-clause-tells
-returns-then-repeats-clause-tells g c = told g (goal.at.returns-then-repeats-clause-tells g c).After-find_left-second
+returns-then-repeats-clause-tells g c =
+    told g (goal.at.returns-then-repeats-clause-tells g c).After-find_left-second

@@ -10,4 +10,5 @@ use Rattle.ac_search.proofs.ahocorasick.AhoCorasick.is_match.Goals as goal
 pub returns : goal.returns
 returns g c =
     let picked = c.find.ensures ∙ ap (λ (a : Asked). found c.args.self.now.built a) c.earliest.ensures.value in
-    rw c.is_some.ensures (some-match Standard (search_in c.args.self.now.built (asked c.args.input)) c.find.result picked)
+    rw c.is_some.ensures
+    (some-match Standard (search_in c.args.self.now.built (asked c.args.input)) c.find.result picked)

@@ -8,7 +8,9 @@ use Rattle.ac_util.proofs.patterns.Patterns.get.Goals as goal
 -- there is one bound more than there are patterns
 pub piece-requires-clause-numbered : goal.piece-requires-clause-numbered
 piece-requires-clause-numbered g c =
-    let l = length-pieces c.self.inside.bytes.items c.self.inside.bounds.items (length c.self.inside.bytes.items) c.self.invariant.bounds in
+    let l =
+    length-pieces c.self.inside.bytes.items c.self.inside.bounds.items
+    (length c.self.inside.bytes.items) c.self.invariant.bounds in
     let v = ap length c.self.view_is in
     let d = ap length c.deref-2.ensures.value in
     let n = c.requires.numbered in
@@ -16,6 +18,9 @@ piece-requires-clause-numbered g c =
 
 pub returns-clause-short : goal.returns-clause-short
 returns-clause-short g c =
-    let here = ap (λ bytes. pieces bytes c.deref-2.result.now) c.deref.ensures.value ∙ ap (pieces c.self.inside.bytes.items) c.deref-2.ensures.value in
-    All-slice_get (λ p. length p ≤ GREATEST) (pieces c.deref.result.now c.deref-2.result.now) c.args.number c.piece.result.now
+    let here =
+    ap (λ bytes. pieces bytes c.deref-2.result.now) c.deref.ensures.value
+    ∙ ap (pieces c.self.inside.bytes.items) c.deref-2.ensures.value in
+    All-slice_get (λ p. length p ≤ GREATEST)
+    (pieces c.deref.result.now c.deref-2.result.now) c.args.number c.piece.result.now
     (rw here c.self.invariant.limits.short) c.piece.ensures

@@ -14,13 +14,18 @@ loop-pattern-preserved g c =
     let none : Bor (List ℕ) = record { ref_ptr = (0, 0); now = [] } in
     let within : index < length all = simp length-map (omega arith) in
     let same = get_or-map (λ (p : Bor (List ℕ)). p.now) c.args.patterns.now index none [] (omega arith) in
-    let last : c.len.result ≡ length c.extend_from_slice.new.self.items = omega (arith, c.len.ensures, c.extend_from_slice.new.self.ok) in
-    let more = one_more_piece c.loop-pattern.bytes.items c.loop-pattern.bounds.items (get_or c.args.patterns.now index none).now
+    let last : c.len.result ≡ length c.extend_from_slice.new.self.items =
+    omega (arith, c.len.ensures, c.extend_from_slice.new.self.ok) in
+    let more =
+    one_more_piece c.loop-pattern.bytes.items c.loop-pattern.bounds.items
+    (get_or c.args.patterns.now index none).now
     c.extend_from_slice.new.self.items c.push-in-loop-pattern.new.self.items c.len.result
     c.loop-pattern.invariant.bounds c.in_ok-extend_from_slice.ensures.items last c.in_ok-push-2.ensures.items in
     record {
       bounds = more.0;
-      copied = more.1 ∙ ap (λ (ps : List (List ℕ)). ps ++ (get_or c.args.patterns.now index none).now ∷ []) c.loop-pattern.invariant.copied
+      copied =
+          more.1 ∙ ap (λ (ps : List (List ℕ)). ps ++ (get_or c.args.patterns.now index none).now ∷ [])
+          c.loop-pattern.invariant.copied
           ∙ sym (take_more all index [] within ∙ ap (λ (p : List ℕ). take index all ++ p ∷ []) same);
     }
 
@@ -28,8 +33,10 @@ loop-pattern-preserved g c =
 pub invariant_of-result : goal.invariant_of-result
 invariant_of-result g c =
     let all = map (λ (p : Bor (List ℕ)). p.now) c.args.patterns.now in
-    let whole : take c.loop-pattern.pattern-index all ≡ all = take_all c.loop-pattern.pattern-index all (simp length-map (omega arith)) in
+    let whole : take c.loop-pattern.pattern-index all ≡ all =
+    take_all c.loop-pattern.pattern-index all (simp length-map (omega arith)) in
     record {
       bounds = c.loop-pattern.invariant.bounds;
-      limits = subst IsWithinLimits (sym (c.loop-pattern.invariant.copied ∙ whole)) (limits-from_refusal all (not_refused _ _ _ c.in_ok-check_limits.ensures));
+      limits = subst IsWithinLimits (sym (c.loop-pattern.invariant.copied ∙ whole))
+          (limits-from_refusal all (not_refused _ _ _ c.in_ok-check_limits.ensures));
     }

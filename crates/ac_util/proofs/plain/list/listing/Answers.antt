@@ -10,8 +10,12 @@ loop-end-preserved c =
     let low = ap (λ (q : Search). q.low) c.query.view_is in
     let high = ap (λ (q : Search). q.high) c.query.view_is in
     record {
-      found = added_more c.args.query.now (places_ending_at c.args.query.now) c.args.query.now.low (c.loop-end.end - c.args.query.now.low) ((c.loop-end.end + 1) - c.args.query.now.low) c.loop-end.end
-          [] c.loop-end.found.items c.add_ending_at.new.found.items (omega arith) (omega arith) c.loop-end.invariant.found c.in_ok-add_ending_at.ensures;
+      found =
+          added_more c.args.query.now (places_ending_at c.args.query.now) c.args.query.now.low
+          (c.loop-end.end - c.args.query.now.low)
+          ((c.loop-end.end + 1) - c.args.query.now.low) c.loop-end.end
+          [] c.loop-end.found.items c.add_ending_at.new.found.items (omega arith)
+          (omega arith) c.loop-end.invariant.found c.in_ok-add_ending_at.ensures;
       few = omega arith;
     }
 
@@ -20,4 +24,5 @@ pub returns : goal.returns
 returns c =
     let low = ap (λ (q : Search). q.low) c.query.view_is in
     let high = ap (λ (q : Search). q.high) c.query.view_is in
-    c.loop-end.invariant.found ∙ all-from_ends c.args.query.now (c.loop-end.end - c.args.query.now.low) (omega arith)
+    c.loop-end.invariant.found
+    ∙ all-from_ends c.args.query.now (c.loop-end.end - c.args.query.now.low) (omega arith)

@@ -34,19 +34,24 @@ stayed = tt
 abbrev made : Tally
 made = record { seal = tt; number = 0 }
 
-module _ {M : Type 1} {𝓤 : Ura M} (𝓛 : Logic 𝓤) (mem : Memory → SProp 𝓤) (run : Routine → Fun 𝓤) (C : Calls 𝓤 𝓛.H) (Λ : Loops 𝓤 𝓛.H) where
+module _ {M : Type 1} {𝓤 : Ura M} (𝓛 : Logic 𝓤) (mem : Memory → SProp 𝓤) (run : Routine → Fun 𝓤)
+    (C : Calls 𝓤 𝓛.H) (Λ : Loops 𝓤 𝓛.H) where
   open 𝓛 use {H}
 
   abbrev bound : (walk_of 𝓛 f.ended stayed (f.clauses 𝓛 mem run)).Ghost
   bound = ((tt, tt, tt, tt, tt), tt)
 
-  walk : ent 𝓤 (on_entry 𝓛 f.signature tt tt tt tt) (WpFn 𝓤 H C Λ code.function [] ((walk_of 𝓛 f.ended stayed (f.clauses 𝓛 mem run)).post bound))
+  walk : ent 𝓤 (on_entry 𝓛 f.signature tt tt tt tt)
+      (WpFn 𝓤 H C Λ code.function [] ((walk_of 𝓛 f.ended stayed (f.clauses 𝓛 mem run)).post bound))
   walk =
       qed 𝓛 (raw (alive 𝓛 f.signature tt tt) ∷ ‵ (owns [] tt tt) ∷ []) ∵ enter ! C Λ code.function [] _ $
-      alloc_all ! (λ l. pass_all ! refl tt $ sets ! (agg ! (and_then ! (unit_lit !) (no_more !))) refl (tt, (tt, tt)) $
+      alloc_all ! (λ l. pass_all ! refl tt $ sets ! (agg ! (and_then ! (unit_lit !) (no_more !))) refl
+      (tt, (tt, tt)) $
       returns ! (look_at ! 0 refl) $ free_all ! refl $
-      suffices ! _ (ends_at 𝓛 f.ended stayed (f.clauses 𝓛 mem run) bound (vstruct (vcons vunit vnil)) made tt tt) $
-      says ! refl $ pure_i ! (tally.the_row.own_val made (vstruct (vcons vunit vnil) ∷ [])) ((λ vss. (tt, (tt, tt))), tt) (((vunit ∷ [], tt), (refl, (refl, tt))), tt) $
+      suffices ! _ (ends_at 𝓛 f.ended stayed (f.clauses 𝓛 mem run) bound
+      (vstruct (vcons vunit vnil)) made tt tt) $
+      says ! refl $ pure_i ! (tally.the_row.own_val made (vstruct (vcons vunit vnil) ∷ []))
+      ((λ vss. (tt, (tt, tt))), tt) (((vunit ∷ [], tt), (refl, (refl, tt))), tt) $
       move ! (1 ∷ 2 ∷ 0 ∷ []) $ done !)
 
   walks : Walks 𝓛 f.ended stayed (WpFn 𝓤 H C Λ code.function) (f.clauses 𝓛 mem run)
@@ -54,7 +59,8 @@ module _ {M : Type 1} {𝓤 : Ura M} (𝓛 : Logic 𝓤) (mem : Memory → SProp
       walked 𝓛 f.ended stayed (f.clauses 𝓛 mem run) (WpFn 𝓤 H C Λ code.function) (λ κs. tt) (λ κs. tt)
       (λ κs qs bounds a g are. via 𝓤 _ (fst∗ 𝓤 _ (emp 𝓤)) walk)
 
-meets : {M : Type 1} {𝓤 : Ura M} (𝓛 : Logic 𝓤) (mem : Memory → SProp 𝓤) (run : Routine → Fun 𝓤) (𝓣 : Tables 𝓤 𝓛.H)
+meets : {M : Type 1} {𝓤 : Ura M} (𝓛 : Logic 𝓤) (mem : Memory → SProp 𝓤) (run : Routine → Fun 𝓤)
+    (𝓣 : Tables 𝓤 𝓛.H)
     → Meets 𝓛 f.signature (WpFn 𝓤 𝓛.H 𝓣.C 𝓣.Λ code.function) (f.spec 𝓛 mem run)
 meets {𝓤 = 𝓤} 𝓛 mem run 𝓣 =
     walk_Meets 𝓛 f.ended stayed tt (f.clauses 𝓛 mem run) (WpFn 𝓤 𝓛.H 𝓣.C 𝓣.Λ code.function)

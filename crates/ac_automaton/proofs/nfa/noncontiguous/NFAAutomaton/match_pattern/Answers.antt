@@ -20,6 +20,8 @@ listed_pattern-requires g c =
 pub returns : goal.returns
 returns g c =
     let stands = c.requires.state.1 in
-    ap (λ (ns : List ℕ). slice_get ns c.args.index) (listed-matches c.args.self.now c.args.sid stands.0 stands.1)
-    ∙ c.listed_pattern.ensures (meaning c.args.self.now c.args.sid stands.0 stands.1) stands.0 (sym c.order.ensures)
+    ap (λ (ns : List ℕ). slice_get ns c.args.index)
+    (listed-matches c.args.self.now c.args.sid stands.0 stands.1)
+    ∙ c.listed_pattern.ensures (meaning c.args.self.now c.args.sid stands.0 stands.1) stands.0
+    (sym c.order.ensures)
     (rw c.states.ensures.value (has-state c.args.self.now c.args.sid stands.0 stands.1))

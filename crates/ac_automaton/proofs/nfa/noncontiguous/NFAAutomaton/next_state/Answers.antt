@@ -8,7 +8,8 @@ returns-clause-steps g c = λ u h.
     record {
       nodes = h.nodes;
       table = h.table;
-      named = c.follow.ensures.steps (meaning c.args.self.now c.args.sid u h) u (sym c.transitions.ensures) state;
+      named =
+          c.follow.ensures.steps (meaning c.args.self.now c.args.sid u h) u (sym c.transitions.ensures) state;
     }
 
 pub returns-clause-looks : goal.returns-clause-looks

@@ -37,21 +37,26 @@ module _ (g : Over) (c : After-own_end-own_end g) where
   }
 
 pub loop-place-init : goal.loop-place-init
-loop-place-init g c = λ patterns ready ends. branching-begins (site g (goal.at.loop-place-init g c).After-own_end-own_end patterns ready ends)
+loop-place-init g c =
+    λ patterns ready ends. branching-begins
+    (site g (goal.at.loop-place-init g c).After-own_end-own_end patterns ready ends)
 
 pub unreachable-requires : goal.unreachable-requires
 unreachable-requires g c =
     let ready = c.requires.ready in
     let ends = c.own_end-own_end.ensures in
-    goes-on (site g (goal.at.unreachable-requires g c).After-own_end-own_end ready.0 ready.1 ends) c.loop-place.place
-    c.loop-place.growth.transitions.items c.loop-place.growth.queue.items (c.loop-place.invariant ready.0 ready.1 ends)
+    goes-on (site g (goal.at.unreachable-requires g c).After-own_end-own_end ready.0 ready.1 ends)
+    c.loop-place.place
+    c.loop-place.growth.transitions.items c.loop-place.growth.queue.items
+    (c.loop-place.invariant ready.0 ready.1 ends)
     c.loop-place-test.true (sym c.byte.ensures.value ∙ c.in_default.is)
 
 -- the run of members that is found goes on with the byte
 module _ (g : Over) (c : In-Some g) where
   run : (patterns : List (List ℕ)) (ready : Ready g (goal.at.In-Some g c).After-own_end-own_end patterns)
       (ends : Ends g (goal.at.In-Some g c).After-own_end-own_end)
-      → IsRun (site g (goal.at.In-Some g c).After-own_end-own_end patterns ready ends) c.loop-place.place c.run_end-end.result c.in-Some.byte
+      → IsRun (site g (goal.at.In-Some g c).After-own_end-own_end patterns ready ends) c.loop-place.place
+      c.run_end-end.result c.in-Some.byte
   run patterns ready ends = record {
     more = c.loop-place-test.true;
     some = c.run_end-end.ensures.later;
@@ -63,12 +68,15 @@ module _ (g : Over) (c : In-Some g) where
 
   -- so it is that of a child
   child : (patterns : List (List ℕ)) (ready : Ready g (goal.at.In-Some g c).After-own_end-own_end patterns)
-      → HasChild c.args.kind c.args.fold patterns c.args.members.now c.args.states.now c.loop-place.growth.transitions.items
+      → HasChild c.args.kind c.args.fold patterns c.args.members.now c.args.states.now
+      c.loop-place.growth.transitions.items
       c.loop-place.growth.queue.items c.args.pending c.loop-place.place c.in-Some.byte
   child patterns ready =
       let ends = c.own_end-own_end.ensures in
-      has-child (site g (goal.at.In-Some g c).After-own_end-own_end patterns ready ends) c.loop-place.place c.run_end-end.result c.in-Some.byte
-      c.loop-place.growth.transitions.items c.loop-place.growth.queue.items (c.loop-place.invariant patterns ready ends) (run patterns ready ends)
+      has-child (site g (goal.at.In-Some g c).After-own_end-own_end patterns ready ends) c.loop-place.place
+      c.run_end-end.result c.in-Some.byte
+      c.loop-place.growth.transitions.items c.loop-place.growth.queue.items
+      (c.loop-place.invariant patterns ready ends) (run patterns ready ends)
 
 pub child_fail-fail-requires : goal.child_fail-fail-requires
 child_fail-fail-requires g c =
@@ -87,8 +95,11 @@ overflow_add-child g c =
     let s = (goal.at.overflow_add-child g c).In-Some in
     let ready = c.requires.ready in
     let ends = c.own_end-own_end.ensures in
-    let deep = child-deep (site g (goal.at.In-Some g s).After-own_end-own_end ready.0 ready.1 ends) c.loop-place.place c.run_end-end.result c.in-Some.byte
-    c.loop-place.growth.transitions.items c.loop-place.growth.queue.items (c.loop-place.invariant ready.0 ready.1 ends) (run g s ready.0 ready.1 ends) in
+    let deep =
+    child-deep (site g (goal.at.In-Some g s).After-own_end-own_end ready.0 ready.1 ends) c.loop-place.place
+    c.run_end-end.result c.in-Some.byte
+    c.loop-place.growth.transitions.items c.loop-place.growth.queue.items
+    (c.loop-place.invariant ready.0 ready.1 ends) (run g s ready.0 ready.1 ends) in
     let short = c.byte.ensures.short in
     omega arith
 
@@ -99,7 +110,8 @@ push-requires g c =
 
 -- the failure target of the child stands for that of its string
 module _ (g : Over) (c : After-child_fail-fail g) where
-  fails : (patterns : List (List ℕ)) → Ready g (goal.at.After-child_fail-fail g c).After-own_end-own_end patterns
+  fails : (patterns : List (List ℕ))
+      → Ready g (goal.at.After-child_fail-fail g c).After-own_end-own_end patterns
       → slice_get (nodes_of c.args.members.now c.loop-place.growth.queue.items) c.child_fail-fail.result
       ≡ Some (miss c.args.kind patterns (Some (word c.args.members.now c.args.pending ++ c.in-Some.byte ∷ [])))
   fails patterns ready =
@@ -110,25 +122,35 @@ pub returns-in_err-push : goal.returns-in_err-push
 returns-in_err-push g c = λ patterns ready.
     let s = (goal.at.returns-in_err-push g c).In-Some in
     let ends = c.own_end-own_end.ensures in
-    refused-by c.from_residual.result c.in_err-push.field-0.0 _ (IsRefused c.args.kind patterns) c.from_residual.ensures.1
-    (refused (site g (goal.at.In-Some g s).After-own_end-own_end patterns ready ends) c.loop-place.place c.run_end-end.result c.in-Some.byte
-    c.loop-place.growth.transitions.items c.loop-place.growth.queue.items (c.loop-place.invariant patterns ready ends) (run g s patterns ready ends)
-    c.child_fail-fail.result (fails g (goal.at.returns-in_err-push g c).After-child_fail-fail patterns ready) c.in_err-push.field-0.0 c.in_err-push.ensures)
+    refused-by c.from_residual.result c.in_err-push.field-0.0 _
+    (IsRefused c.args.kind patterns) c.from_residual.ensures.1
+    (refused (site g (goal.at.In-Some g s).After-own_end-own_end patterns ready ends) c.loop-place.place
+    c.run_end-end.result c.in-Some.byte
+    c.loop-place.growth.transitions.items c.loop-place.growth.queue.items
+    (c.loop-place.invariant patterns ready ends) (run g s patterns ready ends)
+    c.child_fail-fail.result
+    (fails g (goal.at.returns-in_err-push g c).After-child_fail-fail patterns ready) c.in_err-push.field-0.0
+    c.in_err-push.ensures)
 
 pub loop-place-preserved : goal.loop-place-preserved
 loop-place-preserved g c = λ patterns ready ends.
     let s = (goal.at.loop-place-preserved g c).In-Some in
     let pushed = c.in_ok-push.ensures in
     rw (pushed.leads, pushed.waits)
-    (branching-goes_on (site g (goal.at.In-Some g s).After-own_end-own_end patterns ready ends) c.loop-place.place c.run_end-end.result c.in-Some.byte
-    c.loop-place.growth.transitions.items c.loop-place.growth.queue.items (c.loop-place.invariant patterns ready ends) (run g s patterns ready ends)
-    c.child_fail-fail.result (fails g (goal.at.loop-place-preserved g c).After-child_fail-fail patterns ready) pushed.numbered)
+    (branching-goes_on
+    (site g (goal.at.In-Some g s).After-own_end-own_end patterns ready ends) c.loop-place.place
+    c.run_end-end.result c.in-Some.byte
+    c.loop-place.growth.transitions.items c.loop-place.growth.queue.items
+    (c.loop-place.invariant patterns ready ends) (run g s patterns ready ends)
+    c.child_fail-fail.result
+    (fails g (goal.at.loop-place-preserved g c).After-child_fail-fail patterns ready) pushed.numbered)
 
 pub sort_from-requires : goal.sort_from-requires
 sort_from-requires g c =
     let ready = c.requires.ready in
     let h = c.loop-place.invariant ready.0 ready.1 c.own_end-own_end.ensures in
-    let first : c.len-first.result ≡ length c.args.growth.now.transitions.items = c.len-first.ensures ∙ c.args.growth.now.transitions.ok.0 in
+    let first : c.len-first.result ≡ length c.args.growth.now.transitions.items =
+    c.len-first.ensures ∙ c.args.growth.now.transitions.ok.0 in
     record { within = (let l = ap length h.split in let m = ap length c.deref_mut.ensures.value in omega (arith, length-append c.args.growth.now.transitions.items h.added)) }
 
 pub overflow_cast-result-2 : goal.overflow_cast-result-2
@@ -150,14 +172,19 @@ returns g c = λ patterns ready.
     let transitions = c.sort_from.new.transitions in
     let queue = c.loop-place.growth.queue.items in
     let h = c.loop-place.invariant patterns ready ends in
-    let at : c.loop-place.place ≡ c.args.pending.to = (let l = h.high in omega (arith, c.loop-place-test.false)) in
+    let at : c.loop-place.place ≡ c.args.pending.to =
+    (let l = h.high in omega (arith, c.loop-place-test.false)) in
     let all = subst (λ (n : ℕ). IsBranching state n unsorted queue) at h in
-    let first : c.len-first.result ≡ length c.args.growth.now.transitions.items = c.len-first.ensures ∙ c.args.growth.now.transitions.ok.0 in
-    let kept : length transitions ≡ c.loop-place.growth.transitions.len = c.sort_from.auto.transitions ∙ c.deref_mut.ensures.len in
+    let first : c.len-first.result ≡ length c.args.growth.now.transitions.items =
+    c.len-first.ensures ∙ c.args.growth.now.transitions.ok.0 in
+    let kept : length transitions ≡ c.loop-place.growth.transitions.len =
+    c.sort_from.auto.transitions ∙ c.deref_mut.ensures.len in
     let last : c.len.result ≡ length transitions = c.len.ensures ∙ sym kept in
-    let sorted : HasSorted (length c.args.growth.now.transitions.items) unsorted transitions = rw (first, c.deref_mut.ensures.value) at c.sort_from.ensures in
+    let sorted : HasSorted (length c.args.growth.now.transitions.items) unsorted transitions =
+    rw (first, c.deref_mut.ensures.value) at c.sort_from.ensures in
     rw (first, last, written-whole transitions unsorted c.loop-place.growth.transitions.len kept)
     (has-branched state unsorted queue all transitions sorted c.link_of.result
-    (c.link_of.ensures (grown_meaning c.args.kind c.args.fold patterns c.args.members.now transitions queue) (string state)
+    (c.link_of.ensures (grown_meaning c.args.kind c.args.fold patterns c.args.members.now transitions queue)
+    (string state)
     (still-meant state unsorted queue all transitions sorted)
     (link-due state unsorted queue all transitions sorted)))

@@ -7,7 +7,8 @@ use Rattle.ac_automaton.proofs.nfa.noncontiguous.growth.branch.Given as goal
 abbrev pub invariant-loop-place : goal.invariant-loop-place
 invariant-loop-place g l =
     (patterns : List (List ℕ))
-    (ready : IsReady l.kind l.fold patterns l.members l.states l.fn.growth.transitions.items l.fn.growth.queue.items l.pending)
+    (ready : IsReady l.kind l.fold patterns l.members l.states l.fn.growth.transitions.items
+    l.fn.growth.queue.items l.pending)
     (ends : EndsOwn l.members l.pending l.own_end)
     → IsBranching (record {
       kind = l.kind;

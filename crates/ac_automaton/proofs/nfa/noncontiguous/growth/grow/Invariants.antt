@@ -8,7 +8,8 @@ use Rattle.ac_automaton.proofs.nfa.noncontiguous.growth.grow.Given as goal
 abbrev pub invariant-loop-at : goal.invariant-loop-at
 invariant-loop-at g l =
     (texts : List (List ℕ)) → IsOrder l.kind (map (plain l.fold) texts) l.members
-    → IsGoing l.kind l.fold (map (plain l.fold) texts) l.members l.states.items l.growth.transitions.items l.growth.queue.items l.at
+    → IsGoing l.kind l.fold
+    (map (plain l.fold) texts) l.members l.states.items l.growth.transitions.items l.growth.queue.items l.at
 
 abbrev pub decreases-loop-at : goal.decreases-loop-at
 decreases-loop-at g l = GREATEST + 1 - l.at

@@ -8,7 +8,8 @@ use Rattle.ac_automaton.proofs.nfa.noncontiguous.growth.link_of.Goals as goal
 pub returns-then-as_usize-states : goal.returns-then-as_usize-states
 returns-then-as_usize-states c = λ g u a due.
     subst (λ (k : ℕ). Links g (length c.args.states.now) (Some u) k) (sym c.must.ensures.value)
-    (link-far g c.args.states.now u c.args.fail due (let v = c.as_usize.ensures.value in omega (arith, c.if-as_usize-states.true)))
+    (link-far g c.args.states.now u c.args.fail due
+    (let v = c.as_usize.ensures.value in omega (arith, c.if-as_usize-states.true)))
 
 pub returns-then-target : goal.returns-then-target
 returns-then-target c = λ g u a due.

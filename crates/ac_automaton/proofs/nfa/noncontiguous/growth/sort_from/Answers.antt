@@ -8,10 +8,12 @@ use Rattle.ac_automaton.proofs.nfa.noncontiguous.growth.sort_from.Goals as goal
 
 -- all from a place on are as many as there are behind it, and nothing is behind them
 whole : (first : ℕ) (old : List Transition) → take (length old - first) (drop first old) ≡ drop first old
-whole first old = ap (λ (n : ℕ). take n (drop first old)) (sym (length-drop first old)) ∙ take-length (drop first old)
+whole first old =
+    ap (λ (n : ℕ). take n (drop first old)) (sym (length-drop first old)) ∙ take-length (drop first old)
 
 none_behind : (first : ℕ) (old : List Transition) → drop (length old - first) (drop first old) ≡ []
-none_behind first old = ap (λ (n : ℕ). drop n (drop first old)) (sym (length-drop first old)) ∙ drop-length (drop first old)
+none_behind first old =
+    ap (λ (n : ℕ). drop n (drop first old)) (sym (length-drop first old)) ∙ drop-length (drop first old)
 
 pub returns : goal.returns
 returns c =
@@ -22,6 +24,8 @@ returns c =
       sorted = new;
       split = ap (λ (rest : List Transition). take first old ++ (new ++ rest)) (none_behind first old)
           ∙ ap (λ (rest : List Transition). take first old ++ rest) (append-nil new);
-      permutation = subst (λ (xs : List Transition). IsPermutation xs new) (whole first old) c.sort_unstable_by_key.ensures.permutation;
-      order = c.sort_unstable_by_key.ensures.sorted (λ (t : Transition). t.byte) (always_returns_same _ _ _ (λ a r f called. search rules));
+      permutation = subst (λ (xs : List Transition). IsPermutation xs new)
+          (whole first old) c.sort_unstable_by_key.ensures.permutation;
+      order = c.sort_unstable_by_key.ensures.sorted (λ (t : Transition). t.byte)
+          (always_returns_same _ _ _ (λ a r f called. search rules));
     }

@@ -1,4 +1,5 @@
--- The shortest of the patterns read is counted with that of the others, which is the greatest `usize` at the end.
+-- The shortest of the patterns read is counted with that of the others, which is the greatest `usize` at the
+-- end.
 use Rattle.std.proofs.Common.{arith}
 use Rattle.ac_automaton.proofs.Lengths.{shortest_len-drop, shortest_len-end, shortest_len-le}
 use Rattle.ac_automaton.proofs.nfa.noncontiguous.lengths.shortest_of.Goals as goal
@@ -11,7 +12,8 @@ loop-number-init g c =
 pub loop-number-preserved : goal.loop-number-preserved
 loop-number-preserved g c =
     let at = c.loop-number in
-    let kept = shortest_len-drop c.args.patterns.now at.number at.shortest c.get.result.now c.get.ensures.value in
+    let kept =
+    shortest_len-drop c.args.patterns.now at.number at.shortest c.get.result.now c.get.ensures.value in
     record { fits = omega arith; rest = omega arith }
 
 pub returns : goal.returns

@@ -14,16 +14,20 @@ loop-at-preserved g c =
     let keeps = c.loop-at.invariant in
     let within : c.loop-at.at < length now = omega (arith, keeps.long, c.len-at-end.ensures) in
     elim c.if-not-is_shadowed.branch [
-      | then-not-is_shadowed+in_ok-push w ↦ rw (w.members-is, w.fronts-is, w.kept-is, w.in_ok-push.ensures.items)
-          (Keeps-keep c.args.fold all now c.loop-at.kept c.loop-at.at old new member keeps within c.index.ensures
+      | then-not-is_shadowed+in_ok-push w ↦
+          rw (w.members-is, w.fronts-is, w.kept-is, w.in_ok-push.ensures.items)
+          (Keeps-keep c.args.fold all now c.loop-at.kept c.loop-at.at old new member keeps within
+          c.index.ensures
           c.is_shadowed.ensures.left c.is_shadowed.ensures.gone (w.if-not-is_shadowed.ensures.free refl))
       | else-not-is_shadowed w ↦ rw (w.members-is, w.fronts-is, w.kept-is)
-          (Keeps-skip c.args.fold all now c.loop-at.kept c.loop-at.at old new member keeps within c.index.ensures
+          (Keeps-skip c.args.fold all now c.loop-at.kept c.loop-at.at old new member keeps within
+          c.index.ensures
           c.is_shadowed.ensures.left c.is_shadowed.ensures.gone (w.if-not-is_shadowed.ensures.shadowed refl))
     ]
 
 pub returns-clause-kept : goal.returns-clause-kept
 returns-clause-kept g c =
     let done : length c.args.members.now.items ≤ c.loop-at.at = omega (arith, c.len-at-end.ensures) in
-    Keeps-end c.args.fold c.args.members.now.items c.loop-at.members.items c.truncate.new.self.items c.loop-at.kept c.loop-at.at
+    Keeps-end c.args.fold c.args.members.now.items c.loop-at.members.items c.truncate.new.self.items
+    c.loop-at.kept c.loop-at.at
     c.loop-at.fronts.items c.loop-at.invariant done c.truncate.ensures.items

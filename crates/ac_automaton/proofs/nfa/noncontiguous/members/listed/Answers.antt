@@ -14,8 +14,10 @@ loop-number-preserved g c =
     let kept = c.loop-number.invariant in
     let more = c.in_ok-push.ensures.items in
     let small : n ≤ GREATEST = omega arith in record {
-      bytes = map-push (λ m. m.bytes.now) c.args.patterns.now old new n member more kept.bytes c.get.ensures.value;
+      bytes =
+          map-push (λ m. m.bytes.now) c.args.patterns.now old new n member more kept.bytes c.get.ensures.value;
       numbers = map-range-push (λ m. m.number) old new n member more kept.numbers refl;
-      short = All-pushed (λ m. length m.bytes.now ≤ GREATEST) old new member more kept.short c.get.ensures.short;
+      short =
+          All-pushed (λ m. length m.bytes.now ≤ GREATEST) old new member more kept.short c.get.ensures.short;
       numbered = All-pushed (λ m. m.number ≤ GREATEST) old new member more kept.numbered small;
     }

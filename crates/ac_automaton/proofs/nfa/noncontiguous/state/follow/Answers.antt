@@ -7,7 +7,8 @@ use Rattle.ac_automaton.proofs.nfa.noncontiguous.state.follow.Goals as goal
 use Rattle.ac_automaton.proofs.nfa.noncontiguous.state.follow.Goals.{in-Yes, in_default-matches, After-index-states-as_usize, After-must, Then-as_usize-lt-FIRST_INNER}
 
 pub loop-next-init : goal.loop-next-init
-loop-next-init c = λ g u same h. onward-start g c.args.states.now c.args.byte u c.args.looks.now c.args.anchored c.args.from h
+loop-next-init c =
+    λ g u same h. onward-start g c.args.states.now c.args.byte u c.args.looks.now c.args.anchored c.args.from h
 
 pub bounds-states-as_usize : goal.bounds-states-as_usize
 bounds-states-as_usize c =
@@ -91,12 +92,14 @@ at_outer c g u same h =
 pub returns-then-as_usize-lt-FIRST_INNER-clause-steps :
     goal.returns-then-as_usize-lt-FIRST_INNER-clause-steps
 returns-then-as_usize-lt-FIRST_INNER-clause-steps c = λ g u same h.
-    (at_outer (goal.at.returns-then-as_usize-lt-FIRST_INNER-clause-steps c).Then-as_usize-lt-FIRST_INNER g u same h).steps
+    (at_outer (goal.at.returns-then-as_usize-lt-FIRST_INNER-clause-steps c).Then-as_usize-lt-FIRST_INNER g u
+    same h).steps
 
 pub returns-then-as_usize-lt-FIRST_INNER-clause-looks :
     goal.returns-then-as_usize-lt-FIRST_INNER-clause-looks
 returns-then-as_usize-lt-FIRST_INNER-clause-looks c = λ g u same h.
-    (at_outer (goal.at.returns-then-as_usize-lt-FIRST_INNER-clause-looks c).Then-as_usize-lt-FIRST_INNER g u same h).looks
+    (at_outer (goal.at.returns-then-as_usize-lt-FIRST_INNER-clause-looks c).Then-as_usize-lt-FIRST_INNER g u
+    same h).looks
 
 pub loop-next-smaller : goal.loop-next-smaller
 loop-next-smaller c = (known (goal.at.loop-next-smaller c).After-index-states-as_usize).back (omega arith)

@@ -10,7 +10,8 @@ use Rattle.ac_automaton.proofs.nfa.noncontiguous.state.listed_len.Goals.{After-i
 abbrev known_node : After-index-states-at → Node
 known_node c = let r = c.requires.state in (c.loop-at.invariant.counted r.0 r.1 r.2).node
 
-known : (c : After-index-states-at) → Represents c.requires.state.0 c.loop-at.at (known_node c) c.index-states-at.result
+known : (c : After-index-states-at)
+    → Represents c.requires.state.0 c.loop-at.at (known_node c) c.index-states-at.result
 known c =
     let r = c.requires.state in
     let o = c.loop-at.invariant.counted r.0 r.1 r.2 in
@@ -25,17 +26,20 @@ overflow_add-count c = omega arith
 pub returns-then-at-eq0 : goal.returns-then-at-eq0
 returns-then-at-eq0 c = λ g u h.
     rw c.own_len-count.ensures.value
-    (counting-end g c.args.states.now u c.loop-at.at c.index-states-at.result c.index-states-at.is c.loop-at.count
+    (counting-end g c.args.states.now u c.loop-at.at c.index-states-at.result c.index-states-at.is
+    c.loop-at.count
     (c.loop-at.invariant.counted g u h) (sym c.as_usize-at-in-loop-at.ensures.value ∙ c.if-at-eq0.true))
 
 pub loop-at-smaller : goal.loop-at-smaller
-loop-at-smaller c = let back = (known (goal.at.loop-at-smaller c).After-index-states-at).links.back in omega arith
+loop-at-smaller c =
+    let back = (known (goal.at.loop-at-smaller c).After-index-states-at).links.back in omega arith
 
 pub loop-at-preserved : goal.loop-at-preserved
 loop-at-preserved c = record {
   counted = λ g u h.
       rw (c.as_usize-at-in-loop-at.ensures.value, c.own_len-count.ensures.value)
-      (counting-on g c.args.states.now u c.loop-at.at c.index-states-at.result c.index-states-at.is c.loop-at.count
+      (counting-on g c.args.states.now u c.loop-at.at c.index-states-at.result c.index-states-at.is
+      c.loop-at.count
       (c.loop-at.invariant.counted g u h));
   fits = let back = (known (goal.at.loop-at-preserved c).After-index-states-at).links.back in omega arith;
 }

@@ -4,7 +4,8 @@ use Rattle.ac_automaton.specs.Tries.{Meaning, HasState}
 use Rattle.ac_automaton.proofs.ListsOf.{Counting}
 use Rattle.ac_automaton.proofs.nfa.noncontiguous.state.listed_len.Given as goal
 
--- whatever the states mean, what is counted is what is listed in front; and each state adds less than 32 bits hold
+-- whatever the states mean, what is counted is what is listed in front; and each state adds less than 32 bits
+-- hold
 abbrev pub invariant-loop-at : goal.invariant-loop-at
 invariant-loop-at l = record {
   counted : (g : Meaning) (u : Node) → HasState g l.states l.fn.from u → Counting g l.states u l.at l.count;

@@ -38,19 +38,23 @@ returns-then-left-len c = λ g u same h.
     let t = c.index-states-as_usize.result in
     let is = rw c.as_usize.ensures.value at c.index-states-as_usize.is in
     let x = c.index-order-state.result in
-    seeking-own g c.args.states.now u c.loop-left.at t is c.args.index c.loop-left.left (c.loop-left.invariant g u same h)
-    x (omega arith) (subst (λ (os : List ℕ). x ≡ get_or os (t.own + c.loop-left.left) x) (sym same) c.index-order-state.is)
+    seeking-own g c.args.states.now u c.loop-left.at t is c.args.index c.loop-left.left
+    (c.loop-left.invariant g u same h)
+    x (omega arith)
+    (subst (λ (os : List ℕ). x ≡ get_or os (t.own + c.loop-left.left) x) (sym same) c.index-order-state.is)
 
 pub loop-left-smaller : goal.loop-left-smaller
 loop-left-smaller c =
     let r = c.requires.state in
     let is = rw c.as_usize.ensures.value at c.index-states-as_usize.is in
-    seeking-back r.0 c.args.states.now r.1 c.loop-left.at c.index-states-as_usize.result is c.args.index c.loop-left.left
+    seeking-back r.0 c.args.states.now r.1 c.loop-left.at c.index-states-as_usize.result is c.args.index
+    c.loop-left.left
     (c.loop-left.invariant r.0 r.1 r.2 r.3) r.4 (omega arith)
 
 pub loop-left-preserved : goal.loop-left-preserved
 loop-left-preserved c = λ g u same h.
     let is = rw c.as_usize.ensures.value at c.index-states-as_usize.is in
     rw c.own_len-len.ensures.value
-    (seeking-on g c.args.states.now u c.loop-left.at c.index-states-as_usize.result is c.args.index c.loop-left.left
+    (seeking-on g c.args.states.now u c.loop-left.at c.index-states-as_usize.result is c.args.index
+    c.loop-left.left
     (c.loop-left.invariant g u same h) (omega arith))

@@ -7,7 +7,8 @@ use Rattle.ac_automaton.proofs.nfa.noncontiguous.state.listed_pattern.Given as g
 -- whatever the states mean, the match is still to be found in the list of the state that was come to
 abbrev pub invariant-loop-left : goal.invariant-loop-left
 invariant-loop-left l =
-    (g : Meaning) (u : Node) → g.order ≡ l.order → HasState g l.states l.fn.from u → Seeking g l.states u l.index l.at l.left
+    (g : Meaning) (u : Node) → g.order ≡ l.order → HasState g l.states l.fn.from u
+    → Seeking g l.states u l.index l.at l.left
 
 abbrev pub decreases-loop-left : goal.decreases-loop-left
 decreases-loop-left l = l.at

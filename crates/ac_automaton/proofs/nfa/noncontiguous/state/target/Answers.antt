@@ -16,9 +16,12 @@ use Rattle.ac_automaton.specs.Tries.{bytes_of, transitions_of}
 use Rattle.ac_automaton.proofs.nfa.noncontiguous.state.target.Goals as goal
 
 -- bytes that rise strictly don't fall
-rises : (xs : List ℕ) → IsStrictlyIncreasing xs → (i j : ℕ) → i ≤ j → j < length xs → get_or xs i 0 ≤ get_or xs j 0
+rises : (xs : List ℕ) → IsStrictlyIncreasing xs → (i j : ℕ) → i ≤ j → j < length xs
+    → get_or xs i 0 ≤ get_or xs j 0
 rises xs ascending i j at_most inside = elim (cases_lt i j) [
-  | inl less ↦ (let l : get_or xs i 0 < get_or xs j 0 = AllPairs-from_increasing xs ascending i j 0 less inside in omega arith)
+  | inl less ↦
+      (let l : get_or xs i 0 < get_or xs j 0 = AllPairs-from_increasing xs ascending i j 0 less inside in
+      omega arith)
   | inr more ↦ subst (λ (k : ℕ). get_or xs i 0 ≤ get_or xs k 0) (let e : i ≡ j = omega arith in e) (omega arith)
 ]
 
@@ -40,7 +43,8 @@ byte-at (x ∷ xs) zero t = refl
 byte-at (x ∷ xs) (suc k) t = byte-at xs k t
 
 -- a search of the transitions by their bytes is one of the bytes
-bytes-searched : (xs : List Transition) (x place : ℕ) → IsBinarySearchResult (λ y. nat_cmp y.byte x) xs (Err place)
+bytes-searched : (xs : List Transition) (x place : ℕ)
+    → IsBinarySearchResult (λ y. nat_cmp y.byte x) xs (Err place)
     → IsBinarySearchResult (λ y. nat_cmp y x) (bytes_of xs) (Err place)
 bytes-searched xs x place h = λ up.
     let some : ℕ → Transition = λ byte. record { byte = byte; target = 0 } in
@@ -53,21 +57,27 @@ bytes-searched xs x place h = λ up.
       (λ k byte low within.
           subst (λ y. nat_cmp y x ≡ Less) (sym (byte-at xs k (some byte))) (parted.0 k (some byte) low within)),
       (λ k byte low within.
-          subst (λ y. nat_cmp y x ≡ Greater) (sym (byte-at xs k (some byte))) (parted.1 k (some byte) low (omega arith))),
+          subst (λ y. nat_cmp y x ≡ Greater) (sym (byte-at xs k (some byte)))
+          (parted.1 k (some byte) low (omega arith))),
     )
 
 -- a transition that has the byte is by it
-found : (xs : List Transition) (x k : ℕ) (t : Transition) → k < length xs → HoldsAt (λ y. nat_cmp y.byte x ≡ Equal) xs k
+found : (xs : List Transition) (x k : ℕ) (t : Transition) → k < length xs
+    → HoldsAt (λ y. nat_cmp y.byte x ≡ Equal) xs k
     → slice_get xs k ≡ Some (record { byte = x; target = (get_or xs k t).target })
 found xs x k t within equal =
     slice_get-get_or xs k t within
-    ∙ ap (λ (byte : ℕ). Some (record { byte = byte; target = (get_or xs k t).target })) (exact_unsigned (get_or xs k t).byte x (equal t))
+    ∙ ap (λ (byte : ℕ). Some (record { byte = byte; target = (get_or xs k t).target }))
+    (exact_unsigned (get_or xs k t).byte x (equal t))
 
 pub returns-in-Ok : goal.returns-in-Ok
 returns-in-Ok c =
     let own = transitions_of c.args.transitions.now c.args.state.now in
-    let equal = c.in-Ok.ensures.position (λ (y : Transition). y.byte) (always_returns_same _ _ _ (λ a r f called. search rules)) in
-    let is : c.index-own-place.result ≡ get_or own c.in-Ok.place c.index-own-place.result = c.index-own-place.is in (
+    let equal =
+    c.in-Ok.ensures.position (λ (y : Transition). y.byte)
+    (always_returns_same _ _ _ (λ a r f called. search rules)) in
+    let is : c.index-own-place.result ≡ get_or own c.in-Ok.place c.index-own-place.result =
+    c.index-own-place.is in (
       c.in-Ok.place,
       found own c.args.byte c.in-Ok.place c.index-own-place.result (omega (arith, c.in-Ok.ensures.bound)) equal,
     )
@@ -77,4 +87,5 @@ returns-in-Err c =
     let own = transitions_of c.args.transitions.now c.args.state.now in
     absent (bytes_of own) c.args.byte c.in-Err.field-0 c.requires.ascending
     (bytes-searched own c.args.byte c.in-Err.field-0
-    (c.in-Err.ensures.position (λ (y : Transition). y.byte) (always_returns_same _ _ _ (λ a r f called. search rules))))
+    (c.in-Err.ensures.position (λ (y : Transition). y.byte)
+    (always_returns_same _ _ _ (λ a r f called. search rules))))

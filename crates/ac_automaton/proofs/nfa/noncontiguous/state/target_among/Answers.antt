@@ -12,7 +12,10 @@ pub loop-next-preserved : goal.loop-next-preserved
 loop-next-preserved c = λ k t l e is. elim (cases_lt k c.loop-next.next-index) [
   | inl before ↦ c.loop-next.invariant k t before e is
   | inr after ↦
-      let here = slice_get_read c.args.own.now (length c.args.own.now) c.loop-next.next-index c.next-item.result refl c.loop-next-test.true c.next-item.is in
+      let here =
+      slice_get_read c.args.own.now
+      (length c.args.own.now) c.loop-next.next-index c.next-item.result refl c.loop-next-test.true
+      c.next-item.is in
       let at : k ≡ c.loop-next.next-index = omega arith in
       let same = get-same c.args.own.now k t c.next-item.result e (ap (slice_get c.args.own.now) at ∙ here) in
       c.if-next-byte.false (sym (ap (λ (x : Transition). x.byte) same) ∙ is)
@@ -20,14 +23,20 @@ loop-next-preserved c = λ k t l e is. elim (cases_lt k c.loop-next.next-index) 
 
 pub returns-then-next-byte : goal.returns-then-next-byte
 returns-then-next-byte c =
-    let here = slice_get_read c.args.own.now (length c.args.own.now) c.loop-next.next-index c.next-item.result refl c.loop-next-test.true c.next-item.is in (
+    let here =
+    slice_get_read c.args.own.now
+    (length c.args.own.now) c.loop-next.next-index c.next-item.result refl c.loop-next-test.true
+    c.next-item.is in (
       c.loop-next.next-index,
-      here ∙ ap (λ (byte : ℕ). Some (record { byte = byte; target = c.next-item.result.target })) c.if-next-byte.true,
+      here ∙ ap (λ (byte : ℕ). Some (record { byte = byte; target = c.next-item.result.target }))
+          c.if-next-byte.true,
     )
 
 pub returns : goal.returns
 returns c = λ has.
-    let t = IsIn-from_map (λ (x : Transition). x.byte) c.args.byte c.args.own.now (IsIn-from_Contains c.args.byte (bytes_of c.args.own.now) has) in
+    let t =
+    IsIn-from_map (λ (x : Transition). x.byte) c.args.byte c.args.own.now
+    (IsIn-from_Contains c.args.byte (bytes_of c.args.own.now) has) in
     let k = place-of t.0 c.args.own.now t.1 in
     let within = slice_get_within c.args.own.now k.0 t.0 k.1 in
     c.loop-next.invariant k.0 t.0 (omega (arith, c.loop-next-test.false)) k.1 t.2

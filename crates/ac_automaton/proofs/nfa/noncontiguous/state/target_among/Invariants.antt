@@ -5,4 +5,5 @@ use Rattle.ac_automaton.proofs.nfa.noncontiguous.state.target_among.Given as goa
 
 -- none of those before is by the byte
 abbrev pub invariant-loop-next : goal.invariant-loop-next
-invariant-loop-next l = (k : ℕ) (t : Transition) → k < l.next-index → slice_get l.own k ≡ Some t → t.byte ≡ l.byte → ⊥
+invariant-loop-next l =
+    (k : ℕ) (t : Transition) → k < l.next-index → slice_get l.own k ≡ Some t → t.byte ≡ l.byte → ⊥

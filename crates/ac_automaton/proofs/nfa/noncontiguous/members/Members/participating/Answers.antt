@@ -6,4 +6,5 @@ use Rattle.ac_automaton.proofs.nfa.noncontiguous.members.Members.participating.G
 
 pub returns : goal.returns
 returns g c = λ patterns order.
-    c.in_ok-keep_participants.ensures.kept patterns (subst (IsOrder Standard patterns) (sym c.self.view_is) order)
+    c.in_ok-keep_participants.ensures.kept patterns
+    (subst (IsOrder Standard patterns) (sym c.self.view_is) order)
