@@ -22,12 +22,26 @@ ends_by h m = nat_le m.end h
 -- what a shorter span has, the longer one has
 widen : (q : Search) (h : ℕ) (o : Occurrence) → h ≤ q.high → Occurs (up_to_end q h) o → Occurs q o
 widen q h o l x =
-    record { numbered = x.numbered; from_low = x.from_low; as_long = x.as_long; to_high = (let t = x.to_high in omega arith); reads = x.reads; at_low = x.at_low }
+    record {
+      numbered = x.numbered;
+      from_low = x.from_low;
+      as_long = x.as_long;
+      to_high = (let t = x.to_high in omega arith);
+      reads = x.reads;
+      at_low = x.at_low;
+    }
 
 -- what the longer span has and ends early enough, the shorter one has
 narrow : (q : Search) (h : ℕ) (o : Occurrence) → o.end ≤ h → Occurs q o → Occurs (up_to_end q h) o
 narrow q h o l x =
-    record { numbered = x.numbered; from_low = x.from_low; as_long = x.as_long; to_high = l; reads = x.reads; at_low = x.at_low }
+    record {
+      numbered = x.numbered;
+      from_low = x.from_low;
+      as_long = x.as_long;
+      to_high = l;
+      reads = x.reads;
+      at_low = x.at_low;
+    }
 
 -- the pick of the shorter span
 abbrev pub within : ℕ → Option Occurrence → Option Occurrence

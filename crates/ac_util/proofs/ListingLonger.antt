@@ -250,7 +250,11 @@ module _ (q : Search) (order : q.low ≤ q.high) (room : q.high < length q.hayst
       let o = all-only q a h in
       let t = o.to_high in
       let e = (only_ending (one_longer q) (omega arith) (omega arith) b k).1 in
-      record { ends = omega arith; starts = λ same. absurd (omega arith); patterns = λ same s. absurd (omega arith) })
+      record {
+        ends = omega arith;
+        starts = λ same. absurd (omega arith);
+        patterns = λ same s. absurd (omega arith);
+      })
 
   -- the listing of the longer span is that of the shorter one, and then the matches of the node reached
   pub all-longer : all (one_longer q) ≡ all q ++ map (ending (one_longer q))

@@ -58,7 +58,10 @@ IsIn-from_fronts p u h =
     let r = IsIn-from_range f.0 1 (length p) f.1 in
     let l = length-take f.0 p in
     let e = ap length f.2 in
-    record { front = subst (λ (w : List ℕ). starts_with nat_eq p w ≡ true) f.2 (starts_with-take f.0 p); some = omega arith }
+    record {
+      front = subst (λ (w : List ℕ). starts_with nat_eq p w ≡ true) f.2 (starts_with-take f.0 p);
+      some = omega arith;
+    }
 
 -- an element that passes
 pub any_passes : (f : ℕ → Bool) (xs : List ℕ) → list_any f xs ≡ true → (x : ℕ) × IsIn x xs × (f x ≡ true)

@@ -162,7 +162,11 @@ module _ (kind : MatchKind) (patterns : List (List ℕ)) where
       let equal = IsIn-from_filter (λ m. bytes_eq (pattern_of patterns m) w) n (participants kind patterns) h in
       let part = IsIn-from_filter (participates kind patterns) n (range_with_len 0 (length patterns)) equal.0 in
       let range = IsIn-from_range n 0 (length patterns) part.0 in
-      record { numbered = omega arith; takes_part = part.1; same = (bytes_eq-Decides (pattern_of patterns n) w).0 equal.1 }
+      record {
+        numbered = omega arith;
+        takes_part = part.1;
+        same = (bytes_eq-Decides (pattern_of patterns n) w).0 equal.1;
+      }
 
   -- they are listed by number
   pub equal_to-ordered : (w : List ℕ) → IsOrdered (λ m n. m < n) (equal_to kind patterns w)

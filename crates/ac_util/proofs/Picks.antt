@@ -14,20 +14,36 @@ use Rattle.ac_util.proofs.Listing.{all-has, all-only, all-ordered}
 -- what beats b comes first of the two
 pub beats-true : (kind : MatchKind) (a b : Occurrence) → beats kind a b ≡ true → IsFirst kind a b
 beats-true Standard a b h =
-    record { ends = grind (arith, nat_tests); starts = λ e. grind (arith, nat_tests); patterns = λ e s. grind (arith, nat_tests) }
+    record {
+      ends = grind (arith, nat_tests);
+      starts = λ e. grind (arith, nat_tests);
+      patterns = λ e s. grind (arith, nat_tests);
+    }
 beats-true LeftmostFirst a b h =
     record { starts = grind (arith, nat_tests); patterns = λ e. grind (arith, nat_tests) }
 beats-true LeftmostLongest a b h =
-    record { starts = grind (arith, nat_tests); ends = λ e. grind (arith, nat_tests); patterns = λ e s. grind (arith, nat_tests) }
+    record {
+      starts = grind (arith, nat_tests);
+      ends = λ e. grind (arith, nat_tests);
+      patterns = λ e s. grind (arith, nat_tests);
+    }
 
 -- what does not beat b does not come before it
 pub beats-false : (kind : MatchKind) (a b : Occurrence) → beats kind a b ≡ false → IsFirst kind b a
 beats-false Standard a b h =
-    record { ends = grind (arith, nat_tests); starts = λ e. grind (arith, nat_tests); patterns = λ e s. grind (arith, nat_tests) }
+    record {
+      ends = grind (arith, nat_tests);
+      starts = λ e. grind (arith, nat_tests);
+      patterns = λ e s. grind (arith, nat_tests);
+    }
 beats-false LeftmostFirst a b h =
     record { starts = grind (arith, nat_tests); patterns = λ e. grind (arith, nat_tests) }
 beats-false LeftmostLongest a b h =
-    record { starts = grind (arith, nat_tests); ends = λ e. grind (arith, nat_tests); patterns = λ e s. grind (arith, nat_tests) }
+    record {
+      starts = grind (arith, nat_tests);
+      ends = λ e. grind (arith, nat_tests);
+      patterns = λ e s. grind (arith, nat_tests);
+    }
 
 -- nothing comes before itself
 pub IsFirst-itself : (kind : MatchKind) (a : Occurrence) → IsFirst kind a a
@@ -147,7 +163,11 @@ first_of_ordered q (m ∷ ms) has only o = (only m (inl refl), λ x occurs. befo
     before x (inl same) = subst (λ (w : Occurrence). IsFirstByEnd m w) same (IsFirst-itself Standard m)
     before x (inr in') =
         let b = o.0 x in' in
-        record { ends = omega arith; starts = λ e. omega arith; patterns = λ e s. let l = b.patterns e s in omega arith }
+        record {
+          ends = omega arith;
+          starts = λ e. omega arith;
+          patterns = λ e s. let l = b.patterns e s in omega arith;
+        }
 
 -- what Standard picks is the first of the list
 pub pick-Standard : (q : Search) → pick Standard q ≡ slice_get (all q) 0

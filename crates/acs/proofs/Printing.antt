@@ -110,7 +110,11 @@ module _ (all rest : List Occurrence) (old new : Writing) (text : List ℕ) (out
   pub printing-wants : FailsToPrint old new (lines all) Memory
   printing-wants = inr (
     refl,
-    record { part = h.out; begins = starts-from (lines all) h.out (text ++ lines rest) all-lines; moved = h.moved },
+    record {
+      part = h.out;
+      begins = starts-from (lines all) h.out (text ++ lines rest) all-lines;
+      moved = h.moved;
+    },
     h.failed,
     h.idles,
   )

@@ -41,7 +41,10 @@ find_left-second-requires g c =
 pub go_on-requires : goal.go_on-requires
 go_on-requires g c =
     let A = g.A.Automaton in
-    record { within = after-within A.LOOKS (A.built c.args.automaton.now) (asked c.set_start.new.self) 0 c.find_left-second.result c.find_left-second.ensures.pick }
+    record {
+      within = after-within A.LOOKS (A.built c.args.automaton.now)
+          (asked c.set_start.new.self) 0 c.find_left-second.result c.find_left-second.ensures.pick;
+    }
 
 pub returns-then-repeats-clause-left : goal.returns-then-repeats-clause-left
 returns-then-repeats-clause-left g c =
@@ -61,7 +64,10 @@ returns-then-repeats-clause-left g c =
 pub go_on-requires-2 : goal.go_on-requires-2
 go_on-requires-2 g c =
     let A = g.A.Automaton in
-    record { within = after-within A.LOOKS (A.built c.args.automaton.now) (asked c.args.input.now) 0 c.find_left-first.result c.find_left-first.ensures.pick }
+    record {
+      within = after-within A.LOOKS (A.built c.args.automaton.now)
+          (asked c.args.input.now) 0 c.find_left-first.result c.find_left-first.ensures.pick;
+    }
 
 -- the counts go on from the first find to the second
 module _ (g : Over) (c : After-find_left-second g) where

@@ -6,4 +6,6 @@ use Rattle.ac_util.specs.contracts.tally.Tally.{the_row}
 pub sync : IsSync the_row
 unfolding part_of
 sync =
-    record { shared = λ d b o κ. λ q vs. (cell_keyless q (raw_all the_row.mir) vs b o, ((λ _. (tt, (tt, tt))), tt)) }
+    record {
+      shared = λ d b o κ. λ q vs. (cell_keyless q (raw_all the_row.mir) vs b o, ((λ _. (tt, (tt, tt))), tt));
+    }

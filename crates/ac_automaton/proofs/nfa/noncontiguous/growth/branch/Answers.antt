@@ -151,7 +151,10 @@ sort_from-requires g c =
     let h = c.loop-place.invariant ready.0 ready.1 c.own_end-own_end.ensures in
     let first : c.len-first.result ≡ length c.args.growth.now.transitions.items =
     c.len-first.ensures ∙ c.args.growth.now.transitions.ok.0 in
-    record { within = (let l = ap length h.split in let m = ap length c.deref_mut.ensures.value in omega (arith, length-append c.args.growth.now.transitions.items h.added)) }
+    record {
+      within = (let l = ap length h.split in let m = ap length c.deref_mut.ensures.value in
+          omega (arith, length-append c.args.growth.now.transitions.items h.added));
+    }
 
 pub overflow_cast-result-2 : goal.overflow_cast-result-2
 overflow_cast-result-2 g c =
