@@ -49,11 +49,11 @@ some_node kind patterns members order (x ∷ u) b node =
     node-member kind patterns members order x (u ++ b ∷ []) node
 
 -- a state all of whose children have come, and whose transitions have been sorted
-module _ (site : Site) (unsorted : List Transition) (queue : List Pending)
+module _ (site : Site) {unsorted : List Transition} {queue : List Pending}
     (h : IsBranching site site.pending.to unsorted queue)
-    (transitions : List Transition) (s : HasSorted (length site.transitions) unsorted transitions) where
+    {transitions : List Transition} (s : HasSorted (length site.transitions) unsorted transitions) where
   long : length (string site) ≡ site.pending.depth
-  long = word-length site.kind site.patterns site.members queue (length site.states) site.pending h.waits
+  long = word-length h.waits
 
   -- the transitions behind the old ones are the new ones, sorted
   split : transitions ≡ site.transitions ++ s.sorted
@@ -214,12 +214,11 @@ module _ (site : Site) (unsorted : List Transition) (queue : List Pending)
     depth = site.pending.depth;
   }
 
-  pub has-branched : (link : ℕ)
-      → Links (grown_meaning site.kind site.fold site.patterns site.members transitions queue)
+  pub has-branched : {link : ℕ} → Links (grown_meaning site.kind site.fold site.patterns site.members transitions queue)
       (length site.states) (Some (string site)) link
       → HasBranched site.kind site.fold site.patterns site.members site.states site.queue site.pending
       (whole_state link) transitions queue
-  has-branched link links = record {
+  has-branched {link} links = record {
     grown = still-grown;
     meant = still-meant;
     represents = record {

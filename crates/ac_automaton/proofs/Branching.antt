@@ -41,16 +41,15 @@ push-injective (x ∷ u) (y ∷ w) a b e =
 pub front-is : (w v : List ℕ) → starts_with nat_eq w v ≡ true → take (length v) w ≡ v
 front-is w v h = sym ((bytes_eq-Decides v (take (length v) w)).0 h)
 
-module _ (kind : MatchKind) (patterns : List (List ℕ)) (members : List Keyed) where
+module _ {kind : MatchKind} {patterns : List (List ℕ)} {members : List Keyed} {queue : List Pending}
+    {s : ℕ} {p : Pending} (w : Waits kind patterns members queue s p) where
   -- the string of a waiting state has as many bytes as the state is deep
-  pub word-length : (queue : List Pending) (s : ℕ) (p : Pending) → Waits kind patterns members queue s p
-      → length (word members p) ≡ p.depth
-  word-length queue s p w = length-take-le p.depth (key_at members p.from) w.deep
+  pub word-length : length (word members p) ≡ p.depth
+  word-length = length-take-le p.depth (key_at members p.from) w.deep
 
   -- what waits still does when more has come
-  pub Waits-more : (queue more : List Pending) (s : ℕ) (p : Pending) → Waits kind patterns members queue s p
-      → Waits kind patterns members (queue ++ more) s p
-  Waits-more queue more s p w = record {
+  pub Waits-more : (more : List Pending) → Waits kind patterns members (queue ++ more) s p
+  Waits-more more = record {
     deep = w.deep;
     range = w.range;
     fails = nodes-more members queue more p.fail _ w.fails;
@@ -59,16 +58,17 @@ module _ (kind : MatchKind) (patterns : List (List ℕ)) (members : List Keyed) 
     inner = w.inner;
   }
 
-  -- the number of a state that is next stands for its string
-  pub next-node : (queue : List Pending) (s : ℕ) (p : Pending) → IsNext kind patterns members queue s p
-      → slice_get (nodes_of members queue) s ≡ Some (Some (word members p))
-  next-node queue s p (inl start) =
-      let none : word members p ≡ [] = ap (λ (n : ℕ). take n (key_at members p.from)) start.2 in
-      subst (λ (k : ℕ). slice_get (nodes_of members queue) k ≡ Some (Some (word members p))) (sym start.0)
-      (ap (λ (w : List ℕ). Some (Some w)) (sym none))
-  next-node queue s p (inr later) =
-      subst (λ (k : ℕ). slice_get (nodes_of members queue) k ≡ Some (Some (word members p))) (sym later.1)
-      (nodes-inner members queue later.0 p later.2)
+-- the number of a state that is next stands for its string
+next-node : (kind : MatchKind) (patterns : List (List ℕ)) (members : List Keyed) (queue : List Pending)
+    (s : ℕ) (p : Pending) → IsNext kind patterns members queue s p
+    → slice_get (nodes_of members queue) s ≡ Some (Some (word members p))
+next-node kind patterns members queue s p (inl start) =
+    let none : word members p ≡ [] = ap (λ (n : ℕ). take n (key_at members p.from)) start.2 in
+    subst (λ (k : ℕ). slice_get (nodes_of members queue) k ≡ Some (Some (word members p))) (sym start.0)
+    (ap (λ (w : List ℕ). Some (Some w)) (sym none))
+next-node kind patterns members queue s p (inr later) =
+    subst (λ (k : ℕ). slice_get (nodes_of members queue) k ≡ Some (Some (word members p))) (sym later.1)
+    (nodes-inner members queue later.0 p later.2)
 
 -- a state whose children come: the trie as far as it has grown, the state, and where the patterns end that are
 -- its string
@@ -156,12 +156,11 @@ module _ (site : Site) where
   }
 
   -- behind the patterns that are the string each member has a further byte
-  pub goes-on : (place : ℕ) (transitions : List Transition) (queue : List Pending)
-      → IsBranching place transitions queue
+  pub goes-on : {place : ℕ} {transitions : List Transition} {queue : List Pending} → IsBranching place transitions queue
       → place < site.pending.to → next_byte place ≢ None
-  goes-on place transitions queue h more =
+  goes-on {place} h more =
       let same =
-      word-length site.kind site.patterns site.members queue (length site.states) site.pending h.waits in
+      word-length h.waits in
       subst (λ (n : ℕ). byte_at site.members n place ≢ None) same
       (longer site.kind site.patterns site.members site.ready.order string site.pending.from site.pending.to
       h.waits.range site.own_end site.ends.later (let l = h.low in omega arith)
@@ -179,11 +178,11 @@ module _ (site : Site) where
     pub other : end < site.pending.to → next_byte end ≢ next_byte place
 
   -- such a run is that of a child
-  module _ (place end b : ℕ) (transitions : List Transition) (queue : List Pending)
+  module _ {place end b : ℕ} {transitions : List Transition} {queue : List Pending}
       (h : IsBranching place transitions queue)
       (run : IsRun place end b) where
     long : length string ≡ site.pending.depth
-    long = word-length site.kind site.patterns site.members queue (length site.states) site.pending h.waits
+    long = word-length h.waits
 
     below : (k : ℕ) → site.pending.from ≤ k → k < place → rank (next_byte k) < suc b
     below k a c =
@@ -277,7 +276,7 @@ module _ (site : Site) where
           let parent = site.ready.grown.parents k q there in
           let waits = site.ready.grown.waits k q there in
           let depth : q.depth - 1 ≡ site.pending.depth =
-          (let m = word-length site.kind site.patterns site.members site.queue (4 + k) q waits in
+          (let m = word-length waits in
           let n = ap length w in let o = pushed in omega arith) in
           let same_string : take (q.depth - 1) (word site.members q) ≡ string =
           ap (λ (n : ℕ). take n (word site.members q)) (depth ∙ sym long) ∙ ap (take (length string)) w
@@ -388,8 +387,7 @@ module _ (site : Site) where
         few = (let n = length_push queue child in omega arith);
         waits = λ k q e. elim (get-added_cases queue child q k e) [
           | inl old ↦
-              Waits-more site.kind site.patterns site.members queue (child ∷ []) (4 + k) q
-              (h.grown.waits k q old)
+              Waits-more (h.grown.waits k q old) (child ∷ [])
           | inr new ↦
               subst (λ (r : Pending). Waits site.kind site.patterns site.members (queue ++ child ∷ [])
               (4 + k) r) new.1
@@ -491,8 +489,7 @@ module _ (site : Site) where
             let n = length-map (queue ++ child ∷ []) (λ (q : Pending). Some (word site.members q)) in
             let o = length_push queue child in omega arith)
             h.meant;
-        waits = Waits-more site.kind site.patterns site.members queue (child ∷ [])
-            (length site.states) site.pending h.waits;
+        waits = Waits-more h.waits (child ∷ []);
         node = nodes-more site.members queue (child ∷ []) (length site.states) _ h.node;
         kept = λ k q e. get-append queue (child ∷ []) k q (h.kept k q e);
         more = (let m = h.more in let n = length_push queue child in omega arith);

@@ -16,12 +16,12 @@ use Rattle.ac_automaton.proofs.Branching.{word-length}
 use Rattle.ac_automaton.proofs.Misses.{miss-child, miss-own, miss-start}
 use Rattle.ac_automaton.proofs.Ranges.{own-first, own-none}
 
-module _ (kind : MatchKind) (fold : Bool) (patterns : List (List ℕ)) (members : List Keyed)
-    (states : List State) (transitions : List Transition)
-    (queue : List Pending) (p : Pending) (place b : ℕ)
+module _ {kind : MatchKind} {fold : Bool} {patterns : List (List ℕ)} {members : List Keyed}
+    {states : List State} {transitions : List Transition}
+    {queue : List Pending} {p : Pending} {place b : ℕ}
     (h : HasChild kind fold patterns members states transitions queue p place b) where
   long : length (word members p) ≡ p.depth
-  long = word-length kind patterns members queue (length states) p h.waits
+  long = word-length h.waits
 
   longer : length (word members p ++ b ∷ []) ≡ p.depth + 1
   longer = let l = length_push (word members p) b in let m = long in omega arith

@@ -16,14 +16,15 @@ pub record ReadOn (most start at saved : ℕ) (tape new_tape : Taped) (counts ne
   pub looked : counts.looks + (at - start) ≤ new_counts.looks
   pub calls : new_counts.calls ≡ counts.calls
 
-module _ (most start at saved : ℕ) (tape new_tape : Taped) (counts new_counts : Counts) (ordered : start ≤ at)
+module _ {most start at saved : ℕ} {tape new_tape : Taped} {counts new_counts : Counts}
+    (ordered : start ≤ at)
     (read : ReadOn most start at saved tape new_tape counts new_counts) where
   -- one more byte, with looks that what was saved and the byte pay for
-  pub read-more : (n saved_then : ℕ) (tape_then : Taped) (counts_read counts_then : Counts) → tape.place ≤ start
+  pub read-more : (n saved_then : ℕ) {tape_then : Taped} {counts_read counts_then : Counts} → tape.place ≤ start
       → tape_then ≡ record { bytes = new_tape.bytes; place = at + 1 } → counts_read ≡ one_more_read new_counts
       → counts_then ≡ more_looks n counts_read → 1 ≤ n → n + saved_then ≤ saved + most
       → ReadOn most start (at + 1) saved_then tape tape_then counts counts_then
-  read-more n saved_then tape_then counts_read counts_then unread place counted looked once paid =
+  read-more n saved_then {tape_then} {counts_read} {counts_then} unread place counted looked once paid =
       let b = read.bytes in
       let l = read.looked in
       let o = read.onward in

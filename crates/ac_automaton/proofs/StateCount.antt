@@ -71,7 +71,7 @@ module _ (kind : MatchKind) (patterns : List (List ℕ)) (members : List Keyed)
       let w = grown.waits k.0 q.0 q.1 in
       let node = range-node (word members q.0) q.0.from q.0.to w.range (w.some (omega arith)) in
       let some : word members q.0 ≢ [] =
-      (λ e. let l = word-length kind patterns members queue (4 + k.0) q.0 w in let m = ap length e in
+      (λ e. let l = word-length w in let m = ap length e in
       let d = w.inner (omega arith) in absurd (omega arith)) in
       subst (λ (v : List ℕ). IsIn v (inner_nodes kind patterns)) q.2
       (IsIn-from_Contains (word members q.0) (inner_nodes kind patterns)
@@ -188,7 +188,7 @@ module _ (kind : MatchKind) (patterns : List (List ℕ)) (members : List Keyed)
         omega arith
 
 -- a child for which there is no number is one node too many
-module _ (site : Site) (place end b : ℕ) (transitions : List Transition) (queue : List Pending)
+module _ (site : Site) {place end b : ℕ} {transitions : List Transition} {queue : List Pending}
     (h : IsBranching site place transitions queue) (run : IsRun site place end b)
     (fail : ℕ) (fails : slice_get (nodes_of site.members queue) fail
     ≡ Some (miss site.kind site.patterns (Some (string site ++ b ∷ [])))) where
@@ -198,6 +198,6 @@ module _ (site : Site) (place end b : ℕ) (transitions : List Transition) (queu
     full.0,
     too-many site.kind site.patterns site.members site.ready.order
         (length site.states + 1) transitions queue h.grown (string site) b place end
-        (child-members site place end b transitions queue h run) run.some
-        (fresh site place end b transitions queue h run fail fails) full.1,
+        (child-members site h run) run.some
+        (fresh site h run fail fails) full.1,
   )

@@ -81,11 +81,11 @@ members-plain kind fold texts members order place depth b e =
           absurd (let f : None ≡ Some b = sym (ap (λ (m : Keyed). slice_get m.key depth) is) ∙ e in cc)
     ]
 
-module _ (kind : MatchKind) (fold : Bool) (patterns : List (List ℕ)) (members : List Keyed) where
-  -- the first two states
-  abbrev pub first_states : List State
-  first_states = dead_state ∷ dead_state ∷ []
+-- the first two states
+abbrev pub first_states : List State
+first_states = dead_state ∷ dead_state ∷ []
 
+module _ (kind : MatchKind) (fold : Bool) (patterns : List (List ℕ)) (members : List Keyed) where
   dead-represents : (s : ℕ) → s < 2
       → Represents (grown_meaning kind fold patterns members [] []) s None dead_state
   dead-represents s l = record {
@@ -104,8 +104,7 @@ module _ (kind : MatchKind) (fold : Bool) (patterns : List (List ℕ)) (members 
       leads = refl;
       back = omega arith;
       finds = refl;
-      useful = λ apart. absurd
-          (apart refl);
+      useful = λ apart. absurd (apart refl);
     };
     long = refl;
     outer = λ h. refl;
@@ -170,12 +169,12 @@ module _ (kind : MatchKind) (fold : Bool) (patterns : List (List ℕ)) (members 
   }
 
   -- with the start at both its numbers the first four are whole
-  pub start-going : (p : Pending) (t : State) (transitions : List Transition) (queue : List Pending)
+  started : (p : Pending) (t : State) (transitions : List Transition) (queue : List Pending)
       → IsOrder kind patterns members
       → ((place depth b : ℕ) → byte_at members depth place ≡ Some b → plain_byte fold b ≡ b) → p.depth ≡ 0
       → HasBranched kind fold patterns members first_states [] p t transitions queue
       → IsGoing ((first_states ++ t ∷ []) ++ t ∷ []) transitions queue 0
-  start-going p t transitions queue order settled depth h = record {
+  started p t transitions queue order settled depth h = record {
     order = order;
     settled = settled;
     grown = later-grown 3 4 transitions queue (omega arith) h.grown;
@@ -198,11 +197,23 @@ module _ (kind : MatchKind) (fold : Bool) (patterns : List (List ℕ)) (members 
           AreStates-push (grown_meaning kind fold patterns members transitions queue) first_states
           (Some []) t h.meant refl start
 
+  pub start-going : (first : List State) (none : List Pending) (p : Pending) (t : State)
+      (transitions : List Transition) (queue : List Pending) → first ≡ first_states → none ≡ []
+      → IsOrder kind patterns members
+      → ((place depth b : ℕ) → byte_at members depth place ≡ Some b → plain_byte fold b ≡ b) → p.depth ≡ 0
+      → HasBranched kind fold patterns members first none p t transitions queue
+      → IsGoing ((first ++ t ∷ []) ++ t ∷ []) transitions queue 0
+  start-going first none p t transitions queue is empty order settled depth h =
+      subst (λ (ss : List State). IsGoing ((ss ++ t ∷ []) ++ t ∷ []) transitions queue 0) (sym is)
+      (started p t transitions queue order settled depth
+      (subst (λ (q : List Pending). HasBranched kind fold patterns members first_states q p t transitions queue) empty
+      (subst (λ (ss : List State). HasBranched kind fold patterns members ss none p t transitions queue) is h)))
+
   -- the first in the queue that isn't whole is next
-  pub going-ready : (states : List State) (transitions : List Transition) (queue : List Pending) (at : ℕ)
-      (p : Pending) → IsGoing states transitions queue at
-      → slice_get queue at ≡ Some p → IsReady kind fold patterns members states transitions queue p
-  going-ready states transitions queue at p h e = record {
+  pub going-ready : {states : List State} {transitions : List Transition} {queue : List Pending} {at : ℕ}
+      {p : Pending} → IsGoing states transitions queue at → slice_get queue at ≡ Some p
+      → IsReady kind fold patterns members states transitions queue p
+  going-ready {queue = queue} {at = at} {p = p} h e = record {
     order = h.order;
     settled = h.settled;
     grown = h.grown;
@@ -211,13 +222,13 @@ module _ (kind : MatchKind) (fold : Bool) (patterns : List (List ℕ)) (members 
     next = inr (at, h.count, e);
   }
 
-  pub going-on : (states : List State) (transitions : List Transition) (queue : List Pending) (at : ℕ)
-      (p : Pending) (t : State)
-      (new_transitions : List Transition) (new_queue : List Pending) → IsGoing states transitions queue at
+  pub going-on : {states : List State} {transitions : List Transition} {queue : List Pending} {at : ℕ}
+      {p : Pending} {t : State} {new_transitions : List Transition} {new_queue : List Pending}
+      → IsGoing states transitions queue at
       → slice_get queue at ≡ Some p
       → HasBranched kind fold patterns members states queue p t new_transitions new_queue
       → IsGoing (states ++ t ∷ []) new_transitions new_queue (at + 1)
-  going-on states transitions queue at p t new_transitions new_queue h e b = record {
+  going-on {states} {transitions} {queue} {at} {p} {t} {new_transitions} {new_queue} h e b = record {
     order = h.order;
     settled = h.settled;
     grown = subst (λ (n : ℕ). IsGrown kind patterns members n new_transitions new_queue)
@@ -234,8 +245,8 @@ module _ (kind : MatchKind) (fold : Bool) (patterns : List (List ℕ)) (members 
           ∙ nodes-inner members new_queue at p (b.kept at p e)
 
 -- where the whole queue is, the states are those of an automaton
-module _ (texts : List (List ℕ)) (fold : Bool) (kind : MatchKind) (members : List Keyed)
-    (states : List State) (transitions : List Transition) (queue : List Pending) (at : ℕ)
+module _ (texts : List (List ℕ)) {fold : Bool} {kind : MatchKind} {members : List Keyed}
+    {states : List State} {transitions : List Transition} {queue : List Pending} {at : ℕ}
     (h : IsGoing kind fold (map (plain fold) texts) members states transitions queue at)
     (all : length queue ≤ at) where
   counted : length states ≡ 4 + length queue

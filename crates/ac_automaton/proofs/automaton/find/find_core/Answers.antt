@@ -91,12 +91,9 @@ module _ (g : Over) (c : After-next_state-sid g) where
   read =
       let at = c.loop-at.at in
       let node = node_at built_of asked_for at in
-      read-more most c.args.start at
-      (credit most node) c.args.tape.now c.loop-at.tape c.args.looks.now c.loop-at.looks
-      (omega arith) c.loop-at.invariant.read
+      read-more (omega arith) c.loop-at.invariant.read
       (looks_of g.A.Automaton.LOOKS built_of c.args.anchored node c.read-byte.result) (credit most node_after)
-      c.read-byte.new.self c.read-byte.new.looks c.next_state-sid.new.looks c.requires.unread
-      c.read-byte.ensures.place c.read-byte.ensures.counted
+      c.requires.unread c.read-byte.ensures.place c.read-byte.ensures.counted
       (c.next_state-sid.ensures.looks node c.loop-at.invariant.stands)
       (node-once built_of asked_for g.A.Automaton.LOOKS at c.read-byte.result)
       (node-paid built_of asked_for g.A.Automaton.LOOKS at c.read-byte.result g.met.A.Automaton.one_or_two
@@ -105,10 +102,7 @@ module _ (g : Over) (c : After-next_state-sid g) where
   so_far : Reads most c.args.start c.args.end c.args.tape.now c.read-byte.new.self c.args.looks.now
       c.next_state-sid.new.looks
   so_far =
-      reads-so_far most c.args.start (c.loop-at.at + 1)
-      (credit most node_after) c.args.tape.now c.read-byte.new.self c.args.looks.now
-      c.next_state-sid.new.looks
-      (omega arith) read c.args.end c.requires.unread (omega arith)
+      reads-so_far (omega arith) read c.args.end c.requires.unread (omega arith)
 
   -- each byte was read from a node that isn't dead
   reading : StopsAtDead built_of asked_for c.read-byte.new.self

@@ -46,10 +46,7 @@ unreachable-requires g c =
     let ready = c.requires.ready in
     let ends = c.own_end-own_end.ensures in
     goes-on (site g (goal.at.unreachable-requires g c).After-own_end-own_end ready.0 ready.1 ends)
-    c.loop-place.place
-    c.loop-place.growth.transitions.items c.loop-place.growth.queue.items
-    (c.loop-place.invariant ready.0 ready.1 ends)
-    c.loop-place-test.true (sym c.byte.ensures.value ∙ c.in_default.is)
+    (c.loop-place.invariant ready.0 ready.1 ends) c.loop-place-test.true (sym c.byte.ensures.value ∙ c.in_default.is)
 
 -- the run of members that is found goes on with the byte
 module _ (g : Over) (c : In-Some g) where
@@ -73,10 +70,7 @@ module _ (g : Over) (c : In-Some g) where
       c.loop-place.growth.queue.items c.args.pending c.loop-place.place c.in-Some.byte
   child patterns ready =
       let ends = c.own_end-own_end.ensures in
-      has-child (site g (goal.at.In-Some g c).After-own_end-own_end patterns ready ends) c.loop-place.place
-      c.run_end-end.result c.in-Some.byte
-      c.loop-place.growth.transitions.items c.loop-place.growth.queue.items
-      (c.loop-place.invariant patterns ready ends) (run patterns ready ends)
+      has-child (site g (goal.at.In-Some g c).After-own_end-own_end patterns ready ends) (c.loop-place.invariant patterns ready ends) (run patterns ready ends)
 
 pub child_fail-fail-requires : goal.child_fail-fail-requires
 child_fail-fail-requires g c =
@@ -96,10 +90,7 @@ overflow_add-child g c =
     let ready = c.requires.ready in
     let ends = c.own_end-own_end.ensures in
     let deep =
-    child-deep (site g (goal.at.In-Some g s).After-own_end-own_end ready.0 ready.1 ends) c.loop-place.place
-    c.run_end-end.result c.in-Some.byte
-    c.loop-place.growth.transitions.items c.loop-place.growth.queue.items
-    (c.loop-place.invariant ready.0 ready.1 ends) (run g s ready.0 ready.1 ends) in
+    child-deep (site g (goal.at.In-Some g s).After-own_end-own_end ready.0 ready.1 ends) (c.loop-place.invariant ready.0 ready.1 ends) (run g s ready.0 ready.1 ends) in
     let short = c.byte.ensures.short in
     omega arith
 
@@ -124,13 +115,8 @@ returns-in_err-push g c = λ patterns ready.
     let ends = c.own_end-own_end.ensures in
     refused-by c.from_residual.result c.in_err-push.field-0.0 _
     (IsRefused c.args.kind patterns) c.from_residual.ensures.1
-    (refused (site g (goal.at.In-Some g s).After-own_end-own_end patterns ready ends) c.loop-place.place
-    c.run_end-end.result c.in-Some.byte
-    c.loop-place.growth.transitions.items c.loop-place.growth.queue.items
-    (c.loop-place.invariant patterns ready ends) (run g s patterns ready ends)
-    c.child_fail-fail.result
-    (fails g (goal.at.returns-in_err-push g c).After-child_fail-fail patterns ready) c.in_err-push.field-0.0
-    c.in_err-push.ensures)
+    (refused (site g (goal.at.In-Some g s).After-own_end-own_end patterns ready ends) (c.loop-place.invariant patterns ready ends) (run g s patterns ready ends)
+    c.child_fail-fail.result (fails g (goal.at.returns-in_err-push g c).After-child_fail-fail patterns ready) c.in_err-push.field-0.0 c.in_err-push.ensures)
 
 pub loop-place-preserved : goal.loop-place-preserved
 loop-place-preserved g c = λ patterns ready ends.
@@ -138,12 +124,8 @@ loop-place-preserved g c = λ patterns ready ends.
     let pushed = c.in_ok-push.ensures in
     rw (pushed.leads, pushed.waits)
     (branching-goes_on
-    (site g (goal.at.In-Some g s).After-own_end-own_end patterns ready ends) c.loop-place.place
-    c.run_end-end.result c.in-Some.byte
-    c.loop-place.growth.transitions.items c.loop-place.growth.queue.items
-    (c.loop-place.invariant patterns ready ends) (run g s patterns ready ends)
-    c.child_fail-fail.result
-    (fails g (goal.at.loop-place-preserved g c).After-child_fail-fail patterns ready) pushed.numbered)
+    (site g (goal.at.In-Some g s).After-own_end-own_end patterns ready ends) (c.loop-place.invariant patterns ready ends) (run g s patterns ready ends)
+    c.child_fail-fail.result (fails g (goal.at.loop-place-preserved g c).After-child_fail-fail patterns ready) pushed.numbered)
 
 pub sort_from-requires : goal.sort_from-requires
 sort_from-requires g c =
@@ -186,8 +168,8 @@ returns g c = λ patterns ready.
     let sorted : HasSorted (length c.args.growth.now.transitions.items) unsorted transitions =
     rw (first, c.deref_mut.ensures.value) at c.sort_from.ensures in
     rw (first, last, written-whole transitions unsorted c.loop-place.growth.transitions.len kept)
-    (has-branched state unsorted queue all transitions sorted c.link_of.result
+    (has-branched state all sorted
     (c.link_of.ensures (grown_meaning c.args.kind c.args.fold patterns c.args.members.now transitions queue)
     (string state)
-    (still-meant state unsorted queue all transitions sorted)
-    (link-due state unsorted queue all transitions sorted)))
+    (still-meant state all sorted)
+    (link-due state all sorted)))

@@ -13,15 +13,13 @@ use Rattle.ac_automaton.proofs.nfa.noncontiguous.growth.child_fail.Goals.{else-i
 pub returns-then-is_none : goal.returns-then-is_none
 returns-then-is_none g c = λ fold patterns queue h.
     ap (slice_get (nodes_of c.args.members.now queue)) c.must.ensures.value
-    ∙ (fail-own c.args.kind fold patterns c.args.members.now c.args.states.now c.args.transitions.now queue
-    c.args.pending.now c.args.place c.args.byte h
+    ∙ (fail-own h
     (sym c.is_leftmost.ensures ∙ c.if-is_leftmost.true)
     (sym c.byte.ensures.value ∙ None-tested c.byte.result c.is_none.result c.is_none.ensures c.if-is_none.true))
 
 pub returns-then-pending-eq0 : goal.returns-then-pending-eq0
 returns-then-pending-eq0 g c = λ fold patterns queue h.
-    fail-start c.args.kind fold patterns c.args.members.now c.args.states.now c.args.transitions.now queue
-    c.args.pending.now c.args.place c.args.byte h
+    fail-start h
     (λ leftmost. elim c.else-is_leftmost.branch [
       | else-is_leftmost-via-then-is_leftmost+else-is_none w ↦
           λ none. Some-tested w.byte.result w.is_none.result w.is_none.ensures w.if-is_none.false
@@ -36,13 +34,11 @@ returns g c = λ fold patterns queue h.
     let deep : c.args.pending.now.depth ≢ 0 = c.if-pending-eq0.false in
     c.follow.ensures.steps
     (grown_meaning c.args.kind fold patterns c.args.members.now c.args.transitions.now queue) _ refl
-    (fail-state c.args.kind fold patterns c.args.members.now c.args.states.now c.args.transitions.now queue
-    c.args.pending.now c.args.place c.args.byte h deep)
+    (fail-state h deep)
     ∙ ap (λ (v : Node). Some v)
     (ap (step c.args.kind patterns No
     (miss c.args.kind patterns (Some (word c.args.members.now c.args.pending.now)))) h.settled
-    ∙ fail-step c.args.kind fold patterns c.args.members.now c.args.states.now c.args.transitions.now queue
-    c.args.pending.now c.args.place c.args.byte h
+    ∙ fail-step h
     (λ leftmost. elim c.else-is_leftmost.branch [
       | else-is_leftmost-via-then-is_leftmost+else-is_none w ↦
           λ none. Some-tested w.byte.result w.is_none.result w.is_none.ensures w.if-is_none.false
