@@ -63,10 +63,10 @@ Tells-kept order counts first second None to on = tt
 Tells-kept order counts first second (Some m) to on = tells-kept order counts first second m to on
 
 -- an input is what a core is asked with its parts
-pub asked-same : (i : Asked) (bytes : List ℕ) (start end : ℕ) (anchored : Anchored) (earliest : Bool)
+pub asked-same : (i : Asked) {bytes : List ℕ} {start end : ℕ} {anchored : Anchored} {earliest : Bool}
     → bytes ≡ i.haystack → start ≡ i.start → end ≡ i.end → anchored ≡ i.anchored → earliest ≡ i.earliest
     → asked_of bytes start end anchored earliest ≡ i
-asked-same i bytes start end anchored earliest b s e a x =
+asked-same i {bytes} {start} {end} {anchored} {earliest} b s e a x =
     ap (λ (h : List ℕ). asked_of h start end anchored earliest) b
     ∙ ap (λ (n : ℕ). asked_of i.haystack n end anchored earliest) s
     ∙ ap (λ (n : ℕ). asked_of i.haystack i.start n anchored earliest) e
@@ -162,12 +162,12 @@ module _ (most : ℕ) (built : Built) (asked : Asked) (from : ℕ) where
       }
 
   -- the next match is looked for one place further on, where the pick repeats the one before
-  pub Left-repeated : (tape : Taped) (counts : Counts) (r : Option Occurrence) (last : Option ℕ) (then : Asked)
+  pub Left-repeated : {tape : Taped} {counts : Counts} {r : Option Occurrence} (last : Option ℕ) {then : Asked}
       → then ≡ record asked { start = asked.start + 1 }
       → r ≡ found built asked → IfSome last (λ e. e ≤ asked.start) → repeats r last ≡ true
       → Left most built (record asked { start = after asked r }) from tape counts
       → Left most built then from tape counts
-  Left-repeated tape counts r last then same e le again left =
+  Left-repeated {tape} {counts} {r} last same e le again left =
       subst (λ (i : Asked). Left most built i from tape counts) (sym same)
       (Left-later (asked.start + 1) tape counts (omega arith)
       (subst (λ (n : ℕ). Left most built (record asked { start = n }) from tape counts)
@@ -229,9 +229,9 @@ module _ (most : ℕ) (built : Built) (asked : Asked) (from : ℕ) where
       }
 
   -- the same, told of the parts of an input that a core is handed
-  pub Left-found_in : (tape tape_then : Taped) (counts counts_then : Counts) (r : Option Occurrence)
-      (bytes : List ℕ) (start end : ℕ)
-      (anchored : Anchored) (earliest : Bool) → asked_of bytes start end anchored earliest ≡ asked
+  pub Left-found_in : {tape tape_then : Taped} {counts counts_then : Counts} {r : Option Occurrence}
+      {bytes : List ℕ} {start end : ℕ} {anchored : Anchored} {earliest : Bool}
+      → asked_of bytes start end anchored earliest ≡ asked
       → asked.start ≤ asked.end + 1
       → Left most built asked from tape counts → tape.place ≤ asked.start
       → counts.calls ≤ min asked.start asked.end - from
@@ -239,8 +239,7 @@ module _ (most : ℕ) (built : Built) (asked : Asked) (from : ℕ) where
       → Reads (most_looks anchored most) start end tape tape_then counts counts_then
       → StopsAtMatch built.kind earliest start r tape tape_then counts counts_then
       → Left most built (record asked { start = after asked r }) from tape_then counts_then
-  Left-found_in tape tape_then counts counts_then r bytes start end anchored earliest same legal left unread
-      called picked reads stops =
+  Left-found_in {tape} {tape_then} {counts} {counts_then} {r} same legal left unread called picked reads stops =
       Left-found tape tape_then counts counts_then r legal left unread called
       (subst (λ (i : Asked). r ≡ found built i) same picked)
       (subst (λ (i : Asked). Reads (most_looks i.anchored most) i.start i.end tape tape_then counts counts_then)

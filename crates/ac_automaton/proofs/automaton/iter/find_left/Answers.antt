@@ -27,10 +27,8 @@ returns-clause-left g c =
           let none = w.looks-is ∙ w.open.ensures.looks in
           let place = ap (λ (x : Taped). x.place) anew in
           let calls = ap (λ (x : Counts). x.calls) none in
-          Left-found_in A.LOOKS built i from t c.find_core.new.tape l c.find_core.new.looks c.find_core.result
-          t.bytes c.start.result c.end.result c.get_anchored.result c.get_earliest-earliest.result
-          (asked-same i t.bytes c.start.result c.end.result c.get_anchored.result c.get_earliest-earliest.result
-          (ap (λ (x : Taped). x.bytes) anew) c.start.ensures c.end.ensures c.get_anchored.ensures
+          Left-found_in A.LOOKS built i from
+          (asked-same i (ap (λ (x : Taped). x.bytes) anew) c.start.ensures c.end.ensures c.get_anchored.ensures
           c.get_earliest-earliest.ensures)
           (omega arith)
           (subst (λ (x : Taped). Left A.LOOKS built i from x l) (sym anew)
@@ -48,9 +46,8 @@ returns-clause-left g c =
           ∙ c.stops_at_match.ensures.0 w.if-not-stops_at_match.false in
           let unread = left.unread standard in
           let called = left.called standard in
-          Left-found_in A.LOOKS built i from t c.find_core.new.tape l c.find_core.new.looks c.find_core.result
-          t.bytes c.start.result c.end.result c.get_anchored.result c.get_earliest-earliest.result
-          (asked-same i t.bytes c.start.result c.end.result c.get_anchored.result c.get_earliest-earliest.result
+          Left-found_in A.LOOKS built i from
+          (asked-same i
           (ap (λ (x : Taped). x.bytes) tape ∙ left.bytes) c.start.ensures c.end.ensures c.get_anchored.ensures
           c.get_earliest-earliest.ensures)
           (omega arith)

@@ -30,9 +30,7 @@ find_left-second-requires g c =
     record {
       left = (
         given.0,
-        Left-repeated A.LOOKS
-            (A.built c.args.automaton.now) i given.0 c.find_left-first.new.tape c.find_left-first.new.looks
-            c.find_left-first.result c.args.last (asked c.set_start.new.self) moved
+        Left-repeated A.LOOKS (A.built c.args.automaton.now) i given.0 c.args.last moved
             c.find_left-first.ensures.pick c.requires.behind (sym c.repeats.ensures ∙ c.if-repeats.true)
             (c.find_left-first.ensures.left given.0 given.1),
       );
@@ -56,8 +54,7 @@ returns-then-repeats-clause-left g c =
     subst (λ (j : Asked). Left A.LOOKS built j from c.find_left-second.new.tape c.find_left-second.new.looks)
     (sym c.go_on.ensures)
     (c.find_left-second.ensures.left from
-    (Left-repeated A.LOOKS built i from c.find_left-first.new.tape c.find_left-first.new.looks
-    c.find_left-first.result c.args.last (asked c.set_start.new.self) moved
+    (Left-repeated A.LOOKS built i from c.args.last moved
     c.find_left-first.ensures.pick c.requires.behind (sym c.repeats.ensures ∙ c.if-repeats.true)
     (c.find_left-first.ensures.left from left)))
 
