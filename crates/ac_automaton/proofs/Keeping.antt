@@ -366,14 +366,6 @@ module _ (patterns : List (List ℕ)) (all : List Keyed) (order : IsOrder Standa
         ];
       }
 
--- at the first place the stack is empty
-pub Standing-start : (patterns : List (List ℕ)) (all : List Keyed) → Standing patterns all 0 []
-Standing-start patterns all = record {
-  falling = λ i j d below within. absurd (omega arith);
-  before = λ m h. h;
-  stands = λ m h takes j le below front. h;
-}
-
 -- the last of a stack has the least number
 least-from_last : (stack : List Keyed) (d : Keyed) (n : ℕ) → AllPairs (λ a b. b.number < a.number) stack
     → (0 < length stack → n ≤ (get_or stack (length stack - 1) d).number) → (m : Keyed) → IsIn m stack

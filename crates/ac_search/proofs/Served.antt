@@ -36,20 +36,3 @@ served built engine asked (Err e) f is same both free h =
     ≡ Some e =
     sym (find-refusal engine asked ∙ ap (λ (s : StartKind). start_refusal s asked.anchored) both) ∙ h in
     cc)
-
--- without the start the searcher refuses the search
-pub refuses : (built : Built) (asked : Asked) (e : MatchError)
-    → start_refusal built.start_kind asked.anchored ≡ Some e → find_refusal built asked ≡ Some e
-refuses built asked e h = find-refusal built asked ∙ h
-
--- an engine with both starts refuses nothing
-pub not-refused : (engine : Built) (asked : Asked) (e : MatchError) → engine.start_kind ≡ Both
-    → find_refusal engine asked ≡ Some e → ⊥
-not-refused engine asked e both h =
-    let none : None ≡ Some e =
-    sym (find-refusal engine asked ∙ ap (λ (s : StartKind). start_refusal s asked.anchored) both) ∙ h in
-    absurd (cc)
-
-pub supported : (built : Built) (asked : Asked) → start_refusal built.start_kind asked.anchored ≡ None
-    → find_refusal built asked ≡ None
-supported built asked h = find-refusal built asked ∙ h

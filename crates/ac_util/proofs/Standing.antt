@@ -136,13 +136,6 @@ module _ (patterns : List (List ℕ)) where
             let l = length_push w b in let k = length_push (drop s w) b in let d = length-drop s w in
             inr (omega arith)
 
-    -- what ends with w is the whole rest of it
-    pub Stands-whole : (w : List ℕ) (n s : ℕ) → Stands patterns anchored w n s
-        → s + length (pattern_of patterns n) ≡ length w
-        → pattern_of patterns n ≡ drop s w
-    Stands-whole w n s h e =
-        let d = length-drop s w in let i = h.within in Fronts-equal (drop s w) n h.fronts (omega arith)
-
   -- what stands in w stands one further on behind one more byte, and the other way round
   pub Stands-behind : (x : ℕ) (w : List ℕ) (n s : ℕ) → Stands patterns No w n s
       → Stands patterns No (x ∷ w) n (suc s)
