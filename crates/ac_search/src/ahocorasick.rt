@@ -291,7 +291,7 @@ impl<'a, 'h, A: Allocator> Iterator for FindIter<'a, 'h, A> {
 /// The settings of a build. A build changes none of them, so after a refusal the builder can be used again.
 ///
 /// This ports `AhoCorasickBuilder`.
-#[derive(Clone, Copy, Debug)]
+#[derive(Debug, Drop)]
 pub struct AhoCorasickBuilder {
     match_kind: MatchKind,
     start_kind: StartKind,
@@ -339,6 +339,13 @@ impl AhoCorasickBuilder {
             fold: false,
             kind: None,
         }
+    }
+
+    /// Returns a builder with the same settings, and takes no memory.
+    pub fn clone(&self) -> AhoCorasickBuilder
+        ensures { result ≡ self.now }
+    {
+        AhoCorasickBuilder { ..*self }
     }
 
     /// Sets which of the occurrences in a span a search answers. `Standard` unless set.

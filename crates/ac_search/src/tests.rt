@@ -157,7 +157,9 @@ fn a_clone_answers_equally(rt: HostRuntime) -> Result<(), Fail> {
     builder.match_kind(LeftmostLongest);
     builder.start_kind(StartKind::Both);
     builder.ascii_case_insensitive(true);
-    let searcher = builder.build(rt.alloc(), &[b"he", b"she", b"hers"])?;
+    let settings = builder.clone();
+    builder.ascii_case_insensitive(false);
+    let searcher = settings.build(rt.alloc(), &[b"he", b"she", b"hers"])?;
     let clone = searcher.clone()?;
     let walked = walk_of(rt, &searcher, Input::new(b"usHERS he"))?;
     let wanted = [(1, 1, 4), (0, 7, 9)];

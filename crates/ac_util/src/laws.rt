@@ -12,7 +12,9 @@ ghost use Rattle.ac_util.specs.declared.primitives.TooLarge.{TooLarge};
 ghost use Rattle.ac_util.specs.declared.search.Anchored.{Anchored};
 ghost use Rattle.ac_util.specs.declared.search.MatchKind.{MatchKind};
 ghost use Rattle.ac_util.specs.declared.search.Span.{Span};
+ghost use Rattle.ac_util.specs.declared.search.input.Input.{Input as AnInput};
 ghost use Rattle.ac_util.specs.declared.search.StartKind.{StartKind};
+ghost use Rattle.ac_util.specs.Inputs.{asked};
 ghost use Rattle.ac_util.specs.Listing.{all, IsBefore};
 ghost use Rattle.ac_util.specs.Looks.{looks};
 ghost use Rattle.ac_util.specs.Matches.{equal_to, matches, matches_at};
@@ -30,7 +32,7 @@ ghost use Rattle.ac_util.specs.Walk.{IsAfter, next_match, walk, walk_after};
 
 use crate::error::{BuildError, MatchError};
 use crate::primitives::{PatternID, SmallIndex, StateID, TooLarge};
-use crate::search::{Anchored, Match, MatchKind, Span, StartKind};
+use crate::search::{Anchored, Input, Match, MatchKind, Span, StartKind};
 use std::hash::Hash;
 
 /// Two bytes are the same if they are equal or, where case is ignored, one ASCII letter in its two cases; two
@@ -229,6 +231,38 @@ pub fn numbers_compare_as_numbers()
     ensures states_order { (a b : ℕ) → ⟦<StateID as Ord>⟧.cmp a b ≡ nat_cmp a b }
     ensures plain { (a b : ℕ) → (⟦<SmallIndex as PartialEq>⟧.eq a b ≡ true) ↔ (a ≡ b) }
     ensures plain_order { (a b : ℕ) → ⟦<SmallIndex as Ord>⟧.cmp a b ≡ nat_cmp a b }
+{}
+
+/// A clone of a plain value is that value.
+pub fn clones_are_equal()
+    ensures patterns { (a b : ℕ) → ⟦<PatternID as Clone>⟧.is_clone a b → b ≡ a }
+    ensures states { (a b : ℕ) → ⟦<StateID as Clone>⟧.is_clone a b → b ≡ a }
+    ensures plain { (a b : ℕ) → ⟦<SmallIndex as Clone>⟧.is_clone a b → b ≡ a }
+    ensures matches { (a b : Occurrence) → ⟦<Match as Clone>⟧.is_clone a b → b ≡ a }
+    ensures spans { (a b : Span) → ⟦<Span as Clone>⟧.is_clone a b → b ≡ a }
+    ensures inputs { (a b : AnInput) → ⟦<Input<'static> as Clone>⟧.is_clone a b → asked b ≡ asked a }
+    ensures kinds { (a b : MatchKind) → ⟦<MatchKind as Clone>⟧.is_clone a b → b ≡ a }
+    ensures starts { (a b : StartKind) → ⟦<StartKind as Clone>⟧.is_clone a b → b ≡ a }
+    ensures anchorings { (a b : Anchored) → ⟦<Anchored as Clone>⟧.is_clone a b → b ≡ a }
+    ensures builds { (a b : BuildError) → ⟦<BuildError as Clone>⟧.is_clone a b → b ≡ a }
+    ensures searches { (a b : MatchError) → ⟦<MatchError as Clone>⟧.is_clone a b → b ≡ a }
+    ensures numbers { (a b : TooLarge) → ⟦<TooLarge as Clone>⟧.is_clone a b → b ≡ a }
+{}
+
+/// A plain value can be cloned whether there is memory or not.
+pub fn clones_take_no_memory()
+    ensures patterns { (a : ℕ) → ⟦<PatternID as Clone>⟧.is_infallible a }
+    ensures states { (a : ℕ) → ⟦<StateID as Clone>⟧.is_infallible a }
+    ensures plain { (a : ℕ) → ⟦<SmallIndex as Clone>⟧.is_infallible a }
+    ensures matches { (a : Occurrence) → ⟦<Match as Clone>⟧.is_infallible a }
+    ensures spans { (a : Span) → ⟦<Span as Clone>⟧.is_infallible a }
+    ensures inputs { (a : AnInput) → ⟦<Input<'static> as Clone>⟧.is_infallible a }
+    ensures kinds { (a : MatchKind) → ⟦<MatchKind as Clone>⟧.is_infallible a }
+    ensures starts { (a : StartKind) → ⟦<StartKind as Clone>⟧.is_infallible a }
+    ensures anchorings { (a : Anchored) → ⟦<Anchored as Clone>⟧.is_infallible a }
+    ensures builds { (a : BuildError) → ⟦<BuildError as Clone>⟧.is_infallible a }
+    ensures searches { (a : MatchError) → ⟦<MatchError as Clone>⟧.is_infallible a }
+    ensures numbers { (a : TooLarge) → ⟦<TooLarge as Clone>⟧.is_infallible a }
 {}
 
 /// What a search is asked and what it answers are equal where all of their parts are.

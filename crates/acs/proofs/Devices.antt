@@ -1,6 +1,7 @@
 -- Reading on, and writing on.
-use Rattle.std.proofs.Common.{◌≡◌, ◌≢◌, ◌+◌, ℕ, zero, suc, List, [], ◌∷◌, ◌++◌, length, length-drop, take, drop, ap, sym, refl, ◌∙◌, subst, arith, Option}
+use Rattle.std.proofs.Common.{◌≡◌, ◌≢◌, ◌+◌, ◌<◌, ℕ, zero, suc, List, [], ◌∷◌, ◌++◌, length, length-drop, take, drop, ap, sym, refl, ◌∙◌, subst, arith, Option}
 use Rattle.std.proofs.lemmas.Bool.Decides.{nat_tests}
+use Rattle.std.proofs.lemmas.List.{length-take-le}
 use Rattle.std.specs.Prelude.{slice_range}
 use Rattle.std.specs.Io.{StartsWith}
 use Rattle.std.specs.Io.KnownBytes.{Appends, Consumes}
@@ -26,9 +27,17 @@ beginning zero bytes = refl
 beginning (suc at) [] = refl
 beginning (suc at) (x ∷ bytes) = ap (λ (w : List ℕ). x ∷ w) (beginning at bytes)
 
+-- they are fewer than there are
+pub take-short : (at : ℕ) (bytes : List ℕ) → at < length bytes → length (take at bytes) < length bytes
+take-short at bytes less = let l = length-take-le at bytes (omega arith) in omega arith
+
 -- a write that took something wasn't idle
 pub not-idle : (n room : ℕ) → n ≢ 0 → idle n room ≡ 0
 not-idle n room some = grind (arith, nat_tests)
+
+-- a write that took nothing though there was something was
+pub was-idle : (n room : ℕ) → n ≡ 0 → 0 < room → idle n room ≡ 1
+was-idle n room none some = grind (arith, nat_tests)
 
 -- a read that took something wasn't an empty one
 pub not-empty : (a b : Reading) (into : List ℕ) (n : ℕ) → n ≢ 0 → Took a b into n → b.empties ≡ a.empties

@@ -1,5 +1,6 @@
 -- Printing a walk, line by line.
-use Rattle.std.proofs.Common.{◌≡◌, ℕ, List, [], ◌∷◌, ◌++◌, length, take, drop, ap, sym, refl, ◌∙◌, subst, arith, inl, inr}
+use Rattle.std.proofs.Common.{◌≡◌, ◌+◌, ◌<◌, ℕ, List, [], ◌∷◌, ◌++◌, length, length-append, take, drop, ap, sym, refl, ◌∙◌, subst, arith, inl, inr}
+use Rattle.std.specs.Prelude.{codes, decimal}
 use Rattle.std.specs.Io.{StartsWith}
 use Rattle.std.specs.Io.KnownBytes.{Appends}
 use Rattle.std.proofs.lemmas.List.{append-nil, append_assoc, take-append-drop}
@@ -26,6 +27,14 @@ found-more (x ∷ xs) m = refl
 
 starts-from : (all part rest : List ℕ) → all ≡ part ++ rest → StartsWith all part
 starts-from all part rest e = ap (take (length part)) e ∙ take-append_seam part rest
+
+-- a line isn't empty
+pub line-some : (m : Occurrence) → 0 < length (line m)
+line-some m =
+    let front = decimal m.pattern ++ codes " " ++ decimal m.start ++ codes " " ++ decimal m.end in
+    let whole : length (line m) ≡ length front + length (codes "\n") = length-append front (codes "\n") in
+    let one : length (codes "\n") ≡ 1 = refl in
+    omega arith
 
 -- of all the matches some are printed and the rest is not: the lines of the first are written, but for the text
 pub record IsPrinting (all rest : List Occurrence) (old new : Writing) (text : List ℕ)
@@ -106,13 +115,21 @@ module _ (all rest : List Occurrence) (old new : Writing) (text : List ℕ) (out
         h.outcome_is ∙ ap outcome_of whole,
       )
 
-  -- for want of memory it ends with what is written
-  pub printing-wants : FailsToPrint old new (lines all) Memory
-  printing-wants = inr (
+  -- for want of memory for the next line it ends with what is written
+  pub printing-wants : (m : Occurrence) (later : List Occurrence) → rest ≡ m ∷ later
+      → FailsToPrint old new (lines all) Memory
+  printing-wants m later e = inr (
     refl,
     record {
       part = h.out;
       begins = starts-from (lines all) h.out (text ++ lines rest) all-lines;
+      left_out =
+          (let whole = ap length all-lines in
+          let a = length-append h.out (text ++ lines rest) in
+          let b = length-append text (lines rest) in
+          let c = ap (λ (ms : List Occurrence). length (lines ms)) e in
+          let d = length-append (line m) (lines later) in
+          let some = line-some m in omega arith);
       moved = h.moved;
     },
     h.failed,
@@ -135,6 +152,12 @@ module _ (all rest : List Occurrence) (old new : Writing) (text : List ℕ) (out
         some = record {
           part = h.out ++ part;
           begins = starts-from (lines all) (h.out ++ part) (behind ++ lines rest) begun;
+          left_out =
+              (let whole = ap length all-lines in
+              let a = length-append h.out (text ++ lines rest) in
+              let b = length-append text (lines rest) in
+              let c = length-append h.out part in
+              let d = f.some.left_out in omega arith);
           moved = Appends-trans old.held new.held later.held h.out part h.moved f.some.moved;
         };
         cause = elim f.cause [

@@ -1,5 +1,5 @@
 -- What a run of the program does to its reader and its writer.
-use Rattle.std.specs.Prelude.{◌≡◌, ◌⊎◌, ℕ, ◌+◌, List}
+use Rattle.std.specs.Prelude.{◌≡◌, ◌⊎◌, ℕ, ◌+◌, ◌<◌, List, length}
 use Rattle.std.specs.Io.{StartsWith}
 use Rattle.std.specs.Io.KnownBytes.{Appends, Consumes, IsAtEnd}
 use Rattle.ac_util.specs.Device.{Reading, Writing}
@@ -27,10 +27,11 @@ pub record WritesAll (old new : Writing) (bytes : List ℕ) : Type 0 where
   pub failed : new.failed ≡ old.failed
   pub idles : new.idles ≡ old.idles
 
--- a beginning of the bytes was written
+-- a beginning of the bytes was written, and not all of them
 pub record WritesSome (old new : Writing) (bytes : List ℕ) : Type 0 where
   pub part : List ℕ
   pub begins : StartsWith bytes part
+  pub left_out : length part < length bytes
   pub moved : Appends old.held new.held part
 
 -- a read has failed, or memory was refused and no read has; each read before took something

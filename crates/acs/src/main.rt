@@ -9,6 +9,7 @@ use std::{env, io};
 
 mod fault;
 mod input;
+mod laws;
 mod output;
 mod request;
 mod run;

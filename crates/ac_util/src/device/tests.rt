@@ -1,3 +1,5 @@
+ghost use Rattle.std.specs.Prelude.{◌≤◌, IfOk};
+
 use super::{Bytes, FromRead, IntoWrite, Sink, Source, Written};
 use std::alloc::Global;
 use std::io;
@@ -95,6 +97,50 @@ impl<'a> Write for Narrow<'a> {
     }
 
     fn flush(&mut self) -> io::Result<()> {
+        Ok(())
+    }
+}
+
+/// What the calls of a `Logs` are to answer.
+const ANSWERS: &[Outcome] = &[Ok(2), BROKEN, Ok(1), Ok(0), Ok(2)];
+
+/// Answers as it is told, and keeps how many bytes each call was about; a flush is `usize::MAX`.
+#[derive(Drop)]
+struct Logs<'a> {
+    calls: &'a mut Vec<usize>,
+    answers: &'a [Outcome],
+}
+
+impl<'a> Logs<'a> {
+    /// Answers a call that is about so many bytes.
+    fn answer(&mut self, room: usize) -> io::Result<usize>
+        ensures { IfOk result (λ n. n ≤ room) }
+    {
+        self.calls.push(room)?;
+        let Some((answer, later)) = self.answers.split_first() else {
+            return Ok(0);
+        };
+        self.answers = later;
+        match answer {
+            Ok(n) => Ok((*n).min(room)),
+            Err(kind) => Err(io::Error::from(*kind)),
+        }
+    }
+}
+
+impl<'a> Read for Logs<'a> {
+    fn read(&mut self, into: &mut [u8]) -> io::Result<usize> {
+        self.answer(into.len())
+    }
+}
+
+impl<'a> Write for Logs<'a> {
+    fn write(&mut self, piece: &[u8]) -> io::Result<usize> {
+        self.answer(piece.len())
+    }
+
+    fn flush(&mut self) -> io::Result<()> {
+        self.calls.push(usize::MAX)?;
         Ok(())
     }
 }
@@ -218,6 +264,31 @@ fn writes_go_through(rt: HostRuntime) -> Result<(), Fail> {
         drop(sink);
         assert_eq!(rt; held.as_slice(), b"abc".as_slice(), "{name}");
     }
+    Ok(())
+}
+
+#[test]
+fn each_call_is_one_call(rt: HostRuntime) -> Result<(), Fail> {
+    let mut reads = Vec::new(rt.alloc());
+    let mut source = FromRead::new(Logs {
+        calls: &mut reads,
+        answers: ANSWERS,
+    });
+    for answer in ANSWERS {
+        assert_eq!(rt; read(&mut source, &mut [b'-'; 3]), *answer);
+    }
+    drop(source);
+    assert_eq!(rt; reads.as_slice(), [3; 5].as_slice());
+    let mut writes = Vec::new(rt.alloc());
+    let mut sink = IntoWrite::new(Logs {
+        calls: &mut writes,
+        answers: ANSWERS,
+    });
+    for answer in ANSWERS {
+        assert_eq!(rt; write(&mut sink, b"abc"), *answer);
+    }
+    drop(sink);
+    assert_eq!(rt; writes.as_slice(), [3; 5].as_slice());
     Ok(())
 }
 

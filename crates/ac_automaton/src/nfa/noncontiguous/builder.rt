@@ -22,7 +22,7 @@ use std::rc::Rc;
 /// The settings of a build. A build changes none of them, so after a refusal the builder can be used again.
 ///
 /// This ports `nfa::noncontiguous::Builder`.
-#[derive(Clone, Copy, Debug)]
+#[derive(Debug, Drop)]
 pub struct Builder {
     kind: MatchKind,
     fold: bool,
@@ -55,6 +55,13 @@ impl Builder {
             kind: MatchKind::Standard,
             fold: false,
         }
+    }
+
+    /// Returns a builder with the same settings, and takes no memory.
+    pub fn clone(&self) -> Builder
+        ensures { result ≡ self.now }
+    {
+        Builder { ..*self }
     }
 
     /// Sets which of the occurrences in a span a search answers. `Standard` unless set.

@@ -25,7 +25,7 @@ returns-in_err-add_line g c =
     c.from_residual.ensures.1
     (printing-wants c.args.matches.rest c.loop-m.m-iterator.rest (told c.args.writer.now) (told c.loop-m.writer)
     (string_bytes c.loop-m.text)
-    c.loop-m.outcome c.loop-m.invariant.0)
+    c.loop-m.outcome c.loop-m.invariant.0 c.in-Some.m c.next.new.self.rest c.in-Some.ensures.steps)
 
 -- the lines so far could not be written
 pub returns-in_err-write_all : goal.returns-in_err-write_all

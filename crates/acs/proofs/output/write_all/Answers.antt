@@ -1,8 +1,8 @@
-use Rattle.std.proofs.Common.{◌<◌, ◌≤◌, ℕ, List, length, length-drop, take, drop, ap, refl, ◌∙◌, subst, arith, inl}
+use Rattle.std.proofs.Common.{◌≡◌, ◌+◌, ◌<◌, ◌≤◌, ℕ, List, length, length-drop, take, drop, ap, refl, ◌∙◌, subst, arith, inl, inr}
 use Rattle.std.specs.Prelude.{slice_range}
 use Rattle.std.specs.Io.KnownBytes.{Appends}
 use Rattle.ac_util.specs.Device.{Writing}
-use Rattle.acs.proofs.Devices.{append-more, beginning, not-idle, rest-range}
+use Rattle.acs.proofs.Devices.{append-more, beginning, not-idle, rest-range, take-short, was-idle}
 use Rattle.acs.proofs.output.write_all.Goals as goal
 
 pub loop-at-preserved : goal.loop-at-preserved
@@ -29,6 +29,34 @@ loop-at-preserved g c =
           (λ e. absurd (omega arith)) in let k = h.idles in omega arith);
     }
 
+-- nothing was taken though there was something
+pub returns-in-Ok-eq0 : goal.returns-in-Ok-eq0
+returns-in-Ok-eq0 g c =
+    let told = g.W.Sink.told in
+    let gave = c.in-Ok-eq0.ensures in
+    let none : c.in-Ok-eq0.field-0 ≡ 0 = omega (arith, c.in-Ok-eq0.field-0-test) in
+    let h = c.loop-at.invariant in
+    let rest = rest-range c.loop-at.at c.args.bytes.now in
+    let room : 0 < length (slice_range c.args.bytes.now c.loop-at.at (length c.args.bytes.now)) =
+    (let d = length-drop c.loop-at.at c.args.bytes.now in
+    let e = ap length rest in omega (arith, c.loop-at-test.true)) in
+    let idle = was-idle c.in-Ok-eq0.field-0
+    (length (slice_range c.args.bytes.now c.loop-at.at (length c.args.bytes.now))) none room in
+    record {
+      some = record {
+        part = take (c.loop-at.at + c.in-Ok-eq0.field-0) c.args.bytes.now;
+        begins = beginning (c.loop-at.at + c.in-Ok-eq0.field-0) c.args.bytes.now;
+        left_out = take-short (c.loop-at.at + c.in-Ok-eq0.field-0) c.args.bytes.now (omega (arith, c.loop-at-test.true));
+        moved =
+            append-more (told c.args.writer.now).held (told c.loop-at.writer).held
+            (told c.write_some.new.self).held c.args.bytes.now c.loop-at.at c.in-Ok-eq0.field-0
+            h.moved (subst
+            (λ (piece : List ℕ). Appends (told c.loop-at.writer).held (told c.write_some.new.self).held
+            (take c.in-Ok-eq0.field-0 piece)) rest gave.moved);
+      };
+      cause = inr (refl, gave.failed ∙ h.failed, (let i = gave.idles in let k = h.idles in omega arith));
+    }
+
 pub returns-in-Err : goal.returns-in-Err
 returns-in-Err g c =
     let told = g.W.Sink.told in
@@ -38,12 +66,12 @@ returns-in-Err g c =
       some = record {
         part = take c.loop-at.at c.args.bytes.now;
         begins = beginning c.loop-at.at c.args.bytes.now;
+        left_out = take-short c.loop-at.at c.args.bytes.now (omega (arith, c.loop-at-test.true));
         moved = rw failed h.moved;
       };
       cause = inl (
         refl,
         (let f = ap (λ (w : Writing). w.failed) failed in let k = h.failed in omega arith),
-        ap
-            (λ (w : Writing). w.idles) failed ∙ h.idles,
+        ap (λ (w : Writing). w.idles) failed ∙ h.idles,
       );
     }

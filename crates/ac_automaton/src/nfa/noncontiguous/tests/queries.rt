@@ -1,6 +1,7 @@
 use super::{EACH, builder};
 use crate::automaton::Automaton;
 use ac_util::primitives::PatternID;
+use ac_util::search::Input;
 use std::test::Fail;
 
 /// A name, the patterns, how many there are, and how long the shortest and the longest of them is.
@@ -51,6 +52,10 @@ fn settings(rt: HostRuntime) -> Result<(), Fail> {
     for &kind in EACH {
         let nfa = builder(kind, false).build(rt.alloc(), &[b"he", b"she"])?;
         assert_eq!(rt; nfa.match_kind(), kind);
+        let same = builder(kind, true).clone();
+        let nfa = same.build(rt.alloc(), &[b"he", b"she"])?;
+        assert_eq!(rt; nfa.match_kind(), kind);
+        assert!(rt; nfa.try_find(Input::new(b"HE"))?.is_some());
         assert!(rt; nfa.memory_usage() > 0);
         assert!(rt; nfa.prefilter().is_none());
     }
