@@ -38,7 +38,7 @@ begun built asked = record {
   counts = no_counts;
 }
 
--- each byte of the span was read at most once, with at least one look for each byte read and at most `most`, or
+-- no more bytes were read than the span has, with at least one look for each byte read and at most `most`, or
 -- where the walk is anchored with exactly one; and the prefilter was called at most once for each byte of the
 -- span
 pub record IsPaid (most : ℕ) (walking : Walking) : Type 0 where

@@ -258,7 +258,8 @@ enum Finding<'a, 'h, A: Allocator> {
 
 /// An iterator over the matches of an input that don't overlap, made by `AhoCorasick::find_iter`.
 ///
-/// After its end it keeps giving `None`. Contracts see the matches still to come and what was counted.
+/// After its end it keeps giving `None`. Contracts see the matches still to come; of what is counted the
+/// iterator of `Automaton::try_find_iter` tells.
 #[derive(Drop)]
 pub struct FindIter<'a, 'h, A: Allocator = Global> {
     finding: Finding<'a, 'h, A>,
@@ -387,8 +388,8 @@ impl AhoCorasickBuilder {
     /// Builds a searcher over a list of patterns. An empty list is fine: nothing is then found.
     ///
     /// # Errors
-    /// `PatternIdOverflow` and `PatternTooLong` exactly where a limit is passed, before any memory is asked
-    /// for. Else `StateIdOverflow` only where the engine would need more states than there are numbers, and
+    /// `PatternIdOverflow` and `PatternTooLong` exactly where a limit is passed, whether there is memory or
+    /// not. Else `StateIdOverflow` only where the engine would need more states than there are numbers, and
     /// `Memory` where a request for memory is refused.
     pub fn build<A: Allocator + Clone>(
         &self,

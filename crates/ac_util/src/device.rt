@@ -172,7 +172,7 @@ impl<A: Allocator> Model for Written<A> {
 }
 
 impl<A: Allocator> Written<A> {
-    /// Returns a writer that holds nothing yet, and takes no memory for it.
+    /// Returns a writer that holds nothing yet. This is never refused.
     pub fn new(alloc: A) -> Written<A>
         ensures { result ≡ record { held = Some []; failed = 0; idles = 0 } }
     {

@@ -201,7 +201,8 @@ pub fn pick_begins()
         → pick (order_of kind earliest) q ≡ Some (ending q i) }
 {}
 
-/// Once the dead node is reached, more bytes change no pick.
+/// Once the dead node is reached, more bytes change no pick by the automaton's own kind; and where nothing was
+/// picked they bring none by Standard either, as `earliest` picks.
 pub fn dead_is_the_end()
     ensures pick { (kind : MatchKind) (q : Search) (n : ℕ) → q.low ≤ q.high
         → q.high + n ≤ length q.haystack

@@ -11,7 +11,7 @@ use std::snapshot::Snapshot;
 /// How many bytes a search has read, how many states it has looked at, and how often it has called a prefilter.
 ///
 /// Contracts alone see these counts: at run time they take no bytes and no work. There is no way to copy them,
-/// and they only rise: what a contract says of them holds of all that was counted since they were made.
+/// and no call takes any back: what a contract says of them holds of all that was counted since they were made.
 #[derive(Drop)]
 pub struct Looks {
     reads: Tally,

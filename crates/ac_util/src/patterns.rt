@@ -70,7 +70,7 @@ impl<A: Allocator + Clone> Patterns<A> {
     ///
     /// # Errors
     /// `PatternIdOverflow` and `PatternTooLong` exactly where a limit is passed, tested over the whole list in
-    /// this order before any memory is asked for; else `Memory` where a request for memory is refused.
+    /// this order, whether there is memory or not; else `Memory` where a request for memory is refused.
     pub fn new(alloc: A, patterns: &[&[u8]]) -> Result<Patterns<A>, BuildError>
         ensures { MatchOption (limit_refusal (bytes_of patterns.now))
             (MatchResult result (λ stored. stored ≡ bytes_of patterns.now) (λ e. e ≡ Memory))

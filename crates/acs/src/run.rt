@@ -35,7 +35,7 @@ pub enum Outcome {
 /// fault comes for its cause alone: the build was refused, memory was, a read or a write has failed, or a write
 /// took no byte. Whether memory was refused the contract doesn't see; `Memory` is told only where no read or
 /// write has failed and no write took nothing. Where the input was not read to its end nothing is written; else
-/// what was written until then is a beginning of the lines.
+/// what was written until then is a beginning of the lines, and not all of them.
 pub fn run<A: Allocator + Clone, R: Source, W: Sink>(
     alloc: A,
     words: &[&str],

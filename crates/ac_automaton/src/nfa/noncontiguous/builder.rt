@@ -87,8 +87,8 @@ impl Builder {
     /// Time is linear in the bytes of the patterns but for the sort of the list, and so is memory.
     ///
     /// # Errors
-    /// `PatternIdOverflow` and `PatternTooLong` exactly where a limit is passed, before any memory is asked
-    /// for. Else `StateIdOverflow` only where there are more nodes than state numbers, and `Memory` where a
+    /// `PatternIdOverflow` and `PatternTooLong` exactly where a limit is passed, whether there is memory or
+    /// not. Else `StateIdOverflow` only where there are more nodes than state numbers, and `Memory` where a
     /// request for memory is refused.
     pub fn build<A: Allocator + Clone>(
         &self,
