@@ -214,7 +214,8 @@ module _ (site : Site) {unsorted : List Transition} {queue : List Pending}
     depth = site.pending.depth;
   }
 
-  pub has-branched : {link : ℕ} → Links (grown_meaning site.kind site.fold site.patterns site.members transitions queue)
+  pub has-branched : {link : ℕ}
+      → Links (grown_meaning site.kind site.fold site.patterns site.members transitions queue)
       (length site.states) (Some (string site)) link
       → HasBranched site.kind site.fold site.patterns site.members site.states site.queue site.pending
       (whole_state link) transitions queue

@@ -156,7 +156,8 @@ module _ (site : Site) where
   }
 
   -- behind the patterns that are the string each member has a further byte
-  pub goes-on : {place : ℕ} {transitions : List Transition} {queue : List Pending} → IsBranching place transitions queue
+  pub goes-on : {place : ℕ} {transitions : List Transition} {queue : List Pending}
+      → IsBranching place transitions queue
       → place < site.pending.to → next_byte place ≢ None
   goes-on {place} h more =
       let same =

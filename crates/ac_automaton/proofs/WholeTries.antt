@@ -206,7 +206,8 @@ module _ (kind : MatchKind) (fold : Bool) (patterns : List (List ℕ)) (members 
   start-going first none p t transitions queue is empty order settled depth h =
       subst (λ (ss : List State). IsGoing ((ss ++ t ∷ []) ++ t ∷ []) transitions queue 0) (sym is)
       (started p t transitions queue order settled depth
-      (subst (λ (q : List Pending). HasBranched kind fold patterns members first_states q p t transitions queue) empty
+      (subst (λ (q : List Pending). HasBranched kind fold patterns members first_states q p t transitions queue)
+      empty
       (subst (λ (ss : List State). HasBranched kind fold patterns members ss none p t transitions queue) is h)))
 
   -- the first in the queue that isn't whole is next

@@ -22,7 +22,8 @@ returns-in_err-add_line g c =
       record {
         part = [];
         begins = refl;
-        left_out = subst (λ (found : Option Occurrence). 0 < length (lines (option_to_list found))) (sym c.in-Some.is) some;
+        left_out = subst (λ (found : Option Occurrence). 0 < length (lines (option_to_list found)))
+            (sym c.in-Some.is) some;
         moved = Appends-nil told.held;
       },
       refl,

@@ -46,7 +46,8 @@ returns-in-Ok-eq0 g c =
       some = record {
         part = take (c.loop-at.at + c.in-Ok-eq0.field-0) c.args.bytes.now;
         begins = beginning (c.loop-at.at + c.in-Ok-eq0.field-0) c.args.bytes.now;
-        left_out = take-short (c.loop-at.at + c.in-Ok-eq0.field-0) c.args.bytes.now (omega (arith, c.loop-at-test.true));
+        left_out = take-short (c.loop-at.at + c.in-Ok-eq0.field-0) c.args.bytes.now
+            (omega (arith, c.loop-at-test.true));
         moved =
             append-more (told c.args.writer.now).held (told c.loop-at.writer).held
             (told c.write_some.new.self).held c.args.bytes.now c.loop-at.at c.in-Ok-eq0.field-0

@@ -46,7 +46,8 @@ unreachable-requires g c =
     let ready = c.requires.ready in
     let ends = c.own_end-own_end.ensures in
     goes-on (site g (goal.at.unreachable-requires g c).After-own_end-own_end ready.0 ready.1 ends)
-    (c.loop-place.invariant ready.0 ready.1 ends) c.loop-place-test.true (sym c.byte.ensures.value ∙ c.in_default.is)
+    (c.loop-place.invariant ready.0 ready.1 ends) c.loop-place-test.true
+    (sym c.byte.ensures.value ∙ c.in_default.is)
 
 -- the run of members that is found goes on with the byte
 module _ (g : Over) (c : In-Some g) where
@@ -70,7 +71,8 @@ module _ (g : Over) (c : In-Some g) where
       c.loop-place.growth.queue.items c.args.pending c.loop-place.place c.in-Some.byte
   child patterns ready =
       let ends = c.own_end-own_end.ensures in
-      has-child (site g (goal.at.In-Some g c).After-own_end-own_end patterns ready ends) (c.loop-place.invariant patterns ready ends) (run patterns ready ends)
+      has-child (site g (goal.at.In-Some g c).After-own_end-own_end patterns ready ends)
+      (c.loop-place.invariant patterns ready ends) (run patterns ready ends)
 
 pub child_fail-fail-requires : goal.child_fail-fail-requires
 child_fail-fail-requires g c =
@@ -90,7 +92,8 @@ overflow_add-child g c =
     let ready = c.requires.ready in
     let ends = c.own_end-own_end.ensures in
     let deep =
-    child-deep (site g (goal.at.In-Some g s).After-own_end-own_end ready.0 ready.1 ends) (c.loop-place.invariant ready.0 ready.1 ends) (run g s ready.0 ready.1 ends) in
+    child-deep (site g (goal.at.In-Some g s).After-own_end-own_end ready.0 ready.1 ends)
+    (c.loop-place.invariant ready.0 ready.1 ends) (run g s ready.0 ready.1 ends) in
     let short = c.byte.ensures.short in
     omega arith
 
@@ -115,8 +118,11 @@ returns-in_err-push g c = λ patterns ready.
     let ends = c.own_end-own_end.ensures in
     refused-by c.from_residual.result c.in_err-push.field-0.0 _
     (IsRefused c.args.kind patterns) c.from_residual.ensures.1
-    (refused (site g (goal.at.In-Some g s).After-own_end-own_end patterns ready ends) (c.loop-place.invariant patterns ready ends) (run g s patterns ready ends)
-    c.child_fail-fail.result (fails g (goal.at.returns-in_err-push g c).After-child_fail-fail patterns ready) c.in_err-push.field-0.0 c.in_err-push.ensures)
+    (refused (site g (goal.at.In-Some g s).After-own_end-own_end patterns ready ends)
+    (c.loop-place.invariant patterns ready ends) (run g s patterns ready ends)
+    c.child_fail-fail.result
+    (fails g (goal.at.returns-in_err-push g c).After-child_fail-fail patterns ready) c.in_err-push.field-0.0
+    c.in_err-push.ensures)
 
 pub loop-place-preserved : goal.loop-place-preserved
 loop-place-preserved g c = λ patterns ready ends.
@@ -124,8 +130,10 @@ loop-place-preserved g c = λ patterns ready ends.
     let pushed = c.in_ok-push.ensures in
     rw (pushed.leads, pushed.waits)
     (branching-goes_on
-    (site g (goal.at.In-Some g s).After-own_end-own_end patterns ready ends) (c.loop-place.invariant patterns ready ends) (run g s patterns ready ends)
-    c.child_fail-fail.result (fails g (goal.at.loop-place-preserved g c).After-child_fail-fail patterns ready) pushed.numbered)
+    (site g (goal.at.In-Some g s).After-own_end-own_end patterns ready ends)
+    (c.loop-place.invariant patterns ready ends) (run g s patterns ready ends)
+    c.child_fail-fail.result
+    (fails g (goal.at.loop-place-preserved g c).After-child_fail-fail patterns ready) pushed.numbered)
 
 pub sort_from-requires : goal.sort_from-requires
 sort_from-requires g c =

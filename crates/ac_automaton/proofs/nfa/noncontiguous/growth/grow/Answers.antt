@@ -32,7 +32,8 @@ module _ (g : Over) (c : After-start g) where
       let patterns = map (plain c.args.fold) texts in
       rw (first, c.new.ensures.items, c.new-2.ensures.items)
       (start-ready c.args.kind c.args.fold patterns c.args.members.now c.start.result order
-      (members-plain c.args.kind c.args.fold texts c.args.members.now order) (c.start.ensures.waits patterns order)
+      (members-plain c.args.kind c.args.fold texts c.args.members.now order)
+      (c.start.ensures.waits patterns order)
       c.start.ensures.depth)
 
 pub branch-members-requires : goal.branch-members-requires
@@ -54,7 +55,8 @@ loop-at-init g c = λ texts order.
     let growth = c.branch-members.new.growth in
     rw (c.in_ok-push-4.ensures.items, c.in_ok-push-3.ensures.items, sym c.deref.ensures.value)
     (start-going c.args.kind c.args.fold patterns c.args.members.now c.deref.result.now c.new-2.result.items
-    c.start.result c.in_ok-start.start growth.transitions.items growth.queue.items (first g s) c.new-2.ensures.items
+    c.start.result c.in_ok-start.start growth.transitions.items growth.queue.items
+    (first g s) c.new-2.ensures.items
     order (members-plain c.args.kind c.args.fold texts c.args.members.now order) c.start.ensures.depth
     (c.in_ok-start.ensures patterns (start-may g s texts order)))
 
@@ -87,7 +89,8 @@ returns-in_err-state g c = λ texts order.
     let patterns = map (plain c.args.fold) texts in
     refused-by c.from_residual-in_err-state.result c.in_err-state.field-0.0 _ (IsRefused c.args.kind patterns)
     c.from_residual-in_err-state.ensures.1
-    (c.in_err-state.ensures patterns (may g (goal.at.returns-in_err-state g c).After-deref-in-loop-at texts order))
+    (c.in_err-state.ensures patterns
+    (may g (goal.at.returns-in_err-state g c).After-deref-in-loop-at texts order))
 
 pub loop-at-smaller : goal.loop-at-smaller
 loop-at-smaller g c =
