@@ -13,8 +13,8 @@ pub record IsWithinLimits (patterns : List (List ℕ)) : Type 0 where
 abbrev pub too_long_from : ℕ → List (List ℕ) → Option BuildError
 too_long_from number [] = None
 too_long_from number (p ∷ ps) =
-    if nat_lt GREATEST (length p) then Some (PatternTooLong number (length p)) else too_long_from
-    (number + 1) ps
+    if nat_lt GREATEST (length p) then Some (PatternTooLong number (length p))
+    else too_long_from (number + 1) ps
 
 -- why a list of patterns is refused, if it is: too many are told before one that is too long
 abbrev pub limit_refusal : List (List ℕ) → Option BuildError

@@ -47,8 +47,8 @@ is_empty (b ∷ u) = false
 -- whether the string leads to a node: it is empty, or a front of a pattern that takes part
 abbrev pub is_node : MatchKind → List (List ℕ) → List ℕ → Bool
 is_node kind patterns u =
-    is_empty u || list_any (λ number. starts_with nat_eq (pattern_of patterns number) u)
-    (participants kind patterns)
+    is_empty u
+    || list_any (λ number. starts_with nat_eq (pattern_of patterns number) u) (participants kind patterns)
 
 -- the string itself and all that is left of it when bytes are dropped at its front, down to the empty string
 abbrev pub suffixes : List ℕ → List (List ℕ)
