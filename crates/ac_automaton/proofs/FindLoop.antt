@@ -1,7 +1,8 @@
 -- A find that reads byte by byte: where the automaton stands, and what is picked so far.
-use Rattle.std.proofs.Common.{◌≡◌, ◌≢◌, ℕ, ◌+◌, ◌-◌, ◌<◌, ◌≤◌, Bool, true, false, cond, List, [], ◌∷◌, length, ◌⊎◌, refl, ap, sym, ◌∙◌, subst, arith, Option, Some, None}
+use Rattle.std.proofs.Common.{◌≡◌, ◌≢◌, ℕ, ◌+◌, ◌-◌, ◌<◌, ◌≤◌, Bool, true, false, cond, List, [], ◌∷◌, length, ◌⊎◌, inl, inr, refl, ap, sym, ◌∙◌, subst, arith, Option, Some, None}
 use Rattle.std.specs.Prelude.{option_map, slice_get, slice_index, IfSome, ◌==◌, if◌then◌else◌}
 use Rattle.std.specs.Option.{is_some}
+use Rattle.std.proofs.lemmas.Bool.{false≢true}
 use Rattle.ac_util.specs.declared.search.MatchKind.{MatchKind}
 use Rattle.ac_util.specs.declared.search.MatchKind.TheVariants.{Standard}
 use Rattle.ac_util.specs.declared.search.Anchored.{Anchored}
@@ -9,32 +10,25 @@ use Rattle.ac_util.specs.declared.search.Anchored.TheVariants.{No, Yes}
 use Rattle.ac_util.specs.Occurrence.{Occurrence}
 use Rattle.ac_util.specs.Search.{Search}
 use Rattle.ac_util.specs.Pick.{order_of, pick}
-use Rattle.ac_util.specs.Counts.{Counts}
-use Rattle.ac_util.specs.Node.{Node, depth, is_node, reached}
+use Rattle.ac_util.specs.Counts.{Counts, Taped}
+use Rattle.ac_util.specs.Node.{Node, is_leftmost}
 use Rattle.ac_util.specs.Text.{text}
-use Rattle.ac_util.specs.Input.{Asked}
-use Rattle.ac_util.specs.Built.{Built, search_in}
+use Rattle.ac_util.specs.Built.{Built}
 use Rattle.ac_util.proofs.Beginning.{within, ends_by, pick-within}
 use Rattle.ac_util.proofs.Failures.{depth-reached}
 use Rattle.ac_util.proofs.Reached.{reached-nil}
 use Rattle.ac_util.proofs.Spans.{text_length}
 use Rattle.ac_util.proofs.Walks.{pick-in_span}
 use Rattle.ac_util.proofs.OneLonger.{text-empty, step-longer, pick-empty_none, pick-empty_some, none-past_end}
-use Rattle.ac_util.proofs.SearchLoop.{credit, looks_by-once, step-paid, GoesOn, pick-goes_on, pick-found, pick-stays_dead}
+use Rattle.ac_util.proofs.SearchLoop.{GoesOn, pick-goes_on, pick-found, pick-stays_dead}
 use Rattle.ac_util.specs.Sameness.{plain_byte}
 use Rattle.ac_automaton.specs.Automata.{plain_of, step_of, looks_of, matches_of}
-use Rattle.ac_automaton.specs.Cores.{place_of, FitsIn, Tells, found_at, most_looks, node_at as node_of}
-
-depth-held : (u : List ℕ) (t : Bool) → cond t (Some u) None ≢ None → depth (cond t (Some u) None) ≡ length u
-depth-held u true some = refl
-depth-held u false some = absurd (some refl)
-
-held-short : (u : List ℕ) (t : Bool) → depth (cond t (Some u) None) ≤ length u
-held-short u true = omega arith
-held-short u false = omega arith
+use Rattle.ac_automaton.specs.Finds.{place_of, HasSearched, IsDecided, ReadsTo, Tells, found_at}
+use Rattle.ac_automaton.specs.Progress.{Beginning, HasCome, node_at as node_of, span_of}
+use Rattle.ac_automaton.proofs.ReadOn.{dead-come, node-start, read-come}
 
 -- the dead node finds nothing, and what is found ends where the text read ends
-found-dead : (built : Built) (a : Anchored) (u : Node) (end : ℕ) → u ≡ None → found_at built a u end ≡ None
+pub found-dead : (built : Built) (a : Anchored) (u : Node) (end : ℕ) → u ≡ None → found_at built a u end ≡ None
 found-dead built No u end e = ap (λ (v : Node). found_at built No v end) e
 found-dead built Yes u end e = ap (λ (v : Node). found_at built Yes v end) e
 
@@ -46,107 +40,82 @@ found-end built a u end m e = by (slice_get (matches_of built a u) 0) e
     by None h = absurd (cc)
     by (Some i) h = let same : place_of built end i ≡ m = cc in sym (ap (λ (o : Occurrence). o.end) same)
 
--- a step's looks are paid by what was saved and what the byte brings; an anchored one saves nothing and looks
--- once
-step-within : (most : ℕ) (built : Built) (a : Anchored) (u : Node) (byte : ℕ) → (most ≡ 1) ⊎ (most ≡ 2)
-    → looks_of most built a u byte + credit (most_looks a most) (step_of built a u byte)
-    ≤ credit (most_looks a most) u + most_looks a most
-step-within most built No u byte one_or_two =
-    step-paid most built.kind (plain_of built) No u (plain_byte built.fold byte) one_or_two
-step-within most built Yes u byte one_or_two = once (most == 1)
-  where
-    once : (t : Bool) → (if t then 1 else 1) + 0 ≤ 0 + 1
-    once true = omega arith
-    once false = omega arith
+-- a find that stops at the first match can go on as long as it has none; any other prefers what starts first
+pub goes_on-by : (kind : MatchKind) (stops : Bool) (r : Option Occurrence)
+    → (stops ≡ false → is_leftmost kind ≡ true) → (stops ≡ true → r ≡ None)
+    → GoesOn kind (order_of kind stops) r
+goes_on-by kind true r leftmost none = inr (refl, none refl)
+goes_on-by kind false r leftmost none = inl (leftmost refl, refl)
 
-module _ (built : Built) (asked : Asked) where
+-- so where one goes on that picks as Standard does it has found nothing
+pub goes_on-none : (kind order : MatchKind) (r : Option Occurrence) (P : Occurrence → Type 0)
+    → GoesOn kind order r → order ≡ Standard → IfSome r P
+goes_on-none kind order r P (inl leftmost) standard =
+    let other = sym leftmost.0 ∙ ap is_leftmost (sym leftmost.1 ∙ standard) in absurd (false≢true (sym other))
+goes_on-none kind order r P (inr first) standard =
+    subst (λ (x : Option Occurrence). IfSome x P) (sym first.1) tt
+
+-- where a span starts past its end nothing is found, and nothing done
+pub searched-nothing : (most : ℕ) (kind order : MatchKind) (q : Search) (tape : Taped) (counts : Counts)
+    → q.high < q.low → tape.place ≤ q.low → HasSearched most kind order q None tape tape counts counts
+searched-nothing most kind order q tape counts past unread = record {
+  answer = sym (none-past_end order q past);
+  read = record {
+    bytes = refl;
+    onward = omega arith;
+    within = omega arith;
+    grows = record { reads = omega arith; looks = omega arith; calls = omega arith };
+    told = λ moved. omega arith;
+    whole = λ _. omega arith;
+    reads = omega arith;
+    looks = omega arith;
+    calls = omega arith;
+  };
+  tells = tt;
+  stops = λ _. tt;
+  dead = λ k from below. absurd (omega arith);
+  decided = λ _. inr (inl (omega arith));
+}
+
+module _ (built : Built) (anchored : Anchored) (earliest : Bool) (began : Beginning) where
+  abbrev q : Search
+  q = span_of built anchored began
+
   -- the search as far as a place, and the node that the automaton has reached there
   abbrev pub up_to : ℕ → Search
-  up_to at = record (search_in built asked) { high = at }
+  up_to at = record q { high = at }
 
   abbrev pub node_at : ℕ → Node
-  node_at = node_of built asked
+  node_at = node_of built.kind q
 
   abbrev pub order : MatchKind
-  order = order_of built.kind asked.earliest
+  order = order_of built.kind earliest
 
-  pub node-start : node_at asked.start ≡ Some []
-  node-start =
-      ap (reached built.kind (plain_of built) asked.anchored) (text-empty (up_to asked.start) refl)
-      ∙ reached-nil built.kind (plain_of built) asked.anchored
-
-  pub node-step : (at byte : ℕ) → asked.start ≤ at → at < length asked.haystack
-      → byte ≡ slice_index asked.haystack at
-      → step_of built asked.anchored (node_at at) byte ≡ node_at (at + 1)
-  node-step at byte ordered room read =
-      ap (step_of built asked.anchored (node_at at)) read ∙ step-longer built.kind (up_to at) ordered room
-
-  -- the looks of that step are paid by what was saved and the byte
-  pub node-paid : (most at byte : ℕ) → (most ≡ 1) ⊎ (most ≡ 2) → asked.start ≤ at → at < length asked.haystack
-      → byte ≡ slice_index asked.haystack at
-      → looks_of most built asked.anchored (node_at at) byte + credit (most_looks asked.anchored most)
-      (node_at (at + 1))
-      ≤ credit (most_looks asked.anchored most) (node_at at) + most_looks asked.anchored most
-  node-paid most at byte one_or_two ordered room read =
-      subst (λ (v : Node). looks_of most built asked.anchored (node_at at) byte + credit
-      (most_looks asked.anchored most) v
-      ≤ credit (most_looks asked.anchored most) (node_at at) + most_looks asked.anchored most)
-      (node-step at byte ordered room read)
-      (step-within most built asked.anchored (node_at at) byte one_or_two)
-
-  pub node-once : (most at byte : ℕ) → 1 ≤ looks_of most built asked.anchored (node_at at) byte
-  node-once most at byte =
-      looks_by-once most built.kind (plain_of built) asked.anchored (node_at at) (plain_byte built.fold byte)
-
-  -- the node fits into what was read
-  pub node-fits : (at : ℕ) → asked.start ≤ at → at ≤ length asked.haystack
-      → FitsIn asked.anchored (node_at at) asked.start at
-  node-fits at ordered room =
-      record { ordered = ordered; short = short asked.anchored; whole = whole asked.anchored }
-    where
-      size : length (text (up_to at)) ≡ at - asked.start
-      size = text_length (up_to at) ordered room
-
-      short : (a : Anchored)
-          → depth (reached built.kind (plain_of built) a (text (up_to at))) ≤ at - asked.start
-      short No =
-          let l = depth-reached built.kind (plain_of built) (text (up_to at)) in let s = size in omega arith
-      short Yes =
-          let l = held-short (text (up_to at)) (is_node built.kind (plain_of built) (text (up_to at))) in
-          let s = size in
-          omega arith
-
-      whole : (a : Anchored) → a ≡ Yes → reached built.kind (plain_of built) a (text (up_to at)) ≢ None
-          → depth (reached built.kind (plain_of built) a (text (up_to at))) ≡ at - asked.start
-      whole No e some = absurd (cc)
-      whole Yes e some =
-          depth-held (text (up_to at)) (is_node built.kind (plain_of built) (text (up_to at))) some ∙ size
-
-  found-by : (at : ℕ) (ns : List ℕ) → matches_of built asked.anchored (node_at at) ≡ ns
-      → found_at built asked.anchored (node_at at) at ≡ option_map (place_of built at) (slice_get ns 0)
+  found-by : (at : ℕ) (ns : List ℕ) → matches_of built anchored (node_at at) ≡ ns
+      → found_at built anchored (node_at at) at ≡ option_map (place_of built at) (slice_get ns 0)
   found-by at ns e = ap (λ (ms : List ℕ). option_map (place_of built at) (slice_get ms 0)) e
 
   -- at the start what the start state finds is picked
-  pub picked-start : asked.start ≤ length asked.haystack
-      → pick order (up_to asked.start) ≡ found_at built asked.anchored (node_at asked.start) asked.start
-  picked-start inside = by (matches_of built asked.anchored (node_at asked.start)) refl
+  pub picked-start : began.start ≤ length began.tape.bytes
+      → pick order (up_to began.start) ≡ found_at built anchored (node_at began.start) began.start
+  picked-start inside = by (matches_of built anchored (node_at began.start)) refl
     where
-      by : (ns : List ℕ) → matches_of built asked.anchored (node_at asked.start) ≡ ns
-          → pick order (up_to asked.start) ≡ found_at built asked.anchored (node_at asked.start) asked.start
+      by : (ns : List ℕ) → matches_of built anchored (node_at began.start) ≡ ns
+          → pick order (up_to began.start) ≡ found_at built anchored (node_at began.start) began.start
       by [] e =
-          pick-empty_none built.kind (up_to asked.start) refl inside order e ∙ sym (found-by asked.start [] e)
+          pick-empty_none built.kind (up_to began.start) refl inside order e ∙ sym (found-by began.start [] e)
       by (i ∷ rest) e =
-          pick-empty_some built.kind (up_to asked.start) refl inside asked.earliest i rest e
-          ∙ sym (found-by asked.start (i ∷ rest) e)
+          pick-empty_some built.kind (up_to began.start) refl inside earliest i rest e
+          ∙ sym (found-by began.start (i ∷ rest) e)
 
   -- under Standard what was picked stays
-  pub picked-final : (at : ℕ) (m : Occurrence) → at ≤ asked.end → order ≡ Standard
+  pub picked-final : (at : ℕ) (m : Occurrence) → at ≤ began.end → order ≡ Standard
       → Some m ≡ pick order (up_to at)
-      → Some m ≡ pick order (search_in built asked)
+      → Some m ≡ pick order q
   picked-final at m up standard e =
-      sym (ap (λ (k : MatchKind). pick k (search_in built asked)) standard
-      ∙ by (pick Standard (search_in built asked))
-      (sym (pick-within (search_in built asked) at up)
+      sym (ap (λ (k : MatchKind). pick k q) standard
+      ∙ by (pick Standard q)
+      (sym (pick-within q at up)
       ∙ ap (λ (k : MatchKind). pick k (up_to at)) (sym standard) ∙ sym e))
     where
       kept : (x : Occurrence) (t : Bool) → cond t (Some x) None ≡ Some m → Some x ≡ Some m
@@ -157,40 +126,74 @@ module _ (built : Built) (asked : Asked) where
       by None h = absurd (cc)
       by (Some x) h = kept x (ends_by at x) h
 
-  pub picked-final_if : (at : ℕ) (r : Option Occurrence) → at ≤ asked.end → order ≡ Standard → is_some r ≡ true
-      → r ≡ pick order (up_to at)
-      → r ≡ pick order (search_in built asked)
-  picked-final_if at None up standard some e = absurd (cc)
-  picked-final_if at (Some m) up standard some e = picked-final at m up standard e
+  -- what a find has done that answers r once it has come to a place, where it has read enough
+  module _ {stands : ℕ → Node → Type 0} {most state at : ℕ} {tape : Taped} {counts : Counts}
+      (come : HasCome stands most built anchored began state at tape counts) where
+    -- each byte of what was picked was read
+    picked-told : (r : Option Occurrence) → r ≡ pick order (up_to at)
+        → IfSome r (Tells began.start tape began.counts counts)
+    picked-told None e = tt
+    picked-told (Some m) e =
+        let span = pick-in_span order (up_to at) m (sym e) in
+        let h = span.to_high in record {
+          place = λ same. let w = come.whole same in omega arith;
+          reads = λ same. let c = come.counted same in omega arith;
+        }
 
-  -- each byte of what was picked was read, where a search has read as far
-  pub picked-told : (at : ℕ) (r : Option Occurrence) (counts new_counts : Counts) → r ≡ pick order (up_to at)
-      → counts.reads + (at - asked.start) ≤ new_counts.reads → IfSome r (Tells counts new_counts)
-  picked-told at None counts new_counts e read = tt
-  picked-told at (Some m) counts new_counts e read =
-      let span = pick-in_span order (up_to at) m (sym e) in
-      let l = span.from_low in let o = span.in_order in let h = span.to_high in
-      record { reads = omega arith }
+    -- and none past the place
+    ends-here : (r : Option Occurrence) → IfSome r (λ m. m.end ≡ at)
+        → IfSome r (ReadsTo began.start began.tape tape began.counts counts)
+    ends-here None h = tt
+    ends-here (Some m) h =
+        let w = come.within in
+        let c = come.calls in
+        record { place = omega arith; calls = omega arith }
 
-  -- a span that starts past its end has no pick
-  pub picked-past_end : asked.end < asked.start → pick order (search_in built asked) ≡ None
-  picked-past_end past = none-past_end order (search_in built asked) past
+    pub searched : (r : Option Occurrence) → r ≡ pick order q → at ≤ began.end → r ≡ pick order (up_to at)
+        → (order ≡ Standard → IfSome r (λ m. m.end ≡ at))
+        → (counts.calls ≡ began.counts.calls → IsDecided built.kind order q r tape.place)
+        → HasSearched most built.kind order q r began.tape tape began.counts counts
+    searched r answer up picked ends decided =
+        record {
+          answer = answer;
+          read = read-come built anchored began come up;
+          tells = picked-told r picked;
+          stops = λ standard. ends-here r (ends standard);
+          dead = dead-come built anchored began come;
+          decided = decided;
+        }
+
+  -- a find that stops at the first match has read enough where its start state has one
+  pub searched-first : {stands : ℕ → Node → Type 0} {most state : ℕ}
+      → HasCome stands most built anchored began state began.start began.tape began.counts
+      → (r : Option Occurrence) → is_some r ≡ true → order ≡ Standard → began.start ≤ began.end
+      → r ≡ pick order (up_to began.start)
+      → HasSearched most built.kind order q r began.tape began.tape began.counts began.counts
+  searched-first come None some standard ordered picked = absurd (cc)
+  searched-first come (Some m) some standard ordered picked =
+      searched come (Some m) (picked-final began.start m ordered standard picked) ordered picked
+      (λ _. ends-at_start m picked) (λ _. inl (standard, (λ none. absurd (cc))))
+    where
+      ends-at_start : (m : Occurrence) → Some m ≡ pick order (up_to began.start) → m.end ≡ began.start
+      ends-at_start m e =
+          let span = pick-in_span order (up_to began.start) m (sym e) in
+          let l = span.from_low in let o = span.in_order in let h = span.to_high in omega arith
 
   -- one more byte is read, after r was picked
-  module _ (at : ℕ) (r : Option Occurrence) (ordered : asked.start ≤ at) (room : at < length asked.haystack)
+  module _ (at : ℕ) (r : Option Occurrence) (ordered : began.start ≤ at) (room : at < length began.tape.bytes)
       (picked : r ≡ pick order (up_to at)) (goes : GoesOn built.kind order r) where
     -- what is found where the byte ends
     abbrev pub here : Option Occurrence
-    here = found_at built asked.anchored (node_at (at + 1)) (at + 1)
+    here = found_at built anchored (node_at (at + 1)) (at + 1)
 
     goes_on : GoesOn built.kind order (pick order (up_to at))
     goes_on = subst (GoesOn built.kind order) picked goes
 
     -- nothing: r stays picked
     pub picked-still : here ≡ None → r ≡ pick order (up_to (at + 1))
-    picked-still nothing = by (matches_of built asked.anchored (node_at (at + 1))) refl
+    picked-still nothing = by (matches_of built anchored (node_at (at + 1))) refl
       where
-        by : (ns : List ℕ) → matches_of built asked.anchored (node_at (at + 1)) ≡ ns
+        by : (ns : List ℕ) → matches_of built anchored (node_at (at + 1)) ≡ ns
             → r ≡ pick order (up_to (at + 1))
         by [] e = picked ∙ sym (pick-goes_on built.kind order (up_to at) ordered room goes_on e)
         by (i ∷ rest) e =
@@ -199,9 +202,9 @@ module _ (built : Built) (asked : Asked) where
 
     -- or a match, which is picked
     pub picked-newly : (m : Occurrence) → here ≡ Some m → Some m ≡ pick order (up_to (at + 1))
-    picked-newly m is = by (matches_of built asked.anchored (node_at (at + 1))) refl
+    picked-newly m is = by (matches_of built anchored (node_at (at + 1))) refl
       where
-        by : (ns : List ℕ) → matches_of built asked.anchored (node_at (at + 1)) ≡ ns
+        by : (ns : List ℕ) → matches_of built anchored (node_at (at + 1)) ≡ ns
             → Some m ≡ pick order (up_to (at + 1))
         by [] e = let no : None ≡ Some m = sym (found-by (at + 1) [] e) ∙ is in absurd (cc)
         by (i ∷ rest) e =
@@ -209,11 +212,11 @@ module _ (built : Built) (asked : Asked) where
             ∙ sym (pick-found built.kind order (up_to at) ordered room goes_on i rest e)
 
     -- from the dead node on r stays picked to the end
-    pub picked-dead : at < asked.end → asked.end ≤ length asked.haystack → node_at (at + 1) ≡ None
-        → r ≡ pick order (search_in built asked)
+    pub picked-dead : at < began.end → began.end ≤ length began.tape.bytes → node_at (at + 1) ≡ None
+        → r ≡ pick order q
     picked-dead up inside dead =
-        let still = picked-still (found-dead built asked.anchored (node_at (at + 1)) (at + 1) dead) in
+        let still = picked-still (found-dead built anchored (node_at (at + 1)) (at + 1) dead) in
         still
-        ∙ sym (pick-stays_dead built.kind order (up_to (at + 1)) (asked.end - (at + 1)) (omega arith)
+        ∙ sym (pick-stays_dead built.kind order (up_to (at + 1)) (began.end - (at + 1)) (omega arith)
         (omega arith) dead (subst (GoesOn built.kind order) still goes))
-        ∙ ap (λ (h : ℕ). pick order (record (search_in built asked) { high = h })) (omega arith)
+        ∙ ap (λ (h : ℕ). pick order (record q { high = h })) (omega arith)

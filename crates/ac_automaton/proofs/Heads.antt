@@ -15,7 +15,7 @@ use Rattle.ac_util.proofs.Lists.{IsIn, IsIn-append_left}
 use Rattle.ac_util.proofs.Participants.{IsIn-from_equal_to}
 use Rattle.ac_util.proofs.Found.{matches-fits, matches-whole}
 use Rattle.ac_automaton.specs.Automata.{plain_of, matches_of, Lists}
-use Rattle.ac_automaton.specs.Cores.{place_of, FitsIn, found_at}
+use Rattle.ac_automaton.specs.Finds.{place_of, FitsIn, found_at}
 
 -- a pattern is as long as its plain string
 pub plain_length : (built : Built) (n : ℕ)

@@ -1,75 +1,181 @@
--- What a search has read and looked at so far, and that each look is paid for.
-use Rattle.std.proofs.Common.{◌≡◌, ℕ, ◌+◌, ◌-◌, ◌*◌, ◌<◌, ◌≤◌, max, ap, ◌∙◌, arith}
+-- A search that reads byte by byte: where its automaton stands with one byte more, what it has read and looked at,
+-- and that each look is paid for.
+use Rattle.std.proofs.Common.{◌≡◌, ◌≢◌, ◌⊎◌, ℕ, ◌+◌, ◌-◌, ◌<◌, ◌≤◌, true, false, cond, List, [], length, slice_index, inl, inr, refl, ap, sym, subst, ◌∙◌, arith, Bool, Some, None}
+use Rattle.std.specs.Prelude.{◌==◌, if◌then◌else◌}
+use Rattle.std.proofs.lemmas.Bool.{cases_lt}
+use Rattle.ac_util.specs.declared.search.Anchored.{Anchored}
+use Rattle.ac_util.specs.declared.search.Anchored.TheVariants.{No, Yes}
+use Rattle.ac_util.specs.Built.{Built}
 use Rattle.ac_util.specs.Counts.{Counts, Taped, one_more_read, more_looks}
-use Rattle.ac_automaton.specs.Cores.{Reads}
+use Rattle.ac_util.specs.Looks.{credit}
+use Rattle.ac_util.specs.Node.{Node, depth, is_node, reached}
+use Rattle.ac_util.specs.Sameness.{plain_byte}
+use Rattle.ac_util.specs.Search.{Search}
+use Rattle.ac_util.specs.Text.{text}
+use Rattle.ac_util.proofs.Failures.{depth-reached}
+use Rattle.ac_util.proofs.OneLonger.{text-empty, step-longer}
+use Rattle.ac_util.proofs.Reached.{reached-nil}
+use Rattle.ac_util.proofs.Spans.{text_length}
+use Rattle.ac_util.proofs.SearchLoop.{credit-nil, looks_by-once, step-paid}
+use Rattle.ac_automaton.specs.Automata.{plain_of, step_of, looks_of}
+use Rattle.ac_automaton.specs.Finds.{FitsIn}
+use Rattle.ac_automaton.specs.Progress.{Beginning, HasCome, HasRead, StopsAtDead, most_looks, node_at, span_of}
 
--- a search has read start..at, and has looked at states at most `most` times for each of the bytes, but for
--- what is saved
-pub record ReadOn (most start at saved : ℕ) (tape new_tape : Taped) (counts new_counts : Counts) : Type 0 where
-  pub bytes : new_tape.bytes ≡ tape.bytes
-  pub onward : tape.place ≤ new_tape.place
-  pub within : new_tape.place ≤ max tape.place at
-  pub reached : at ≤ max start new_tape.place
-  pub reads : new_counts.reads ≡ counts.reads + (at - start)
-  pub paid : new_counts.looks + saved ≤ counts.looks + most * (at - start)
-  pub told : tape.place < new_tape.place → start < at
-  pub looked : counts.looks + (at - start) ≤ new_counts.looks
-  pub calls : new_counts.calls ≡ counts.calls
+-- a step's looks are paid by what was saved and what the byte brings; an anchored one saves nothing and looks
+-- once
+step-within : (most : ℕ) (built : Built) (a : Anchored) (u : Node) (byte : ℕ) → (most ≡ 1) ⊎ (most ≡ 2)
+    → looks_of most built a u byte + credit (most_looks a most) (step_of built a u byte)
+    ≤ credit (most_looks a most) u + most_looks a most
+step-within most built No u byte one_or_two =
+    step-paid most built.kind (plain_of built) No u (plain_byte built.fold byte) one_or_two
+step-within most built Yes u byte one_or_two = once (most == 1)
+  where
+    once : (t : Bool) → (if t then 1 else 1) + 0 ≤ 0 + 1
+    once true = omega arith
+    once false = omega arith
 
-module _ {most start at saved : ℕ} {tape new_tape : Taped} {counts new_counts : Counts}
-    (ordered : start ≤ at)
-    (read : ReadOn most start at saved tape new_tape counts new_counts) where
-  -- one more byte, with looks that what was saved and the byte pay for
-  pub read-more : (n saved_then : ℕ) {tape_then : Taped} {counts_read counts_then : Counts} → tape.place ≤ start
-      → tape_then ≡ record { bytes = new_tape.bytes; place = at + 1 } → counts_read ≡ one_more_read new_counts
-      → counts_then ≡ more_looks n counts_read → 1 ≤ n → n + saved_then ≤ saved + most
-      → ReadOn most start (at + 1) saved_then tape tape_then counts counts_then
-  read-more n saved_then {tape_then} {counts_read} {counts_then} unread place counted looked once paid =
-      let b = read.bytes in
-      let l = read.looked in
-      let o = read.onward in
-      let r = read.reads in
-      let p = read.paid in
-      let k = read.calls in
-      let there = ap (λ (t : Taped). t.place) place in
-      let reads = ap (λ (c : Counts). c.reads) looked in let one = ap (λ (c : Counts). c.reads) counted in
-      let looks = ap (λ (c : Counts). c.looks) looked in let same = ap (λ (c : Counts). c.looks) counted in
-      let calls = ap (λ (c : Counts). c.calls) looked in let none = ap (λ (c : Counts). c.calls) counted in
-      let further : (at + 1) - start ≡ (at - start) + 1 = omega arith in record {
-        bytes = ap (λ (t : Taped). t.bytes) place ∙ b;
+-- what holds as far as n and one place on holds as far as there
+below_next : (n : ℕ) (P : ℕ → Type 0) → ((k : ℕ) → k < n → P k) → P n → (k : ℕ) → k < n + 1 → P k
+below_next n P before now k up = elim (cases_lt k n) [ inl l ↦ before k l | inr l ↦ subst P (omega arith) now ]
+
+-- a string that leads to a node or to the dead one is as long as the node, or longer
+depth-held : (u : List ℕ) (t : Bool) → cond t (Some u) None ≢ None → depth (cond t (Some u) None) ≡ length u
+depth-held u true some = refl
+depth-held u false some = absurd (some refl)
+
+held-short : (u : List ℕ) (t : Bool) → depth (cond t (Some u) None) ≤ length u
+held-short u true = omega arith
+held-short u false = omega arith
+
+module _ (built : Built) (anchored : Anchored) (began : Beginning) where
+  abbrev q : Search
+  q = span_of built anchored began
+
+  abbrev bytes : List ℕ
+  bytes = began.tape.bytes
+
+  -- before a byte was read the automaton stands at the start
+  pub node-start : node_at built.kind q began.start ≡ Some []
+  node-start =
+      ap (reached built.kind (plain_of built) anchored) (text-empty (record q { high = began.start }) refl)
+      ∙ reached-nil built.kind (plain_of built) anchored
+
+  -- one byte more leads from the node reached to the next one
+  node-step : (at byte : ℕ) → began.start ≤ at → at < length bytes → byte ≡ slice_index bytes at
+      → step_of built anchored (node_at built.kind q at) byte ≡ node_at built.kind q (at + 1)
+  node-step at byte ordered room read =
+      ap (step_of built anchored (node_at built.kind q at)) read
+      ∙ step-longer built.kind (record q { high = at }) ordered room
+
+  -- the node fits into what was read
+  pub node-fits : (at : ℕ) → began.start ≤ at → at ≤ length bytes
+      → FitsIn anchored (node_at built.kind q at) began.start at
+  node-fits at ordered room =
+      record { ordered = ordered; short = short anchored; whole = whole anchored }
+    where
+      size : length (text (record q { high = at })) ≡ at - began.start
+      size = text_length (record q { high = at }) ordered room
+
+      short : (a : Anchored)
+          → depth (reached built.kind (plain_of built) a (text (record q { high = at }))) ≤ at - began.start
+      short No =
+          let l = depth-reached built.kind (plain_of built) (text (record q { high = at })) in let s = size in omega arith
+      short Yes =
+          let l = held-short (text (record q { high = at })) (is_node built.kind (plain_of built) (text (record q { high = at }))) in
+          let s = size in
+          omega arith
+
+      whole : (a : Anchored) → a ≡ Yes → reached built.kind (plain_of built) a (text (record q { high = at })) ≢ None
+          → depth (reached built.kind (plain_of built) a (text (record q { high = at }))) ≡ at - began.start
+      whole No e some = absurd (cc)
+      whole Yes e some =
+          depth-held (text (record q { high = at })) (is_node built.kind (plain_of built) (text (record q { high = at }))) some ∙ size
+
+  -- the automaton has come to the start of the span: nothing was read
+  pub come-start : (stands : ℕ → Node → Type 0) (most state : ℕ) → stands state (Some [])
+      → began.tape.place ≤ began.start → began.start ≤ length bytes
+      → HasCome stands most built anchored began state began.start began.tape began.counts
+  come-start stands most state there unread room =
+      let worthless = ap (credit (most_looks anchored most)) node-start ∙ credit-nil (most_looks anchored most) in
+      record {
+        there = subst (stands state) (sym node-start) there;
         onward = omega arith;
-        within = omega arith;
-        reached = omega arith;
-        reads = omega arith;
-        paid = rw further (omega arith);
-        told = λ _. omega arith;
-        looked = omega arith;
-        calls = calls ∙ none ∙ k;
-      }
-
-  -- this is what a search may do
-  pub reads-so_far : (end : ℕ) → tape.place ≤ start → at ≤ end
-      → Reads most start end tape new_tape counts new_counts
-  reads-so_far end unread up =
-      let o = read.onward in
-      let w = read.within in
-      let h = read.reached in
-      let r = read.reads in
-      let p = read.paid in
-      let k = read.calls in
-      let all : new_counts.reads - counts.reads ≡ at - start = omega arith in record {
-        bytes = read.bytes;
-        onward = o;
-        within = omega arith;
-        grows = record {
-          reads = omega arith;
-          looks =
-              (let l = read.looked in rw all (omega arith));
-          calls = omega arith;
-        };
-        told = λ moved. let t = read.told moved in omega arith;
+        inside = room;
+        alive = λ k from below. absurd (omega arith);
+        unread = unread;
+        bytes = refl;
+        further = omega arith;
+        within = unread;
+        grows = record { reads = omega arith; looks = omega arith; calls = omega arith };
+        told = λ moved. omega arith;
         whole = λ _. omega arith;
+        counted = λ _. omega arith;
         reads = omega arith;
-        looks = rw all (omega arith);
+        paid = rw worthless (omega arith);
         calls = omega arith;
       }
+
+  module _ {stands : ℕ → Node → Type 0} {most state at : ℕ} {tape : Taped} {counts : Counts}
+      (come : HasCome stands most built anchored began state at tape counts) where
+    -- it comes one place further by reading a byte and following it
+    pub come-next : {next byte : ℕ} {new_tape : Taped} {read new_counts : Counts} → (most ≡ 1) ⊎ (most ≡ 2)
+        → byte ≡ slice_index tape.bytes at → at < length tape.bytes
+        → new_tape ≡ record { bytes = tape.bytes; place = at + 1 } → read ≡ one_more_read counts
+        → new_counts ≡ more_looks (looks_of most built anchored (node_at built.kind q at) byte) read
+        → stands next (step_of built anchored (node_at built.kind q at) byte) → node_at built.kind q at ≢ None
+        → HasCome stands most built anchored began next (at + 1) new_tape new_counts
+    come-next {next} {byte} {new_tape} {read} {new_counts} one_or_two is room place counted looked there living =
+        let node = node_at built.kind q at in
+        let inside : at < length bytes = omega (arith, ap length come.bytes) in
+        let moved = node-step at byte come.onward inside
+        (is ∙ ap (λ (bs : List ℕ). slice_index bs at) come.bytes) in
+        let paid = subst (λ (v : Node). looks_of most built anchored node byte
+        + credit (most_looks anchored most) v
+        ≤ credit (most_looks anchored most) node + most_looks anchored most) moved
+        (step-within most built anchored node byte one_or_two) in
+        let once = looks_by-once most built.kind (plain_of built) anchored node (plain_byte built.fold byte) in
+        let there_now = ap (λ (t : Taped). t.place) place in
+        let reads = ap (λ (c : Counts). c.reads) looked ∙ ap (λ (c : Counts). c.reads) counted in
+        let looks = ap (λ (c : Counts). c.looks) looked in
+        let before = ap (λ (c : Counts). c.looks) counted in
+        let calls = ap (λ (c : Counts). c.calls) looked ∙ ap (λ (c : Counts). c.calls) counted in
+        let grows = come.grows in
+        let one : new_counts.reads - began.counts.reads ≡ (counts.reads - began.counts.reads) + 1 = omega arith in
+        record {
+          there = subst (stands next) moved there;
+          onward = omega arith;
+          inside = omega arith;
+          alive = λ k from below. below_next at (λ n. began.start ≤ n → node_at built.kind q n ≢ None)
+              (λ n up low. come.alive n low up) (λ _. living) k below from;
+          unread = come.unread;
+          bytes = ap (λ (t : Taped). t.bytes) place ∙ come.bytes;
+          further = omega arith;
+          within = omega arith;
+          grows = record { reads = omega arith; looks = omega arith; calls = omega arith };
+          told = λ _. omega arith;
+          whole = λ same. omega arith;
+          counted = λ same. let c = come.counted (omega arith) in omega arith;
+          reads = omega arith;
+          paid = rw one (omega arith);
+          calls = omega arith;
+        }
+
+    -- what a search has done that has come to a place of its span
+    pub read-come : at ≤ began.end
+        → HasRead (most_looks anchored most) began.start began.end began.tape tape began.counts counts
+    read-come up =
+        let grows = come.grows in record {
+          bytes = come.bytes;
+          onward = come.further;
+          within = omega arith;
+          grows = come.grows;
+          told = come.told;
+          whole = λ same. let c = come.counted same in omega arith;
+          reads = come.reads;
+          looks = omega arith;
+          calls = omega arith;
+        }
+
+    -- and it has read nothing from the dead node on
+    pub dead-come : StopsAtDead built.kind q tape.place
+    dead-come = λ k from below. come.alive k from (omega arith)

@@ -1,22 +1,25 @@
--- A walk that finds match after match: what it has counted.
-use Rattle.std.specs.Prelude.{IfSome, ◌==◌}
+-- A walk that finds match after match: what it has read and counted.
+use Rattle.std.proofs.Common.{◌≡◌, ℕ, zero, suc, ◌+◌, ◌-◌, ◌*◌, ◌<◌, ◌≤◌, Bool, true, false, List, [], ◌∷◌, length, min, refl, ap, sym, ◌∙◌, subst, arith, Option, Some, None}
+use Rattle.std.specs.Prelude.{IfSome, MatchBool, MatchOption, ◌==◌}
 use Rattle.std.proofs.lemmas.Bool.{and_parts, eqb-true}
-use Rattle.ac_util.specs.Walk.{repeats, unless_repeated, walk_after}
-use Rattle.ac_util.proofs.OneLonger.{none-past_end}
-use Rattle.std.proofs.Common.{◌≡◌, ℕ, ◌+◌, ◌-◌, ◌*◌, ◌<◌, ◌≤◌, Bool, true, List, [], min, refl, ap, sym, ◌∙◌, subst, arith, Option, Some, None}
-use Rattle.ac_util.specs.declared.search.Anchored.{Anchored}
 use Rattle.ac_util.specs.declared.search.MatchKind.{MatchKind}
 use Rattle.ac_util.specs.declared.search.MatchKind.TheVariants.{Standard, LeftmostFirst, LeftmostLongest}
-use Rattle.ac_util.specs.Occurrence.{Occurrence}
-use Rattle.ac_util.specs.Counts.{Counts, Taped, no_counts}
-use Rattle.ac_util.specs.Pick.{order_of}
-use Rattle.ac_util.specs.Refusal.{start_refusal}
+use Rattle.ac_util.specs.Built.{Built, search_in}
+use Rattle.ac_util.specs.Counts.{Counts}
 use Rattle.ac_util.specs.Input.{Asked}
-use Rattle.ac_util.specs.Built.{Built, search_in, found}
-use Rattle.ac_util.proofs.Walks.{IsInSpan, pick-in_span, walk_after-None}
-use Rattle.ac_automaton.specs.Cores.{Grows, Reads, StopsAtMatch, Tells, asked_of, kept, most_looks}
-use Rattle.ac_automaton.specs.Iterators.{Left, after}
+use Rattle.ac_util.specs.Occurrence.{Occurrence}
+use Rattle.ac_util.specs.Pick.{pick}
+use Rattle.ac_util.specs.Search.{Search, Occurs, from, pattern_of}
+use Rattle.ac_util.specs.Stream.{shortest_len}
+use Rattle.ac_util.specs.Walk.{next_match, repeats, unless_repeated, walk_after}
+use Rattle.ac_util.proofs.OneLonger.{none-past_end}
+use Rattle.ac_util.proofs.Walks.{next-in_span, pick-in_span, pick-Occurs, walk_after-None, walk_after-Some}
+use Rattle.ac_automaton.specs.Finds.{HasSearched}
+use Rattle.ac_automaton.specs.Finders.{Finding}
+use Rattle.ac_automaton.specs.Iterators.{Finds, GoesOn, HasFound, IsUnderWay, Walking, after, begun, kept_place, last_after, walking_of}
+use Rattle.ac_automaton.specs.Progress.{most_looks}
 
+-- looks that are paid so far, and looks of a further find that are paid, are paid together
 paid_total : (most r n looks looks_then : ℕ) → r ≤ n → looks ≤ most * r → looks_then ≤ looks + most * (n - r)
     → looks_then ≤ most * n
 paid_total most r n looks looks_then l a b =
@@ -24,54 +27,11 @@ paid_total most r n looks looks_then l a b =
     subst (λ (k : ℕ). looks_then ≤ most * k) (sym e)
     (let h : looks_then ≤ most * r + most * (n - r) = omega arith in omega arith)
 
--- the counts that a walk keeps: under Standard all, else none
-pub kept-all : (order : MatchKind) (counts : Counts) → order ≡ Standard → kept order counts ≡ counts
-kept-all order counts standard = ap (λ (k : MatchKind). kept k counts) standard
-
-pub kept-none : (order : MatchKind) (counts : Counts) → ¬ (order ≡ Standard) → kept order counts ≡ no_counts
-kept-none Standard counts other = absurd (other refl)
-kept-none LeftmostFirst counts other = refl
-kept-none LeftmostLongest counts other = refl
-
--- a second search counts on from the first
-pub Grows-kept : (order : MatchKind) (counts first second : Counts) → Grows (kept order counts) first
-    → Grows (kept order first) second
-    → Grows (kept order counts) second
-Grows-kept Standard counts first second to on =
-    let r = to.reads in
-    let l = to.looks in
-    let c = to.calls in
-    let r2 = on.reads in
-    let l2 = on.looks in
-    let c2 = on.calls in
-    record { reads = omega arith; looks = omega arith; calls = omega arith }
-Grows-kept LeftmostFirst counts first second to on = on
-Grows-kept LeftmostLongest counts first second to on = on
-
-tells-kept : (order : MatchKind) (counts first second : Counts) (m : Occurrence)
-    → Grows (kept order counts) first → Tells (kept order first) second m
-    → Tells (kept order counts) second m
-tells-kept Standard counts first second m to on =
-    let r = to.reads in let t = on.reads in record { reads = omega arith }
-tells-kept LeftmostFirst counts first second m to on = on
-tells-kept LeftmostLongest counts first second m to on = on
-
-pub Tells-kept : (order : MatchKind) (counts first second : Counts) (r : Option Occurrence)
-    → Grows (kept order counts) first
-    → IfSome r (Tells (kept order first) second) → IfSome r (Tells (kept order counts) second)
-Tells-kept order counts first second None to on = tt
-Tells-kept order counts first second (Some m) to on = tells-kept order counts first second m to on
-
--- an input is what a core is asked with its parts
-pub asked-same : (i : Asked) {bytes : List ℕ} {start end : ℕ} {anchored : Anchored} {earliest : Bool}
-    → bytes ≡ i.haystack → start ≡ i.start → end ≡ i.end → anchored ≡ i.anchored → earliest ≡ i.earliest
-    → asked_of bytes start end anchored earliest ≡ i
-asked-same i {bytes} {start} {end} {anchored} {earliest} b s e a x =
-    ap (λ (h : List ℕ). asked_of h start end anchored earliest) b
-    ∙ ap (λ (n : ℕ). asked_of i.haystack n end anchored earliest) s
-    ∙ ap (λ (n : ℕ). asked_of i.haystack i.start n anchored earliest) e
-    ∙ ap (λ (y : Anchored). asked_of i.haystack i.start i.end y earliest) a
-    ∙ ap (λ (t : Bool). asked_of i.haystack i.start i.end i.anchored t) x
+-- no pattern is shorter than the shortest
+shortest-least : (ps : List (List ℕ)) (n : ℕ) → n < length ps → shortest_len ps ≤ length (pattern_of ps n)
+shortest-least [] n within = absurd (omega arith)
+shortest-least (p ∷ ps) zero within = omega arith
+shortest-least (p ∷ ps) (suc n) within = let l = shortest-least ps n (omega arith) in omega arith
 
 -- a match that repeats is empty and ends where the one before it did
 record Repeats (m : Occurrence) (e : ℕ) : Type 0 where
@@ -84,165 +44,292 @@ repeats-from m e h =
     record { empty = eqb-true m.start m.end both.0; ends = eqb-true m.end e both.1 }
 
 -- a walk in a span that starts past its end has no match
-pub walked-past_end : (built : Built) (i : Asked) (last : Option ℕ) → i.end < i.start
-    → walk_after (order_of built.kind i.earliest) (search_in built i) last ≡ []
-walked-past_end built i last past =
-    let order = order_of built.kind i.earliest in
-    let q = search_in built i in
+pub walked-past_end : (order : MatchKind) (q : Search) (last : Option ℕ) → q.high < q.low
+    → walk_after order q last ≡ []
+walked-past_end order q last past =
     walk_after-None order q last
-    (ap (λ (m : Option Occurrence). unless_repeated order q m (repeats m last))
-    (none-past_end order q past))
+    (ap (λ (m : Option Occurrence). unless_repeated order q m (repeats m last)) (none-past_end order q past))
 
-module _ (most : ℕ) (built : Built) (asked : Asked) (from : ℕ) where
-  -- what is found ends within the span
-  pub after-within : (r : Option Occurrence) → r ≡ found built asked → after asked r ≤ asked.end + 1
-  after-within None e = omega arith
-  after-within (Some m) e =
-      let span = pick-in_span (order_of built.kind asked.earliest) (search_in built asked) m (sym e) in
-      let h = span.to_high in omega arith
+-- what is known where the pick of a span repeats the match before, which ended no later than the span starts
+pub record HasRepeated (q : Search) (last : Option ℕ) (m : Occurrence) : Type 0 where
+  pub room : q.low ≤ q.high
+  pub empty : m.start ≡ q.low
+  pub ends : m.end ≡ q.low
+  pub again : last ≡ Some m.end
+  pub shortest : shortest_len q.patterns ≡ 0
 
-  -- where the pick repeats the match before, which ended no later than the span starts, it is at that start
-  pub after-repeated : (r : Option Occurrence) (last : Option ℕ) → r ≡ found built asked
-      → IfSome last (λ e. e ≤ asked.start) → repeats r last ≡ true
-      → after asked r ≡ asked.start
-  after-repeated None last e le again = absurd (cc)
-  after-repeated (Some m) None e le again = absurd (cc)
-  after-repeated (Some m) (Some n) e le again =
-      let span = pick-in_span (order_of built.kind asked.earliest) (search_in built asked) m (sym e) in
-      let l = span.from_low in
-      let o = span.in_order in
-      let h = repeats-from m n again in
-      let n = h.ends in
-      omega arith
+repeated : (order : MatchKind) (q : Search) (m : Occurrence) (last : Option ℕ) → pick order q ≡ Some m
+    → IfSome last (λ e. e ≤ q.low) → repeats (Some m) last ≡ true → HasRepeated q last m
+repeated order q m None picked behind again = absurd (cc)
+repeated order q m (Some e) picked behind again =
+    let o = pick-Occurs order q m picked in
+    let same = repeats-from m e again in
+    let least = shortest-least q.patterns m.pattern o.numbered in
+    let l = o.from_low in let h = o.to_high in let a = o.as_long in let n = same.empty in let s = same.ends in
+    record {
+      room = omega arith;
+      empty = omega arith;
+      ends = omega arith;
+      again = ap (λ (k : ℕ). Some k) (sym s);
+      shortest = omega arith;
+    }
 
-  pub room-repeated : (r : Option Occurrence) (last : Option ℕ) → r ≡ found built asked → repeats r last ≡ true
-      → asked.start ≤ asked.end
-  room-repeated None last e again = absurd (cc)
-  room-repeated (Some m) last e again =
-      let span = pick-in_span (order_of built.kind asked.earliest) (search_in built asked) m (sym e) in
-      let l = span.from_low in let o = span.in_order in let h = span.to_high in omega arith
+-- the same of a pick that isn't known to be a match
+pub repeated-some : (order : MatchKind) (q : Search) (r : Option Occurrence) (last : Option ℕ)
+    → r ≡ pick order q → IfSome last (λ e. e ≤ q.low) → repeats r last ≡ true
+    → (m : Occurrence) × (r ≡ Some m) × HasRepeated q last m
+repeated-some order q None last picked behind again = absurd (cc)
+repeated-some order q (Some m) last picked behind again =
+    (m, refl, repeated order q m last (sym picked) behind again)
 
-  -- before anything was read
-  pub Left-anew : start_refusal built.start_kind asked.anchored ≡ None → from ≤ asked.start
-      → Left most built asked from (record { bytes = asked.haystack; place = 0 }) no_counts
-  Left-anew supported begun = record {
-    supported = supported;
-    bytes = refl;
-    unread = λ _. omega arith;
-    within = omega arith;
-    begun = begun;
-    reads = omega arith;
+-- what is found ends within the span
+pub after-within : (order : MatchKind) (q : Search) (last : Option ℕ) (r : Option Occurrence)
+    → r ≡ next_match order q last → after q.high r ≤ q.high + 1
+after-within order q last None e = omega arith
+after-within order q last (Some m) e = let h = (next-in_span order q last m (sym e)).to_high in omega arith
+
+-- the place that a find of a walk reads from is not past what it was
+kept-within : (order : MatchKind) (place : ℕ) → kept_place order place ≤ place
+kept-within Standard place = omega arith
+kept-within LeftmostFirst place = omega arith
+kept-within LeftmostLongest place = omega arith
+
+kept-standard : (order : MatchKind) (place : ℕ) → order ≡ Standard → kept_place order place ≡ place
+kept-standard order place standard = ap (λ (k : MatchKind). kept_place k place) standard
+
+-- under Standard a find that repeats has read nothing of what is left
+pub unread-repeated : {most : ℕ} {kind order : MatchKind} {q : Search} {r : Option Occurrence}
+    {place new_place : ℕ} {counts new_counts : Counts} (last : Option ℕ)
+    → HasSearched most kind order q r (record { bytes = q.haystack; place = kept_place order place })
+    (record { bytes = q.haystack; place = new_place }) counts new_counts
+    → IfSome last (λ e. e ≤ q.low) → repeats r last ≡ true → order ≡ Standard → place ≤ q.low
+    → new_place ≤ q.low
+unread-repeated {r = None} last found behind again standard unread = absurd (cc)
+unread-repeated {order = order} {q = q} {r = Some m} {place = place} last found behind again standard unread =
+    let h = (repeated order q m last (sym found.answer) behind again).ends in
+    let p = (found.stops standard).place in
+    let k = kept-standard order place standard in
+    omega arith
+
+-- a walk that begins is under way
+pub under_way-begun : (most : ℕ) (built : Built) (asked : Asked) → asked.start ≤ asked.end + 1
+    → IsUnderWay (begun most built asked)
+under_way-begun most built asked legal = record {
+  paid = record {
     looked = omega arith;
     looks = omega arith;
-    calls = omega arith;
-    called = λ _. omega arith;
+    reads = λ _. omega arith;
+    calls = λ _. omega arith;
+    told = λ _ _. tt;
+  };
+  onward = omega arith;
+  legal = legal;
+  behind = tt;
+  unread = λ _. omega arith;
+  within = omega arith;
+  reads = λ _. omega arith;
+  called = λ _. omega arith;
+  covered = λ _ _ _. omega arith;
+}
+
+-- a bound on where the last match ended may be raised
+if-raised : (last : Option ℕ) (start n m : ℕ) → n ≤ m → IfSome last (λ e. e - start ≤ n)
+    → IfSome last (λ e. e - start ≤ m)
+if-raised None start n m le h = tt
+if-raised (Some e) start n m le h = omega arith
+
+if-behind : (last : Option ℕ) (n m : ℕ) → n ≤ m → IfSome last (λ e. e ≤ n) → IfSome last (λ e. e ≤ m)
+if-behind None n m le h = tt
+if-behind (Some e) n m le h = omega arith
+
+-- a walk that is under way finds a match, or none
+module _ (walking : Walking) (way : IsUnderWay walking) (place : ℕ) (counts : Counts) (rest : List Occurrence)
+    where
+  -- the walk from the end of the match on, or past the end of the span
+  abbrev pub next : Option Occurrence → Walking
+  next r = record walking {
+    rest = rest;
+    left = from walking.left (after walking.left.high r);
+    last = last_after walking.last r;
+    place = place;
+    counts = counts;
   }
 
-  -- a span that starts later
-  pub Left-later : (place : ℕ) (tape : Taped) (counts : Counts) → asked.start ≤ place
-      → Left most built asked from tape counts
-      → Left most built (record asked { start = place }) from tape counts
-  Left-later place tape counts later left =
-      let w = left.within in
-      let b = left.begun in
-      let r = left.reads in
-      let l = left.looks in
-      let c = left.calls in
-      record {
-        supported = left.supported;
-        bytes = left.bytes;
-        unread = λ standard. let u = left.unread standard in omega arith;
-        within = w;
-        begun = omega arith;
-        reads = r;
-        looked = left.looked;
-        looks = l;
-        calls = c;
-        called = λ standard. let d = left.called standard in omega arith;
-      }
+  kept : walking.order ≡ Standard → kept_place walking.order walking.place ≡ walking.place
+  kept standard = kept-standard walking.order walking.place standard
 
-  -- the next match is looked for one place further on, where the pick repeats the one before
-  pub Left-repeated : {tape : Taped} {counts : Counts} {r : Option Occurrence} (last : Option ℕ) {then : Asked}
-      → then ≡ record asked { start = asked.start + 1 }
-      → r ≡ found built asked → IfSome last (λ e. e ≤ asked.start) → repeats r last ≡ true
-      → Left most built (record asked { start = after asked r }) from tape counts
-      → Left most built then from tape counts
-  Left-repeated {tape} {counts} {r} last same e le again left =
-      subst (λ (i : Asked). Left most built i from tape counts) (sym same)
-      (Left-later (asked.start + 1) tape counts (omega arith)
-      (subst (λ (n : ℕ). Left most built (record asked { start = n }) from tape counts)
-      (after-repeated r last e le again) left))
-
-  -- after a find
-  pub Left-found : (tape tape_then : Taped) (counts counts_then : Counts) (r : Option Occurrence)
-      → asked.start ≤ asked.end + 1
-      → Left most built asked from tape counts → tape.place ≤ asked.start
-      → counts.calls ≤ min asked.start asked.end - from
-      → r ≡ found built asked
-      → Reads (most_looks asked.anchored most) asked.start asked.end tape tape_then counts counts_then
-      → StopsAtMatch built.kind asked.earliest asked.start r tape tape_then counts counts_then
-      → Left most built (record asked { start = after asked r }) from tape_then counts_then
-  Left-found tape tape_then counts counts_then None legal left unread called picked reads stops =
-      let w = left.within in let b = left.begun in let r = left.reads in let l = left.looks in
-      let on = reads.onward in
-      let to = reads.within in
-      let n = reads.reads in
-      let g = reads.grows.reads in
-      let c = reads.calls in
+  pub under_way-found : (r : Option Occurrence)
+      → HasFound walking walking.left r walking.place walking.counts place counts → IsUnderWay (next r)
+  under_way-found None found =
+      let paid = way.paid in
+      let read = found.read in
+      let grows = found.read.grows in
+      let below = kept-within walking.order walking.place in
       record {
-        supported = left.supported;
-        bytes = reads.bytes ∙ left.bytes;
-        unread = λ _. omega arith;
+        paid = record {
+          looked = omega arith;
+          looks = paid_total (most_looks walking.left.anchored walking.most) walking.counts.reads counts.reads
+              walking.counts.looks counts.looks grows.reads paid.looks read.looks;
+          reads = λ standard. let u = way.unread standard in let r = way.reads standard in
+              let k = kept standard in omega arith;
+          calls = λ standard. let c = way.called standard in omega arith;
+          told = λ none some. if-raised walking.last walking.start walking.counts.reads counts.reads
+              grows.reads (paid.told (omega arith) some);
+        };
+        onward = omega arith;
+        legal = omega arith;
+        behind = if-behind walking.last walking.left.low (walking.left.high + 1) way.legal way.behind;
+        unread = λ standard. omega arith;
         within = omega arith;
-        begun = omega arith;
-        reads = omega arith;
-        looked = (let d = left.looked in let n = reads.grows.looks in omega arith);
-        looks = paid_total
-            (most_looks asked.anchored most) counts.reads counts_then.reads counts.looks counts_then.looks g l
-            reads.looks;
-        calls = omega arith;
-        called = λ _. omega arith;
+        reads = λ standard. let u = way.unread standard in let r = way.reads standard in
+            let k = kept standard in omega arith;
+        called = λ standard. let c = way.called standard in omega arith;
+        covered = λ _ _ past. absurd (omega arith);
       }
-  Left-found tape tape_then counts counts_then (Some m) legal left unread called picked reads stops =
-      let span : IsInSpan (search_in built asked) m =
-      pick-in_span (order_of built.kind asked.earliest) (search_in built asked) m (sym picked) in
-      let from_low = span.from_low in let in_order = span.in_order in let to_high = span.to_high in
-      let w = left.within in let b = left.begun in let r = left.reads in let l = left.looks in
-      let on = reads.onward in
-      let to = reads.within in
-      let n = reads.reads in
-      let g = reads.grows.reads in
-      let c = reads.calls in
+  under_way-found (Some m) found =
+      let paid = way.paid in
+      let read = found.read in
+      let grows = found.read.grows in
+      let below = kept-within walking.order walking.place in
+      let span = pick-in_span walking.order walking.left m (sym found.answer) in
+      let low = span.from_low in let ordered = span.in_order in let high = span.to_high in
+      let covers : counts.calls ≡ 0 → 0 < shortest_len walking.left.patterns
+      → m.end - walking.start ≤ counts.reads =
+      λ none some. let c = way.covered (omega arith) some (omega arith) in
+      let t = found.tells.reads (omega arith) in omega arith in
       record {
-        supported = left.supported;
-        bytes = reads.bytes ∙ left.bytes;
-        unread = λ standard. let s = (stops standard).place in omega arith;
+        paid = record {
+          looked = omega arith;
+          looks = paid_total (most_looks walking.left.anchored walking.most) walking.counts.reads counts.reads
+              walking.counts.looks counts.looks grows.reads paid.looks read.looks;
+          reads = λ standard. let u = way.unread standard in let r = way.reads standard in
+              let k = kept standard in omega arith;
+          calls = λ standard. let c = way.called standard in let s = (found.stops standard).calls in omega arith;
+          told = covers;
+        };
+        onward = omega arith;
+        legal = omega arith;
+        behind = omega arith;
+        unread = λ standard. let u = way.unread standard in let s = (found.stops standard).place in omega arith;
         within = omega arith;
-        begun = omega arith;
-        reads = omega arith;
-        looked = (let d = left.looked in let n = reads.grows.looks in omega arith);
-        looks = paid_total
-            (most_looks asked.anchored most) counts.reads counts_then.reads counts.looks counts_then.looks g l
-            reads.looks;
-        calls = omega arith;
-        called = λ standard. let s = (stops standard).calls in omega arith;
+        reads = λ standard. let u = way.unread standard in let r = way.reads standard in
+            let k = kept standard in omega arith;
+        called = λ standard. let c = way.called standard in let s = (found.stops standard).calls in omega arith;
+        covered = λ none some _. covers none some;
       }
 
-  -- the same, told of the parts of an input that a core is handed
-  pub Left-found_in : {tape tape_then : Taped} {counts counts_then : Counts} {r : Option Occurrence}
-      {bytes : List ℕ} {start end : ℕ} {anchored : Anchored} {earliest : Bool}
-      → asked_of bytes start end anchored earliest ≡ asked
-      → asked.start ≤ asked.end + 1
-      → Left most built asked from tape counts → tape.place ≤ asked.start
-      → counts.calls ≤ min asked.start asked.end - from
-      → r ≡ found built (asked_of bytes start end anchored earliest)
-      → Reads (most_looks anchored most) start end tape tape_then counts counts_then
-      → StopsAtMatch built.kind earliest start r tape tape_then counts counts_then
-      → Left most built (record asked { start = after asked r }) from tape_then counts_then
-  Left-found_in {tape} {tape_then} {counts} {counts_then} {r} same legal left unread called picked reads stops =
-      Left-found tape tape_then counts counts_then r legal left unread called
-      (subst (λ (i : Asked). r ≡ found built i) same picked)
-      (subst (λ (i : Asked). Reads (most_looks i.anchored most) i.start i.end tape tape_then counts counts_then)
-      same reads)
-      (subst (λ (i : Asked). StopsAtMatch built.kind i.earliest i.start r tape tape_then counts counts_then)
-      same stops)
+-- a walk whose find repeats goes on one place further, with the same match before it
+module _ (walking : Walking) (way : IsUnderWay walking) where
+  under_way-further : (m : Occurrence) (place : ℕ) (counts : Counts) → HasRepeated walking.left walking.last m
+      → HasFound walking walking.left (Some m) walking.place walking.counts place counts
+      → IsUnderWay (record walking {
+        left = from walking.left (walking.left.low + 1);
+        place = place;
+        counts = counts;
+      })
+  under_way-further m place counts again found =
+      let there = under_way-found walking way place counts walking.rest (Some m) found in
+      let ends = again.ends in let room = again.room in let shortest = again.shortest in
+      let onward = there.onward in record {
+        paid = record {
+          looked = there.paid.looked;
+          looks = there.paid.looks;
+          reads = there.paid.reads;
+          calls = there.paid.calls;
+          told = λ _ some. absurd (omega arith);
+        };
+        onward = omega arith;
+        legal = omega arith;
+        behind = if-behind walking.last walking.left.low (walking.left.low + 1) (omega arith) way.behind;
+        unread = λ standard. let u = there.unread standard in omega arith;
+        within = there.within;
+        reads = there.reads;
+        called = λ standard. let c = there.called standard in omega arith;
+        covered = λ _ some _. absurd (omega arith);
+      }
+
+  -- by one find or by two a walk that is under way stays so
+  pub under_way-next : (r : Option Occurrence) (place : ℕ) (counts : Counts) (rest : List Occurrence)
+      → r ≡ next_match walking.order walking.left walking.last → Finds walking place counts
+      → IsUnderWay (next walking way place counts rest r)
+  under_way-next r place counts rest answer finds = by (repeats first walking.last) refl answer finds
+    where
+      first : Option Occurrence
+      first = pick walking.order walking.left
+
+      again : (m : Occurrence) → first ≡ Some m → HasRepeated walking.left walking.last m
+          → unless_repeated walking.order walking.left first true ≡ r
+          → (there : ℕ) × (seen : Counts) × HasFound walking walking.left first walking.place walking.counts there
+          seen
+          × HasFound walking (from walking.left (walking.left.low + 1))
+          (pick walking.order (from walking.left (walking.left.low + 1))) there seen place counts
+          → IsUnderWay (next walking way place counts rest r)
+      again m is repeated is_r (there, seen, one, two) =
+          let further =
+          under_way-further m there seen repeated
+          (subst (λ (x : Option Occurrence). HasFound walking walking.left x walking.place walking.counts there
+          seen) is one) in
+          under_way-found (record walking {
+            left = from walking.left (walking.left.low + 1);
+            place = there;
+            counts = seen;
+          }) further place counts rest r
+          (subst (λ (x : Option Occurrence). HasFound walking (from walking.left (walking.left.low + 1)) x there
+          seen place counts) is_r two)
+
+      by : (t : Bool) → repeats first walking.last ≡ t → r ≡ unless_repeated walking.order walking.left first t
+          → MatchBool t
+          ((there : ℕ) × (seen : Counts) × HasFound walking walking.left first walking.place walking.counts there
+          seen
+          × HasFound walking (from walking.left (walking.left.low + 1))
+          (pick walking.order (from walking.left (walking.left.low + 1))) there seen place counts)
+          (HasFound walking walking.left first walking.place walking.counts place counts)
+          → IsUnderWay (next walking way place counts rest r)
+      by false e is found =
+          under_way-found walking way place counts rest r
+          (subst (λ (x : Option Occurrence). HasFound walking walking.left x walking.place walking.counts place
+          counts) (sym is) found)
+      by true e is found =
+          let h = repeated-some walking.order walking.left first walking.last refl way.behind e in
+          again h.0 h.1 h.2 (sym is) found
+
+-- a walk has gone on: its first match has been given, or it had none; and it is under way still
+pub record HasGone (walking : Walking) (r : Option Occurrence) (new_walking : Walking) : Type 0 where
+  pub steps : MatchOption r ((walking.rest ≡ []) × (new_walking.rest ≡ []))
+      (λ m. walking.rest ≡ m ∷ new_walking.rest)
+  pub goes_on : GoesOn walking r new_walking
+  pub way : IsUnderWay new_walking
+
+module _ (most : ℕ) (f : Finding) (i : Asked) (last : Option ℕ) (start place : ℕ) (counts : Counts)
+    (r : Option Occurrence) (new_place : ℕ) (new_counts : Counts) where
+  abbrev q : Search
+  q = search_in f.built i
+
+  abbrev before : Walking
+  before = walking_of most f i last start place counts
+
+  abbrev then_from : Asked → Option ℕ → Walking
+  then_from j l = walking_of most f j l start new_place new_counts
+
+  steps : (r : Option Occurrence) → r ≡ next_match f.order q last
+      → MatchOption r ((before.rest ≡ []) × (walk_after f.order (from q (after q.high r)) (last_after last r) ≡ []))
+      (λ m. before.rest ≡ m ∷ walk_after f.order (from q (after q.high r)) (last_after last r))
+  steps None e = (
+    walk_after-None f.order q last (sym e),
+    walked-past_end f.order (from q (q.high + 1)) last (omega arith),
+  )
+  steps (Some m) e = walk_after-Some f.order q last m (sym e)
+
+  -- where the next match is found by the finds of a walk, and the span is moved on behind it, the walk has gone on
+  pub has-gone : (j : Asked) (l : Option ℕ) → r ≡ next_match f.order q last
+      → j ≡ record i { start = after i.end r } → l ≡ last_after last r → IsUnderWay before
+      → Finds before new_place new_counts → HasGone before r (then_from j l)
+  has-gone j l answer moved ends way finds =
+      subst (λ (x : Asked). HasGone before r (then_from x l)) (sym moved)
+      (subst (λ (x : Option ℕ). HasGone before r (then_from (record i { start = after i.end r }) x)) (sym ends)
+      (record {
+        steps = steps r answer;
+        goes_on = record { next = answer; same = refl; finds = finds };
+        way = under_way-next before way r new_place new_counts
+            (walk_after f.order (from q (after q.high r)) (last_after last r)) answer finds;
+      }))

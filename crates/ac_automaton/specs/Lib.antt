@@ -1,7 +1,9 @@
 pub mod Automata
 pub mod Builds
-pub mod Cores
+pub mod Finders
+pub mod Finds
 pub mod Growths
 pub mod Iterators
 pub mod Members
+pub mod Progress
 pub mod Tries

@@ -18,10 +18,12 @@ use ac_util::primitives::{PatternID, StateID};
 use ac_util::search::{Anchored, Input, Match, MatchKind};
 
 mod find;
-mod iter;
+mod step;
+mod walk;
 
+use find::Finder;
 pub use find::find_core;
-pub use iter::FindIter;
+pub use walk::FindIter;
 
 /// An automaton that finds patterns: states, and where each byte leads from a state.
 ///
@@ -142,18 +144,9 @@ pub trait Automaton {
         ensures { AnswersUnless (find_refusal (built self.now) (asked input.entry))
             (found (built self.now) (asked input.entry)) result }
     {
-        let anchored = input.get_anchored();
-        let _start = self.start_state(anchored)?;
+        let finder = Finder::new(self, input.get_anchored(), input.get_earliest())?;
         let (mut tape, mut looks) = open(&input);
-        Ok(find_core(
-            self,
-            anchored,
-            input.get_earliest(),
-            input.start(),
-            input.end(),
-            &mut tape,
-            &mut looks,
-        ))
+        Ok(finder.find(input.start(), input.end(), &mut tape, &mut looks))
     }
 
     /// Returns an iterator over the matches of an input that don't overlap, each picked from where the one
@@ -169,9 +162,9 @@ pub trait Automaton {
     where
         Self: Sized,
         ensures { AnswersUnless (find_refusal (built self.now) (asked input.entry))
-            (begun (built self.now) (asked input.entry)) result }
+            (begun LOOKS (built self.now) (asked input.entry)) result }
     {
-        let _start = self.start_state(input.get_anchored())?;
-        Ok(FindIter::new(self, input))
+        let finder = Finder::new(self, input.get_anchored(), input.get_earliest())?;
+        Ok(FindIter::new(finder, input))
     }
 }

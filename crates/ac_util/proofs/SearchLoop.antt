@@ -9,7 +9,7 @@ use Rattle.ac_util.specs.Occurrence.{Occurrence}
 use Rattle.ac_util.specs.Search.{Search}
 use Rattle.ac_util.specs.Pick.{order_of, pick}
 use Rattle.ac_util.specs.Node.{Node, is_leftmost, is_node, failure, depth, reached, step}
-use Rattle.ac_util.specs.Looks.{looks_within, looks, looks_by}
+use Rattle.ac_util.specs.Looks.{looks_within, looks, looks_by, credit}
 use Rattle.ac_util.specs.Text.{plain_patterns, text, one_longer, longer_by, found_at_end, ending}
 use Rattle.ac_util.proofs.Failures.{looks-paid}
 use Rattle.ac_util.proofs.OneLonger.{pick-longer_stays, pick-longer_becomes, first-longer_stays, first-longer_becomes, pick-dead, first-dead}
@@ -69,10 +69,6 @@ pick-stays_dead kind order q n ordered room dead (inr first) =
     ap (λ (k : MatchKind). pick k (longer_by q n)) first.0
     ∙ first-dead kind q ordered dead (ap (λ (k : MatchKind). pick k q) (sym first.0) ∙ first.1) n room
     ∙ sym first.1
-
--- what a node's length is worth where `most` looks are allowed for each byte
-abbrev pub credit : ℕ → Node → ℕ
-credit most u = if most == 1 then 0 else depth u
 
 -- the start has no credit
 pub credit-nil : (most : ℕ) → credit most (Some []) ≡ zero

@@ -27,3 +27,8 @@ looks kind patterns Yes u b = 1
 -- single one has no failure targets to follow
 abbrev pub looks_by : ℕ → MatchKind → List (List ℕ) → Anchored → Node → ℕ → ℕ
 looks_by most kind patterns anchored u b = if most == 1 then 1 else looks kind patterns anchored u b
+
+-- what a node's length is worth to a search that is allowed `most` looks for each byte: a look at each of its
+-- failure targets, which are shorter and shorter, unless it is allowed one look and follows none
+abbrev pub credit : ℕ → Node → ℕ
+credit most u = if most == 1 then 0 else depth u

@@ -11,12 +11,12 @@ use Rattle.ac_automaton.proofs.automaton.find.match_at.Goals.{else-is_anchored-v
 pub returns-then-not-is_match : goal.returns-then-not-is_match
 returns-then-not-is_match g c =
     let A = g.A.Automaton in
-    let listed = A.listed c.args.automaton.now c.args.sid in
+    let listed = A.listed c.args.automaton.now c.args.cursor.state in
     let none =
     nil-from_not listed (λ some. false≢true (sym c.if-not-is_match.true ∙ c.is_match.ensures.1 some)) in
     λ u stands fits.
-    sym (found-none (A.built c.args.automaton.now) listed c.args.start c.args.end c.args.anchored u
-    (g.met.A.Automaton.lists c.args.automaton.now c.args.anchored c.args.sid u stands) none)
+    sym (found-none (A.built c.args.automaton.now) listed c.args.start c.args.cursor.at c.args.anchored u
+    (g.met.A.Automaton.lists c.args.automaton.now c.args.anchored c.args.cursor.state u stands) none)
 
 pub pattern_len-len-requires : goal.pattern_len-len-requires
 pattern_len-len-requires g c =
@@ -25,9 +25,9 @@ pattern_len-len-requires g c =
     record {
       numbered =
           (head-fits (A.built c.args.automaton.now)
-          (A.listed c.args.automaton.now c.args.sid) c.args.start c.args.end c.args.anchored state.0
+          (A.listed c.args.automaton.now c.args.cursor.state) c.args.start c.args.cursor.at c.args.anchored state.0
           c.match_pattern-pattern.result
-          (g.met.A.Automaton.lists c.args.automaton.now c.args.anchored c.args.sid state.0 state.1) state.2
+          (g.met.A.Automaton.lists c.args.automaton.now c.args.anchored c.args.cursor.state state.0 state.1) state.2
           c.match_pattern-pattern.ensures).numbered;
     }
 
@@ -37,10 +37,10 @@ returns-then-len-end g c =
     let A = g.A.Automaton in
     λ u stands fits.
     sym (found-short (A.built c.args.automaton.now)
-    (A.listed c.args.automaton.now c.args.sid) c.args.start c.args.end c.args.anchored u
+    (A.listed c.args.automaton.now c.args.cursor.state) c.args.start c.args.cursor.at c.args.anchored u
     c.match_pattern-pattern.result
     (c.is_anchored.ensures.0 c.if-is_anchored.true)
-    (g.met.A.Automaton.lists c.args.automaton.now c.args.anchored c.args.sid u stands) fits
+    (g.met.A.Automaton.lists c.args.automaton.now c.args.anchored c.args.cursor.state u stands) fits
     c.match_pattern-pattern.ensures (λ e. c.if-len-end.true (c.pattern_len-len.ensures ∙ e)))
 
 pub overflow_sub-end-2 : goal.overflow_sub-end-2
@@ -49,9 +49,9 @@ overflow_sub-end-2 g c =
     let state = c.requires.state in
     let fits =
     head-fits (A.built c.args.automaton.now)
-    (A.listed c.args.automaton.now c.args.sid) c.args.start c.args.end c.args.anchored state.0
+    (A.listed c.args.automaton.now c.args.cursor.state) c.args.start c.args.cursor.at c.args.anchored state.0
     c.match_pattern-pattern.result
-    (g.met.A.Automaton.lists c.args.automaton.now c.args.anchored c.args.sid state.0 state.1) state.2
+    (g.met.A.Automaton.lists c.args.automaton.now c.args.anchored c.args.cursor.state state.0 state.1) state.2
     c.match_pattern-pattern.ensures in
     let short = fits.short in
     omega (arith, c.pattern_len-len.ensures)
@@ -63,15 +63,15 @@ returns g c =
     let built = A.built c.args.automaton.now in
     let p = c.match_pattern-pattern.result in
     let len : c.pattern_len-len.result ≡ length (pattern_of built.patterns p) = c.pattern_len-len.ensures in
-    let whole : c.args.anchored ≡ Yes → length (pattern_of built.patterns p) ≡ c.args.end - c.args.start =
+    let whole : c.args.anchored ≡ Yes → length (pattern_of built.patterns p) ≡ c.args.cursor.at - c.args.start =
     λ e. elim c.else-is_anchored.branch [
       | else-is_anchored-via-then-is_anchored+else-len-end w ↦ sym len ∙ w.if-len-end.false
       | else-is_anchored-via-else-is_anchored w ↦
           absurd (false≢true (sym w.if-is_anchored.false ∙ c.is_anchored.ensures.1 e))
     ] in
     λ u stands fits.
-    ap (λ (o : Occurrence). Some o) (c.new.ensures.value ∙ ap (λ (n : ℕ). place_of_len p n c.args.end) len)
+    ap (λ (o : Occurrence). Some o) (c.new.ensures.value ∙ ap (λ (n : ℕ). place_of_len p n c.args.cursor.at) len)
     ∙ sym (found-first built
-    (A.listed c.args.automaton.now c.args.sid) c.args.start c.args.end c.args.anchored u p
-    (g.met.A.Automaton.lists c.args.automaton.now c.args.anchored c.args.sid u stands) fits
+    (A.listed c.args.automaton.now c.args.cursor.state) c.args.start c.args.cursor.at c.args.anchored u p
+    (g.met.A.Automaton.lists c.args.automaton.now c.args.anchored c.args.cursor.state u stands) fits
     c.match_pattern-pattern.ensures whole)

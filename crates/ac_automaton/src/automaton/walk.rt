@@ -1,0 +1,191 @@
+//! The matches of a walk, one after another.
+ghost use Rattle.std.specs.Prelude.{◌≡◌, ◌+◌, ◌≤◌, ℕ, [], ◌∷◌, ⊤, IfSome, MatchOption};
+ghost use Rattle.std.specs.Iterator.{MakesProgress, YieldsFirst, item_count};
+ghost use Rattle.ac_util.specs.declared.search.MatchKind.TheVariants.{Standard};
+ghost use Rattle.ac_util.specs.Built.{Built, search_in};
+ghost use Rattle.ac_util.specs.Inputs.{asked};
+ghost use Rattle.ac_util.specs.Pick.{pick};
+ghost use Rattle.ac_util.specs.Walk.{next_match, repeats};
+ghost use Rattle.ac_automaton.specs.Finders.{finding_of};
+ghost use Rattle.ac_automaton.specs.Finds.{HasSearched};
+ghost use Rattle.ac_automaton.specs.Iterators.{Finds, GoesOn, IsPaid, after, begun, kept_place, walking_of};
+
+use super::Automaton;
+use super::find::Finder;
+use ac_util::looks::{Looks, Tape, open};
+use ac_util::search::{Input, Match};
+use std::marker::Model;
+use std::snapshot::Snapshot;
+
+/// An iterator over the matches of an input that don't overlap, made by `Automaton::try_find_iter`.
+///
+/// After its end it keeps giving `None`. Contracts see the matches still to come, and what was read and counted
+/// since it was made. For each match it makes one find, or two where the first finds an empty match again at the
+/// end of the one before. Under `MatchKind::Standard`, or with `earliest`, it reads each byte at most once on the
+/// whole; else each find reads anew from where the match before it ended, since a leftmost one may have read past
+/// the end of what it picked.
+#[derive(Drop)]
+pub struct FindIter<'a, 'h, A: Automaton> {
+    finder: Finder<'a, A>,
+    /// The input with the span that is left.
+    input: Input<'h>,
+    /// Where the match before this ended.
+    last: Option<usize>,
+    tape: Tape<'h>,
+    looks: Looks,
+    /// Where the span began.
+    from: Snapshot<usize>,
+}
+
+impl<'a, 'h, A: Automaton> Model for FindIter<'a, 'h, A> {
+    ghost use Rattle.std.specs.Prelude.{◌≡◌};
+    ghost use Rattle.ac_util.specs.Inputs.{asked};
+    ghost use Rattle.ac_automaton.specs.Iterators.{IsUnderWay, Walking, walking_of};
+
+    ghost Value = { Walking };
+
+    ghost view = { λ s. walking_of A.LOOKS s.finder (asked s.input) s.last s.from.value s.tape.place s.looks };
+
+    ghost invariant = { λ s. record {
+      anchored : s.finder.anchored ≡ s.input.anchored;
+      bytes : s.tape.bytes ≡ s.input.haystack.now;
+      under_way : IsUnderWay (walking_of A.LOOKS s.finder (asked s.input) s.last s.from.value s.tape.place
+          s.looks);
+    } };
+}
+
+impl<'a, 'h, A: Automaton> FindIter<'a, 'h, A> {
+    /// Returns an iterator over the matches of an input, by the find that it asks for.
+    #[inline]
+    pub(super) fn new(finder: Finder<'a, A>, input: Input<'h>) -> FindIter<'a, 'h, A>
+        requires asks { (built : Built) × (finder ≡ finding_of built (asked input)) }
+        ensures { (built : Built) → finder.entry ≡ finding_of built (asked input.entry)
+            → result ≡ begun A.LOOKS built (asked input.entry) }
+    {
+        let (tape, looks) = open(&input);
+        FindIter {
+            finder,
+            input,
+            last: None,
+            tape,
+            looks,
+            from: Snapshot::of(&input.start()),
+        }
+    }
+
+    /// Returns the next match, and moves on.
+    #[inline]
+    fn advance(&mut self) -> Option<Match>
+        ensures steps { MatchOption result
+            ((self.old.rest ≡ []) × (self.new.rest ≡ []))
+            (λ found. self.old.rest ≡ found ∷ self.new.rest) }
+        ensures goes_on { GoesOn self.old result self.new }
+        ensures paid { IsPaid self.new }
+    {
+        let found = next_left(
+            &self.finder,
+            &self.input,
+            self.last,
+            &mut self.tape,
+            &mut self.looks,
+        );
+        go_on(&mut self.input, &found);
+        if let Some(found) = &found {
+            self.last = Some(found.end());
+        }
+        found
+    }
+}
+
+/// Returns the next match of a walk in an input, after one that ended at `last`.
+#[inline]
+fn next_left<'h, A: Automaton>(
+    finder: &Finder<'_, A>,
+    input: &Input<'h>,
+    last: Option<usize>,
+    tape: &mut Tape<'h>,
+    looks: &mut Looks,
+) -> Option<Match>
+    requires anchored { finder.now.anchored ≡ (asked input.now).anchored }
+    requires bytes { tape.old.bytes ≡ (asked input.now).haystack }
+    requires unread { finder.now.order ≡ Standard → tape.old.place ≤ (asked input.now).start }
+    requires behind { IfSome last (λ e. e ≤ (asked input.now).start) }
+    ensures next { result ≡ next_match finder.now.order (search_in finder.now.built (asked input.now)) last }
+    ensures bytes { tape.new.bytes ≡ (asked input.now).haystack }
+    ensures finds { (start : ℕ) → Finds (walking_of A.LOOKS finder.now (asked input.now) last start
+        tape.old.place looks.old) tape.new.place looks.new }
+{
+    let first = find_left(finder, input, tape, looks);
+    if !repeats(&first, last) {
+        return first;
+    }
+    let further = input.range(input.start() + 1..input.end());
+    find_left(finder, &further, tape, looks)
+}
+
+/// Moves the span on to the end of a match that was found in it, or past its own end where there is none.
+#[inline]
+fn go_on(input: &mut Input<'_>, found: &Option<Match>)
+    requires within { after (asked input.old).end found.now ≤ (asked input.old).end + 1 }
+    ensures { asked input.new ≡ record (asked input.old) { start = after (asked input.old).end found.now } }
+{
+    let start = match found {
+        Some(found) => found.end(),
+        None => input.end() + 1,
+    };
+    input.set_start(start);
+}
+
+/// Returns whether a match is empty and ends where the one before it did.
+#[inline]
+fn repeats(found: &Option<Match>, last: Option<usize>) -> bool
+    ensures { result ≡ repeats found.now last }
+{
+    match found {
+        Some(found) => found.is_empty() && last == Some(found.end()),
+        None => false,
+    }
+}
+
+/// Returns the pick of an input, with a new tape where the find before may have read past its match.
+#[inline]
+fn find_left<'h, A: Automaton>(
+    finder: &Finder<'_, A>,
+    input: &Input<'h>,
+    tape: &mut Tape<'h>,
+    looks: &mut Looks,
+) -> Option<Match>
+    requires anchored { finder.now.anchored ≡ (asked input.now).anchored }
+    requires bytes { tape.old.bytes ≡ (asked input.now).haystack }
+    requires unread { finder.now.order ≡ Standard → tape.old.place ≤ (asked input.now).start }
+    ensures pick { result ≡ pick finder.now.order (search_in finder.now.built (asked input.now)) }
+    ensures bytes { tape.new.bytes ≡ (asked input.now).haystack }
+    ensures found { HasSearched A.LOOKS finder.now.built.kind finder.now.order
+        (search_in finder.now.built (asked input.now)) result
+        (record { bytes = (asked input.now).haystack; place = kept_place finder.now.order tape.old.place })
+        (record { bytes = (asked input.now).haystack; place = tape.new.place }) looks.old looks.new }
+{
+    if !finder.stops_at_match() {
+        let (anew, _looks) = open(input);
+        *tape = anew;
+    }
+    finder.find(input.start(), input.end(), tape, looks)
+}
+
+impl<'a, 'h, A: Automaton> Iterator for FindIter<'a, 'h, A> {
+    type Item = Match;
+
+    ghost next_gives = { YieldsFirst (λ s. s.rest) };
+
+    ghost remaining = { item_count (λ s. s.rest) };
+
+    #[inline]
+    fn next(&mut self) -> Option<Match>
+        ensures steps { YieldsFirst (λ s. s.rest) self.old result self.new }
+        ensures goes { MakesProgress (λ _. ⊤) (item_count (λ s. s.rest)) self.old result self.new }
+        ensures goes_on { GoesOn self.old result self.new }
+        ensures paid { IsPaid self.new }
+    {
+        self.advance()
+    }
+}
