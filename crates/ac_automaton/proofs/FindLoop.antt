@@ -1,6 +1,6 @@
 -- A find that reads byte by byte: where the automaton stands, and what is picked so far.
-use Rattle.std.proofs.Common.{◌≡◌, ◌≢◌, ℕ, ◌+◌, ◌-◌, ◌<◌, ◌≤◌, Bool, true, false, cond, List, [], ◌∷◌, length, ◌⊎◌, inl, inr, refl, ap, sym, ◌∙◌, subst, arith, Option, Some, None}
-use Rattle.std.specs.Prelude.{option_map, slice_get, slice_index, IfSome, ◌==◌, if◌then◌else◌}
+use Rattle.std.proofs.Common.{◌≡◌, ℕ, ◌+◌, ◌-◌, ◌<◌, ◌≤◌, Bool, true, false, cond, List, [], ◌∷◌, length, inl, inr, refl, ap, sym, ◌∙◌, subst, arith, Option, Some, None}
+use Rattle.std.specs.Prelude.{option_map, slice_get, IfSome}
 use Rattle.std.specs.Option.{is_some}
 use Rattle.std.proofs.lemmas.Bool.{false≢true}
 use Rattle.ac_util.specs.declared.search.MatchKind.{MatchKind}
@@ -12,20 +12,15 @@ use Rattle.ac_util.specs.Search.{Search}
 use Rattle.ac_util.specs.Pick.{order_of, pick}
 use Rattle.ac_util.specs.Counts.{Counts, Taped}
 use Rattle.ac_util.specs.Node.{Node, is_leftmost}
-use Rattle.ac_util.specs.Text.{text}
 use Rattle.ac_util.specs.Built.{Built}
 use Rattle.ac_util.proofs.Beginning.{within, ends_by, pick-within}
-use Rattle.ac_util.proofs.Failures.{depth-reached}
-use Rattle.ac_util.proofs.Reached.{reached-nil}
-use Rattle.ac_util.proofs.Spans.{text_length}
 use Rattle.ac_util.proofs.Walks.{pick-in_span}
-use Rattle.ac_util.proofs.OneLonger.{text-empty, step-longer, pick-empty_none, pick-empty_some, none-past_end}
+use Rattle.ac_util.proofs.OneLonger.{pick-empty_none, pick-empty_some, none-past_end}
 use Rattle.ac_util.proofs.SearchLoop.{GoesOn, pick-goes_on, pick-found, pick-stays_dead}
-use Rattle.ac_util.specs.Sameness.{plain_byte}
-use Rattle.ac_automaton.specs.Automata.{plain_of, step_of, looks_of, matches_of}
+use Rattle.ac_automaton.specs.Automata.{matches_of}
 use Rattle.ac_automaton.specs.Finds.{place_of, HasSearched, IsDecided, ReadsTo, Tells, found_at}
 use Rattle.ac_automaton.specs.Progress.{Beginning, HasCome, node_at as node_of, span_of}
-use Rattle.ac_automaton.proofs.ReadOn.{dead-come, node-start, read-come}
+use Rattle.ac_automaton.proofs.ReadOn.{dead-come, read-come}
 
 -- the dead node finds nothing, and what is found ends where the text read ends
 pub found-dead : (built : Built) (a : Anchored) (u : Node) (end : ℕ) → u ≡ None → found_at built a u end ≡ None

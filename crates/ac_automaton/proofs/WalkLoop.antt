@@ -1,5 +1,5 @@
 -- A walk that finds match after match: what it has read and counted.
-use Rattle.std.proofs.Common.{◌≡◌, ℕ, zero, suc, ◌+◌, ◌-◌, ◌*◌, ◌<◌, ◌≤◌, Bool, true, false, List, [], ◌∷◌, length, min, refl, ap, sym, ◌∙◌, subst, arith, Option, Some, None}
+use Rattle.std.proofs.Common.{◌≡◌, ℕ, zero, suc, ◌+◌, ◌-◌, ◌*◌, ◌<◌, ◌≤◌, Bool, true, false, List, [], ◌∷◌, length, refl, ap, sym, subst, arith, Option, Some, None}
 use Rattle.std.specs.Prelude.{IfSome, MatchBool, MatchOption, ◌==◌}
 use Rattle.std.proofs.lemmas.Bool.{and_parts, eqb-true}
 use Rattle.ac_util.specs.declared.search.MatchKind.{MatchKind}
@@ -9,7 +9,7 @@ use Rattle.ac_util.specs.Counts.{Counts}
 use Rattle.ac_util.specs.Input.{Asked}
 use Rattle.ac_util.specs.Occurrence.{Occurrence}
 use Rattle.ac_util.specs.Pick.{pick}
-use Rattle.ac_util.specs.Search.{Search, Occurs, from, pattern_of}
+use Rattle.ac_util.specs.Search.{Search, from, pattern_of}
 use Rattle.ac_util.specs.Stream.{shortest_len}
 use Rattle.ac_util.specs.Walk.{next_match, repeats, unless_repeated, walk_after}
 use Rattle.ac_util.proofs.OneLonger.{none-past_end}
@@ -144,79 +144,79 @@ if-behind (Some e) n m le h = omega arith
 
 -- a walk that is under way finds a match, or none
 module _ (walking : Walking) (way : IsUnderWay walking) (place : ℕ) (counts : Counts) (rest : List Occurrence)
-    where
-  -- the walk from the end of the match on, or past the end of the span
-  abbrev pub next : Option Occurrence → Walking
-  next r = record walking {
-    rest = rest;
-    left = from walking.left (after walking.left.high r);
-    last = last_after walking.last r;
-    place = place;
-    counts = counts;
-  }
+  where
+    -- the walk from the end of the match on, or past the end of the span
+    abbrev pub next : Option Occurrence → Walking
+    next r = record walking {
+      rest = rest;
+      left = from walking.left (after walking.left.high r);
+      last = last_after walking.last r;
+      place = place;
+      counts = counts;
+    }
 
-  kept : walking.order ≡ Standard → kept_place walking.order walking.place ≡ walking.place
-  kept standard = kept-standard walking.order walking.place standard
+    kept : walking.order ≡ Standard → kept_place walking.order walking.place ≡ walking.place
+    kept standard = kept-standard walking.order walking.place standard
 
-  pub under_way-found : (r : Option Occurrence)
-      → HasFound walking walking.left r walking.place walking.counts place counts → IsUnderWay (next r)
-  under_way-found None found =
-      let paid = way.paid in
-      let read = found.read in
-      let grows = found.read.grows in
-      let below = kept-within walking.order walking.place in
-      record {
-        paid = record {
-          looked = omega arith;
-          looks = paid_total (most_looks walking.left.anchored walking.most) walking.counts.reads counts.reads
-              walking.counts.looks counts.looks grows.reads paid.looks read.looks;
+    pub under_way-found : (r : Option Occurrence)
+        → HasFound walking walking.left r walking.place walking.counts place counts → IsUnderWay (next r)
+    under_way-found None found =
+        let paid = way.paid in
+        let read = found.read in
+        let grows = found.read.grows in
+        let below = kept-within walking.order walking.place in
+        record {
+          paid = record {
+            looked = omega arith;
+            looks = paid_total (most_looks walking.left.anchored walking.most) walking.counts.reads counts.reads
+                walking.counts.looks counts.looks grows.reads paid.looks read.looks;
+            reads = λ standard. let u = way.unread standard in let r = way.reads standard in
+                let k = kept standard in omega arith;
+            calls = λ standard. let c = way.called standard in omega arith;
+            told = λ none some. if-raised walking.last walking.start walking.counts.reads counts.reads
+                grows.reads (paid.told (omega arith) some);
+          };
+          onward = omega arith;
+          legal = omega arith;
+          behind = if-behind walking.last walking.left.low (walking.left.high + 1) way.legal way.behind;
+          unread = λ standard. omega arith;
+          within = omega arith;
           reads = λ standard. let u = way.unread standard in let r = way.reads standard in
               let k = kept standard in omega arith;
-          calls = λ standard. let c = way.called standard in omega arith;
-          told = λ none some. if-raised walking.last walking.start walking.counts.reads counts.reads
-              grows.reads (paid.told (omega arith) some);
-        };
-        onward = omega arith;
-        legal = omega arith;
-        behind = if-behind walking.last walking.left.low (walking.left.high + 1) way.legal way.behind;
-        unread = λ standard. omega arith;
-        within = omega arith;
-        reads = λ standard. let u = way.unread standard in let r = way.reads standard in
-            let k = kept standard in omega arith;
-        called = λ standard. let c = way.called standard in omega arith;
-        covered = λ _ _ past. absurd (omega arith);
-      }
-  under_way-found (Some m) found =
-      let paid = way.paid in
-      let read = found.read in
-      let grows = found.read.grows in
-      let below = kept-within walking.order walking.place in
-      let span = pick-in_span walking.order walking.left m (sym found.answer) in
-      let low = span.from_low in let ordered = span.in_order in let high = span.to_high in
-      let covers : counts.calls ≡ 0 → 0 < shortest_len walking.left.patterns
-      → m.end - walking.start ≤ counts.reads =
-      λ none some. let c = way.covered (omega arith) some (omega arith) in
-      let t = found.tells.reads (omega arith) in omega arith in
-      record {
-        paid = record {
-          looked = omega arith;
-          looks = paid_total (most_looks walking.left.anchored walking.most) walking.counts.reads counts.reads
-              walking.counts.looks counts.looks grows.reads paid.looks read.looks;
+          called = λ standard. let c = way.called standard in omega arith;
+          covered = λ _ _ past. absurd (omega arith);
+        }
+    under_way-found (Some m) found =
+        let paid = way.paid in
+        let read = found.read in
+        let grows = found.read.grows in
+        let below = kept-within walking.order walking.place in
+        let span = pick-in_span walking.order walking.left m (sym found.answer) in
+        let low = span.from_low in let ordered = span.in_order in let high = span.to_high in
+        let covers : counts.calls ≡ 0 → 0 < shortest_len walking.left.patterns
+        → m.end - walking.start ≤ counts.reads =
+        λ none some. let c = way.covered (omega arith) some (omega arith) in
+        let t = found.tells.reads (omega arith) in omega arith in
+        record {
+          paid = record {
+            looked = omega arith;
+            looks = paid_total (most_looks walking.left.anchored walking.most) walking.counts.reads counts.reads
+                walking.counts.looks counts.looks grows.reads paid.looks read.looks;
+            reads = λ standard. let u = way.unread standard in let r = way.reads standard in
+                let k = kept standard in omega arith;
+            calls = λ standard. let c = way.called standard in let s = (found.stops standard).calls in omega arith;
+            told = covers;
+          };
+          onward = omega arith;
+          legal = omega arith;
+          behind = omega arith;
+          unread = λ standard. let u = way.unread standard in let s = (found.stops standard).place in omega arith;
+          within = omega arith;
           reads = λ standard. let u = way.unread standard in let r = way.reads standard in
               let k = kept standard in omega arith;
-          calls = λ standard. let c = way.called standard in let s = (found.stops standard).calls in omega arith;
-          told = covers;
-        };
-        onward = omega arith;
-        legal = omega arith;
-        behind = omega arith;
-        unread = λ standard. let u = way.unread standard in let s = (found.stops standard).place in omega arith;
-        within = omega arith;
-        reads = λ standard. let u = way.unread standard in let r = way.reads standard in
-            let k = kept standard in omega arith;
-        called = λ standard. let c = way.called standard in let s = (found.stops standard).calls in omega arith;
-        covered = λ none some _. covers none some;
-      }
+          called = λ standard. let c = way.called standard in let s = (found.stops standard).calls in omega arith;
+          covered = λ none some _. covers none some;
+        }
 
 -- a walk whose find repeats goes on one place further, with the same match before it
 module _ (walking : Walking) (way : IsUnderWay walking) where

@@ -1,10 +1,11 @@
 //! What an engine offers, and the searches over any engine.
-ghost use Rattle.std.specs.Prelude.{◌≡◌, ◌≢◌, ◌↔◌, ◌⊎◌, ℕ, ◌<◌, List, [], length, slice_get, Some, None, IsTrue, IsNone, MatchResult};
+ghost use Rattle.std.specs.Prelude.{◌≡◌, ◌≢◌, ◌↔◌, ◌⊎◌, ℕ, ◌<◌, Bool, List, [], length, option_map, slice_get, Some, None, IsTrue, MatchResult};
 ghost use Rattle.ac_util.specs.declared.search.Anchored.{Anchored};
 ghost use Rattle.ac_util.specs.Built.{Built, find_refusal, found};
 ghost use Rattle.ac_util.specs.Inputs.{asked};
 ghost use Rattle.ac_util.specs.Counts.{more_looks};
 ghost use Rattle.ac_util.specs.Node.{Node};
+ghost use Rattle.ac_util.specs.Prefilters.{skip_for, skip_of};
 ghost use Rattle.ac_util.specs.Refusal.{AnswersUnless, start_refusal};
 ghost use Rattle.ac_util.specs.Search.{pattern_of};
 ghost use Rattle.ac_util.specs.Stream.{longest_len, shortest_len};
@@ -43,6 +44,8 @@ pub trait Automaton {
     ghost stands: { Self → Anchored → ℕ → Node → Type 0 };
 
     ghost listed: { Self → ℕ → List ℕ };
+
+    ghost filters: { Self → Bool };
 
     /// Returns the state at which a search begins.
     ///
@@ -122,9 +125,11 @@ pub trait Automaton {
     /// Returns about how many bytes of memory the automaton takes. Nothing is promised of the number.
     fn memory_usage(&self) -> usize;
 
-    /// Returns the prefilter of the automaton. There is none yet.
+    /// Returns the prefilter of the automaton, where it was built with one and there is one for its patterns. An
+    /// unanchored search may skip by it, and answers what it would without.
     fn prefilter(&self) -> Option<&Prefilter>
-        ensures { IsNone result };
+        ensures { option_map (λ p. skip_of p.now) result
+            ≡ skip_for (filters self.now) (built self.now).fold (built self.now).patterns };
 
     ghost one_or_two: { (LOOKS ≡ 1) ⊎ (LOOKS ≡ 2) };
 
@@ -164,7 +169,7 @@ pub trait Automaton {
         ensures { AnswersUnless (find_refusal (built self.now) (asked input.entry))
             (begun LOOKS (built self.now) (asked input.entry)) result }
     {
-        let finder = Finder::new(self, input.get_anchored(), input.get_earliest())?;
-        Ok(FindIter::new(finder, input))
+        let find = Finder::new(self, input.get_anchored(), input.get_earliest())?;
+        Ok(FindIter::new(find, input))
     }
 }

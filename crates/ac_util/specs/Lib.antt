@@ -22,4 +22,5 @@ pub mod Pieces
 pub mod Classes
 pub mod Sizes
 pub mod Plain
+pub mod Prefilters
 pub mod Built

@@ -1,5 +1,5 @@
 //! A trie with failure links: small, and quickly built.
-ghost use Rattle.std.specs.Prelude.{◌≡◌, List, MatchResult};
+ghost use Rattle.std.specs.Prelude.{◌≡◌, false, List, MatchResult};
 ghost use Rattle.std.proofs.Common.{inr, refl};
 ghost use Rattle.ac_util.specs.Borrowed.{bytes_of};
 ghost use Rattle.ac_util.specs.Node.{Node};
@@ -133,6 +133,8 @@ impl<A: Allocator> Automaton for NFA<A> {
     ghost stands = { λ n anchored s u. StandsFor n s u };
 
     ghost listed = { λ n s. listed_within n.order n.states s s };
+
+    ghost filters = { λ n. false };
 
     ghost one_or_two = { inr refl };
 

@@ -1,9 +1,7 @@
-use Rattle.std.proofs.Common.{◌≡◌, ◌≢◌, [], ℕ, ◌+◌, ◌<◌, ◌≤◌, length, Bool, true, false, refl, ap, subst, sym, ◌∙◌, inl, inr, arith, Option, Some, None}
+use Rattle.std.proofs.Common.{◌≡◌, ℕ, ◌+◌, ◌<◌, ◌≤◌, length, Bool, false, refl, ap, subst, sym, ◌∙◌, inl, inr, arith, Option, Some, None}
 use Rattle.std.specs.Option.{is_some}
 use Rattle.std.proofs.lemmas.Bool.{false≢true}
 use Rattle.ac_util.specs.declared.search.Anchored.{Anchored}
-use Rattle.ac_util.specs.declared.search.MatchKind.{MatchKind}
-use Rattle.ac_util.specs.declared.search.MatchKind.TheVariants.{Standard}
 use Rattle.ac_util.specs.Built.{Built}
 use Rattle.ac_util.specs.Counts.{Counts, Taped}
 use Rattle.ac_util.specs.Node.{Node}
