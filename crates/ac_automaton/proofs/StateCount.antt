@@ -1,7 +1,8 @@
 -- A trie has as many states as there are nodes: each node has one state, and a build is refused only where
 -- there are too many.
-use Rattle.std.proofs.Common.{◌≡◌, ◌≢◌, ℕ, zero, suc, ◌+◌, ◌<◌, Bool, true, List, [], ◌∷◌, ◌++◌, map, length, inl, inr, refl, ap, sym, ◌∙◌, subst, arith, Some, None}
-use Rattle.std.specs.Prelude.{slice_get, option_map}
+use Rattle.std.proofs.Common.{◌≡◌, ◌≢◌, ℕ, zero, suc, ◌+◌, ◌<◌, ◌≤◌, Bool, true, List, [], ◌∷◌, ◌++◌, map, length, inl, inr, refl, ap, sym, ◌∙◌, subst, arith, Some, None}
+use Rattle.std.specs.Prelude.{slice_get, option_map, nat_lt}
+use Rattle.std.proofs.lemmas.Bool.{cond-false, cond-true, le-ltb, lt-ltb}
 use Rattle.std.proofs.lemmas.List.{length-map, length_push}
 use Rattle.std.proofs.lemmas.Option.{slice_get-map, slice_get_within}
 use Rattle.ac_util.specs.declared.search.MatchKind.{MatchKind}
@@ -17,7 +18,8 @@ use Rattle.ac_automaton.specs.declared.nfa.noncontiguous.growth.Pending.{Pending
 use Rattle.ac_automaton.specs.declared.nfa.noncontiguous.state.State.{State}
 use Rattle.ac_automaton.specs.declared.nfa.noncontiguous.state.Transition.{Transition}
 use Rattle.ac_util.specs.declared.error.BuildError.{BuildError}
-use Rattle.ac_automaton.specs.Builds.{IsRefused}
+use Rattle.ac_util.specs.declared.error.BuildError.TheVariants.{StateIdOverflow}
+use Rattle.ac_automaton.specs.Builds.{IsRefused, too_many_states}
 use Rattle.ac_automaton.specs.Growths.{IsGrown, IsNotPushed, IsRangeOf, grown_meaning, nodes_of, word}
 use Rattle.ac_automaton.specs.Members.{Keyed, IsOrder, byte_at, key_at}
 use Rattle.ac_automaton.specs.Tries.{AreStates, Represents, bytes_of, transitions_of, miss, state_at}
@@ -27,6 +29,21 @@ use Rattle.ac_automaton.proofs.Counting.{IsOrdered-from_AllPairs, length-le-from
 use Rattle.ac_automaton.proofs.Grown.{nodes-cases}
 use Rattle.ac_automaton.proofs.Places.{place-of, IsIn-place, IsOrdered-places}
 use Rattle.ac_automaton.proofs.Ranges.{member-node, starts_with-last}
+
+-- the states are too many where they are more than their numbers
+too_many_states-some : (kind : MatchKind) (patterns : List (List ℕ)) → GREATEST + 1 < state_count kind patterns
+    → too_many_states kind patterns ≡ Some (StateIdOverflow GREATEST (GREATEST + 1))
+too_many_states-some kind patterns many =
+    cond-true (nat_lt (GREATEST + 1) (state_count kind patterns)) (Some (StateIdOverflow GREATEST (GREATEST + 1)))
+    None (lt-ltb (GREATEST + 1) (state_count kind patterns) many)
+
+-- and else they are not
+pub too_many_states-none : (kind : MatchKind) (patterns : List (List ℕ))
+    → state_count kind patterns ≤ GREATEST + 1 → too_many_states kind patterns ≡ None
+too_many_states-none kind patterns few =
+    cond-false (nat_lt (GREATEST + 1) (state_count kind patterns))
+    (Some (StateIdOverflow GREATEST (GREATEST + 1))) None
+    (le-ltb (GREATEST + 1) (state_count kind patterns) few)
 
 -- a string that isn't empty is a shorter one with one more byte
 last-byte : (x : ℕ) (u : List ℕ) → (w : List ℕ) × (b : ℕ) × (x ∷ u ≡ w ++ b ∷ [])
@@ -192,12 +209,12 @@ module _ (site : Site) {place end b : ℕ} {transitions : List Transition} {queu
     (h : IsBranching site place transitions queue) (run : IsRun site place end b)
     (fail : ℕ) (fails : slice_get (nodes_of site.members queue) fail
     ≡ Some (miss site.kind site.patterns (Some (string site ++ b ∷ [])))) where
-  pub refused : (e : BuildError) → IsNotPushed queue e → IsRefused site.kind site.patterns e
+  pub refused : (e : BuildError) → IsNotPushed queue e → IsRefused (too_many_states site.kind site.patterns) e
   refused e (inl memory) = inl memory
-  refused e (inr full) = inr (
-    full.0,
-    too-many site.kind site.patterns site.members site.ready.order
-        (length site.states + 1) transitions queue h.grown (string site) b place end
-        (child-members site h run) run.some
-        (fresh site h run fail fails) full.1,
-  )
+  refused e (inr full) =
+      inr (too_many_states-some site.kind site.patterns
+      (too-many site.kind site.patterns site.members site.ready.order
+      (length site.states + 1) transitions queue h.grown (string site) b place end
+      (child-members site h run) run.some
+      (fresh site h run fail fails) full.1)
+      ∙ ap (λ (r : BuildError). Some r) (sym full.0))

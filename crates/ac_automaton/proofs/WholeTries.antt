@@ -5,21 +5,20 @@ use Rattle.std.proofs.lemmas.Bool.{cases_lt}
 use Rattle.std.proofs.lemmas.Bool.Decides.{nat_tests}
 use Rattle.std.proofs.lemmas.List.{get_or_past, length-map, length_push}
 use Rattle.std.proofs.lemmas.Option.{slice_get_within}
-use Rattle.ac_util.specs.declared.primitives.TheConstants.{GREATEST}
 use Rattle.ac_util.specs.declared.search.MatchKind.{MatchKind}
 use Rattle.ac_util.specs.Node.{Node}
 use Rattle.ac_util.specs.Sameness.{plain, plain_byte}
 use Rattle.ac_util.specs.Search.{pattern_of}
-use Rattle.ac_util.specs.Sizes.{state_count}
 use Rattle.ac_automaton.specs.declared.nfa.noncontiguous.growth.Pending.{Pending}
 use Rattle.ac_automaton.specs.declared.nfa.noncontiguous.state.State.{State}
 use Rattle.ac_automaton.specs.declared.nfa.noncontiguous.state.Transition.{Transition}
+use Rattle.ac_automaton.specs.Builds.{too_many_states}
 use Rattle.ac_automaton.specs.Growths.{HasBranched, IsGrown, IsReady, Waits, grown_meaning, nodes_of, word}
 use Rattle.ac_automaton.specs.Members.{Keyed, IsOrder, byte_at, key_at, numbers}
 use Rattle.ac_automaton.specs.Tries.{AreStates, IsTable, Meaning, Represents, dead_state, state_at, trie_of}
 use Rattle.ac_automaton.proofs.Grown.{AreStates-push, nodes-inner}
 use Rattle.ac_automaton.proofs.ListsOf.{listed_within-matches}
-use Rattle.ac_automaton.proofs.StateCount.{state-count}
+use Rattle.ac_automaton.proofs.StateCount.{state-count, too_many_states-none}
 
 -- a state that stands for a start is one at the number beside it too
 pub Represents-beside : (g : Meaning) (v : Node) (t : State) → Represents g 2 v t → Represents g 3 v t
@@ -277,11 +276,11 @@ module _ (texts : List (List ℕ)) {fold : Bool} {kind : MatchKind} {members : L
       }
 
   -- and there are as many as nodes
-  pub whole-count : state_count kind (map (plain fold) texts) ≤ GREATEST + 1
+  pub whole-count : too_many_states kind (map (plain fold) texts) ≡ None
   whole-count =
       let c =
       state-count kind (map (plain fold) texts) members h.order (length states) transitions queue h.grown
       fold h.settled states h.meant counted in
       let few = h.grown.few in
       let d = counted in
-      omega arith
+      too_many_states-none kind (map (plain fold) texts) (omega arith)

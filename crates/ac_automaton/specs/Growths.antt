@@ -10,10 +10,10 @@ use Rattle.ac_util.specs.declared.primitives.TheConstants.{GREATEST}
 use Rattle.ac_util.specs.declared.search.MatchKind.{MatchKind}
 use Rattle.ac_util.specs.Node.{Node}
 use Rattle.ac_util.specs.Sameness.{plain, plain_byte}
-use Rattle.ac_util.specs.Sizes.{state_count}
 use Rattle.ac_automaton.specs.declared.nfa.noncontiguous.growth.Pending.{Pending}
 use Rattle.ac_automaton.specs.declared.nfa.noncontiguous.state.State.{State}
 use Rattle.ac_automaton.specs.declared.nfa.noncontiguous.state.Transition.{Transition}
+use Rattle.ac_automaton.specs.Builds.{too_many_states}
 use Rattle.ac_automaton.specs.Members.{Keyed, IsOrder, byte_at, key_at, numbers}
 use Rattle.ac_automaton.specs.Tries.{Meaning, AreStates, IsTable, Represents, miss, trie_of}
 
@@ -149,4 +149,4 @@ pub record IsWhole (texts : List (List ℕ)) (fold : Bool) (kind : MatchKind) (o
     (transitions : List Transition) (states : List State) : Type 0 where
   pub nodes : List Node
   pub table : IsTable (trie_of texts fold kind order transitions states) nodes
-  pub few : state_count kind (map (plain fold) texts) ≤ GREATEST + 1
+  pub few : too_many_states kind (map (plain fold) texts) ≡ None

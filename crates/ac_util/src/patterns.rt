@@ -58,6 +58,11 @@ impl<A: Allocator> Patterns<A> {
 }
 
 impl<A: Allocator> Patterns<A> {
+    /// Returns the allocator of the list.
+    pub fn allocator(&self) -> &A {
+        self.bytes.allocator()
+    }
+
     /// Returns about how many bytes of memory the patterns take. Nothing is promised of the number.
     pub fn memory_usage(&self) -> usize {
         let bounds = self.bounds.len().saturating_mul(size_of::<usize>());

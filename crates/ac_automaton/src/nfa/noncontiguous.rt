@@ -4,7 +4,7 @@ ghost use Rattle.std.proofs.Common.{inr, refl};
 ghost use Rattle.ac_util.specs.Borrowed.{bytes_of};
 ghost use Rattle.ac_util.specs.Node.{Node};
 ghost use Rattle.ac_util.specs.Stream.{longest_len, shortest_len};
-ghost use Rattle.ac_automaton.specs.Builds.{IsBuilt, Refuses, usual_settings};
+ghost use Rattle.ac_automaton.specs.Builds.{IsBuilt, Refuses, noncontiguous_rules, usual_settings};
 ghost use Rattle.ac_automaton.specs.Tries.{IsTable, StandsFor, listed_within, stands-lists};
 ghost use Rattle.ac_automaton.specs.declared.nfa.noncontiguous.state.State.{State};
 
@@ -72,8 +72,8 @@ impl<A: Allocator + Clone> NFA<A> {
     /// As `Builder::build`.
     pub fn new(alloc: A, patterns: &[&[u8]]) -> Result<NFA<A>, BuildError>
         ensures { MatchResult result
-            (λ nfa. IsBuilt usual_settings (bytes_of patterns.now) nfa.built)
-            (Refuses usual_settings (bytes_of patterns.now)) }
+            (λ nfa. IsBuilt noncontiguous_rules usual_settings (bytes_of patterns.now) nfa.built)
+            (Refuses noncontiguous_rules usual_settings (bytes_of patterns.now)) }
     {
         Builder::new().build(alloc, patterns)
     }
@@ -112,6 +112,11 @@ impl<A: Allocator> NFA<A> {
         ensures { result.now ≡ self.now.order }
     {
         &self.order
+    }
+
+    /// Returns the allocator of the automaton.
+    pub fn allocator(&self) -> &A {
+        self.states.allocator()
     }
 
     /// Returns the patterns.

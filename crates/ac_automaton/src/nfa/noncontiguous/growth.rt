@@ -11,7 +11,7 @@ ghost use Rattle.ac_util.specs.declared.primitives.TheConstants.{GREATEST};
 ghost use Rattle.ac_util.specs.Node.{is_leftmost as is_leftmost_of};
 ghost use Rattle.ac_util.specs.Sameness.{plain};
 ghost use Rattle.ac_automaton.specs.declared.nfa.noncontiguous.growth.Pending.{Pending};
-ghost use Rattle.ac_automaton.specs.Builds.{IsRefused};
+ghost use Rattle.ac_automaton.specs.Builds.{IsRefused, too_many_states};
 ghost use Rattle.ac_automaton.specs.Growths.{EndsOwn, HasBranched, HasChild, HasPushed, HasSorted, IsNotPushed, IsReady, IsWhole, LinkIsDue, Waits, nodes_of, word};
 ghost use Rattle.ac_automaton.specs.Members.{IsOrder, byte_at, numbers};
 ghost use Rattle.ac_automaton.specs.Tries.{AreStates, Links, Meaning, miss};
@@ -97,7 +97,7 @@ pub(crate) fn grow<A: Allocator + Clone, B: Allocator>(
         → MatchResult result
         (λ grown. IsWhole texts fold kind (numbers members.now)
         grown.transitions.items grown.states.items)
-        (IsRefused kind (map (plain fold) texts)) }
+        (IsRefused (too_many_states kind (map (plain fold) texts))) }
 {
     let mut growth = Growth {
         transitions: Vec::new(alloc.clone()?),
@@ -167,7 +167,7 @@ pub(crate) fn branch<A: Allocator, B: Allocator>(
         → MatchResult result
         (λ t. HasBranched kind fold patterns members.now states.now growth.old.queue.items pending t
         growth.new.transitions.items growth.new.queue.items)
-        (IsRefused kind patterns) }
+        (IsRefused (too_many_states kind patterns)) }
 {
     let (to, depth) = (pending.to as usize, pending.depth as usize);
     let own_end = own_end(members, &pending);

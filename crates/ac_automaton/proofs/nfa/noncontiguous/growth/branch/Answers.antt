@@ -1,6 +1,6 @@
 use Rattle.std.proofs.Common.{◌≡◌, ℕ, List, [], ◌∷◌, ◌++◌, length, length-append, ap, sym, ◌∙◌, subst, arith}
 use Rattle.std.specs.Prelude.{Some, slice_get}
-use Rattle.ac_automaton.specs.Builds.{IsRefused}
+use Rattle.ac_automaton.specs.Builds.{IsRefused, too_many_states}
 use Rattle.ac_automaton.specs.Growths.{EndsOwn, HasChild, HasSorted, IsReady, grown_meaning, nodes_of, word}
 use Rattle.ac_automaton.specs.Tries.{miss}
 use Rattle.ac_automaton.proofs.Branched.{has-branched, link-due, still-meant}
@@ -117,7 +117,7 @@ returns-in_err-push g c = λ patterns ready.
     let s = (goal.at.returns-in_err-push g c).In-Some in
     let ends = c.own_end-own_end.ensures in
     refused-by c.from_residual.result c.in_err-push.field-0.0 _
-    (IsRefused c.args.kind patterns) c.from_residual.ensures.1
+    (IsRefused (too_many_states c.args.kind patterns)) c.from_residual.ensures.1
     (refused (site g (goal.at.In-Some g s).After-own_end-own_end patterns ready ends)
     (c.loop-place.invariant patterns ready ends) (run g s patterns ready ends)
     c.child_fail-fail.result

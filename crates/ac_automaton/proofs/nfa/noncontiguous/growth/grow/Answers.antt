@@ -2,7 +2,7 @@ use Rattle.std.proofs.Common.{◌≡◌, ◌<◌, ◌≤◌, ℕ, List, length, 
 use Rattle.std.specs.Prelude.{slice_get}
 use Rattle.std.proofs.lemmas.Option.{slice_get_read}
 use Rattle.ac_util.specs.Sameness.{plain}
-use Rattle.ac_automaton.specs.Builds.{IsRefused}
+use Rattle.ac_automaton.specs.Builds.{IsRefused, too_many_states}
 use Rattle.ac_automaton.specs.Growths.{IsReady}
 use Rattle.ac_automaton.specs.Members.{IsOrder}
 use Rattle.ac_automaton.proofs.Places.{refused-by}
@@ -44,7 +44,7 @@ branch-members-requires g c =
 pub returns-in_err-start : goal.returns-in_err-start
 returns-in_err-start g c = λ texts order.
     let patterns = map (plain c.args.fold) texts in
-    refused-by c.from_residual-in_err-start.result c.in_err-start.field-0.0 _ (IsRefused c.args.kind patterns)
+    refused-by c.from_residual-in_err-start.result c.in_err-start.field-0.0 _ (IsRefused (too_many_states c.args.kind patterns))
     c.from_residual-in_err-start.ensures.1
     (c.in_err-start.ensures patterns (start-may g (goal.at.returns-in_err-start g c).After-start texts order))
 
@@ -87,7 +87,7 @@ branch-members-requires-in-loop-at g c =
 pub returns-in_err-state : goal.returns-in_err-state
 returns-in_err-state g c = λ texts order.
     let patterns = map (plain c.args.fold) texts in
-    refused-by c.from_residual-in_err-state.result c.in_err-state.field-0.0 _ (IsRefused c.args.kind patterns)
+    refused-by c.from_residual-in_err-state.result c.in_err-state.field-0.0 _ (IsRefused (too_many_states c.args.kind patterns))
     c.from_residual-in_err-state.ensures.1
     (c.in_err-state.ensures patterns
     (may g (goal.at.returns-in_err-state g c).After-deref-in-loop-at texts order))
