@@ -12,7 +12,8 @@ use Rattle.ac_util.specs.Limits.{limit_refusal}
 use Rattle.ac_util.specs.Sameness.{plain}
 use Rattle.ac_util.specs.Sizes.{state_count}
 
--- an engine as its builds see it: which starts it has, and why it is refused, if it is, where plain patterns need
+-- an engine as its builds see it: which starts it has, and why it is refused, if it is, where plain patterns
+-- need
 -- more state numbers than there are
 pub record EngineRules : Type 0 where
   pub start_kind : StartKind

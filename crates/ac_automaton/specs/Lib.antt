@@ -3,5 +3,5 @@ pub mod Builds
 pub mod Cores
 pub mod Growths
 pub mod Iterators
-pub mod Members
+pub mod Sorted
 pub mod Tries

@@ -77,7 +77,8 @@ module _ (request : Request) (patterns : List (List ℕ)) (reader new_reader : R
   -- no limit refused the searcher; while the run read it has ended with a fault, with nothing written
   abbrev pub FailsReading : Fault → Type 0
   FailsReading fault =
-      IsAllowed noncontiguous_rules (engine_settings (settings_of request)) patterns × FailsToRead reader new_reader fault
+      IsAllowed noncontiguous_rules (engine_settings (settings_of request)) patterns
+          × FailsToRead reader new_reader fault
       × (new_writer ≡ writer)
 
   -- no limit refused the searcher; while the run wrote the lines of all that the reader gave it has ended with

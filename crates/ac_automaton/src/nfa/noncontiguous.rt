@@ -15,7 +15,9 @@ use ac_util::patterns::Patterns;
 use ac_util::prefilter::Prefilter;
 use ac_util::primitives::{PatternID, StateID};
 use ac_util::search::{Anchored, MatchKind};
-use state::{FIRST_INNER, State, Transition, follow, listed_len, listed_pattern};
+use state::{
+    ANCHORED_START, DEAD, FIRST_INNER, START, State, Transition, follow, listed_len, listed_pattern,
+};
 use std::alloc::{Allocator, Global};
 use std::marker::Model;
 use std::mem::size_of;
@@ -24,7 +26,7 @@ use std::rc::Rc;
 mod builder;
 pub(crate) mod growth;
 mod lengths;
-pub(crate) mod members;
+pub(crate) mod sorted;
 pub(crate) mod state;
 
 pub use builder::Builder;
@@ -144,11 +146,11 @@ impl<A: Allocator> Automaton for NFA<A> {
     ghost lists = { stands-lists };
 
     fn start_state(&self, anchored: Anchored) -> Result<StateID, MatchError> {
-        // Contracts learn here that 2 and 3 are starts.
+        // Contracts learn here which states are the starts.
         let _states = self.states();
         match anchored {
-            Anchored::No => Ok(StateID::must(2)),
-            Anchored::Yes => Ok(StateID::must(3)),
+            Anchored::No => Ok(StateID::must(START)),
+            Anchored::Yes => Ok(StateID::must(ANCHORED_START)),
         }
     }
 
@@ -171,18 +173,18 @@ impl<A: Allocator> Automaton for NFA<A> {
 
     #[inline]
     fn is_dead(&self, sid: StateID) -> bool {
-        sid.as_usize() < 2
+        sid.as_usize() < START
     }
 
     #[inline]
     fn is_match(&self, sid: StateID) -> bool {
         let state = &self.states()[sid.as_usize()];
-        state.own < state.own_end || state.link.as_usize() != 0
+        state.patterns < state.patterns_end || state.output_link.as_usize() != DEAD
     }
 
     #[inline]
     fn is_start(&self, sid: StateID) -> bool {
-        2 <= sid.as_usize() && sid.as_usize() < FIRST_INNER
+        START <= sid.as_usize() && sid.as_usize() < FIRST_INNER
     }
 
     fn match_len(&self, sid: StateID) -> usize {

@@ -4,12 +4,12 @@ ghost use Rattle.ac_util.specs.Borrowed.{bytes_of};
 ghost use Rattle.ac_util.specs.Sameness.{plain};
 ghost use Rattle.ac_automaton.specs.Builds.{IsBuilt, IsRefused, Refuses, noncontiguous_rules, too_many_states, usual_settings};
 ghost use Rattle.ac_automaton.specs.Growths.{IsWhole};
-ghost use Rattle.ac_automaton.specs.Members.{numbers};
+ghost use Rattle.ac_automaton.specs.Sorted.{numbers};
 
 use super::NFA;
 use super::growth::{Grown, grow};
 use super::lengths::{longest_of, shortest_of};
-use super::members::Members;
+use super::sorted::SortedPatterns;
 use super::state::{State, Transition};
 use ac_util::error::BuildError;
 use ac_util::patterns::Patterns;
@@ -139,12 +139,12 @@ fn whole_of<A: Allocator + Clone>(
         (IsRefused (too_many_states kind (map (plain fold) patterns.now))) }
 {
     let alloc = patterns.allocator();
-    let members = Members::of(alloc.clone()?, patterns, kind, fold)?;
-    let order = numbers_of(alloc.clone()?, &members)?;
+    let sorted = SortedPatterns::of(alloc.clone()?, patterns, kind, fold)?;
+    let order = numbers_of(alloc.clone()?, &sorted)?;
     let Grown {
         transitions,
         states,
-    } = grow(alloc.clone()?, &members, kind, fold)?;
+    } = grow(alloc.clone()?, &sorted, kind, fold)?;
     Ok(Whole {
         order,
         transitions,
@@ -158,13 +158,13 @@ fn whole_of<A: Allocator + Clone>(
 /// `AllocError` where a request for memory is refused.
 fn numbers_of<A: Allocator>(
     alloc: A,
-    members: &Members<'_, A>,
+    sorted: &SortedPatterns<'_, A>,
 ) -> Result<Vec<PatternID, A>, AllocError>
-    ensures { IfOk result (λ order. order.items ≡ numbers members.now) }
+    ensures { IfOk result (λ order. order.items ≡ numbers sorted.now) }
 {
     let mut order = Vec::new(alloc);
-    for place in 0..members.len() {
-        order.push(members.number(place))?;
+    for place in 0..sorted.len() {
+        order.push(sorted.number(place))?;
     }
     Ok(order)
 }
