@@ -147,7 +147,7 @@ module _ (site : Site) {unsorted : List Transition} {queue : List QueuedState}
     (λ has none.
         let t =
         IsIn-from_map (λ (x : Transition). x.byte) b range (IsIn-from_Contains b (transition_bytes range) has)
-            in
+        in
         let node = transition-node t.0 (from-range t.0 t.1) in
         let some = own_target-is site.kind site.patterns (string site) (plain_byte site.fold t.0.byte) node in
         let same =
@@ -203,7 +203,7 @@ module _ (site : Site) {unsorted : List Transition} {queue : List QueuedState}
           → (site.queued.fail < START) × (slice_get (nodes_of site.sorted queue) site.queued.fail ≡ Some None)
       start none l (inl first) =
           let f : site.queued.fail < START = (let s = first.0 in omega arith)
-              in (f, first_two site.queued.fail f)
+          in (f, first_two site.queued.fail f)
       start none l (inr later) =
           absurd (let s = later.1 in let d = h.waits.inner (omega arith) in let e = ap length none in
           let m = long in omega arith)

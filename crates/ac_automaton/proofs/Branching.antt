@@ -169,7 +169,7 @@ module _ (site : Site) where
       h.waits.range site.patterns_end site.ends.later (let l = h.low in omega arith)
       (λ k a c. subst (λ (n : ℕ). byte_at site.sorted n k ≡ None) (sym same) (site.ends.whole k a c))
       (λ l. subst (λ (n : ℕ). byte_at site.sorted n site.patterns_end ≢ None) (sym same) (site.ends.other l))
-          place
+      place
       h.low more)
 
   -- the patterns from a place up to another go on with the byte, and the next one doesn't
@@ -397,7 +397,7 @@ module _ (site : Site) where
               subst (λ (r : QueuedState). Waits site.kind site.patterns site.sorted (queue ++ child ∷ [])
               (FIRST_INNER + k) r) new.1
               (subst (λ (n : ℕ). Waits site.kind site.patterns site.sorted (queue ++ child ∷ [])
-                  (FIRST_INNER + n) child)
+              (FIRST_INNER + n) child)
               (sym new.0) child-waits)
         ];
         apart = still-apart;
@@ -439,7 +439,7 @@ module _ (site : Site) where
           run.some,
           run.byte
               ∙ ap (λ (y : ℕ). Some y)
-                  (sym (leading-plain site.fold b (FIRST_INNER + length queue) settled t new).0),
+              (sym (leading-plain site.fold b (FIRST_INNER + length queue) settled t new).0),
         )
       ]
 
@@ -471,7 +471,7 @@ module _ (site : Site) where
           let high : rank (next_byte place) ≡ suc b = ap rank run.byte in
           let is : plain_byte site.fold s.byte ≡ b =
           ap (plain_byte site.fold) e ∙ (leading-plain site.fold b (FIRST_INNER + length queue) settled t new).0
-              in
+          in
           absurd (omega arith))
 
       step-smaller : end < site.queued.to → (k : ℕ) → site.queued.from ≤ k → k < end

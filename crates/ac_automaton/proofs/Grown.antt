@@ -59,7 +59,7 @@ module _ (sorted : List Keyed) where
   -- a number is one of the two that stand for the dead node, of a start, or of a state in the queue
   pub nodes-cases : (queue : List QueuedState) (s : ℕ) (v : Node) → slice_get (nodes_of sorted queue) s ≡ Some v
       → ((s < START) × (v ≡ None))
-          ⊎ (((START ≤ s) × (s < FIRST_INNER) × (v ≡ Some [])) ⊎ IsInner sorted queue s v)
+      ⊎ (((START ≤ s) × (s < FIRST_INNER) × (v ≡ Some [])) ⊎ IsInner sorted queue s v)
   nodes-cases queue zero v e = inl (omega arith, (cc))
   nodes-cases queue (suc zero) v e = inl (omega arith, (cc))
   nodes-cases queue (suc (suc zero)) v e = inr (inl (omega arith, omega arith, (cc)))

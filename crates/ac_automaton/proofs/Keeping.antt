@@ -441,7 +441,7 @@ IsOrder-kept fold patterns sorted order =
 module _ (fold : Bool) (patterns : List (List ℕ)) (all : List SortedPattern)
     (order : IsOrder Standard patterns (keyed fold all)) (at : ℕ)
     (within : at < length all) (pattern : SortedPattern) (is : pattern ≡ get_or all at pattern)
-        (old new : List SortedPattern)
+    (old new : List SortedPattern)
     (s : Standing patterns (keyed fold all) at (keyed fold old)) (left : new ≡ take (length new) old)
     (gone : AllWithin (λ p. is_prefix fold pattern p ≡ false) old (length new) (length old)) where
   -- the place lies within the view
@@ -607,7 +607,7 @@ module _ (fold : Bool) (all sorted : List SortedPattern) (kept at : ℕ) (old ne
             (keeps.short small at pattern within)) (keeps.short small);
         numbers_small = λ small. All-set (λ p. p.number ≤ GREATEST) sorted kept pattern
             (subst (λ (w : SortedPattern). w.number ≤ GREATEST) (sym is)
-                (keeps.numbers_small small at pattern within))
+            (keeps.numbers_small small at pattern within))
             (keeps.numbers_small small);
         first = λ patterns order. FiltersInPlace-more_set {x = pattern} (keeps.first patterns order) within
             (step patterns order).0 is;

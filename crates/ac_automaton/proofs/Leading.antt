@@ -136,7 +136,7 @@ sorted-ascends old sorted apart moved up k within =
     (sym (get_or-map byte old i none d (omega arith)) ∙ same ∙ get_or-map byte old j none d (omega arith))) in
     let after = AllPairs-from_IsDistinct Decides-eqb (transition_bytes sorted)
     (IsDistinct-IsPermutation nat_eq (λ x y. nat_eq_equiv.symm x y) (transition_bytes old)
-        (transition_bytes sorted)
+    (transition_bytes sorted)
     (IsPermutation-map byte old sorted moved) before) in
     let n = length-map sorted byte in
     let none : Transition = record { byte = 0; target = 0 } in
@@ -146,7 +146,7 @@ sorted-ascends old sorted apart moved up k within =
     let second = get_or-map byte sorted (k + 1) none 0 (omega arith) in
     let differ = after k (k + 1) 0 (omega arith) within in
     strict (get_or (transition_bytes sorted) k 0) (get_or (transition_bytes sorted) (k + 1) 0)
-        (omega arith) differ
+    (omega arith) differ
   where
     strict : (x y : ℕ) → x ≤ y → x ≢ y → x < y
     strict x y le apart = elim (cases_lt x y) [

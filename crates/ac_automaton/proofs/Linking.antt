@@ -25,7 +25,7 @@ patterns_of-some order t l within none =
 pub patterns_of-none : (order : List ℕ) (t : State) → t.patterns_end ≤ t.patterns → patterns_of order t ≡ []
 patterns_of-none order t l =
     ap (λ (n : ℕ). take n (drop t.patterns order))
-        (let none : t.patterns_end - t.patterns ≡ 0 = omega arith in none)
+    (let none : t.patterns_end - t.patterns ≡ 0 = omega arith in none)
 
 module _ (g : Meaning) (states : List State) where
   -- only patterns that equal its string end at the start
@@ -58,7 +58,7 @@ module _ (g : Meaning) (states : List State) where
   pub link-here : (u : List ℕ) (fail : ℕ) → AreStates g states → LinkIsDue g (length states) u fail
       → fail < length states
       → (state_at states fail).patterns < (state_at states fail).patterns_end
-          → Links g (length states) (Some u) fail
+      → Links g (length states) (Some u) fail
   link-here [] fail a due l some =
       let r = dead_target fail a due l in
       absurd (patterns_of-some g.order (state_at states fail) some r.within r.patterns)

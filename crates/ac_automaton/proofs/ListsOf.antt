@@ -66,12 +66,12 @@ module _ (g : Meaning) (states : List State) where
         ∙ slice_get-get_or (patterns_of g.order t) k d (omega arith)
         ∙ ap (λ (n : ℕ). Some n)
         (get_or-take (t.patterns_end - t.patterns) (drop t.patterns g.order) k d inside
-            ∙ get_or-drop t.patterns g.order k d)
+        ∙ get_or-drop t.patterns g.order k d)
 
     -- and one of the others
     pub linked-at : (k : ℕ) → t.patterns_end - t.patterns ≤ k
         → slice_get (all_matches g v) k ≡ slice_get (all_matches g r.links.linked)
-            (k - (t.patterns_end - t.patterns))
+        (k - (t.patterns_end - t.patterns))
     linked-at k past =
         let l = length-patterns_of in
         ap (λ (ns : List ℕ). slice_get ns k) all-listed

@@ -209,7 +209,7 @@ module _ (kind : MatchKind) (patterns : List (List ℕ)) (sorted : List Keyed)
       pub range-equal_to : slice_range (numbers sorted) from end ≡ equal_to kind patterns u
       range-equal_to =
           IsOrdered-unique (λ m n. m < n) (λ m n l h. absurd (omega arith)) _ _ among-equal_to equal_to-among
-              among-ordered
+          among-ordered
           (equal_to-ordered kind patterns u)
 
     -- the first of the range is the string exactly if some pattern that takes part is

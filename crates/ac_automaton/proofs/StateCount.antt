@@ -1,10 +1,10 @@
 -- A trie has as many states as there are nodes: each node has one state, and a build is refused only where
 -- there are too many.
-use Rattle.std.proofs.Common.{◌≡◌, ◌≢◌, ℕ, zero, suc, ◌+◌, ◌<◌, ◌≤◌, Bool, true, List, [], ◌∷◌, ◌++◌, map, length, inl, inr, refl, ap, sym, ◌∙◌, subst, arith, Some, None}
-use Rattle.std.specs.Prelude.{slice_get, option_map, nat_lt}
+use Rattle.std.proofs.Common.{◌≡◌, ◌≢◌, ℕ, zero, suc, ◌+◌, ◌<◌, ◌≤◌, Bool, true, List, [], ◌∷◌, ◌++◌, map, length, get_or, inl, inr, refl, ap, sym, ◌∙◌, subst, arith, Some, None}
+use Rattle.std.specs.Prelude.{slice_get, option_map, nat_lt, Contains}
 use Rattle.std.proofs.lemmas.Bool.{cond-false, cond-true, le-ltb, lt-ltb}
 use Rattle.std.proofs.lemmas.List.{length-map, length_push}
-use Rattle.std.proofs.lemmas.Option.{slice_get-map, slice_get_within}
+use Rattle.std.proofs.lemmas.Option.{slice_get-get_or, slice_get-map, slice_get_within}
 use Rattle.ac_util.specs.declared.search.MatchKind.{MatchKind}
 use Rattle.ac_util.specs.declared.primitives.TheConstants.{GREATEST}
 use Rattle.ac_util.specs.Node.{Node, is_node, step}
@@ -23,11 +23,11 @@ use Rattle.ac_util.specs.declared.error.BuildError.TheVariants.{StateIdOverflow}
 use Rattle.ac_automaton.specs.Builds.{IsRefused, too_many_states}
 use Rattle.ac_automaton.specs.Growths.{IsGrown, IsNotPushed, IsRangeOf, grown_meaning, nodes_of, word}
 use Rattle.ac_automaton.specs.Sorted.{Keyed, IsOrder, byte_at, key_at}
-use Rattle.ac_automaton.specs.Tries.{AreStates, Represents, transition_bytes, transitions_of, miss, state_at}
+use Rattle.ac_automaton.specs.Tries.{AreStates, IsNumberOf, NumbersNodes, Represents, transition_bytes, transitions_of, miss, state_at}
 use Rattle.ac_automaton.proofs.Branched.{own_target-is, some_node}
 use Rattle.ac_automaton.proofs.Branching.{IsBranching, IsRun, Site, child-range, fresh, string, word-length}
 use Rattle.ac_automaton.proofs.Counting.{IsOrdered-from_AllPairs, length-le-from_IsOrdered}
-use Rattle.ac_automaton.proofs.Grown.{nodes-cases}
+use Rattle.ac_automaton.proofs.Grown.{IsInner, nodes-cases}
 use Rattle.ac_automaton.proofs.Places.{place-of, IsIn-place, IsOrdered-places}
 use Rattle.ac_automaton.proofs.Ranges.{pattern-node, starts_with-last}
 
@@ -36,7 +36,7 @@ too_many_states-some : (kind : MatchKind) (patterns : List (List ℕ)) → GREAT
     → too_many_states kind patterns ≡ Some (StateIdOverflow GREATEST (GREATEST + 1))
 too_many_states-some kind patterns many =
     cond-true (nat_lt (GREATEST + 1) (state_count kind patterns))
-        (Some (StateIdOverflow GREATEST (GREATEST + 1)))
+    (Some (StateIdOverflow GREATEST (GREATEST + 1)))
     None (lt-ltb (GREATEST + 1) (state_count kind patterns) many)
 
 -- and else they are not
@@ -95,6 +95,25 @@ module _ (kind : MatchKind) (patterns : List (List ℕ)) (sorted : List Keyed)
       subst (λ (v : List ℕ). IsIn v (inner_nodes kind patterns)) q.2
       (IsIn-from_Contains (word sorted q.0) (inner_nodes kind patterns)
       (inner_nodes-has kind patterns (word sorted q.0) node some))
+
+  -- an inner number is that of a place in the queue
+  inner-at : (s : ℕ) (v : Node) → FIRST_INNER ≤ s → slice_get (nodes_of sorted queue) s ≡ Some v
+      → IsInner sorted queue s v
+  inner-at s v inner e = elim (nodes-cases sorted queue s v e) [
+    | inl dead ↦ absurd (let l = dead.0 in omega arith)
+    | inr (inl start) ↦ absurd (let l = start.1 in omega arith)
+    | inr (inr i) ↦ i
+  ]
+
+  -- its string is that of the state at the place
+  inner-is : (s : ℕ) (u : List ℕ) (i : IsInner sorted queue s (Some u)) → u ≡ word sorted i.queued
+  inner-is s u i = let e : Some u ≡ Some (word sorted i.queued) = i.node in cc
+
+  word-of_inner : (s : ℕ) (u : List ℕ) → IsInner sorted queue s (Some u) → IsIn u words
+  word-of_inner s u i =
+      IsIn-place u words i.place
+      (slice_get-map (word sorted) queue i.place ∙ ap (option_map (word sorted)) i.waits
+      ∙ ap (λ (v : List ℕ). Some v) (sym (inner-is s u i)))
 
   -- with a further string the queue would have more states than there are numbers
   pub too-many : (u : List ℕ) (b from to : ℕ) → IsRangeOf sorted (u ++ b ∷ []) from to → from < to
@@ -180,24 +199,25 @@ module _ (kind : MatchKind) (patterns : List (List ℕ)) (sorted : List Keyed)
         let next = onward last.0 last.1 s.0 s.1 longer in
         (next.0, next.1 ∙ ap (λ (v : List ℕ). Some (Some v)) (sym last.2))
 
-    inner-word : (u : List ℕ) → IsIn u (inner_nodes kind patterns) → IsIn u words
-    inner-word u h =
-        let only = inner_nodes-only kind patterns u (Contains-from_IsIn u (inner_nodes kind patterns) h) in
+    -- and each nonempty one an inner state
+    inner-number : (u : List ℕ) → Contains (inner_nodes kind patterns) u
+        → (s : ℕ) × IsNumberOf (nodes_of sorted queue) s u
+    inner-number u h =
+        let only = inner_nodes-only kind patterns u h in
         let s = reaches (length u) u refl only.0 in
         elim (nodes-cases sorted queue s.0 (Some u) s.1) [
           | inl dead ↦ absurd (let e = dead.1 in cc)
           | inr (inl start) ↦ absurd (only.1 (let e : Some u ≡ Some [] = start.2 in let f : u ≡ [] = cc in f))
-          | inr (inr inner) ↦
-              let e : u ≡ word sorted inner.queued =
-              (let f : Some u ≡ Some (word sorted inner.queued) = inner.node in
-              let g : u ≡ word sorted inner.queued = cc in g) in
-              IsIn-place u words inner.place
-              (slice_get-map (word sorted) queue inner.place ∙ ap (option_map (word sorted)) inner.waits
-              ∙ ap (λ (v : List ℕ). Some v) (sym e))
+          | inr (inr i) ↦ (s.0, record { inner = (let n = i.number in omega arith); named = s.1 })
         ]
 
+    inner-word : (u : List ℕ) → IsIn u (inner_nodes kind patterns) → IsIn u words
+    inner-word u h =
+        let n = inner-number u (Contains-from_IsIn u (inner_nodes kind patterns) h) in
+        word-of_inner n.0 u (inner-at n.0 (Some u) n.1.inner n.1.named)
+
     -- a whole trie has as many states as there are
-    pub state-count : length states ≡ state_count kind patterns
+    state-count : length states ≡ state_count kind patterns
     state-count =
         let l = length-map queue (word sorted) in
         let few = length-le-from_IsOrdered words (inner_nodes kind patterns) words-apart word-inner in
@@ -205,6 +225,31 @@ module _ (kind : MatchKind) (patterns : List (List ℕ)) (sorted : List Keyed)
         (IsOrdered-from_AllPairs (λ u w. u ≢ w) (inner_nodes kind patterns) (inner_nodes-apart kind patterns))
         inner-word in
         omega arith
+
+    -- so its numbers are those of the nodes, each of one
+    pub numbers-nodes : NumbersNodes kind patterns (nodes_of sorted queue)
+    numbers-nodes = record {
+      count = (let n = state-count in let l = length-map queue (λ (q : QueuedState). Some (word sorted q)) in
+          omega arith);
+      node = λ s inner within.
+          let known = slice_get-get_or (nodes_of sorted queue) s None within in
+          let i = inner-at s (get_or (nodes_of sorted queue) s None) inner known in (
+            word sorted i.queued,
+            record { inner = inner; named = known ∙ ap (λ (v : Node). Some v) i.node },
+          );
+      only = λ s u n.
+          Contains-from_IsIn u (inner_nodes kind patterns)
+          (word-inner u (word-of_inner s u (inner-at s (Some u) n.inner n.named)));
+      each = inner-number;
+      once = λ s t u m n.
+          let i = inner-at s (Some u) m.inner m.named in
+          let j = inner-at t (Some u) n.inner n.named in
+          let same = grown.apart i.place j.place i.queued j.queued i.waits j.waits
+          (sym (inner-is s u i) ∙ inner-is t u j) in
+          let k = i.number in
+          let l = j.number in
+          omega arith;
+    }
 
 -- a child for which there is no number is one node too many
 module _ (site : Site) {place end b : ℕ} {transitions : List Transition} {queue : List QueuedState}

@@ -16,10 +16,10 @@ use Rattle.ac_automaton.specs.declared.nfa.noncontiguous.state.Transition.{Trans
 use Rattle.ac_automaton.specs.Builds.{too_many_states}
 use Rattle.ac_automaton.specs.Growths.{HasBranched, IsGrown, IsReady, Waits, grown_meaning, nodes_of, word}
 use Rattle.ac_automaton.specs.Sorted.{Keyed, IsOrder, byte_at, key_at, numbers}
-use Rattle.ac_automaton.specs.Tries.{AreStates, IsTable, Meaning, Represents, dead_state, state_at, trie_of}
+use Rattle.ac_automaton.specs.Tries.{AreStates, IsTable, Meaning, NumbersNodes, Represents, dead_state, state_at, trie_of}
 use Rattle.ac_automaton.proofs.Grown.{AreStates-push, nodes-inner}
 use Rattle.ac_automaton.proofs.ListsOf.{listed_within-matches}
-use Rattle.ac_automaton.proofs.StateCount.{state-count, too_many_states-none}
+use Rattle.ac_automaton.proofs.StateCount.{numbers-nodes, too_many_states-none}
 
 -- the state of the unanchored start is that of the anchored start too
 pub Represents-beside : (g : Meaning) (v : Node) (t : State) → Represents g START v t
@@ -208,7 +208,7 @@ module _ (kind : MatchKind) (fold : Bool) (patterns : List (List ℕ)) (sorted :
       subst (λ (ss : List State). IsGoing ((ss ++ t ∷ []) ++ t ∷ []) transitions queue 0) (sym is)
       (started p t transitions queue order settled depth
       (subst (λ (q : List QueuedState). HasBranched kind fold patterns sorted first_states q p t transitions
-          queue)
+      queue)
       empty
       (subst (λ (ss : List State). HasBranched kind fold patterns sorted ss none p t transitions queue) is h)))
 
@@ -255,6 +255,11 @@ module _ (texts : List (List ℕ)) {fold : Bool} {kind : MatchKind} {sorted : Li
   counted : length states ≡ FIRST_INNER + length queue
   counted = let l = h.count in let m = h.within in omega arith
 
+  numbered : NumbersNodes kind (map (plain fold) texts) (nodes_of sorted queue)
+  numbered =
+      numbers-nodes kind (map (plain fold) texts) sorted h.order (length states) transitions queue h.grown
+      fold h.settled states h.meant counted
+
   pub whole-table : IsTable (trie_of texts fold kind (numbers sorted) transitions states)
       (nodes_of sorted queue)
   whole-table =
@@ -266,6 +271,7 @@ module _ (texts : List (List ℕ)) {fold : Bool} {kind : MatchKind} {sorted : Li
         unreached = refl;
         start = refl;
         anchored_start = refl;
+        numbered = numbered;
         lists = λ s v e.
             listed_within-matches
             (grown_meaning kind fold (map (plain fold) texts) sorted transitions queue) states s s v
@@ -278,12 +284,10 @@ module _ (texts : List (List ℕ)) {fold : Bool} {kind : MatchKind} {sorted : Li
             (omega arith);
       }
 
-  -- and there are as many as nodes
-  pub whole-count : too_many_states kind (map (plain fold) texts) ≡ None
-  whole-count =
-      let c =
-      state-count kind (map (plain fold) texts) sorted h.order (length states) transitions queue h.grown
-      fold h.settled states h.meant counted in
+  -- and there are enough numbers
+  pub whole-few : too_many_states kind (map (plain fold) texts) ≡ None
+  whole-few =
+      let count = numbered.count in
       let few = h.grown.few in
-      let d = counted in
+      let long = length-map queue (λ (q : QueuedState). Some (word sorted q)) in
       too_many_states-none kind (map (plain fold) texts) (omega arith)

@@ -93,7 +93,7 @@ module _ (kind : MatchKind) (patterns : List (List ℕ)) (sorted : List Keyed) w
   abbrev pub IsNext : List QueuedState → ℕ → QueuedState → Type 0
   IsNext queue s p =
       ((s ≡ START) × (queue ≡ []) × (p.depth ≡ 0))
-          ⊎ ((k : ℕ) × (s ≡ FIRST_INNER + k) × (slice_get queue k ≡ Some p))
+      ⊎ ((k : ℕ) × (s ≡ FIRST_INNER + k) × (slice_get queue k ≡ Some p))
 
 module _ (kind : MatchKind) (fold : Bool) (patterns : List (List ℕ)) (sorted : List Keyed) where
   -- what the numbers mean as far as the trie has grown

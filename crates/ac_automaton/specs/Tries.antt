@@ -12,6 +12,7 @@ use Rattle.ac_util.specs.Built.{Built}
 use Rattle.ac_util.specs.Matches.{matches}
 use Rattle.ac_util.specs.Node.{Node, begins_with_pattern, depth, failure, is_leftmost, step}
 use Rattle.ac_util.specs.Sameness.{plain_byte}
+use Rattle.ac_util.specs.Sizes.{inner_nodes, state_count}
 use Rattle.ac_automaton.specs.declared.nfa.noncontiguous.state.State.{State}
 use Rattle.ac_automaton.specs.declared.nfa.noncontiguous.state.TheConstants.{DEAD, FAIL, START, ANCHORED_START, FIRST_INNER}
 use Rattle.ac_automaton.specs.declared.nfa.noncontiguous.state.Transition.{Transition}
@@ -159,6 +160,19 @@ meaning_of trie nodes = record {
   nodes = nodes;
 }
 
+-- the number is that of an inner state, which stands for the string
+pub record IsNumberOf (nodes : List Node) (s : ℕ) (u : List ℕ) : Type 0 where
+  pub inner : FIRST_INNER ≤ s
+  pub named : slice_get nodes s ≡ Some (Some u)
+
+-- there are as many states as an automaton has, and the inner ones stand for the nonempty nodes, each for one
+pub record NumbersNodes (kind : MatchKind) (patterns : List (List ℕ)) (nodes : List Node) : Type 0 where
+  pub count : length nodes ≡ state_count kind patterns
+  pub node : (s : ℕ) → FIRST_INNER ≤ s → s < length nodes → (u : List ℕ) × IsNumberOf nodes s u
+  pub only : (s : ℕ) (u : List ℕ) → IsNumberOf nodes s u → Contains (inner_nodes kind patterns) u
+  pub each : (u : List ℕ) → Contains (inner_nodes kind patterns) u → (s : ℕ) × IsNumberOf nodes s u
+  pub once : (s t : ℕ) (u : List ℕ) → IsNumberOf nodes s u → IsNumberOf nodes t u → s ≡ t
+
 -- the states are those of an automaton that has both starts: the first four are the dead state, one that no
 -- search reaches, and the two starts
 pub record IsTable (trie : Trie) (nodes : List Node) : Type 0 where
@@ -168,6 +182,7 @@ pub record IsTable (trie : Trie) (nodes : List Node) : Type 0 where
   pub unreached : slice_get nodes FAIL ≡ Some None
   pub start : slice_get nodes START ≡ Some (Some [])
   pub anchored_start : slice_get nodes ANCHORED_START ≡ Some (Some [])
+  pub numbered : NumbersNodes trie.built.kind (plain_of trie.built) nodes
   pub lists : (s : ℕ) (v : Node) → slice_get nodes s ≡ Some v
       → listed_within trie.order trie.states s s ≡ all_matches (meaning_of trie nodes) v
 

@@ -55,7 +55,7 @@ module _ (g : Over) (c : In-Some g) where
       (ready : Ready g (goal.at.In-Some g c).After-patterns_end-patterns_end patterns)
       (ends : Ends g (goal.at.In-Some g c).After-patterns_end-patterns_end)
       → IsRun (site g (goal.at.In-Some g c).After-patterns_end-patterns_end patterns ready ends)
-          c.loop-place.place
+      c.loop-place.place
       c.run_end-end.result c.in-Some.byte
   run patterns ready ends = record {
     more = c.loop-place-test.true;

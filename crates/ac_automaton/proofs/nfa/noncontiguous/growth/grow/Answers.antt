@@ -6,7 +6,7 @@ use Rattle.ac_automaton.specs.Builds.{IsRefused, too_many_states}
 use Rattle.ac_automaton.specs.Growths.{IsReady}
 use Rattle.ac_automaton.specs.Sorted.{IsOrder}
 use Rattle.ac_automaton.proofs.Places.{refused-by}
-use Rattle.ac_automaton.proofs.WholeTries.{first_states, going-on, going-ready, start-going, start-ready, sorted-plain, whole-count, whole-table}
+use Rattle.ac_automaton.proofs.WholeTries.{first_states, going-on, going-ready, start-going, start-ready, sorted-plain, whole-few, whole-table}
 use Rattle.ac_automaton.proofs.nfa.noncontiguous.growth.grow.Given.{Over}
 use Rattle.ac_automaton.proofs.nfa.noncontiguous.growth.grow.Goals as goal
 use Rattle.ac_automaton.proofs.nfa.noncontiguous.growth.grow.Goals.{After-start, After-deref-in-loop-at}
@@ -39,14 +39,19 @@ module _ (g : Over) (c : After-start g) where
 pub branch-sorted-requires : goal.branch-sorted-requires
 branch-sorted-requires g c =
     let o = c.requires.order in
-    record { ready = (map (plain c.args.fold) o.0, start-may g
-        (goal.at.branch-sorted-requires g c).After-start o.0 o.1) }
+    record {
+      ready = (
+        map (plain c.args.fold) o.0,
+        start-may g
+            (goal.at.branch-sorted-requires g c).After-start o.0 o.1,
+      );
+    }
 
 pub returns-in_err-start : goal.returns-in_err-start
 returns-in_err-start g c = λ texts order.
     let patterns = map (plain c.args.fold) texts in
     refused-by c.from_residual-in_err-start.result c.in_err-start.field-0.0 _
-        (IsRefused (too_many_states c.args.kind patterns))
+    (IsRefused (too_many_states c.args.kind patterns))
     c.from_residual-in_err-start.ensures.1
     (c.in_err-start.ensures patterns (start-may g (goal.at.returns-in_err-start g c).After-start texts order))
 
@@ -90,7 +95,7 @@ pub returns-in_err-state : goal.returns-in_err-state
 returns-in_err-state g c = λ texts order.
     let patterns = map (plain c.args.fold) texts in
     refused-by c.from_residual-in_err-state.result c.in_err-state.field-0.0 _
-        (IsRefused (too_many_states c.args.kind patterns))
+    (IsRefused (too_many_states c.args.kind patterns))
     c.from_residual-in_err-state.ensures.1
     (c.in_err-state.ensures patterns
     (may g (goal.at.returns-in_err-state g c).After-deref-in-loop-at texts order))
@@ -122,5 +127,5 @@ returns g c = λ texts order.
     record {
       nodes = _;
       table = whole-table texts h all;
-      few = whole-count texts h all;
+      few = whole-few texts h all;
     }
