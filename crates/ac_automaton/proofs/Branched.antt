@@ -13,46 +13,48 @@ use Rattle.ac_util.specs.Node.{Node, is_node, step}
 use Rattle.ac_util.specs.Sameness.{plain_byte}
 use Rattle.ac_util.proofs.Fronts.{starts_with-front}
 use Rattle.ac_util.proofs.Lists.{AllPairs-from_IsOrdered, Contains-from_IsIn, IsIn, IsIn-from_Contains, IsIn-from_map, IsIn-map}
-use Rattle.ac_automaton.specs.declared.nfa.noncontiguous.growth.Pending.{Pending}
+use Rattle.ac_automaton.specs.declared.nfa.noncontiguous.growth.QueuedState.{QueuedState}
 use Rattle.ac_automaton.specs.declared.nfa.noncontiguous.state.State.{State}
+use Rattle.ac_automaton.specs.declared.nfa.noncontiguous.state.TheConstants.{START}
 use Rattle.ac_automaton.specs.declared.nfa.noncontiguous.state.Transition.{Transition}
 use Rattle.ac_automaton.specs.Growths.{HasBranched, HasSorted, IsGrown, IsNext, LinkIsDue, grown_meaning, nodes_of}
-use Rattle.ac_automaton.specs.Members.{IsOrder, Keyed, byte_at, key_at}
-use Rattle.ac_automaton.specs.Tries.{AreStates, Links, bytes_of}
+use Rattle.ac_automaton.specs.Sorted.{IsOrder, Keyed, byte_at, key_at}
+use Rattle.ac_automaton.specs.Tries.{AreStates, Links, transition_bytes}
 use Rattle.ac_automaton.proofs.Branching.{IsBranching, Site, string, word-length}
 use Rattle.ac_automaton.proofs.Grown.{AreStates-more}
 use Rattle.ac_automaton.proofs.Leading.{sorted-ascends}
 use Rattle.ac_automaton.proofs.Places.{IsIn-place}
-use Rattle.ac_automaton.proofs.Ranges.{member-node, node-member, own-range, starts_with-last, starts_with-push}
+use Rattle.ac_automaton.proofs.Ranges.{pattern-node, node-pattern, range-equal_to, starts_with-last, starts_with-push}
 
 -- an anchored search goes on exactly by the bytes that make a node
-pub held-is : (kind : MatchKind) (patterns : List (List ℕ)) (u : List ℕ) (b : ℕ)
+pub own_target-is : (kind : MatchKind) (patterns : List (List ℕ)) (u : List ℕ) (b : ℕ)
     → is_node kind patterns (u ++ b ∷ []) ≡ true
     → step kind patterns Yes (Some u) b ≡ Some (u ++ b ∷ [])
-held-is kind patterns u b node = cond-true (is_node kind patterns (u ++ b ∷ [])) (Some (u ++ b ∷ [])) None node
+own_target-is kind patterns u b node = cond-true (is_node kind patterns (u ++ b ∷ []))
+    (Some (u ++ b ∷ [])) None node
 
-pub held-node : (kind : MatchKind) (patterns : List (List ℕ)) (u : List ℕ) (b : ℕ)
+pub own_target-node : (kind : MatchKind) (patterns : List (List ℕ)) (u : List ℕ) (b : ℕ)
     → step kind patterns Yes (Some u) b ≢ None
     → is_node kind patterns (u ++ b ∷ []) ≡ true
-held-node kind patterns u b some = elim (cases_Bool (is_node kind patterns (u ++ b ∷ []))) [
+own_target-node kind patterns u b some = elim (cases_Bool (is_node kind patterns (u ++ b ∷ []))) [
   | inl t ↦ t
   | inr f ↦ absurd (some (cond-false (is_node kind patterns (u ++ b ∷ [])) (Some (u ++ b ∷ [])) None f))
 ]
 
--- some member begins with a node
-pub some_node : (kind : MatchKind) (patterns : List (List ℕ)) (members : List Keyed)
-    → IsOrder kind patterns members
+-- some pattern begins with a node
+pub some_node : (kind : MatchKind) (patterns : List (List ℕ)) (sorted : List Keyed)
+    → IsOrder kind patterns sorted
     → (u : List ℕ) (b : ℕ) → is_node kind patterns (u ++ b ∷ []) ≡ true
-    → (k : ℕ) × (k < length members) × (starts_with nat_eq (key_at members k) (u ++ b ∷ []) ≡ true)
-some_node kind patterns members order [] b node = node-member kind patterns members order b [] node
-some_node kind patterns members order (x ∷ u) b node =
-    node-member kind patterns members order x (u ++ b ∷ []) node
+    → (k : ℕ) × (k < length sorted) × (starts_with nat_eq (key_at sorted k) (u ++ b ∷ []) ≡ true)
+some_node kind patterns sorted order [] b node = node-pattern kind patterns sorted order b [] node
+some_node kind patterns sorted order (x ∷ u) b node =
+    node-pattern kind patterns sorted order x (u ++ b ∷ []) node
 
 -- a state all of whose children have come, and whose transitions have been sorted
-module _ (site : Site) {unsorted : List Transition} {queue : List Pending}
-    (h : IsBranching site site.pending.to unsorted queue)
+module _ (site : Site) {unsorted : List Transition} {queue : List QueuedState}
+    (h : IsBranching site site.queued.to unsorted queue)
     {transitions : List Transition} (s : HasSorted (length site.transitions) unsorted transitions) where
-  long : length (string site) ≡ site.pending.depth
+  long : length (string site) ≡ site.queued.depth
   long = word-length h.waits
 
   -- the transitions behind the old ones are the new ones, sorted
@@ -90,90 +92,93 @@ module _ (site : Site) {unsorted : List Transition} {queue : List Pending}
       (Contains-permutation s.sorted h.added t (IsPermutation-sym h.added s.sorted sorted-from)
       (Contains-from_IsIn t s.sorted (subst (IsIn t) range-is has)))
 
-  ascending : IsStrictlyIncreasing (bytes_of range)
+  ascending : IsStrictlyIncreasing (transition_bytes range)
   ascending =
-      subst (λ (ts : List Transition). IsStrictlyIncreasing (bytes_of ts)) (sym range-is)
+      subst (λ (ts : List Transition). IsStrictlyIncreasing (transition_bytes ts)) (sym range-is)
       (sorted-ascends h.added s.sorted
       (AllPairs-from_IsOrdered (λ (a b : Transition). a.byte ≢ b.byte) h.added h.apart) sorted-from s.order)
 
-  own' : (k : ℕ) → site.pending.from ≤ k → k < site.own_end
-      → byte_at site.members (length (string site)) k ≡ None
-  own' k a c = subst (λ (n : ℕ). byte_at site.members n k ≡ None) (sym long) (site.ends.own k a c)
+  whole' : (k : ℕ) → site.queued.from ≤ k → k < site.patterns_end
+      → byte_at site.sorted (length (string site)) k ≡ None
+  whole' k a c = subst (λ (n : ℕ). byte_at site.sorted n k ≡ None) (sym long) (site.ends.whole k a c)
 
-  other' : site.own_end < site.pending.to → byte_at site.members (length (string site)) site.own_end ≢ None
-  other' l = subst (λ (n : ℕ). byte_at site.members n site.own_end ≢ None) (sym long) (site.ends.other l)
+  other' : site.patterns_end < site.queued.to → byte_at site.sorted (length (string site)) site.patterns_end
+      ≢ None
+  other' l = subst (λ (n : ℕ). byte_at site.sorted n site.patterns_end ≢ None) (sym long) (site.ends.other l)
 
   -- there is a transition by a byte exactly if it makes a node
   transition-node : (t : Transition) → IsIn t h.added
       → is_node site.kind site.patterns (string site ++ plain_byte site.fold t.byte ∷ []) ≡ true
   transition-node t has =
-      let m = h.by_members t has in
-      let inside : m.0 < length site.members = (let w = h.waits.range.within in omega (arith, m.2)) in
+      let m = h.by_patterns t has in
+      let inside : m.0 < length site.sorted = (let w = h.waits.range.within in omega (arith, m.2)) in
       let front = (h.waits.range.begins m.0 inside).0 ((omega (arith, m.1)), m.2) in
-      member-node site.kind site.patterns site.members site.ready.order m.0
+      pattern-node site.kind site.patterns site.sorted site.ready.order m.0
       (string site ++ plain_byte site.fold t.byte ∷ []) inside
-      (starts_with-push (key_at site.members m.0) (string site) (plain_byte site.fold t.byte) front
-      (subst (λ (n : ℕ). byte_at site.members n m.0 ≡ Some (plain_byte site.fold t.byte)) (sym long) m.3))
+      (starts_with-push (key_at site.sorted m.0) (string site) (plain_byte site.fold t.byte) front
+      (subst (λ (n : ℕ). byte_at site.sorted n m.0 ≡ Some (plain_byte site.fold t.byte)) (sym long) m.3))
 
   node-transition : (b : ℕ)
       → is_node site.kind site.patterns (string site ++ plain_byte site.fold b ∷ []) ≡ true
-      → Contains (bytes_of range) b
+      → Contains (transition_bytes range) b
   node-transition b node =
       let m =
-      some_node site.kind site.patterns site.members site.ready.order (string site)
+      some_node site.kind site.patterns site.sorted site.ready.order (string site)
       (plain_byte site.fold b) node in
       let there =
       (h.waits.range.begins m.0 m.1).1
-      (starts_with-front (key_at site.members m.0) (string site) (plain_byte site.fold b) m.2) in
-      let byte = starts_with-last (key_at site.members m.0) (string site) (plain_byte site.fold b) m.2 in
-      elim (cases_lt m.0 site.own_end) [
-        | inl before ↦ absurd (let none = own' m.0 there.0 before in cc)
+      (starts_with-front (key_at site.sorted m.0) (string site) (plain_byte site.fold b) m.2) in
+      let byte = starts_with-last (key_at site.sorted m.0) (string site) (plain_byte site.fold b) m.2 in
+      elim (cases_lt m.0 site.patterns_end) [
+        | inl before ↦ absurd (let none = whole' m.0 there.0 before in cc)
         | inr le ↦
             let t =
             h.covered m.0 (plain_byte site.fold b) b le there.1
-            (subst (λ (n : ℕ). byte_at site.members n m.0 ≡ Some (plain_byte site.fold b)) long byte) refl
+            (subst (λ (n : ℕ). byte_at site.sorted n m.0 ≡ Some (plain_byte site.fold b)) long byte) refl
             in
-            subst (Contains (bytes_of range)) t.2
-            (Contains-from_IsIn t.0.byte (bytes_of range)
+            subst (Contains (transition_bytes range)) t.2
+            (Contains-from_IsIn t.0.byte (transition_bytes range)
             (IsIn-map (λ (x : Transition). x.byte) t.0 range (in-range t.0 t.1)))
       ]
 
-  branches : (b : ℕ) → Contains (bytes_of range) b ↔
+  branches : (b : ℕ) → Contains (transition_bytes range) b ↔
       (step site.kind site.patterns Yes (Some (string site)) (plain_byte site.fold b) ≢ None)
   branches b = (
     (λ has none.
         let t =
-        IsIn-from_map (λ (x : Transition). x.byte) b range (IsIn-from_Contains b (bytes_of range) has) in
+        IsIn-from_map (λ (x : Transition). x.byte) b range (IsIn-from_Contains b (transition_bytes range) has)
+        in
         let node = transition-node t.0 (from-range t.0 t.1) in
-        let some = held-is site.kind site.patterns (string site) (plain_byte site.fold t.0.byte) node in
+        let some = own_target-is site.kind site.patterns (string site) (plain_byte site.fold t.0.byte) node in
         let same =
         ap (λ (x : ℕ). step site.kind site.patterns Yes (Some (string site)) (plain_byte site.fold x)) t.2 in
         absurd (cc)),
-    (λ some. node-transition b (held-node site.kind site.patterns (string site) (plain_byte site.fold b) some)),
+    (λ some. node-transition b
+        (own_target-node site.kind site.patterns (string site) (plain_byte site.fold b) some)),
   )
 
   leads : (k : ℕ) (t : Transition) → slice_get range k ≡ Some t
-      → slice_get (nodes_of site.members queue) t.target
+      → slice_get (nodes_of site.sorted queue) t.target
       ≡ Some (step site.kind site.patterns Yes (Some (string site)) (plain_byte site.fold t.byte))
   leads k t e =
       let has = from-range t (IsIn-place t range k e) in
       h.leads t has
       ∙ ap (λ (v : Node). Some v)
-      (sym (held-is site.kind site.patterns (string site) (plain_byte site.fold t.byte)
+      (sym (own_target-is site.kind site.patterns (string site) (plain_byte site.fold t.byte)
       (transition-node t has)))
 
   -- the states that were whole stay what they are
   pub still-meant : AreStates
-      (grown_meaning site.kind site.fold site.patterns site.members transitions queue) site.states
+      (grown_meaning site.kind site.fold site.patterns site.sorted transitions queue) site.states
   still-meant =
       AreStates-more
-      (grown_meaning site.kind site.fold site.patterns site.members site.transitions queue) transitions
-      s.sorted split (nodes_of site.members queue)
+      (grown_meaning site.kind site.fold site.patterns site.sorted site.transitions queue) transitions
+      s.sorted split (nodes_of site.sorted queue)
       (λ k v e. e) site.states (omega arith) h.meant
 
   -- the failure target decides the link
-  pub link-due : LinkIsDue (grown_meaning site.kind site.fold site.patterns site.members transitions queue)
-      (length site.states) (string site) site.pending.fail
+  pub link-due : LinkIsDue (grown_meaning site.kind site.fold site.patterns site.sorted transitions queue)
+      (length site.states) (string site) site.queued.fail
   link-due = record {
     fails = h.waits.fails;
     dead = refl;
@@ -182,22 +187,23 @@ module _ (site : Site) {unsorted : List Transition} {queue : List Pending}
   }
     where
       near : string site ≢ []
-          → IsNext site.kind site.patterns site.members site.queue (length site.states) site.pending
-          → site.pending.fail < length site.states
+          → IsNext site.kind site.patterns site.sorted site.queue (length site.states) site.queued
+          → site.queued.fail < length site.states
       near some (inl start) =
-          absurd (some (ap (λ (n : ℕ). take n (key_at site.members site.pending.from)) start.2))
+          absurd (some (ap (λ (n : ℕ). take n (key_at site.sorted site.queued.from)) start.2))
       near some (inr later) = h.waits.back (let s = later.1 in omega arith)
 
-      first_two : (f : ℕ) → f < 2 → slice_get (nodes_of site.members queue) f ≡ Some None
+      first_two : (f : ℕ) → f < START → slice_get (nodes_of site.sorted queue) f ≡ Some None
       first_two zero l = refl
       first_two (suc zero) l = refl
       first_two (suc (suc f)) l = absurd (omega arith)
 
-      start : string site ≡ [] → site.pending.fail < length site.states
-          → IsNext site.kind site.patterns site.members site.queue (length site.states) site.pending
-          → (site.pending.fail < 2) × (slice_get (nodes_of site.members queue) site.pending.fail ≡ Some None)
+      start : string site ≡ [] → site.queued.fail < length site.states
+          → IsNext site.kind site.patterns site.sorted site.queue (length site.states) site.queued
+          → (site.queued.fail < START) × (slice_get (nodes_of site.sorted queue) site.queued.fail ≡ Some None)
       start none l (inl first) =
-          let f : site.pending.fail < 2 = (let s = first.0 in omega arith) in (f, first_two site.pending.fail f)
+          let f : site.queued.fail < START = (let s = first.0 in omega arith)
+          in (f, first_two site.queued.fail f)
       start none l (inr later) =
           absurd (let s = later.1 in let d = h.waits.inner (omega arith) in let e = ap length none in
           let m = long in omega arith)
@@ -207,17 +213,17 @@ module _ (site : Site) {unsorted : List Transition} {queue : List Pending}
   whole_state link = record {
     transitions = length site.transitions;
     transitions_end = length transitions;
-    fail = site.pending.fail;
-    own = site.pending.from;
-    own_end = site.own_end;
-    link = link;
-    depth = site.pending.depth;
+    fail = site.queued.fail;
+    patterns = site.queued.from;
+    patterns_end = site.patterns_end;
+    output_link = link;
+    depth = site.queued.depth;
   }
 
   pub has-branched : {link : ℕ}
-      → Links (grown_meaning site.kind site.fold site.patterns site.members transitions queue)
+      → Links (grown_meaning site.kind site.fold site.patterns site.sorted transitions queue)
       (length site.states) (Some (string site)) link
-      → HasBranched site.kind site.fold site.patterns site.members site.states site.queue site.pending
+      → HasBranched site.kind site.fold site.patterns site.sorted site.states site.queue site.queued
       (whole_state link) transitions queue
   has-branched {link} links = record {
     grown = still-grown;
@@ -230,12 +236,12 @@ module _ (site : Site) {unsorted : List Transition} {queue : List Pending}
       leads = leads;
       fails = h.waits.fails;
       back = h.waits.back;
-      owned = site.ends.later;
-      within = (let w = h.waits.range.within in let m = length-map site.members (λ (q : Keyed). q.number) in
+      patterns_ordered = site.ends.later;
+      within = (let w = h.waits.range.within in let m = length-map site.sorted (λ (q : Keyed). q.number) in
           omega arith);
-      own = own-range site.kind site.patterns site.members site.ready.order
-          (string site) site.pending.from site.pending.to h.waits.range site.own_end site.ends.later
-          site.ends.within own' other';
+      patterns = range-equal_to site.kind site.patterns site.sorted site.ready.order
+          (string site) site.queued.from site.queued.to h.waits.range site.patterns_end site.ends.later
+          site.ends.within whole' other';
       links = links;
       long = sym long;
       outer = λ l. let m = long in outer l site.ready.next;
@@ -251,7 +257,7 @@ module _ (site : Site) {unsorted : List Transition} {queue : List Pending}
           let n = length_permutation h.added s.sorted sorted-from in
           omega (arith, length-append site.transitions s.sorted, length-append site.transitions h.added)
 
-      still-grown : IsGrown site.kind site.patterns site.members (length site.states + 1) transitions queue
+      still-grown : IsGrown site.kind site.patterns site.sorted (length site.states + 1) transitions queue
       still-grown = record {
         few = h.grown.few;
         counted = (let l = as-many in let m = h.grown.counted in omega arith);
@@ -261,7 +267,7 @@ module _ (site : Site) {unsorted : List Transition} {queue : List Pending}
       }
 
       outer : length site.states < 4
-          → IsNext site.kind site.patterns site.members site.queue (length site.states) site.pending
+          → IsNext site.kind site.patterns site.sorted site.queue (length site.states) site.queued
           → length (string site) ≡ 0
       outer l (inl start) = long ∙ start.2
       outer l (inr later) = absurd (let n = later.1 in omega arith)

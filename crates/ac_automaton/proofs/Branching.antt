@@ -1,4 +1,4 @@
--- How the children of a state are put behind the queue, one run of members after another.
+-- How the children of a state are put behind the queue, one run of patterns after another.
 use Rattle.std.proofs.Common.{◌≡◌, ◌≢◌, ℕ, suc, ◌+◌, ◌-◌, ◌<◌, ◌≤◌, true, Bool, List, [], ◌∷◌, ◌++◌, length, length-append, take, ◌⊎◌, inl, inr, refl, ap, sym, ◌∙◌, subst, arith, Option, Some, None, get_or}
 use Rattle.std.specs.Prelude.{nat_eq, slice_get}
 use Rattle.std.specs.List.{starts_with}
@@ -11,18 +11,19 @@ use Rattle.ac_util.specs.declared.search.MatchKind.{MatchKind}
 use Rattle.ac_util.specs.declared.primitives.TheConstants.{GREATEST}
 use Rattle.ac_util.specs.Sameness.{plain_byte}
 use Rattle.ac_util.proofs.Lists.{IsIn, IsIn-append_cases, IsIn-append_left, IsIn-append_right, IsOrdered, IsOrdered-append}
-use Rattle.ac_automaton.specs.declared.nfa.noncontiguous.growth.Pending.{Pending}
+use Rattle.ac_automaton.specs.declared.nfa.noncontiguous.growth.QueuedState.{QueuedState}
 use Rattle.ac_automaton.specs.declared.nfa.noncontiguous.state.State.{State}
+use Rattle.ac_automaton.specs.declared.nfa.noncontiguous.state.TheConstants.{START, FIRST_INNER}
 use Rattle.ac_automaton.specs.declared.nfa.noncontiguous.state.Transition.{Transition}
-use Rattle.ac_automaton.specs.Growths.{EndsOwn, HasChild, IsGrown, IsNext, IsRangeOf, IsReady, Waits, grown_meaning, leading, nodes_of, word}
-use Rattle.ac_automaton.specs.Members.{Keyed, byte_at, key_at}
+use Rattle.ac_automaton.specs.Growths.{EndsPatterns, HasChild, IsGrown, IsNext, IsRangeOf, IsReady, Waits, grown_meaning, leading, nodes_of, word}
+use Rattle.ac_automaton.specs.Sorted.{Keyed, byte_at, key_at}
 use Rattle.ac_automaton.specs.Tries.{AreStates, miss}
 use Rattle.ac_automaton.proofs.Grown.{AreStates-more, IsInner, nodes-cases, nodes-inner, nodes-more}
 use Rattle.ac_automaton.proofs.Leading.{leading-apart, leading-has, leading-length, leading-plain}
 use Rattle.ac_automaton.proofs.Orders.{rank}
 use Rattle.ac_util.proofs.Fronts.{starts_with-length}
 use Rattle.ac_automaton.proofs.Places.{get-append, get-added, get-added_cases, get-same}
-use Rattle.ac_automaton.proofs.Ranges.{child-range, longer, next-greater}
+use Rattle.ac_automaton.proofs.Ranges.{run-range, longer, next-greater}
 
 -- two strings with one more byte that are the same have the same byte and the same rest
 pub push-injective : (u w : List ℕ) (a b : ℕ) → u ++ a ∷ [] ≡ w ++ b ∷ [] → (u ≡ w) × (a ≡ b)
@@ -37,38 +38,38 @@ push-injective (x ∷ u) (y ∷ w) a b e =
     let r = push-injective u w a b tail in
     ((λ i. head i ∷ r.0 i), r.1)
 
--- a front of a string is its first bytes
+-- a prefix of a string is its first bytes
 pub front-is : (w v : List ℕ) → starts_with nat_eq w v ≡ true → take (length v) w ≡ v
 front-is w v h = sym ((bytes_eq-Decides v (take (length v) w)).0 h)
 
-module _ {kind : MatchKind} {patterns : List (List ℕ)} {members : List Keyed} {queue : List Pending}
-    {s : ℕ} {p : Pending} (w : Waits kind patterns members queue s p) where
+module _ {kind : MatchKind} {patterns : List (List ℕ)} {sorted : List Keyed} {queue : List QueuedState}
+    {s : ℕ} {p : QueuedState} (w : Waits kind patterns sorted queue s p) where
   -- the string of a waiting state has as many bytes as the state is deep
-  pub word-length : length (word members p) ≡ p.depth
-  word-length = length-take-le p.depth (key_at members p.from) w.deep
+  pub word-length : length (word sorted p) ≡ p.depth
+  word-length = length-take-le p.depth (key_at sorted p.from) w.deep
 
   -- what waits still does when more has come
-  pub Waits-more : (more : List Pending) → Waits kind patterns members (queue ++ more) s p
+  pub Waits-more : (more : List QueuedState) → Waits kind patterns sorted (queue ++ more) s p
   Waits-more more = record {
     deep = w.deep;
     range = w.range;
-    fails = nodes-more members queue more p.fail _ w.fails;
+    fails = nodes-more sorted queue more p.fail _ w.fails;
     back = w.back;
     some = w.some;
     inner = w.inner;
   }
 
 -- the number of a state that is next stands for its string
-next-node : (kind : MatchKind) (patterns : List (List ℕ)) (members : List Keyed) (queue : List Pending)
-    (s : ℕ) (p : Pending) → IsNext kind patterns members queue s p
-    → slice_get (nodes_of members queue) s ≡ Some (Some (word members p))
-next-node kind patterns members queue s p (inl start) =
-    let none : word members p ≡ [] = ap (λ (n : ℕ). take n (key_at members p.from)) start.2 in
-    subst (λ (k : ℕ). slice_get (nodes_of members queue) k ≡ Some (Some (word members p))) (sym start.0)
+next-node : (kind : MatchKind) (patterns : List (List ℕ)) (sorted : List Keyed) (queue : List QueuedState)
+    (s : ℕ) (p : QueuedState) → IsNext kind patterns sorted queue s p
+    → slice_get (nodes_of sorted queue) s ≡ Some (Some (word sorted p))
+next-node kind patterns sorted queue s p (inl start) =
+    let none : word sorted p ≡ [] = ap (λ (n : ℕ). take n (key_at sorted p.from)) start.2 in
+    subst (λ (k : ℕ). slice_get (nodes_of sorted queue) k ≡ Some (Some (word sorted p))) (sym start.0)
     (ap (λ (w : List ℕ). Some (Some w)) (sym none))
-next-node kind patterns members queue s p (inr later) =
-    subst (λ (k : ℕ). slice_get (nodes_of members queue) k ≡ Some (Some (word members p))) (sym later.1)
-    (nodes-inner members queue later.0 p later.2)
+next-node kind patterns sorted queue s p (inr later) =
+    subst (λ (k : ℕ). slice_get (nodes_of sorted queue) k ≡ Some (Some (word sorted p))) (sym later.1)
+    (nodes-inner sorted queue later.0 p later.2)
 
 -- a state whose children come: the trie as far as it has grown, the state, and where the patterns end that are
 -- its string
@@ -76,48 +77,49 @@ pub record Site : Type 0 where
   pub kind : MatchKind
   pub fold : Bool
   pub patterns : List (List ℕ)
-  pub members : List Keyed
+  pub sorted : List Keyed
   pub states : List State
   pub transitions : List Transition
-  pub queue : List Pending
-  pub pending : Pending
-  pub ready : IsReady kind fold patterns members states transitions queue pending
-  pub own_end : ℕ
-  pub ends : EndsOwn members pending own_end
+  pub queue : List QueuedState
+  pub queued : QueuedState
+  pub ready : IsReady kind fold patterns sorted states transitions queue queued
+  pub patterns_end : ℕ
+  pub ends : EndsPatterns sorted queued patterns_end
 
 module _ (site : Site) where
-  -- the string of the state, and the byte with which a member goes on behind it
+  -- the string of the state, and the byte with which a pattern goes on behind it
   abbrev pub string : List ℕ
-  string = word site.members site.pending
+  string = word site.sorted site.queued
 
   abbrev pub next_byte : ℕ → Option ℕ
-  next_byte k = byte_at site.members site.pending.depth k
+  next_byte k = byte_at site.sorted site.queued.depth k
 
-  -- the children of the members up to a place have come
-  pub record IsBranching (place : ℕ) (transitions : List Transition) (queue : List Pending) : Type 0 where
-    pub grown : IsGrown site.kind site.patterns site.members (length site.states + 1) transitions queue
+  -- the children of the patterns up to a place have come
+  pub record IsBranching (place : ℕ) (transitions : List Transition) (queue : List QueuedState) : Type 0 where
+    pub grown : IsGrown site.kind site.patterns site.sorted (length site.states + 1) transitions queue
     pub meant : AreStates
-        (grown_meaning site.kind site.fold site.patterns site.members site.transitions queue) site.states
-    pub waits : Waits site.kind site.patterns site.members queue (length site.states) site.pending
-    pub node : slice_get (nodes_of site.members queue) (length site.states) ≡ Some (Some string)
-    pub kept : (k : ℕ) (q : Pending) → slice_get site.queue k ≡ Some q → slice_get queue k ≡ Some q
+        (grown_meaning site.kind site.fold site.patterns site.sorted site.transitions queue) site.states
+    pub waits : Waits site.kind site.patterns site.sorted queue (length site.states) site.queued
+    pub node : slice_get (nodes_of site.sorted queue) (length site.states) ≡ Some (Some string)
+    pub kept : (k : ℕ) (q : QueuedState) → slice_get site.queue k ≡ Some q → slice_get queue k ≡ Some q
     pub more : length site.queue ≤ length queue
-    pub low : site.own_end ≤ place
-    pub high : place ≤ site.pending.to
-    pub children : (c : ℕ) (q : Pending) → length site.queue ≤ c → slice_get queue c ≡ Some q
-        → (k b : ℕ) × (site.own_end ≤ k) × (k < place) × (next_byte k ≡ Some b)
-        × (word site.members q ≡ string ++ b ∷ [])
+    pub low : site.patterns_end ≤ place
+    pub high : place ≤ site.queued.to
+    pub children : (c : ℕ) (q : QueuedState) → length site.queue ≤ c → slice_get queue c ≡ Some q
+        → (k b : ℕ) × (site.patterns_end ≤ k) × (k < place) × (next_byte k ≡ Some b)
+        × (word site.sorted q ≡ string ++ b ∷ [])
     pub added : List Transition
     pub split : transitions ≡ site.transitions ++ added
     pub leads : (t : Transition) → IsIn t added
-        → slice_get (nodes_of site.members queue) t.target
+        → slice_get (nodes_of site.sorted queue) t.target
         ≡ Some (Some (string ++ plain_byte site.fold t.byte ∷ []))
-    pub by_members : (t : Transition) → IsIn t added
-        → (k : ℕ) × (site.own_end ≤ k) × (k < place) × (next_byte k ≡ Some (plain_byte site.fold t.byte))
-    pub covered : (k b x : ℕ) → site.own_end ≤ k → k < place → next_byte k ≡ Some b → plain_byte site.fold x ≡ b
+    pub by_patterns : (t : Transition) → IsIn t added
+        → (k : ℕ) × (site.patterns_end ≤ k) × (k < place) × (next_byte k ≡ Some (plain_byte site.fold t.byte))
+    pub covered : (k b x : ℕ) → site.patterns_end ≤ k → k < place → next_byte k ≡ Some b
+        → plain_byte site.fold x ≡ b
         → (t : Transition) × IsIn t added × (t.byte ≡ x)
     pub apart : IsOrdered (λ s t. s.byte ≢ t.byte) added
-    pub smaller : place < site.pending.to → (k : ℕ) → site.pending.from ≤ k → k < place
+    pub smaller : place < site.queued.to → (k : ℕ) → site.queued.from ≤ k → k < place
         → rank (next_byte k) < rank (next_byte place)
 
   rank-some : (r : Option ℕ) → r ≢ None → 0 < rank r
@@ -125,7 +127,7 @@ module _ (site : Site) where
   rank-some (Some b) some = omega arith
 
   -- it begins behind the patterns that are the string
-  pub branching-begins : IsBranching site.own_end site.transitions site.queue
+  pub branching-begins : IsBranching site.patterns_end site.transitions site.queue
   branching-begins = record {
     grown = record {
       few = site.ready.grown.few;
@@ -136,8 +138,8 @@ module _ (site : Site) where
     };
     meant = site.ready.meant;
     waits = site.ready.waits;
-    node = next-node site.kind site.patterns site.members site.queue
-        (length site.states) site.pending site.ready.next;
+    node = next-node site.kind site.patterns site.sorted site.queue
+        (length site.states) site.queued site.ready.next;
     kept = λ k q e. e;
     more = omega arith;
     low = omega arith;
@@ -146,147 +148,148 @@ module _ (site : Site) where
     added = [];
     split = sym (append-nil site.transitions);
     leads = λ t none. absurd none;
-    by_members = λ t none. absurd none;
+    by_patterns = λ t none. absurd none;
     covered = λ k b x l h e f. absurd (omega arith);
     apart = tt;
     smaller = λ more k a b.
-        let zero : rank (next_byte k) ≡ 0 = ap rank (site.ends.own k a b) in
-        let one = rank-some (next_byte site.own_end) (site.ends.other more) in
+        let zero : rank (next_byte k) ≡ 0 = ap rank (site.ends.whole k a b) in
+        let one = rank-some (next_byte site.patterns_end) (site.ends.other more) in
         omega arith;
   }
 
-  -- behind the patterns that are the string each member has a further byte
-  pub goes-on : {place : ℕ} {transitions : List Transition} {queue : List Pending}
+  -- behind the patterns that are the string each pattern has a further byte
+  pub goes-on : {place : ℕ} {transitions : List Transition} {queue : List QueuedState}
       → IsBranching place transitions queue
-      → place < site.pending.to → next_byte place ≢ None
+      → place < site.queued.to → next_byte place ≢ None
   goes-on {place} h more =
       let same =
       word-length h.waits in
-      subst (λ (n : ℕ). byte_at site.members n place ≢ None) same
-      (longer site.kind site.patterns site.members site.ready.order string site.pending.from site.pending.to
-      h.waits.range site.own_end site.ends.later (let l = h.low in omega arith)
-      (λ k a c. subst (λ (n : ℕ). byte_at site.members n k ≡ None) (sym same) (site.ends.own k a c))
-      (λ l. subst (λ (n : ℕ). byte_at site.members n site.own_end ≢ None) (sym same) (site.ends.other l)) place
+      subst (λ (n : ℕ). byte_at site.sorted n place ≢ None) same
+      (longer site.kind site.patterns site.sorted site.ready.order string site.queued.from site.queued.to
+      h.waits.range site.patterns_end site.ends.later (let l = h.low in omega arith)
+      (λ k a c. subst (λ (n : ℕ). byte_at site.sorted n k ≡ None) (sym same) (site.ends.whole k a c))
+      (λ l. subst (λ (n : ℕ). byte_at site.sorted n site.patterns_end ≢ None) (sym same) (site.ends.other l))
+      place
       h.low more)
 
-  -- the members from a place up to another go on with the byte, and the next one doesn't
+  -- the patterns from a place up to another go on with the byte, and the next one doesn't
   pub record IsRun (place end b : ℕ) : Type 0 where
-    pub more : place < site.pending.to
+    pub more : place < site.queued.to
     pub some : place < end
-    pub high : end ≤ site.pending.to
+    pub high : end ≤ site.queued.to
     pub byte : next_byte place ≡ Some b
     pub same : (k : ℕ) → place ≤ k → k < end → next_byte k ≡ next_byte place
-    pub other : end < site.pending.to → next_byte end ≢ next_byte place
+    pub other : end < site.queued.to → next_byte end ≢ next_byte place
 
   -- such a run is that of a child
-  module _ {place end b : ℕ} {transitions : List Transition} {queue : List Pending}
+  module _ {place end b : ℕ} {transitions : List Transition} {queue : List QueuedState}
       (h : IsBranching place transitions queue)
       (run : IsRun place end b) where
-    long : length string ≡ site.pending.depth
+    long : length string ≡ site.queued.depth
     long = word-length h.waits
 
-    below : (k : ℕ) → site.pending.from ≤ k → k < place → rank (next_byte k) < suc b
+    below : (k : ℕ) → site.queued.from ≤ k → k < place → rank (next_byte k) < suc b
     below k a c =
         let r = h.smaller run.more k a c in
         let at : rank (next_byte place) ≡ suc b = ap rank run.byte in
         omega arith
 
-    -- the members of the run are those that begin with the child's string
-    pub child-members : IsRangeOf site.members (string ++ b ∷ []) place end
-    child-members =
-        child-range site.kind site.patterns site.members site.ready.order string site.pending.from
-        site.pending.to h.waits.range place end b
+    -- the patterns of the run are those that begin with the child's string
+    pub child-range : IsRangeOf site.sorted (string ++ b ∷ []) place end
+    child-range =
+        run-range site.kind site.patterns site.sorted site.ready.order string site.queued.from
+        site.queued.to h.waits.range place end b
         (let l = h.low in let m = site.ends.later in omega arith) run.some run.high
-        (subst (λ (n : ℕ). byte_at site.members n place ≡ Some b) (sym long) run.byte)
-        (λ k a c. subst (λ (n : ℕ). rank (byte_at site.members n k) < suc b) (sym long) (below k a c))
-        (λ k a c. subst (λ (n : ℕ). byte_at site.members n k ≡ byte_at site.members n place) (sym long)
+        (subst (λ (n : ℕ). byte_at site.sorted n place ≡ Some b) (sym long) run.byte)
+        (λ k a c. subst (λ (n : ℕ). rank (byte_at site.sorted n k) < suc b) (sym long) (below k a c))
+        (λ k a c. subst (λ (n : ℕ). byte_at site.sorted n k ≡ byte_at site.sorted n place) (sym long)
         (run.same k a c))
-        (λ l. subst (λ (n : ℕ). byte_at site.members n end ≢ byte_at site.members n place) (sym long)
+        (λ l. subst (λ (n : ℕ). byte_at site.sorted n end ≢ byte_at site.sorted n place) (sym long)
         (run.other l))
 
-    greater : end < site.pending.to → suc b < rank (next_byte end)
+    greater : end < site.queued.to → suc b < rank (next_byte end)
     greater l =
-        subst (λ (n : ℕ). suc b < rank (byte_at site.members n end)) long
-        (next-greater site.kind site.patterns site.members site.ready.order string site.pending.from
-        site.pending.to h.waits.range place end b
+        subst (λ (n : ℕ). suc b < rank (byte_at site.sorted n end)) long
+        (next-greater site.kind site.patterns site.sorted site.ready.order string site.queued.from
+        site.queued.to h.waits.range place end b
         (let m = h.low in let n = site.ends.later in omega arith) run.some run.high
-        (subst (λ (n : ℕ). byte_at site.members n place ≡ Some b) (sym long) run.byte)
-        (λ k a c. subst (λ (n : ℕ). rank (byte_at site.members n k) < suc b) (sym long) (below k a c))
-        (λ k a c. subst (λ (n : ℕ). byte_at site.members n k ≡ byte_at site.members n place) (sym long)
+        (subst (λ (n : ℕ). byte_at site.sorted n place ≡ Some b) (sym long) run.byte)
+        (λ k a c. subst (λ (n : ℕ). rank (byte_at site.sorted n k) < suc b) (sym long) (below k a c))
+        (λ k a c. subst (λ (n : ℕ). byte_at site.sorted n k ≡ byte_at site.sorted n place) (sym long)
         (run.same k a c))
-        (λ m. subst (λ (n : ℕ). byte_at site.members n end ≢ byte_at site.members n place) (sym long)
+        (λ m. subst (λ (n : ℕ). byte_at site.sorted n end ≢ byte_at site.sorted n place) (sym long)
         (run.other m)) l)
 
-    pushed : length (string ++ b ∷ []) ≡ site.pending.depth + 1
+    pushed : length (string ++ b ∷ []) ≡ site.queued.depth + 1
     pushed = let l = length_push string b in let m = long in omega arith
 
-    front : starts_with nat_eq (key_at site.members place) (string ++ b ∷ []) ≡ true
-    front = (child-members.begins place (let w = h.waits.range.within in omega arith)).0 (omega arith, run.some)
+    front : starts_with nat_eq (key_at site.sorted place) (string ++ b ∷ []) ≡ true
+    front = (child-range.begins place (let w = h.waits.range.within in omega arith)).0 (omega arith, run.some)
 
     -- the pattern at the place has the byte
-    pub child-deep : site.pending.depth + 1 ≤ length (key_at site.members place)
+    pub child-deep : site.queued.depth + 1 ≤ length (key_at site.sorted place)
     child-deep =
-        let l = starts_with-length (key_at site.members place) (string ++ b ∷ []) front in
+        let l = starts_with-length (key_at site.sorted place) (string ++ b ∷ []) front in
         let m = pushed in
         omega arith
 
     -- what the child's failure target is told by
-    pub has-child : HasChild site.kind site.fold site.patterns site.members site.states transitions queue
-        site.pending place b
+    pub has-child : HasChild site.kind site.fold site.patterns site.sorted site.states transitions queue
+        site.queued place b
     has-child = record {
       order = site.ready.order;
-      settled = site.ready.settled place site.pending.depth b run.byte;
+      settled = site.ready.settled place site.queued.depth b run.byte;
       meant =
           AreStates-more
-          (grown_meaning site.kind site.fold site.patterns site.members site.transitions queue) transitions
-          h.added h.split (nodes_of site.members queue)
+          (grown_meaning site.kind site.fold site.patterns site.sorted site.transitions queue) transitions
+          h.added h.split (nodes_of site.sorted queue)
           (λ s v e. e) site.states (omega arith) h.meant;
       waits = h.waits;
       near = λ deep. near deep site.ready.next;
       to = end;
-      range = child-members;
+      range = child-range;
       some = run.some;
     }
       where
-        near : site.pending.depth ≢ 0
-            → IsNext site.kind site.patterns site.members site.queue (length site.states) site.pending
-            → site.pending.fail < length site.states
+        near : site.queued.depth ≢ 0
+            → IsNext site.kind site.patterns site.sorted site.queue (length site.states) site.queued
+            → site.queued.fail < length site.states
         near deep (inl start) = absurd (deep start.2)
         near deep (inr later) = h.waits.back (let n = later.1 in omega arith)
 
     -- the child that waits for them
     module _ (fail : ℕ)
-        (fails : slice_get (nodes_of site.members queue) fail
+        (fails : slice_get (nodes_of site.sorted queue) fail
         ≡ Some (miss site.kind site.patterns (Some (string ++ b ∷ [])))) where
-      abbrev child : Pending
-      child = record { from = place; to = end; depth = site.pending.depth + 1; fail = fail }
+      abbrev child : QueuedState
+      child = record { from = place; to = end; depth = site.queued.depth + 1; fail = fail }
 
-      child-word : word site.members child ≡ string ++ b ∷ []
+      child-word : word site.sorted child ≡ string ++ b ∷ []
       child-word =
-          ap (λ (n : ℕ). take n (key_at site.members place)) (sym pushed)
-          ∙ front-is (key_at site.members place) (string ++ b ∷ []) front
+          ap (λ (n : ℕ). take n (key_at site.sorted place)) (sym pushed)
+          ∙ front-is (key_at site.sorted place) (string ++ b ∷ []) front
 
       -- a state that was there before has another string: else it would have this parent
-      old-child : (k : ℕ) (q : Pending) → k < length site.queue → slice_get queue k ≡ Some q
-          → word site.members q ≡ string ++ b ∷ [] → ⊥
+      old-child : (k : ℕ) (q : QueuedState) → k < length site.queue → slice_get queue k ≡ Some q
+          → word site.sorted q ≡ string ++ b ∷ [] → ⊥
       old-child k q l e w =
           let known = slice_get-get_or site.queue k q l in
           let is : get_or site.queue k q ≡ q =
           get-same queue k (get_or site.queue k q) q (h.kept k (get_or site.queue k q) known) e in
-          let there : slice_get site.queue k ≡ Some q = known ∙ ap (λ (r : Pending). Some r) is in
+          let there : slice_get site.queue k ≡ Some q = known ∙ ap (λ (r : QueuedState). Some r) is in
           let parent = site.ready.grown.parents k q there in
           let waits = site.ready.grown.waits k q there in
-          let depth : q.depth - 1 ≡ site.pending.depth =
+          let depth : q.depth - 1 ≡ site.queued.depth =
           (let m = word-length waits in
           let n = ap length w in let o = pushed in omega arith) in
-          let same_string : take (q.depth - 1) (word site.members q) ≡ string =
-          ap (λ (n : ℕ). take n (word site.members q)) (depth ∙ sym long) ∙ ap (take (length string)) w
+          let same_string : take (q.depth - 1) (word site.sorted q) ≡ string =
+          ap (λ (n : ℕ). take n (word site.sorted q)) (depth ∙ sym long) ∙ ap (take (length string)) w
           ∙ take-append_seam string (b ∷ []) in
           same-parent parent.0 parent.1 (parent.2 ∙ ap (λ (v : List ℕ). Some (Some v)) same_string)
         where
           same-parent : (j : ℕ) → j < length site.states
-              → slice_get (nodes_of site.members site.queue) j ≡ Some (Some string) → ⊥
-          same-parent j l node = elim (nodes-cases site.members site.queue j (Some string) node) [
+              → slice_get (nodes_of site.sorted site.queue) j ≡ Some (Some string) → ⊥
+          same-parent j l node = elim (nodes-cases site.sorted site.queue j (Some string) node) [
             | inl dead ↦ absurd (let e = dead.1 in cc)
             | inr (inl start) ↦
                 at-start j l start.0
@@ -294,8 +297,8 @@ module _ (site : Site) where
             | inr (inr inner) ↦ at-inner j l inner site.ready.next
           ]
             where
-              at-start : (j : ℕ) → j < length site.states → 2 ≤ j → string ≡ []
-                  → IsNext site.kind site.patterns site.members site.queue (length site.states) site.pending → ⊥
+              at-start : (j : ℕ) → j < length site.states → START ≤ j → string ≡ []
+                  → IsNext site.kind site.patterns site.sorted site.queue (length site.states) site.queued → ⊥
               at-start j l low none (inl start) = absurd (let n = start.0 in omega arith)
               at-start j l low none (inr later) =
                   let s = later.1 in
@@ -304,85 +307,86 @@ module _ (site : Site) where
                   let m = long in
                   absurd (omega arith)
 
-              at-inner : (j : ℕ) → j < length site.states → IsInner site.members site.queue j (Some string)
-                  → IsNext site.kind site.patterns site.members site.queue (length site.states) site.pending → ⊥
+              at-inner : (j : ℕ) → j < length site.states → IsInner site.sorted site.queue j (Some string)
+                  → IsNext site.kind site.patterns site.sorted site.queue (length site.states) site.queued → ⊥
               at-inner j l inner (inl start) = absurd (let n = start.0 in let m = inner.number in omega arith)
               at-inner j l inner (inr later) =
-                  let e : word site.members inner.pending ≡ string =
-                  (let w : Some string ≡ Some (word site.members inner.pending) = inner.node in
-                  let v : string ≡ word site.members inner.pending = cc in sym v) in
+                  let e : word site.sorted inner.queued ≡ string =
+                  (let w : Some string ≡ Some (word site.sorted inner.queued) = inner.node in
+                  let v : string ≡ word site.sorted inner.queued = cc in sym v) in
                   let at =
-                  site.ready.grown.apart inner.place later.0 inner.pending site.pending inner.waits later.2 e in
+                  site.ready.grown.apart inner.place later.0 inner.queued site.queued inner.waits later.2 e in
                   let m = inner.number in
                   let n = later.1 in
                   absurd (omega arith)
 
       -- nor does a child that came before have this string
-      pub fresh : (k : ℕ) (q : Pending) → slice_get queue k ≡ Some q → word site.members q ≡ string ++ b ∷ []
+      pub fresh : (k : ℕ) (q : QueuedState) → slice_get queue k ≡ Some q → word site.sorted q ≡ string ++ b ∷ []
           → ⊥
       fresh k q e w = elim (cases_lt k (length site.queue)) [
         | inl before ↦ old-child k q before e w
         | inr le ↦
-            let member = h.children k q le e in
-            let x = member.1 in
-            let same_byte : x ≡ b = (push-injective string string x b (sym member.5 ∙ w)).1 in
+            let pattern = h.children k q le e in
+            let x = pattern.1 in
+            let same_byte : x ≡ b = (push-injective string string x b (sym pattern.5 ∙ w)).1 in
             let less =
-            h.smaller run.more member.0 (let m = site.ends.later in omega (arith, member.2)) member.3 in
-            let r : rank (next_byte member.0) ≡ suc x = ap rank member.4 in
+            h.smaller run.more pattern.0 (let m = site.ends.later in omega (arith, pattern.2)) pattern.3 in
+            let r : rank (next_byte pattern.0) ≡ suc x = ap rank pattern.4 in
             let s : rank (next_byte place) ≡ suc b = ap rank run.byte in
             absurd (omega arith)
       ]
 
-      child-waits : Waits site.kind site.patterns site.members (queue ++ child ∷ []) (4 + length queue) child
+      child-waits : Waits site.kind site.patterns site.sorted (queue ++ child ∷ [])
+          (FIRST_INNER + length queue) child
       child-waits =
-          let front_long = starts_with-length (key_at site.members place) (string ++ b ∷ []) front in
+          let front_long = starts_with-length (key_at site.sorted place) (string ++ b ∷ []) front in
           let named =
-          slice_get_within (nodes_of site.members queue) fail
+          slice_get_within (nodes_of site.sorted queue) fail
           (miss site.kind site.patterns (Some (string ++ b ∷ []))) fails in
-          let count = length-map queue (λ (q : Pending). Some (word site.members q)) in
+          let count = length-map queue (λ (q : QueuedState). Some (word site.sorted q)) in
           record {
             deep = (let l = pushed in omega arith);
-            range = subst (λ (v : List ℕ). IsRangeOf site.members v place end) (sym child-word) child-members;
-            fails = nodes-more site.members queue (child ∷ []) fail _
+            range = subst (λ (v : List ℕ). IsRangeOf site.sorted v place end) (sym child-word) child-range;
+            fails = nodes-more site.sorted queue (child ∷ []) fail _
                 (fails ∙ ap (λ (v : List ℕ). Some (miss site.kind site.patterns (Some v))) (sym child-word));
             back = λ l. omega arith;
             some = λ l. run.some;
             inner = λ l. omega arith;
           }
 
-      still-apart : (j k : ℕ) (q r : Pending) → slice_get (queue ++ child ∷ []) j ≡ Some q
+      still-apart : (j k : ℕ) (q r : QueuedState) → slice_get (queue ++ child ∷ []) j ≡ Some q
           → slice_get (queue ++ child ∷ []) k ≡ Some r
-          → word site.members q ≡ word site.members r → j ≡ k
+          → word site.sorted q ≡ word site.sorted r → j ≡ k
       still-apart j k q r e f w = by (get-added_cases queue child q j e) (get-added_cases queue child r k f)
         where
           by : ((slice_get queue j ≡ Some q) ⊎ ((j ≡ length queue) × (child ≡ q)))
               → ((slice_get queue k ≡ Some r) ⊎ ((k ≡ length queue) × (child ≡ r))) → j ≡ k
           by (inl old) (inl old') = h.grown.apart j k q r old old' w
-          by (inl old) (inr new) = absurd (fresh j q old (w ∙ ap (word site.members) (sym new.1) ∙ child-word))
+          by (inl old) (inr new) = absurd (fresh j q old (w ∙ ap (word site.sorted) (sym new.1) ∙ child-word))
           by (inr new) (inl old) =
-              absurd (fresh k r old (sym w ∙ ap (word site.members) (sym new.1) ∙ child-word))
+              absurd (fresh k r old (sym w ∙ ap (word site.sorted) (sym new.1) ∙ child-word))
           by (inr new) (inr new') = new.0 ∙ sym new'.0
 
-      parent-string : take (child.depth - 1) (word site.members child) ≡ string
+      parent-string : take (child.depth - 1) (word site.sorted child) ≡ string
       parent-string =
-          let back : site.pending.depth + 1 - 1 ≡ length string = (let l = long in omega arith) in
-          ap (λ (n : ℕ). take n (word site.members child)) back
+          let back : site.queued.depth + 1 - 1 ≡ length string = (let l = long in omega arith) in
+          ap (λ (n : ℕ). take n (word site.sorted child)) back
           ∙ ap (take (length string)) child-word
           ∙ take-append_seam string (b ∷ [])
 
       -- the transitions to it
       abbrev pub more_transitions : List Transition
-      more_transitions = leading site.fold b (4 + length queue)
+      more_transitions = leading site.fold b (FIRST_INNER + length queue)
 
       settled : plain_byte site.fold b ≡ b
-      settled = site.ready.settled place site.pending.depth b run.byte
+      settled = site.ready.settled place site.queued.depth b run.byte
 
-      still-grown : length queue + 4 < GREATEST + 1
-          → IsGrown site.kind site.patterns site.members (length site.states + 1)
+      still-grown : FIRST_INNER + length queue < GREATEST + 1
+          → IsGrown site.kind site.patterns site.sorted (length site.states + 1)
           (transitions ++ more_transitions) (queue ++ child ∷ [])
       still-grown few = record {
         counted = (let l = h.grown.counted in let m = length-append transitions more_transitions in
-            let o = leading-length site.fold b (4 + length queue) in
+            let o = leading-length site.fold b (FIRST_INNER + length queue) in
             let n = length_push queue child in
             omega arith);
         few = (let n = length_push queue child in omega arith);
@@ -390,53 +394,56 @@ module _ (site : Site) where
           | inl old ↦
               Waits-more (h.grown.waits k q old) (child ∷ [])
           | inr new ↦
-              subst (λ (r : Pending). Waits site.kind site.patterns site.members (queue ++ child ∷ [])
-              (4 + k) r) new.1
-              (subst (λ (n : ℕ). Waits site.kind site.patterns site.members (queue ++ child ∷ []) (4 + n) child)
+              subst (λ (r : QueuedState). Waits site.kind site.patterns site.sorted (queue ++ child ∷ [])
+              (FIRST_INNER + k) r) new.1
+              (subst (λ (n : ℕ). Waits site.kind site.patterns site.sorted (queue ++ child ∷ [])
+              (FIRST_INNER + n) child)
               (sym new.0) child-waits)
         ];
         apart = still-apart;
         parents = λ k q e. elim (get-added_cases queue child q k e) [
           | inl old ↦
               let r = h.grown.parents k q old in
-              (r.0, r.1, nodes-more site.members queue (child ∷ []) r.0 _ r.2)
+              (r.0, r.1, nodes-more site.sorted queue (child ∷ []) r.0 _ r.2)
           | inr new ↦ (
             length site.states,
             omega arith,
-            subst (λ (r : Pending). slice_get (nodes_of site.members (queue ++ child ∷ [])) (length site.states)
-                ≡ Some (Some (take (r.depth - 1) (word site.members r)))) new.1
-                (nodes-more site.members queue (child ∷ []) (length site.states) _
+            subst (λ (r : QueuedState). slice_get (nodes_of site.sorted (queue ++ child ∷ []))
+                (length site.states)
+                ≡ Some (Some (take (r.depth - 1) (word site.sorted r)))) new.1
+                (nodes-more site.sorted queue (child ∷ []) (length site.states) _
                 (h.node ∙ ap (λ (v : List ℕ). Some (Some v)) (sym parent-string))),
           )
         ];
       }
 
       step-leads : (t : Transition) → IsIn t (h.added ++ more_transitions)
-          → slice_get (nodes_of site.members (queue ++ child ∷ [])) t.target
+          → slice_get (nodes_of site.sorted (queue ++ child ∷ [])) t.target
           ≡ Some (Some (string ++ plain_byte site.fold t.byte ∷ []))
       step-leads t has = elim (IsIn-append_cases t h.added more_transitions has) [
-        | inl old ↦ nodes-more site.members queue (child ∷ []) t.target _ (h.leads t old)
+        | inl old ↦ nodes-more site.sorted queue (child ∷ []) t.target _ (h.leads t old)
         | inr new ↦
-            let by = leading-plain site.fold b (4 + length queue) settled t new in
-            ap (slice_get (nodes_of site.members (queue ++ child ∷ []))) by.1
-            ∙ nodes-inner site.members (queue ++ child ∷ []) (length queue) child (get-added queue child)
+            let by = leading-plain site.fold b (FIRST_INNER + length queue) settled t new in
+            ap (slice_get (nodes_of site.sorted (queue ++ child ∷ []))) by.1
+            ∙ nodes-inner site.sorted (queue ++ child ∷ []) (length queue) child (get-added queue child)
             ∙ ap (λ (v : List ℕ). Some (Some v)) (child-word ∙ ap (λ (y : ℕ). string ++ y ∷ []) (sym by.0))
       ]
 
-      step-by_members : (t : Transition) → IsIn t (h.added ++ more_transitions)
-          → (k : ℕ) × (site.own_end ≤ k) × (k < end) × (next_byte k ≡ Some (plain_byte site.fold t.byte))
-      step-by_members t has = elim (IsIn-append_cases t h.added more_transitions has) [
-        | inl old ↦ let r = h.by_members t old in (r.0, r.1, omega (arith, r.2), r.3)
+      step-by_patterns : (t : Transition) → IsIn t (h.added ++ more_transitions)
+          → (k : ℕ) × (site.patterns_end ≤ k) × (k < end) × (next_byte k ≡ Some (plain_byte site.fold t.byte))
+      step-by_patterns t has = elim (IsIn-append_cases t h.added more_transitions has) [
+        | inl old ↦ let r = h.by_patterns t old in (r.0, r.1, omega (arith, r.2), r.3)
         | inr new ↦ (
           place,
           h.low,
           run.some,
           run.byte
-              ∙ ap (λ (y : ℕ). Some y) (sym (leading-plain site.fold b (4 + length queue) settled t new).0),
+              ∙ ap (λ (y : ℕ). Some y)
+              (sym (leading-plain site.fold b (FIRST_INNER + length queue) settled t new).0),
         )
       ]
 
-      step-covered : (k c x : ℕ) → site.own_end ≤ k → k < end → next_byte k ≡ Some c
+      step-covered : (k c x : ℕ) → site.patterns_end ≤ k → k < end → next_byte k ≡ Some c
           → plain_byte site.fold x ≡ c
           → (t : Transition) × IsIn t (h.added ++ more_transitions) × (t.byte ≡ x)
       step-covered k c x l m e is = elim (cases_lt k place) [
@@ -445,9 +452,9 @@ module _ (site : Site) where
             (r.0, IsIn-append_left r.0 h.added more_transitions r.1, r.2)
         | inr le ↦
             let same_byte : c ≡ b = (let f : Some c ≡ Some b = sym e ∙ run.same k le m ∙ run.byte in cc) in (
-              record { byte = x; target = 4 + length queue },
+              record { byte = x; target = FIRST_INNER + length queue },
               IsIn-append_right _ h.added more_transitions
-                  (leading-has site.fold b (4 + length queue) settled x (is ∙ same_byte)),
+                  (leading-has site.fold b (FIRST_INNER + length queue) settled x (is ∙ same_byte)),
               refl,
             )
       ]
@@ -455,18 +462,19 @@ module _ (site : Site) where
       step-apart : IsOrdered (λ s t. s.byte ≢ t.byte) (h.added ++ more_transitions)
       step-apart =
           IsOrdered-append (λ (s t : Transition). s.byte ≢ t.byte) h.added more_transitions h.apart
-          (leading-apart site.fold b (4 + length queue))
+          (leading-apart site.fold b (FIRST_INNER + length queue))
           (λ s t old new e.
-          let member = h.by_members s old in
+          let pattern = h.by_patterns s old in
           let less =
-          h.smaller run.more member.0 (let m = site.ends.later in omega (arith, member.1)) member.2 in
-          let low : rank (next_byte member.0) ≡ suc (plain_byte site.fold s.byte) = ap rank member.3 in
+          h.smaller run.more pattern.0 (let m = site.ends.later in omega (arith, pattern.1)) pattern.2 in
+          let low : rank (next_byte pattern.0) ≡ suc (plain_byte site.fold s.byte) = ap rank pattern.3 in
           let high : rank (next_byte place) ≡ suc b = ap rank run.byte in
           let is : plain_byte site.fold s.byte ≡ b =
-          ap (plain_byte site.fold) e ∙ (leading-plain site.fold b (4 + length queue) settled t new).0 in
+          ap (plain_byte site.fold) e ∙ (leading-plain site.fold b (FIRST_INNER + length queue) settled t new).0
+          in
           absurd (omega arith))
 
-      step-smaller : end < site.pending.to → (k : ℕ) → site.pending.from ≤ k → k < end
+      step-smaller : end < site.queued.to → (k : ℕ) → site.queued.from ≤ k → k < end
           → rank (next_byte k) < rank (next_byte end)
       step-smaller l k low m =
           let up = greater l in
@@ -476,35 +484,35 @@ module _ (site : Site) where
           ]
 
       -- with the child behind the queue the children up to the end of its run have come
-      pub branching-goes_on : length queue + 4 < GREATEST + 1
+      pub branching-goes_on : FIRST_INNER + length queue < GREATEST + 1
           → IsBranching end (transitions ++ more_transitions) (queue ++ child ∷ [])
       branching-goes_on few = record {
         grown = still-grown few;
         meant =
             AreStates-more
-            (grown_meaning site.kind site.fold site.patterns site.members site.transitions queue)
+            (grown_meaning site.kind site.fold site.patterns site.sorted site.transitions queue)
             site.transitions [] (sym (append-nil site.transitions))
-            (nodes_of site.members (queue ++ child ∷ []))
-            (nodes-more site.members queue (child ∷ [])) site.states
-            (let m = length-map queue (λ (q : Pending). Some (word site.members q)) in
-            let n = length-map (queue ++ child ∷ []) (λ (q : Pending). Some (word site.members q)) in
+            (nodes_of site.sorted (queue ++ child ∷ []))
+            (nodes-more site.sorted queue (child ∷ [])) site.states
+            (let m = length-map queue (λ (q : QueuedState). Some (word site.sorted q)) in
+            let n = length-map (queue ++ child ∷ []) (λ (q : QueuedState). Some (word site.sorted q)) in
             let o = length_push queue child in omega arith)
             h.meant;
         waits = Waits-more h.waits (child ∷ []);
-        node = nodes-more site.members queue (child ∷ []) (length site.states) _ h.node;
+        node = nodes-more site.sorted queue (child ∷ []) (length site.states) _ h.node;
         kept = λ k q e. get-append queue (child ∷ []) k q (h.kept k q e);
         more = (let m = h.more in let n = length_push queue child in omega arith);
         low = (let m = h.low in omega arith);
         high = run.high;
         children = λ c q le e. elim (get-added_cases queue child q c e) [
           | inl old ↦ let r = h.children c q le old in (r.0, r.1, r.2, omega (arith, r.3), r.4, r.5)
-          | inr new ↦ (place, b, h.low, run.some, run.byte, sym (ap (word site.members) new.1) ∙ child-word)
+          | inr new ↦ (place, b, h.low, run.some, run.byte, sym (ap (word site.sorted) new.1) ∙ child-word)
         ];
         added = h.added ++ more_transitions;
         split = ap (λ (ts : List Transition). ts ++ more_transitions) h.split
             ∙ append_assoc site.transitions h.added more_transitions;
         leads = step-leads;
-        by_members = step-by_members;
+        by_patterns = step-by_patterns;
         covered = step-covered;
         apart = step-apart;
         smaller = step-smaller;

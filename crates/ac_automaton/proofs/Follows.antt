@@ -1,6 +1,6 @@
 -- A walk from state to state along the failure targets: it keeps where the byte leads at last, and counts its
 -- looks.
-use Rattle.std.proofs.Common.{◌≡◌, ◌≢◌, ℕ, ◌+◌, ◌<◌, List, get_or, refl, ap, sym, subst, ◌∙◌, arith, Some, None, Contains}
+use Rattle.std.proofs.Common.{◌≡◌, ◌≢◌, ℕ, ◌+◌, ◌<◌, ◌≤◌, List, get_or, refl, ap, sym, subst, ◌∙◌, arith, Some, None, Contains}
 use Rattle.std.specs.Prelude.{slice_get}
 use Rattle.std.proofs.lemmas.List.{get_or_read}
 use Rattle.ac_util.specs.declared.search.Anchored.{Anchored}
@@ -11,10 +11,11 @@ use Rattle.ac_util.specs.Looks.{looks}
 use Rattle.ac_util.specs.Sameness.{plain_byte}
 use Rattle.ac_util.proofs.Lists.{Contains-from_IsIn, IsIn-map}
 use Rattle.ac_automaton.specs.declared.nfa.noncontiguous.state.State.{State}
+use Rattle.ac_automaton.specs.declared.nfa.noncontiguous.state.TheConstants.{DEAD, FIRST_INNER}
 use Rattle.ac_automaton.specs.declared.nfa.noncontiguous.state.Transition.{Transition}
-use Rattle.ac_automaton.specs.Tries.{Meaning, HasState, Represents, bytes_of, held, transitions_of, miss}
+use Rattle.ac_automaton.specs.Tries.{Meaning, HasState, Represents, transition_bytes, own_target, transitions_of, miss}
 use Rattle.ac_automaton.proofs.Places.{IsIn-place}
-use Rattle.ac_automaton.proofs.Steps.{step-held, step-miss, step-on, looks-held, looks-short, looks-on}
+use Rattle.ac_automaton.proofs.Steps.{step-own_target, step-miss, step-on, looks-own_target, looks-short, looks-on}
 
 -- a node that cannot be alive is dead
 none-from : (v : Node) → (v ≢ None → ⊥) → v ≡ None
@@ -43,26 +44,27 @@ module _ (g : Meaning) (transitions : List Transition) (same : g.transitions ≡
   -- a byte with a transition leads on
   pub leads-on : (k target : ℕ)
       → slice_get (transitions_of transitions t) k ≡ Some (record { byte = b; target = target })
-      → held g v b ≢ None
+      → own_target g v b ≢ None
   leads-on k target at =
       let own = transitions_of g.transitions t in
       let there : slice_get own k ≡ Some (record { byte = b; target = target }) = rw same at in
       (r.branches b).0
-      (Contains-from_IsIn b (bytes_of own)
+      (Contains-from_IsIn b (transition_bytes own)
       (IsIn-map (λ (x : Transition). x.byte) (record { byte = b; target = target }) own
       (IsIn-place (record { byte = b; target = target }) own k there)))
 
   -- and it leads to the target
   pub leads-to : (k target : ℕ)
       → slice_get (transitions_of transitions t) k ≡ Some (record { byte = b; target = target })
-      → slice_get g.nodes target ≡ Some (held g v b)
+      → slice_get g.nodes target ≡ Some (own_target g v b)
   leads-to k target at = r.leads k (record { byte = b; target = target }) (rw same at)
 
   -- any other byte leads nowhere
-  pub leads-nowhere : (Contains (bytes_of (transitions_of transitions t)) b → ⊥) → held g v b ≡ None
+  pub leads-nowhere : (Contains (transition_bytes (transitions_of transitions t)) b → ⊥) → own_target g v b
+      ≡ None
   leads-nowhere none =
-      none-from (held g v b)
-      (λ on. none (subst (λ (ts : List Transition). Contains (bytes_of (transitions_of ts t)) b) same
+      none-from (own_target g v b)
+      (λ on. none (subst (λ (ts : List Transition). Contains (transition_bytes (transitions_of ts t)) b) same
       ((r.branches b).1 on)))
 
 -- on the way to where the byte leads from the node, the walk is at a state, and has counted what it took to
@@ -107,14 +109,14 @@ module _ (g : Meaning) (states : List State) (b : ℕ) (u : Node) (old : Counts)
       ∙ ap (λ (n : ℕ). more_looks n old) (let l = o.looks in omega arith)
 
   -- a byte that leads on leads to one node in any search, with one look
-  step-leads : (anchored : Anchored) (v : Node) → held g v b ≢ None
-      → step g.kind g.patterns anchored v (plain_byte g.fold b) ≡ held g v b
-  step-leads No v on = step-held g.kind g.patterns v (plain_byte g.fold b) on
+  step-leads : (anchored : Anchored) (v : Node) → own_target g v b ≢ None
+      → step g.kind g.patterns anchored v (plain_byte g.fold b) ≡ own_target g v b
+  step-leads No v on = step-own_target g.kind g.patterns v (plain_byte g.fold b) on
   step-leads Yes v on = refl
 
-  looks-leads : (anchored : Anchored) (v : Node) → held g v b ≢ None
+  looks-leads : (anchored : Anchored) (v : Node) → own_target g v b ≢ None
       → looks g.kind g.patterns anchored v (plain_byte g.fold b) ≡ 1
-  looks-leads No v on = looks-held g.kind g.patterns v (plain_byte g.fold b) on
+  looks-leads No v on = looks-own_target g.kind g.patterns v (plain_byte g.fold b) on
   looks-leads Yes v on = refl
 
   -- what holds after a look at the state t of the number s
@@ -134,10 +136,10 @@ module _ (g : Meaning) (states : List State) (b : ℕ) (u : Node) (old : Counts)
           looks = counted-last anchored now new s o (looks-leads anchored o.node on) more;
         }
 
-    module _ (none : Contains (bytes_of (transitions_of transitions t)) b → ⊥) where
+    module _ (none : Contains (transition_bytes (transitions_of transitions t)) b → ⊥) where
       -- an anchored walk ends at the dead state where there is no transition
       pub ends-anchored : (anchored : Anchored) → anchored ≡ Yes
-          → Onward g states anchored b u old now s → Ended g anchored b u old new 0
+          → Onward g states anchored b u old now s → Ended g anchored b u old new DEAD
       ends-anchored No is_yes o = absurd (cc)
       ends-anchored Yes is_yes o =
           let r = represented g states s o.node t o.state is in
@@ -147,7 +149,7 @@ module _ (g : Meaning) (states : List State) (b : ℕ) (u : Node) (old : Counts)
           }
 
       -- an unanchored one ends behind the start and the dead state
-      pub ends-outer : (anchored : Anchored) → anchored ≡ No → s < 4
+      pub ends-outer : (anchored : Anchored) → anchored ≡ No → s < FIRST_INNER
           → Onward g states anchored b u old now s → Ended g anchored b u old new t.fail
       ends-outer Yes is_no small o = absurd (cc)
       ends-outer No is_no small o =
@@ -160,7 +162,7 @@ module _ (g : Meaning) (states : List State) (b : ℕ) (u : Node) (old : Counts)
           }
 
       -- and goes on at the failure target of any other
-      pub goes-on : (anchored : Anchored) → anchored ≡ No → 3 < s
+      pub goes-on : (anchored : Anchored) → anchored ≡ No → FIRST_INNER ≤ s
           → Onward g states anchored b u old now s → Onward g states anchored b u old new t.fail
       goes-on Yes is_no large o = absurd (cc)
       goes-on No is_no large o =

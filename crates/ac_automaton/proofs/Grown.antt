@@ -7,33 +7,34 @@ use Rattle.std.proofs.lemmas.List.{get_or_default, get_or_append_left, get_or_pu
 use Rattle.std.proofs.lemmas.Option.{slice_get-map, slice_get-get_or, slice_get_within}
 use Rattle.ac_util.specs.Node.{Node}
 use Rattle.ac_util.proofs.PiecesLemmas.{slice_range-append}
-use Rattle.ac_automaton.specs.declared.nfa.noncontiguous.growth.Pending.{Pending}
+use Rattle.ac_automaton.specs.declared.nfa.noncontiguous.growth.QueuedState.{QueuedState}
 use Rattle.ac_automaton.specs.declared.nfa.noncontiguous.state.State.{State}
+use Rattle.ac_automaton.specs.declared.nfa.noncontiguous.state.TheConstants.{START, FIRST_INNER}
 use Rattle.ac_automaton.specs.declared.nfa.noncontiguous.state.Transition.{Transition}
 use Rattle.ac_automaton.specs.Growths.{nodes_of, word}
-use Rattle.ac_automaton.specs.Members.{Keyed}
-use Rattle.ac_automaton.specs.Tries.{Meaning, AreStates, Represents, bytes_of, held, transitions_of, state_at}
+use Rattle.ac_automaton.specs.Sorted.{Keyed}
+use Rattle.ac_automaton.specs.Tries.{Meaning, AreStates, Represents, transition_bytes, own_target, transitions_of, state_at}
 use Rattle.ac_automaton.proofs.Places.{get-same}
 
 -- what a number says of its node: dead, the start, or the string of a state in the queue
-pub record IsInner (members : List Keyed) (queue : List Pending) (s : ℕ) (v : Node) : Type 0 where
+pub record IsInner (sorted : List Keyed) (queue : List QueuedState) (s : ℕ) (v : Node) : Type 0 where
   pub place : ℕ
-  pub number : s ≡ 4 + place
-  pub pending : Pending
-  pub waits : slice_get queue place ≡ Some pending
-  pub node : v ≡ Some (word members pending)
+  pub number : s ≡ FIRST_INNER + place
+  pub queued : QueuedState
+  pub waits : slice_get queue place ≡ Some queued
+  pub node : v ≡ Some (word sorted queued)
 
-module _ (members : List Keyed) where
-  words_more : (queue more : List Pending) (k : ℕ) (v : Node)
-      → slice_get (map (λ p. Some (word members p)) queue) k ≡ Some v
-      → slice_get (map (λ p. Some (word members p)) (queue ++ more)) k ≡ Some v
+module _ (sorted : List Keyed) where
+  words_more : (queue more : List QueuedState) (k : ℕ) (v : Node)
+      → slice_get (map (λ p. Some (word sorted p)) queue) k ≡ Some v
+      → slice_get (map (λ p. Some (word sorted p)) (queue ++ more)) k ≡ Some v
   words_more [] more k v e = absurd (cc)
   words_more (p ∷ queue) more zero v e = e
   words_more (p ∷ queue) more (suc k) v e = words_more queue more k v e
 
   -- a number keeps its node
-  pub nodes-more : (queue more : List Pending) (s : ℕ) (v : Node)
-      → slice_get (nodes_of members queue) s ≡ Some v → slice_get (nodes_of members (queue ++ more)) s ≡ Some v
+  pub nodes-more : (queue more : List QueuedState) (s : ℕ) (v : Node)
+      → slice_get (nodes_of sorted queue) s ≡ Some v → slice_get (nodes_of sorted (queue ++ more)) s ≡ Some v
   nodes-more queue more zero v e = e
   nodes-more queue more (suc zero) v e = e
   nodes-more queue more (suc (suc zero)) v e = e
@@ -41,30 +42,31 @@ module _ (members : List Keyed) where
   nodes-more queue more (suc (suc (suc (suc k)))) v e = words_more queue more k v e
 
   -- the states from the fifth on stand for the strings of the queue
-  pub nodes-inner : (queue : List Pending) (k : ℕ) (p : Pending) → slice_get queue k ≡ Some p
-      → slice_get (nodes_of members queue) (4 + k) ≡ Some (Some (word members p))
+  pub nodes-inner : (queue : List QueuedState) (k : ℕ) (p : QueuedState) → slice_get queue k ≡ Some p
+      → slice_get (nodes_of sorted queue) (FIRST_INNER + k) ≡ Some (Some (word sorted p))
   nodes-inner queue k p e =
-      let four : suc (suc (suc (suc k))) ≡ 4 + k = omega arith in
-      subst (λ (s : ℕ). slice_get (nodes_of members queue) s ≡ Some (Some (word members p))) four
-      (slice_get-map (λ q. Some (word members q)) queue k ∙ ap (option_map (λ q. Some (word members q))) e)
+      let four : suc (suc (suc (suc k))) ≡ FIRST_INNER + k = omega arith in
+      subst (λ (s : ℕ). slice_get (nodes_of sorted queue) s ≡ Some (Some (word sorted p))) four
+      (slice_get-map (λ q. Some (word sorted q)) queue k ∙ ap (option_map (λ q. Some (word sorted q))) e)
 
-  words_from : (queue : List Pending) (k : ℕ) (v : Node)
-      → slice_get (map (λ p. Some (word members p)) queue) k ≡ Some v
-      → (p : Pending) × (slice_get queue k ≡ Some p) × (v ≡ Some (word members p))
+  words_from : (queue : List QueuedState) (k : ℕ) (v : Node)
+      → slice_get (map (λ p. Some (word sorted p)) queue) k ≡ Some v
+      → (p : QueuedState) × (slice_get queue k ≡ Some p) × (v ≡ Some (word sorted p))
   words_from [] k v e = absurd (cc)
   words_from (p ∷ queue) zero v e = (p, refl, (cc))
   words_from (p ∷ queue) (suc k) v e = words_from queue k v e
 
-  -- a node's number is that of the dead state or the one beside it, of a start, or of a state in the queue
-  pub nodes-cases : (queue : List Pending) (s : ℕ) (v : Node) → slice_get (nodes_of members queue) s ≡ Some v
-      → ((s < 2) × (v ≡ None)) ⊎ (((2 ≤ s) × (s < 4) × (v ≡ Some [])) ⊎ IsInner members queue s v)
+  -- a number is one of the two that stand for the dead node, of a start, or of a state in the queue
+  pub nodes-cases : (queue : List QueuedState) (s : ℕ) (v : Node) → slice_get (nodes_of sorted queue) s ≡ Some v
+      → ((s < START) × (v ≡ None))
+      ⊎ (((START ≤ s) × (s < FIRST_INNER) × (v ≡ Some [])) ⊎ IsInner sorted queue s v)
   nodes-cases queue zero v e = inl (omega arith, (cc))
   nodes-cases queue (suc zero) v e = inl (omega arith, (cc))
   nodes-cases queue (suc (suc zero)) v e = inr (inl (omega arith, omega arith, (cc)))
   nodes-cases queue (suc (suc (suc zero))) v e = inr (inl (omega arith, omega arith, (cc)))
   nodes-cases queue (suc (suc (suc (suc k)))) v e =
       let r = words_from queue k v e in
-      inr (inr (record { place = k; number = omega arith; pending = r.0; waits = r.1; node = r.2 }))
+      inr (inr (record { place = k; number = omega arith; queued = r.0; waits = r.1; node = r.2 }))
 
 -- the meaning with other transitions and nodes
 abbrev pub more_meaning : Meaning → List Transition → List Node → Meaning
@@ -93,16 +95,18 @@ module _ (g : Meaning) (transitions more : List Transition) (split : transitions
       record {
         ordered = r.ordered;
         listed = longer;
-        ascending = subst (λ (ts : List Transition). IsStrictlyIncreasing (bytes_of ts)) (sym e) r.ascending;
-        branches = λ b. subst (λ (ts : List Transition). Contains (bytes_of ts) b ↔ (held g v b ≢ None)) (sym e)
+        ascending = subst (λ (ts : List Transition). IsStrictlyIncreasing (transition_bytes ts))
+            (sym e) r.ascending;
+        branches = λ b. subst
+            (λ (ts : List Transition). Contains (transition_bytes ts) b ↔ (own_target g v b ≢ None)) (sym e)
             (r.branches b);
         leads =
             λ k next h. keeps _ _ (r.leads k next (sym (ap (λ (ts : List Transition). slice_get ts k) e) ∙ h));
         fails = keeps _ _ r.fails;
         back = r.back;
-        owned = r.owned;
+        patterns_ordered = r.patterns_ordered;
         within = r.within;
-        own = r.own;
+        patterns = r.patterns;
         links = record {
           linked = r.links.linked;
           leads = keeps _ _ r.links.leads;

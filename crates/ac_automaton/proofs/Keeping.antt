@@ -22,11 +22,11 @@ use Rattle.ac_util.specs.Search.{pattern_of}
 use Rattle.ac_util.proofs.Lists.{IsIn, IsIn-at, IsIn-map, IsIn-from_map, IsIn-filter, IsIn-from_filter, IsIn-range, IsIn-from_range, IsIn-append_cases, IsIn-append_left, IsIn-append_right, Contains-from_IsIn, IsIn-from_Contains}
 use Rattle.ac_util.proofs.Fronts.{starts_with-itself}
 use Rattle.ac_util.proofs.Participants.{Fronts, IsLeader, begins-before, begins-from_Fronts, leader, leader-least, leader-takes_part, takes_part}
-use Rattle.ac_automaton.specs.declared.nfa.noncontiguous.members.Member.{Member}
-use Rattle.ac_automaton.specs.Members.{Keyed, Precedes, IsOrder, is_front, key_at, keyed, numbers}
+use Rattle.ac_automaton.specs.declared.nfa.noncontiguous.sorted.SortedPattern.{SortedPattern}
+use Rattle.ac_automaton.specs.Sorted.{Keyed, Precedes, IsOrder, is_prefix, key_at, keyed, numbers}
 use Rattle.ac_automaton.proofs.Orders.{head-no_greater}
 
--- a test of a front compares the bytes at one place, and then those behind it
+-- a test of a prefix compares the bytes at one place, and then those behind it
 starts_with-step : (f : ℕ → ℕ) (w p : List ℕ) (k : ℕ) → k < length w → k < length p
     → starts_with nat_eq (drop k (map f w)) (drop k (map f p))
     ≡ (nat_eq (f (get_or p k 0)) (f (get_or w k 0)) && starts_with nat_eq (drop (suc k) (map f w))
@@ -96,7 +96,7 @@ rest-no_greater x y Less rest m same e = absurd (omega arith)
 rest-no_greater x y Equal rest m same e = e
 rest-no_greater x y Greater rest m same e = absurd (omega arith)
 
--- of three strings in order the first is a front of the second if it is one of the third
+-- of three strings in order the first is a prefix of the second if it is one of the third
 front-between : (a b c : List ℕ) → is_gt (slice_cmp nat_cmp a b) ≡ false → is_gt (slice_cmp nat_cmp b c) ≡ false
     → starts_with nat_eq c a ≡ true → starts_with nat_eq b a ≡ true
 front-between [] b c h k front = refl
@@ -115,7 +115,7 @@ front-between (x ∷ a) (y ∷ b) (z ∷ c) h k front =
     (rest-no_greater y z (nat_cmp y z) (slice_cmp nat_cmp b c) (ranked y z (nat_cmp y z) refl) second k)
     parts.1)
 
--- a string is never less than a front of it
+-- a string is never less than a prefix of it
 front-no_less : (a b : List ℕ) → starts_with nat_eq b a ≡ true → is_lt (slice_cmp nat_cmp b a) ≡ false
 front-no_less [] [] front = refl
 front-no_less [] (y ∷ b) front = refl
@@ -138,13 +138,13 @@ no_greater-from_Precedes a b (inl less) = ap is_gt less
 no_greater-from_Precedes a b (inr same) =
     ap (λ w. is_gt (slice_cmp nat_cmp a.key w)) (sym same.0) ∙ ap is_gt (tied_itself nat_list_cmp_total a.key)
 
--- ---- the members at hand
+-- ---- the patterns at hand
 
 -- what is read past the end
 abbrev none : Keyed
 none = record { key = []; number = 0 }
 
--- at a place of all members, the stack has those before it that take part and are a front of one from there on
+-- at a place of all patterns, the stack has those before it that take part and are prefixes of a later one
 pub record Standing (patterns : List (List ℕ)) (all : List Keyed) (at : ℕ) (stack : List Keyed) : Type 0 where
   pub falling : AllPairs (λ a b. b.number < a.number) stack
   pub before : (m : Keyed) → IsIn m stack → IsIn m (take at all)
@@ -152,12 +152,12 @@ pub record Standing (patterns : List (List ℕ)) (all : List Keyed) (at : ℕ) (
       → (j : ℕ) → at ≤ j → j < length all → starts_with nat_eq (key_at all j) m.key ≡ true → IsIn m stack
 
 module _ (patterns : List (List ℕ)) (all : List Keyed) (order : IsOrder Standard patterns all) where
-  -- a member is the pattern of its number
+  -- a pattern is the pattern of its number
   named : (m : Keyed) → IsIn m all → m.key ≡ pattern_of patterns m.number
   named m h =
       All-contains (λ k. k.key ≡ pattern_of patterns k.number) all m order.named (Contains-from_IsIn m all h)
 
-  -- a member's number is one of a pattern
+  -- a pattern's number is one of a pattern
   numbered : (m : Keyed) → IsIn m all → m.number < length patterns
   numbered m h =
       let c =
@@ -166,27 +166,27 @@ module _ (patterns : List (List ℕ)) (all : List Keyed) (order : IsOrder Standa
       (IsIn-from_Contains m.number (participants Standard patterns) c) in
       let r = IsIn-from_range m.number 0 (length patterns) f.0 in omega arith
 
-  -- each pattern is a member
-  member_of : (n : ℕ) → n < length patterns → (m : Keyed) × IsIn m all × (m.number ≡ n)
-  member_of n within =
+  -- each pattern is a pattern
+  sorted_of : (n : ℕ) → n < length patterns → (m : Keyed) × IsIn m all × (m.number ≡ n)
+  sorted_of n within =
       let c = (order.lists n).1 (Contains-from_IsIn n (participants Standard patterns)
       (IsIn-filter (participates Standard patterns) n (range_with_len 0 (length patterns))
       (IsIn-range n 0 (length patterns) (omega arith) (omega arith)) refl)) in
       IsIn-from_map (λ k. k.number) n all (IsIn-from_Contains n (numbers all) c)
 
-  -- a member that is a front of another has its pattern as a front
-  Fronts-from_member : (w : List ℕ) (m : Keyed) → IsIn m all → starts_with nat_eq w m.key ≡ true
+  -- a pattern that is a prefix of another has its pattern as a prefix
+  Fronts-from_sorted : (w : List ℕ) (m : Keyed) → IsIn m all → starts_with nat_eq w m.key ≡ true
       → Fronts patterns w m.number
-  Fronts-from_member w m h front = record {
+  Fronts-from_sorted w m h front = record {
     numbered = numbered m h;
     front = subst (λ (p : List ℕ). starts_with nat_eq w p ≡ true) (named m h) front;
   }
 
-  -- a member comes before a later one
+  -- a pattern comes before a later one
   precedes : (i j : ℕ) → i < j → j < length all → Precedes (get_or all i none) (get_or all j none)
   precedes i j below within = order.ascending i j none below within
 
-  -- members at two places have two numbers
+  -- patterns at two places have two numbers
   differ : (a b : Keyed) → IsIn a all → IsIn b all → Precedes a b → a.number ≢ b.number
   differ a b h k (inl less) same =
       let keys : a.key ≡ b.key = named a h ∙ ap (pattern_of patterns) same ∙ sym (named b k) in
@@ -195,7 +195,7 @@ module _ (patterns : List (List ℕ)) (all : List Keyed) (order : IsOrder Standa
   differ a b h k (inr later) same = let l = later.1 in omega arith
 
   module _ (at : ℕ) (within : at < length all) where
-    -- the member at the place
+    -- the pattern at the place
     abbrev here : Keyed
     here = get_or all at none
 
@@ -203,7 +203,7 @@ module _ (patterns : List (List ℕ)) (all : List Keyed) (order : IsOrder Standa
     here-in : IsIn here all
     here-in = IsIn-at here none all at within refl
 
-    -- a member before this place that is a front of a later one is a front of this one
+    -- a pattern before this place that is a prefix of a later one is a prefix of this one
     front-here : (m : Keyed) → IsIn m (take at all) → (j : ℕ) → at ≤ j → j < length all
         → starts_with nat_eq (key_at all j) m.key ≡ true → starts_with nat_eq here.key m.key ≡ true
     front-here m h j le below front =
@@ -219,7 +219,7 @@ module _ (patterns : List (List ℕ)) (all : List Keyed) (order : IsOrder Standa
               subst (λ (i : ℕ). starts_with nat_eq (key_at all i) m.key ≡ true) same front
         ]
 
-    -- a member with an earlier pattern as a front takes no part
+    -- a pattern with an earlier pattern as a prefix takes no part
     pub no_part : (m : Keyed) → IsIn m all → starts_with nat_eq here.key m.key ≡ true → m.number < here.number
         → participates LeftmostFirst patterns here.number ≡ false
     no_part m h front below =
@@ -227,10 +227,10 @@ module _ (patterns : List (List ℕ)) (all : List Keyed) (order : IsOrder Standa
         (begins-before patterns (pattern_of patterns here.number) m.number here.number below
         (numbered here here-in)
         (subst (λ (w : List ℕ). Fronts patterns w m.number) (named here here-in)
-        (Fronts-from_member here.key m h front)))
+        (Fronts-from_sorted here.key m h front)))
 
     module _ (stack : List Keyed) (s : Standing patterns all at stack) where
-      -- those from a place of the stack on that are no front can go
+      -- those from a place of the stack on that are no prefix can go
       pub Standing-shrink : (n : ℕ)
           → ((k : ℕ) → n ≤ k → k < length stack → starts_with nat_eq here.key (key_at stack k) ≡ false)
           → Standing patterns all at (take n stack)
@@ -252,11 +252,11 @@ module _ (patterns : List (List ℕ)) (all : List Keyed) (order : IsOrder Standa
             ];
       }
 
-      -- an earlier pattern that is a front and takes part stands in the stack
+      -- an earlier pattern that is a prefix and takes part stands in the stack
       leader_stands : (j : ℕ) → IsLeader patterns here.key j → j < here.number
           → (m : Keyed) × IsIn m stack × (m.number ≡ j)
       leader_stands j lead below =
-          let m = member_of j lead.fronts.numbered in
+          let m = sorted_of j lead.fronts.numbered in
           let front : starts_with nat_eq here.key m.0.key ≡ true =
           subst (λ (p : List ℕ). starts_with nat_eq here.key p ≡ true)
           (ap (pattern_of patterns) (sym m.2) ∙ sym (named m.0 m.1)) lead.fronts.front in
@@ -287,11 +287,11 @@ module _ (patterns : List (List ℕ)) (all : List Keyed) (order : IsOrder Standa
                 omega arith
           ]
 
-      -- a member takes part if none in the stack has a lesser number
+      -- a pattern takes part if none in the stack has a lesser number
       pub takes_part_here : ((m : Keyed) → IsIn m stack → here.number ≤ m.number)
           → participates LeftmostFirst patterns here.number ≡ true
       takes_part_here least =
-          let mine = Fronts-from_member here.key here here-in (starts_with-itself here.key) in
+          let mine = Fronts-from_sorted here.key here here-in (starts_with-itself here.key) in
           let lead = leader patterns here.key (begins-from_Fronts patterns here.key here.number mine) in
           elim (cases_lt lead.0 here.number) [
             | inl below ↦
@@ -309,13 +309,13 @@ module _ (patterns : List (List ℕ)) (all : List Keyed) (order : IsOrder Standa
                 ∙ lead.1.none_before)
           ]
 
-      -- a member before here is among those up to here
+      -- a pattern before here is among those up to here
       later-in : (m : Keyed) → IsIn m (take at all) → IsIn m (take (at + 1) all)
       later-in m h =
           let p = place-take none m at all h in
           IsIn-take none m (at + 1) p.0 all (let b = p.1 in omega arith) p.2 p.3
 
-      -- a member among those up to here is before here or here
+      -- a pattern among those up to here is before here or here
       earlier-or-here : (m : Keyed) → IsIn m (take (at + 1) all) → IsIn m (take at all) ⊎ (here ≡ m)
       earlier-or-here m h =
           let p = place-take none m (at + 1) all h in
@@ -326,7 +326,7 @@ module _ (patterns : List (List ℕ)) (all : List Keyed) (order : IsOrder Standa
                 let same : at ≡ p.0 = omega arith in inr (ap (λ (i : ℕ). get_or all i none) same ∙ p.3)
           ]
 
-      -- where the member here takes no part the stack stays
+      -- where the pattern here takes no part the stack stays
       pub Standing-skip : participates LeftmostFirst patterns here.number ≡ false
           → Standing patterns all (at + 1) stack
       Standing-skip none_here = record {
@@ -385,28 +385,28 @@ least-from_last stack d n falling last m h =
 -- ---- the same of stored patterns
 
 -- a stored pattern with its plain bytes
-abbrev keyed_one : Bool → Member → Keyed
+abbrev keyed_one : Bool → SortedPattern → Keyed
 keyed_one fold m = record { key = plain fold m.bytes.now; number = m.number }
 
 -- a filter by number commutes with the view
-keyed-filter : (fold : Bool) (f : ℕ → Bool) (members : List Member)
-    → keyed fold (filter (λ m. f m.number) members) ≡ filter (λ m. f m.number) (keyed fold members)
+keyed-filter : (fold : Bool) (f : ℕ → Bool) (sorted : List SortedPattern)
+    → keyed fold (filter (λ m. f m.number) sorted) ≡ filter (λ m. f m.number) (keyed fold sorted)
 keyed-filter fold f [] = refl
-keyed-filter fold f (m ∷ members) = elim (f m.number) as (λ b.
-    keyed fold (cond b (m ∷ filter (λ k. f k.number) members) (filter (λ k. f k.number) members))
-    ≡ cond b (keyed_one fold m ∷ filter (λ k. f k.number) (keyed fold members))
-    (filter (λ k. f k.number) (keyed fold members))) [
-      | true ↦ ap (λ w. keyed_one fold m ∷ w) (keyed-filter fold f members)
-      | false ↦ keyed-filter fold f members
+keyed-filter fold f (m ∷ sorted) = elim (f m.number) as (λ b.
+    keyed fold (cond b (m ∷ filter (λ k. f k.number) sorted) (filter (λ k. f k.number) sorted))
+    ≡ cond b (keyed_one fold m ∷ filter (λ k. f k.number) (keyed fold sorted))
+    (filter (λ k. f k.number) (keyed fold sorted))) [
+      | true ↦ ap (λ w. keyed_one fold m ∷ w) (keyed-filter fold f sorted)
+      | false ↦ keyed-filter fold f sorted
     ]
 
 -- those that take part, in order
-pub IsOrder-kept : (fold : Bool) (patterns : List (List ℕ)) (members : List Member)
-    → IsOrder Standard patterns (keyed fold members)
+pub IsOrder-kept : (fold : Bool) (patterns : List (List ℕ)) (sorted : List SortedPattern)
+    → IsOrder Standard patterns (keyed fold sorted)
     → IsOrder LeftmostFirst patterns
-    (keyed fold (filter (λ m. participates LeftmostFirst patterns m.number) members))
-IsOrder-kept fold patterns members order =
-    let all = keyed fold members in
+    (keyed fold (filter (λ m. participates LeftmostFirst patterns m.number) sorted))
+IsOrder-kept fold patterns sorted order =
+    let all = keyed fold sorted in
     let takes = λ (m : Keyed). participates LeftmostFirst patterns m.number in
     let kept : IsOrder LeftmostFirst patterns (filter takes all) = record {
       ascending = AllPairs-filter Precedes takes all order.ascending;
@@ -428,7 +428,7 @@ IsOrder-kept fold patterns members order =
             IsIn-from_filter (participates LeftmostFirst patterns) n (range_with_len 0 (length patterns))
             (IsIn-from_Contains n (participants LeftmostFirst patterns) h) in
             let r = IsIn-from_range n 0 (length patterns) f.0 in
-            let m = member_of patterns all order n (omega arith) in
+            let m = sorted_of patterns all order n (omega arith) in
             Contains-from_IsIn n (numbers (filter takes all))
             (subst (λ (i : ℕ). IsIn i (numbers (filter takes all))) m.2
             (IsIn-map (λ (k : Keyed). k.number) m.0 (filter takes all)
@@ -436,22 +436,23 @@ IsOrder-kept fold patterns members order =
       );
     } in
     subst (IsOrder LeftmostFirst patterns)
-    (sym (keyed-filter fold (participates LeftmostFirst patterns) members)) kept
+    (sym (keyed-filter fold (participates LeftmostFirst patterns) sorted)) kept
 
-module _ (fold : Bool) (patterns : List (List ℕ)) (all : List Member)
+module _ (fold : Bool) (patterns : List (List ℕ)) (all : List SortedPattern)
     (order : IsOrder Standard patterns (keyed fold all)) (at : ℕ)
-    (within : at < length all) (member : Member) (is : member ≡ get_or all at member) (old new : List Member)
+    (within : at < length all) (pattern : SortedPattern) (is : pattern ≡ get_or all at pattern)
+    (old new : List SortedPattern)
     (s : Standing patterns (keyed fold all) at (keyed fold old)) (left : new ≡ take (length new) old)
-    (gone : AllWithin (λ p. is_front fold member p ≡ false) old (length new) (length old)) where
+    (gone : AllWithin (λ p. is_prefix fold pattern p ≡ false) old (length new) (length old)) where
   -- the place lies within the view
   within-view : at < length (keyed fold all)
   within-view = let l = length-map all (keyed_one fold) in omega arith
 
-  -- the member there is the stored one
-  here-is : get_or (keyed fold all) at none ≡ keyed_one fold member
-  here-is = get_or-map (keyed_one fold) all at member none within ∙ ap (keyed_one fold) (sym is)
+  -- the pattern there is the stored one
+  here-is : get_or (keyed fold all) at none ≡ keyed_one fold pattern
+  here-is = get_or-map (keyed_one fold) all at pattern none within ∙ ap (keyed_one fold) (sym is)
 
-  -- the stack without those that are no fronts any more
+  -- the stack without those that are no prefixes any more
   shrunk : Standing patterns (keyed fold all) at (keyed fold new)
   shrunk =
       let l = length-map old (keyed_one fold) in
@@ -461,21 +462,21 @@ module _ (fold : Bool) (patterns : List (List ℕ)) (all : List Member)
       (λ k le below.
       let inside : k < length old = omega arith in
       subst (λ (w : Keyed). starts_with nat_eq w.key (key_at (keyed fold old) k) ≡ false) (sym here-is)
-      (subst (λ (w : Keyed). starts_with nat_eq (plain fold member.bytes.now) w.key ≡ false)
-      (sym (get_or-map (keyed_one fold) old k member none inside)) (gone k member le inside))))
+      (subst (λ (w : Keyed). starts_with nat_eq (plain fold pattern.bytes.now) w.key ≡ false)
+      (sym (get_or-map (keyed_one fold) old k pattern none inside)) (gone k pattern le inside))))
 
   -- the last of the stack stands in its view
-  last-in : 0 < length new → IsIn (keyed_one fold (get_or new (length new - 1) member)) (keyed fold new)
-  last-in some = IsIn-map (keyed_one fold) (get_or new (length new - 1) member) new
-      (IsIn-at (get_or new (length new - 1) member) member new (length new - 1) (omega arith) refl)
+  last-in : 0 < length new → IsIn (keyed_one fold (get_or new (length new - 1) pattern)) (keyed fold new)
+  last-in some = IsIn-map (keyed_one fold) (get_or new (length new - 1) pattern) new
+      (IsIn-at (get_or new (length new - 1) pattern) pattern new (length new - 1) (omega arith) refl)
 
-  -- behind a lesser number a member takes no part
+  -- behind a lesser number a pattern takes no part
   shadowed-part : (0 < length new)
-      × HoldsAt (λ p. (is_front fold member p ≡ true) × (p.number < member.number)) new (length new - 1)
-      → participates LeftmostFirst patterns member.number ≡ false
+      × HoldsAt (λ p. (is_prefix fold pattern p ≡ true) × (p.number < pattern.number)) new (length new - 1)
+      → participates LeftmostFirst patterns pattern.number ≡ false
   shadowed-part h =
-      let last = get_or new (length new - 1) member in
-      let found = h.1 member in
+      let last = get_or new (length new - 1) pattern in
+      let found = h.1 pattern in
       let front = found.0 in
       let below = found.1 in
       let number = ap (λ (w : Keyed). w.number) here-is in
@@ -488,8 +489,8 @@ module _ (fold : Bool) (patterns : List (List ℕ)) (all : List Member)
 
   -- it is passed over, and the stack stays
   pub shadowed-skips : (0 < length new)
-      × HoldsAt (λ p. (is_front fold member p ≡ true) × (p.number < member.number)) new (length new - 1)
-      → (participates LeftmostFirst patterns member.number ≡ false)
+      × HoldsAt (λ p. (is_prefix fold pattern p ≡ true) × (p.number < pattern.number)) new (length new - 1)
+      → (participates LeftmostFirst patterns pattern.number ≡ false)
       × Standing patterns (keyed fold all) (at + 1) (keyed fold new)
   shadowed-skips h =
       let takes = shadowed-part h in (
@@ -499,54 +500,55 @@ module _ (fold : Bool) (patterns : List (List ℕ)) (all : List Member)
       )
 
   -- and else it does, and goes on the stack
-  pub free-keeps : (0 < length new → HoldsAt (λ p. member.number ≤ p.number) new (length new - 1))
-      → (participates LeftmostFirst patterns member.number ≡ true)
-      × Standing patterns (keyed fold all) (at + 1) (keyed fold (new ++ member ∷ []))
+  pub free-keeps : (0 < length new → HoldsAt (λ p. pattern.number ≤ p.number) new (length new - 1))
+      → (participates LeftmostFirst patterns pattern.number ≡ true)
+      × Standing patterns (keyed fold all) (at + 1) (keyed fold (new ++ pattern ∷ []))
   free-keeps h =
       let long = length-map new (keyed_one fold) in
       let number = ap (λ (w : Keyed). w.number) here-is in
       let least =
       least-from_last (keyed fold new) none (get_or (keyed fold all) at none).number shrunk.falling (λ some.
-      let l = h (omega arith) member in
+      let l = h (omega arith) pattern in
       let e = ap (λ (w : Keyed). w.number) (ap (λ (i : ℕ). get_or (keyed fold new) (i - 1) none) long
-      ∙ get_or-map (keyed_one fold) new (length new - 1) member none (omega arith)) in
+      ∙ get_or-map (keyed_one fold) new (length new - 1) pattern none (omega arith)) in
       omega arith) in (
         ap (λ (w : Keyed). participates LeftmostFirst patterns w.number) (sym here-is)
             ∙ takes_part_here patterns (keyed fold all) order at within-view (keyed fold new) shrunk least,
         subst (Standing patterns (keyed fold all) (at + 1))
             (ap (λ (w : Keyed). keyed fold new ++ w ∷ []) here-is
-            ∙ sym (map-append (keyed_one fold) new (member ∷ [])))
+            ∙ sym (map-append (keyed_one fold) new (pattern ∷ [])))
             (Standing-keep patterns (keyed fold all) order at within-view (keyed fold new) shrunk least),
       )
 
 -- under the other kinds all patterns take part
-pub IsOrder-all : (kind : MatchKind) (patterns : List (List ℕ)) (members : List Keyed)
-    → (kind ≡ Standard) ⊎ (kind ≡ LeftmostLongest) → IsOrder Standard patterns members
-    → IsOrder kind patterns members
-IsOrder-all kind patterns members (inl e) order = subst (λ k. IsOrder k patterns members) (sym e) order
-IsOrder-all kind patterns members (inr e) order =
-    let longest : IsOrder LeftmostLongest patterns members =
+pub IsOrder-all : (kind : MatchKind) (patterns : List (List ℕ)) (sorted : List Keyed)
+    → (kind ≡ Standard) ⊎ (kind ≡ LeftmostLongest) → IsOrder Standard patterns sorted
+    → IsOrder kind patterns sorted
+IsOrder-all kind patterns sorted (inl e) order = subst (λ k. IsOrder k patterns sorted) (sym e) order
+IsOrder-all kind patterns sorted (inr e) order =
+    let longest : IsOrder LeftmostLongest patterns sorted =
     record { ascending = order.ascending; named = order.named; lists = order.lists } in
-    subst (λ k. IsOrder k patterns members) (sym e) longest
+    subst (λ k. IsOrder k patterns sorted) (sym e) longest
 
 -- ---- the loop that keeps those that take part
 
--- of all members those before a place that take part stand first, and the stack is that of the place
-pub record Keeps (fold : Bool) (all members : List Member) (kept at : ℕ) (fronts : List Member) : Type 0 where
+-- of all patterns those before a place that take part stand first, and the stack is that of the place
+pub record Keeps (fold : Bool) (all sorted : List SortedPattern) (kept at : ℕ)
+    (prefixes : List SortedPattern) : Type 0 where
   pub behind : kept ≤ at
-  pub long : length members ≡ length all
-  pub short : All (λ p. length p.bytes.now ≤ GREATEST) all → All (λ p. length p.bytes.now ≤ GREATEST) members
-  pub numbers_small : All (λ p. p.number ≤ GREATEST) all → All (λ p. p.number ≤ GREATEST) members
+  pub long : length sorted ≡ length all
+  pub short : All (λ p. length p.bytes.now ≤ GREATEST) all → All (λ p. length p.bytes.now ≤ GREATEST) sorted
+  pub numbers_small : All (λ p. p.number ≤ GREATEST) all → All (λ p. p.number ≤ GREATEST) sorted
   pub first : (patterns : List (List ℕ)) → IsOrder Standard patterns (keyed fold all)
-      → FiltersInPlace (λ m. participates LeftmostFirst patterns m.number) all members kept at
+      → FiltersInPlace (λ m. participates LeftmostFirst patterns m.number) all sorted kept at
   pub standing : (patterns : List (List ℕ)) → IsOrder Standard patterns (keyed fold all)
-      → Standing patterns (keyed fold all) at (keyed fold fronts)
+      → Standing patterns (keyed fold all) at (keyed fold prefixes)
 
 -- what stands at the place is as it was
-unmoved : {X : Type 0} (p : X → Bool) (all members : List X) (kept at : ℕ) (x : X)
-    → FiltersInPlace p all members kept at → x ≡ get_or members at x → x ≡ get_or all at x
-unmoved p all members kept at x f is =
-    is ∙ sym (behind members) ∙ ap (λ w. get_or w 0 x) f.rest ∙ behind all
+unmoved : {X : Type 0} (p : X → Bool) (all sorted : List X) (kept at : ℕ) (x : X)
+    → FiltersInPlace p all sorted kept at → x ≡ get_or sorted at x → x ≡ get_or all at x
+unmoved p all sorted kept at x f is =
+    is ∙ sym (behind sorted) ∙ ap (λ w. get_or w 0 x) f.rest ∙ behind all
   where
     plus-zero : (n : ℕ) → n + 0 ≡ n
     plus-zero n = omega arith
@@ -554,29 +556,30 @@ unmoved p all members kept at x f is =
     behind : (xs : List _) → get_or (drop at xs) 0 x ≡ get_or xs at x
     behind xs = get_or-drop at xs 0 x ∙ ap (λ i. get_or xs i x) (plus-zero at)
 
-module _ (fold : Bool) (all members : List Member) (kept at : ℕ) (old new : List Member) (member : Member)
-    (keeps : Keeps fold all members kept at old) (within : at < length members)
-    (is : member ≡ get_or members at member)
+module _ (fold : Bool) (all sorted : List SortedPattern) (kept at : ℕ) (old new : List SortedPattern)
+    (pattern : SortedPattern)
+    (keeps : Keeps fold all sorted kept at old) (within : at < length sorted)
+    (is : pattern ≡ get_or sorted at pattern)
     (left : new ≡ take (length new) old)
-    (gone : AllWithin (λ p. is_front fold member p ≡ false) old (length new) (length old)) where
+    (gone : AllWithin (λ p. is_prefix fold pattern p ≡ false) old (length new) (length old)) where
   module _ (patterns : List (List ℕ)) (order : IsOrder Standard patterns (keyed fold all)) where
-    -- the place is one of all members
+    -- the place is one of all patterns
     in_all : at < length all
     in_all = let l = keeps.long in omega arith
 
-    -- and has the member as it was
-    is_in_all : member ≡ get_or all at member
+    -- and has the pattern as it was
+    is_in_all : pattern ≡ get_or all at pattern
     is_in_all =
-        unmoved (λ m. participates LeftmostFirst patterns m.number) all members kept at member
+        unmoved (λ m. participates LeftmostFirst patterns m.number) all sorted kept at pattern
         (keeps.first patterns order) is
 
-  -- a member that is behind a lesser number is passed over
+  -- a pattern that is behind a lesser number is passed over
   pub Keeps-skip : (0 < length new)
-      × HoldsAt (λ p. (is_front fold member p ≡ true) × (p.number < member.number)) new (length new - 1)
-      → Keeps fold all members kept (at + 1) new
+      × HoldsAt (λ p. (is_prefix fold pattern p ≡ true) × (p.number < pattern.number)) new (length new - 1)
+      → Keeps fold all sorted kept (at + 1) new
   Keeps-skip h =
       let step = λ (patterns : List (List ℕ)) (order : IsOrder Standard patterns (keyed fold all)).
-      shadowed-skips fold patterns all order at (in_all patterns order) member
+      shadowed-skips fold patterns all order at (in_all patterns order) pattern
       (is_in_all patterns order) old new
       (keeps.standing patterns order) left gone h in
       let b = keeps.behind in record {
@@ -584,38 +587,40 @@ module _ (fold : Bool) (all members : List Member) (kept at : ℕ) (old new : Li
         long = keeps.long;
         short = keeps.short;
         numbers_small = keeps.numbers_small;
-        first = λ patterns order. FiltersInPlace-more_no {x = member} (keeps.first patterns order) within
+        first = λ patterns order. FiltersInPlace-more_no {x = pattern} (keeps.first patterns order) within
             (step patterns order).0 is;
         standing = λ patterns order. (step patterns order).1;
       }
 
-  -- any other is moved to the front, and goes on the stack
-  pub Keeps-keep : (0 < length new → HoldsAt (λ p. member.number ≤ p.number) new (length new - 1))
-      → Keeps fold all (set members kept member) (kept + 1) (at + 1) (new ++ member ∷ [])
+  -- any other is moved down, and goes on the stack
+  pub Keeps-keep : (0 < length new → HoldsAt (λ p. pattern.number ≤ p.number) new (length new - 1))
+      → Keeps fold all (set sorted kept pattern) (kept + 1) (at + 1) (new ++ pattern ∷ [])
   Keeps-keep h =
       let step = λ (patterns : List (List ℕ)) (order : IsOrder Standard patterns (keyed fold all)).
-      free-keeps fold patterns all order at (in_all patterns order) member (is_in_all patterns order) old new
+      free-keeps fold patterns all order at (in_all patterns order) pattern (is_in_all patterns order) old new
       (keeps.standing patterns order) left gone h in
       let b = keeps.behind in record {
         behind = omega arith;
-        long = length-set members kept member ∙ keeps.long;
-        short = λ small. All-set (λ p. length p.bytes.now ≤ GREATEST) members kept member
-            (subst (λ (w : Member). length w.bytes.now ≤ GREATEST) (sym is)
-            (keeps.short small at member within)) (keeps.short small);
-        numbers_small = λ small. All-set (λ p. p.number ≤ GREATEST) members kept member
-            (subst (λ (w : Member). w.number ≤ GREATEST) (sym is) (keeps.numbers_small small at member within))
+        long = length-set sorted kept pattern ∙ keeps.long;
+        short = λ small. All-set (λ p. length p.bytes.now ≤ GREATEST) sorted kept pattern
+            (subst (λ (w : SortedPattern). length w.bytes.now ≤ GREATEST) (sym is)
+            (keeps.short small at pattern within)) (keeps.short small);
+        numbers_small = λ small. All-set (λ p. p.number ≤ GREATEST) sorted kept pattern
+            (subst (λ (w : SortedPattern). w.number ≤ GREATEST) (sym is)
+            (keeps.numbers_small small at pattern within))
             (keeps.numbers_small small);
-        first = λ patterns order. FiltersInPlace-more_set {x = member} (keeps.first patterns order) within
+        first = λ patterns order. FiltersInPlace-more_set {x = pattern} (keeps.first patterns order) within
             (step patterns order).0 is;
         standing = λ patterns order. (step patterns order).1;
       }
 
 -- after the loop those that take part are left
-pub Keeps-end : (fold : Bool) (all members cut : List Member) (kept at : ℕ) (fronts : List Member)
-    → Keeps fold all members kept at fronts
-    → length all ≤ at → cut ≡ take kept members → (patterns : List (List ℕ))
+pub Keeps-end : (fold : Bool) (all sorted cut : List SortedPattern) (kept at : ℕ)
+    (prefixes : List SortedPattern)
+    → Keeps fold all sorted kept at prefixes
+    → length all ≤ at → cut ≡ take kept sorted → (patterns : List (List ℕ))
     → IsOrder Standard patterns (keyed fold all)
     → IsOrder LeftmostFirst patterns (keyed fold cut)
-Keeps-end fold all members cut kept at fronts keeps done is patterns order =
-    subst (λ (w : List Member). IsOrder LeftmostFirst patterns (keyed fold w))
+Keeps-end fold all sorted cut kept at prefixes keeps done is patterns order =
+    subst (λ (w : List SortedPattern). IsOrder LeftmostFirst patterns (keyed fold w))
     (sym (is ∙ FiltersInPlace-all (keeps.first patterns order) done)) (IsOrder-kept fold patterns all order)

@@ -15,7 +15,7 @@ use Rattle.ac_util.specs.Sameness.{plain_byte}
 use Rattle.ac_util.proofs.Lists.{IsIn, IsOrdered}
 use Rattle.ac_automaton.specs.declared.nfa.noncontiguous.state.Transition.{Transition}
 use Rattle.ac_automaton.specs.Growths.{leading}
-use Rattle.ac_automaton.specs.Tries.{bytes_of}
+use Rattle.ac_automaton.specs.Tries.{transition_bytes}
 
 -- a small letter and its capital are one letter, and differ
 capital : (b : ℕ) → is_ascii_lowercase b ≡ true
@@ -126,16 +126,17 @@ leading-length fold b target = elim (leading-cases fold b target) [
 -- transitions by different bytes that are sorted by them rise strictly
 pub sorted-ascends : (old sorted : List Transition) → AllPairs (λ s t. s.byte ≢ t.byte) old
     → IsPermutation old sorted
-    → IsSortedByKey (λ t. t.byte) nat_cmp sorted → IsStrictlyIncreasing (bytes_of sorted)
+    → IsSortedByKey (λ t. t.byte) nat_cmp sorted → IsStrictlyIncreasing (transition_bytes sorted)
 sorted-ascends old sorted apart moved up k within =
     let byte = λ (t : Transition). t.byte in
-    let before = IsDistinct-from_AllPairs Decides-eqb (bytes_of old) (λ i j d low l.
+    let before = IsDistinct-from_AllPairs Decides-eqb (transition_bytes old) (λ i j d low l.
     let n = length-map old byte in
     let none : Transition = record { byte = d; target = 0 } in
     λ same. apart i j none low (omega arith)
     (sym (get_or-map byte old i none d (omega arith)) ∙ same ∙ get_or-map byte old j none d (omega arith))) in
-    let after = AllPairs-from_IsDistinct Decides-eqb (bytes_of sorted)
-    (IsDistinct-IsPermutation nat_eq (λ x y. nat_eq_equiv.symm x y) (bytes_of old) (bytes_of sorted)
+    let after = AllPairs-from_IsDistinct Decides-eqb (transition_bytes sorted)
+    (IsDistinct-IsPermutation nat_eq (λ x y. nat_eq_equiv.symm x y) (transition_bytes old)
+    (transition_bytes sorted)
     (IsPermutation-map byte old sorted moved) before) in
     let n = length-map sorted byte in
     let none : Transition = record { byte = 0; target = 0 } in
@@ -144,7 +145,8 @@ sorted-ascends old sorted apart moved up k within =
     let first = get_or-map byte sorted k none 0 (omega arith) in
     let second = get_or-map byte sorted (k + 1) none 0 (omega arith) in
     let differ = after k (k + 1) 0 (omega arith) within in
-    strict (get_or (bytes_of sorted) k 0) (get_or (bytes_of sorted) (k + 1) 0) (omega arith) differ
+    strict (get_or (transition_bytes sorted) k 0) (get_or (transition_bytes sorted) (k + 1) 0)
+    (omega arith) differ
   where
     strict : (x y : ℕ) → x ≤ y → x ≢ y → x < y
     strict x y le apart = elim (cases_lt x y) [

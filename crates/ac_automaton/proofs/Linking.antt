@@ -1,4 +1,4 @@
--- Where a state's link leads: to the first state along the failure targets that has patterns of its own.
+-- Where an output link leads: to the first state along the failure targets that has patterns.
 use Rattle.std.proofs.Common.{◌≡◌, ◌≢◌, ℕ, ◌+◌, ◌-◌, ◌<◌, ◌≤◌, List, [], ◌∷◌, ◌++◌, length, take, drop, refl, ap, sym, ◌∙◌, subst, arith, Some, None, get_or}
 use Rattle.std.specs.Prelude.{slice_get}
 use Rattle.std.proofs.lemmas.List.{append-nil}
@@ -6,32 +6,35 @@ use Rattle.std.proofs.lemmas.Option.{slice_get-get_or}
 use Rattle.ac_util.proofs.Advance.{append_nil_left}
 use Rattle.ac_util.proofs.Found.{matches-nil, matches-failure}
 use Rattle.ac_automaton.specs.declared.nfa.noncontiguous.state.State.{State}
+use Rattle.ac_automaton.specs.declared.nfa.noncontiguous.state.TheConstants.{DEAD}
 use Rattle.ac_automaton.specs.Growths.{LinkIsDue}
-use Rattle.ac_automaton.specs.Tries.{Meaning, AreStates, Links, Represents, all_matches, own_matches, own_of, state_at, miss}
+use Rattle.ac_automaton.specs.Tries.{Meaning, AreStates, Links, Represents, all_matches, anchored_matches, patterns_of, state_at, miss}
 use Rattle.ac_automaton.proofs.Places.{get-range}
 
--- a state has patterns of its own exactly if its range of them isn't empty
-pub own-some : (order : List ℕ) (t : State) → t.own < t.own_end → t.own_end ≤ length order → own_of order t ≢ []
-own-some order t l within none =
-    let there : slice_get order (t.own + 0) ≡ Some (get_or order (t.own + 0) 0) =
-    slice_get-get_or order (t.own + 0) 0 (omega arith) in
-    let first : slice_get (own_of order t) 0 ≡ slice_get order (t.own + 0) =
-    get-range order t.own t.own_end 0 (omega arith) in
-    let nothing : slice_get (own_of order t) 0 ≡ None = ap (λ (ns : List ℕ). slice_get ns 0) none in
+-- a state has patterns exactly if its range of them isn't empty
+pub patterns_of-some : (order : List ℕ) (t : State) → t.patterns < t.patterns_end
+    → t.patterns_end ≤ length order → patterns_of order t ≢ []
+patterns_of-some order t l within none =
+    let there : slice_get order (t.patterns + 0) ≡ Some (get_or order (t.patterns + 0) 0) =
+    slice_get-get_or order (t.patterns + 0) 0 (omega arith) in
+    let first : slice_get (patterns_of order t) 0 ≡ slice_get order (t.patterns + 0) =
+    get-range order t.patterns t.patterns_end 0 (omega arith) in
+    let nothing : slice_get (patterns_of order t) 0 ≡ None = ap (λ (ns : List ℕ). slice_get ns 0) none in
     absurd (cc)
 
-pub own-none : (order : List ℕ) (t : State) → t.own_end ≤ t.own → own_of order t ≡ []
-own-none order t l =
-    ap (λ (n : ℕ). take n (drop t.own order)) (let none : t.own_end - t.own ≡ 0 = omega arith in none)
+pub patterns_of-none : (order : List ℕ) (t : State) → t.patterns_end ≤ t.patterns → patterns_of order t ≡ []
+patterns_of-none order t l =
+    ap (λ (n : ℕ). take n (drop t.patterns order))
+    (let none : t.patterns_end - t.patterns ≡ 0 = omega arith in none)
 
 module _ (g : Meaning) (states : List State) where
-  -- the start finds its own patterns alone
-  pub link-start : (fail : ℕ) → LinkIsDue g (length states) [] fail → Links g (length states) (Some []) 0
+  -- only patterns that equal its string end at the start
+  pub link-start : (fail : ℕ) → LinkIsDue g (length states) [] fail → Links g (length states) (Some []) DEAD
   link-start fail due = record {
     linked = None;
     leads = due.dead;
     back = omega arith;
-    finds = matches-nil g.kind g.patterns ∙ sym (append-nil (own_matches g (Some [])));
+    finds = matches-nil g.kind g.patterns ∙ sym (append-nil (anchored_matches g (Some [])));
     useful = λ apart. absurd (apart refl);
   }
 
@@ -51,13 +54,14 @@ module _ (g : Meaning) (states : List State) where
       → Represents g fail None (state_at states fail)
   dead_target fail a due l = a.each fail None l (due.start refl l).1
 
-  -- a failure target that has patterns of its own is linked
+  -- a failure target that has patterns is linked
   pub link-here : (u : List ℕ) (fail : ℕ) → AreStates g states → LinkIsDue g (length states) u fail
       → fail < length states
-      → (state_at states fail).own < (state_at states fail).own_end → Links g (length states) (Some u) fail
+      → (state_at states fail).patterns < (state_at states fail).patterns_end
+      → Links g (length states) (Some u) fail
   link-here [] fail a due l some =
       let r = dead_target fail a due l in
-      absurd (own-some g.order (state_at states fail) some r.within r.own)
+      absurd (patterns_of-some g.order (state_at states fail) some r.within r.patterns)
   link-here (x ∷ u) fail a due l some =
       let r = target (x ∷ u) fail a due l in
       record {
@@ -66,25 +70,25 @@ module _ (g : Meaning) (states : List State) where
         back = omega arith;
         finds = matches-failure g.kind g.patterns x u;
         useful = λ apart none.
-            own-some g.order (state_at states fail) some r.within
-            (r.own ∙ append_nil_left (own_matches g (miss g.kind g.patterns (Some (x ∷ u))))
+            patterns_of-some g.order (state_at states fail) some r.within
+            (r.patterns ∙ append_nil_left (anchored_matches g (miss g.kind g.patterns (Some (x ∷ u))))
             (all_matches g r.links.linked) (sym r.links.finds ∙ none));
       }
 
-  -- else what the target is linked to
+  -- and of another target its output link
   pub link-behind : (u : List ℕ) (fail : ℕ) → AreStates g states → LinkIsDue g (length states) u fail
       → fail < length states
-      → (state_at states fail).own_end ≤ (state_at states fail).own
-      → Links g (length states) (Some u) (state_at states fail).link
+      → (state_at states fail).patterns_end ≤ (state_at states fail).patterns
+      → Links g (length states) (Some u) (state_at states fail).output_link
   link-behind [] fail a due l none =
       let back = (dead_target fail a due l).links.back in
       let first = (due.start refl l).0 in
       subst (λ (k : ℕ). Links g (length states) (Some []) k)
-      (let zero : 0 ≡ (state_at states fail).link = omega arith in zero) (link-start fail due)
+      (let zero : 0 ≡ (state_at states fail).output_link = omega arith in zero) (link-start fail due)
   link-behind (x ∷ u) fail a due l none =
       let r = target (x ∷ u) fail a due l in
-      let nothing : own_matches g (miss g.kind g.patterns (Some (x ∷ u))) ≡ [] =
-      sym r.own ∙ own-none g.order (state_at states fail) none in
+      let nothing : anchored_matches g (miss g.kind g.patterns (Some (x ∷ u))) ≡ [] =
+      sym r.patterns ∙ patterns_of-none g.order (state_at states fail) none in
       let later : all_matches g (miss g.kind g.patterns (Some (x ∷ u))) ≡ all_matches g r.links.linked =
       r.links.finds ∙ ap (λ (ns : List ℕ). ns ++ all_matches g r.links.linked) nothing in
       record {
@@ -92,6 +96,6 @@ module _ (g : Meaning) (states : List State) where
         leads = r.links.leads;
         back = (let b = r.links.back in omega arith);
         finds = matches-failure g.kind g.patterns x u
-            ∙ ap (λ (ns : List ℕ). own_matches g (Some (x ∷ u)) ++ ns) later;
+            ∙ ap (λ (ns : List ℕ). anchored_matches g (Some (x ∷ u)) ++ ns) later;
         useful = r.links.useful;
       }

@@ -1,4 +1,4 @@
--- What a state lists along its links are the matches of its node.
+-- What a state lists along its output links are the matches of its node.
 use Rattle.std.proofs.Common.{◌≡◌, ℕ, zero, suc, ◌+◌, ◌-◌, ◌≤◌, ◌<◌, List, [], ◌∷◌, ◌++◌, length, get_or, drop, refl, ap, sym, ◌∙◌, arith, Some, None, inl, inr, length-append, length-take, length-drop}
 use Rattle.std.proofs.lemmas.Bool.{cases_lt}
 use Rattle.std.specs.Prelude.{slice_get}
@@ -6,7 +6,8 @@ use Rattle.std.proofs.lemmas.List.{get_or-drop, get_or-take}
 use Rattle.std.proofs.lemmas.Option.{slice_get-get_or, slice_get_within}
 use Rattle.ac_util.specs.Node.{Node}
 use Rattle.ac_automaton.specs.declared.nfa.noncontiguous.state.State.{State}
-use Rattle.ac_automaton.specs.Tries.{Meaning, HasState, Represents, all_matches, listed_within, own_of, state_at}
+use Rattle.ac_automaton.specs.declared.nfa.noncontiguous.state.TheConstants.{DEAD}
+use Rattle.ac_automaton.specs.Tries.{Meaning, HasState, Represents, all_matches, listed_within, patterns_of, state_at}
 use Rattle.ac_automaton.proofs.Follows.{represented}
 
 -- an element of two lists put together is one of the first or one of the second
@@ -25,56 +26,60 @@ slice_get-right (x ∷ xs) ys (suc k) h =
 
 module _ (g : Meaning) (states : List State) where
   -- the first state stands for the dead node alone
-  dead_first : (s : ℕ) (v : Node) → HasState g states s v → s ≡ 0 → v ≡ None
+  dead_first : (s : ℕ) (v : Node) → HasState g states s v → s ≡ DEAD → v ≡ None
   dead_first s v h first = let dead = h.meant.dead in let named = rw first at h.named in cc
 
   module _ (s : ℕ) (v : Node) (t : State) (h : HasState g states s v) (r : Represents g s v t) where
-    -- the matches of the node are its own, as the state has them, and those of the node behind its link
-    pub all-listed : all_matches g v ≡ own_of g.order t ++ all_matches g r.links.linked
-    all-listed = r.links.finds ∙ ap (λ (ns : List ℕ). ns ++ all_matches g r.links.linked) (sym r.own)
+    -- the matches of the node are the state's patterns, and those of the node that its output link leads to
+    pub all-listed : all_matches g v ≡ patterns_of g.order t ++ all_matches g r.links.linked
+    all-listed = r.links.finds ∙ ap (λ (ns : List ℕ). ns ++ all_matches g r.links.linked) (sym r.patterns)
 
-    -- a state stands for the node behind its link
-    pub linked-state : HasState g states t.link r.links.linked
+    -- a state stands for the node that the output link leads to
+    pub linked-state : HasState g states t.output_link r.links.linked
     linked-state =
         let back = r.links.back in
         let there = h.there in record { meant = h.meant; there = omega arith; named = r.links.leads }
 
-    -- there are as many of its own as the state says
-    pub length-own : length (own_of g.order t) ≡ t.own_end - t.own
-    length-own = let owned = r.owned in let within = r.within in simp (length-take, length-drop) (omega arith)
+    -- the state has as many patterns as its range says
+    pub length-patterns_of : length (patterns_of g.order t) ≡ t.patterns_end - t.patterns
+    length-patterns_of = let patterns_ordered = r.patterns_ordered in let within = r.within
+        in simp (length-take, length-drop) (omega arith)
 
-    -- nothing is found behind a link to the first state
-    pub none-linked : t.link ≡ 0 → all_matches g r.links.linked ≡ []
-    none-linked first = ap (all_matches g) (dead_first t.link r.links.linked linked-state first)
+    -- nothing is found through an output link to the dead state
+    pub none-linked : t.output_link ≡ DEAD → all_matches g r.links.linked ≡ []
+    none-linked first = ap (all_matches g) (dead_first t.output_link r.links.linked linked-state first)
 
     -- how many the node finds
-    pub length-listed : length (all_matches g v) ≡ (t.own_end - t.own) + length (all_matches g r.links.linked)
+    pub length-listed : length (all_matches g v) ≡ (t.patterns_end - t.patterns) + length
+        (all_matches g r.links.linked)
     length-listed =
-        ap (length {A = ℕ}) all-listed ∙ length-append (own_of g.order t) (all_matches g r.links.linked)
-        ∙ ap (λ (n : ℕ). n + length (all_matches g r.links.linked)) length-own
+        ap (length {A = ℕ}) all-listed ∙ length-append (patterns_of g.order t) (all_matches g r.links.linked)
+        ∙ ap (λ (n : ℕ). n + length (all_matches g r.links.linked)) length-patterns_of
 
     -- one of its own, by place
-    pub own-at : (k d : ℕ) → k < t.own_end - t.own
-        → slice_get (all_matches g v) k ≡ Some (get_or g.order (t.own + k) d)
-    own-at k d inside =
-        let l = length-own in
+    pub pattern-at : (k d : ℕ) → k < t.patterns_end - t.patterns
+        → slice_get (all_matches g v) k ≡ Some (get_or g.order (t.patterns + k) d)
+    pattern-at k d inside =
+        let l = length-patterns_of in
         ap (λ (ns : List ℕ). slice_get ns k) all-listed
-        ∙ slice_get-left (own_of g.order t) (all_matches g r.links.linked) k (omega arith)
-        ∙ slice_get-get_or (own_of g.order t) k d (omega arith)
+        ∙ slice_get-left (patterns_of g.order t) (all_matches g r.links.linked) k (omega arith)
+        ∙ slice_get-get_or (patterns_of g.order t) k d (omega arith)
         ∙ ap (λ (n : ℕ). Some n)
-        (get_or-take (t.own_end - t.own) (drop t.own g.order) k d inside ∙ get_or-drop t.own g.order k d)
+        (get_or-take (t.patterns_end - t.patterns) (drop t.patterns g.order) k d inside
+        ∙ get_or-drop t.patterns g.order k d)
 
     -- and one of the others
-    pub linked-at : (k : ℕ) → t.own_end - t.own ≤ k
-        → slice_get (all_matches g v) k ≡ slice_get (all_matches g r.links.linked) (k - (t.own_end - t.own))
+    pub linked-at : (k : ℕ) → t.patterns_end - t.patterns ≤ k
+        → slice_get (all_matches g v) k ≡ slice_get (all_matches g r.links.linked)
+        (k - (t.patterns_end - t.patterns))
     linked-at k past =
-        let l = length-own in
+        let l = length-patterns_of in
         ap (λ (ns : List ℕ). slice_get ns k) all-listed
-        ∙ slice_get-right (own_of g.order t) (all_matches g r.links.linked) k (omega arith)
-        ∙ ap (λ (n : ℕ). slice_get (all_matches g r.links.linked) (k - n)) length-own
+        ∙ slice_get-right (patterns_of g.order t) (all_matches g r.links.linked) k (omega arith)
+        ∙ ap (λ (n : ℕ). slice_get (all_matches g r.links.linked) (k - n)) length-patterns_of
 
-  -- along the links, of which there are no more than numbers up to a state's own, the state lists the matches
-  -- of its node
+  -- along the output links, of which there are no more than the state's number says, the state lists the
+  -- matches of its node
   pub listed_within-matches : (n s : ℕ) (v : Node) → HasState g states s v → s ≤ n
       → listed_within g.order states n s ≡ all_matches g v
   listed_within-matches zero s v h few = sym (ap (all_matches g) (dead_first s v h (omega arith)))
@@ -82,11 +87,11 @@ module _ (g : Meaning) (states : List State) where
       let t = state_at states s in
       let r = h.meant.each s v h.there h.named in
       let back = r.links.back in
-      ap (λ (ns : List ℕ). own_of g.order t ++ ns)
-      (listed_within-matches n t.link r.links.linked (linked-state s v t h r) (omega arith))
+      ap (λ (ns : List ℕ). patterns_of g.order t ++ ns)
+      (listed_within-matches n t.output_link r.links.linked (linked-state s v t h r) (omega arith))
       ∙ sym (all-listed s v t h r)
 
-  -- the walk along the links is at a state, and has counted what is listed in front of it
+  -- the walk along the output links is at a state, and has counted what is listed before it
   pub record Counting (u : Node) (at count : ℕ) : Type 0 where
     pub node : Node
     pub state : HasState g states at node
@@ -100,7 +105,8 @@ module _ (g : Meaning) (states : List State) where
 
   module _ (u : Node) (s : ℕ) (t : State) (is : t ≡ get_or states s t) where
     -- one state more is counted
-    pub counting-on : (count : ℕ) → Counting u s count → Counting u t.link (count + (t.own_end - t.own))
+    pub counting-on : (count : ℕ) → Counting u s count → Counting u t.output_link
+        (count + (t.patterns_end - t.patterns))
     counting-on count o =
         let r = represented g states s o.node t o.state is in
         let l = length-listed s o.node t o.state r in
@@ -110,9 +116,9 @@ module _ (g : Meaning) (states : List State) where
           counted = omega arith;
         }
 
-    -- and where the link is to the first state, that was all
-    pub counting-end : (count : ℕ) → Counting u s count → t.link ≡ 0
-        → count + (t.own_end - t.own) ≡ length (all_matches g u)
+    -- and where the output link is to the dead state, that was all
+    pub counting-end : (count : ℕ) → Counting u s count → t.output_link ≡ DEAD
+        → count + (t.patterns_end - t.patterns) ≡ length (all_matches g u)
     counting-end count o last =
         let r = represented g states s o.node t o.state is in
         let l = length-listed s o.node t o.state r in
@@ -121,14 +127,15 @@ module _ (g : Meaning) (states : List State) where
 
     module _ (index left : ℕ) (o : Seeking u index s left) where
       -- the match is one of the state's own
-      pub seeking-own : (x : ℕ) → left < t.own_end - t.own → x ≡ get_or g.order (t.own + left) x
+      pub seeking-here : (x : ℕ) → left < t.patterns_end - t.patterns → x ≡ get_or g.order (t.patterns + left) x
           → slice_get (all_matches g u) index ≡ Some x
-      seeking-own x inside found =
+      seeking-here x inside found =
           let r = represented g states s o.node t o.state is in
-          o.same ∙ own-at s o.node t o.state r left x inside ∙ ap (λ (n : ℕ). Some n) (sym found)
+          o.same ∙ pattern-at s o.node t o.state r left x inside ∙ ap (λ (n : ℕ). Some n) (sym found)
 
-      -- or is looked for behind the link
-      pub seeking-on : t.own_end - t.own ≤ left → Seeking u index t.link (left - (t.own_end - t.own))
+      -- or is looked for through the output link
+      pub seeking-on : t.patterns_end - t.patterns ≤ left → Seeking u index t.output_link
+          (left - (t.patterns_end - t.patterns))
       seeking-on past =
           let r = represented g states s o.node t o.state is in record {
             node = r.links.linked;
@@ -142,14 +149,15 @@ module _ (g : Meaning) (states : List State) where
           slice_get_within (all_matches g o.node) left (get_or (all_matches g u) index 0)
           (sym o.same ∙ slice_get-get_or (all_matches g u) index 0 inside)
 
-      -- so the link leads to a smaller number
-      pub seeking-back : index < length (all_matches g u) → t.own_end - t.own ≤ left → t.link < s
+      -- so the output link leads to a smaller number
+      pub seeking-back : index < length (all_matches g u) → t.patterns_end - t.patterns ≤ left
+          → t.output_link < s
       seeking-back inside past =
           let r = represented g states s o.node t o.state is in
           let l = length-listed s o.node t o.state r in
           let m = seeking-inside inside in
           let back = r.links.back in
-          elim (cases_lt 0 t.link) [
+          elim (cases_lt 0 t.output_link) [
             | inl later ↦ omega arith
             | inr first ↦ absurd (
                 let none = ap (length {A = ℕ}) (none-linked s o.node t o.state r (omega arith)) in omega arith)

@@ -38,9 +38,9 @@ module _ (kind : MatchKind) (patterns : List (List ℕ)) where
   stops-child w b none = ap (λ (t : Bool). is_leftmost kind && t) (begins-same w b none)
 
   -- a pattern lets none start later
-  pub stops-own : (w : List ℕ) → is_leftmost kind ≡ true → equal_to kind patterns w ≢ []
+  pub stops-pattern : (w : List ℕ) → is_leftmost kind ≡ true → equal_to kind patterns w ≢ []
       → stops kind patterns w ≡ true
-  stops-own w leftmost some =
+  stops-pattern w leftmost some =
       ap (λ (l : Bool). l && begins_with_pattern patterns w) leftmost
       ∙ elim (cases_Bool (begins_with_pattern patterns w)) [
         | inl t ↦ t
@@ -51,16 +51,16 @@ module _ (kind : MatchKind) (patterns : List (List ℕ)) where
   stops-free w free = ap (λ (l : Bool). l && begins_with_pattern patterns w) free
 
   -- under a leftmost kind a node that is a pattern has no failure target
-  pub miss-own : (w : List ℕ) (b : ℕ) → is_leftmost kind ≡ true → equal_to kind patterns (w ++ b ∷ []) ≢ []
+  pub miss-pattern : (w : List ℕ) (b : ℕ) → is_leftmost kind ≡ true → equal_to kind patterns (w ++ b ∷ []) ≢ []
       → miss kind patterns (Some (w ++ b ∷ [])) ≡ None
-  miss-own [] b leftmost some =
+  miss-pattern [] b leftmost some =
       failure-cons kind patterns b []
       ∙ cond-true (stops kind patterns (b ∷ [])) None (reached kind patterns No [])
-      (stops-own (b ∷ []) leftmost some)
-  miss-own (x ∷ w) b leftmost some =
+      (stops-pattern (b ∷ []) leftmost some)
+  miss-pattern (x ∷ w) b leftmost some =
       failure-cons kind patterns x (w ++ b ∷ [])
       ∙ cond-true (stops kind patterns (x ∷ w ++ b ∷ [])) None (reached kind patterns No (w ++ b ∷ []))
-      (stops-own (x ∷ w ++ b ∷ []) leftmost some)
+      (stops-pattern (x ∷ w ++ b ∷ []) leftmost some)
 
   same-stop : (w : List ℕ) (b : ℕ) → (is_leftmost kind ≡ true → equal_to kind patterns (w ++ b ∷ []) ≡ [])
       → stops kind patterns (w ++ b ∷ []) ≡ stops kind patterns w

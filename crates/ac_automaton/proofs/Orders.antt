@@ -1,4 +1,4 @@
--- What the ascending order of the members says of their bytes at one depth.
+-- What the ascending order of the patterns says of their bytes at one depth.
 use Rattle.std.proofs.Common.{◌≡◌, ℕ, suc, ◌<◌, ◌≤◌, true, false, List, [], ◌∷◌, length, inl, inr, refl, ap, sym, ◌∙◌, arith, Option, None, Some}
 use Rattle.std.specs.Prelude.{nat_eq, slice_get}
 use Rattle.std.specs.List.{starts_with}
@@ -9,7 +9,7 @@ use Rattle.std.specs.declared.cmp.Ordering.TheVariants.{Less, Equal, Greater}
 use Rattle.std.specs.Ordering.{MatchOrdering, is_gt, nat_cmp, ordering_then}
 use Rattle.std.proofs.lemmas.Bool.{and_parts, eqb-true, false≢true, cases_lt}
 use Rattle.ac_util.specs.declared.search.MatchKind.{MatchKind}
-use Rattle.ac_automaton.specs.Members.{Keyed, IsOrder, key_at, byte_at}
+use Rattle.ac_automaton.specs.Sorted.{Keyed, IsOrder, key_at, byte_at}
 
 -- a byte as a number, where none comes before each
 abbrev pub rank : Option ℕ → ℕ
@@ -31,7 +31,7 @@ rest-ascends x y Less rest m same e = absurd (omega arith)
 rest-ascends x y Equal rest m same e = e
 rest-ascends x y Greater rest m same e = absurd (omega arith)
 
--- of two strings with one front, the lesser has no greater byte behind it
+-- of two strings with one prefix, the lesser has no greater byte behind it
 rank-ascends : (u a b : List ℕ) → slice_cmp nat_cmp a b ≡ Less → starts_with nat_eq a u ≡ true
     → starts_with nat_eq b u ≡ true
     → rank (slice_get a (length u)) ≤ rank (slice_get b (length u))
@@ -51,18 +51,18 @@ rank-ascends (z ∷ u) (x ∷ a) (y ∷ b) less p q =
     rest-ascends x y (nat_cmp x y) (slice_cmp nat_cmp a b) (ranked x y (nat_cmp x y) refl) same less in
     rank-ascends u a b later left.1 right.1
 
--- the members that begin with u have ascending bytes behind it, those that are u first
-pub byte_at-ascends : (kind : MatchKind) (patterns : List (List ℕ)) (members : List Keyed)
-    → IsOrder kind patterns members
-    → (u : List ℕ) (j k : ℕ) → j ≤ k → k < length members
-    → starts_with nat_eq (key_at members j) u ≡ true → starts_with nat_eq (key_at members k) u ≡ true
-    → rank (byte_at members (length u) j) ≤ rank (byte_at members (length u) k)
-byte_at-ascends kind patterns members order u j k le within p q = elim (cases_lt j k) [
+-- the patterns that begin with u have ascending bytes behind it, those that are u first
+pub byte_at-ascends : (kind : MatchKind) (patterns : List (List ℕ)) (sorted : List Keyed)
+    → IsOrder kind patterns sorted
+    → (u : List ℕ) (j k : ℕ) → j ≤ k → k < length sorted
+    → starts_with nat_eq (key_at sorted j) u ≡ true → starts_with nat_eq (key_at sorted k) u ≡ true
+    → rank (byte_at sorted (length u) j) ≤ rank (byte_at sorted (length u) k)
+byte_at-ascends kind patterns sorted order u j k le within p q = elim (cases_lt j k) [
   | inl below ↦ elim (order.ascending j k (record { key = []; number = 0 }) below within) [
-    | inl less ↦ rank-ascends u (key_at members j) (key_at members k) less p q
+    | inl less ↦ rank-ascends u (key_at sorted j) (key_at sorted k) less p q
     | inr same ↦ let e = ap (λ (w : List ℕ). rank (slice_get w (length u))) same.0 in omega arith
   ]
   | inr above ↦
       let one : j ≡ k = omega arith in
-      let e = ap (λ (i : ℕ). rank (byte_at members (length u) i)) one in omega arith
+      let e = ap (λ (i : ℕ). rank (byte_at sorted (length u) i)) one in omega arith
 ]

@@ -1,4 +1,4 @@
--- The members that begin with one string stand side by side: first those that are the string, then a run for
+-- The patterns that begin with one string stand side by side: first those that are the string, then a run for
 -- each next byte.
 use Rattle.std.proofs.Common.{◌≡◌, ◌≢◌, ℕ, suc, ◌+◌, ◌-◌, ◌<◌, ◌≤◌, true, List, [], ◌∷◌, ◌++◌, length, inl, inr, refl, ap, sym, ◌∙◌, subst, arith, Option, Some, None, get_or}
 use Rattle.std.specs.Prelude.{nat_eq, bytes_eq, option_map, slice_get, slice_range}
@@ -20,11 +20,11 @@ use Rattle.ac_util.proofs.Lists.{IsIn, IsIn-filter, IsIn-from_filter, IsOrdered,
 use Rattle.ac_util.proofs.NodeCount.{any_passes}
 use Rattle.ac_util.proofs.Participants.{equal_to-ordered}
 use Rattle.ac_automaton.specs.Growths.{IsRangeOf}
-use Rattle.ac_automaton.specs.Members.{Keyed, IsOrder, byte_at, key_at, numbers}
+use Rattle.ac_automaton.specs.Sorted.{Keyed, IsOrder, byte_at, key_at, numbers}
 use Rattle.ac_automaton.proofs.Orders.{rank, byte_at-ascends}
 use Rattle.ac_automaton.proofs.Places.{get-same, get-range, get-from_range, place-of, IsIn-place, IsOrdered-places}
 
--- a front of a string, with the byte that follows it there, is a front
+-- a prefix of a string, with the byte that follows it there, is a prefix
 pub starts_with-push : (w u : List ℕ) (b : ℕ) → starts_with nat_eq w u ≡ true → slice_get w (length u) ≡ Some b
     → starts_with nat_eq w (u ++ b ∷ []) ≡ true
 starts_with-push [] u b h e = absurd (cc)
@@ -33,7 +33,7 @@ starts_with-push (x ∷ w) (y ∷ u) b h e =
     let parts = and_parts (nat_eq y x) (starts_with nat_eq w u) h in
     and_from _ _ parts.0 (starts_with-push w u b parts.1 e)
 
--- the last byte of a front stands behind the rest of it
+-- the last byte of a prefix stands behind the rest of it
 pub starts_with-last : (w u : List ℕ) (b : ℕ) → starts_with nat_eq w (u ++ b ∷ []) ≡ true
     → slice_get w (length u) ≡ Some b
 starts_with-last [] [] b h = absurd (false≢true h)
@@ -42,7 +42,7 @@ starts_with-last (x ∷ w) [] b h = ap (λ (z : ℕ). Some z) (sym (eqb-true b x
 starts_with-last (x ∷ w) (y ∷ u) b h =
     starts_with-last w u b (and_parts (nat_eq y x) (starts_with nat_eq w (u ++ b ∷ [])) h).1
 
--- a string without a byte behind a front is that front
+-- a string without a byte behind a prefix is that prefix
 pub starts_with-ended : (w u : List ℕ) → starts_with nat_eq w u ≡ true → slice_get w (length u) ≡ None → w ≡ u
 starts_with-ended w u h e = elim (cases_lt (length u) (length w)) [
   | inl more ↦ absurd (let byte = slice_get-get_or w (length u) 0 more in cc)
@@ -56,16 +56,16 @@ not-less : (u : List ℕ) → slice_cmp nat_cmp u u ≡ Less → ⊥
 not-less u e =
     let flip : Less ≡ Greater = sym e ∙ nat_list_cmp_total.antisymm u u ∙ ap ordering_reverse e in absurd (cc)
 
--- the member at a place, and its number in the list of the numbers
-abbrev member_at : List Keyed → ℕ → Keyed
-member_at members k = get_or members k (record { key = []; number = 0 })
+-- the pattern at a place, and its number in the list of the numbers
+abbrev pattern_at : List Keyed → ℕ → Keyed
+pattern_at sorted k = get_or sorted k (record { key = []; number = 0 })
 
-number-at : (members : List Keyed) (k : ℕ) → k < length members
-    → slice_get (numbers members) k ≡ Some (member_at members k).number
-number-at members k within =
-    slice_get-map (λ (q : Keyed). q.number) members k
+number-at : (sorted : List Keyed) (k : ℕ) → k < length sorted
+    → slice_get (numbers sorted) k ≡ Some (pattern_at sorted k).number
+number-at sorted k within =
+    slice_get-map (λ (q : Keyed). q.number) sorted k
     ∙ ap (option_map (λ (q : Keyed). q.number))
-    (slice_get-get_or members k (record { key = []; number = 0 }) within)
+    (slice_get-get_or sorted k (record { key = []; number = 0 }) within)
 
 rank-None : (r : Option ℕ) → rank r ≤ 0 → r ≡ None
 rank-None None l = refl
@@ -75,189 +75,192 @@ rank-Some : (r : Option ℕ) (b : ℕ) → rank r ≡ suc b → r ≡ Some b
 rank-Some None b e = absurd (omega arith)
 rank-Some (Some x) b e = ap (λ (z : ℕ). Some z) (let same : x ≡ b = omega arith in same)
 
-module _ (kind : MatchKind) (patterns : List (List ℕ)) (members : List Keyed)
-    (order : IsOrder kind patterns members) where
+module _ (kind : MatchKind) (patterns : List (List ℕ)) (sorted : List Keyed)
+    (order : IsOrder kind patterns sorted) where
   -- what stands at a place: a pattern that takes part, by its number and its bytes
   pub record Stands (k n : ℕ) : Type 0 where
-    pub within : k < length members
-    pub number : slice_get (numbers members) k ≡ Some n
-    pub key : key_at members k ≡ pattern_of patterns n
+    pub within : k < length sorted
+    pub number : slice_get (numbers sorted) k ≡ Some n
+    pub key : key_at sorted k ≡ pattern_of patterns n
     pub takes_part : IsIn n (participants kind patterns)
 
-  pub at-place : (k : ℕ) → k < length members → (n : ℕ) × Stands k n
+  pub at-place : (k : ℕ) → k < length sorted → (n : ℕ) × Stands k n
   at-place k within =
-      let m = member_at members k in
-      let is = slice_get-get_or members k (record { key = []; number = 0 }) within in
-      let number = number-at members k within in (
+      let m = pattern_at sorted k in
+      let is = slice_get-get_or sorted k (record { key = []; number = 0 }) within in
+      let number = number-at sorted k within in (
         m.number,
         record {
           within = within;
           number = number;
-          key = All-slice_get (λ (q : Keyed). q.key ≡ pattern_of patterns q.number) members k m order.named is;
+          key = All-slice_get (λ (q : Keyed). q.key ≡ pattern_of patterns q.number) sorted k m order.named is;
           takes_part = IsIn-from_Contains m.number (participants kind patterns)
               ((order.lists m.number).0
-              (Contains-from_IsIn m.number (numbers members) (IsIn-place m.number (numbers members) k number)));
+              (Contains-from_IsIn m.number (numbers sorted) (IsIn-place m.number (numbers sorted) k number)));
         },
       )
 
   -- and each pattern that takes part has a place
   pub place-at : (n : ℕ) → IsIn n (participants kind patterns) → (k : ℕ) × Stands k n
   place-at n h =
-      let p = place-of n (numbers members)
-      (IsIn-from_Contains n (numbers members)
+      let p = place-of n (numbers sorted)
+      (IsIn-from_Contains n (numbers sorted)
       ((order.lists n).1 (Contains-from_IsIn n (participants kind patterns) h))) in
-      let within : p.0 < length members =
-      (let l = slice_get_within (numbers members) p.0 n p.1 in
-      let m = length-map members (λ (q : Keyed). q.number) in omega arith) in
+      let within : p.0 < length sorted =
+      (let l = slice_get_within (numbers sorted) p.0 n p.1 in
+      let m = length-map sorted (λ (q : Keyed). q.number) in omega arith) in
       let s = at-place p.0 within in
-      (p.0, subst (λ (m : ℕ). Stands p.0 m) (get-same (numbers members) p.0 s.0 n s.1.number p.1) s.1)
+      (p.0, subst (λ (m : ℕ). Stands p.0 m) (get-same (numbers sorted) p.0 s.0 n s.1.number p.1) s.1)
 
-  -- a front of a member leads to a node
-  pub member-node : (k : ℕ) (u : List ℕ) → k < length members → starts_with nat_eq (key_at members k) u ≡ true
+  -- a prefix of a pattern leads to a node
+  pub pattern-node : (k : ℕ) (u : List ℕ) → k < length sorted → starts_with nat_eq (key_at sorted k) u ≡ true
       → is_node kind patterns u ≡ true
-  member-node k u within front =
+  pattern-node k u within front =
       let s = at-place k within in
       or_right (is_empty u) _
       (list_any-from_IsIn (λ n. starts_with nat_eq (pattern_of patterns n) u) s.0
       (participants kind patterns) s.1.takes_part
       (subst (λ (w : List ℕ). starts_with nat_eq w u ≡ true) s.1.key front))
 
-  -- and a node that isn't the start is a front of some member
-  pub node-member : (x : ℕ) (u : List ℕ) → is_node kind patterns (x ∷ u) ≡ true
-      → (k : ℕ) × (k < length members) × (starts_with nat_eq (key_at members k) (x ∷ u) ≡ true)
-  node-member x u node =
+  -- and a node that isn't the start is a prefix of some pattern
+  pub node-pattern : (x : ℕ) (u : List ℕ) → is_node kind patterns (x ∷ u) ≡ true
+      → (k : ℕ) × (k < length sorted) × (starts_with nat_eq (key_at sorted k) (x ∷ u) ≡ true)
+  node-pattern x u node =
       let r =
       any_passes (λ n. starts_with nat_eq (pattern_of patterns n) (x ∷ u)) (participants kind patterns) node in
       let s = place-at r.0 r.1 in
       (s.0, s.1.within, subst (λ (w : List ℕ). starts_with nat_eq w (x ∷ u) ≡ true) (sym s.1.key) r.2)
 
-  module _ (u : List ℕ) (from to : ℕ) (range : IsRangeOf members u from to) where
-    begins : (k : ℕ) → from ≤ k → k < to → starts_with nat_eq (key_at members k) u ≡ true
+  module _ (u : List ℕ) (from to : ℕ) (range : IsRangeOf sorted u from to) where
+    begins : (k : ℕ) → from ≤ k → k < to → starts_with nat_eq (key_at sorted k) u ≡ true
     begins k low high = (range.begins k (let w = range.within in omega arith)).0 (low, high)
 
     -- where one in the range has a byte behind the string, all later ones have one that isn't less
     pub range-ascends : (j k : ℕ) → from ≤ j → j ≤ k → k < to
-        → rank (byte_at members (length u) j) ≤ rank (byte_at members (length u) k)
+        → rank (byte_at sorted (length u) j) ≤ rank (byte_at sorted (length u) k)
     range-ascends j k low le high =
-        byte_at-ascends kind patterns members order u j k le (let w = range.within in omega arith)
+        byte_at-ascends kind patterns sorted order u j k le (let w = range.within in omega arith)
         (begins j low (omega arith)) (begins k (omega arith) high)
 
-    -- the patterns that are the string stand in front of the range
+    -- the patterns that are the string stand before the range
     module _ (end : ℕ) (later : from ≤ end) (within : end ≤ to)
-        (own : (k : ℕ) → from ≤ k → k < end → byte_at members (length u) k ≡ None)
-        (other : end < to → byte_at members (length u) end ≢ None) where
-      whole : (k : ℕ) → from ≤ k → k < end → key_at members k ≡ u
-      whole k low high = starts_with-ended (key_at members k) u (begins k low (omega arith)) (own k low high)
+        (ends : (k : ℕ) → from ≤ k → k < end → byte_at sorted (length u) k ≡ None)
+        (other : end < to → byte_at sorted (length u) end ≢ None) where
+      whole : (k : ℕ) → from ≤ k → k < end → key_at sorted k ≡ u
+      whole k low high = starts_with-ended (key_at sorted k) u (begins k low (omega arith)) (ends k low high)
 
-      pub longer : (k : ℕ) → end ≤ k → k < to → byte_at members (length u) k ≢ None
+      pub longer : (k : ℕ) → end ≤ k → k < to → byte_at sorted (length u) k ≢ None
       longer k low high none =
           let up = range-ascends end k later low high in
-          let zero : rank (byte_at members (length u) k) ≡ 0 = ap rank none in
-          other (omega arith) (rank-None (byte_at members (length u) end) (omega arith))
+          let zero : rank (byte_at sorted (length u) k) ≡ 0 = ap rank none in
+          other (omega arith) (rank-None (byte_at sorted (length u) end) (omega arith))
 
-      own-among : (n : ℕ) → IsIn n (slice_range (numbers members) from end) → IsIn n (equal_to kind patterns u)
-      own-among n h =
-          let p = place-of n (slice_range (numbers members) from end) h in
-          let q = get-from_range (numbers members) from end p.0 n p.1 in
+      among-equal_to : (n : ℕ) → IsIn n (slice_range (numbers sorted) from end)
+          → IsIn n (equal_to kind patterns u)
+      among-equal_to n h =
+          let p = place-of n (slice_range (numbers sorted) from end) h in
+          let q = get-from_range (numbers sorted) from end p.0 n p.1 in
           let s = at-place (from + p.0) (let w = range.within in omega (arith, q.0)) in
-          let same = get-same (numbers members) (from + p.0) s.0 n s.1.number q.1 in
+          let same = get-same (numbers sorted) (from + p.0) s.0 n s.1.number q.1 in
           let key : pattern_of patterns s.0 ≡ u = sym s.1.key ∙ whole (from + p.0) (omega arith) q.0 in
           subst (λ (m : ℕ). IsIn m (equal_to kind patterns u)) same
           (IsIn-filter (λ m. bytes_eq (pattern_of patterns m) u) s.0 (participants kind patterns) s.1.takes_part
           ((bytes_eq-Decides (pattern_of patterns s.0) u).1 key))
 
-      own-all : (n : ℕ) → IsIn n (equal_to kind patterns u) → IsIn n (slice_range (numbers members) from end)
-      own-all n h =
+      equal_to-among : (n : ℕ) → IsIn n (equal_to kind patterns u)
+          → IsIn n (slice_range (numbers sorted) from end)
+      equal_to-among n h =
           let e = IsIn-from_filter (λ m. bytes_eq (pattern_of patterns m) u) n (participants kind patterns) h in
           let s = place-at n e.0 in
-          let key : key_at members s.0 ≡ u = s.1.key ∙ (bytes_eq-Decides (pattern_of patterns n) u).0 e.1 in
+          let key : key_at sorted s.0 ≡ u = s.1.key ∙ (bytes_eq-Decides (pattern_of patterns n) u).0 e.1 in
           let there =
           (range.begins s.0 s.1.within).1
           (subst (λ (w : List ℕ). starts_with nat_eq w u ≡ true) (sym key) (starts_with-itself u)) in
           elim (cases_lt s.0 end) [
             | inl before ↦
-                IsIn-place n (slice_range (numbers members) from end) (s.0 - from)
-                (get-range (numbers members) from end (s.0 - from) (omega (arith, there.0))
-                ∙ ap (slice_get (numbers members))
+                IsIn-place n (slice_range (numbers sorted) from end) (s.0 - from)
+                (get-range (numbers sorted) from end (s.0 - from) (omega (arith, there.0))
+                ∙ ap (slice_get (numbers sorted))
                 (let at : from + (s.0 - from) ≡ s.0 = omega (arith, there.0) in at) ∙ s.1.number)
             | inr behind ↦
                 absurd (longer s.0 behind there.1 (ap (λ (w : List ℕ). slice_get w (length u)) key ∙ ended u))
           ]
 
-      own-ordered : IsOrdered (λ m n. m < n) (slice_range (numbers members) from end)
-      own-ordered = IsOrdered-places (λ m n. m < n) (slice_range (numbers members) from end) (λ j k m n l e f.
-          let p = get-from_range (numbers members) from end j m e in
-          let q = get-from_range (numbers members) from end k n f in
+      among-ordered : IsOrdered (λ m n. m < n) (slice_range (numbers sorted) from end)
+      among-ordered = IsOrdered-places (λ m n. m < n) (slice_range (numbers sorted) from end) (λ j k m n l e f.
+          let p = get-from_range (numbers sorted) from end j m e in
+          let q = get-from_range (numbers sorted) from end k n f in
           let inside = range.within in
-          let first : (member_at members (from + j)).number ≡ m =
-          get-same (numbers members) (from + j) _ m (number-at members (from + j) (omega (arith, p.0))) p.1 in
-          let second : (member_at members (from + k)).number ≡ n =
-          get-same (numbers members) (from + k) _ n (number-at members (from + k) (omega (arith, q.0))) q.1 in
+          let first : (pattern_at sorted (from + j)).number ≡ m =
+          get-same (numbers sorted) (from + j) _ m (number-at sorted (from + j) (omega (arith, p.0))) p.1 in
+          let second : (pattern_at sorted (from + k)).number ≡ n =
+          get-same (numbers sorted) (from + k) _ n (number-at sorted (from + k) (omega (arith, q.0))) q.1 in
           elim (order.ascending (from + j) (from + k) (record { key = []; number = 0 }) (omega arith)
           (omega (arith, q.0))) [
             | inl less ↦
                 let a = whole (from + j) (omega arith) p.0 in
                 let b = whole (from + k) (omega arith) q.0 in
                 absurd (not-less u
-                (sym (ap (λ (w : List ℕ). slice_cmp nat_cmp w (key_at members (from + k))) a
+                (sym (ap (λ (w : List ℕ). slice_cmp nat_cmp w (key_at sorted (from + k))) a
                 ∙ ap (slice_cmp nat_cmp u) b) ∙ less))
             | inr below ↦ let c = below.1 in omega arith
           ])
 
-      pub own-range : slice_range (numbers members) from end ≡ equal_to kind patterns u
-      own-range =
-          IsOrdered-unique (λ m n. m < n) (λ m n l h. absurd (omega arith)) _ _ own-among own-all own-ordered
+      pub range-equal_to : slice_range (numbers sorted) from end ≡ equal_to kind patterns u
+      range-equal_to =
+          IsOrdered-unique (λ m n. m < n) (λ m n l h. absurd (omega arith)) _ _ among-equal_to equal_to-among
+          among-ordered
           (equal_to-ordered kind patterns u)
 
     -- the first of the range is the string exactly if some pattern that takes part is
-    pub own-first : from < to → byte_at members (length u) from ≡ None → equal_to kind patterns u ≢ []
-    own-first some ends none =
+    pub equal_to-some : from < to → byte_at sorted (length u) from ≡ None → equal_to kind patterns u ≢ []
+    equal_to-some some ends none =
         let s = at-place from (let w = range.within in omega arith) in
         let key : pattern_of patterns s.0 ≡ u =
-        sym s.1.key ∙ starts_with-ended (key_at members from) u (begins from (omega arith) some) ends in
+        sym s.1.key ∙ starts_with-ended (key_at sorted from) u (begins from (omega arith) some) ends in
         none-from_nil s.0 (equal_to kind patterns u) none
         (IsIn-filter (λ m. bytes_eq (pattern_of patterns m) u) s.0 (participants kind patterns) s.1.takes_part
         ((bytes_eq-Decides (pattern_of patterns s.0) u).1 key))
 
-    pub own-none : byte_at members (length u) from ≢ None → equal_to kind patterns u ≡ []
-    own-none goes_on = nil-from_none (equal_to kind patterns u) (λ n h.
+    pub equal_to-none : byte_at sorted (length u) from ≢ None → equal_to kind patterns u ≡ []
+    equal_to-none goes_on = nil-from_none (equal_to kind patterns u) (λ n h.
         let e = IsIn-from_filter (λ m. bytes_eq (pattern_of patterns m) u) n (participants kind patterns) h in
         let s = place-at n e.0 in
-        let key : key_at members s.0 ≡ u = s.1.key ∙ (bytes_eq-Decides (pattern_of patterns n) u).0 e.1 in
+        let key : key_at sorted s.0 ≡ u = s.1.key ∙ (bytes_eq-Decides (pattern_of patterns n) u).0 e.1 in
         let there =
         (range.begins s.0 s.1.within).1
         (subst (λ (w : List ℕ). starts_with nat_eq w u ≡ true) (sym key) (starts_with-itself u)) in
         let up = range-ascends from s.0 (omega arith) there.0 there.1 in
-        let zero : rank (byte_at members (length u) s.0) ≡ 0 =
+        let zero : rank (byte_at sorted (length u) s.0) ≡ 0 =
         ap rank (ap (λ (w : List ℕ). slice_get w (length u)) key ∙ ended u) in
-        goes_on (rank-None (byte_at members (length u) from) (omega arith)))
+        goes_on (rank-None (byte_at sorted (length u) from) (omega arith)))
 
     -- a run of one byte is the range of the string with that byte
     module _ (place end b : ℕ) (low : from ≤ place) (some : place < end) (high : end ≤ to)
-        (byte : byte_at members (length u) place ≡ Some b)
-        (smaller : (k : ℕ) → from ≤ k → k < place → rank (byte_at members (length u) k) < suc b)
-        (same : (k : ℕ) → place ≤ k → k < end → byte_at members (length u) k ≡ byte_at members (length u) place)
-        (other : end < to → byte_at members (length u) end ≢ byte_at members (length u) place) where
+        (byte : byte_at sorted (length u) place ≡ Some b)
+        (smaller : (k : ℕ) → from ≤ k → k < place → rank (byte_at sorted (length u) k) < suc b)
+        (same : (k : ℕ) → place ≤ k → k < end → byte_at sorted (length u) k ≡ byte_at sorted (length u) place)
+        (other : end < to → byte_at sorted (length u) end ≢ byte_at sorted (length u) place) where
       -- the byte behind the run is greater
-      pub next-greater : end < to → suc b < rank (byte_at members (length u) end)
-      next-greater more = elim (cases_lt (suc b) (rank (byte_at members (length u) end))) [
+      pub next-greater : end < to → suc b < rank (byte_at sorted (length u) end)
+      next-greater more = elim (cases_lt (suc b) (rank (byte_at sorted (length u) end))) [
         | inl above ↦ above
         | inr le ↦
             let up = range-ascends place end low (omega arith) more in
-            let at : rank (byte_at members (length u) place) ≡ suc b = ap rank byte in
-            absurd (other more (rank-Some (byte_at members (length u) end) b (omega arith) ∙ sym byte))
+            let at : rank (byte_at sorted (length u) place) ≡ suc b = ap rank byte in
+            absurd (other more (rank-Some (byte_at sorted (length u) end) b (omega arith) ∙ sym byte))
       ]
 
-      child-within : (k : ℕ) → place ≤ k → k < end → starts_with nat_eq (key_at members k) (u ++ b ∷ []) ≡ true
+      child-within : (k : ℕ) → place ≤ k → k < end → starts_with nat_eq (key_at sorted k) (u ++ b ∷ []) ≡ true
       child-within k a c =
-          starts_with-push (key_at members k) u b (begins k (omega arith) (omega arith)) (same k a c ∙ byte)
+          starts_with-push (key_at sorted k) u b (begins k (omega arith) (omega arith)) (same k a c ∙ byte)
 
-      child-only : (k : ℕ) → k < length members → starts_with nat_eq (key_at members k) (u ++ b ∷ []) ≡ true
+      child-only : (k : ℕ) → k < length sorted → starts_with nat_eq (key_at sorted k) (u ++ b ∷ []) ≡ true
           → (place ≤ k) × (k < end)
       child-only k within h =
-          let there = (range.begins k within).1 (starts_with-front (key_at members k) u b h) in
-          let r : rank (byte_at members (length u) k) ≡ suc b =
-          ap rank (starts_with-last (key_at members k) u b h) in (
+          let there = (range.begins k within).1 (starts_with-front (key_at sorted k) u b h) in
+          let r : rank (byte_at sorted (length u) k) ≡ suc b =
+          ap rank (starts_with-last (key_at sorted k) u b h) in (
             elim (cases_lt k place) [
               | inl before ↦ absurd (let s = smaller k there.0 before in omega arith)
               | inr le ↦ le
@@ -271,8 +274,8 @@ module _ (kind : MatchKind) (patterns : List (List ℕ)) (members : List Keyed)
             ],
           )
 
-      pub child-range : IsRangeOf members (u ++ b ∷ []) place end
-      child-range = record {
+      pub run-range : IsRangeOf sorted (u ++ b ∷ []) place end
+      run-range = record {
         ordered = omega arith;
         within = (let w = range.within in omega arith);
         begins = λ k within. ((λ in'. child-within k in'.0 in'.1), (λ h. child-only k within h));

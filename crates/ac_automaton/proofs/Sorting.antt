@@ -28,16 +28,17 @@ use Rattle.ac_util.specs.Node.{participants}
 use Rattle.ac_util.specs.Sameness.{plain}
 use Rattle.ac_util.specs.Search.{pattern_of}
 use Rattle.ac_util.proofs.Lists.{IsOrdered, IsOrdered-map, IsOrdered-range, AllPairs-from_IsOrdered}
-use Rattle.ac_automaton.specs.declared.nfa.noncontiguous.members.Member.{Member}
-use Rattle.ac_automaton.specs.Members.{Keyed, Precedes, IsOrder, AreListed, compared, keyed, numbers}
+use Rattle.ac_automaton.specs.declared.nfa.noncontiguous.sorted.SortedPattern.{SortedPattern}
+use Rattle.ac_automaton.specs.Sorted.{Keyed, Precedes, IsOrder, AreListed, compared, keyed, numbers}
 use Rattle.ac_automaton.proofs.Counting.{IsOrdered-from_AllPairs}
 
 -- the view has the number of the pattern that is stored at a place
-pub number_at : (fold : Bool) (members : List Member) (place : ℕ) (m : Member) → place < length members
-    → m ≡ get_or members place m → slice_get (numbers (keyed fold members)) place ≡ Some m.number
+pub number_at : (fold : Bool) (sorted : List SortedPattern) (place : ℕ) (m : SortedPattern)
+    → place < length sorted
+    → m ≡ get_or sorted place m → slice_get (numbers (keyed fold sorted)) place ≡ Some m.number
 number_at fold [] place m within is = absurd (omega arith)
-number_at fold (x ∷ members) zero m within is = ap (λ (w : Member). Some w.number) (sym is)
-number_at fold (x ∷ members) (suc place) m within is = number_at fold members place m (omega arith) is
+number_at fold (x ∷ sorted) zero m within is = ap (λ (w : SortedPattern). Some w.number) (sym is)
+number_at fold (x ∷ sorted) (suc place) m within is = number_at fold sorted place m (omega arith) is
 
 -- one element more of a list of which f gives the first elements
 pub map-push : {X Y : Type 0} (f : X → Y) (all : List Y) (xs ys : List X) (n : ℕ) (x : X) → ys ≡ xs ++ x ∷ []
@@ -82,17 +83,17 @@ All-pushed P xs ys x is all here = All-same P ys (xs ++ x ∷ []) is (All-push P
 -- the comparison is a total order
 pub compared-total : (fold : Bool) → IsTotalOrder (compared fold)
 compared-total fold =
-    then_total (on_total (λ (m : Member). plain fold m.bytes.now) nat_list_cmp_total)
-    (on_total (λ (m : Member). m.number) nat_cmp_total)
+    then_total (on_total (λ (m : SortedPattern). plain fold m.bytes.now) nat_list_cmp_total)
+    (on_total (λ (m : SortedPattern). m.number) nat_cmp_total)
 
 -- what a sort ensures whose closure answers by the comparison
 pub IsSortedBy-from_calls :
-    (fold : Bool) {F : Type 0} {g : Mut F (Bor Member × (Bor Member × Unit {0})) Ordering} {f : F}
-    (members : List Member) → IsSortedByClosure g f members
-    → ((a : Bor Member × (Bor Member × Unit {0})) (r : Ordering) (f' : F) → Called g f a r f'
+    (fold : Bool) {F : Type 0} {g : Mut F (Bor SortedPattern × (Bor SortedPattern × Unit {0})) Ordering} {f : F}
+    (sorted : List SortedPattern) → IsSortedByClosure g f sorted
+    → ((a : Bor SortedPattern × (Bor SortedPattern × Unit {0})) (r : Ordering) (f' : F) → Called g f a r f'
     → (r ≡ compared fold a.0.now a.1.0.now) × (f' ≡ f))
-    → IsSortedBy (λ a b. is_lt (compared fold a b)) members
-IsSortedBy-from_calls fold {g = g} {f = f} members up answers =
+    → IsSortedBy (λ a b. is_lt (compared fold a b)) sorted
+IsSortedBy-from_calls fold {g = g} {f = f} sorted up answers =
     up (λ a b. is_lt (compared fold a b)) (ranks_by (compared-total fold) (λ m. m))
     (always_returns_same g (λ a r. is_lt r ≡ is_lt (compared fold a.0.now a.1.0.now)) f
     (λ a r f' called. (ap is_lt (answers a r f' called).0, (answers a r f' called).1)))
@@ -116,12 +117,12 @@ Precedes-by_parts a b Equal Greater bytes numbers le apart = absurd (false≢tru
 Precedes-by_parts a b Greater p bytes numbers le apart = absurd (false≢true (sym le))
 
 -- a is no greater than b, and has another number
-record StandsBefore (fold : Bool) (a b : Member) : Type 0 where
+record StandsBefore (fold : Bool) (a b : SortedPattern) : Type 0 where
   no_greater : is_lt (compared fold b a) ≡ false
   apart : a.number ≢ b.number
 
--- such members precede each other in the view
-Precedes-from_StandsBefore : (fold : Bool) (a b : Member) → StandsBefore fold a b
+-- such patterns precede each other in the view
+Precedes-from_StandsBefore : (fold : Bool) (a b : SortedPattern) → StandsBefore fold a b
     → Precedes (record { key = plain fold a.bytes.now; number = a.number })
     (record { key = plain fold b.bytes.now; number = b.number })
 Precedes-from_StandsBefore fold a b s =
@@ -143,10 +144,10 @@ participants-Standard fold patterns =
     ∙ ap (range_with_len 0) (length-map patterns (plain fold))
 
 -- the view has the numbers of the stored patterns
-numbers-keyed : (fold : Bool) (members : List Member)
-    → numbers (keyed fold members) ≡ map (λ m. m.number) members
+numbers-keyed : (fold : Bool) (sorted : List SortedPattern)
+    → numbers (keyed fold sorted) ≡ map (λ m. m.number) sorted
 numbers-keyed fold [] = refl
-numbers-keyed fold (m ∷ members) = ap (λ w. m.number ∷ w) (numbers-keyed fold members)
+numbers-keyed fold (m ∷ sorted) = ap (λ w. m.number ∷ w) (numbers-keyed fold sorted)
 
 -- a weaker order of the same elements
 IsOrdered-weaker : {X : Type 0} (R S : X → X → Type 0) → ((x y : X) → R x y → S x y) → (xs : List X)
@@ -154,11 +155,12 @@ IsOrdered-weaker : {X : Type 0} (R S : X → X → Type 0) → ((x y : X) → R 
 IsOrdered-weaker R S weaker [] o = tt
 IsOrdered-weaker R S weaker (x ∷ xs) o = ((λ y h. weaker x y (o.0 y h)), IsOrdered-weaker R S weaker xs o.1)
 
-module _ (fold : Bool) (patterns : List (List ℕ)) (listed : List Member) (are : AreListed patterns listed) where
-  abbrev number_of : Member → ℕ
+module _ (fold : Bool) (patterns : List (List ℕ)) (listed : List SortedPattern)
+    (are : AreListed patterns listed) where
+  abbrev number_of : SortedPattern → ℕ
   number_of m = m.number
 
-  abbrev keyed_one : Member → Keyed
+  abbrev keyed_one : SortedPattern → Keyed
   keyed_one m = record { key = plain fold m.bytes.now; number = m.number }
 
   -- each is the pattern of its number
@@ -188,7 +190,7 @@ module _ (fold : Bool) (patterns : List (List ℕ)) (listed : List Member) (are 
       (IsOrdered-weaker (λ x y. x < y) (λ x y. x ≢ y) (λ x y less. omega arith) range
       (IsOrdered-range 0 (length patterns))))
 
-  module _ (sorted : List Member) (moved : IsPermutation listed sorted) where
+  module _ (sorted : List SortedPattern) (moved : IsPermutation listed sorted) where
     numbers-moved : IsPermutation (map number_of listed) (map number_of sorted)
     numbers-moved = IsPermutation-map number_of listed sorted moved
 
@@ -224,7 +226,7 @@ module _ (fold : Bool) (patterns : List (List ℕ)) (listed : List Member) (are 
     pub IsOrder-from_sorted : IsSortedBy (λ a b. is_lt (compared fold a b)) sorted
         → IsOrder Standard (map (plain fold) patterns) (keyed fold sorted)
     IsOrder-from_sorted up =
-        let less = λ (a b : Member). is_lt (compared fold a b) in
+        let less = λ (a b : SortedPattern). is_lt (compared fold a b) in
         let far = sorted_far less (ranks_by (compared-total fold) (λ m. m)) sorted up in
         let before = IsOrdered-from_AllPairs (StandsBefore fold) sorted (λ i j d below within. record {
           no_greater = far i j d (omega arith) within;

@@ -1,4 +1,4 @@
--- The start of a trie: all members begin with the empty string.
+-- The start of a trie: all patterns begin with the empty string.
 use Rattle.std.proofs.Common.{◌≡◌, ◌≢◌, ℕ, ◌<◌, ◌≤◌, Bool, true, false, ◌&&◌, List, [], ◌∷◌, length, inl, inr, refl, ap, sym, ◌∙◌, arith, Some, None}
 use Rattle.std.specs.Prelude.{bytes_eq, slice_get}
 use Rattle.std.proofs.lemmas.Bool.{cases_Bool, cases_lt, cond-true, cond-false, false_from_ne_true}
@@ -9,19 +9,20 @@ use Rattle.ac_util.specs.Search.{pattern_of}
 use Rattle.ac_util.proofs.Fronts.{starts_with-length}
 use Rattle.ac_util.proofs.Lists.{IsIn-from_filter, nil-from_none, none-from_nil}
 use Rattle.ac_util.proofs.Participants.{IsIn-equal_to, equal_to-none_begins, leader, leader-takes_part}
-use Rattle.ac_automaton.specs.declared.nfa.noncontiguous.growth.Pending.{Pending}
+use Rattle.ac_automaton.specs.declared.nfa.noncontiguous.growth.QueuedState.{QueuedState}
+use Rattle.ac_automaton.specs.declared.nfa.noncontiguous.state.TheConstants.{DEAD, START}
 use Rattle.ac_automaton.specs.Growths.{IsRangeOf, Waits}
-use Rattle.ac_automaton.specs.Members.{Keyed, IsOrder, byte_at}
+use Rattle.ac_automaton.specs.Sorted.{Keyed, IsOrder, byte_at}
 use Rattle.ac_automaton.specs.Tries.{miss}
-use Rattle.ac_automaton.proofs.Ranges.{own-first, own-none, place-at}
+use Rattle.ac_automaton.proofs.Ranges.{equal_to-some, equal_to-none, place-at}
 
 no-bytes : (w : List ℕ) → length w ≤ 0 → w ≡ []
 no-bytes [] l = refl
 no-bytes (x ∷ w) l = absurd (omega arith)
 
-module _ (kind : MatchKind) (patterns : List (List ℕ)) (members : List Keyed)
-    (order : IsOrder kind patterns members) where
-  all-range : IsRangeOf members [] 0 (length members)
+module _ (kind : MatchKind) (patterns : List (List ℕ)) (sorted : List Keyed)
+    (order : IsOrder kind patterns sorted) where
+  all-range : IsRangeOf sorted [] 0 (length sorted)
   all-range = record {
     ordered = omega arith;
     within = omega arith;
@@ -29,8 +30,8 @@ module _ (kind : MatchKind) (patterns : List (List ℕ)) (members : List Keyed)
   }
 
   -- a pattern that is empty and takes part is there exactly if some pattern is empty
-  begins-own : begins_with_pattern patterns [] ≡ true → equal_to kind patterns [] ≢ []
-  begins-own h none =
+  begins-some : begins_with_pattern patterns [] ≡ true → equal_to kind patterns [] ≢ []
+  begins-some h none =
       let l = leader patterns [] h in
       none-from_nil l.0 (equal_to kind patterns []) none
       (IsIn-equal_to kind patterns [] l.0 (record {
@@ -40,33 +41,33 @@ module _ (kind : MatchKind) (patterns : List (List ℕ)) (members : List Keyed)
             (starts_with-length [] (pattern_of patterns l.0) l.1.fronts.front);
       }))
 
-  own-begins : equal_to kind patterns [] ≢ [] → begins_with_pattern patterns [] ≡ true
-  own-begins some = elim (cases_Bool (begins_with_pattern patterns [])) [
+  some-begins : equal_to kind patterns [] ≢ [] → begins_with_pattern patterns [] ≡ true
+  some-begins some = elim (cases_Bool (begins_with_pattern patterns [])) [
     | inl t ↦ t
     | inr f ↦ absurd (some (equal_to-none_begins kind patterns [] f))
   ]
 
   -- under a leftmost kind an empty pattern lets no match start later
-  miss-dead : is_leftmost kind ≡ true → 0 < length members → byte_at members 0 0 ≡ None
+  miss-dead : is_leftmost kind ≡ true → 0 < length sorted → byte_at sorted 0 0 ≡ None
       → miss kind patterns (Some []) ≡ None
   miss-dead leftmost some ends =
       let begins =
-      own-begins (own-first kind patterns members order [] 0 (length members) all-range some ends) in
+      some-begins (equal_to-some kind patterns sorted order [] 0 (length sorted) all-range some ends) in
       cond-true (is_leftmost kind && begins_with_pattern patterns []) None (Some [])
       (ap (λ (t : Bool). t && begins_with_pattern patterns []) leftmost ∙ begins)
 
-  none-begins : (0 < length members → byte_at members 0 0 ≢ None) → begins_with_pattern patterns [] ≡ false
-  none-begins goes_on = false_from_ne_true _ (λ t. begins-own t (elim (cases_lt 0 (length members)) [
-    | inl some ↦ own-none kind patterns members order [] 0 (length members) all-range (goes_on some)
+  none-begins : (0 < length sorted → byte_at sorted 0 0 ≢ None) → begins_with_pattern patterns [] ≡ false
+  none-begins goes_on = false_from_ne_true _ (λ t. begins-some t (elim (cases_lt 0 (length sorted)) [
+    | inl some ↦ equal_to-none kind patterns sorted order [] 0 (length sorted) all-range (goes_on some)
     | inr none ↦ nil-from_none (equal_to kind patterns []) (λ n h.
         let s =
-        place-at kind patterns members order n
+        place-at kind patterns sorted order n
         (IsIn-from_filter (λ m. bytes_eq (pattern_of patterns m) []) n (participants kind patterns) h).0 in
         let w = s.1.within in
         absurd (omega arith))
   ]))
 
-  miss-stays : (is_leftmost kind ≡ true → 0 < length members → byte_at members 0 0 ≢ None)
+  miss-stays : (is_leftmost kind ≡ true → 0 < length sorted → byte_at sorted 0 0 ≢ None)
       → miss kind patterns (Some []) ≡ Some []
   miss-stays goes_on = elim (cases_Bool (is_leftmost kind)) [
     | inl leftmost ↦
@@ -78,12 +79,12 @@ module _ (kind : MatchKind) (patterns : List (List ℕ)) (members : List Keyed)
   ]
 
   -- the start as it waits for its children
-  abbrev pub start_pending : ℕ → Pending
-  start_pending fail = record { from = 0; to = length members; depth = 0; fail = fail }
+  abbrev pub queued_start : ℕ → QueuedState
+  queued_start fail = record { from = 0; to = length sorted; depth = 0; fail = fail }
 
   waits : (fail : ℕ) → slice_get (None ∷ None ∷ Some [] ∷ Some [] ∷ []) fail ≡ Some
       (miss kind patterns (Some []))
-      → Waits kind patterns members [] 2 (start_pending fail)
+      → Waits kind patterns sorted [] START (queued_start fail)
   waits fail e = record {
     deep = omega arith;
     range = all-range;
@@ -93,10 +94,10 @@ module _ (kind : MatchKind) (patterns : List (List ℕ)) (members : List Keyed)
     inner = λ l. absurd (omega arith);
   }
 
-  pub waits-dead : is_leftmost kind ≡ true → 0 < length members → byte_at members 0 0 ≡ None
-      → Waits kind patterns members [] 2 (start_pending 0)
-  waits-dead leftmost some ends = waits 0 (ap (λ (v : Node). Some v) (sym (miss-dead leftmost some ends)))
+  pub waits-dead : is_leftmost kind ≡ true → 0 < length sorted → byte_at sorted 0 0 ≡ None
+      → Waits kind patterns sorted [] START (queued_start DEAD)
+  waits-dead leftmost some ends = waits DEAD (ap (λ (v : Node). Some v) (sym (miss-dead leftmost some ends)))
 
-  pub waits-start : (is_leftmost kind ≡ true → 0 < length members → byte_at members 0 0 ≢ None)
-      → Waits kind patterns members [] 2 (start_pending 2)
-  waits-start goes_on = waits 2 (ap (λ (v : Node). Some v) (sym (miss-stays goes_on)))
+  pub waits-start : (is_leftmost kind ≡ true → 0 < length sorted → byte_at sorted 0 0 ≢ None)
+      → Waits kind patterns sorted [] START (queued_start START)
+  waits-start goes_on = waits START (ap (λ (v : Node). Some v) (sym (miss-stays goes_on)))

@@ -1,9 +1,10 @@
 -- A trie has as many states as there are nodes: each node has one state, and a build is refused only where
 -- there are too many.
-use Rattle.std.proofs.Common.{◌≡◌, ◌≢◌, ℕ, zero, suc, ◌+◌, ◌<◌, Bool, true, List, [], ◌∷◌, ◌++◌, map, length, inl, inr, refl, ap, sym, ◌∙◌, subst, arith, Some, None}
-use Rattle.std.specs.Prelude.{slice_get, option_map}
+use Rattle.std.proofs.Common.{◌≡◌, ◌≢◌, ℕ, zero, suc, ◌+◌, ◌<◌, ◌≤◌, Bool, true, List, [], ◌∷◌, ◌++◌, map, length, get_or, inl, inr, refl, ap, sym, ◌∙◌, subst, arith, Some, None}
+use Rattle.std.specs.Prelude.{slice_get, option_map, nat_lt, Contains}
+use Rattle.std.proofs.lemmas.Bool.{cond-false, cond-true, le-ltb, lt-ltb}
 use Rattle.std.proofs.lemmas.List.{length-map, length_push}
-use Rattle.std.proofs.lemmas.Option.{slice_get-map, slice_get_within}
+use Rattle.std.proofs.lemmas.Option.{slice_get-get_or, slice_get-map, slice_get_within}
 use Rattle.ac_util.specs.declared.search.MatchKind.{MatchKind}
 use Rattle.ac_util.specs.declared.primitives.TheConstants.{GREATEST}
 use Rattle.ac_util.specs.Node.{Node, is_node, step}
@@ -13,40 +14,58 @@ use Rattle.ac_util.specs.Sizes.{inner_nodes, state_count}
 use Rattle.ac_util.proofs.Lists.{IsIn, IsOrdered, IsIn-from_Contains, IsIn-from_map, Contains-from_IsIn}
 use Rattle.ac_util.proofs.NodeCount.{inner_nodes-has, inner_nodes-only, inner_nodes-apart}
 use Rattle.ac_util.proofs.Participants.{is_node-front}
-use Rattle.ac_automaton.specs.declared.nfa.noncontiguous.growth.Pending.{Pending}
+use Rattle.ac_automaton.specs.declared.nfa.noncontiguous.growth.QueuedState.{QueuedState}
 use Rattle.ac_automaton.specs.declared.nfa.noncontiguous.state.State.{State}
+use Rattle.ac_automaton.specs.declared.nfa.noncontiguous.state.TheConstants.{START, FIRST_INNER}
 use Rattle.ac_automaton.specs.declared.nfa.noncontiguous.state.Transition.{Transition}
 use Rattle.ac_util.specs.declared.error.BuildError.{BuildError}
-use Rattle.ac_automaton.specs.Builds.{IsRefused}
+use Rattle.ac_util.specs.declared.error.BuildError.TheVariants.{StateIdOverflow}
+use Rattle.ac_automaton.specs.Builds.{IsRefused, too_many_states}
 use Rattle.ac_automaton.specs.Growths.{IsGrown, IsNotPushed, IsRangeOf, grown_meaning, nodes_of, word}
-use Rattle.ac_automaton.specs.Members.{Keyed, IsOrder, byte_at, key_at}
-use Rattle.ac_automaton.specs.Tries.{AreStates, Represents, bytes_of, transitions_of, miss, state_at}
-use Rattle.ac_automaton.proofs.Branched.{held-is, some_node}
-use Rattle.ac_automaton.proofs.Branching.{IsBranching, IsRun, Site, child-members, fresh, string, word-length}
+use Rattle.ac_automaton.specs.Sorted.{Keyed, IsOrder, byte_at, key_at}
+use Rattle.ac_automaton.specs.Tries.{AreStates, IsNumberOf, NumbersNodes, Represents, transition_bytes, transitions_of, miss, state_at}
+use Rattle.ac_automaton.proofs.Branched.{own_target-is, some_node}
+use Rattle.ac_automaton.proofs.Branching.{IsBranching, IsRun, Site, child-range, fresh, string, word-length}
 use Rattle.ac_automaton.proofs.Counting.{IsOrdered-from_AllPairs, length-le-from_IsOrdered}
-use Rattle.ac_automaton.proofs.Grown.{nodes-cases}
+use Rattle.ac_automaton.proofs.Grown.{IsInner, nodes-cases}
 use Rattle.ac_automaton.proofs.Places.{place-of, IsIn-place, IsOrdered-places}
-use Rattle.ac_automaton.proofs.Ranges.{member-node, starts_with-last}
+use Rattle.ac_automaton.proofs.Ranges.{pattern-node, starts_with-last}
+
+-- the states are too many where they are more than their numbers
+too_many_states-some : (kind : MatchKind) (patterns : List (List ℕ)) → GREATEST + 1 < state_count kind patterns
+    → too_many_states kind patterns ≡ Some (StateIdOverflow GREATEST (GREATEST + 1))
+too_many_states-some kind patterns many =
+    cond-true (nat_lt (GREATEST + 1) (state_count kind patterns))
+    (Some (StateIdOverflow GREATEST (GREATEST + 1)))
+    None (lt-ltb (GREATEST + 1) (state_count kind patterns) many)
+
+-- and else they are not
+pub too_many_states-none : (kind : MatchKind) (patterns : List (List ℕ))
+    → state_count kind patterns ≤ GREATEST + 1 → too_many_states kind patterns ≡ None
+too_many_states-none kind patterns few =
+    cond-false (nat_lt (GREATEST + 1) (state_count kind patterns))
+    (Some (StateIdOverflow GREATEST (GREATEST + 1))) None
+    (le-ltb (GREATEST + 1) (state_count kind patterns) few)
 
 -- a string that isn't empty is a shorter one with one more byte
 last-byte : (x : ℕ) (u : List ℕ) → (w : List ℕ) × (b : ℕ) × (x ∷ u ≡ w ++ b ∷ [])
 last-byte x [] = ([], x, refl)
 last-byte x (y ∷ u) = let r = last-byte y u in (x ∷ r.0, r.1, ap (λ (w : List ℕ). x ∷ w) r.2)
 
-module _ (kind : MatchKind) (patterns : List (List ℕ)) (members : List Keyed)
-    (order : IsOrder kind patterns members)
-    (whole : ℕ) (transitions : List Transition) (queue : List Pending)
-    (grown : IsGrown kind patterns members whole transitions queue) where
+module _ (kind : MatchKind) (patterns : List (List ℕ)) (sorted : List Keyed)
+    (order : IsOrder kind patterns sorted)
+    (whole : ℕ) (transitions : List Transition) (queue : List QueuedState)
+    (grown : IsGrown kind patterns sorted whole transitions queue) where
   -- the strings of the queue
   abbrev words : List (List ℕ)
-  words = map (word members) queue
+  words = map (word sorted) queue
 
   word-at : (k : ℕ) (w : List ℕ) → slice_get words k ≡ Some w
-      → (q : Pending) × (slice_get queue k ≡ Some q) × (word members q ≡ w)
+      → (q : QueuedState) × (slice_get queue k ≡ Some q) × (word sorted q ≡ w)
   word-at k w e = by queue k e
     where
-      by : (qs : List Pending) (j : ℕ) → slice_get (map (word members) qs) j ≡ Some w
-          → (q : Pending) × (slice_get qs j ≡ Some q) × (word members q ≡ w)
+      by : (qs : List QueuedState) (j : ℕ) → slice_get (map (word sorted) qs) j ≡ Some w
+          → (q : QueuedState) × (slice_get qs j ≡ Some q) × (word sorted q ≡ w)
       by [] j e = absurd (cc)
       by (q ∷ qs) zero e = (q, refl, (cc))
       by (q ∷ qs) (suc j) e = by qs j e
@@ -58,29 +77,48 @@ module _ (kind : MatchKind) (patterns : List (List ℕ)) (members : List Keyed)
       let at = grown.apart j k q.0 r.0 q.1 r.1 (q.2 ∙ same ∙ sym r.2) in
       absurd (omega arith))
 
-  range-node : (u : List ℕ) (from to : ℕ) → IsRangeOf members u from to → from < to
+  range-node : (u : List ℕ) (from to : ℕ) → IsRangeOf sorted u from to → from < to
       → is_node kind patterns u ≡ true
   range-node u from to range some =
-      let inside : from < length members = (let w = range.within in omega arith) in
-      member-node kind patterns members order from u inside ((range.begins from inside).0 (omega arith, some))
+      let inside : from < length sorted = (let w = range.within in omega arith) in
+      pattern-node kind patterns sorted order from u inside ((range.begins from inside).0 (omega arith, some))
 
   word-inner : (u : List ℕ) → IsIn u words → IsIn u (inner_nodes kind patterns)
   word-inner u h =
       let k = place-of u words h in
       let q = word-at k.0 u k.1 in
       let w = grown.waits k.0 q.0 q.1 in
-      let node = range-node (word members q.0) q.0.from q.0.to w.range (w.some (omega arith)) in
-      let some : word members q.0 ≢ [] =
+      let node = range-node (word sorted q.0) q.0.from q.0.to w.range (w.some (omega arith)) in
+      let some : word sorted q.0 ≢ [] =
       (λ e. let l = word-length w in let m = ap length e in
       let d = w.inner (omega arith) in absurd (omega arith)) in
       subst (λ (v : List ℕ). IsIn v (inner_nodes kind patterns)) q.2
-      (IsIn-from_Contains (word members q.0) (inner_nodes kind patterns)
-      (inner_nodes-has kind patterns (word members q.0) node some))
+      (IsIn-from_Contains (word sorted q.0) (inner_nodes kind patterns)
+      (inner_nodes-has kind patterns (word sorted q.0) node some))
+
+  -- an inner number is that of a place in the queue
+  inner-at : (s : ℕ) (v : Node) → FIRST_INNER ≤ s → slice_get (nodes_of sorted queue) s ≡ Some v
+      → IsInner sorted queue s v
+  inner-at s v inner e = elim (nodes-cases sorted queue s v e) [
+    | inl dead ↦ absurd (let l = dead.0 in omega arith)
+    | inr (inl start) ↦ absurd (let l = start.1 in omega arith)
+    | inr (inr i) ↦ i
+  ]
+
+  -- its string is that of the state at the place
+  inner-is : (s : ℕ) (u : List ℕ) (i : IsInner sorted queue s (Some u)) → u ≡ word sorted i.queued
+  inner-is s u i = let e : Some u ≡ Some (word sorted i.queued) = i.node in cc
+
+  word-of_inner : (s : ℕ) (u : List ℕ) → IsInner sorted queue s (Some u) → IsIn u words
+  word-of_inner s u i =
+      IsIn-place u words i.place
+      (slice_get-map (word sorted) queue i.place ∙ ap (option_map (word sorted)) i.waits
+      ∙ ap (λ (v : List ℕ). Some v) (sym (inner-is s u i)))
 
   -- with a further string the queue would have more states than there are numbers
-  pub too-many : (u : List ℕ) (b from to : ℕ) → IsRangeOf members (u ++ b ∷ []) from to → from < to
-      → ((k : ℕ) (q : Pending) → slice_get queue k ≡ Some q → word members q ≡ u ++ b ∷ [] → ⊥)
-      → length queue + 4 ≡ GREATEST + 1 → GREATEST + 1 < state_count kind patterns
+  pub too-many : (u : List ℕ) (b from to : ℕ) → IsRangeOf sorted (u ++ b ∷ []) from to → from < to
+      → ((k : ℕ) (q : QueuedState) → slice_get queue k ≡ Some q → word sorted q ≡ u ++ b ∷ [] → ⊥)
+      → FIRST_INNER + length queue ≡ GREATEST + 1 → GREATEST + 1 < state_count kind patterns
   too-many u b from to range some fresh full =
       let node = range-node (u ++ b ∷ []) from to range some in
       let longer : u ++ b ∷ [] ≢ [] =
@@ -97,58 +135,58 @@ module _ (kind : MatchKind) (patterns : List (List ℕ)) (members : List Keyed)
         | inl e ↦ subst (λ (v : List ℕ). IsIn v (inner_nodes kind patterns)) e here
         | inr later ↦ word-inner w later
       ]) in
-      let l = length-map queue (word members) in
+      let l = length-map queue (word sorted) in
       omega arith
 
   module _ (fold : Bool)
-      (settled : (place depth b : ℕ) → byte_at members depth place ≡ Some b → plain_byte fold b ≡ b)
+      (settled : (place depth b : ℕ) → byte_at sorted depth place ≡ Some b → plain_byte fold b ≡ b)
       (states : List State)
-      (meant : AreStates (grown_meaning kind fold patterns members transitions queue) states)
-      (all : length states ≡ 4 + length queue) where
+      (meant : AreStates (grown_meaning kind fold patterns sorted transitions queue) states)
+      (all : length states ≡ FIRST_INNER + length queue) where
     -- where the state of a string stands, and the byte that makes a longer node of it
-    module _ (w : List ℕ) (b s : ℕ) (at : slice_get (nodes_of members queue) s ≡ Some (Some w))
+    module _ (w : List ℕ) (b s : ℕ) (at : slice_get (nodes_of sorted queue) s ≡ Some (Some w))
         (longer : is_node kind patterns (w ++ b ∷ []) ≡ true) where
       settled-byte : plain_byte fold b ≡ b
       settled-byte =
-          let m = some_node kind patterns members order w b longer in
-          settled m.0 (length w) b (starts_with-last (key_at members m.0) w b m.2)
+          let m = some_node kind patterns sorted order w b longer in
+          settled m.0 (length w) b (starts_with-last (key_at sorted m.0) w b m.2)
 
-      held : step kind patterns Yes (Some w) (plain_byte fold b) ≡ Some (w ++ b ∷ [])
-      held = ap (step kind patterns Yes (Some w)) settled-byte ∙ held-is kind patterns w b longer
+      onto : step kind patterns Yes (Some w) (plain_byte fold b) ≡ Some (w ++ b ∷ [])
+      onto = ap (step kind patterns Yes (Some w)) settled-byte ∙ own_target-is kind patterns w b longer
 
-      represented : Represents (grown_meaning kind fold patterns members transitions queue) s (Some w)
+      represented : Represents (grown_meaning kind fold patterns sorted transitions queue) s (Some w)
           (state_at states s)
       represented =
-          let count = length-map queue (λ (q : Pending). Some (word members q)) in
-          let named = slice_get_within (nodes_of members queue) s (Some w) at in
+          let count = length-map queue (λ (q : QueuedState). Some (word sorted q)) in
+          let named = slice_get_within (nodes_of sorted queue) s (Some w) at in
           meant.each s (Some w) (omega arith) at
 
       -- a transition by the byte leads to the state of the longer string
       leads-on : (t : Transition) (k : ℕ)
           → slice_get (transitions_of transitions (state_at states s)) k ≡ Some t → t.byte ≡ b
-          → slice_get (nodes_of members queue) t.target ≡ Some (Some (w ++ b ∷ []))
+          → slice_get (nodes_of sorted queue) t.target ≡ Some (Some (w ++ b ∷ []))
       leads-on t k e is =
           represented.leads k t e
           ∙ ap (λ (v : Node). Some v)
-          (ap (λ (x : ℕ). step kind patterns Yes (Some w) (plain_byte fold x)) is ∙ held)
+          (ap (λ (x : ℕ). step kind patterns Yes (Some w) (plain_byte fold x)) is ∙ onto)
 
       -- and there is one
-      onward : (next : ℕ) × (slice_get (nodes_of members queue) next ≡ Some (Some (w ++ b ∷ [])))
+      onward : (next : ℕ) × (slice_get (nodes_of sorted queue) next ≡ Some (Some (w ++ b ∷ [])))
       onward =
           let own = transitions_of transitions (state_at states s) in
           let some : step kind patterns Yes (Some w) (plain_byte fold b) ≢ None =
-          λ none. let e = sym held ∙ none in
+          λ none. let e = sym onto ∙ none in
           absurd (cc) in
           let t =
           IsIn-from_map (λ (x : Transition). x.byte) b own
-          (IsIn-from_Contains b (bytes_of own) ((represented.branches b).1 some)) in
+          (IsIn-from_Contains b (transition_bytes own) ((represented.branches b).1 some)) in
           let k = place-of t.0 own t.1 in
           (t.0.target, leads-on t.0 k.0 k.1 t.2)
 
     -- each node has a state
     reaches : (n : ℕ) (u : List ℕ) → length u ≡ n → is_node kind patterns u ≡ true
-        → (s : ℕ) × (slice_get (nodes_of members queue) s ≡ Some (Some u))
-    reaches zero [] l node = (2, refl)
+        → (s : ℕ) × (slice_get (nodes_of sorted queue) s ≡ Some (Some u))
+    reaches zero [] l node = (START, refl)
     reaches zero (x ∷ u) l node = absurd (omega arith)
     reaches (suc n) [] l node = absurd (omega arith)
     reaches (suc n) (x ∷ u) l node =
@@ -161,43 +199,69 @@ module _ (kind : MatchKind) (patterns : List (List ℕ)) (members : List Keyed)
         let next = onward last.0 last.1 s.0 s.1 longer in
         (next.0, next.1 ∙ ap (λ (v : List ℕ). Some (Some v)) (sym last.2))
 
-    inner-word : (u : List ℕ) → IsIn u (inner_nodes kind patterns) → IsIn u words
-    inner-word u h =
-        let only = inner_nodes-only kind patterns u (Contains-from_IsIn u (inner_nodes kind patterns) h) in
+    -- and each nonempty one an inner state
+    inner-number : (u : List ℕ) → Contains (inner_nodes kind patterns) u
+        → (s : ℕ) × IsNumberOf (nodes_of sorted queue) s u
+    inner-number u h =
+        let only = inner_nodes-only kind patterns u h in
         let s = reaches (length u) u refl only.0 in
-        elim (nodes-cases members queue s.0 (Some u) s.1) [
+        elim (nodes-cases sorted queue s.0 (Some u) s.1) [
           | inl dead ↦ absurd (let e = dead.1 in cc)
           | inr (inl start) ↦ absurd (only.1 (let e : Some u ≡ Some [] = start.2 in let f : u ≡ [] = cc in f))
-          | inr (inr inner) ↦
-              let e : u ≡ word members inner.pending =
-              (let f : Some u ≡ Some (word members inner.pending) = inner.node in
-              let g : u ≡ word members inner.pending = cc in g) in
-              IsIn-place u words inner.place
-              (slice_get-map (word members) queue inner.place ∙ ap (option_map (word members)) inner.waits
-              ∙ ap (λ (v : List ℕ). Some v) (sym e))
+          | inr (inr i) ↦ (s.0, record { inner = (let n = i.number in omega arith); named = s.1 })
         ]
 
+    inner-word : (u : List ℕ) → IsIn u (inner_nodes kind patterns) → IsIn u words
+    inner-word u h =
+        let n = inner-number u (Contains-from_IsIn u (inner_nodes kind patterns) h) in
+        word-of_inner n.0 u (inner-at n.0 (Some u) n.1.inner n.1.named)
+
     -- a whole trie has as many states as there are
-    pub state-count : length states ≡ state_count kind patterns
+    state-count : length states ≡ state_count kind patterns
     state-count =
-        let l = length-map queue (word members) in
+        let l = length-map queue (word sorted) in
         let few = length-le-from_IsOrdered words (inner_nodes kind patterns) words-apart word-inner in
         let many = length-le-from_IsOrdered (inner_nodes kind patterns) words
         (IsOrdered-from_AllPairs (λ u w. u ≢ w) (inner_nodes kind patterns) (inner_nodes-apart kind patterns))
         inner-word in
         omega arith
 
+    -- so its numbers are those of the nodes, each of one
+    pub numbers-nodes : NumbersNodes kind patterns (nodes_of sorted queue)
+    numbers-nodes = record {
+      count = (let n = state-count in let l = length-map queue (λ (q : QueuedState). Some (word sorted q)) in
+          omega arith);
+      node = λ s inner within.
+          let known = slice_get-get_or (nodes_of sorted queue) s None within in
+          let i = inner-at s (get_or (nodes_of sorted queue) s None) inner known in (
+            word sorted i.queued,
+            record { inner = inner; named = known ∙ ap (λ (v : Node). Some v) i.node },
+          );
+      only = λ s u n.
+          Contains-from_IsIn u (inner_nodes kind patterns)
+          (word-inner u (word-of_inner s u (inner-at s (Some u) n.inner n.named)));
+      each = inner-number;
+      once = λ s t u m n.
+          let i = inner-at s (Some u) m.inner m.named in
+          let j = inner-at t (Some u) n.inner n.named in
+          let same = grown.apart i.place j.place i.queued j.queued i.waits j.waits
+          (sym (inner-is s u i) ∙ inner-is t u j) in
+          let k = i.number in
+          let l = j.number in
+          omega arith;
+    }
+
 -- a child for which there is no number is one node too many
-module _ (site : Site) {place end b : ℕ} {transitions : List Transition} {queue : List Pending}
+module _ (site : Site) {place end b : ℕ} {transitions : List Transition} {queue : List QueuedState}
     (h : IsBranching site place transitions queue) (run : IsRun site place end b)
-    (fail : ℕ) (fails : slice_get (nodes_of site.members queue) fail
+    (fail : ℕ) (fails : slice_get (nodes_of site.sorted queue) fail
     ≡ Some (miss site.kind site.patterns (Some (string site ++ b ∷ [])))) where
-  pub refused : (e : BuildError) → IsNotPushed queue e → IsRefused site.kind site.patterns e
+  pub refused : (e : BuildError) → IsNotPushed queue e → IsRefused (too_many_states site.kind site.patterns) e
   refused e (inl memory) = inl memory
-  refused e (inr full) = inr (
-    full.0,
-    too-many site.kind site.patterns site.members site.ready.order
-        (length site.states + 1) transitions queue h.grown (string site) b place end
-        (child-members site h run) run.some
-        (fresh site h run fail fails) full.1,
-  )
+  refused e (inr full) =
+      inr (too_many_states-some site.kind site.patterns
+      (too-many site.kind site.patterns site.sorted site.ready.order
+      (length site.states + 1) transitions queue h.grown (string site) b place end
+      (child-range site h run) run.some
+      (fresh site h run fail fails) full.1)
+      ∙ ap (λ (r : BuildError). Some r) (sym full.0))

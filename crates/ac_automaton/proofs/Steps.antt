@@ -11,8 +11,8 @@ use Rattle.ac_util.proofs.Failures.{step-own, step-failure, depth-failure}
 use Rattle.ac_automaton.specs.Tries.{miss}
 
 module _ (kind : MatchKind) (patterns : List (List ℕ)) where
-  abbrev held : Node → ℕ → Node
-  held v b = step kind patterns Yes v b
+  abbrev own_target : Node → ℕ → Node
+  own_target v b = step kind patterns Yes v b
 
   abbrev stepped : Node → ℕ → Node
   stepped v b = step kind patterns No v b
@@ -37,21 +37,21 @@ module _ (kind : MatchKind) (patterns : List (List ℕ)) where
       (reached-nil kind patterns No)
 
   -- where a byte leads on in an anchored search it leads there in any search
-  pub step-held : (v : Node) (b : ℕ) → held v b ≢ None → stepped v b ≡ held v b
-  step-held None b on = refl
-  step-held (Some []) b on =
+  pub step-own_target : (v : Node) (b : ℕ) → own_target v b ≢ None → stepped v b ≡ own_target v b
+  step-own_target None b on = refl
+  step-own_target (Some []) b on =
       let own = leads (b ∷ []) (is_node kind patterns (b ∷ [])) on in
       from_start b
       ∙ cond-true (is_node kind patterns (b ∷ [])) (Some (b ∷ []))
       (cond (stops kind patterns (b ∷ [])) None (Some [])) own
       ∙ sym (cond-true (is_node kind patterns (b ∷ [])) (Some (b ∷ [])) None own)
-  step-held (Some (x ∷ u)) b on =
+  step-own_target (Some (x ∷ u)) b on =
       let own = leads (x ∷ u ++ b ∷ []) (is_node kind patterns (x ∷ u ++ b ∷ [])) on in
       step-own kind patterns x u b own
       ∙ sym (cond-true (is_node kind patterns (x ∷ u ++ b ∷ [])) (Some (x ∷ u ++ b ∷ [])) None own)
 
   -- by any other byte the start and the dead node lead where their states say
-  pub step-miss : (v : Node) (b : ℕ) → held v b ≡ None → depth v ≡ 0 → stepped v b ≡ miss kind patterns v
+  pub step-miss : (v : Node) (b : ℕ) → own_target v b ≡ None → depth v ≡ 0 → stepped v b ≡ miss kind patterns v
   step-miss None b off short = refl
   step-miss (Some []) b off short =
       let none = stays (b ∷ []) (is_node kind patterns (b ∷ [])) off in
@@ -62,7 +62,7 @@ module _ (kind : MatchKind) (patterns : List (List ℕ)) where
   step-miss (Some (x ∷ u)) b off short = absurd (omega arith)
 
   -- and a longer node steps as its failure target does
-  pub step-on : (v : Node) (b : ℕ) → held v b ≡ None → 0 < depth v
+  pub step-on : (v : Node) (b : ℕ) → own_target v b ≡ None → 0 < depth v
       → stepped v b ≡ stepped (miss kind patterns v) b
   step-on None b off long = refl
   step-on (Some []) b off long = absurd (omega arith)
@@ -93,10 +93,10 @@ module _ (kind : MatchKind) (patterns : List (List ℕ)) where
       ap (λ (w : Bool). elim w [ true ↦ 1 | false ↦ suc behind ]) is
 
   -- a byte that leads on takes one look
-  pub looks-held : (v : Node) (b : ℕ) → held v b ≢ None → looks kind patterns No v b ≡ 1
-  looks-held None b on = refl
-  looks-held (Some []) b on = refl
-  looks-held (Some (x ∷ u)) b on =
+  pub looks-own_target : (v : Node) (b : ℕ) → own_target v b ≢ None → looks kind patterns No v b ≡ 1
+  looks-own_target None b on = refl
+  looks-own_target (Some []) b on = refl
+  looks-own_target (Some (x ∷ u)) b on =
       counted x u b true (leads (x ∷ u ++ b ∷ []) (is_node kind patterns (x ∷ u ++ b ∷ [])) on)
 
   -- and so does every byte at the start and at the dead node
@@ -106,7 +106,7 @@ module _ (kind : MatchKind) (patterns : List (List ℕ)) where
   looks-short (Some (x ∷ u)) b short = absurd (omega arith)
 
   -- where a search goes on at the failure target there is one look more than from there
-  pub looks-on : (v : Node) (b : ℕ) → held v b ≡ None → 0 < depth v
+  pub looks-on : (v : Node) (b : ℕ) → own_target v b ≡ None → 0 < depth v
       → looks kind patterns No v b ≡ 1 + looks kind patterns No (miss kind patterns v) b
   looks-on None b off long = absurd (omega arith)
   looks-on (Some []) b off long = absurd (omega arith)

@@ -4,6 +4,7 @@ use Rattle.std.proofs.lemmas.Bool.{cases_lt}
 use Rattle.std.proofs.lemmas.Option.{slice_get_within}
 use Rattle.ac_util.specs.Node.{Node, depth}
 use Rattle.ac_automaton.specs.declared.nfa.noncontiguous.state.State.{State}
+use Rattle.ac_automaton.specs.declared.nfa.noncontiguous.state.TheConstants.{DEAD, START, FIRST_INNER}
 use Rattle.ac_automaton.specs.Tries.{HasState, Meaning, Represents, StandsFor, Trie, all_matches, listed_within, meaning_of}
 use Rattle.ac_automaton.proofs.Follows.{represented}
 use Rattle.ac_automaton.proofs.ListsOf.{length-listed, none-linked}
@@ -32,12 +33,12 @@ module _ (trie : Trie) (s : ℕ) (u : Node) (h : StandsFor trie s u) where
   pub listed-matches : listed_within trie.order trie.states s s ≡ all_matches meaning u
   listed-matches = h.table.lists s u h.named
 
-  -- a number from 4 on is that of a longer string
-  deep : 3 < s → 0 < depth u
+  -- an inner number is that of a longer string
+  deep : FIRST_INNER ≤ s → 0 < depth u
   deep large = (h.table.states.each s u has-state.there h.named).inner large
 
   -- and those before are the dead node and the start
-  shallow : (n : ℕ) → n ≡ s → n < 4 → ((n < 2) × (u ≡ None)) ⊎ ((2 ≤ n) × (u ≡ Some []))
+  shallow : (n : ℕ) → n ≡ s → n < FIRST_INNER → ((n < START) × (u ≡ None)) ⊎ ((START ≤ n) × (u ≡ Some []))
   shallow zero e small =
       let dead = h.table.states.dead in let at = rw (sym e) at h.named in inl (omega arith, cc)
   shallow (suc zero) e small =
@@ -49,20 +50,20 @@ module _ (trie : Trie) (s : ℕ) (u : Node) (h : StandsFor trie s u) where
   shallow (suc (suc (suc (suc n)))) e small = absurd (omega arith)
 
   -- the numbers below 2 are those of the dead node
-  pub dead-number : s < 2 ↔ (u ≡ None)
+  pub dead-number : s < START ↔ (u ≡ None)
   dead-number = (
     (λ small. elim (shallow s refl (omega arith)) [ inl d ↦ d.1 | inr e ↦ absurd (omega arith) ]),
-    (λ dead. elim (cases_lt s 4) [
+    (λ dead. elim (cases_lt s FIRST_INNER) [
       | inl small ↦ elim (shallow s refl small) [ inl d ↦ d.0 | inr e ↦ absurd (let start = e.1 in cc) ]
       | inr large ↦ absurd (let d = deep (omega arith) in let none = ap depth dead in omega arith)
     ]),
   )
 
   -- 2 and 3 are those of the start
-  pub start-number : ((2 ≤ s) × (s < 4)) ↔ (u ≡ Some [])
+  pub start-number : ((START ≤ s) × (s < FIRST_INNER)) ↔ (u ≡ Some [])
   start-number = (
     (λ among. elim (shallow s refl among.1) [ inl d ↦ absurd (omega arith) | inr e ↦ e.1 ]),
-    (λ start. elim (cases_lt s 4) [
+    (λ start. elim (cases_lt s FIRST_INNER) [
       | inl small ↦ elim (shallow s refl small) [ inl d ↦ absurd (let dead = d.1 in cc) | inr e ↦ (e.0, small) ]
       | inr large ↦ absurd (let d = deep (omega arith) in let none = ap depth start in omega arith)
     ]),
@@ -74,14 +75,15 @@ module _ (trie : Trie) (s : ℕ) (u : Node) (h : StandsFor trie s u) where
     read = represented meaning trie.states s u t has-state is
 
     -- a state has matches where it has patterns of its own
-    pub listed-own : t.own < t.own_end → listed_within trie.order trie.states s s ≢ []
-    listed-own some =
+    pub listed-patterns : t.patterns < t.patterns_end → listed_within trie.order trie.states s s ≢ []
+    listed-patterns some =
         let l = length-listed meaning trie.states s u t has-state read in
         let m = ap (length {A = ℕ}) listed-matches in
         not_nil-length (listed_within trie.order trie.states s s) (omega arith)
 
-    -- and where it has none, exactly if it has a link
-    pub listed-linked : t.own_end ≤ t.own → (t.link ≢ 0) ↔ (listed_within trie.order trie.states s s ≢ [])
+    -- and where it has none, exactly if it has an output link
+    pub listed-linked : t.patterns_end ≤ t.patterns → (t.output_link ≢ DEAD)
+        ↔ (listed_within trie.order trie.states s s ≢ [])
     listed-linked none =
         let l = length-listed meaning trie.states s u t has-state read in
         let m = ap (length {A = ℕ}) listed-matches in (

@@ -5,24 +5,25 @@ use Rattle.std.proofs.lemmas.Bool.{cases_lt}
 use Rattle.std.proofs.lemmas.Bool.Decides.{nat_tests}
 use Rattle.std.proofs.lemmas.List.{get_or_past, length-map, length_push}
 use Rattle.std.proofs.lemmas.Option.{slice_get_within}
-use Rattle.ac_util.specs.declared.primitives.TheConstants.{GREATEST}
 use Rattle.ac_util.specs.declared.search.MatchKind.{MatchKind}
 use Rattle.ac_util.specs.Node.{Node}
 use Rattle.ac_util.specs.Sameness.{plain, plain_byte}
 use Rattle.ac_util.specs.Search.{pattern_of}
-use Rattle.ac_util.specs.Sizes.{state_count}
-use Rattle.ac_automaton.specs.declared.nfa.noncontiguous.growth.Pending.{Pending}
+use Rattle.ac_automaton.specs.declared.nfa.noncontiguous.growth.QueuedState.{QueuedState}
 use Rattle.ac_automaton.specs.declared.nfa.noncontiguous.state.State.{State}
+use Rattle.ac_automaton.specs.declared.nfa.noncontiguous.state.TheConstants.{START, ANCHORED_START, FIRST_INNER}
 use Rattle.ac_automaton.specs.declared.nfa.noncontiguous.state.Transition.{Transition}
+use Rattle.ac_automaton.specs.Builds.{too_many_states}
 use Rattle.ac_automaton.specs.Growths.{HasBranched, IsGrown, IsReady, Waits, grown_meaning, nodes_of, word}
-use Rattle.ac_automaton.specs.Members.{Keyed, IsOrder, byte_at, key_at, numbers}
-use Rattle.ac_automaton.specs.Tries.{AreStates, IsTable, Meaning, Represents, dead_state, state_at, trie_of}
+use Rattle.ac_automaton.specs.Sorted.{Keyed, IsOrder, byte_at, key_at, numbers}
+use Rattle.ac_automaton.specs.Tries.{AreStates, IsTable, Meaning, NumbersNodes, Represents, dead_state, state_at, trie_of}
 use Rattle.ac_automaton.proofs.Grown.{AreStates-push, nodes-inner}
 use Rattle.ac_automaton.proofs.ListsOf.{listed_within-matches}
-use Rattle.ac_automaton.proofs.StateCount.{state-count}
+use Rattle.ac_automaton.proofs.StateCount.{numbers-nodes, too_many_states-none}
 
--- a state that stands for a start is one at the number beside it too
-pub Represents-beside : (g : Meaning) (v : Node) (t : State) → Represents g 2 v t → Represents g 3 v t
+-- the state of the unanchored start is that of the anchored start too
+pub Represents-beside : (g : Meaning) (v : Node) (t : State) → Represents g START v t
+    → Represents g ANCHORED_START v t
 Represents-beside g v t r = record {
   ordered = r.ordered;
   listed = r.listed;
@@ -31,9 +32,9 @@ Represents-beside g v t r = record {
   leads = r.leads;
   fails = r.fails;
   back = λ l. absurd (omega arith);
-  owned = r.owned;
+  patterns_ordered = r.patterns_ordered;
   within = r.within;
-  own = r.own;
+  patterns = r.patterns;
   links = record {
     linked = r.links.linked;
     leads = r.links.leads;
@@ -65,19 +66,19 @@ plain-pattern fold [] n k b e = absurd (cc)
 plain-pattern fold (t ∷ texts) zero k b e = plain-byte fold t k b e
 plain-pattern fold (t ∷ texts) (suc n) k b e = plain-pattern fold texts n k b e
 
--- the bytes of members that are plain patterns are plain
-pub members-plain : (kind : MatchKind) (fold : Bool) (texts : List (List ℕ)) (members : List Keyed)
-    → IsOrder kind (map (plain fold) texts) members
-    → (place depth b : ℕ) → byte_at members depth place ≡ Some b → plain_byte fold b ≡ b
-members-plain kind fold texts members order place depth b e =
+-- the bytes of patterns that are plain patterns are plain
+pub sorted-plain : (kind : MatchKind) (fold : Bool) (texts : List (List ℕ)) (sorted : List Keyed)
+    → IsOrder kind (map (plain fold) texts) sorted
+    → (place depth b : ℕ) → byte_at sorted depth place ≡ Some b → plain_byte fold b ≡ b
+sorted-plain kind fold texts sorted order place depth b e =
     let none : Keyed = record { key = []; number = 0 } in
-    elim (cases_lt place (length members)) [
+    elim (cases_lt place (length sorted)) [
       | inl l ↦
           let is = order.named place none l in
-          plain-pattern fold texts (get_or members place none).number depth b
+          plain-pattern fold texts (get_or sorted place none).number depth b
           (sym (ap (λ (w : List ℕ). slice_get w depth) is) ∙ e)
       | inr past ↦
-          let is = get_or_past members place none past in
+          let is = get_or_past sorted place none past in
           absurd (let f : None ≡ Some b = sym (ap (λ (m : Keyed). slice_get m.key depth) is) ∙ e in cc)
     ]
 
@@ -85,9 +86,9 @@ members-plain kind fold texts members order place depth b e =
 abbrev pub first_states : List State
 first_states = dead_state ∷ dead_state ∷ []
 
-module _ (kind : MatchKind) (fold : Bool) (patterns : List (List ℕ)) (members : List Keyed) where
-  dead-represents : (s : ℕ) → s < 2
-      → Represents (grown_meaning kind fold patterns members [] []) s None dead_state
+module _ (kind : MatchKind) (fold : Bool) (patterns : List (List ℕ)) (sorted : List Keyed) where
+  dead-represents : (s : ℕ) → s < START
+      → Represents (grown_meaning kind fold patterns sorted [] []) s None dead_state
   dead-represents s l = record {
     ordered = omega arith;
     listed = omega arith;
@@ -96,9 +97,9 @@ module _ (kind : MatchKind) (fold : Bool) (patterns : List (List ℕ)) (members 
     leads = λ k t e. absurd (cc);
     fails = refl;
     back = λ h. absurd (omega arith);
-    owned = omega arith;
+    patterns_ordered = omega arith;
     within = omega arith;
-    own = refl;
+    patterns = refl;
     links = record {
       linked = None;
       leads = refl;
@@ -111,28 +112,28 @@ module _ (kind : MatchKind) (fold : Bool) (patterns : List (List ℕ)) (members 
     inner = λ h. absurd (omega arith);
   }
 
-  first-states : AreStates (grown_meaning kind fold patterns members [] []) first_states
+  first-states : AreStates (grown_meaning kind fold patterns sorted [] []) first_states
   first-states = record {
     dead = refl;
     named = omega arith;
     each = λ s v l e. each s v l e;
   }
     where
-      each : (s : ℕ) (v : Node) → s < 2 → slice_get (nodes_of members []) s ≡ Some v
-          → Represents (grown_meaning kind fold patterns members [] []) s v (state_at first_states s)
+      each : (s : ℕ) (v : Node) → s < START → slice_get (nodes_of sorted []) s ≡ Some v
+          → Represents (grown_meaning kind fold patterns sorted [] []) s v (state_at first_states s)
       each zero v l e =
-          subst (λ (w : Node). Represents (grown_meaning kind fold patterns members [] []) 0 w dead_state)
+          subst (λ (w : Node). Represents (grown_meaning kind fold patterns sorted [] []) 0 w dead_state)
           (let same : None ≡ v = cc in same) (dead-represents 0 l)
       each (suc zero) v l e =
-          subst (λ (w : Node). Represents (grown_meaning kind fold patterns members [] []) 1 w dead_state)
+          subst (λ (w : Node). Represents (grown_meaning kind fold patterns sorted [] []) 1 w dead_state)
           (let same : None ≡ v = cc in same) (dead-represents 1 l)
       each (suc (suc s)) v l e = absurd (omega arith)
 
   -- the start is next
-  pub start-ready : (p : Pending) → IsOrder kind patterns members
-      → ((place depth b : ℕ) → byte_at members depth place ≡ Some b → plain_byte fold b ≡ b)
-      → Waits kind patterns members [] 2 p → p.depth ≡ 0
-      → IsReady kind fold patterns members first_states [] [] p
+  pub start-ready : (p : QueuedState) → IsOrder kind patterns sorted
+      → ((place depth b : ℕ) → byte_at sorted depth place ≡ Some b → plain_byte fold b ≡ b)
+      → Waits kind patterns sorted [] START p → p.depth ≡ 0
+      → IsReady kind fold patterns sorted first_states [] [] p
   start-ready p order settled waits depth = record {
     order = order;
     settled = settled;
@@ -149,17 +150,17 @@ module _ (kind : MatchKind) (fold : Bool) (patterns : List (List ℕ)) (members 
   }
 
   -- the states up to those of the queue before `at` are whole
-  pub record IsGoing (states : List State) (transitions : List Transition) (queue : List Pending)
+  pub record IsGoing (states : List State) (transitions : List Transition) (queue : List QueuedState)
       (at : ℕ) : Type 0 where
-    pub order : IsOrder kind patterns members
-    pub settled : (place depth b : ℕ) → byte_at members depth place ≡ Some b → plain_byte fold b ≡ b
-    pub grown : IsGrown kind patterns members (length states) transitions queue
-    pub meant : AreStates (grown_meaning kind fold patterns members transitions queue) states
-    pub count : length states ≡ 4 + at
+    pub order : IsOrder kind patterns sorted
+    pub settled : (place depth b : ℕ) → byte_at sorted depth place ≡ Some b → plain_byte fold b ≡ b
+    pub grown : IsGrown kind patterns sorted (length states) transitions queue
+    pub meant : AreStates (grown_meaning kind fold patterns sorted transitions queue) states
+    pub count : length states ≡ FIRST_INNER + at
     pub within : at ≤ length queue
 
-  later-grown : (m n : ℕ) (transitions : List Transition) (queue : List Pending) → m ≤ n
-      → IsGrown kind patterns members m transitions queue → IsGrown kind patterns members n transitions queue
+  later-grown : (m n : ℕ) (transitions : List Transition) (queue : List QueuedState) → m ≤ n
+      → IsGrown kind patterns sorted m transitions queue → IsGrown kind patterns sorted n transitions queue
   later-grown m n transitions queue l grown = record {
     few = grown.few;
     counted = grown.counted;
@@ -169,94 +170,100 @@ module _ (kind : MatchKind) (fold : Bool) (patterns : List (List ℕ)) (members 
   }
 
   -- with the start at both its numbers the first four are whole
-  started : (p : Pending) (t : State) (transitions : List Transition) (queue : List Pending)
-      → IsOrder kind patterns members
-      → ((place depth b : ℕ) → byte_at members depth place ≡ Some b → plain_byte fold b ≡ b) → p.depth ≡ 0
-      → HasBranched kind fold patterns members first_states [] p t transitions queue
+  started : (p : QueuedState) (t : State) (transitions : List Transition) (queue : List QueuedState)
+      → IsOrder kind patterns sorted
+      → ((place depth b : ℕ) → byte_at sorted depth place ≡ Some b → plain_byte fold b ≡ b) → p.depth ≡ 0
+      → HasBranched kind fold patterns sorted first_states [] p t transitions queue
       → IsGoing ((first_states ++ t ∷ []) ++ t ∷ []) transitions queue 0
   started p t transitions queue order settled depth h = record {
     order = order;
     settled = settled;
-    grown = later-grown 3 4 transitions queue (omega arith) h.grown;
+    grown = later-grown ANCHORED_START FIRST_INNER transitions queue (omega arith) h.grown;
     meant =
-        AreStates-push (grown_meaning kind fold patterns members transitions queue) (first_states ++ t ∷ [])
+        AreStates-push (grown_meaning kind fold patterns sorted transitions queue) (first_states ++ t ∷ [])
         (Some []) t once refl
-        (Represents-beside (grown_meaning kind fold patterns members transitions queue) (Some []) t start);
+        (Represents-beside (grown_meaning kind fold patterns sorted transitions queue) (Some []) t start);
     count = refl;
     within = omega arith;
   }
     where
-      start : Represents (grown_meaning kind fold patterns members transitions queue) 2 (Some []) t
+      start : Represents (grown_meaning kind fold patterns sorted transitions queue) START (Some []) t
       start =
-          subst (λ (v : List ℕ). Represents (grown_meaning kind fold patterns members transitions queue) 2
+          subst (λ (v : List ℕ). Represents (grown_meaning kind fold patterns sorted transitions queue) START
           (Some v) t)
-          (ap (λ (n : ℕ). take n (key_at members p.from)) depth) h.represents
+          (ap (λ (n : ℕ). take n (key_at sorted p.from)) depth) h.represents
 
-      once : AreStates (grown_meaning kind fold patterns members transitions queue) (first_states ++ t ∷ [])
+      once : AreStates (grown_meaning kind fold patterns sorted transitions queue) (first_states ++ t ∷ [])
       once =
-          AreStates-push (grown_meaning kind fold patterns members transitions queue) first_states
+          AreStates-push (grown_meaning kind fold patterns sorted transitions queue) first_states
           (Some []) t h.meant refl start
 
-  pub start-going : (first : List State) (none : List Pending) (p : Pending) (t : State)
-      (transitions : List Transition) (queue : List Pending) → first ≡ first_states → none ≡ []
-      → IsOrder kind patterns members
-      → ((place depth b : ℕ) → byte_at members depth place ≡ Some b → plain_byte fold b ≡ b) → p.depth ≡ 0
-      → HasBranched kind fold patterns members first none p t transitions queue
+  pub start-going : (first : List State) (none : List QueuedState) (p : QueuedState) (t : State)
+      (transitions : List Transition) (queue : List QueuedState) → first ≡ first_states → none ≡ []
+      → IsOrder kind patterns sorted
+      → ((place depth b : ℕ) → byte_at sorted depth place ≡ Some b → plain_byte fold b ≡ b) → p.depth ≡ 0
+      → HasBranched kind fold patterns sorted first none p t transitions queue
       → IsGoing ((first ++ t ∷ []) ++ t ∷ []) transitions queue 0
   start-going first none p t transitions queue is empty order settled depth h =
       subst (λ (ss : List State). IsGoing ((ss ++ t ∷ []) ++ t ∷ []) transitions queue 0) (sym is)
       (started p t transitions queue order settled depth
-      (subst (λ (q : List Pending). HasBranched kind fold patterns members first_states q p t transitions queue)
+      (subst (λ (q : List QueuedState). HasBranched kind fold patterns sorted first_states q p t transitions
+      queue)
       empty
-      (subst (λ (ss : List State). HasBranched kind fold patterns members ss none p t transitions queue) is h)))
+      (subst (λ (ss : List State). HasBranched kind fold patterns sorted ss none p t transitions queue) is h)))
 
   -- the first in the queue that isn't whole is next
-  pub going-ready : {states : List State} {transitions : List Transition} {queue : List Pending} {at : ℕ}
-      {p : Pending} → IsGoing states transitions queue at → slice_get queue at ≡ Some p
-      → IsReady kind fold patterns members states transitions queue p
+  pub going-ready : {states : List State} {transitions : List Transition} {queue : List QueuedState} {at : ℕ}
+      {p : QueuedState} → IsGoing states transitions queue at → slice_get queue at ≡ Some p
+      → IsReady kind fold patterns sorted states transitions queue p
   going-ready {queue = queue} {at = at} {p = p} h e = record {
     order = h.order;
     settled = h.settled;
     grown = h.grown;
     meant = h.meant;
-    waits = subst (λ (n : ℕ). Waits kind patterns members queue n p) (sym h.count) (h.grown.waits at p e);
+    waits = subst (λ (n : ℕ). Waits kind patterns sorted queue n p) (sym h.count) (h.grown.waits at p e);
     next = inr (at, h.count, e);
   }
 
-  pub going-on : {states : List State} {transitions : List Transition} {queue : List Pending} {at : ℕ}
-      {p : Pending} {t : State} {new_transitions : List Transition} {new_queue : List Pending}
+  pub going-on : {states : List State} {transitions : List Transition} {queue : List QueuedState} {at : ℕ}
+      {p : QueuedState} {t : State} {new_transitions : List Transition} {new_queue : List QueuedState}
       → IsGoing states transitions queue at
       → slice_get queue at ≡ Some p
-      → HasBranched kind fold patterns members states queue p t new_transitions new_queue
+      → HasBranched kind fold patterns sorted states queue p t new_transitions new_queue
       → IsGoing (states ++ t ∷ []) new_transitions new_queue (at + 1)
   going-on {states} {transitions} {queue} {at} {p} {t} {new_transitions} {new_queue} h e b = record {
     order = h.order;
     settled = h.settled;
-    grown = subst (λ (n : ℕ). IsGrown kind patterns members n new_transitions new_queue)
+    grown = subst (λ (n : ℕ). IsGrown kind patterns sorted n new_transitions new_queue)
         (let l = length_push states t in omega arith) b.grown;
-    meant = AreStates-push (grown_meaning kind fold patterns members new_transitions new_queue) states
-        (Some (word members p)) t b.meant node b.represents;
+    meant = AreStates-push (grown_meaning kind fold patterns sorted new_transitions new_queue) states
+        (Some (word sorted p)) t b.meant node b.represents;
     count = (let l = length_push states t in let m = h.count in omega arith);
     within = (let l = slice_get_within new_queue at p (b.kept at p e) in omega arith);
   }
     where
-      node : slice_get (nodes_of members new_queue) (length states) ≡ Some (Some (word members p))
+      node : slice_get (nodes_of sorted new_queue) (length states) ≡ Some (Some (word sorted p))
       node =
-          ap (slice_get (nodes_of members new_queue)) h.count
-          ∙ nodes-inner members new_queue at p (b.kept at p e)
+          ap (slice_get (nodes_of sorted new_queue)) h.count
+          ∙ nodes-inner sorted new_queue at p (b.kept at p e)
 
 -- where the whole queue is, the states are those of an automaton
-module _ (texts : List (List ℕ)) {fold : Bool} {kind : MatchKind} {members : List Keyed}
-    {states : List State} {transitions : List Transition} {queue : List Pending} {at : ℕ}
-    (h : IsGoing kind fold (map (plain fold) texts) members states transitions queue at)
+module _ (texts : List (List ℕ)) {fold : Bool} {kind : MatchKind} {sorted : List Keyed}
+    {states : List State} {transitions : List Transition} {queue : List QueuedState} {at : ℕ}
+    (h : IsGoing kind fold (map (plain fold) texts) sorted states transitions queue at)
     (all : length queue ≤ at) where
-  counted : length states ≡ 4 + length queue
+  counted : length states ≡ FIRST_INNER + length queue
   counted = let l = h.count in let m = h.within in omega arith
 
-  pub whole-table : IsTable (trie_of texts fold kind (numbers members) transitions states)
-      (nodes_of members queue)
+  numbered : NumbersNodes kind (map (plain fold) texts) (nodes_of sorted queue)
+  numbered =
+      numbers-nodes kind (map (plain fold) texts) sorted h.order (length states) transitions queue h.grown
+      fold h.settled states h.meant counted
+
+  pub whole-table : IsTable (trie_of texts fold kind (numbers sorted) transitions states)
+      (nodes_of sorted queue)
   whole-table =
-      let named = length-map queue (λ (q : Pending). Some (word members q)) in
+      let named = length-map queue (λ (q : QueuedState). Some (word sorted q)) in
       record {
         both = refl;
         states = h.meant;
@@ -264,24 +271,23 @@ module _ (texts : List (List ℕ)) {fold : Bool} {kind : MatchKind} {members : L
         unreached = refl;
         start = refl;
         anchored_start = refl;
+        numbered = numbered;
         lists = λ s v e.
             listed_within-matches
-            (grown_meaning kind fold (map (plain fold) texts) members transitions queue) states s s v
+            (grown_meaning kind fold (map (plain fold) texts) sorted transitions queue) states s s v
             (record {
               meant = h.meant;
               there =
-                  (let l = slice_get_within (nodes_of members queue) s v e in let c = counted in omega arith);
+                  (let l = slice_get_within (nodes_of sorted queue) s v e in let c = counted in omega arith);
               named = e;
             })
             (omega arith);
       }
 
-  -- and there are as many as nodes
-  pub whole-count : state_count kind (map (plain fold) texts) ≤ GREATEST + 1
-  whole-count =
-      let c =
-      state-count kind (map (plain fold) texts) members h.order (length states) transitions queue h.grown
-      fold h.settled states h.meant counted in
+  -- and there are enough numbers
+  pub whole-few : too_many_states kind (map (plain fold) texts) ≡ None
+  whole-few =
+      let count = numbered.count in
       let few = h.grown.few in
-      let d = counted in
-      omega arith
+      let long = length-map queue (λ (q : QueuedState). Some (word sorted q)) in
+      too_many_states-none kind (map (plain fold) texts) (omega arith)

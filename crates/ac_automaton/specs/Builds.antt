@@ -1,15 +1,33 @@
--- What a build of an automaton is asked for, and why it may be refused.
-use Rattle.std.specs.Prelude.{◌≡◌, ◌⊎◌, ℕ, ◌+◌, ◌<◌, ◌≤◌, Bool, false, List, map, None, MatchOption}
+-- What a build of an automaton is asked for, what it answers, and why it may be refused.
+use Rattle.std.specs.Prelude.{◌≡◌, ◌⊎◌, ℕ, ◌+◌, nat_lt, Bool, false, List, Option, map, Some, None, MatchOption, if◌then◌else◌}
 use Rattle.ac_util.specs.declared.error.BuildError.{BuildError}
 use Rattle.ac_util.specs.declared.error.BuildError.TheVariants.{Memory, StateIdOverflow}
 use Rattle.ac_util.specs.declared.primitives.TheConstants.{GREATEST}
 use Rattle.ac_util.specs.declared.search.MatchKind.{MatchKind}
 use Rattle.ac_util.specs.declared.search.MatchKind.TheVariants.{Standard}
+use Rattle.ac_util.specs.declared.search.StartKind.{StartKind}
 use Rattle.ac_util.specs.declared.search.StartKind.TheVariants.{Both}
 use Rattle.ac_util.specs.Built.{Built}
 use Rattle.ac_util.specs.Limits.{limit_refusal}
 use Rattle.ac_util.specs.Sameness.{plain}
 use Rattle.ac_util.specs.Sizes.{state_count}
+
+-- an engine as its builds see it: which starts it has, and why it is refused, if it is, where plain patterns
+-- need
+-- more state numbers than there are
+pub record EngineRules : Type 0 where
+  pub start_kind : StartKind
+  pub state_refusal : MatchKind → List (List ℕ) → Option BuildError
+
+-- that there are more nodes of plain patterns than state numbers, if there are
+abbrev pub too_many_states : MatchKind → List (List ℕ) → Option BuildError
+too_many_states kind patterns =
+    if nat_lt (GREATEST + 1) (state_count kind patterns) then Some (StateIdOverflow GREATEST (GREATEST + 1))
+    else None
+
+-- the rules of the trie with failure links: both starts, and one number for each state
+abbrev pub noncontiguous_rules : EngineRules
+noncontiguous_rules = record { start_kind = Both; state_refusal = too_many_states }
 
 -- the match kind, and whether case is ignored
 pub record Settings : Type 0 where
@@ -19,34 +37,33 @@ pub record Settings : Type 0 where
 abbrev pub usual_settings : Settings
 usual_settings = record { kind = Standard; fold = false }
 
--- an automaton with both starts over these patterns
-abbrev pub built_by : Settings → List (List ℕ) → Built
-built_by settings patterns = record {
+-- an automaton of an engine over these patterns
+abbrev pub built_by : EngineRules → Settings → List (List ℕ) → Built
+built_by rules settings patterns = record {
   patterns = patterns;
   fold = settings.fold;
   kind = settings.kind;
-  start_kind = Both;
+  start_kind = rules.start_kind;
 }
 
--- no limit refuses a build: neither the patterns' count, nor a length, nor the count of states
-pub record IsAllowed (settings : Settings) (patterns : List (List ℕ)) : Type 0 where
+-- no limit refuses a build: neither the patterns' count, nor a length, nor the numbers of states
+pub record IsAllowed (rules : EngineRules) (settings : Settings) (patterns : List (List ℕ)) : Type 0 where
   pub within : limit_refusal patterns ≡ None
-  pub few : state_count settings.kind (map (plain settings.fold) patterns) ≤ GREATEST + 1
+  pub few : rules.state_refusal settings.kind (map (plain settings.fold) patterns) ≡ None
 
 -- a build by these settings has succeeded
-pub record IsBuilt (settings : Settings) (patterns : List (List ℕ)) (built : Built) : Type 0 where
-  pub value : built ≡ built_by settings patterns
-  pub allowed : IsAllowed settings patterns
+pub record IsBuilt (rules : EngineRules) (settings : Settings) (patterns : List (List ℕ)) (built : Built)
+    : Type 0 where
+  pub value : built ≡ built_by rules settings patterns
+  pub allowed : IsAllowed rules settings patterns
 
--- why a trie of these plain patterns, which are within the limits, is refused: for want of memory, or as there
--- are too many nodes
-abbrev pub IsRefused : MatchKind → List (List ℕ) → BuildError → Type 0
-IsRefused kind patterns e =
-    (e ≡ Memory) ⊎ ((e ≡ StateIdOverflow GREATEST (GREATEST + 1)) × (GREATEST + 1 < state_count kind patterns))
+-- why a build is refused within the limits of the list: for want of memory, or of state numbers
+abbrev pub IsRefused : Option BuildError → BuildError → Type 0
+IsRefused state_refusal e = (e ≡ Memory) ⊎ (state_refusal ≡ Some e)
 
 -- why a build by these settings is refused: a limit of the list is told first, whether there is memory or not
-abbrev pub Refuses : Settings → List (List ℕ) → BuildError → Type 0
-Refuses settings patterns e =
+abbrev pub Refuses : EngineRules → Settings → List (List ℕ) → BuildError → Type 0
+Refuses rules settings patterns e =
     MatchOption (limit_refusal patterns)
-    (IsRefused settings.kind (map (plain settings.fold) patterns) e)
+    (IsRefused (rules.state_refusal settings.kind (map (plain settings.fold) patterns)) e)
     (λ refusal. e ≡ refusal)

@@ -1,4 +1,5 @@
--- A trie that is being built, breadth first: the states that are whole, and those that wait for their children.
+-- A trie that is being built, breadth first: the states that are complete, and the queued ones, which wait for
+-- their children.
 use Rattle.std.specs.Prelude.{◌≡◌, ◌↔◌, ◌⊎◌, ℕ, ◌+◌, ◌-◌, ◌<◌, ◌≤◌, ◌&&◌, Bool, if◌then◌else◌, List, [], ◌∷◌, ◌++◌, ◌≢◌, nat_eq, true, map, length, take, drop, slice_get, None, Some}
 use Rattle.std.specs.Char.{is_ascii_lowercase, to_ascii_uppercase}
 use Rattle.std.specs.List.{starts_with}
@@ -10,40 +11,41 @@ use Rattle.ac_util.specs.declared.primitives.TheConstants.{GREATEST}
 use Rattle.ac_util.specs.declared.search.MatchKind.{MatchKind}
 use Rattle.ac_util.specs.Node.{Node}
 use Rattle.ac_util.specs.Sameness.{plain, plain_byte}
-use Rattle.ac_util.specs.Sizes.{state_count}
-use Rattle.ac_automaton.specs.declared.nfa.noncontiguous.growth.Pending.{Pending}
+use Rattle.ac_automaton.specs.declared.nfa.noncontiguous.growth.QueuedState.{QueuedState}
 use Rattle.ac_automaton.specs.declared.nfa.noncontiguous.state.State.{State}
+use Rattle.ac_automaton.specs.declared.nfa.noncontiguous.state.TheConstants.{DEAD, START, FIRST_INNER}
 use Rattle.ac_automaton.specs.declared.nfa.noncontiguous.state.Transition.{Transition}
-use Rattle.ac_automaton.specs.Members.{Keyed, IsOrder, byte_at, key_at, numbers}
+use Rattle.ac_automaton.specs.Builds.{too_many_states}
+use Rattle.ac_automaton.specs.Sorted.{Keyed, IsOrder, byte_at, key_at, numbers}
 use Rattle.ac_automaton.specs.Tries.{Meaning, AreStates, IsTable, Represents, miss, trie_of}
 
--- the string that leads to a waiting state: its first member's bytes as far as its depth
-abbrev pub word : List Keyed → Pending → List ℕ
-word members p = take p.depth (key_at members p.from)
+-- the string of a queued state: the bytes of its first pattern up to its depth
+abbrev pub word : List Keyed → QueuedState → List ℕ
+word sorted p = take p.depth (key_at sorted p.from)
 
 -- the nodes of the states, by number
-abbrev pub nodes_of : List Keyed → List Pending → List Node
-nodes_of members queue = None ∷ None ∷ Some [] ∷ Some [] ∷ map (λ p. Some (word members p)) queue
+abbrev pub nodes_of : List Keyed → List QueuedState → List Node
+nodes_of sorted queue = None ∷ None ∷ Some [] ∷ Some [] ∷ map (λ p. Some (word sorted p)) queue
 
--- the transitions by a plain byte: where case is ignored by a letter's capital too
+-- the transitions to a target by a plain byte: where case is ignored by a letter's capital too
 abbrev pub leading : Bool → ℕ → ℕ → List Transition
 leading fold byte target =
     record { byte = byte; target = target }
     ∷ (if fold && is_ascii_lowercase byte then record { byte = to_ascii_uppercase byte; target = target } ∷ []
     else [])
 
--- a waiting state has been put behind the queue, and the transitions to it by a plain byte behind the others
-pub record HasPushed (fold : Bool) (byte : ℕ) (p : Pending) (transitions : List Transition)
-    (queue : List Pending)
-    (new_transitions : List Transition) (new_queue : List Pending) : Type 0 where
-  pub leads : new_transitions ≡ transitions ++ leading fold byte (4 + length queue)
+-- a state has been added to the queue, and the transitions to it by a plain byte to the others
+pub record HasPushed (fold : Bool) (byte : ℕ) (p : QueuedState) (transitions : List Transition)
+    (queue : List QueuedState)
+    (new_transitions : List Transition) (new_queue : List QueuedState) : Type 0 where
+  pub leads : new_transitions ≡ transitions ++ leading fold byte (FIRST_INNER + length queue)
   pub waits : new_queue ≡ queue ++ p ∷ []
-  pub numbered : length queue + 4 < GREATEST + 1
+  pub numbered : FIRST_INNER + length queue < GREATEST + 1
 
--- it has not: for want of memory, or as no number is left for it
-abbrev pub IsNotPushed : List Pending → BuildError → Type 0
+-- it has not: for want of memory, or because no number is left for it
+abbrev pub IsNotPushed : List QueuedState → BuildError → Type 0
 IsNotPushed queue e =
-    (e ≡ Memory) ⊎ ((e ≡ StateIdOverflow GREATEST (GREATEST + 1)) × (length queue + 4 ≡ GREATEST + 1))
+    (e ≡ Memory) ⊎ ((e ≡ StateIdOverflow GREATEST (GREATEST + 1)) × (FIRST_INNER + length queue ≡ GREATEST + 1))
 
 -- the transitions from a place on have been put in ascending order of their bytes
 pub record HasSorted (first : ℕ) (old new : List Transition) : Type 0 where
@@ -52,101 +54,103 @@ pub record HasSorted (first : ℕ) (old new : List Transition) : Type 0 where
   pub permutation : IsPermutation (drop first old) sorted
   pub order : IsSortedByKey (λ t. t.byte) nat_cmp sorted
 
--- the patterns that are the whole string of a waiting state end at the place: the next one has a further byte
-pub record EndsOwn (members : List Keyed) (p : Pending) (place : ℕ) : Type 0 where
+-- the patterns that equal the string of a queued state end at the place: the next one has a further byte
+pub record EndsPatterns (sorted : List Keyed) (p : QueuedState) (place : ℕ) : Type 0 where
   pub later : p.from ≤ place
   pub within : place ≤ p.to
-  pub own : (k : ℕ) → p.from ≤ k → k < place → byte_at members p.depth k ≡ None
-  pub other : place < p.to → byte_at members p.depth place ≢ None
+  pub whole : (k : ℕ) → p.from ≤ k → k < place → byte_at sorted p.depth k ≡ None
+  pub other : place < p.to → byte_at sorted p.depth place ≢ None
 
--- the members from one place up to another are those that begin with the string
-pub record IsRangeOf (members : List Keyed) (u : List ℕ) (from to : ℕ) : Type 0 where
+-- the patterns from one place up to another are those that begin with the string
+pub record IsRangeOf (sorted : List Keyed) (u : List ℕ) (from to : ℕ) : Type 0 where
   pub ordered : from ≤ to
-  pub within : to ≤ length members
-  pub begins : (k : ℕ) → k < length members
-      → ((from ≤ k) × (k < to)) ↔ (starts_with nat_eq (key_at members k) u ≡ true)
+  pub within : to ≤ length sorted
+  pub begins : (k : ℕ) → k < length sorted
+      → ((from ≤ k) × (k < to)) ↔ (starts_with nat_eq (key_at sorted k) u ≡ true)
 
-module _ (kind : MatchKind) (patterns : List (List ℕ)) (members : List Keyed) where
+module _ (kind : MatchKind) (patterns : List (List ℕ)) (sorted : List Keyed) where
   -- the state with this number waits for its children: it has the range of its string, and its failure target
-  pub record Waits (queue : List Pending) (s : ℕ) (p : Pending) : Type 0 where
-    pub deep : p.depth ≤ length (key_at members p.from)
-    pub range : IsRangeOf members (word members p) p.from p.to
-    pub fails : slice_get (nodes_of members queue) p.fail ≡ Some (miss kind patterns (Some (word members p)))
-    pub back : 3 < s → p.fail < s
-    pub some : 3 < s → p.from < p.to
-    pub inner : 3 < s → 0 < p.depth
+  pub record Waits (queue : List QueuedState) (s : ℕ) (p : QueuedState) : Type 0 where
+    pub deep : p.depth ≤ length (key_at sorted p.from)
+    pub range : IsRangeOf sorted (word sorted p) p.from p.to
+    pub fails : slice_get (nodes_of sorted queue) p.fail ≡ Some (miss kind patterns (Some (word sorted p)))
+    pub back : FIRST_INNER ≤ s → p.fail < s
+    pub some : FIRST_INNER ≤ s → p.from < p.to
+    pub inner : FIRST_INNER ≤ s → 0 < p.depth
 
   -- each state in the queue waits, no two have one string, and each is a child of one of the first states
-  pub record IsGrown (whole : ℕ) (transitions : List Transition) (queue : List Pending) : Type 0 where
-    pub few : length queue + 4 ≤ GREATEST + 1
+  pub record IsGrown (whole : ℕ) (transitions : List Transition) (queue : List QueuedState) : Type 0 where
+    pub few : FIRST_INNER + length queue ≤ GREATEST + 1
     pub counted : length transitions ≤ length queue + length queue
-    pub waits : (k : ℕ) (p : Pending) → slice_get queue k ≡ Some p → Waits queue (4 + k) p
-    pub apart : (j k : ℕ) (p q : Pending) → slice_get queue j ≡ Some p → slice_get queue k ≡ Some q
-        → word members p ≡ word members q → j ≡ k
-    pub parents : (k : ℕ) (q : Pending) → slice_get queue k ≡ Some q
+    pub waits : (k : ℕ) (p : QueuedState) → slice_get queue k ≡ Some p → Waits queue (FIRST_INNER + k) p
+    pub apart : (j k : ℕ) (p q : QueuedState) → slice_get queue j ≡ Some p → slice_get queue k ≡ Some q
+        → word sorted p ≡ word sorted q → j ≡ k
+    pub parents : (k : ℕ) (q : QueuedState) → slice_get queue k ≡ Some q
         → (j : ℕ) × (j < whole)
-        × (slice_get (nodes_of members queue) j ≡ Some (Some (take (q.depth - 1) (word members q))))
+        × (slice_get (nodes_of sorted queue) j ≡ Some (Some (take (q.depth - 1) (word sorted q))))
 
   -- the next state is the start, or the first in the queue that isn't whole
-  abbrev pub IsNext : List Pending → ℕ → Pending → Type 0
+  abbrev pub IsNext : List QueuedState → ℕ → QueuedState → Type 0
   IsNext queue s p =
-      ((s ≡ 2) × (queue ≡ []) × (p.depth ≡ 0)) ⊎ ((k : ℕ) × (s ≡ 4 + k) × (slice_get queue k ≡ Some p))
+      ((s ≡ START) × (queue ≡ []) × (p.depth ≡ 0))
+      ⊎ ((k : ℕ) × (s ≡ FIRST_INNER + k) × (slice_get queue k ≡ Some p))
 
-module _ (kind : MatchKind) (fold : Bool) (patterns : List (List ℕ)) (members : List Keyed) where
+module _ (kind : MatchKind) (fold : Bool) (patterns : List (List ℕ)) (sorted : List Keyed) where
   -- what the numbers mean as far as the trie has grown
-  abbrev pub grown_meaning : List Transition → List Pending → Meaning
+  abbrev pub grown_meaning : List Transition → List QueuedState → Meaning
   grown_meaning transitions queue = record {
     kind = kind;
     fold = fold;
     patterns = patterns;
-    order = numbers members;
+    order = numbers sorted;
     transitions = transitions;
-    nodes = nodes_of members queue;
+    nodes = nodes_of sorted queue;
   }
 
   -- the states are whole up to one that is next
-  pub record IsReady (states : List State) (transitions : List Transition) (queue : List Pending)
-      (p : Pending) : Type 0 where
-    pub order : IsOrder kind patterns members
-    pub settled : (place depth b : ℕ) → byte_at members depth place ≡ Some b → plain_byte fold b ≡ b
-    pub grown : IsGrown kind patterns members (length states) transitions queue
+  pub record IsReady (states : List State) (transitions : List Transition) (queue : List QueuedState)
+      (p : QueuedState) : Type 0 where
+    pub order : IsOrder kind patterns sorted
+    pub settled : (place depth b : ℕ) → byte_at sorted depth place ≡ Some b → plain_byte fold b ≡ b
+    pub grown : IsGrown kind patterns sorted (length states) transitions queue
     pub meant : AreStates (grown_meaning transitions queue) states
-    pub waits : Waits kind patterns members queue (length states) p
-    pub next : IsNext kind patterns members queue (length states) p
+    pub waits : Waits kind patterns sorted queue (length states) p
+    pub next : IsNext kind patterns sorted queue (length states) p
 
-  -- a waiting state has a child by the byte: the members from the place on lead to it
-  pub record HasChild (states : List State) (transitions : List Transition) (queue : List Pending) (p : Pending)
+  -- a waiting state has a child by the byte: the patterns from the place on lead to it
+  pub record HasChild (states : List State) (transitions : List Transition) (queue : List QueuedState)
+      (p : QueuedState)
       (place byte : ℕ) : Type 0 where
-    pub order : IsOrder kind patterns members
+    pub order : IsOrder kind patterns sorted
     pub settled : plain_byte fold byte ≡ byte
     pub meant : AreStates (grown_meaning transitions queue) states
-    pub waits : Waits kind patterns members queue (length states) p
+    pub waits : Waits kind patterns sorted queue (length states) p
     pub near : p.depth ≢ 0 → p.fail < length states
     pub to : ℕ
-    pub range : IsRangeOf members (word members p ++ byte ∷ []) place to
+    pub range : IsRangeOf sorted (word sorted p ++ byte ∷ []) place to
     pub some : place < to
 
   -- its children have been put behind the queue, and it is whole
-  pub record HasBranched (states : List State) (queue : List Pending) (p : Pending) (t : State)
+  pub record HasBranched (states : List State) (queue : List QueuedState) (p : QueuedState) (t : State)
       (new_transitions : List Transition)
-      (new_queue : List Pending) : Type 0 where
-    pub grown : IsGrown kind patterns members (length states + 1) new_transitions new_queue
+      (new_queue : List QueuedState) : Type 0 where
+    pub grown : IsGrown kind patterns sorted (length states + 1) new_transitions new_queue
     pub meant : AreStates (grown_meaning new_transitions new_queue) states
     pub represents : Represents (grown_meaning new_transitions new_queue) (length states)
-        (Some (word members p)) t
-    pub kept : (k : ℕ) (q : Pending) → slice_get queue k ≡ Some q → slice_get new_queue k ≡ Some q
+        (Some (word sorted p)) t
+    pub kept : (k : ℕ) (q : QueuedState) → slice_get queue k ≡ Some q → slice_get new_queue k ≡ Some q
 
 -- the fail number stands for the failure target of the node, and is among the states below s, but for the
 -- start's
 pub record LinkIsDue (g : Meaning) (s : ℕ) (u : List ℕ) (fail : ℕ) : Type 0 where
   pub fails : slice_get g.nodes fail ≡ Some (miss g.kind g.patterns (Some u))
-  pub dead : slice_get g.nodes 0 ≡ Some None
+  pub dead : slice_get g.nodes DEAD ≡ Some None
   pub near : u ≢ [] → fail < s
-  pub start : u ≡ [] → fail < s → (fail < 2) × (slice_get g.nodes fail ≡ Some None)
+  pub start : u ≡ [] → fail < s → (fail < START) × (slice_get g.nodes fail ≡ Some None)
 
 -- the transitions and states are those of an automaton, which has no more states than there are numbers
 pub record IsWhole (texts : List (List ℕ)) (fold : Bool) (kind : MatchKind) (order : List ℕ)
     (transitions : List Transition) (states : List State) : Type 0 where
   pub nodes : List Node
   pub table : IsTable (trie_of texts fold kind order transitions states) nodes
-  pub few : state_count kind (map (plain fold) texts) ≤ GREATEST + 1
+  pub few : too_many_states kind (map (plain fold) texts) ≡ None

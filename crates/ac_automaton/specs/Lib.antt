@@ -4,6 +4,6 @@ pub mod Finders
 pub mod Finds
 pub mod Growths
 pub mod Iterators
-pub mod Members
 pub mod Progress
+pub mod Sorted
 pub mod Tries

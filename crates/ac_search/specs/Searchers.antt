@@ -6,7 +6,7 @@ use Rattle.ac_util.specs.declared.search.MatchKind.TheVariants.{Standard}
 use Rattle.ac_util.specs.declared.search.StartKind.{StartKind}
 use Rattle.ac_util.specs.declared.search.StartKind.TheVariants.{Unanchored}
 use Rattle.ac_util.specs.Built.{Built}
-use Rattle.ac_automaton.specs.Builds.{IsAllowed, Settings as EngineSettings}
+use Rattle.ac_automaton.specs.Builds.{IsAllowed, noncontiguous_rules, Settings as EngineSettings}
 use Rattle.ac_search.specs.declared.ahocorasick.AhoCorasickKind.{AhoCorasickKind}
 use Rattle.ac_search.specs.declared.ahocorasick.AhoCorasickKind.TheVariants.{NoncontiguousNFA}
 
@@ -43,4 +43,4 @@ engine_settings settings = record { kind = settings.match_kind; fold = settings.
 -- a build by these settings has succeeded: no limit refused it
 pub record IsBuilt (settings : Settings) (patterns : List (List ℕ)) (searcher : Searcher) : Type 0 where
   pub value : searcher ≡ searcher_by settings patterns
-  pub allowed : IsAllowed (engine_settings settings) patterns
+  pub allowed : IsAllowed noncontiguous_rules (engine_settings settings) patterns

@@ -9,7 +9,7 @@ ghost use Rattle.ac_util.specs.Occurrence.{Occurrence};
 ghost use Rattle.ac_util.specs.Refusal.{AnswersUnless, start_refusal};
 ghost use Rattle.ac_util.specs.Search.{Occurs};
 ghost use Rattle.ac_util.specs.Stream.{longest_len, shortest_len};
-ghost use Rattle.ac_automaton.specs.Builds.{Refuses};
+ghost use Rattle.ac_automaton.specs.Builds.{Refuses, noncontiguous_rules};
 ghost use Rattle.ac_automaton.specs.Iterators.{begun};
 ghost use Rattle.ac_search.specs.Searchers.{IsBuilt, engine_settings, usual_settings};
 
@@ -87,7 +87,7 @@ impl<A: Allocator + Clone> AhoCorasick<A> {
     pub fn new(alloc: A, patterns: &[&[u8]]) -> Result<AhoCorasick<A>, BuildError>
         ensures { MatchResult result
             (IsBuilt usual_settings (bytes_of patterns.now))
-            (Refuses (engine_settings usual_settings) (bytes_of patterns.now)) }
+            (Refuses noncontiguous_rules (engine_settings usual_settings) (bytes_of patterns.now)) }
     {
         AhoCorasickBuilder::new().build(alloc, patterns)
     }
@@ -398,7 +398,7 @@ impl AhoCorasickBuilder {
     ) -> Result<AhoCorasick<A>, BuildError>
         ensures { MatchResult result
             (IsBuilt self.now (bytes_of patterns.now))
-            (Refuses (engine_settings self.now) (bytes_of patterns.now)) }
+            (Refuses noncontiguous_rules (engine_settings self.now) (bytes_of patterns.now)) }
     {
         check_limits(patterns)?;
         let mut builder = noncontiguous::Builder::new();

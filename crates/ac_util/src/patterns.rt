@@ -5,6 +5,7 @@ ghost use Rattle.ac_util.specs.declared.error.BuildError.TheVariants.{Memory};
 ghost use Rattle.ac_util.specs.Borrowed.{bytes_of};
 ghost use Rattle.ac_util.specs.Limits.{limit_refusal};
 ghost use Rattle.ac_util.specs.Pieces.{AreBounds, pieces};
+ghost use Rattle.ac_util.specs.Sameness.{plain_byte};
 
 use crate::error::BuildError;
 use crate::primitives::{GREATEST, PatternID};
@@ -58,6 +59,11 @@ impl<A: Allocator> Patterns<A> {
 }
 
 impl<A: Allocator> Patterns<A> {
+    /// Returns the allocator of the list.
+    pub fn allocator(&self) -> &A {
+        self.bytes.allocator()
+    }
+
     /// Returns about how many bytes of memory the patterns take. Nothing is promised of the number.
     pub fn memory_usage(&self) -> usize {
         let bounds = self.bounds.len().saturating_mul(size_of::<usize>());
@@ -85,6 +91,18 @@ impl<A: Allocator + Clone> Patterns<A> {
             bounds.push(bytes.len())?;
         }
         Ok(Patterns { bytes, bounds })
+    }
+}
+
+/// Returns the byte, or the small letter where case is ignored and it is a capital one.
+#[inline]
+pub fn plain_byte(fold: bool, byte: u8) -> u8
+    ensures { result ≡ plain_byte fold byte }
+{
+    if fold {
+        byte.to_ascii_lowercase()
+    } else {
+        byte
     }
 }
 

@@ -5,9 +5,10 @@ ghost use Rattle.std.specs.Prelude.{◌≡◌, ◌↔◌, ◌+◌, ◌≤◌, �
 ghost use Rattle.ac_util.specs.Borrowed.{bytes_of};
 ghost use Rattle.ac_util.specs.Occurrence.{occurrence};
 ghost use Rattle.ac_util.specs.Pick.{beats, better, pick};
-ghost use Rattle.ac_util.specs.Sameness.{plain_byte, IsSame};
+ghost use Rattle.ac_util.specs.Sameness.{IsSame};
 ghost use Rattle.ac_util.specs.Search.{Occurs, from};
 
+use crate::patterns::plain_byte;
 use crate::primitives::GREATEST;
 use crate::search::{Anchored, Match, MatchKind, Span};
 use std::marker::Model;
@@ -176,15 +177,4 @@ fn same_string(fold: bool, left: &[u8], right: &[u8]) -> bool
         }
     }
     true
-}
-
-/// Returns the byte, or the small letter where `fold` ignores case and the byte is a capital one.
-fn plain_byte(fold: bool, byte: u8) -> u8
-    ensures { result ≡ plain_byte fold byte }
-{
-    if fold {
-        byte.to_ascii_lowercase()
-    } else {
-        byte
-    }
 }

@@ -1,5 +1,6 @@
 //! What a search is asked, and what it answers.
 ghost use Rattle.std.specs.Prelude.{◌≡◌, ◌+◌, ◌-◌, ◌≤◌, ◌↔◌, IsTrue};
+ghost use Rattle.ac_util.specs.Node.{is_leftmost};
 ghost use Rattle.ac_util.specs.Occurrence.{occurrence};
 
 mod input;
@@ -19,6 +20,18 @@ pub enum MatchKind {
     LeftmostFirst,
     /// The one that starts first; of these the longest, then the least pattern number.
     LeftmostLongest,
+}
+
+impl MatchKind {
+    /// Returns whether the kind prefers what starts first.
+    pub fn is_leftmost(&self) -> bool
+        ensures { result ≡ is_leftmost self.now }
+    {
+        match self {
+            MatchKind::Standard => false,
+            MatchKind::LeftmostFirst | MatchKind::LeftmostLongest => true,
+        }
+    }
 }
 
 /// Which searches a searcher can serve.

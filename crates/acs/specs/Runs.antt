@@ -4,7 +4,7 @@ use Rattle.std.specs.Io.{StartsWith}
 use Rattle.std.specs.Io.KnownBytes.{Appends, Consumes, IsAtEnd}
 use Rattle.ac_util.specs.Device.{Reading, Writing}
 use Rattle.ac_util.specs.Occurrence.{Occurrence}
-use Rattle.ac_automaton.specs.Builds.{IsAllowed}
+use Rattle.ac_automaton.specs.Builds.{IsAllowed, noncontiguous_rules}
 use Rattle.ac_search.specs.Searchers.{engine_settings, searcher_by}
 use Rattle.acs.specs.declared.fault.Fault.{Fault}
 use Rattle.acs.specs.declared.fault.Fault.TheVariants.{Io, Memory, WriteZero}
@@ -63,7 +63,7 @@ module _ (request : Request) (patterns : List (List ℕ)) (reader new_reader : R
   -- no limit refused the searcher, and the run has written a line for each match in all that the reader gave,
   -- and says whether there was one
   pub record HasRun (outcome : Outcome) : Type 0 where
-    pub allowed : IsAllowed (engine_settings (settings_of request)) patterns
+    pub allowed : IsAllowed noncontiguous_rules (engine_settings (settings_of request)) patterns
     pub haystack : List ℕ
     pub reads : ReadsAll reader new_reader haystack
     pub writes : WritesAll writer new_writer (lines (answer request patterns haystack))
@@ -77,13 +77,14 @@ module _ (request : Request) (patterns : List (List ℕ)) (reader new_reader : R
   -- no limit refused the searcher; while the run read it has ended with a fault, with nothing written
   abbrev pub FailsReading : Fault → Type 0
   FailsReading fault =
-      IsAllowed (engine_settings (settings_of request)) patterns × FailsToRead reader new_reader fault
+      IsAllowed noncontiguous_rules (engine_settings (settings_of request)) patterns
+          × FailsToRead reader new_reader fault
       × (new_writer ≡ writer)
 
   -- no limit refused the searcher; while the run wrote the lines of all that the reader gave it has ended with
   -- a fault
   pub record FailsPrinting (fault : Fault) : Type 0 where
-    pub allowed : IsAllowed (engine_settings (settings_of request)) patterns
+    pub allowed : IsAllowed noncontiguous_rules (engine_settings (settings_of request)) patterns
     pub haystack : List ℕ
     pub reads : ReadsAll reader new_reader haystack
     pub writes : FailsToPrint writer new_writer (lines (answer request patterns haystack)) fault

@@ -4,7 +4,7 @@ ghost use Rattle.std.proofs.Common.{inr, refl};
 ghost use Rattle.ac_util.specs.Borrowed.{bytes_of};
 ghost use Rattle.ac_util.specs.Node.{Node};
 ghost use Rattle.ac_util.specs.Stream.{longest_len, shortest_len};
-ghost use Rattle.ac_automaton.specs.Builds.{IsBuilt, Refuses, usual_settings};
+ghost use Rattle.ac_automaton.specs.Builds.{IsBuilt, Refuses, noncontiguous_rules, usual_settings};
 ghost use Rattle.ac_automaton.specs.Tries.{IsTable, StandsFor, listed_within, stands-lists};
 ghost use Rattle.ac_automaton.specs.declared.nfa.noncontiguous.state.State.{State};
 
@@ -15,7 +15,9 @@ use ac_util::patterns::Patterns;
 use ac_util::prefilter::Prefilter;
 use ac_util::primitives::{PatternID, StateID};
 use ac_util::search::{Anchored, MatchKind};
-use state::{FIRST_INNER, State, Transition, follow, listed_len, listed_pattern};
+use state::{
+    ANCHORED_START, DEAD, FIRST_INNER, START, State, Transition, follow, listed_len, listed_pattern,
+};
 use std::alloc::{Allocator, Global};
 use std::marker::Model;
 use std::mem::size_of;
@@ -24,7 +26,7 @@ use std::rc::Rc;
 mod builder;
 pub(crate) mod growth;
 mod lengths;
-pub(crate) mod members;
+pub(crate) mod sorted;
 pub(crate) mod state;
 
 pub use builder::Builder;
@@ -72,8 +74,8 @@ impl<A: Allocator + Clone> NFA<A> {
     /// As `Builder::build`.
     pub fn new(alloc: A, patterns: &[&[u8]]) -> Result<NFA<A>, BuildError>
         ensures { MatchResult result
-            (λ nfa. IsBuilt usual_settings (bytes_of patterns.now) nfa.built)
-            (Refuses usual_settings (bytes_of patterns.now)) }
+            (λ nfa. IsBuilt noncontiguous_rules usual_settings (bytes_of patterns.now) nfa.built)
+            (Refuses noncontiguous_rules usual_settings (bytes_of patterns.now)) }
     {
         Builder::new().build(alloc, patterns)
     }
@@ -114,6 +116,11 @@ impl<A: Allocator> NFA<A> {
         &self.order
     }
 
+    /// Returns the allocator of the automaton.
+    pub fn allocator(&self) -> &A {
+        self.states.allocator()
+    }
+
     /// Returns the patterns.
     #[inline]
     fn patterns(&self) -> &Patterns<A>
@@ -141,11 +148,11 @@ impl<A: Allocator> Automaton for NFA<A> {
     ghost lists = { stands-lists };
 
     fn start_state(&self, anchored: Anchored) -> Result<StateID, MatchError> {
-        // Contracts learn here that 2 and 3 are starts.
+        // Contracts learn here which states are the starts.
         let _states = self.states();
         match anchored {
-            Anchored::No => Ok(StateID::must(2)),
-            Anchored::Yes => Ok(StateID::must(3)),
+            Anchored::No => Ok(StateID::must(START)),
+            Anchored::Yes => Ok(StateID::must(ANCHORED_START)),
         }
     }
 
@@ -168,18 +175,18 @@ impl<A: Allocator> Automaton for NFA<A> {
 
     #[inline]
     fn is_dead(&self, sid: StateID) -> bool {
-        sid.as_usize() < 2
+        sid.as_usize() < START
     }
 
     #[inline]
     fn is_match(&self, sid: StateID) -> bool {
         let state = &self.states()[sid.as_usize()];
-        state.own < state.own_end || state.link.as_usize() != 0
+        state.patterns < state.patterns_end || state.output_link.as_usize() != DEAD
     }
 
     #[inline]
     fn is_start(&self, sid: StateID) -> bool {
-        2 <= sid.as_usize() && sid.as_usize() < FIRST_INNER
+        START <= sid.as_usize() && sid.as_usize() < FIRST_INNER
     }
 
     fn match_len(&self, sid: StateID) -> usize {

@@ -2,17 +2,17 @@
 ghost use Rattle.std.specs.Prelude.{◌≡◌, IfOk, MatchResult, map};
 ghost use Rattle.ac_util.specs.Borrowed.{bytes_of};
 ghost use Rattle.ac_util.specs.Sameness.{plain};
-ghost use Rattle.ac_automaton.specs.Builds.{IsBuilt, IsRefused, Refuses, usual_settings};
+ghost use Rattle.ac_automaton.specs.Builds.{IsBuilt, IsRefused, Refuses, noncontiguous_rules, too_many_states, usual_settings};
 ghost use Rattle.ac_automaton.specs.Growths.{IsWhole};
-ghost use Rattle.ac_automaton.specs.Members.{numbers};
+ghost use Rattle.ac_automaton.specs.Sorted.{numbers};
 
 use super::NFA;
 use super::growth::{Grown, grow};
 use super::lengths::{longest_of, shortest_of};
-use super::members::Members;
+use super::sorted::SortedPatterns;
 use super::state::{State, Transition};
 use ac_util::error::BuildError;
-use ac_util::patterns::{Patterns, check_limits};
+use ac_util::patterns::Patterns;
 use ac_util::primitives::PatternID;
 use ac_util::search::MatchKind;
 use std::alloc::{AllocError, Allocator};
@@ -96,12 +96,12 @@ impl Builder {
         patterns: &[&[u8]],
     ) -> Result<NFA<A>, BuildError>
         ensures { MatchResult result
-            (λ nfa. IsBuilt self.now (bytes_of patterns.now) nfa.built)
-            (Refuses self.now (bytes_of patterns.now)) }
+            (λ nfa. IsBuilt noncontiguous_rules self.now (bytes_of patterns.now) nfa.built)
+            (Refuses noncontiguous_rules self.now (bytes_of patterns.now)) }
     {
-        check_limits(patterns)?;
-        let patterns = Patterns::new(alloc.clone()?, patterns)?;
-        let whole = whole_of(alloc.clone()?, &patterns, self.kind, self.fold)?;
+        let patterns = Patterns::new(alloc, patterns)?;
+        let whole = whole_of(&patterns, self.kind, self.fold)?;
+        let alloc = patterns.allocator().clone()?;
         Ok(NFA {
             shortest: shortest_of(&patterns),
             longest: longest_of(&patterns),
@@ -129,7 +129,6 @@ struct Whole<A: Allocator> {
 /// `StateIdOverflow` where there are more nodes than state numbers, `Memory` where a request for memory is
 /// refused.
 fn whole_of<A: Allocator + Clone>(
-    alloc: A,
     patterns: &Patterns<A>,
     kind: MatchKind,
     fold: bool,
@@ -137,14 +136,15 @@ fn whole_of<A: Allocator + Clone>(
     ensures { MatchResult result
         (λ whole. IsWhole patterns.now fold kind
         whole.order.items whole.transitions.items whole.states.items)
-        (IsRefused kind (map (plain fold) patterns.now)) }
+        (IsRefused (too_many_states kind (map (plain fold) patterns.now))) }
 {
-    let members = Members::of(alloc.clone()?, patterns, kind, fold)?;
-    let order = numbers_of(alloc.clone()?, &members)?;
+    let alloc = patterns.allocator();
+    let sorted = SortedPatterns::of(alloc.clone()?, patterns, kind, fold)?;
+    let order = numbers_of(alloc.clone()?, &sorted)?;
     let Grown {
         transitions,
         states,
-    } = grow(alloc, &members, kind, fold)?;
+    } = grow(alloc.clone()?, &sorted, kind, fold)?;
     Ok(Whole {
         order,
         transitions,
@@ -158,13 +158,13 @@ fn whole_of<A: Allocator + Clone>(
 /// `AllocError` where a request for memory is refused.
 fn numbers_of<A: Allocator>(
     alloc: A,
-    members: &Members<'_, A>,
+    sorted: &SortedPatterns<'_, A>,
 ) -> Result<Vec<PatternID, A>, AllocError>
-    ensures { IfOk result (λ order. order.items ≡ numbers members.now) }
+    ensures { IfOk result (λ order. order.items ≡ numbers sorted.now) }
 {
     let mut order = Vec::new(alloc);
-    for place in 0..members.len() {
-        order.push(members.number(place))?;
+    for place in 0..sorted.len() {
+        order.push(sorted.number(place))?;
     }
     Ok(order)
 }

@@ -1,35 +1,34 @@
 //! Growing a trie with failure links, breadth first.
 //!
-//! A state is told by the members that begin with its string: they stand side by side. Its own patterns come
-//! first among them, and then each run of members with one more byte in common is a child. So each byte of each
-//! pattern is looked at a few times, and no member is moved: only a state's transitions are sorted, since that
-//! by a capital comes before those by small letters. A child's failure target is a step from that of its
-//! parent; along a pattern each byte makes the target at most one longer and each failure link shorter, so n
-//! bytes of patterns take at most 2n looks.
+//! A state is the range of the sorted patterns that have its string as a prefix. First in the range stand the
+//! patterns that equal the string; behind them each run of patterns with one more byte in common is a child. So
+//! each byte of each pattern is looked at a few times, and no pattern is moved: only a state's transitions are
+//! sorted, since those by capitals come before those by small letters. A child's failure target is a step from
+//! that of its parent; along a pattern each byte makes the target at most one byte longer and each failure link
+//! makes it shorter, so n bytes of patterns take at most 2n looks.
 ghost use Rattle.std.specs.Prelude.{◌≡◌, ◌≢◌, ◌++◌, ◌∷◌, [], ℕ, ◌+◌, ◌<◌, ◌≤◌, Bool, List, MatchResult, None, Some, length, map, slice_get};
 ghost use Rattle.ac_util.specs.declared.primitives.TheConstants.{GREATEST};
-ghost use Rattle.ac_util.specs.Node.{is_leftmost as is_leftmost_of};
 ghost use Rattle.ac_util.specs.Sameness.{plain};
-ghost use Rattle.ac_automaton.specs.declared.nfa.noncontiguous.growth.Pending.{Pending};
-ghost use Rattle.ac_automaton.specs.Builds.{IsRefused};
-ghost use Rattle.ac_automaton.specs.Growths.{EndsOwn, HasBranched, HasChild, HasPushed, HasSorted, IsNotPushed, IsReady, IsWhole, LinkIsDue, Waits, nodes_of, word};
-ghost use Rattle.ac_automaton.specs.Members.{IsOrder, byte_at, numbers};
+ghost use Rattle.ac_automaton.specs.declared.nfa.noncontiguous.growth.QueuedState.{QueuedState};
+ghost use Rattle.ac_automaton.specs.Builds.{IsRefused, too_many_states};
+ghost use Rattle.ac_automaton.specs.Growths.{EndsPatterns, HasBranched, HasChild, HasPushed, HasSorted, IsNotPushed, IsReady, IsWhole, LinkIsDue, Waits, nodes_of, word};
+ghost use Rattle.ac_automaton.specs.Sorted.{IsOrder, byte_at, numbers};
 ghost use Rattle.ac_automaton.specs.Tries.{AreStates, Links, Meaning, miss};
 
-use super::members::Members;
-use super::state::{FIRST_INNER, State, Transition, follow};
+use super::sorted::SortedPatterns;
+use super::state::{DEAD, FIRST_INNER, START, State, Transition, follow};
 use ac_util::error::BuildError;
 use ac_util::looks::Looks;
 use ac_util::primitives::{GREATEST, StateID};
 use ac_util::search::{Anchored, MatchKind};
 use std::alloc::Allocator;
 
-/// A state that waits for its children.
+/// A state in the queue, which waits for its children.
 #[derive(Clone, Copy)]
-pub(crate) struct Pending {
-    /// Where the members begin that begin with its string.
+pub(crate) struct QueuedState {
+    /// Where the range of its patterns begins.
     pub(crate) from: u32,
-    /// Where they end.
+    /// Where the range ends.
     pub(crate) to: u32,
     /// How many bytes the string has.
     pub(crate) depth: u32,
@@ -37,22 +36,24 @@ pub(crate) struct Pending {
     pub(crate) fail: StateID,
 }
 
-/// What a trie grows by: the transitions, and the waiting states, which are those from the fifth on.
+/// What a trie grows by: the transitions, and the queue of the states from `FIRST_INNER` on.
 #[derive(Drop)]
 pub(crate) struct Growth<A: Allocator> {
     pub(crate) transitions: Vec<Transition, A>,
-    pub(crate) queue: Vec<Pending, A>,
+    pub(crate) queue: Vec<QueuedState, A>,
 }
 
 impl<A: Allocator> Growth<A> {
-    /// Adds a state and the transitions to it by a plain byte, where case is ignored by a letter's capital too.
+    /// Adds a state to the queue, and the transitions to it by a plain byte: where case is ignored by a
+    /// letter's
+    /// capital too.
     ///
     /// # Errors
     /// `StateIdOverflow` where no number is left for it, `Memory` where a request for memory is refused.
-    fn push(&mut self, byte: u8, fold: bool, pending: Pending) -> Result<(), BuildError>
-        requires few { length self.old.queue.items + 4 ≤ GREATEST + 1 }
+    fn push(&mut self, byte: u8, fold: bool, queued: QueuedState) -> Result<(), BuildError>
+        requires few { FIRST_INNER + length self.old.queue.items ≤ GREATEST + 1 }
         ensures { MatchResult result
-            (λ _. HasPushed fold byte pending self.old.transitions.items self.old.queue.items
+            (λ _. HasPushed fold byte queued self.old.transitions.items self.old.queue.items
             self.new.transitions.items self.new.queue.items)
             (IsNotPushed self.old.queue.items) }
     {
@@ -69,7 +70,7 @@ impl<A: Allocator> Growth<A> {
             let byte = byte.to_ascii_uppercase();
             self.transitions.push(Transition { byte, target })?;
         }
-        self.queue.push(pending)?;
+        self.queue.push(queued)?;
         Ok(())
     }
 }
@@ -88,16 +89,16 @@ pub(crate) struct Grown<A: Allocator> {
 /// refused.
 pub(crate) fn grow<A: Allocator + Clone, B: Allocator>(
     alloc: A,
-    members: &Members<'_, B>,
+    sorted: &SortedPatterns<'_, B>,
     kind: MatchKind,
     fold: bool,
 ) -> Result<Grown<A>, BuildError>
-    requires order { (texts : List (List ℕ)) × IsOrder kind (map (plain fold) texts) members.now }
-    ensures { (texts : List (List ℕ)) → IsOrder kind (map (plain fold) texts) members.now
+    requires order { (texts : List (List ℕ)) × IsOrder kind (map (plain fold) texts) sorted.now }
+    ensures { (texts : List (List ℕ)) → IsOrder kind (map (plain fold) texts) sorted.now
         → MatchResult result
-        (λ grown. IsWhole texts fold kind (numbers members.now)
+        (λ grown. IsWhole texts fold kind (numbers sorted.now)
         grown.transitions.items grown.states.items)
-        (IsRefused kind (map (plain fold) texts)) }
+        (IsRefused (too_many_states kind (map (plain fold) texts))) }
 {
     let mut growth = Growth {
         transitions: Vec::new(alloc.clone()?),
@@ -107,19 +108,19 @@ pub(crate) fn grow<A: Allocator + Clone, B: Allocator>(
     states.push(State::dead())?;
     states.push(State::dead())?;
     let start = branch(
-        members,
+        sorted,
         kind,
         fold,
         &states,
         &mut growth,
-        start(members, kind),
+        start(sorted, kind),
     )?;
     states.push(start)?;
     states.push(start)?;
     let mut at = 0;
     while at < growth.queue.len() {
-        let pending = growth.queue[at];
-        let state = branch(members, kind, fold, &states, &mut growth, pending)?;
+        let queued = growth.queue[at];
+        let state = branch(sorted, kind, fold, &states, &mut growth, queued)?;
         states.push(state)?;
         at += 1;
     }
@@ -129,68 +130,68 @@ pub(crate) fn grow<A: Allocator + Clone, B: Allocator>(
     })
 }
 
-/// Returns the start, which waits for its children.
-fn start<B: Allocator>(members: &Members<'_, B>, kind: MatchKind) -> Pending
-    ensures waits { (patterns : List (List ℕ)) → IsOrder kind patterns members.now
-        → Waits kind patterns members.now [] 2 result }
+/// Returns the start as it waits for its children.
+fn start<B: Allocator>(sorted: &SortedPatterns<'_, B>, kind: MatchKind) -> QueuedState
+    ensures waits { (patterns : List (List ℕ)) → IsOrder kind patterns sorted.now
+        → Waits kind patterns sorted.now [] START result }
     ensures depth { result.depth ≡ 0 }
 {
-    let fail = if is_leftmost(kind) && members.len() > 0 && members.byte(0, 0).is_none() {
-        0
+    let fail = if kind.is_leftmost() && sorted.len() > 0 && sorted.byte(0, 0).is_none() {
+        DEAD
     } else {
-        2
+        START
     };
-    Pending {
+    QueuedState {
         from: 0,
-        to: members.len() as u32,
+        to: sorted.len() as u32,
         depth: 0,
         fail: StateID::must(fail),
     }
 }
 
-/// Puts the children of a state behind the queue, and returns the state.
+/// Adds the children of a state to the queue, and returns the state.
 ///
 /// # Errors
 /// `StateIdOverflow` where there are too many states, `Memory` where a request for memory is refused.
 pub(crate) fn branch<A: Allocator, B: Allocator>(
-    members: &Members<'_, B>,
+    sorted: &SortedPatterns<'_, B>,
     kind: MatchKind,
     fold: bool,
     states: &[State],
     growth: &mut Growth<A>,
-    pending: Pending,
+    queued: QueuedState,
 ) -> Result<State, BuildError>
-    requires ready { (patterns : List (List ℕ)) × IsReady kind fold patterns members.now states.now
-        growth.old.transitions.items growth.old.queue.items pending }
-    ensures { (patterns : List (List ℕ)) → IsReady kind fold patterns members.now states.now
-        growth.old.transitions.items growth.old.queue.items pending
+    requires ready { (patterns : List (List ℕ)) × IsReady kind fold patterns sorted.now states.now
+        growth.old.transitions.items growth.old.queue.items queued }
+    ensures { (patterns : List (List ℕ)) → IsReady kind fold patterns sorted.now states.now
+        growth.old.transitions.items growth.old.queue.items queued
         → MatchResult result
-        (λ t. HasBranched kind fold patterns members.now states.now growth.old.queue.items pending t
+        (λ t. HasBranched kind fold patterns sorted.now states.now growth.old.queue.items queued t
         growth.new.transitions.items growth.new.queue.items)
-        (IsRefused kind patterns) }
+        (IsRefused (too_many_states kind patterns)) }
 {
-    let (to, depth) = (pending.to as usize, pending.depth as usize);
-    let own_end = own_end(members, &pending);
+    let (to, depth) = (queued.to as usize, queued.depth as usize);
+    let patterns_end = patterns_end(sorted, &queued);
     let first = growth.transitions.len();
-    let mut place = own_end;
+    let mut place = patterns_end;
     while place < to {
-        let end = members.run_end(place, to, depth);
-        let Some(byte) = members.byte(place, depth) else {
+        let end = sorted.run_end(place, to, depth);
+        let Some(byte) = sorted.byte(place, depth) else {
             unreachable!()
         };
         let fail = child_fail(
-            members,
+            sorted,
             kind,
             states,
             &growth.transitions,
-            &pending,
+            &queued,
             place,
             byte,
         );
-        let child = Pending {
+        let child = QueuedState {
             from: place as u32,
             to: end as u32,
-            depth: pending.depth + 1,
+            depth: queued.depth + 1,
             fail,
         };
         growth.push(byte, fold, child)?;
@@ -200,11 +201,11 @@ pub(crate) fn branch<A: Allocator, B: Allocator>(
     Ok(State {
         transitions: first as u32,
         transitions_end: growth.transitions.len() as u32,
-        fail: pending.fail,
-        own: pending.from,
-        own_end: own_end as u32,
-        link: link_of(states, pending.fail),
-        depth: pending.depth,
+        fail: queued.fail,
+        patterns: queued.from,
+        patterns_end: patterns_end as u32,
+        output_link: output_link(states, queued.fail),
+        depth: queued.depth,
     })
 }
 
@@ -216,80 +217,72 @@ fn sort_from(transitions: &mut [Transition], first: usize)
     transitions[first..].sort_unstable_by_key(|t| t.byte);
 }
 
-/// Returns where the members end that are the whole string of a state.
-fn own_end<B: Allocator>(members: &Members<'_, B>, pending: &Pending) -> usize
-    requires ordered { pending.now.from ≤ pending.now.to }
-    requires within { pending.now.to ≤ length members.now }
-    ensures { EndsOwn members.now pending.now result }
+/// Returns where the patterns end that equal the string of a state.
+fn patterns_end<B: Allocator>(sorted: &SortedPatterns<'_, B>, queued: &QueuedState) -> usize
+    requires ordered { queued.now.from ≤ queued.now.to }
+    requires within { queued.now.to ≤ length sorted.now }
+    ensures { EndsPatterns sorted.now queued.now result }
 {
-    let (from, to) = (pending.from as usize, pending.to as usize);
-    let depth = pending.depth as usize;
-    if from < to && members.byte(from, depth).is_none() {
-        members.run_end(from, to, depth)
+    let (from, to) = (queued.from as usize, queued.to as usize);
+    let depth = queued.depth as usize;
+    if from < to && sorted.byte(from, depth).is_none() {
+        sorted.run_end(from, to, depth)
     } else {
         from
     }
 }
 
-/// Returns the failure target of the child by a byte, to which the member at a place leads.
+/// Returns the failure target of the child by a byte, whose patterns begin at a place.
 fn child_fail<B: Allocator>(
-    members: &Members<'_, B>,
+    sorted: &SortedPatterns<'_, B>,
     kind: MatchKind,
     states: &[State],
     transitions: &[Transition],
-    pending: &Pending,
+    queued: &QueuedState,
     place: usize,
     byte: u8,
 ) -> StateID
-    requires child { (fold : Bool) × (patterns : List (List ℕ)) × (queue : List Pending)
-        × HasChild kind fold patterns members.now states.now transitions.now queue
-        pending.now place byte }
-    ensures { (fold : Bool) (patterns : List (List ℕ)) (queue : List Pending)
-        → HasChild kind fold patterns members.now states.now transitions.now queue
-        pending.now place byte
-        → slice_get (nodes_of members.now queue) result
-        ≡ Some (miss kind patterns (Some (word members.now pending.now ++ byte ∷ []))) }
+    requires child { (fold : Bool) × (patterns : List (List ℕ)) × (queue : List QueuedState)
+        × HasChild kind fold patterns sorted.now states.now transitions.now queue
+        queued.now place byte }
+    ensures { (fold : Bool) (patterns : List (List ℕ)) (queue : List QueuedState)
+        → HasChild kind fold patterns sorted.now states.now transitions.now queue
+        queued.now place byte
+        → slice_get (nodes_of sorted.now queue) result
+        ≡ Some (miss kind patterns (Some (word sorted.now queued.now ++ byte ∷ []))) }
 {
-    if is_leftmost(kind) && members.byte(place, pending.depth as usize + 1).is_none() {
-        return StateID::must(0);
+    if kind.is_leftmost() && sorted.byte(place, queued.depth as usize + 1).is_none() {
+        return StateID::must(DEAD);
     }
-    if pending.depth == 0 {
-        return pending.fail;
+    if queued.depth == 0 {
+        return queued.fail;
     }
     follow(
         states,
         transitions,
         Anchored::No,
-        pending.fail,
+        queued.fail,
         byte,
         &mut Looks::new(),
     )
 }
 
-/// Returns whether the kind prefers what starts first.
-fn is_leftmost(kind: MatchKind) -> bool
-    ensures { result ≡ is_leftmost_of kind }
-{
-    match kind {
-        MatchKind::Standard => false,
-        MatchKind::LeftmostFirst | MatchKind::LeftmostLongest => true,
-    }
-}
-
-/// Returns the first state from a failure target on along the links that has patterns of its own, or 0.
-fn link_of(states: &[State], fail: StateID) -> StateID
+/// Returns the output link of a state with this failure target: the target where it has patterns, else the
+/// output
+/// link of the target. A target that isn't complete yet is the start's own, and leads nowhere.
+fn output_link(states: &[State], fail: StateID) -> StateID
     requires { (g : Meaning) × AreStates g states.now }
     ensures { (g : Meaning) (u : List ℕ) → AreStates g states.now
         → LinkIsDue g (length states.now) u fail
         → Links g (length states.now) (Some u) result }
 {
     if fail.as_usize() >= states.len() {
-        return StateID::must(0);
+        return StateID::must(DEAD);
     }
     let target = &states[fail.as_usize()];
-    if target.own < target.own_end {
+    if target.patterns < target.patterns_end {
         fail
     } else {
-        target.link
+        target.output_link
     }
 }

@@ -5,11 +5,26 @@ ghost use Rattle.ac_util.specs.Counts.{more_looks};
 ghost use Rattle.ac_util.specs.Looks.{looks as looks_of_node};
 ghost use Rattle.ac_util.specs.Node.{Node, step};
 ghost use Rattle.ac_util.specs.Sameness.{plain_byte};
-ghost use Rattle.ac_automaton.specs.Tries.{HasState, IsTarget, Meaning, all_matches, bytes_of, dead_state, transitions_of};
+ghost use Rattle.ac_automaton.specs.Tries.{HasState, IsTarget, Meaning, all_matches, transition_bytes, dead_state, transitions_of};
 
 use ac_util::looks::Looks;
 use ac_util::primitives::{PatternID, StateID};
 use ac_util::search::Anchored;
+
+/// The number of the dead state, from which nothing is found any more.
+pub(crate) const DEAD: usize = 0;
+
+/// The number of the state that no search reaches.
+pub(crate) const FAIL: usize = 1;
+
+/// The number of the state at which an unanchored search starts.
+pub(crate) const START: usize = 2;
+
+/// The number of the state at which an anchored search starts.
+pub(crate) const ANCHORED_START: usize = 3;
+
+/// The number of the first of the other states, which follow breadth first.
+pub(crate) const FIRST_INNER: usize = 4;
 
 /// A byte that leads on from a state, and the state that it leads to.
 #[derive(Clone, Copy)]
@@ -18,10 +33,10 @@ pub(crate) struct Transition {
     pub(crate) target: StateID,
 }
 
-/// A state: which states follow it, and which patterns end there.
+/// A state stands for a string: the bytes that lead to it from the start.
 ///
 /// The transitions of all states stand in one list, those of a state side by side in ascending order of their
-/// bytes. Where case is ignored there is one for each case of a letter, so that a step has nothing to do for
+/// bytes. Where case is ignored there is one for each case of a letter, so that a step does nothing more for
 /// it.
 #[derive(Clone, Copy)]
 pub(crate) struct State {
@@ -29,20 +44,17 @@ pub(crate) struct State {
     pub(crate) transitions: u32,
     /// Where they end.
     pub(crate) transitions_end: u32,
-    /// Where an unanchored search goes on by a byte without a transition.
+    /// The failure target: where an unanchored search goes on by a byte without a transition.
     pub(crate) fail: StateID,
-    /// Where the patterns that are the state's own string begin.
-    pub(crate) own: u32,
+    /// Where in the sorted list the patterns that equal the state's string begin.
+    pub(crate) patterns: u32,
     /// Where they end.
-    pub(crate) own_end: u32,
-    /// The next state along the failure targets that has patterns of its own, or 0.
-    pub(crate) link: StateID,
-    /// How many bytes lead to the state.
+    pub(crate) patterns_end: u32,
+    /// The output link: the next state along the failure targets that has patterns, or the dead state.
+    pub(crate) output_link: StateID,
+    /// How many bytes the state's string has.
     pub(crate) depth: u32,
 }
-
-/// The number of the first state that isn't dead, unreached or a start.
-pub(crate) const FIRST_INNER: usize = 4;
 
 impl State {
     /// Returns a state from which nothing leads on.
@@ -52,22 +64,22 @@ impl State {
         State {
             transitions: 0,
             transitions_end: 0,
-            fail: StateID::must(0),
-            own: 0,
-            own_end: 0,
-            link: StateID::must(0),
+            fail: StateID::must(DEAD),
+            patterns: 0,
+            patterns_end: 0,
+            output_link: StateID::must(DEAD),
             depth: 0,
         }
     }
 
-    /// Returns how many patterns the state has of its own.
+    /// Returns how many patterns equal the state's string.
     #[inline]
-    fn own_len(&self) -> usize
-        requires owned { self.now.own ≤ self.now.own_end }
-        ensures value { result ≡ self.now.own_end - self.now.own }
+    fn patterns_len(&self) -> usize
+        requires ordered { self.now.patterns ≤ self.now.patterns_end }
+        ensures value { result ≡ self.now.patterns_end - self.now.patterns }
         ensures small { result < 4294967296 }
     {
-        (self.own_end - self.own) as usize
+        (self.patterns_end - self.patterns) as usize
     }
 }
 
@@ -93,7 +105,7 @@ fn target(state: &State, transitions: &[Transition], byte: u8) -> Option<StateID
     requires ordered { state.now.transitions ≤ state.now.transitions_end }
     requires listed { state.now.transitions_end ≤ length transitions.now }
     requires ascending { IsStrictlyIncreasing
-        (bytes_of (transitions_of transitions.now state.now)) }
+        (transition_bytes (transitions_of transitions.now state.now)) }
     ensures { IsTarget (transitions_of transitions.now state.now) byte result }
 {
     let own = &transitions[state.transitions as usize..state.transitions_end as usize];
@@ -138,7 +150,7 @@ pub(crate) fn follow(
             return next;
         }
         if matches!(anchored, Anchored::Yes) {
-            return StateID::must(0);
+            return StateID::must(DEAD);
         }
         if at.as_usize() < FIRST_INNER {
             return state.fail;
@@ -147,7 +159,7 @@ pub(crate) fn follow(
     }
 }
 
-/// Returns how many patterns a state and those behind it by their links have.
+/// Returns how many patterns a state has, with those that it reaches by output links.
 pub(crate) fn listed_len(states: &[State], from: StateID) -> usize
     requires state { (g : Meaning) × (u : Node) × HasState g states.now from u }
     ensures { (g : Meaning) (u : Node) → HasState g states.now from u
@@ -157,15 +169,15 @@ pub(crate) fn listed_len(states: &[State], from: StateID) -> usize
     let mut count = 0;
     loop {
         let state = &states[at];
-        count += state.own_len();
-        at = state.link.as_usize();
-        if at == 0 {
+        count += state.patterns_len();
+        at = state.output_link.as_usize();
+        if at == DEAD {
             return count;
         }
     }
 }
 
-/// Returns one of these patterns, by its place among them.
+/// Returns one of these patterns by its place among them, those of the state itself first.
 pub(crate) fn listed_pattern(
     states: &[State],
     order: &[PatternID],
@@ -181,11 +193,11 @@ pub(crate) fn listed_pattern(
     let mut left = index;
     loop {
         let state = &states[at.as_usize()];
-        let len = state.own_len();
+        let len = state.patterns_len();
         if left < len {
-            return order[state.own as usize + left];
+            return order[state.patterns as usize + left];
         }
         left -= len;
-        at = state.link;
+        at = state.output_link;
     }
 }

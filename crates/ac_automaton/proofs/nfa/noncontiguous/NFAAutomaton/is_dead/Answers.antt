@@ -1,10 +1,13 @@
 use Rattle.std.proofs.lemmas.Bool.{ltb-true}
 use Rattle.std.proofs.lemmas.Bool.Decides.{Decides-ltb}
+use Rattle.ac_automaton.specs.declared.nfa.noncontiguous.state.TheConstants.{START}
 use Rattle.ac_automaton.proofs.Tables.{dead-number}
 use Rattle.ac_automaton.proofs.nfa.noncontiguous.NFAAutomaton.is_dead.Goals as goal
 
 pub returns : goal.returns
 returns g c = λ anchored u h.
     let dead = dead-number c.args.self.now c.args.sid u h in
-    rw c.as_usize.ensures.value
-    ((λ below. dead.0 (ltb-true c.args.sid 2 below)), (λ none. (Decides-ltb c.args.sid 2).1 (dead.1 none)))
+    rw c.as_usize.ensures.value (
+      (λ below. dead.0 (ltb-true c.args.sid START below)),
+      (λ none. (Decides-ltb c.args.sid START).1 (dead.1 none)),
+    )

@@ -1,7 +1,7 @@
 use Rattle.std.proofs.Common.{◌≡◌, ℕ, List, [], ◌∷◌, ◌++◌, length, length-append, ap, sym, ◌∙◌, subst, arith}
 use Rattle.std.specs.Prelude.{Some, slice_get}
-use Rattle.ac_automaton.specs.Builds.{IsRefused}
-use Rattle.ac_automaton.specs.Growths.{EndsOwn, HasChild, HasSorted, IsReady, grown_meaning, nodes_of, word}
+use Rattle.ac_automaton.specs.Builds.{IsRefused, too_many_states}
+use Rattle.ac_automaton.specs.Growths.{EndsPatterns, HasChild, HasSorted, IsReady, grown_meaning, nodes_of, word}
 use Rattle.ac_automaton.specs.Tries.{miss}
 use Rattle.ac_automaton.proofs.Branched.{has-branched, link-due, still-meant}
 use Rattle.ac_automaton.proofs.Branching.{IsBranching, IsRun, Site, branching-begins, branching-goes_on, child-deep, goes-on, has-child, string}
@@ -9,51 +9,53 @@ use Rattle.ac_automaton.proofs.Places.{refused-by, written-whole}
 use Rattle.ac_automaton.proofs.StateCount.{refused}
 use Rattle.ac_automaton.proofs.nfa.noncontiguous.growth.branch.Given.{Over}
 use Rattle.ac_automaton.proofs.nfa.noncontiguous.growth.branch.Goals as goal
-use Rattle.ac_automaton.proofs.nfa.noncontiguous.growth.branch.Goals.{After-child_fail-fail, After-own_end-own_end, In-Some}
+use Rattle.ac_automaton.proofs.nfa.noncontiguous.growth.branch.Goals.{After-child_fail-fail, After-patterns_end-patterns_end, In-Some}
 
 -- the state whose children come, where the trie may grow on at it
-module _ (g : Over) (c : After-own_end-own_end g) where
+module _ (g : Over) (c : After-patterns_end-patterns_end g) where
   abbrev Ready : List (List ℕ) → Type 0
   Ready patterns =
-      IsReady c.args.kind c.args.fold patterns c.args.members.now c.args.states.now
-      c.args.growth.now.transitions.items c.args.growth.now.queue.items c.args.pending
+      IsReady c.args.kind c.args.fold patterns c.args.sorted.now c.args.states.now
+      c.args.growth.now.transitions.items c.args.growth.now.queue.items c.args.queued
 
   abbrev Ends : Type 0
-  Ends = EndsOwn c.args.members.now c.args.pending c.own_end-own_end.result
+  Ends = EndsPatterns c.args.sorted.now c.args.queued c.patterns_end-patterns_end.result
 
   abbrev site : (patterns : List (List ℕ)) → Ready patterns → Ends → Site
   site patterns ready ends = record {
     kind = c.args.kind;
     fold = c.args.fold;
     patterns = patterns;
-    members = c.args.members.now;
+    sorted = c.args.sorted.now;
     states = c.args.states.now;
     transitions = c.args.growth.now.transitions.items;
     queue = c.args.growth.now.queue.items;
-    pending = c.args.pending;
+    queued = c.args.queued;
     ready = ready;
-    own_end = c.own_end-own_end.result;
+    patterns_end = c.patterns_end-patterns_end.result;
     ends = ends;
   }
 
 pub loop-place-init : goal.loop-place-init
 loop-place-init g c =
     λ patterns ready ends. branching-begins
-    (site g (goal.at.loop-place-init g c).After-own_end-own_end patterns ready ends)
+    (site g (goal.at.loop-place-init g c).After-patterns_end-patterns_end patterns ready ends)
 
 pub unreachable-requires : goal.unreachable-requires
 unreachable-requires g c =
     let ready = c.requires.ready in
-    let ends = c.own_end-own_end.ensures in
-    goes-on (site g (goal.at.unreachable-requires g c).After-own_end-own_end ready.0 ready.1 ends)
+    let ends = c.patterns_end-patterns_end.ensures in
+    goes-on (site g (goal.at.unreachable-requires g c).After-patterns_end-patterns_end ready.0 ready.1 ends)
     (c.loop-place.invariant ready.0 ready.1 ends) c.loop-place-test.true
     (sym c.byte.ensures.value ∙ c.in_default.is)
 
--- the run of members that is found goes on with the byte
+-- the run of patterns that is found goes on with the byte
 module _ (g : Over) (c : In-Some g) where
-  run : (patterns : List (List ℕ)) (ready : Ready g (goal.at.In-Some g c).After-own_end-own_end patterns)
-      (ends : Ends g (goal.at.In-Some g c).After-own_end-own_end)
-      → IsRun (site g (goal.at.In-Some g c).After-own_end-own_end patterns ready ends) c.loop-place.place
+  run : (patterns : List (List ℕ))
+      (ready : Ready g (goal.at.In-Some g c).After-patterns_end-patterns_end patterns)
+      (ends : Ends g (goal.at.In-Some g c).After-patterns_end-patterns_end)
+      → IsRun (site g (goal.at.In-Some g c).After-patterns_end-patterns_end patterns ready ends)
+      c.loop-place.place
       c.run_end-end.result c.in-Some.byte
   run patterns ready ends = record {
     more = c.loop-place-test.true;
@@ -65,13 +67,14 @@ module _ (g : Over) (c : In-Some g) where
   }
 
   -- so it is that of a child
-  child : (patterns : List (List ℕ)) (ready : Ready g (goal.at.In-Some g c).After-own_end-own_end patterns)
-      → HasChild c.args.kind c.args.fold patterns c.args.members.now c.args.states.now
+  child : (patterns : List (List ℕ))
+      (ready : Ready g (goal.at.In-Some g c).After-patterns_end-patterns_end patterns)
+      → HasChild c.args.kind c.args.fold patterns c.args.sorted.now c.args.states.now
       c.loop-place.growth.transitions.items
-      c.loop-place.growth.queue.items c.args.pending c.loop-place.place c.in-Some.byte
+      c.loop-place.growth.queue.items c.args.queued c.loop-place.place c.in-Some.byte
   child patterns ready =
-      let ends = c.own_end-own_end.ensures in
-      has-child (site g (goal.at.In-Some g c).After-own_end-own_end patterns ready ends)
+      let ends = c.patterns_end-patterns_end.ensures in
+      has-child (site g (goal.at.In-Some g c).After-patterns_end-patterns_end patterns ready ends)
       (c.loop-place.invariant patterns ready ends) (run patterns ready ends)
 
 pub child_fail-fail-requires : goal.child_fail-fail-requires
@@ -90,9 +93,9 @@ pub overflow_add-child : goal.overflow_add-child
 overflow_add-child g c =
     let s = (goal.at.overflow_add-child g c).In-Some in
     let ready = c.requires.ready in
-    let ends = c.own_end-own_end.ensures in
+    let ends = c.patterns_end-patterns_end.ensures in
     let deep =
-    child-deep (site g (goal.at.In-Some g s).After-own_end-own_end ready.0 ready.1 ends)
+    child-deep (site g (goal.at.In-Some g s).After-patterns_end-patterns_end ready.0 ready.1 ends)
     (c.loop-place.invariant ready.0 ready.1 ends) (run g s ready.0 ready.1 ends) in
     let short = c.byte.ensures.short in
     omega arith
@@ -100,14 +103,14 @@ overflow_add-child g c =
 pub push-requires : goal.push-requires
 push-requires g c =
     let ready = c.requires.ready in
-    record { few = (c.loop-place.invariant ready.0 ready.1 c.own_end-own_end.ensures).grown.few }
+    record { few = (c.loop-place.invariant ready.0 ready.1 c.patterns_end-patterns_end.ensures).grown.few }
 
 -- the failure target of the child stands for that of its string
 module _ (g : Over) (c : After-child_fail-fail g) where
   fails : (patterns : List (List ℕ))
-      → Ready g (goal.at.After-child_fail-fail g c).After-own_end-own_end patterns
-      → slice_get (nodes_of c.args.members.now c.loop-place.growth.queue.items) c.child_fail-fail.result
-      ≡ Some (miss c.args.kind patterns (Some (word c.args.members.now c.args.pending ++ c.in-Some.byte ∷ [])))
+      → Ready g (goal.at.After-child_fail-fail g c).After-patterns_end-patterns_end patterns
+      → slice_get (nodes_of c.args.sorted.now c.loop-place.growth.queue.items) c.child_fail-fail.result
+      ≡ Some (miss c.args.kind patterns (Some (word c.args.sorted.now c.args.queued ++ c.in-Some.byte ∷ [])))
   fails patterns ready =
       c.child_fail-fail.ensures c.args.fold patterns c.loop-place.growth.queue.items
       (rw c.deref.ensures.value (child g (goal.at.After-child_fail-fail g c).In-Some patterns ready))
@@ -115,10 +118,10 @@ module _ (g : Over) (c : After-child_fail-fail g) where
 pub returns-in_err-push : goal.returns-in_err-push
 returns-in_err-push g c = λ patterns ready.
     let s = (goal.at.returns-in_err-push g c).In-Some in
-    let ends = c.own_end-own_end.ensures in
+    let ends = c.patterns_end-patterns_end.ensures in
     refused-by c.from_residual.result c.in_err-push.field-0.0 _
-    (IsRefused c.args.kind patterns) c.from_residual.ensures.1
-    (refused (site g (goal.at.In-Some g s).After-own_end-own_end patterns ready ends)
+    (IsRefused (too_many_states c.args.kind patterns)) c.from_residual.ensures.1
+    (refused (site g (goal.at.In-Some g s).After-patterns_end-patterns_end patterns ready ends)
     (c.loop-place.invariant patterns ready ends) (run g s patterns ready ends)
     c.child_fail-fail.result
     (fails g (goal.at.returns-in_err-push g c).After-child_fail-fail patterns ready) c.in_err-push.field-0.0
@@ -130,7 +133,7 @@ loop-place-preserved g c = λ patterns ready ends.
     let pushed = c.in_ok-push.ensures in
     rw (pushed.leads, pushed.waits)
     (branching-goes_on
-    (site g (goal.at.In-Some g s).After-own_end-own_end patterns ready ends)
+    (site g (goal.at.In-Some g s).After-patterns_end-patterns_end patterns ready ends)
     (c.loop-place.invariant patterns ready ends) (run g s patterns ready ends)
     c.child_fail-fail.result
     (fails g (goal.at.loop-place-preserved g c).After-child_fail-fail patterns ready) pushed.numbered)
@@ -138,7 +141,7 @@ loop-place-preserved g c = λ patterns ready ends.
 pub sort_from-requires : goal.sort_from-requires
 sort_from-requires g c =
     let ready = c.requires.ready in
-    let h = c.loop-place.invariant ready.0 ready.1 c.own_end-own_end.ensures in
+    let h = c.loop-place.invariant ready.0 ready.1 c.patterns_end-patterns_end.ensures in
     let first : c.len-first.result ≡ length c.args.growth.now.transitions.items =
     c.len-first.ensures ∙ c.args.growth.now.transitions.ok.0 in
     record {
@@ -149,7 +152,7 @@ sort_from-requires g c =
 pub overflow_cast-result-2 : goal.overflow_cast-result-2
 overflow_cast-result-2 g c =
     let ready = c.requires.ready in
-    let grown = (c.loop-place.invariant ready.0 ready.1 c.own_end-own_end.ensures).grown in
+    let grown = (c.loop-place.invariant ready.0 ready.1 c.patterns_end-patterns_end.ensures).grown in
     let few = grown.few in
     let counted = grown.counted in
     let len = c.len.ensures in
@@ -159,13 +162,13 @@ overflow_cast-result-2 g c =
 -- all children have come, and their transitions have been sorted
 pub returns : goal.returns
 returns g c = λ patterns ready.
-    let ends = c.own_end-own_end.ensures in
-    let state = site g (goal.at.returns g c).After-own_end-own_end patterns ready ends in
+    let ends = c.patterns_end-patterns_end.ensures in
+    let state = site g (goal.at.returns g c).After-patterns_end-patterns_end patterns ready ends in
     let unsorted = c.loop-place.growth.transitions.items in
     let transitions = c.sort_from.new.transitions in
     let queue = c.loop-place.growth.queue.items in
     let h = c.loop-place.invariant patterns ready ends in
-    let at : c.loop-place.place ≡ c.args.pending.to =
+    let at : c.loop-place.place ≡ c.args.queued.to =
     (let l = h.high in omega (arith, c.loop-place-test.false)) in
     let all = subst (λ (n : ℕ). IsBranching state n unsorted queue) at h in
     let first : c.len-first.result ≡ length c.args.growth.now.transitions.items =
@@ -177,7 +180,7 @@ returns g c = λ patterns ready.
     rw (first, c.deref_mut.ensures.value) at c.sort_from.ensures in
     rw (first, last, written-whole transitions unsorted c.loop-place.growth.transitions.len kept)
     (has-branched state all sorted
-    (c.link_of.ensures (grown_meaning c.args.kind c.args.fold patterns c.args.members.now transitions queue)
+    (c.output_link.ensures (grown_meaning c.args.kind c.args.fold patterns c.args.sorted.now transitions queue)
     (string state)
     (still-meant state all sorted)
     (link-due state all sorted)))

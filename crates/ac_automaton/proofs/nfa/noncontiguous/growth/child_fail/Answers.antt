@@ -6,19 +6,19 @@ use Rattle.ac_util.specs.Node.{Node, step}
 use Rattle.ac_automaton.specs.Growths.{grown_meaning, nodes_of, word}
 use Rattle.ac_automaton.specs.Tries.{miss}
 use Rattle.ac_automaton.proofs.Places.{None-tested, Some-tested}
-use Rattle.ac_automaton.proofs.ChildFails.{fail-own, fail-start, fail-step, fail-state}
+use Rattle.ac_automaton.proofs.ChildFails.{fail-pattern, fail-start, fail-step, fail-state}
 use Rattle.ac_automaton.proofs.nfa.noncontiguous.growth.child_fail.Goals as goal
 use Rattle.ac_automaton.proofs.nfa.noncontiguous.growth.child_fail.Goals.{else-is_leftmost-via-then-is_leftmost+else-is_none, else-is_leftmost-via-else-is_leftmost}
 
 pub returns-then-is_none : goal.returns-then-is_none
 returns-then-is_none g c = λ fold patterns queue h.
-    ap (slice_get (nodes_of c.args.members.now queue)) c.must.ensures.value
-    ∙ (fail-own h
+    ap (slice_get (nodes_of c.args.sorted.now queue)) c.must.ensures.value
+    ∙ (fail-pattern h
     (sym c.is_leftmost.ensures ∙ c.if-is_leftmost.true)
     (sym c.byte.ensures.value ∙ None-tested c.byte.result c.is_none.result c.is_none.ensures c.if-is_none.true))
 
-pub returns-then-pending-eq0 : goal.returns-then-pending-eq0
-returns-then-pending-eq0 g c = λ fold patterns queue h.
+pub returns-then-queued-eq0 : goal.returns-then-queued-eq0
+returns-then-queued-eq0 g c = λ fold patterns queue h.
     fail-start h
     (λ leftmost. elim c.else-is_leftmost.branch [
       | else-is_leftmost-via-then-is_leftmost+else-is_none w ↦
@@ -27,17 +27,17 @@ returns-then-pending-eq0 g c = λ fold patterns queue h.
       | else-is_leftmost-via-else-is_leftmost w ↦
           absurd (false≢true (sym w.if-is_leftmost.false ∙ c.is_leftmost.ensures ∙ leftmost))
     ])
-    c.if-pending-eq0.true
+    c.if-queued-eq0.true
 
 pub returns : goal.returns
 returns g c = λ fold patterns queue h.
-    let deep : c.args.pending.now.depth ≢ 0 = c.if-pending-eq0.false in
+    let deep : c.args.queued.now.depth ≢ 0 = c.if-queued-eq0.false in
     c.follow.ensures.steps
-    (grown_meaning c.args.kind fold patterns c.args.members.now c.args.transitions.now queue) _ refl
+    (grown_meaning c.args.kind fold patterns c.args.sorted.now c.args.transitions.now queue) _ refl
     (fail-state h deep)
     ∙ ap (λ (v : Node). Some v)
     (ap (step c.args.kind patterns No
-    (miss c.args.kind patterns (Some (word c.args.members.now c.args.pending.now)))) h.settled
+    (miss c.args.kind patterns (Some (word c.args.sorted.now c.args.queued.now)))) h.settled
     ∙ fail-step h
     (λ leftmost. elim c.else-is_leftmost.branch [
       | else-is_leftmost-via-then-is_leftmost+else-is_none w ↦

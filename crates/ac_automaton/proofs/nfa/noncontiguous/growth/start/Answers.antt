@@ -8,7 +8,7 @@ use Rattle.ac_automaton.proofs.nfa.noncontiguous.growth.start.Goals.{then-is_lef
 -- an empty pattern under a leftmost kind lets no match start later; else the start fails to itself
 pub returns-clause-waits : goal.returns-clause-waits
 returns-clause-waits g c = λ patterns order.
-    let m = c.args.members.now in
+    let m = c.args.sorted.now in
     rw (c.len-2.ensures.value, c.must.ensures.value)
     (elim c.if-is_leftmost.branch [
       | then-is_leftmost+then-len-gt0+then-is_none w ↦

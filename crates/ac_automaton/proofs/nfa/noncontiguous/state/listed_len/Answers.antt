@@ -17,18 +17,18 @@ known c =
     let o = c.loop-at.invariant.counted r.0 r.1 r.2 in
     represented r.0 c.args.states.now c.loop-at.at o.node c.index-states-at.result o.state c.index-states-at.is
 
-pub own_len-count-requires : goal.own_len-count-requires
-own_len-count-requires c = record { owned = (known c).owned }
+pub patterns_len-count-requires : goal.patterns_len-count-requires
+patterns_len-count-requires c = record { ordered = (known c).patterns_ordered }
 
 pub overflow_add-count : goal.overflow_add-count
 overflow_add-count c = omega arith
 
-pub returns-then-at-eq0 : goal.returns-then-at-eq0
-returns-then-at-eq0 c = λ g u h.
-    rw c.own_len-count.ensures.value
+pub returns-then-at-eq-DEAD : goal.returns-then-at-eq-DEAD
+returns-then-at-eq-DEAD c = λ g u h.
+    rw c.patterns_len-count.ensures.value
     (counting-end g c.args.states.now u c.loop-at.at c.index-states-at.result c.index-states-at.is
     c.loop-at.count
-    (c.loop-at.invariant.counted g u h) (sym c.as_usize-at-in-loop-at.ensures.value ∙ c.if-at-eq0.true))
+    (c.loop-at.invariant.counted g u h) (sym c.as_usize-at-in-loop-at.ensures.value ∙ c.if-at-eq-DEAD.true))
 
 pub loop-at-smaller : goal.loop-at-smaller
 loop-at-smaller c =
@@ -37,7 +37,7 @@ loop-at-smaller c =
 pub loop-at-preserved : goal.loop-at-preserved
 loop-at-preserved c = record {
   counted = λ g u h.
-      rw (c.as_usize-at-in-loop-at.ensures.value, c.own_len-count.ensures.value)
+      rw (c.as_usize-at-in-loop-at.ensures.value, c.patterns_len-count.ensures.value)
       (counting-on g c.args.states.now u c.loop-at.at c.index-states-at.result c.index-states-at.is
       c.loop-at.count
       (c.loop-at.invariant.counted g u h));

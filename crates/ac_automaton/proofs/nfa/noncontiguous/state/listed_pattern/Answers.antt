@@ -2,7 +2,7 @@ use Rattle.std.proofs.Common.{◌≡◌, ◌+◌, arith, sym, subst, ap, List, �
 use Rattle.ac_util.specs.Node.{Node}
 use Rattle.ac_automaton.specs.Tries.{Represents}
 use Rattle.ac_automaton.proofs.Follows.{represented}
-use Rattle.ac_automaton.proofs.ListsOf.{seeking-own, seeking-on, seeking-back}
+use Rattle.ac_automaton.proofs.ListsOf.{seeking-here, seeking-on, seeking-back}
 use Rattle.ac_automaton.proofs.nfa.noncontiguous.state.listed_pattern.Goals as goal
 use Rattle.ac_automaton.proofs.nfa.noncontiguous.state.listed_pattern.Goals.{After-index-states-as_usize}
 
@@ -24,8 +24,8 @@ known c =
     represented r.0 c.args.states.now c.loop-left.at o.node c.index-states-as_usize.result o.state
     (rw c.as_usize.ensures.value at c.index-states-as_usize.is)
 
-pub own_len-len-requires : goal.own_len-len-requires
-own_len-len-requires c = record { owned = (known c).owned }
+pub patterns_len-len-requires : goal.patterns_len-len-requires
+patterns_len-len-requires c = record { ordered = (known c).patterns_ordered }
 
 pub bounds-order-state : goal.bounds-order-state
 bounds-order-state c =
@@ -38,10 +38,10 @@ returns-then-left-len c = λ g u same h.
     let t = c.index-states-as_usize.result in
     let is = rw c.as_usize.ensures.value at c.index-states-as_usize.is in
     let x = c.index-order-state.result in
-    seeking-own g c.args.states.now u c.loop-left.at t is c.args.index c.loop-left.left
+    seeking-here g c.args.states.now u c.loop-left.at t is c.args.index c.loop-left.left
     (c.loop-left.invariant g u same h)
     x (omega arith)
-    (subst (λ (os : List ℕ). x ≡ get_or os (t.own + c.loop-left.left) x) (sym same) c.index-order-state.is)
+    (subst (λ (os : List ℕ). x ≡ get_or os (t.patterns + c.loop-left.left) x) (sym same) c.index-order-state.is)
 
 pub loop-left-smaller : goal.loop-left-smaller
 loop-left-smaller c =
@@ -54,7 +54,7 @@ loop-left-smaller c =
 pub loop-left-preserved : goal.loop-left-preserved
 loop-left-preserved c = λ g u same h.
     let is = rw c.as_usize.ensures.value at c.index-states-as_usize.is in
-    rw c.own_len-len.ensures.value
+    rw c.patterns_len-len.ensures.value
     (seeking-on g c.args.states.now u c.loop-left.at c.index-states-as_usize.result is c.args.index
     c.loop-left.left
     (c.loop-left.invariant g u same h) (omega arith))

@@ -12,7 +12,7 @@ use Rattle.std.proofs.lemmas.List.Sorted.{searched}
 use Rattle.std.proofs.lemmas.Map.Lookups.{exact_unsigned}
 use Rattle.std.proofs.lemmas.Option.{slice_get-get_or}
 use Rattle.ac_automaton.specs.declared.nfa.noncontiguous.state.Transition.{Transition}
-use Rattle.ac_automaton.specs.Tries.{bytes_of, transitions_of}
+use Rattle.ac_automaton.specs.Tries.{transition_bytes, transitions_of}
 use Rattle.ac_automaton.proofs.nfa.noncontiguous.state.target.Goals as goal
 
 -- bytes that rise strictly don't fall
@@ -37,7 +37,8 @@ absent xs x place ascending h found =
     ]
 
 -- the byte of the transition at a place
-byte-at : (xs : List Transition) (k : ℕ) (t : Transition) → get_or (bytes_of xs) k t.byte ≡ (get_or xs k t).byte
+byte-at : (xs : List Transition) (k : ℕ) (t : Transition) → get_or (transition_bytes xs) k t.byte
+    ≡ (get_or xs k t).byte
 byte-at [] k t = refl
 byte-at (x ∷ xs) zero t = refl
 byte-at (x ∷ xs) (suc k) t = byte-at xs k t
@@ -45,7 +46,7 @@ byte-at (x ∷ xs) (suc k) t = byte-at xs k t
 -- a search of the transitions by their bytes is one of the bytes
 bytes-searched : (xs : List Transition) (x place : ℕ)
     → IsBinarySearchResult (λ y. nat_cmp y.byte x) xs (Err place)
-    → IsBinarySearchResult (λ y. nat_cmp y x) (bytes_of xs) (Err place)
+    → IsBinarySearchResult (λ y. nat_cmp y x) (transition_bytes xs) (Err place)
 bytes-searched xs x place h = λ up.
     let some : ℕ → Transition = λ byte. record { byte = byte; target = 0 } in
     let parted = h (λ i j t le within.
@@ -85,7 +86,7 @@ returns-in-Ok c =
 pub returns-in-Err : goal.returns-in-Err
 returns-in-Err c =
     let own = transitions_of c.args.transitions.now c.args.state.now in
-    absent (bytes_of own) c.args.byte c.in-Err.field-0 c.requires.ascending
+    absent (transition_bytes own) c.args.byte c.in-Err.field-0 c.requires.ascending
     (bytes-searched own c.args.byte c.in-Err.field-0
     (c.in-Err.ensures.position (λ (y : Transition). y.byte)
     (always_returns_same _ _ _ (λ a r f called. search rules))))

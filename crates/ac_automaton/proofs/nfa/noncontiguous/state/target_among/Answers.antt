@@ -4,7 +4,7 @@ use Rattle.std.proofs.lemmas.Bool.{cases_lt}
 use Rattle.std.proofs.lemmas.Option.{slice_get_read, slice_get_within}
 use Rattle.ac_util.proofs.Lists.{IsIn-from_Contains, IsIn-from_map}
 use Rattle.ac_automaton.specs.declared.nfa.noncontiguous.state.Transition.{Transition}
-use Rattle.ac_automaton.specs.Tries.{bytes_of}
+use Rattle.ac_automaton.specs.Tries.{transition_bytes}
 use Rattle.ac_automaton.proofs.Places.{get-same, place-of}
 use Rattle.ac_automaton.proofs.nfa.noncontiguous.state.target_among.Goals as goal
 
@@ -36,7 +36,7 @@ pub returns : goal.returns
 returns c = λ has.
     let t =
     IsIn-from_map (λ (x : Transition). x.byte) c.args.byte c.args.own.now
-    (IsIn-from_Contains c.args.byte (bytes_of c.args.own.now) has) in
+    (IsIn-from_Contains c.args.byte (transition_bytes c.args.own.now) has) in
     let k = place-of t.0 c.args.own.now t.1 in
     let within = slice_get_within c.args.own.now k.0 t.0 k.1 in
     c.loop-next.invariant k.0 t.0 (omega (arith, c.loop-next-test.false)) k.1 t.2

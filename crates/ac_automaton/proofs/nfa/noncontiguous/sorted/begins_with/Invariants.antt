@@ -1,0 +1,12 @@
+-- What is left of both strings begins alike if they do.
+use Rattle.std.proofs.Common.{◌≡◌, ◌≤◌, nat_eq, length, drop}
+use Rattle.std.specs.List.{starts_with}
+use Rattle.ac_util.specs.Sameness.{plain}
+use Rattle.ac_automaton.proofs.nfa.noncontiguous.sorted.begins_with.Given as goal
+
+abbrev pub invariant-loop-at : goal.invariant-loop-at
+invariant-loop-at l = record {
+  long : length l.prefix ≤ length l.bytes;
+  rest : starts_with nat_eq (plain l.fold l.bytes) (plain l.fold l.prefix)
+      ≡ starts_with nat_eq (drop l.at (plain l.fold l.bytes)) (drop l.at (plain l.fold l.prefix));
+}

@@ -1,0 +1,33 @@
+-- Each pattern is kept or passed over, as the stack tells.
+use Rattle.std.proofs.Common.{◌<◌, ◌≤◌, length, refl, arith}
+use Rattle.ac_automaton.proofs.Keeping.{Keeps-skip, Keeps-keep, Keeps-end}
+use Rattle.ac_automaton.proofs.nfa.noncontiguous.sorted.keep_participants.Goals as goal
+use Rattle.ac_automaton.proofs.nfa.noncontiguous.sorted.keep_participants.Goals.{then-not-is_shadowed+in_ok-push, else-not-is_shadowed}
+
+pub loop-at-preserved : goal.loop-at-preserved
+loop-at-preserved g c =
+    let all = c.args.sorted.now.items in
+    let now = c.loop-at.sorted.items in
+    let old = c.loop-at.prefixes.items in
+    let new = c.is_shadowed.new.prefixes.items in
+    let pattern = c.index.result.now in
+    let keeps = c.loop-at.invariant in
+    let within : c.loop-at.at < length now = omega (arith, keeps.long, c.len-at-end.ensures) in
+    elim c.if-not-is_shadowed.branch [
+      | then-not-is_shadowed+in_ok-push w ↦
+          rw (w.sorted-is, w.prefixes-is, w.kept-is, w.in_ok-push.ensures.items)
+          (Keeps-keep c.args.fold all now c.loop-at.kept c.loop-at.at old new pattern keeps within
+          c.index.ensures
+          c.is_shadowed.ensures.left c.is_shadowed.ensures.gone (w.if-not-is_shadowed.ensures.free refl))
+      | else-not-is_shadowed w ↦ rw (w.sorted-is, w.prefixes-is, w.kept-is)
+          (Keeps-skip c.args.fold all now c.loop-at.kept c.loop-at.at old new pattern keeps within
+          c.index.ensures
+          c.is_shadowed.ensures.left c.is_shadowed.ensures.gone (w.if-not-is_shadowed.ensures.shadowed refl))
+    ]
+
+pub returns-clause-kept : goal.returns-clause-kept
+returns-clause-kept g c =
+    let done : length c.args.sorted.now.items ≤ c.loop-at.at = omega (arith, c.len-at-end.ensures) in
+    Keeps-end c.args.fold c.args.sorted.now.items c.loop-at.sorted.items c.truncate.new.self.items
+    c.loop-at.kept c.loop-at.at
+    c.loop-at.prefixes.items c.loop-at.invariant done c.truncate.ensures.items

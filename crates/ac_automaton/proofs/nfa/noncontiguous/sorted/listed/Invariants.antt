@@ -1,0 +1,14 @@
+-- The patterns below the number are listed.
+use Rattle.std.proofs.Common.{◌≡◌, ◌≤◌, length, map, take}
+use Rattle.std.specs.Prelude.{All}
+use Rattle.std.specs.List.{range_with_len}
+use Rattle.ac_util.specs.declared.primitives.TheConstants.{GREATEST}
+use Rattle.ac_automaton.proofs.nfa.noncontiguous.sorted.listed.Given as goal
+
+abbrev pub invariant-loop-number : goal.invariant-loop-number
+invariant-loop-number g l = record {
+  bytes : map (λ m. m.bytes.now) l.listed.items ≡ take l.number l.patterns;
+  numbers : map (λ m. m.number) l.listed.items ≡ range_with_len 0 l.number;
+  short : All (λ m. length m.bytes.now ≤ GREATEST) l.listed.items;
+  numbered : All (λ m. m.number ≤ GREATEST) l.listed.items;
+}

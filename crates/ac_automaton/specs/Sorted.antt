@@ -1,0 +1,59 @@
+-- The patterns that take part in ascending order of their bytes, so that those with one prefix stand side by
+-- side.
+use Rattle.std.specs.Prelude.{◌≡◌, ◌↔◌, ◌⊎◌, ℕ, ◌<◌, Bool, nat_eq, List, [], Option, map, length, slice_get, slice_index_or, All, AllPairs, Contains}
+use Rattle.std.specs.Cmp.Lexicographic.{slice_cmp}
+use Rattle.std.specs.List.{range_with_len, starts_with}
+use Rattle.std.specs.Ordering.{nat_cmp, ordering_then}
+use Rattle.std.specs.declared.cmp.Ordering.{Ordering}
+use Rattle.std.specs.declared.cmp.Ordering.TheVariants.{Less}
+use Rattle.ac_util.specs.declared.search.MatchKind.{MatchKind}
+use Rattle.ac_util.specs.Node.{participants}
+use Rattle.ac_util.specs.Sameness.{plain}
+use Rattle.ac_util.specs.Search.{pattern_of}
+use Rattle.ac_automaton.specs.declared.nfa.noncontiguous.sorted.SortedPattern.{SortedPattern}
+
+-- a pattern that takes part: its plain bytes, and its number
+pub record Keyed : Type 0 where
+  pub key : List ℕ
+  pub number : ℕ
+
+-- the numbers of sorted patterns
+abbrev pub numbers : List Keyed → List ℕ
+numbers sorted = map (λ m. m.number) sorted
+
+-- the patterns of a list with their plain bytes
+abbrev pub keyed : Bool → List SortedPattern → List Keyed
+keyed fold sorted = map (λ m. record { key = plain fold m.bytes.now; number = m.number }) sorted
+
+-- the plain bytes of the pattern at a place
+abbrev pub key_at : List Keyed → ℕ → List ℕ
+key_at sorted place = (slice_index_or sorted place (record { key = []; number = 0 })).key
+
+-- the plain byte at a depth of the pattern at a place
+abbrev pub byte_at : List Keyed → ℕ → ℕ → Option ℕ
+byte_at sorted depth place = slice_get (key_at sorted place) depth
+
+-- how two patterns compare: by their plain bytes, and then by number
+abbrev pub compared : Bool → SortedPattern → SortedPattern → Ordering
+compared fold a b =
+    ordering_then (slice_cmp nat_cmp (plain fold a.bytes.now) (plain fold b.bytes.now))
+    (nat_cmp a.number b.number)
+
+-- whether b's plain bytes are a prefix of a's
+abbrev pub is_prefix : Bool → SortedPattern → SortedPattern → Bool
+is_prefix fold a b = starts_with nat_eq (plain fold a.bytes.now) (plain fold b.bytes.now)
+
+-- all patterns are listed by number
+pub record AreListed (patterns : List (List ℕ)) (listed : List SortedPattern) : Type 0 where
+  pub bytes : map (λ m. m.bytes.now) listed ≡ patterns
+  pub numbers : map (λ m. m.number) listed ≡ range_with_len 0 (length patterns)
+
+-- a comes before b: by its bytes, or by number where these are the same
+abbrev pub Precedes : Keyed → Keyed → Type 0
+Precedes a b = (slice_cmp nat_cmp a.key b.key ≡ Less) ⊎ ((a.key ≡ b.key) × (a.number < b.number))
+
+-- these are the patterns that take part, each once, in this order
+pub record IsOrder (kind : MatchKind) (patterns : List (List ℕ)) (sorted : List Keyed) : Type 0 where
+  pub ascending : AllPairs Precedes sorted
+  pub named : All (λ m. m.key ≡ pattern_of patterns m.number) sorted
+  pub lists : (n : ℕ) → Contains (numbers sorted) n ↔ Contains (participants kind patterns) n

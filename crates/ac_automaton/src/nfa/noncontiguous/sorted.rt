@@ -1,0 +1,262 @@
+//! The patterns that take part, sorted by their bytes.
+ghost use Rattle.std.specs.Prelude.{◌≡◌, ◌≢◌, ℕ, ◌+◌, ◌-◌, ◌<◌, ◌≤◌, List, true, false, nat_eq, All, IfOk, IsTrue, OnOk, length, map, slice_get, take};
+ghost use Rattle.std.specs.List.{AllWithin, HoldsAt, starts_with};
+ghost use Rattle.ac_util.specs.declared.primitives.TheConstants.{GREATEST};
+ghost use Rattle.ac_util.specs.declared.search.MatchKind.TheVariants.{LeftmostFirst, Standard};
+ghost use Rattle.ac_util.specs.Sameness.{plain};
+ghost use Rattle.ac_automaton.specs.Sorted.{AreListed, IsOrder, byte_at, compared, is_prefix, key_at, keyed, numbers};
+
+use ac_util::patterns::{Patterns, plain_byte};
+use ac_util::primitives::PatternID;
+use ac_util::search::MatchKind;
+use std::alloc::{AllocError, Allocator};
+use std::cmp::Ordering;
+use std::marker::Model;
+
+/// A pattern that takes part.
+#[derive(Clone, Copy)]
+struct SortedPattern<'p> {
+    bytes: &'p [u8],
+    // no `PatternID`, since the borrow checker has no rule for one in a struct that also has a reference
+    number: u32,
+}
+
+/// The patterns that take part in ascending order of their plain bytes, the same ones by number.
+///
+/// Those that begin with one string stand side by side. So a state of a trie is a range of them: of those that
+/// have the state's string as a prefix.
+#[derive(Drop)]
+pub(crate) struct SortedPatterns<'p, A: Allocator> {
+    patterns: Vec<SortedPattern<'p>, A>,
+    fold: bool,
+}
+
+impl<'p, A: Allocator> Model for SortedPatterns<'p, A> {
+    ghost use Rattle.std.specs.Prelude.{List, ◌≤◌, ◌+◌, All, length};
+    ghost use Rattle.ac_util.specs.declared.primitives.TheConstants.{GREATEST};
+    ghost use Rattle.ac_automaton.specs.Sorted.{Keyed, keyed};
+
+    ghost Value = { List Keyed };
+
+    ghost view = { λ m. keyed m.fold m.patterns.items };
+
+    ghost invariant = { λ m. record {
+      few : length m.patterns.items ≤ GREATEST + 1;
+      short : All (λ p. length p.bytes.now ≤ GREATEST) m.patterns.items;
+      numbered : All (λ p. p.number ≤ GREATEST) m.patterns.items;
+    } };
+}
+
+impl<'p, A: Allocator> SortedPatterns<'p, A> {
+    /// Returns all patterns, sorted.
+    ///
+    /// # Errors
+    /// `AllocError` where a request for memory is refused.
+    pub(crate) fn sorted(
+        alloc: A,
+        patterns: &'p Patterns<A>,
+        fold: bool,
+    ) -> Result<SortedPatterns<'p, A>, AllocError>
+        ensures { IfOk result (λ sorted. IsOrder Standard (map (plain fold) patterns.now) sorted) }
+    {
+        let mut patterns = listed(alloc, patterns)?;
+        patterns.sort_unstable_by(|a, b| compare(a, b, fold));
+        Ok(SortedPatterns { patterns, fold })
+    }
+
+    /// Keeps those of all patterns that take part under `LeftmostFirst`.
+    ///
+    /// # Errors
+    /// `AllocError` where a request for memory is refused.
+    pub(crate) fn participating(mut self, alloc: A) -> Result<SortedPatterns<'p, A>, AllocError>
+        ensures { IfOk result (λ sorted. (patterns : List (List ℕ))
+            → IsOrder Standard patterns self.entry → IsOrder LeftmostFirst patterns sorted) }
+    {
+        let fold = self.fold;
+        keep_participants(&mut self.patterns, fold, alloc)?;
+        Ok(self)
+    }
+
+    /// Returns how many there are.
+    #[inline]
+    pub(crate) fn len(&self) -> usize
+        ensures value { result ≡ length self.now }
+        ensures few { result ≤ GREATEST + 1 }
+    {
+        self.patterns.len()
+    }
+
+    /// Returns the number of the one at a place.
+    #[inline]
+    pub(crate) fn number(&self, place: usize) -> PatternID
+        requires within { place < length self.now }
+        ensures { slice_get (numbers self.now) place ≡ Some result }
+    {
+        PatternID::must(self.patterns[place].number as usize)
+    }
+
+    /// Returns the plain byte at a depth of the one at a place, or `None` past its end.
+    #[inline]
+    pub(crate) fn byte(&self, place: usize, depth: usize) -> Option<u8>
+        requires within { place < length self.now }
+        ensures value { result ≡ byte_at self.now depth place }
+        ensures short { length (key_at self.now place) ≤ GREATEST }
+    {
+        let byte = self.patterns[place].bytes.get(depth)?;
+        Some(plain_byte(self.fold, *byte))
+    }
+
+    /// Returns where those end that have the same byte at a depth as the one at the start, or none there as it.
+    pub(crate) fn run_end(&self, start: usize, end: usize, depth: usize) -> usize
+        requires some { start < end }
+        requires within { end ≤ length self.now }
+        ensures later { start < result }
+        ensures within { result ≤ end }
+        ensures same { (k : ℕ) → start ≤ k → k < result
+            → byte_at self.now depth k ≡ byte_at self.now depth start }
+        ensures other { result < end → byte_at self.now depth result ≢ byte_at self.now depth start }
+    {
+        let first = self.byte(start, depth);
+        let mut at = start + 1;
+        while at < end && self.byte(at, depth) == first {
+            at += 1;
+        }
+        at
+    }
+}
+
+impl<'p, A: Allocator + Clone> SortedPatterns<'p, A> {
+    /// Returns the patterns that take part under a kind of match, sorted.
+    ///
+    /// # Errors
+    /// `AllocError` where a request for memory is refused.
+    pub(crate) fn of(
+        alloc: A,
+        patterns: &'p Patterns<A>,
+        kind: MatchKind,
+        fold: bool,
+    ) -> Result<SortedPatterns<'p, A>, AllocError>
+        ensures { IfOk result (λ sorted. IsOrder kind (map (plain fold) patterns.now) sorted) }
+    {
+        match kind {
+            MatchKind::LeftmostFirst => {
+                let all = SortedPatterns::sorted(alloc.clone()?, patterns, fold)?;
+                all.participating(alloc)
+            }
+            MatchKind::Standard | MatchKind::LeftmostLongest => {
+                SortedPatterns::sorted(alloc, patterns, fold)
+            }
+        }
+    }
+}
+
+/// Returns all patterns by number.
+///
+/// # Errors
+/// `AllocError` where a request for memory is refused.
+fn listed<'p, A: Allocator>(
+    alloc: A,
+    patterns: &'p Patterns<A>,
+) -> Result<Vec<SortedPattern<'p>, A>, AllocError>
+    ensures listed { IfOk result (λ listed. AreListed patterns.now listed.items) }
+    ensures few { IfOk result (λ listed. length listed.items ≤ GREATEST + 1) }
+    ensures short { IfOk result (λ listed. All (λ p. length p.bytes.now ≤ GREATEST) listed.items) }
+    ensures numbered { IfOk result (λ listed. All (λ p. p.number ≤ GREATEST) listed.items) }
+{
+    let mut listed = Vec::new(alloc);
+    for number in 0..patterns.len() {
+        listed.push(SortedPattern {
+            bytes: patterns.get(number),
+            number: number as u32,
+        })?;
+    }
+    Ok(listed)
+}
+
+/// Compares two patterns by their plain bytes, and then by number.
+fn compare(a: &SortedPattern<'_>, b: &SortedPattern<'_>, fold: bool) -> Ordering
+    ensures { result ≡ compared fold a.now b.now }
+{
+    let plain = |x: &u8| plain_byte(fold, *x);
+    a.bytes
+        .iter()
+        .map(plain)
+        .cmp(b.bytes.iter().map(plain))
+        .then(a.number.cmp(&b.number))
+}
+
+/// Keeps those of all patterns that take part under `LeftmostFirst`: those without an earlier pattern as a
+/// prefix.
+///
+/// Patterns that begin with a string stand right behind it. So a stack holds the kept prefixes of the pattern
+/// at
+/// hand, each with a lesser number than the one below it, and only the last is compared.
+///
+/// # Errors
+/// `AllocError` where a request for memory is refused, and some patterns may then have been moved.
+fn keep_participants<'p, A: Allocator>(
+    sorted: &mut Vec<SortedPattern<'p>, A>,
+    fold: bool,
+    alloc: A,
+) -> Result<(), AllocError>
+    ensures kept { OnOk result ((patterns : List (List ℕ))
+        → IsOrder Standard patterns (keyed fold sorted.old.items)
+        → IsOrder LeftmostFirst patterns (keyed fold sorted.new.items)) }
+    ensures few { length sorted.new.items ≤ length sorted.old.items }
+    ensures short { All (λ p. length p.bytes.now ≤ GREATEST) sorted.old.items
+        → All (λ p. length p.bytes.now ≤ GREATEST) sorted.new.items }
+    ensures numbered { All (λ p. p.number ≤ GREATEST) sorted.old.items
+        → All (λ p. p.number ≤ GREATEST) sorted.new.items }
+{
+    let mut prefixes = Vec::new(alloc);
+    let mut kept = 0;
+    for at in 0..sorted.len() {
+        let pattern = sorted[at];
+        if !is_shadowed(&mut prefixes, &pattern, fold) {
+            prefixes.push(pattern)?;
+            sorted[kept] = pattern;
+            kept += 1;
+        }
+    }
+    sorted.truncate(kept);
+    Ok(())
+}
+
+/// Drops the patterns from the end of the stack that are no prefixes of this one, and returns whether the one
+/// that is then the last has a lesser number.
+fn is_shadowed<'p, A: Allocator>(
+    prefixes: &mut Vec<SortedPattern<'p>, A>,
+    pattern: &SortedPattern<'p>,
+    fold: bool,
+) -> bool
+    ensures left { prefixes.new.items ≡ take (length prefixes.new.items) prefixes.old.items }
+    ensures gone { AllWithin (λ p. is_prefix fold pattern.now p ≡ false)
+        prefixes.old.items (length prefixes.new.items) (length prefixes.old.items) }
+    ensures shadowed { IsTrue result → (0 < length prefixes.new.items)
+        × HoldsAt (λ p. (is_prefix fold pattern.now p ≡ true) × (p.number < pattern.now.number))
+        prefixes.new.items (length prefixes.new.items - 1) }
+    ensures free { result ≡ false → 0 < length prefixes.new.items
+        → HoldsAt (λ p. pattern.now.number ≤ p.number) prefixes.new.items (length prefixes.new.items - 1) }
+{
+    let mut left = prefixes.len();
+    while left > 0 && !begins_with(pattern.bytes, prefixes[left - 1].bytes, fold) {
+        left -= 1;
+    }
+    prefixes.truncate(left);
+    left > 0 && prefixes[left - 1].number < pattern.number
+}
+
+/// Returns whether the plain bytes of a pattern begin with those of another.
+fn begins_with(bytes: &[u8], prefix: &[u8], fold: bool) -> bool
+    ensures { result ≡ starts_with nat_eq (plain fold bytes.now) (plain fold prefix.now) }
+{
+    if bytes.len() < prefix.len() {
+        return false;
+    }
+    for at in 0..prefix.len() {
+        if plain_byte(fold, prefix[at]) != plain_byte(fold, bytes[at]) {
+            return false;
+        }
+    }
+    true
+}
