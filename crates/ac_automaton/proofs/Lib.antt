@@ -22,4 +22,5 @@ pub mod StateCount
 pub mod Steps
 pub mod Tables
 pub mod WalkLoop
+pub mod WalkRuns
 pub mod WholeTries

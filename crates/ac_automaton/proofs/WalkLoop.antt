@@ -293,10 +293,8 @@ module _ (walking : Walking) (way : IsUnderWay walking) where
           let h = repeated-some walking.order walking.left first walking.last refl way.behind e in
           again h.0 h.1 h.2 (sym is) found
 
--- a walk has gone on: its first match has been given, or it had none; and it is under way still
+-- a walk has gone on and is under way still
 pub record HasGone (walking : Walking) (r : Option Occurrence) (new_walking : Walking) : Type 0 where
-  pub steps : MatchOption r ((walking.rest ≡ []) × (new_walking.rest ≡ []))
-      (λ m. walking.rest ≡ m ∷ new_walking.rest)
   pub goes_on : GoesOn walking r new_walking
   pub way : IsUnderWay new_walking
 
@@ -327,9 +325,15 @@ module _ (most : ℕ) (f : Finding) (i : Asked) (last : Option ℕ) (start place
   has-gone j l answer moved ends way finds =
       subst (λ (x : Asked). HasGone before r (then_from x l)) (sym moved)
       (subst (λ (x : Option ℕ). HasGone before r (then_from (record i { start = after i.end r }) x)) (sym ends)
-      (record {
-        steps = steps r answer;
-        goes_on = record { next = answer; same = refl; finds = finds };
-        way = under_way-next before way r new_place new_counts
-            (walk_after f.order (from q (after q.high r)) (last_after last r)) answer finds;
+      (let gone =
+      under_way-next before way r new_place new_counts
+      (walk_after f.order (from q (after q.high r)) (last_after last r)) answer finds in record {
+        goes_on = record {
+          gives = steps r answer;
+          next = answer;
+          same = refl;
+          finds = finds;
+          paid = gone.paid;
+        };
+        way = gone;
       }))

@@ -1,5 +1,6 @@
 -- What is seen of an iterator over matches.
 use Rattle.std.specs.Prelude.{◌≡◌, ℕ, ◌+◌, ◌-◌, ◌*◌, ◌<◌, ◌≤◌, MatchBool, List, Option, None, Some, IfSome, min}
+use Rattle.std.specs.Iterator.{YieldsFirst}
 use Rattle.ac_util.specs.declared.search.MatchKind.{MatchKind}
 use Rattle.ac_util.specs.declared.search.MatchKind.TheVariants.{Standard, LeftmostFirst, LeftmostLongest}
 use Rattle.ac_util.specs.Occurrence.{Occurrence}
@@ -83,18 +84,6 @@ Finds walking new_place new_counts =
     (HasFound walking walking.left (pick walking.order walking.left) walking.place walking.counts
     new_place new_counts)
 
--- the same walk has gone on by a match, or to its end
-pub record GoesOn (walking : Walking) (found : Option Occurrence) (new_walking : Walking) : Type 0 where
-  pub next : found ≡ next_match walking.order walking.left walking.last
-  pub same : new_walking ≡ record walking {
-    rest = new_walking.rest;
-    left = from walking.left (after walking.left.high found);
-    last = last_after walking.last found;
-    place = new_walking.place;
-    counts = new_walking.counts;
-  }
-  pub finds : Finds walking new_walking.place new_walking.counts
-
 -- what a walk has counted since it was made: for each byte read it has looked at states at least once and at
 -- most `most` times on the whole, or where it is anchored exactly once; under Standard it has read each byte of
 -- the span at most once and called the prefilter at most so often; and unless it called the prefilter, or some
@@ -106,6 +95,21 @@ pub record IsPaid (walking : Walking) : Type 0 where
   pub calls : walking.order ≡ Standard → walking.counts.calls ≤ walking.left.high - walking.start
   pub told : walking.counts.calls ≡ 0 → 0 < shortest_len walking.left.patterns
       → IfSome walking.last (λ e. e - walking.start ≤ walking.counts.reads)
+
+-- a walk has given the first of the matches that were left, or had none, and has gone on: it is the same walk,
+-- it made one find or two, and all that it counted is paid
+pub record GoesOn (walking : Walking) (found : Option Occurrence) (new_walking : Walking) : Type 0 where
+  pub gives : YieldsFirst (λ (w : Walking). w.rest) walking found new_walking
+  pub next : found ≡ next_match walking.order walking.left walking.last
+  pub same : new_walking ≡ record walking {
+    rest = new_walking.rest;
+    left = from walking.left (after walking.left.high found);
+    last = last_after walking.last found;
+    place = new_walking.place;
+    counts = new_walking.counts;
+  }
+  pub finds : Finds walking new_walking.place new_walking.counts
+  pub paid : IsPaid new_walking
 
 -- a walk as its iterator keeps it: it has gone as far as the low end of what is left, and under Standard it has
 -- read nothing of that

@@ -1,5 +1,6 @@
 //! What an engine offers, and the searches over any engine.
 ghost use Rattle.std.specs.Prelude.{◌≡◌, ◌≢◌, ◌↔◌, ◌⊎◌, ℕ, ◌<◌, Bool, List, [], length, option_map, slice_get, Some, None, IsTrue, MatchResult};
+ghost use Rattle.std.specs.Iterator.Runs.{YieldsInOrder};
 ghost use Rattle.ac_util.specs.declared.search.Anchored.{Anchored};
 ghost use Rattle.ac_util.specs.Built.{Built, find_refusal, found};
 ghost use Rattle.ac_util.specs.Inputs.{asked};
@@ -9,7 +10,7 @@ ghost use Rattle.ac_util.specs.Prefilters.{skip_for, skip_of};
 ghost use Rattle.ac_util.specs.Refusal.{AnswersUnless, start_refusal};
 ghost use Rattle.ac_util.specs.Search.{pattern_of};
 ghost use Rattle.ac_util.specs.Stream.{longest_len, shortest_len};
-ghost use Rattle.ac_automaton.specs.Iterators.{begun};
+ghost use Rattle.ac_automaton.specs.Iterators.{GoesOn, begun};
 ghost use Rattle.ac_automaton.specs.Automata.{IsState, Lists, looks_of, step_of};
 
 use ac_util::error::MatchError;
@@ -166,8 +167,9 @@ pub trait Automaton {
     ) -> Result<FindIter<'a, 'h, Self>, MatchError>
     where
         Self: Sized,
-        ensures { AnswersUnless (find_refusal (built self.now) (asked input.entry))
+        ensures begun { AnswersUnless (find_refusal (built self.now) (asked input.entry))
             (begun LOOKS (built self.now) (asked input.entry)) result }
+        ensures runs { YieldsInOrder GoesOn (λ w. w.rest) }
     {
         let find = Finder::new(self, input.get_anchored(), input.get_earliest())?;
         Ok(FindIter::new(find, input))

@@ -1,6 +1,6 @@
--- An engine that has all starts answers for a searcher that supports some of them.
-use Rattle.std.proofs.Common.{◌≡◌, Bool, [], ◌∷◌, refl, ap, sym, ◌∙◌, Option, Some, None}
-use Rattle.std.specs.Prelude.{Result, Ok, Err}
+-- An engine answers for a searcher that supports some of its starts.
+use Rattle.std.proofs.Common.{◌≡◌, [], ◌∷◌, refl, ap, sym, ◌∙◌, Bool, Option, Some, None, inl, inr}
+use Rattle.std.specs.Prelude.{◌⊎◌, Result, Ok, Err}
 use Rattle.ac_util.specs.declared.error.MatchError.{MatchError}
 use Rattle.ac_util.specs.declared.search.MatchKind.{MatchKind}
 use Rattle.ac_util.specs.declared.search.MatchKind.TheVariants.{Standard, LeftmostFirst, LeftmostLongest}
@@ -24,15 +24,21 @@ find-refusal built asked = by (start_refusal built.start_kind asked.anchored) bu
     by None LeftmostLongest empty = refl
     by (Some e) kind empty = refl
 
--- the engine's answer is that of the searcher, which supports the start
-pub served : {T : Type 0} (built engine : Built) (asked : Asked) (r : Result T MatchError) (f : Built → T)
-    → built ≡ record engine { start_kind = built.start_kind } → f built ≡ f engine
-    → engine.start_kind ≡ Both → start_refusal built.start_kind asked.anchored ≡ None
-    → AnswersUnless (find_refusal engine asked) (f engine) r
-    → AnswersUnless (find_refusal built asked) (f built) r
-served built engine asked (Ok x) f is same both free h = (find-refusal built asked ∙ free, h.1 ∙ sym same)
-served built engine asked (Err e) f is same both free h =
-    absurd (let none : None
-    ≡ Some e =
-    sym (find-refusal engine asked ∙ ap (λ (s : StartKind). start_refusal s asked.anchored) both) ∙ h in
-    cc)
+module _ (engine : Built) (start_kind : StartKind) (asked : Asked)
+    (supports : (engine.start_kind ≡ Both) ⊎ (engine.start_kind ≡ start_kind))
+    (free : start_refusal start_kind asked.anchored ≡ None) where
+  -- the engine has the start
+  pub unrefused : find_refusal engine asked ≡ None
+  unrefused = find-refusal engine asked ∙ by supports
+    where
+      by : (engine.start_kind ≡ Both) ⊎ (engine.start_kind ≡ start_kind)
+          → start_refusal engine.start_kind asked.anchored ≡ None
+      by (inl both) = ap (λ (s : StartKind). start_refusal s asked.anchored) both
+      by (inr same) = ap (λ (s : StartKind). start_refusal s asked.anchored) same ∙ free
+
+  -- so its answer is the searcher's
+  pub served : {T : Type 0} (r : Result T MatchError) (x : T)
+      → AnswersUnless (find_refusal engine asked) x r
+      → AnswersUnless (find_refusal (record engine { start_kind = start_kind }) asked) x r
+  served (Ok y) x h = (find-refusal (record engine { start_kind = start_kind }) asked ∙ free, h.1)
+  served (Err e) x h = absurd (let none : None ≡ Some e = sym unrefused ∙ h in cc)

@@ -1,25 +1,33 @@
 -- What the engine of a searcher, and the iterator of an engine, is seen as.
-use Rattle.std.specs.Prelude.{◌≡◌}
+use Rattle.std.specs.Prelude.{◌≡◌, ◌⊎◌}
 use Rattle.ac_util.specs.declared.search.StartKind.{StartKind}
 use Rattle.ac_util.specs.declared.search.StartKind.TheVariants.{Both}
+use Rattle.ac_util.specs.Built.{Built}
 use Rattle.ac_automaton.specs.Iterators.{Walking}
-use Rattle.ac_search.specs.declared.ahocorasick.AhoCorasickKind.TheVariants.{NoncontiguousNFA}
-use Rattle.ac_search.specs.declared.ahocorasick.Engine.{Engine}
-use Rattle.ac_search.specs.declared.ahocorasick.Engine.TheVariants.{Noncontiguous}
-use Rattle.ac_search.specs.declared.ahocorasick.Finding.{Finding}
-use Rattle.ac_search.specs.declared.ahocorasick.Finding.TheVariants.{ByNoncontiguous}
+use Rattle.ac_search.specs.declared.ahocorasick.choice.AhoCorasickKind.{AhoCorasickKind}
+use Rattle.ac_search.specs.declared.ahocorasick.choice.AhoCorasickKind.TheVariants.{NoncontiguousNFA}
+use Rattle.ac_search.specs.declared.ahocorasick.engine.Engine.{Engine}
+use Rattle.ac_search.specs.declared.ahocorasick.engine.Engine.TheVariants.{Noncontiguous}
+use Rattle.ac_search.specs.declared.ahocorasick.engine.EngineFindIter.{EngineFindIter}
+use Rattle.ac_search.specs.declared.ahocorasick.engine.EngineFindIter.TheVariants.{Noncontiguous as ByNoncontiguous}
 use Rattle.ac_search.specs.Searchers.{Searcher}
+
+-- what an engine was built from, and its name
+abbrev pub built_of : {Z : Type 0} → Engine Z → Built
+built_of (Noncontiguous nfa) = nfa.value.built
+
+abbrev pub kind_of : {Z : Type 0} → Engine Z → AhoCorasickKind
+kind_of (Noncontiguous nfa) = NoncontiguousNFA
 
 -- an engine with the start kind of its searcher
 abbrev pub searcher_of : {Z : Type 0} → Engine Z → StartKind → Searcher
-searcher_of (Noncontiguous nfa) start_kind = record {
-  built = record nfa.value.built { start_kind = start_kind };
-  kind = NoncontiguousNFA;
-}
+searcher_of engine start_kind =
+    record { built = record (built_of engine) { start_kind = start_kind }; kind = kind_of engine }
 
--- the engine has the starts that its searcher supports
+-- the engine has the starts that its searcher supports: both, or just these
 abbrev pub Supports : {Z : Type 0} → Engine Z → StartKind → Type 0
-Supports (Noncontiguous nfa) start_kind = nfa.value.built.start_kind ≡ Both
+Supports engine start_kind =
+    ((built_of engine).start_kind ≡ Both) ⊎ ((built_of engine).start_kind ≡ start_kind)
 
-abbrev pub walking_of : {Z : Type 0} → Finding Z → Walking
+abbrev pub walking_of : {Z : Type 0} → EngineFindIter Z → Walking
 walking_of (ByNoncontiguous matches) = matches

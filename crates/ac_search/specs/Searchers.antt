@@ -6,9 +6,9 @@ use Rattle.ac_util.specs.declared.search.MatchKind.TheVariants.{Standard}
 use Rattle.ac_util.specs.declared.search.StartKind.{StartKind}
 use Rattle.ac_util.specs.declared.search.StartKind.TheVariants.{Unanchored}
 use Rattle.ac_util.specs.Built.{Built}
-use Rattle.ac_automaton.specs.Builds.{IsAllowed, noncontiguous_rules, Settings as EngineSettings}
-use Rattle.ac_search.specs.declared.ahocorasick.AhoCorasickKind.{AhoCorasickKind}
-use Rattle.ac_search.specs.declared.ahocorasick.AhoCorasickKind.TheVariants.{NoncontiguousNFA}
+use Rattle.ac_automaton.specs.Builds.{EngineRules, IsAllowed, noncontiguous_rules, Settings as EngineSettings}
+use Rattle.ac_search.specs.declared.ahocorasick.choice.AhoCorasickKind.{AhoCorasickKind}
+use Rattle.ac_search.specs.declared.ahocorasick.choice.AhoCorasickKind.TheVariants.{NoncontiguousNFA}
 
 pub record Searcher : Type 0 where
   pub built : Built
@@ -24,23 +24,35 @@ pub record Settings : Type 0 where
 abbrev pub usual_settings : Settings
 usual_settings = record { match_kind = Standard; start_kind = Unanchored; fold = false; kind = None }
 
--- the searcher over these patterns: with no engine named it has the one engine that there is
-abbrev pub searcher_by : Settings → List (List ℕ) → Searcher
-searcher_by settings patterns = record {
-  built = record {
-    patterns = patterns;
-    fold = settings.fold;
-    kind = settings.match_kind;
-    start_kind = settings.start_kind;
-  };
-  kind = unwrap_or settings.kind NoncontiguousNFA;
-}
+-- the engine that was named, or the one that there is
+abbrev pub chosen : Option AhoCorasickKind → AhoCorasickKind
+chosen kind = unwrap_or kind NoncontiguousNFA
 
--- the settings of its engine
+-- how many looks at states an engine may take for each byte that it reads
+abbrev pub looks_of : AhoCorasickKind → ℕ
+looks_of NoncontiguousNFA = 2
+
+-- what the engine brings to a build, and the settings that it is built by
+abbrev pub rules_of : AhoCorasickKind → EngineRules
+rules_of NoncontiguousNFA = noncontiguous_rules
+
+abbrev pub rules_for : Settings → EngineRules
+rules_for settings = rules_of (chosen settings.kind)
+
 abbrev pub engine_settings : Settings → EngineSettings
 engine_settings settings = record { kind = settings.match_kind; fold = settings.fold }
 
--- a build by these settings has succeeded: no limit refused it
+-- what a searcher over these patterns is built from
+abbrev pub built_by : Settings → List (List ℕ) → Built
+built_by settings patterns = record {
+  patterns = patterns;
+  fold = settings.fold;
+  kind = settings.match_kind;
+  start_kind = settings.start_kind;
+}
+
+-- a build by these settings has succeeded: the searcher is over these patterns, and no limit refused it
 pub record IsBuilt (settings : Settings) (patterns : List (List ℕ)) (searcher : Searcher) : Type 0 where
-  pub value : searcher ≡ searcher_by settings patterns
-  pub allowed : IsAllowed noncontiguous_rules (engine_settings settings) patterns
+  pub built : searcher.built ≡ built_by settings patterns
+  pub kind : searcher.kind ≡ chosen settings.kind
+  pub allowed : IsAllowed (rules_for settings) (engine_settings settings) patterns

@@ -1,7 +1,6 @@
 //! The searcher, which chooses its engine.
 ghost use Rattle.std.specs.Prelude.{◌≡◌, ◌↔◌, IsTrue, MatchResult, None, length};
-ghost use Rattle.std.specs.Iterator.{YieldsFirst, item_count};
-ghost use Rattle.ac_util.specs.declared.search.StartKind;
+ghost use Rattle.std.specs.Iterator.Runs.{YieldsInOrder};
 ghost use Rattle.ac_util.specs.Borrowed.{bytes_of};
 ghost use Rattle.ac_util.specs.Built.{find_refusal, found, search_in};
 ghost use Rattle.ac_util.specs.Inputs.{asked};
@@ -9,33 +8,25 @@ ghost use Rattle.ac_util.specs.Occurrence.{Occurrence};
 ghost use Rattle.ac_util.specs.Refusal.{AnswersUnless, start_refusal};
 ghost use Rattle.ac_util.specs.Search.{Occurs};
 ghost use Rattle.ac_util.specs.Stream.{longest_len, shortest_len};
-ghost use Rattle.ac_automaton.specs.Builds.{Refuses, noncontiguous_rules};
-ghost use Rattle.ac_automaton.specs.Iterators.{begun};
-ghost use Rattle.ac_search.specs.Searchers.{IsBuilt, engine_settings, usual_settings};
+ghost use Rattle.ac_automaton.specs.Builds.{Refuses};
+ghost use Rattle.ac_automaton.specs.Iterators.{GoesOn, begun};
+ghost use Rattle.ac_search.specs.Engines.{Supports, searcher_of};
+ghost use Rattle.ac_search.specs.Searchers.{IsBuilt, engine_settings, looks_of, rules_for, usual_settings};
 
-use ac_automaton::automaton;
-use ac_automaton::automaton::Automaton;
-use ac_automaton::nfa::noncontiguous;
-use ac_automaton::nfa::noncontiguous::NFA;
 use ac_util::error::{BuildError, MatchError};
-use ac_util::patterns::check_limits;
 use ac_util::search::{Anchored, Input, Match, MatchKind, StartKind};
+use engine::Engine;
 use std::alloc::{AllocError, Allocator, Global};
 use std::marker::Model;
-use std::rc::Rc;
 
-/// An engine that serves a searcher.
-#[derive(Clone, Copy, PartialEq, Eq, Debug)]
-pub enum AhoCorasickKind {
-    /// `nfa::noncontiguous::NFA`.
-    NoncontiguousNFA,
-}
+mod builder;
+mod choice;
+mod engine;
+mod find;
 
-/// The engine of a searcher.
-#[derive(Drop)]
-enum Engine<A: Allocator> {
-    Noncontiguous(Rc<NFA<A>, A>),
-}
+pub use builder::AhoCorasickBuilder;
+pub use choice::AhoCorasickKind;
+pub use find::FindIter;
 
 /// A searcher for many patterns.
 ///
@@ -68,11 +59,8 @@ impl<A: Allocator> Clone for AhoCorasick<A> {
 
     /// Returns a searcher that shares the engine.
     fn clone(&self) -> Result<AhoCorasick<A>, AllocError> {
-        let engine = match &self.engine {
-            Engine::Noncontiguous(nfa) => Engine::Noncontiguous(nfa.clone()?),
-        };
         Ok(AhoCorasick {
-            engine,
+            engine: self.engine.share()?,
             start_kind: self.start_kind,
         })
     }
@@ -87,7 +75,7 @@ impl<A: Allocator + Clone> AhoCorasick<A> {
     pub fn new(alloc: A, patterns: &[&[u8]]) -> Result<AhoCorasick<A>, BuildError>
         ensures { MatchResult result
             (IsBuilt usual_settings (bytes_of patterns.now))
-            (Refuses noncontiguous_rules (engine_settings usual_settings) (bytes_of patterns.now)) }
+            (Refuses (rules_for usual_settings) (engine_settings usual_settings) (bytes_of patterns.now)) }
     {
         AhoCorasickBuilder::new().build(alloc, patterns)
     }
@@ -103,6 +91,14 @@ impl AhoCorasick {
 }
 
 impl<A: Allocator> AhoCorasick<A> {
+    /// Returns a searcher by an engine that supports these starts.
+    fn new_by(engine: Engine<A>, start_kind: StartKind) -> AhoCorasick<A>
+        requires supports { Supports engine start_kind }
+        ensures { result ≡ searcher_of engine start_kind }
+    {
+        AhoCorasick { engine, start_kind }
+    }
+
     /// Returns whether some pattern occurs in the span of the input, or if it is anchored at its start.
     ///
     /// The searcher has to support the input's anchoring.
@@ -137,7 +133,8 @@ impl<A: Allocator> AhoCorasick<A> {
     #[inline]
     pub fn find_iter<'a, 'h>(&'a self, input: Input<'h>) -> FindIter<'a, 'h, A>
         requires supported { find_refusal self.now.built (asked input) ≡ None }
-        ensures { result ≡ begun self.now.built (asked input.entry) }
+        ensures begun { result ≡ begun (looks_of self.now.kind) self.now.built (asked input.entry) }
+        ensures runs { YieldsInOrder GoesOn (λ w. w.rest) }
     {
         let Ok(matches) = self.try_find_iter(input) else {
             unreachable!()
@@ -156,7 +153,7 @@ impl<A: Allocator> AhoCorasick<A> {
             (found self.now.built (asked input.entry)) result }
     {
         check_start(self.start_kind(), input.get_anchored())?;
-        self.nfa().try_find(input)
+        self.engine.try_find(input)
     }
 
     /// Returns the same as `find_iter`.
@@ -168,33 +165,20 @@ impl<A: Allocator> AhoCorasick<A> {
         &'a self,
         input: Input<'h>,
     ) -> Result<FindIter<'a, 'h, A>, MatchError>
-        ensures { AnswersUnless (find_refusal self.now.built (asked input.entry))
-            (begun self.now.built (asked input.entry)) result }
+        ensures begun { AnswersUnless (find_refusal self.now.built (asked input.entry))
+            (begun (looks_of self.now.kind) self.now.built (asked input.entry)) result }
+        ensures runs { YieldsInOrder GoesOn (λ w. w.rest) }
     {
         check_start(self.start_kind(), input.get_anchored())?;
-        let finding = Finding::ByNoncontiguous(self.nfa().try_find_iter(input)?);
-        Ok(FindIter { finding })
+        let matches = self.engine.try_find_iter(input)?;
+        Ok(FindIter { matches })
     }
 
     /// Returns which engine serves the searcher.
     pub fn kind(&self) -> AhoCorasickKind
         ensures { result ≡ self.now.kind }
     {
-        match &self.engine {
-            Engine::Noncontiguous(_) => AhoCorasickKind::NoncontiguousNFA,
-        }
-    }
-
-    /// Returns the engine, which has both starts.
-    #[inline]
-    fn nfa(&self) -> &NFA<A>
-        ensures built { self.now.built
-            ≡ record result.now.built { start_kind = self.now.built.start_kind } }
-        ensures both { result.now.built.start_kind ≡ StartKind.Both }
-    {
-        match &self.engine {
-            Engine::Noncontiguous(nfa) => nfa.as_ref(),
-        }
+        self.engine.kind()
     }
 
     /// Returns which searches the searcher supports.
@@ -208,33 +192,33 @@ impl<A: Allocator> AhoCorasick<A> {
     pub fn match_kind(&self) -> MatchKind
         ensures { result ≡ self.now.built.kind }
     {
-        self.nfa().match_kind()
+        self.engine.match_kind()
     }
 
     /// Returns how many bytes the shortest pattern has, or `usize::MAX` without patterns.
     pub fn min_pattern_len(&self) -> usize
         ensures { result ≡ shortest_len self.now.built.patterns }
     {
-        self.nfa().min_pattern_len()
+        self.engine.min_pattern_len()
     }
 
     /// Returns how many bytes the longest pattern has, or 0 without patterns.
     pub fn max_pattern_len(&self) -> usize
         ensures { result ≡ longest_len self.now.built.patterns }
     {
-        self.nfa().max_pattern_len()
+        self.engine.max_pattern_len()
     }
 
     /// Returns how many patterns there are.
     pub fn patterns_len(&self) -> usize
         ensures { result ≡ length self.now.built.patterns }
     {
-        self.nfa().patterns_len()
+        self.engine.patterns_len()
     }
 
     /// Returns about how many bytes of memory the searcher takes. Nothing is promised of the number.
     pub fn memory_usage(&self) -> usize {
-        self.nfa().memory_usage()
+        self.engine.memory_usage()
     }
 }
 
@@ -247,170 +231,5 @@ fn check_start(start_kind: StartKind, anchored: Anchored) -> Result<(), MatchErr
         (StartKind::Unanchored, Anchored::Yes) => Err(MatchError::InvalidInputAnchored),
         (StartKind::Anchored, Anchored::No) => Err(MatchError::InvalidInputUnanchored),
         _ => Ok(()),
-    }
-}
-
-/// An engine's iterator.
-#[derive(Drop)]
-enum Finding<'a, 'h, A: Allocator> {
-    ByNoncontiguous(automaton::FindIter<'a, 'h, NFA<A>>),
-}
-
-/// An iterator over the matches of an input that don't overlap, made by `AhoCorasick::find_iter`.
-///
-/// After its end it keeps giving `None`. Contracts see the matches still to come; of what is counted the
-/// iterator of `Automaton::try_find_iter` tells.
-#[derive(Drop)]
-pub struct FindIter<'a, 'h, A: Allocator = Global> {
-    finding: Finding<'a, 'h, A>,
-}
-
-impl<'a, 'h, A: Allocator> Model for FindIter<'a, 'h, A> {
-    ghost use Rattle.ac_automaton.specs.Iterators.{Walking};
-    ghost use Rattle.ac_search.specs.Engines.{walking_of};
-
-    ghost Value = { Walking };
-
-    ghost view = { λ s. walking_of s.finding };
-}
-
-impl<'a, 'h, A: Allocator> Iterator for FindIter<'a, 'h, A> {
-    type Item = Match;
-
-    ghost next_gives = { YieldsFirst (λ s. s.rest) };
-
-    ghost remaining = { item_count (λ s. s.rest) };
-
-    #[inline]
-    fn next(&mut self) -> Option<Match> {
-        match &mut self.finding {
-            Finding::ByNoncontiguous(matches) => matches.next(),
-        }
-    }
-}
-
-/// The settings of a build. A build changes none of them, so after a refusal the builder can be used again.
-///
-/// This ports `AhoCorasickBuilder`.
-#[derive(Debug, Drop)]
-pub struct AhoCorasickBuilder {
-    match_kind: MatchKind,
-    start_kind: StartKind,
-    fold: bool,
-    kind: Option<AhoCorasickKind>,
-}
-
-impl Model for AhoCorasickBuilder {
-    ghost use Rattle.ac_search.specs.Searchers.{Settings};
-
-    ghost Value = { Settings };
-
-    ghost view = { λ b. record {
-      match_kind = b.match_kind;
-      start_kind = b.start_kind;
-      fold = b.fold;
-      kind = b.kind;
-    } };
-
-    ghost inverse = { λ v. record {
-      match_kind = v.match_kind;
-      start_kind = v.start_kind;
-      fold = v.fold;
-      kind = v.kind;
-    } };
-}
-
-impl Default for AhoCorasickBuilder {
-    ghost is_default = { λ b. b ≡ usual_settings };
-
-    fn default() -> AhoCorasickBuilder {
-        AhoCorasickBuilder::new()
-    }
-}
-
-impl AhoCorasickBuilder {
-    /// Returns a builder with the usual settings: `MatchKind::Standard`, unanchored searches alone, case
-    /// counts, and the engine is chosen.
-    pub fn new() -> AhoCorasickBuilder
-        ensures { result ≡ usual_settings }
-    {
-        AhoCorasickBuilder {
-            match_kind: MatchKind::Standard,
-            start_kind: StartKind::Unanchored,
-            fold: false,
-            kind: None,
-        }
-    }
-
-    /// Returns a builder with the same settings, and takes no memory.
-    pub fn clone(&self) -> AhoCorasickBuilder
-        ensures { result ≡ self.now }
-    {
-        AhoCorasickBuilder { ..*self }
-    }
-
-    /// Sets which of the occurrences in a span a search answers. `Standard` unless set.
-    pub fn match_kind(&mut self, kind: MatchKind) -> &mut AhoCorasickBuilder
-        ensures value { result.now ≡ record self.old { match_kind = kind } }
-        ensures same { result.ghost_name ≡ self.entry.ghost_name }
-    {
-        self.match_kind = kind;
-        self
-    }
-
-    /// Sets which searches the searcher supports. `Unanchored` unless set.
-    pub fn start_kind(&mut self, kind: StartKind) -> &mut AhoCorasickBuilder
-        ensures value { result.now ≡ record self.old { start_kind = kind } }
-        ensures same { result.ghost_name ≡ self.entry.ghost_name }
-    {
-        self.start_kind = kind;
-        self
-    }
-
-    /// Sets whether the case of ASCII letters is ignored. It counts unless set.
-    pub fn ascii_case_insensitive(&mut self, yes: bool) -> &mut AhoCorasickBuilder
-        ensures value { result.now ≡ record self.old { fold = yes } }
-        ensures same { result.ghost_name ≡ self.entry.ghost_name }
-    {
-        self.fold = yes;
-        self
-    }
-
-    /// Sets the engine, or with `None` lets the searcher choose. It chooses unless set.
-    pub fn kind(&mut self, kind: Option<AhoCorasickKind>) -> &mut AhoCorasickBuilder
-        ensures value { result.now ≡ record self.old { kind = kind } }
-        ensures same { result.ghost_name ≡ self.entry.ghost_name }
-    {
-        self.kind = kind;
-        self
-    }
-
-    /// Builds a searcher over a list of patterns. An empty list is fine: nothing is then found.
-    ///
-    /// # Errors
-    /// `PatternIdOverflow` and `PatternTooLong` exactly where a limit is passed, whether there is memory or
-    /// not. Else `StateIdOverflow` only where the engine would need more states than there are numbers, and
-    /// `Memory` where a request for memory is refused.
-    pub fn build<A: Allocator + Clone>(
-        &self,
-        alloc: A,
-        patterns: &[&[u8]],
-    ) -> Result<AhoCorasick<A>, BuildError>
-        ensures { MatchResult result
-            (IsBuilt self.now (bytes_of patterns.now))
-            (Refuses noncontiguous_rules (engine_settings self.now) (bytes_of patterns.now)) }
-    {
-        check_limits(patterns)?;
-        let mut builder = noncontiguous::Builder::new();
-        builder.match_kind(self.match_kind);
-        builder.ascii_case_insensitive(self.fold);
-        let nfa = builder.build(alloc.clone()?, patterns)?;
-        let engine = match self.kind.unwrap_or(AhoCorasickKind::NoncontiguousNFA) {
-            AhoCorasickKind::NoncontiguousNFA => Engine::Noncontiguous(Rc::new(alloc, nfa)?),
-        };
-        Ok(AhoCorasick {
-            engine,
-            start_kind: self.start_kind,
-        })
     }
 }

@@ -6,7 +6,7 @@ ghost use Rattle.ac_util.specs.Input.{Asked};
 ghost use Rattle.ac_util.specs.Occurrence.{Occurrence};
 ghost use Rattle.ac_util.specs.Search.{Occurs};
 ghost use Rattle.ac_util.specs.Stream.{shortest_len};
-ghost use Rattle.ac_search.specs.declared.ahocorasick.AhoCorasickKind.{AhoCorasickKind};
+ghost use Rattle.ac_search.specs.declared.ahocorasick.choice.AhoCorasickKind.{AhoCorasickKind};
 
 use crate::ahocorasick::AhoCorasickKind;
 pub use ac_util::laws::{

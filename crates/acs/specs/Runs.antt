@@ -4,8 +4,8 @@ use Rattle.std.specs.Io.{StartsWith}
 use Rattle.std.specs.Io.KnownBytes.{Appends, Consumes, IsAtEnd}
 use Rattle.ac_util.specs.Device.{Reading, Writing}
 use Rattle.ac_util.specs.Occurrence.{Occurrence}
-use Rattle.ac_automaton.specs.Builds.{IsAllowed, noncontiguous_rules}
-use Rattle.ac_search.specs.Searchers.{engine_settings, searcher_by}
+use Rattle.ac_automaton.specs.Builds.{IsAllowed}
+use Rattle.ac_search.specs.Searchers.{built_by, engine_settings, rules_for}
 use Rattle.acs.specs.declared.fault.Fault.{Fault}
 use Rattle.acs.specs.declared.fault.Fault.TheVariants.{Io, Memory, WriteZero}
 use Rattle.acs.specs.declared.request.Request.{Request}
@@ -56,14 +56,14 @@ FailsToPrint old new bytes fault =
 -- the lines of a request's answer for a haystack are those of these matches
 abbrev pub answer : Request → List (List ℕ) → List ℕ → List Occurrence
 answer request patterns haystack =
-    printed request.mode (searcher_by (settings_of request) patterns).built haystack
+    printed request.mode (built_by (settings_of request) patterns) haystack
 
 module _ (request : Request) (patterns : List (List ℕ)) (reader new_reader : Reading)
     (writer new_writer : Writing) where
   -- no limit refused the searcher, and the run has written a line for each match in all that the reader gave,
   -- and says whether there was one
   pub record HasRun (outcome : Outcome) : Type 0 where
-    pub allowed : IsAllowed noncontiguous_rules (engine_settings (settings_of request)) patterns
+    pub allowed : IsAllowed (rules_for (settings_of request)) (engine_settings (settings_of request)) patterns
     pub haystack : List ℕ
     pub reads : ReadsAll reader new_reader haystack
     pub writes : WritesAll writer new_writer (lines (answer request patterns haystack))
@@ -77,14 +77,14 @@ module _ (request : Request) (patterns : List (List ℕ)) (reader new_reader : R
   -- no limit refused the searcher; while the run read it has ended with a fault, with nothing written
   abbrev pub FailsReading : Fault → Type 0
   FailsReading fault =
-      IsAllowed noncontiguous_rules (engine_settings (settings_of request)) patterns
+      IsAllowed (rules_for (settings_of request)) (engine_settings (settings_of request)) patterns
           × FailsToRead reader new_reader fault
       × (new_writer ≡ writer)
 
   -- no limit refused the searcher; while the run wrote the lines of all that the reader gave it has ended with
   -- a fault
   pub record FailsPrinting (fault : Fault) : Type 0 where
-    pub allowed : IsAllowed noncontiguous_rules (engine_settings (settings_of request)) patterns
+    pub allowed : IsAllowed (rules_for (settings_of request)) (engine_settings (settings_of request)) patterns
     pub haystack : List ℕ
     pub reads : ReadsAll reader new_reader haystack
     pub writes : FailsToPrint writer new_writer (lines (answer request patterns haystack)) fault

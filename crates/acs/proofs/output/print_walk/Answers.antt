@@ -25,7 +25,7 @@ returns-in_err-add_line g c =
     c.from_residual.ensures.1
     (printing-wants c.args.matches.rest c.loop-m.m-iterator.rest (told c.args.writer.now) (told c.loop-m.writer)
     (string_bytes c.loop-m.text)
-    c.loop-m.outcome c.loop-m.invariant.0 c.in-Some.m c.next.new.self.rest c.in-Some.ensures.steps)
+    c.loop-m.outcome c.loop-m.invariant.0 c.in-Some.m c.next.new.self.rest c.in-Some.ensures.steps.gives)
 
 -- the lines so far could not be written
 pub returns-in_err-write_all : goal.returns-in_err-write_all
@@ -34,7 +34,7 @@ returns-in_err-write_all g c =
     let added =
     printing-adds c.args.matches.rest c.loop-m.m-iterator.rest (told c.args.writer.now) (told c.loop-m.writer)
     (string_bytes c.loop-m.text)
-    c.loop-m.outcome c.loop-m.invariant.0 c.in-Some.m c.next.new.self.rest c.in-Some.ensures.steps in
+    c.loop-m.outcome c.loop-m.invariant.0 c.in-Some.m c.next.new.self.rest c.in-Some.ensures.steps.gives in
     let text : c.as_bytes.result.now ≡ string_bytes c.loop-m.text ++ line c.in-Some.m =
     c.as_bytes.ensures.value ∙ c.in_ok-add_line.ensures in
     refused-by c.from_residual-in_err-write_all.result c.in_err-write_all.field-0.0 _
@@ -52,7 +52,7 @@ loop-m-preserved-then-len-ge-FULL g c =
     let added =
     printing-adds c.args.matches.rest c.loop-m.m-iterator.rest (told c.args.writer.now) (told c.loop-m.writer)
     (string_bytes c.loop-m.text)
-    c.loop-m.outcome c.loop-m.invariant.0 c.in-Some.m c.next.new.self.rest c.in-Some.ensures.steps in
+    c.loop-m.outcome c.loop-m.invariant.0 c.in-Some.m c.next.new.self.rest c.in-Some.ensures.steps.gives in
     let text : c.as_bytes.result.now ≡ string_bytes c.loop-m.text ++ line c.in-Some.m =
     c.as_bytes.ensures.value ∙ c.in_ok-add_line.ensures in (
       rw c.clear.ensures.bytes
@@ -71,7 +71,7 @@ loop-m-preserved g c =
       rw c.in_ok-add_line.ensures
           (printing-adds c.args.matches.rest c.loop-m.m-iterator.rest (told c.args.writer.now)
           (told c.loop-m.writer) (string_bytes c.loop-m.text)
-          c.loop-m.outcome c.loop-m.invariant.0 c.in-Some.m c.next.new.self.rest c.in-Some.ensures.steps),
+          c.loop-m.outcome c.loop-m.invariant.0 c.in-Some.m c.next.new.self.rest c.in-Some.ensures.steps.gives),
       tt,
       tt,
     )
@@ -95,6 +95,6 @@ returns g c =
     let told = g.W.Sink.told in
     printing-ends c.args.matches.rest c.loop-m.m-iterator.rest (told c.args.writer.now) (told c.loop-m.writer)
     (string_bytes c.loop-m.text)
-    c.loop-m.outcome c.loop-m.invariant.0 (told c.write_all-2.new.writer) c.in-None.ensures.steps.0
+    c.loop-m.outcome c.loop-m.invariant.0 (told c.write_all-2.new.writer) c.in-None.ensures.steps.gives.0
     (subst (λ (bytes : List ℕ). WritesAll (told c.loop-m.writer) (told c.write_all-2.new.writer) bytes)
     c.as_bytes-2.ensures.value c.in_ok-write_all-2.ensures)

@@ -75,11 +75,9 @@ invariant_of-self-in_default g c =
 
 pub returns-in-Some : goal.returns-in-Some
 returns-in-Some g c =
-    let h = gone g (goal.at.returns-in-Some g c).After-go_on (Some c.end.result) (ends g c) in
-    record { steps = h.steps; goes_on = h.goes_on; paid = h.way.paid }
+    (gone g (goal.at.returns-in-Some g c).After-go_on (Some c.end.result) (ends g c)).goes_on
 
 pub returns-in_default : goal.returns-in_default
 returns-in_default g c =
-    let h = gone g (goal.at.returns-in_default g c).After-go_on c.self.inside.last
-    (ap (last_after c.self.inside.last) (sym c.in_default.is)) in
-    record { steps = h.steps; goes_on = h.goes_on; paid = h.way.paid }
+    (gone g (goal.at.returns-in_default g c).After-go_on c.self.inside.last
+    (ap (last_after c.self.inside.last) (sym c.in_default.is))).goes_on

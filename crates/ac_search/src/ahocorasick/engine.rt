@@ -1,0 +1,138 @@
+//! The engines of a searcher and their iterators. This file alone tells them apart.
+ghost use Rattle.std.specs.Prelude.{◌≡◌, IfOk, MatchResult, length};
+ghost use Rattle.ac_util.specs.Built.{find_refusal, found};
+ghost use Rattle.ac_util.specs.Inputs.{asked};
+ghost use Rattle.ac_util.specs.Refusal.{AnswersUnless};
+ghost use Rattle.ac_util.specs.Stream.{longest_len, shortest_len};
+ghost use Rattle.ac_automaton.specs.Iterators.{GoesOn, begun};
+ghost use Rattle.ac_search.specs.Engines.{built_of, kind_of, walking_of};
+ghost use Rattle.ac_search.specs.Searchers.{looks_of};
+
+use super::choice::AhoCorasickKind;
+use ac_automaton::automaton::{self, Automaton};
+use ac_automaton::nfa::noncontiguous;
+use ac_util::error::MatchError;
+use ac_util::search::{Input, Match, MatchKind};
+use std::alloc::{AllocError, Allocator};
+use std::rc::Rc;
+
+/// The engine of a searcher, which its clones share.
+#[derive(Drop)]
+pub(super) enum Engine<A: Allocator> {
+    Noncontiguous(Rc<noncontiguous::NFA<A>, A>),
+}
+
+impl<A: Allocator> Engine<A> {
+    /// Returns the same engine once more.
+    ///
+    /// # Errors
+    /// `AllocError` where a request for memory is refused.
+    pub(super) fn share(&self) -> Result<Engine<A>, AllocError>
+        ensures built { IfOk result (λ engine. built_of engine ≡ built_of self.now) }
+        ensures kind { IfOk result (λ engine. kind_of engine ≡ kind_of self.now) }
+    {
+        match self {
+            Engine::Noncontiguous(nfa) => Ok(Engine::Noncontiguous(nfa.clone()?)),
+        }
+    }
+
+    /// Returns the engine's name.
+    pub(super) fn kind(&self) -> AhoCorasickKind
+        ensures { result ≡ kind_of self.now }
+    {
+        match self {
+            Engine::Noncontiguous(_) => AhoCorasickKind::NoncontiguousNFA,
+        }
+    }
+
+    /// Returns what `Automaton::try_find` does.
+    #[inline]
+    pub(super) fn try_find(&self, input: Input<'_>) -> Result<Option<Match>, MatchError>
+        ensures { AnswersUnless (find_refusal (built_of self.now) (asked input.entry))
+            (found (built_of self.now) (asked input.entry)) result }
+    {
+        match self {
+            Engine::Noncontiguous(nfa) => nfa.as_ref().try_find(input),
+        }
+    }
+
+    /// Returns what `Automaton::try_find_iter` does.
+    #[inline]
+    pub(super) fn try_find_iter<'a, 'h>(
+        &'a self,
+        input: Input<'h>,
+    ) -> Result<EngineFindIter<'a, 'h, A>, MatchError>
+        ensures { MatchResult result
+            (λ matches. AnswersUnless (find_refusal (built_of self.now) (asked input.entry))
+            (begun (looks_of (kind_of self.now)) (built_of self.now) (asked input.entry)) (Ok (walking_of matches)))
+            (λ e. find_refusal (built_of self.now) (asked input.entry) ≡ Some e) }
+    {
+        match self {
+            Engine::Noncontiguous(nfa) => {
+                let matches = nfa.as_ref().try_find_iter(input)?;
+                Ok(EngineFindIter::Noncontiguous(matches))
+            }
+        }
+    }
+
+    /// Returns which of the occurrences in a span a search answers.
+    pub(super) fn match_kind(&self) -> MatchKind
+        ensures { result ≡ (built_of self.now).kind }
+    {
+        match self {
+            Engine::Noncontiguous(nfa) => nfa.as_ref().match_kind(),
+        }
+    }
+
+    /// Returns how many bytes the shortest pattern has, or `usize::MAX` without patterns.
+    pub(super) fn min_pattern_len(&self) -> usize
+        ensures { result ≡ shortest_len (built_of self.now).patterns }
+    {
+        match self {
+            Engine::Noncontiguous(nfa) => nfa.as_ref().min_pattern_len(),
+        }
+    }
+
+    /// Returns how many bytes the longest pattern has, or 0 without patterns.
+    pub(super) fn max_pattern_len(&self) -> usize
+        ensures { result ≡ longest_len (built_of self.now).patterns }
+    {
+        match self {
+            Engine::Noncontiguous(nfa) => nfa.as_ref().max_pattern_len(),
+        }
+    }
+
+    /// Returns how many patterns there are.
+    pub(super) fn patterns_len(&self) -> usize
+        ensures { result ≡ length (built_of self.now).patterns }
+    {
+        match self {
+            Engine::Noncontiguous(nfa) => nfa.as_ref().patterns_len(),
+        }
+    }
+
+    /// Returns about how many bytes of memory the engine takes. Nothing is promised of the number.
+    pub(super) fn memory_usage(&self) -> usize {
+        match self {
+            Engine::Noncontiguous(nfa) => nfa.as_ref().memory_usage(),
+        }
+    }
+}
+
+/// The iterator of an engine over the matches of a walk.
+#[derive(Drop)]
+pub(super) enum EngineFindIter<'a, 'h, A: Allocator> {
+    Noncontiguous(automaton::FindIter<'a, 'h, noncontiguous::NFA<A>>),
+}
+
+impl<'a, 'h, A: Allocator> EngineFindIter<'a, 'h, A> {
+    /// Returns the next match, and moves on.
+    #[inline]
+    pub(super) fn next(&mut self) -> Option<Match>
+        ensures { GoesOn (walking_of self.old) result (walking_of self.new) }
+    {
+        match self {
+            EngineFindIter::Noncontiguous(matches) => matches.next(),
+        }
+    }
+}
