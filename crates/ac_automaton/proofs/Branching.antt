@@ -15,7 +15,7 @@ use Rattle.ac_automaton.specs.declared.nfa.noncontiguous.growth.QueuedState.{Que
 use Rattle.ac_automaton.specs.declared.nfa.noncontiguous.state.State.{State}
 use Rattle.ac_automaton.specs.declared.nfa.noncontiguous.state.TheConstants.{START, FIRST_INNER}
 use Rattle.ac_automaton.specs.declared.nfa.noncontiguous.state.Transition.{Transition}
-use Rattle.ac_automaton.specs.Growths.{EndsPatterns, HasChild, IsGrown, IsNext, IsRangeOf, IsReady, Waits, grown_meaning, leading, nodes_of, word}
+use Rattle.ac_automaton.specs.Growths.{Source, EndsPatterns, HasChild, IsGrown, IsNext, IsRangeOf, IsReady, Waits, grown_meaning, leading, nodes_of, word}
 use Rattle.ac_automaton.specs.Sorted.{Keyed, byte_at, key_at}
 use Rattle.ac_automaton.specs.Tries.{AreStates, miss}
 use Rattle.ac_automaton.proofs.Grown.{AreStates-more, IsInner, nodes-cases, nodes-inner, nodes-more}
@@ -517,3 +517,26 @@ module _ (site : Site) where
         apart = step-apart;
         smaller = step-smaller;
       }
+
+-- from this source, with these transitions and this queue: the children of a state up to a place have come
+abbrev pub IsBranchingFrom : Source → List Transition → List QueuedState → QueuedState → ℕ → ℕ
+    → List Transition → List QueuedState → Type 0
+IsBranchingFrom from transitions queue queued end place new_transitions new_queue =
+    (patterns : List (List ℕ))
+    (ready : IsReady from.kind from.sorted.fold patterns from.sorted.patterns from.states transitions queue
+    queued)
+    (ends : EndsPatterns from.sorted.patterns queued end)
+    → IsBranching (record {
+      kind = from.kind;
+      fold = from.sorted.fold;
+      patterns = patterns;
+      sorted = from.sorted.patterns;
+      states = from.states;
+      transitions = transitions;
+      queue = queue;
+      queued = queued;
+      ready = ready;
+      patterns_end = end;
+      ends = ends;
+    })
+    place new_transitions new_queue

@@ -9,13 +9,14 @@ use Rattle.ac_util.specs.declared.search.MatchKind.{MatchKind}
 use Rattle.ac_util.specs.Node.{Node}
 use Rattle.ac_util.specs.Sameness.{plain, plain_byte}
 use Rattle.ac_util.specs.Search.{pattern_of}
+use Rattle.ac_automaton.specs.declared.nfa.noncontiguous.growth.Growth.{Growth}
 use Rattle.ac_automaton.specs.declared.nfa.noncontiguous.growth.QueuedState.{QueuedState}
 use Rattle.ac_automaton.specs.declared.nfa.noncontiguous.state.State.{State}
 use Rattle.ac_automaton.specs.declared.nfa.noncontiguous.state.TheConstants.{START, ANCHORED_START, FIRST_INNER}
 use Rattle.ac_automaton.specs.declared.nfa.noncontiguous.state.Transition.{Transition}
 use Rattle.ac_automaton.specs.Builds.{too_many_states}
-use Rattle.ac_automaton.specs.Growths.{HasBranched, IsGrown, IsReady, Waits, grown_meaning, nodes_of, word}
-use Rattle.ac_automaton.specs.Sorted.{Keyed, IsOrder, byte_at, key_at, numbers}
+use Rattle.ac_automaton.specs.Growths.{first_states, HasBegun, HasBranched, IsGrown, IsReady, Waits, grown_meaning, nodes_of, word}
+use Rattle.ac_automaton.specs.Sorted.{Keyed, IsOrder, Sorted, byte_at, key_at, numbers}
 use Rattle.ac_automaton.specs.Tries.{AreStates, IsTable, Meaning, NumbersNodes, Represents, dead_state, state_at, trie_of}
 use Rattle.ac_automaton.proofs.Grown.{AreStates-push, nodes-inner}
 use Rattle.ac_automaton.proofs.ListsOf.{listed_within-matches}
@@ -81,10 +82,6 @@ sorted-plain kind fold texts sorted order place depth b e =
           let is = get_or_past sorted place none past in
           absurd (let f : None ≡ Some b = sym (ap (λ (m : Keyed). slice_get m.key depth) is) ∙ e in cc)
     ]
-
--- the first two states
-abbrev pub first_states : List State
-first_states = dead_state ∷ dead_state ∷ []
 
 module _ (kind : MatchKind) (fold : Bool) (patterns : List (List ℕ)) (sorted : List Keyed) where
   dead-represents : (s : ℕ) → s < START
@@ -246,6 +243,20 @@ module _ (kind : MatchKind) (fold : Bool) (patterns : List (List ℕ)) (sorted :
       node =
           ap (slice_get (nodes_of sorted new_queue)) h.count
           ∙ nodes-inner sorted new_queue at p (b.kept at p e)
+
+-- the states up to those of the queue before a place are whole, whatever list the sorted patterns are of
+abbrev pub IsGoingFrom : MatchKind → Sorted → List State → List Transition → List QueuedState → ℕ → Type 0
+IsGoingFrom kind sorted states transitions queue at =
+    (texts : List (List ℕ)) → IsOrder kind (map (plain sorted.fold) texts) sorted.patterns
+    → IsGoing kind sorted.fold (map (plain sorted.fold) texts) sorted.patterns states transitions queue at
+
+-- the patterns of a trie that begins to grow are in order
+pub begun-order : {Z : Type 0} (fold : Bool) (texts : List (List ℕ)) (growth : Growth Z)
+    → HasBegun fold texts growth
+    → IsOrder growth.kind (map (plain growth.sorted.fold) texts) growth.sorted.patterns
+begun-order fold texts growth begun =
+    subst (λ (f : Bool). IsOrder growth.kind (map (plain f) texts) growth.sorted.patterns)
+    (sym begun.sorts.fold_is) begun.sorts.order
 
 -- where the whole queue is, the states are those of an automaton
 module _ (texts : List (List ℕ)) {fold : Bool} {kind : MatchKind} {sorted : List Keyed}

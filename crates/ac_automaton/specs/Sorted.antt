@@ -17,6 +17,11 @@ pub record Keyed : Type 0 where
   pub key : List ℕ
   pub number : ℕ
 
+-- sorted patterns, and whether their case is ignored
+pub record Sorted : Type 0 where
+  pub fold : Bool
+  pub patterns : List Keyed
+
 -- the numbers of sorted patterns
 abbrev pub numbers : List Keyed → List ℕ
 numbers sorted = map (λ m. m.number) sorted
@@ -57,3 +62,8 @@ pub record IsOrder (kind : MatchKind) (patterns : List (List ℕ)) (sorted : Lis
   pub ascending : AllPairs Precedes sorted
   pub named : All (λ m. m.key ≡ pattern_of patterns m.number) sorted
   pub lists : (n : ℕ) → Contains (numbers sorted) n ↔ Contains (participants kind patterns) n
+
+-- these are the patterns of the list that take part, sorted with or without case
+pub record AreSorted (kind : MatchKind) (fold : Bool) (texts : List (List ℕ)) (sorted : Sorted) : Type 0 where
+  pub fold_is : sorted.fold ≡ fold
+  pub order : IsOrder kind (map (plain fold) texts) sorted.patterns
