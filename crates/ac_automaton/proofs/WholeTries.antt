@@ -143,7 +143,7 @@ module _ (kind : MatchKind) (fold : Bool) (patterns : List (List ℕ)) (sorted :
     };
     meant = first-states;
     waits = waits;
-    next = inl (refl, refl, depth);
+    next = inl (record { number = refl; empty = refl; depth = depth });
   }
 
   -- the states up to those of the queue before `at` are whole
@@ -163,7 +163,10 @@ module _ (kind : MatchKind) (fold : Bool) (patterns : List (List ℕ)) (sorted :
     counted = grown.counted;
     waits = grown.waits;
     apart = grown.apart;
-    parents = λ k q e. let r = grown.parents k q e in (r.0, omega (arith, r.1), r.2);
+    parents = λ k q e.
+        let r = grown.parents k q e in
+        let early = r.early in
+        record { parent = r.parent; early = omega arith; named = r.named };
   }
 
   -- with the start at both its numbers the first four are whole
@@ -219,7 +222,7 @@ module _ (kind : MatchKind) (fold : Bool) (patterns : List (List ℕ)) (sorted :
     grown = h.grown;
     meant = h.meant;
     waits = subst (λ (n : ℕ). Waits kind patterns sorted queue n p) (sym h.count) (h.grown.waits at p e);
-    next = inr (at, h.count, e);
+    next = inr (record { place = at; number = h.count; waits = e });
   }
 
   pub going-on : {states : List State} {transitions : List Transition} {queue : List QueuedState} {at : ℕ}

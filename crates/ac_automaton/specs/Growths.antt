@@ -83,6 +83,12 @@ module _ (kind : MatchKind) (patterns : List (List ℕ)) (sorted : List Keyed) w
     pub some : FIRST_INNER ≤ s → p.from < p.to
     pub inner : FIRST_INNER ≤ s → 0 < p.depth
 
+  -- one of the first states is the parent of a queued one
+  pub record HasParent (whole : ℕ) (queue : List QueuedState) (q : QueuedState) : Type 0 where
+    pub parent : ℕ
+    pub early : parent < whole
+    pub named : slice_get (nodes_of sorted queue) parent ≡ Some (Some (take (q.depth - 1) (word sorted q)))
+
   -- each state in the queue waits, no two have one string, and each is a child of one of the first states
   pub record IsGrown (whole : ℕ) (transitions : List Transition) (queue : List QueuedState) : Type 0 where
     pub few : FIRST_INNER + length queue ≤ GREATEST + 1
@@ -90,15 +96,23 @@ module _ (kind : MatchKind) (patterns : List (List ℕ)) (sorted : List Keyed) w
     pub waits : (k : ℕ) (p : QueuedState) → slice_get queue k ≡ Some p → Waits queue (FIRST_INNER + k) p
     pub apart : (j k : ℕ) (p q : QueuedState) → slice_get queue j ≡ Some p → slice_get queue k ≡ Some q
         → word sorted p ≡ word sorted q → j ≡ k
-    pub parents : (k : ℕ) (q : QueuedState) → slice_get queue k ≡ Some q
-        → (j : ℕ) × (j < whole)
-        × (slice_get (nodes_of sorted queue) j ≡ Some (Some (take (q.depth - 1) (word sorted q))))
+    pub parents : (k : ℕ) (q : QueuedState) → slice_get queue k ≡ Some q → HasParent whole queue q
+
+  -- the next state is the start
+  pub record IsFirst (queue : List QueuedState) (s : ℕ) (p : QueuedState) : Type 0 where
+    pub number : s ≡ START
+    pub empty : queue ≡ []
+    pub depth : p.depth ≡ 0
+
+  -- the next state is the one at a place in the queue
+  pub record IsQueued (queue : List QueuedState) (s : ℕ) (p : QueuedState) : Type 0 where
+    pub place : ℕ
+    pub number : s ≡ FIRST_INNER + place
+    pub waits : slice_get queue place ≡ Some p
 
   -- the next state is the start, or the first in the queue that isn't complete
   abbrev pub IsNext : List QueuedState → ℕ → QueuedState → Type 0
-  IsNext queue s p =
-      ((s ≡ START) × (queue ≡ []) × (p.depth ≡ 0))
-      ⊎ ((k : ℕ) × (s ≡ FIRST_INNER + k) × (slice_get queue k ≡ Some p))
+  IsNext queue s p = IsFirst queue s p ⊎ IsQueued queue s p
 
 module _ (kind : MatchKind) (fold : Bool) (patterns : List (List ℕ)) (sorted : List Keyed) where
   -- what the numbers mean as far as the trie has grown
@@ -145,13 +159,13 @@ module _ (kind : MatchKind) (fold : Bool) (patterns : List (List ℕ)) (sorted :
         (Some (word sorted p)) t
     pub kept : (k : ℕ) (q : QueuedState) → slice_get queue k ≡ Some q → slice_get new_queue k ≡ Some q
 
--- what a growing trie branches from: the match kind, the sorted patterns, and the complete states
+-- what branching leaves as it is: the match kind, the sorted patterns, and the complete states
 pub record Source : Type 0 where
   pub kind : MatchKind
   pub sorted : Sorted
   pub states : List State
 
--- what a growing trie branches from
+-- that of a growing trie
 abbrev pub source_of : {Z : Type 0} → Growth Z → Source
 source_of growth = record { kind = growth.kind; sorted = growth.sorted; states = growth.states.items }
 
@@ -167,7 +181,7 @@ Branches patterns growth new_growth queued t =
     HasBranched growth.kind growth.sorted.fold patterns growth.sorted.patterns growth.states.items
     growth.queue.items queued t new_growth.transitions.items new_growth.queue.items
 
--- the same of a growing trie
+-- a queued state of a growing trie has such a child
 abbrev pub HasChildIn : {Z : Type 0} → List (List ℕ) → Growth Z → QueuedState → ℕ → ℕ → Type 0
 HasChildIn patterns growth queued place byte =
     HasChild growth.kind growth.sorted.fold patterns growth.sorted.patterns growth.states.items

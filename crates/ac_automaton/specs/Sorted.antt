@@ -26,9 +26,13 @@ pub record Sorted : Type 0 where
 abbrev pub numbers : List Keyed → List ℕ
 numbers sorted = map (λ m. m.number) sorted
 
--- the patterns of a list with their plain bytes
+-- a pattern with its plain bytes
+abbrev pub keyed_one : Bool → SortedPattern → Keyed
+keyed_one fold m = record { key = plain fold m.bytes.now; number = m.number }
+
+-- the patterns of a list so
 abbrev pub keyed : Bool → List SortedPattern → List Keyed
-keyed fold sorted = map (λ m. record { key = plain fold m.bytes.now; number = m.number }) sorted
+keyed fold sorted = map (keyed_one fold) sorted
 
 -- the plain bytes of the pattern at a place
 abbrev pub key_at : List Keyed → ℕ → List ℕ

@@ -36,7 +36,8 @@ struct QueuedState {
     fail: StateID,
 }
 
-/// The lists of an automaton: the numbers of the sorted patterns, the transitions of all states, and the states.
+/// The lists of an automaton: the numbers of the sorted patterns, the transitions of all states, and the
+/// states.
 #[derive(Drop)]
 pub(crate) struct TrieLists<A: Allocator> {
     pub(crate) order: Vec<PatternID, A>,
@@ -176,7 +177,8 @@ impl<'p, A: Allocator + Clone> Growth<'p, A> {
         })
     }
 
-    /// Adds a state to the queue, and the transitions to it by a plain byte: where case is ignored by a letter's
+    /// Adds a state to the queue, and the transitions to it by a plain byte: where case is ignored by a
+    /// letter's
     /// capital too.
     ///
     /// # Errors
