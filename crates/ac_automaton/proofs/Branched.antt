@@ -15,7 +15,7 @@ use Rattle.ac_util.proofs.Fronts.{starts_with-front}
 use Rattle.ac_util.proofs.Lists.{AllPairs-from_IsOrdered, Contains-from_IsIn, IsIn, IsIn-from_Contains, IsIn-from_map, IsIn-map}
 use Rattle.ac_automaton.specs.declared.nfa.noncontiguous.growth.QueuedState.{QueuedState}
 use Rattle.ac_automaton.specs.declared.nfa.noncontiguous.state.State.{State}
-use Rattle.ac_automaton.specs.declared.nfa.noncontiguous.state.TheConstants.{START}
+use Rattle.ac_automaton.specs.declared.nfa.noncontiguous.state.TheConstants.{START, FIRST_INNER}
 use Rattle.ac_automaton.specs.declared.nfa.noncontiguous.state.Transition.{Transition}
 use Rattle.ac_automaton.specs.Growths.{HasBranched, HasSorted, IsGrown, IsNext, LinkIsDue, grown_meaning, nodes_of}
 use Rattle.ac_automaton.specs.Sorted.{IsOrder, Keyed, byte_at, key_at}
@@ -24,7 +24,8 @@ use Rattle.ac_automaton.proofs.Branching.{IsBranching, Site, string, word-length
 use Rattle.ac_automaton.proofs.Grown.{AreStates-more}
 use Rattle.ac_automaton.proofs.Leading.{sorted-ascends}
 use Rattle.ac_automaton.proofs.Places.{IsIn-place}
-use Rattle.ac_automaton.proofs.Ranges.{pattern-node, node-pattern, range-equal_to, starts_with-last, starts_with-push}
+use Rattle.ac_automaton.proofs.Ranges.{pattern-node, node-pattern, range-equal_to}
+use Rattle.ac_automaton.proofs.Prefixes.{starts_with-last, starts_with-push}
 
 -- an anchored search goes on exactly by the bytes that make a node
 pub own_target-is : (kind : MatchKind) (patterns : List (List ℕ)) (u : List ℕ) (b : ℕ)
@@ -111,12 +112,14 @@ module _ (site : Site) {unsorted : List Transition} {queue : List QueuedState}
       → is_node site.kind site.patterns (string site ++ plain_byte site.fold t.byte ∷ []) ≡ true
   transition-node t has =
       let m = h.by_patterns t has in
-      let inside : m.0 < length site.sorted = (let w = h.waits.range.within in omega (arith, m.2)) in
-      let front = (h.waits.range.begins m.0 inside).0 ((omega (arith, m.1)), m.2) in
-      pattern-node site.kind site.patterns site.sorted site.ready.order m.0
+      let inside : m.at < length site.sorted =
+      (let w = h.waits.range.within in let l = m.high in omega arith) in
+      let front = (h.waits.range.begins m.at inside).0
+      ((let e = site.ends.later in let l = m.low in omega arith), m.high) in
+      pattern-node site.kind site.patterns site.sorted site.ready.order m.at
       (string site ++ plain_byte site.fold t.byte ∷ []) inside
-      (starts_with-push (key_at site.sorted m.0) (string site) (plain_byte site.fold t.byte) front
-      (subst (λ (n : ℕ). byte_at site.sorted n m.0 ≡ Some (plain_byte site.fold t.byte)) (sym long) m.3))
+      (starts_with-push (key_at site.sorted m.at) (string site) (plain_byte site.fold t.byte) front
+      (subst (λ (n : ℕ). byte_at site.sorted n m.at ≡ Some (plain_byte site.fold t.byte)) (sym long) m.byte))
 
   node-transition : (b : ℕ)
       → is_node site.kind site.patterns (string site ++ plain_byte site.fold b ∷ []) ≡ true
@@ -190,8 +193,8 @@ module _ (site : Site) {unsorted : List Transition} {queue : List QueuedState}
           → IsNext site.kind site.patterns site.sorted site.queue (length site.states) site.queued
           → site.queued.fail < length site.states
       near some (inl start) =
-          absurd (some (ap (λ (n : ℕ). take n (key_at site.sorted site.queued.from)) start.2))
-      near some (inr later) = h.waits.back (let s = later.1 in omega arith)
+          absurd (some (ap (λ (n : ℕ). take n (key_at site.sorted site.queued.from)) start.depth))
+      near some (inr later) = h.waits.back (let s = later.number in omega arith)
 
       first_two : (f : ℕ) → f < START → slice_get (nodes_of site.sorted queue) f ≡ Some None
       first_two zero l = refl
@@ -202,10 +205,10 @@ module _ (site : Site) {unsorted : List Transition} {queue : List QueuedState}
           → IsNext site.kind site.patterns site.sorted site.queue (length site.states) site.queued
           → (site.queued.fail < START) × (slice_get (nodes_of site.sorted queue) site.queued.fail ≡ Some None)
       start none l (inl first) =
-          let f : site.queued.fail < START = (let s = first.0 in omega arith)
+          let f : site.queued.fail < START = (let s = first.number in omega arith)
           in (f, first_two site.queued.fail f)
       start none l (inr later) =
-          absurd (let s = later.1 in let d = h.waits.inner (omega arith) in let e = ap length none in
+          absurd (let s = later.number in let d = h.waits.inner (omega arith) in let e = ap length none in
           let m = long in omega arith)
 
   -- the state that stands for the (string site)
@@ -266,8 +269,8 @@ module _ (site : Site) {unsorted : List Transition} {queue : List QueuedState}
         parents = h.grown.parents;
       }
 
-      outer : length site.states < 4
+      outer : length site.states < FIRST_INNER
           → IsNext site.kind site.patterns site.sorted site.queue (length site.states) site.queued
           → length (string site) ≡ 0
-      outer l (inl start) = long ∙ start.2
-      outer l (inr later) = absurd (let n = later.1 in omega arith)
+      outer l (inl start) = long ∙ start.depth
+      outer l (inr later) = absurd (let n = later.number in omega arith)

@@ -5,7 +5,6 @@ use Rattle.std.specs.List.{starts_with}
 use Rattle.std.proofs.lemmas.Bool.{cases_lt}
 use Rattle.std.proofs.lemmas.List.{append-nil, append_assoc, length-map, length_push, length-take-le}
 use Rattle.std.proofs.lemmas.Option.{slice_get-get_or, slice_get_within}
-use Rattle.std.proofs.lemmas.Slice.Eq.{bytes_eq-Decides}
 use Rattle.std.proofs.Math.Seq.{take-append_seam}
 use Rattle.ac_util.specs.declared.search.MatchKind.{MatchKind}
 use Rattle.ac_util.specs.declared.primitives.TheConstants.{GREATEST}
@@ -15,7 +14,7 @@ use Rattle.ac_automaton.specs.declared.nfa.noncontiguous.growth.QueuedState.{Que
 use Rattle.ac_automaton.specs.declared.nfa.noncontiguous.state.State.{State}
 use Rattle.ac_automaton.specs.declared.nfa.noncontiguous.state.TheConstants.{START, FIRST_INNER}
 use Rattle.ac_automaton.specs.declared.nfa.noncontiguous.state.Transition.{Transition}
-use Rattle.ac_automaton.specs.Growths.{EndsPatterns, HasChild, IsGrown, IsNext, IsRangeOf, IsReady, Waits, grown_meaning, leading, nodes_of, word}
+use Rattle.ac_automaton.specs.Growths.{Source, EndsPatterns, HasChild, IsGrown, IsNext, IsRangeOf, IsReady, Waits, grown_meaning, leading, nodes_of, word}
 use Rattle.ac_automaton.specs.Sorted.{Keyed, byte_at, key_at}
 use Rattle.ac_automaton.specs.Tries.{AreStates, miss}
 use Rattle.ac_automaton.proofs.Grown.{AreStates-more, IsInner, nodes-cases, nodes-inner, nodes-more}
@@ -23,24 +22,8 @@ use Rattle.ac_automaton.proofs.Leading.{leading-apart, leading-has, leading-leng
 use Rattle.ac_automaton.proofs.Orders.{rank}
 use Rattle.ac_util.proofs.Fronts.{starts_with-length}
 use Rattle.ac_automaton.proofs.Places.{get-append, get-added, get-added_cases, get-same}
+use Rattle.ac_automaton.proofs.Prefixes.{front-is, push-injective}
 use Rattle.ac_automaton.proofs.Ranges.{run-range, longer, next-greater}
-
--- two strings with one more byte that are the same have the same byte and the same rest
-pub push-injective : (u w : List ℕ) (a b : ℕ) → u ++ a ∷ [] ≡ w ++ b ∷ [] → (u ≡ w) × (a ≡ b)
-push-injective [] [] a b e = (refl, (cc))
-push-injective [] (y ∷ []) a b e = absurd (cc)
-push-injective [] (y ∷ z ∷ w) a b e = absurd (cc)
-push-injective (x ∷ []) [] a b e = absurd (cc)
-push-injective (x ∷ y ∷ u) [] a b e = absurd (cc)
-push-injective (x ∷ u) (y ∷ w) a b e =
-    let head : x ≡ y = cc in
-    let tail : u ++ a ∷ [] ≡ w ++ b ∷ [] = cc in
-    let r = push-injective u w a b tail in
-    ((λ i. head i ∷ r.0 i), r.1)
-
--- a prefix of a string is its first bytes
-pub front-is : (w v : List ℕ) → starts_with nat_eq w v ≡ true → take (length v) w ≡ v
-front-is w v h = sym ((bytes_eq-Decides v (take (length v) w)).0 h)
 
 module _ {kind : MatchKind} {patterns : List (List ℕ)} {sorted : List Keyed} {queue : List QueuedState}
     {s : ℕ} {p : QueuedState} (w : Waits kind patterns sorted queue s p) where
@@ -64,12 +47,12 @@ next-node : (kind : MatchKind) (patterns : List (List ℕ)) (sorted : List Keyed
     (s : ℕ) (p : QueuedState) → IsNext kind patterns sorted queue s p
     → slice_get (nodes_of sorted queue) s ≡ Some (Some (word sorted p))
 next-node kind patterns sorted queue s p (inl start) =
-    let none : word sorted p ≡ [] = ap (λ (n : ℕ). take n (key_at sorted p.from)) start.2 in
-    subst (λ (k : ℕ). slice_get (nodes_of sorted queue) k ≡ Some (Some (word sorted p))) (sym start.0)
+    let none : word sorted p ≡ [] = ap (λ (n : ℕ). take n (key_at sorted p.from)) start.depth in
+    subst (λ (k : ℕ). slice_get (nodes_of sorted queue) k ≡ Some (Some (word sorted p))) (sym start.number)
     (ap (λ (w : List ℕ). Some (Some w)) (sym none))
 next-node kind patterns sorted queue s p (inr later) =
-    subst (λ (k : ℕ). slice_get (nodes_of sorted queue) k ≡ Some (Some (word sorted p))) (sym later.1)
-    (nodes-inner sorted queue later.0 p later.2)
+    subst (λ (k : ℕ). slice_get (nodes_of sorted queue) k ≡ Some (Some (word sorted p))) (sym later.number)
+    (nodes-inner sorted queue later.place p later.waits)
 
 -- a state whose children come: the trie as far as it has grown, the state, and where the patterns end that are
 -- its string
@@ -94,6 +77,19 @@ module _ (site : Site) where
   abbrev pub next_byte : ℕ → Option ℕ
   next_byte k = byte_at site.sorted site.queued.depth k
 
+  -- a pattern before the place goes on behind the string with the byte
+  pub record GoesOnBy (place b : ℕ) : Type 0 where
+    pub at : ℕ
+    pub low : site.patterns_end ≤ at
+    pub high : at < place
+    pub byte : next_byte at ≡ Some b
+
+  -- the queued state is a child by such a byte
+  pub record IsChild (place : ℕ) (q : QueuedState) : Type 0 where
+    pub byte : ℕ
+    pub by : GoesOnBy place byte
+    pub word_is : word site.sorted q ≡ string ++ byte ∷ []
+
   -- the children of the patterns up to a place have come
   pub record IsBranching (place : ℕ) (transitions : List Transition) (queue : List QueuedState) : Type 0 where
     pub grown : IsGrown site.kind site.patterns site.sorted (length site.states + 1) transitions queue
@@ -106,15 +102,13 @@ module _ (site : Site) where
     pub low : site.patterns_end ≤ place
     pub high : place ≤ site.queued.to
     pub children : (c : ℕ) (q : QueuedState) → length site.queue ≤ c → slice_get queue c ≡ Some q
-        → (k b : ℕ) × (site.patterns_end ≤ k) × (k < place) × (next_byte k ≡ Some b)
-        × (word site.sorted q ≡ string ++ b ∷ [])
+        → IsChild place q
     pub added : List Transition
     pub split : transitions ≡ site.transitions ++ added
     pub leads : (t : Transition) → IsIn t added
         → slice_get (nodes_of site.sorted queue) t.target
         ≡ Some (Some (string ++ plain_byte site.fold t.byte ∷ []))
-    pub by_patterns : (t : Transition) → IsIn t added
-        → (k : ℕ) × (site.patterns_end ≤ k) × (k < place) × (next_byte k ≡ Some (plain_byte site.fold t.byte))
+    pub by_patterns : (t : Transition) → IsIn t added → GoesOnBy place (plain_byte site.fold t.byte)
     pub covered : (k b x : ℕ) → site.patterns_end ≤ k → k < place → next_byte k ≡ Some b
         → plain_byte site.fold x ≡ b
         → (t : Transition) × IsIn t added × (t.byte ≡ x)
@@ -134,7 +128,10 @@ module _ (site : Site) where
       counted = site.ready.grown.counted;
       waits = site.ready.grown.waits;
       apart = site.ready.grown.apart;
-      parents = λ k q e. let r = site.ready.grown.parents k q e in (r.0, omega (arith, r.1), r.2);
+      parents = λ k q e.
+          let r = site.ready.grown.parents k q e in
+          let early = r.early in
+          record { parent = r.parent; early = omega arith; named = r.named };
     };
     meant = site.ready.meant;
     waits = site.ready.waits;
@@ -254,8 +251,8 @@ module _ (site : Site) where
         near : site.queued.depth ≢ 0
             → IsNext site.kind site.patterns site.sorted site.queue (length site.states) site.queued
             → site.queued.fail < length site.states
-        near deep (inl start) = absurd (deep start.2)
-        near deep (inr later) = h.waits.back (let n = later.1 in omega arith)
+        near deep (inl start) = absurd (deep start.depth)
+        near deep (inr later) = h.waits.back (let n = later.number in omega arith)
 
     -- the child that waits for them
     module _ (fail : ℕ)
@@ -285,7 +282,7 @@ module _ (site : Site) where
           let same_string : take (q.depth - 1) (word site.sorted q) ≡ string =
           ap (λ (n : ℕ). take n (word site.sorted q)) (depth ∙ sym long) ∙ ap (take (length string)) w
           ∙ take-append_seam string (b ∷ []) in
-          same-parent parent.0 parent.1 (parent.2 ∙ ap (λ (v : List ℕ). Some (Some v)) same_string)
+          same-parent parent.parent parent.early (parent.named ∙ ap (λ (v : List ℕ). Some (Some v)) same_string)
         where
           same-parent : (j : ℕ) → j < length site.states
               → slice_get (nodes_of site.sorted site.queue) j ≡ Some (Some string) → ⊥
@@ -299,9 +296,9 @@ module _ (site : Site) where
             where
               at-start : (j : ℕ) → j < length site.states → START ≤ j → string ≡ []
                   → IsNext site.kind site.patterns site.sorted site.queue (length site.states) site.queued → ⊥
-              at-start j l low none (inl start) = absurd (let n = start.0 in omega arith)
+              at-start j l low none (inl start) = absurd (let n = start.number in omega arith)
               at-start j l low none (inr later) =
-                  let s = later.1 in
+                  let s = later.number in
                   let d = site.ready.waits.inner (omega arith) in
                   let e = ap length none in
                   let m = long in
@@ -309,15 +306,17 @@ module _ (site : Site) where
 
               at-inner : (j : ℕ) → j < length site.states → IsInner site.sorted site.queue j (Some string)
                   → IsNext site.kind site.patterns site.sorted site.queue (length site.states) site.queued → ⊥
-              at-inner j l inner (inl start) = absurd (let n = start.0 in let m = inner.number in omega arith)
+              at-inner j l inner (inl start) = absurd
+                  (let n = start.number in let m = inner.number in omega arith)
               at-inner j l inner (inr later) =
                   let e : word site.sorted inner.queued ≡ string =
                   (let w : Some string ≡ Some (word site.sorted inner.queued) = inner.node in
                   let v : string ≡ word site.sorted inner.queued = cc in sym v) in
                   let at =
-                  site.ready.grown.apart inner.place later.0 inner.queued site.queued inner.waits later.2 e in
+                  site.ready.grown.apart inner.place later.place inner.queued site.queued inner.waits
+                  later.waits e in
                   let m = inner.number in
-                  let n = later.1 in
+                  let n = later.number in
                   absurd (omega arith)
 
       -- nor does a child that came before have this string
@@ -326,12 +325,11 @@ module _ (site : Site) where
       fresh k q e w = elim (cases_lt k (length site.queue)) [
         | inl before ↦ old-child k q before e w
         | inr le ↦
-            let pattern = h.children k q le e in
-            let x = pattern.1 in
-            let same_byte : x ≡ b = (push-injective string string x b (sym pattern.5 ∙ w)).1 in
+            let c = h.children k q le e in
+            let same_byte : c.byte ≡ b = (push-injective string string c.byte b (sym c.word_is ∙ w)).1 in
             let less =
-            h.smaller run.more pattern.0 (let m = site.ends.later in omega (arith, pattern.2)) pattern.3 in
-            let r : rank (next_byte pattern.0) ≡ suc x = ap rank pattern.4 in
+            h.smaller run.more c.by.at (let m = site.ends.later in let l = c.by.low in omega arith) c.by.high in
+            let r : rank (next_byte c.by.at) ≡ suc c.byte = ap rank c.by.byte in
             let s : rank (next_byte place) ≡ suc b = ap rank run.byte in
             absurd (omega arith)
       ]
@@ -404,16 +402,20 @@ module _ (site : Site) where
         parents = λ k q e. elim (get-added_cases queue child q k e) [
           | inl old ↦
               let r = h.grown.parents k q old in
-              (r.0, r.1, nodes-more site.sorted queue (child ∷ []) r.0 _ r.2)
-          | inr new ↦ (
-            length site.states,
-            omega arith,
-            subst (λ (r : QueuedState). slice_get (nodes_of site.sorted (queue ++ child ∷ []))
+              record {
+                parent = r.parent;
+                early = r.early;
+                named = nodes-more site.sorted queue (child ∷ []) r.parent _ r.named;
+              }
+          | inr new ↦ record {
+            parent = length site.states;
+            early = omega arith;
+            named = subst (λ (r : QueuedState). slice_get (nodes_of site.sorted (queue ++ child ∷ []))
                 (length site.states)
                 ≡ Some (Some (take (r.depth - 1) (word site.sorted r)))) new.1
                 (nodes-more site.sorted queue (child ∷ []) (length site.states) _
-                (h.node ∙ ap (λ (v : List ℕ). Some (Some v)) (sym parent-string))),
-          )
+                (h.node ∙ ap (λ (v : List ℕ). Some (Some v)) (sym parent-string)));
+          }
         ];
       }
 
@@ -430,17 +432,20 @@ module _ (site : Site) where
       ]
 
       step-by_patterns : (t : Transition) → IsIn t (h.added ++ more_transitions)
-          → (k : ℕ) × (site.patterns_end ≤ k) × (k < end) × (next_byte k ≡ Some (plain_byte site.fold t.byte))
+          → GoesOnBy end (plain_byte site.fold t.byte)
       step-by_patterns t has = elim (IsIn-append_cases t h.added more_transitions has) [
-        | inl old ↦ let r = h.by_patterns t old in (r.0, r.1, omega (arith, r.2), r.3)
-        | inr new ↦ (
-          place,
-          h.low,
-          run.some,
-          run.byte
+        | inl old ↦
+            let r = h.by_patterns t old in
+            let high = r.high in
+            record { at = r.at; low = r.low; high = omega arith; byte = r.byte }
+        | inr new ↦ record {
+          at = place;
+          low = h.low;
+          high = run.some;
+          byte = run.byte
               ∙ ap (λ (y : ℕ). Some y)
-              (sym (leading-plain site.fold b (FIRST_INNER + length queue) settled t new).0),
-        )
+              (sym (leading-plain site.fold b (FIRST_INNER + length queue) settled t new).0);
+        }
       ]
 
       step-covered : (k c x : ℕ) → site.patterns_end ≤ k → k < end → next_byte k ≡ Some c
@@ -464,10 +469,10 @@ module _ (site : Site) where
           IsOrdered-append (λ (s t : Transition). s.byte ≢ t.byte) h.added more_transitions h.apart
           (leading-apart site.fold b (FIRST_INNER + length queue))
           (λ s t old new e.
-          let pattern = h.by_patterns s old in
+          let r = h.by_patterns s old in
           let less =
-          h.smaller run.more pattern.0 (let m = site.ends.later in omega (arith, pattern.1)) pattern.2 in
-          let low : rank (next_byte pattern.0) ≡ suc (plain_byte site.fold s.byte) = ap rank pattern.3 in
+          h.smaller run.more r.at (let m = site.ends.later in let l = r.low in omega arith) r.high in
+          let low : rank (next_byte r.at) ≡ suc (plain_byte site.fold s.byte) = ap rank r.byte in
           let high : rank (next_byte place) ≡ suc b = ap rank run.byte in
           let is : plain_byte site.fold s.byte ≡ b =
           ap (plain_byte site.fold) e ∙ (leading-plain site.fold b (FIRST_INNER + length queue) settled t new).0
@@ -505,8 +510,19 @@ module _ (site : Site) where
         low = (let m = h.low in omega arith);
         high = run.high;
         children = λ c q le e. elim (get-added_cases queue child q c e) [
-          | inl old ↦ let r = h.children c q le old in (r.0, r.1, r.2, omega (arith, r.3), r.4, r.5)
-          | inr new ↦ (place, b, h.low, run.some, run.byte, sym (ap (word site.sorted) new.1) ∙ child-word)
+          | inl old ↦
+              let r = h.children c q le old in
+              let high = r.by.high in
+              record {
+                byte = r.byte;
+                by = record { at = r.by.at; low = r.by.low; high = omega arith; byte = r.by.byte };
+                word_is = r.word_is;
+              }
+          | inr new ↦ record {
+            byte = b;
+            by = record { at = place; low = h.low; high = run.some; byte = run.byte };
+            word_is = sym (ap (word site.sorted) new.1) ∙ child-word;
+          }
         ];
         added = h.added ++ more_transitions;
         split = ap (λ (ts : List Transition). ts ++ more_transitions) h.split
@@ -517,3 +533,26 @@ module _ (site : Site) where
         apart = step-apart;
         smaller = step-smaller;
       }
+
+-- from this source, with these transitions and this queue: the children of a state up to a place have come
+abbrev pub IsBranchingFrom : Source → List Transition → List QueuedState → QueuedState → ℕ → ℕ
+    → List Transition → List QueuedState → Type 0
+IsBranchingFrom from transitions queue queued end place new_transitions new_queue =
+    (patterns : List (List ℕ))
+    (ready : IsReady from.kind from.sorted.fold patterns from.sorted.patterns from.states transitions queue
+    queued)
+    (ends : EndsPatterns from.sorted.patterns queued end)
+    → IsBranching (record {
+      kind = from.kind;
+      fold = from.sorted.fold;
+      patterns = patterns;
+      sorted = from.sorted.patterns;
+      states = from.states;
+      transitions = transitions;
+      queue = queue;
+      queued = queued;
+      ready = ready;
+      patterns_end = end;
+      ends = ends;
+    })
+    place new_transitions new_queue

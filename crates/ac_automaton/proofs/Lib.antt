@@ -14,9 +14,11 @@ pub mod ListsOf
 pub mod Misses
 pub mod Orders
 pub mod Places
+pub mod Prefixes
 pub mod Ranges
 pub mod ReadOn
 pub mod Sorting
+pub mod Stacks
 pub mod Starting
 pub mod StateCount
 pub mod Steps

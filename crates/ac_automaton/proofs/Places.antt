@@ -1,10 +1,11 @@
 -- Elements of lists by their places, as a list grows and in a part of it.
-use Rattle.std.proofs.Common.{◌≡◌, ◌≢◌, Bool, true, false, not, ℕ, zero, suc, ◌+◌, ◌-◌, ◌<◌, List, [], ◌∷◌, ◌++◌, length, take, drop, ◌⊎◌, inl, inr, refl, ap, sym, ◌∙◌, subst, arith, Option, Some, None}
+use Rattle.std.proofs.Common.{◌≡◌, ◌≢◌, Bool, true, false, not, ℕ, zero, suc, ◌+◌, ◌-◌, ◌<◌, List, [], ◌∷◌, ◌++◌, length, length-take, get_or, take, drop, ◌⊎◌, inl, inr, refl, ap, sym, ◌∙◌, subst, arith, Option, Some, None}
 use Rattle.std.specs.Prelude.{is_some, slice_get, slice_range, Result, Ok, Err, MatchResult, IsErrAnd}
 use Rattle.std.proofs.lemmas.Bool.{false≢true}
+use Rattle.std.proofs.lemmas.List.{get_or-take}
 use Rattle.std.proofs.lemmas.Option.{get_or_from_slice_get, slice_get_within}
 use Rattle.std.proofs.Math.Seq.{take-append_seam, take-suc}
-use Rattle.ac_util.proofs.Lists.{IsIn, IsOrdered}
+use Rattle.ac_util.proofs.Lists.{IsIn, IsIn-at, IsOrdered}
 
 -- an element stays at its place as the list grows
 pub get-append : {X : Type 0} (xs ys : List X) (k : ℕ) (x : X) → slice_get xs k ≡ Some x
@@ -112,3 +113,31 @@ pub written-whole : {X : Type 0} (xs ys : List X) (len : ℕ) → length xs ≡ 
     → take len (xs ++ drop (length xs) ys) ≡ xs
 written-whole xs ys len l =
     ap (λ (n : ℕ). take n (xs ++ drop (length xs) ys)) (sym l) ∙ take-append_seam xs (drop (length xs) ys)
+
+-- the place of an element, as seen through any default
+pub place : {X : Type 0} (d m : X) (xs : List X) → IsIn m xs → (p : ℕ) × (p < length xs) × (get_or xs p d ≡ m)
+place d m [] h = absurd h
+place d m (x ∷ xs) (inl e) = (0, omega arith, e)
+place d m (x ∷ xs) (inr h) = let r = place d m xs h in (suc r.0, (let l = r.1 in omega arith), r.2)
+
+-- among the first n it is below n
+pub place-take : {X : Type 0} (d m : X) (n : ℕ) (xs : List X) → IsIn m (take n xs)
+    → (p : ℕ) × (p < n) × (p < length xs) × (get_or xs p d ≡ m)
+place-take d m n xs h =
+    let r = place d m (take n xs) h in
+    let l = r.1 in
+    let long = length-take n xs in
+    let below : r.0 < n = omega arith in
+    let within : r.0 < length xs = omega arith in
+    (r.0, below, within, sym (get_or-take n xs r.0 d below) ∙ r.2)
+
+-- an element below place n is among the first n
+pub IsIn-take : {X : Type 0} (d m : X) (n p : ℕ) (xs : List X) → p < n → p < length xs → get_or xs p d ≡ m
+    → IsIn m (take n xs)
+IsIn-take d m n p xs below within is =
+    let long = length-take n xs in
+    IsIn-at m d (take n xs) p (omega arith) (get_or-take n xs p d below ∙ is)
+
+-- an element among the first n is one
+pub IsIn-from_take : {X : Type 0} (m : X) (n : ℕ) (xs : List X) → IsIn m (take n xs) → IsIn m xs
+IsIn-from_take m n xs h = let r = place-take m m n xs h in IsIn-at m m xs r.0 r.2 r.3

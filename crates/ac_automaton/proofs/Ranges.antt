@@ -6,51 +6,24 @@ use Rattle.std.specs.Cmp.Lexicographic.{slice_cmp, nat_list_cmp_total}
 use Rattle.std.specs.List.{starts_with}
 use Rattle.std.specs.Ordering.{nat_cmp, ordering_reverse}
 use Rattle.std.specs.declared.cmp.Ordering.TheVariants.{Less, Greater}
-use Rattle.std.proofs.lemmas.Bool.{and_parts, and_from, eqb-true, eq-eqb, or_right, false≢true, cases_lt}
+use Rattle.std.proofs.lemmas.Bool.{or_right, cases_lt}
 use Rattle.std.proofs.lemmas.List.{length-map}
-use Rattle.std.proofs.lemmas.Option.{slice_get-map, slice_get-get_or, slice_get_within, slice_get_past}
+use Rattle.std.proofs.lemmas.Option.{slice_get-map, slice_get-get_or, slice_get_within}
 use Rattle.std.proofs.lemmas.Slice.Eq.{bytes_eq-Decides}
 use Rattle.ac_util.specs.declared.search.MatchKind.{MatchKind}
 use Rattle.ac_util.specs.Matches.{equal_to}
 use Rattle.ac_util.specs.Node.{participants, is_empty, is_node}
 use Rattle.ac_util.specs.Search.{pattern_of}
-use Rattle.ac_util.proofs.Fronts.{starts_with-itself, starts_with-length, starts_with-equal, starts_with-front, list_any-from_IsIn}
+use Rattle.ac_util.proofs.Fronts.{starts_with-itself, starts_with-front, list_any-from_IsIn}
 use Rattle.ac_util.proofs.LimitLemmas.{All-slice_get}
 use Rattle.ac_util.proofs.Lists.{IsIn, IsIn-filter, IsIn-from_filter, IsOrdered, IsOrdered-unique, Contains-from_IsIn, IsIn-from_Contains, nil-from_none, none-from_nil}
 use Rattle.ac_util.proofs.NodeCount.{any_passes}
 use Rattle.ac_util.proofs.Participants.{equal_to-ordered}
 use Rattle.ac_automaton.specs.Growths.{IsRangeOf}
 use Rattle.ac_automaton.specs.Sorted.{Keyed, IsOrder, byte_at, key_at, numbers}
+use Rattle.ac_automaton.proofs.Prefixes.{ended, starts_with-ended, starts_with-last, starts_with-push}
 use Rattle.ac_automaton.proofs.Orders.{rank, byte_at-ascends}
 use Rattle.ac_automaton.proofs.Places.{get-same, get-range, get-from_range, place-of, IsIn-place, IsOrdered-places}
-
--- a prefix of a string, with the byte that follows it there, is a prefix
-pub starts_with-push : (w u : List ℕ) (b : ℕ) → starts_with nat_eq w u ≡ true → slice_get w (length u) ≡ Some b
-    → starts_with nat_eq w (u ++ b ∷ []) ≡ true
-starts_with-push [] u b h e = absurd (cc)
-starts_with-push (x ∷ w) [] b h e = and_from _ _ (eq-eqb b x (let same : Some x ≡ Some b = e in cc)) refl
-starts_with-push (x ∷ w) (y ∷ u) b h e =
-    let parts = and_parts (nat_eq y x) (starts_with nat_eq w u) h in
-    and_from _ _ parts.0 (starts_with-push w u b parts.1 e)
-
--- the last byte of a prefix stands behind the rest of it
-pub starts_with-last : (w u : List ℕ) (b : ℕ) → starts_with nat_eq w (u ++ b ∷ []) ≡ true
-    → slice_get w (length u) ≡ Some b
-starts_with-last [] [] b h = absurd (false≢true h)
-starts_with-last [] (y ∷ u) b h = absurd (false≢true h)
-starts_with-last (x ∷ w) [] b h = ap (λ (z : ℕ). Some z) (sym (eqb-true b x (and_parts (nat_eq b x) true h).0))
-starts_with-last (x ∷ w) (y ∷ u) b h =
-    starts_with-last w u b (and_parts (nat_eq y x) (starts_with nat_eq w (u ++ b ∷ [])) h).1
-
--- a string without a byte behind a prefix is that prefix
-pub starts_with-ended : (w u : List ℕ) → starts_with nat_eq w u ≡ true → slice_get w (length u) ≡ None → w ≡ u
-starts_with-ended w u h e = elim (cases_lt (length u) (length w)) [
-  | inl more ↦ absurd (let byte = slice_get-get_or w (length u) 0 more in cc)
-  | inr le ↦ let l = starts_with-length w u h in sym (starts_with-equal w u h (omega arith))
-]
-
-ended : (u : List ℕ) → slice_get u (length u) ≡ None
-ended u = slice_get_past u (length u) (omega arith)
 
 not-less : (u : List ℕ) → slice_cmp nat_cmp u u ≡ Less → ⊥
 not-less u e =

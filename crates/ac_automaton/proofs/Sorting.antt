@@ -29,7 +29,7 @@ use Rattle.ac_util.specs.Sameness.{plain}
 use Rattle.ac_util.specs.Search.{pattern_of}
 use Rattle.ac_util.proofs.Lists.{IsOrdered, IsOrdered-map, IsOrdered-range, AllPairs-from_IsOrdered}
 use Rattle.ac_automaton.specs.declared.nfa.noncontiguous.sorted.SortedPattern.{SortedPattern}
-use Rattle.ac_automaton.specs.Sorted.{Keyed, Precedes, IsOrder, AreListed, compared, keyed, numbers}
+use Rattle.ac_automaton.specs.Sorted.{Keyed, Precedes, IsOrder, AreListed, compared, keyed, keyed_one, numbers}
 use Rattle.ac_automaton.proofs.Counting.{IsOrdered-from_AllPairs}
 
 -- the view has the number of the pattern that is stored at a place
@@ -123,11 +123,9 @@ record StandsBefore (fold : Bool) (a b : SortedPattern) : Type 0 where
 
 -- such patterns precede each other in the view
 Precedes-from_StandsBefore : (fold : Bool) (a b : SortedPattern) → StandsBefore fold a b
-    → Precedes (record { key = plain fold a.bytes.now; number = a.number })
-    (record { key = plain fold b.bytes.now; number = b.number })
+    → Precedes (keyed_one fold a) (keyed_one fold b)
 Precedes-from_StandsBefore fold a b s =
-    Precedes-by_parts (record { key = plain fold a.bytes.now; number = a.number })
-    (record { key = plain fold b.bytes.now; number = b.number })
+    Precedes-by_parts (keyed_one fold a) (keyed_one fold b)
     (slice_cmp nat_cmp (plain fold a.bytes.now) (plain fold b.bytes.now)) (nat_cmp a.number b.number) refl refl
     (ap is_gt ((compared-total fold).antisymm a b) ∙ is_gt-reverse (compared fold b a) ∙ s.no_greater) s.apart
 
@@ -159,9 +157,6 @@ module _ (fold : Bool) (patterns : List (List ℕ)) (listed : List SortedPattern
     (are : AreListed patterns listed) where
   abbrev number_of : SortedPattern → ℕ
   number_of m = m.number
-
-  abbrev keyed_one : SortedPattern → Keyed
-  keyed_one m = record { key = plain fold m.bytes.now; number = m.number }
 
   -- each is the pattern of its number
   listed-named : All (λ m. plain fold m.bytes.now ≡ pattern_of (map (plain fold) patterns) m.number) listed
@@ -233,9 +228,9 @@ module _ (fold : Bool) (patterns : List (List ℕ)) (listed : List SortedPattern
           apart = sorted-apart i j d below within;
         }) in record {
           ascending = AllPairs-from_IsOrdered Precedes (keyed fold sorted)
-              (IsOrdered-map (StandsBefore fold) Precedes keyed_one sorted
+              (IsOrdered-map (StandsBefore fold) Precedes (keyed_one fold) sorted
               (Precedes-from_StandsBefore fold) before);
-          named = All-map (λ m. m.key ≡ pattern_of (map (plain fold) patterns) m.number) keyed_one sorted
+          named = All-map (λ m. m.key ≡ pattern_of (map (plain fold) patterns) m.number) (keyed_one fold) sorted
               (All-permutation
               (λ m. plain fold m.bytes.now ≡ pattern_of (map (plain fold) patterns) m.number) listed sorted
               moved listed-named);

@@ -29,7 +29,8 @@ use Rattle.ac_automaton.proofs.Branching.{IsBranching, IsRun, Site, child-range,
 use Rattle.ac_automaton.proofs.Counting.{IsOrdered-from_AllPairs, length-le-from_IsOrdered}
 use Rattle.ac_automaton.proofs.Grown.{IsInner, nodes-cases}
 use Rattle.ac_automaton.proofs.Places.{place-of, IsIn-place, IsOrdered-places}
-use Rattle.ac_automaton.proofs.Ranges.{pattern-node, starts_with-last}
+use Rattle.ac_automaton.proofs.Ranges.{pattern-node}
+use Rattle.ac_automaton.proofs.Prefixes.{starts_with-last}
 
 -- the states are too many where they are more than their numbers
 too_many_states-some : (kind : MatchKind) (patterns : List (List ℕ)) → GREATEST + 1 < state_count kind patterns

@@ -9,13 +9,14 @@ use Rattle.ac_util.specs.declared.search.MatchKind.{MatchKind}
 use Rattle.ac_util.specs.Node.{Node}
 use Rattle.ac_util.specs.Sameness.{plain, plain_byte}
 use Rattle.ac_util.specs.Search.{pattern_of}
+use Rattle.ac_automaton.specs.declared.nfa.noncontiguous.growth.Growth.{Growth}
 use Rattle.ac_automaton.specs.declared.nfa.noncontiguous.growth.QueuedState.{QueuedState}
 use Rattle.ac_automaton.specs.declared.nfa.noncontiguous.state.State.{State}
 use Rattle.ac_automaton.specs.declared.nfa.noncontiguous.state.TheConstants.{START, ANCHORED_START, FIRST_INNER}
 use Rattle.ac_automaton.specs.declared.nfa.noncontiguous.state.Transition.{Transition}
 use Rattle.ac_automaton.specs.Builds.{too_many_states}
-use Rattle.ac_automaton.specs.Growths.{HasBranched, IsGrown, IsReady, Waits, grown_meaning, nodes_of, word}
-use Rattle.ac_automaton.specs.Sorted.{Keyed, IsOrder, byte_at, key_at, numbers}
+use Rattle.ac_automaton.specs.Growths.{first_states, HasBegun, HasBranched, IsGrown, IsReady, Waits, grown_meaning, nodes_of, word}
+use Rattle.ac_automaton.specs.Sorted.{Keyed, IsOrder, Sorted, byte_at, key_at, numbers}
 use Rattle.ac_automaton.specs.Tries.{AreStates, IsTable, Meaning, NumbersNodes, Represents, dead_state, state_at, trie_of}
 use Rattle.ac_automaton.proofs.Grown.{AreStates-push, nodes-inner}
 use Rattle.ac_automaton.proofs.ListsOf.{listed_within-matches}
@@ -82,10 +83,6 @@ sorted-plain kind fold texts sorted order place depth b e =
           absurd (let f : None ≡ Some b = sym (ap (λ (m : Keyed). slice_get m.key depth) is) ∙ e in cc)
     ]
 
--- the first two states
-abbrev pub first_states : List State
-first_states = dead_state ∷ dead_state ∷ []
-
 module _ (kind : MatchKind) (fold : Bool) (patterns : List (List ℕ)) (sorted : List Keyed) where
   dead-represents : (s : ℕ) → s < START
       → Represents (grown_meaning kind fold patterns sorted [] []) s None dead_state
@@ -146,7 +143,7 @@ module _ (kind : MatchKind) (fold : Bool) (patterns : List (List ℕ)) (sorted :
     };
     meant = first-states;
     waits = waits;
-    next = inl (refl, refl, depth);
+    next = inl (record { number = refl; empty = refl; depth = depth });
   }
 
   -- the states up to those of the queue before `at` are whole
@@ -166,7 +163,10 @@ module _ (kind : MatchKind) (fold : Bool) (patterns : List (List ℕ)) (sorted :
     counted = grown.counted;
     waits = grown.waits;
     apart = grown.apart;
-    parents = λ k q e. let r = grown.parents k q e in (r.0, omega (arith, r.1), r.2);
+    parents = λ k q e.
+        let r = grown.parents k q e in
+        let early = r.early in
+        record { parent = r.parent; early = omega arith; named = r.named };
   }
 
   -- with the start at both its numbers the first four are whole
@@ -222,7 +222,7 @@ module _ (kind : MatchKind) (fold : Bool) (patterns : List (List ℕ)) (sorted :
     grown = h.grown;
     meant = h.meant;
     waits = subst (λ (n : ℕ). Waits kind patterns sorted queue n p) (sym h.count) (h.grown.waits at p e);
-    next = inr (at, h.count, e);
+    next = inr (record { place = at; number = h.count; waits = e });
   }
 
   pub going-on : {states : List State} {transitions : List Transition} {queue : List QueuedState} {at : ℕ}
@@ -246,6 +246,20 @@ module _ (kind : MatchKind) (fold : Bool) (patterns : List (List ℕ)) (sorted :
       node =
           ap (slice_get (nodes_of sorted new_queue)) h.count
           ∙ nodes-inner sorted new_queue at p (b.kept at p e)
+
+-- the states up to those of the queue before a place are whole, whatever list the sorted patterns are of
+abbrev pub IsGoingFrom : MatchKind → Sorted → List State → List Transition → List QueuedState → ℕ → Type 0
+IsGoingFrom kind sorted states transitions queue at =
+    (texts : List (List ℕ)) → IsOrder kind (map (plain sorted.fold) texts) sorted.patterns
+    → IsGoing kind sorted.fold (map (plain sorted.fold) texts) sorted.patterns states transitions queue at
+
+-- the patterns of a trie that begins to grow are in order
+pub begun-order : {Z : Type 0} (fold : Bool) (texts : List (List ℕ)) (growth : Growth Z)
+    → HasBegun fold texts growth
+    → IsOrder growth.kind (map (plain growth.sorted.fold) texts) growth.sorted.patterns
+begun-order fold texts growth begun =
+    subst (λ (f : Bool). IsOrder growth.kind (map (plain f) texts) growth.sorted.patterns)
+    (sym begun.sorts.fold_is) begun.sorts.order
 
 -- where the whole queue is, the states are those of an automaton
 module _ (texts : List (List ℕ)) {fold : Bool} {kind : MatchKind} {sorted : List Keyed}

@@ -11,13 +11,18 @@ use Rattle.ac_util.specs.declared.primitives.TheConstants.{GREATEST}
 use Rattle.ac_util.specs.declared.search.MatchKind.{MatchKind}
 use Rattle.ac_util.specs.Node.{Node}
 use Rattle.ac_util.specs.Sameness.{plain, plain_byte}
+use Rattle.ac_automaton.specs.declared.nfa.noncontiguous.growth.Growth.{Growth}
 use Rattle.ac_automaton.specs.declared.nfa.noncontiguous.growth.QueuedState.{QueuedState}
 use Rattle.ac_automaton.specs.declared.nfa.noncontiguous.state.State.{State}
 use Rattle.ac_automaton.specs.declared.nfa.noncontiguous.state.TheConstants.{DEAD, START, FIRST_INNER}
 use Rattle.ac_automaton.specs.declared.nfa.noncontiguous.state.Transition.{Transition}
 use Rattle.ac_automaton.specs.Builds.{too_many_states}
-use Rattle.ac_automaton.specs.Sorted.{Keyed, IsOrder, byte_at, key_at, numbers}
-use Rattle.ac_automaton.specs.Tries.{Meaning, AreStates, IsTable, Represents, miss, trie_of}
+use Rattle.ac_automaton.specs.Sorted.{AreSorted, Keyed, IsOrder, Sorted, byte_at, key_at, numbers}
+use Rattle.ac_automaton.specs.Tries.{Meaning, AreStates, IsTable, Represents, dead_state, miss, trie_of}
+
+-- the dead state, and the one that no search reaches
+abbrev pub first_states : List State
+first_states = dead_state ∷ dead_state ∷ []
 
 -- the string of a queued state: the bytes of its first pattern up to its depth
 abbrev pub word : List Keyed → QueuedState → List ℕ
@@ -78,6 +83,12 @@ module _ (kind : MatchKind) (patterns : List (List ℕ)) (sorted : List Keyed) w
     pub some : FIRST_INNER ≤ s → p.from < p.to
     pub inner : FIRST_INNER ≤ s → 0 < p.depth
 
+  -- one of the first states is the parent of a queued one
+  pub record HasParent (whole : ℕ) (queue : List QueuedState) (q : QueuedState) : Type 0 where
+    pub parent : ℕ
+    pub early : parent < whole
+    pub named : slice_get (nodes_of sorted queue) parent ≡ Some (Some (take (q.depth - 1) (word sorted q)))
+
   -- each state in the queue waits, no two have one string, and each is a child of one of the first states
   pub record IsGrown (whole : ℕ) (transitions : List Transition) (queue : List QueuedState) : Type 0 where
     pub few : FIRST_INNER + length queue ≤ GREATEST + 1
@@ -85,15 +96,23 @@ module _ (kind : MatchKind) (patterns : List (List ℕ)) (sorted : List Keyed) w
     pub waits : (k : ℕ) (p : QueuedState) → slice_get queue k ≡ Some p → Waits queue (FIRST_INNER + k) p
     pub apart : (j k : ℕ) (p q : QueuedState) → slice_get queue j ≡ Some p → slice_get queue k ≡ Some q
         → word sorted p ≡ word sorted q → j ≡ k
-    pub parents : (k : ℕ) (q : QueuedState) → slice_get queue k ≡ Some q
-        → (j : ℕ) × (j < whole)
-        × (slice_get (nodes_of sorted queue) j ≡ Some (Some (take (q.depth - 1) (word sorted q))))
+    pub parents : (k : ℕ) (q : QueuedState) → slice_get queue k ≡ Some q → HasParent whole queue q
 
-  -- the next state is the start, or the first in the queue that isn't whole
+  -- the next state is the start
+  pub record IsFirst (queue : List QueuedState) (s : ℕ) (p : QueuedState) : Type 0 where
+    pub number : s ≡ START
+    pub empty : queue ≡ []
+    pub depth : p.depth ≡ 0
+
+  -- the next state is the one at a place in the queue
+  pub record IsQueued (queue : List QueuedState) (s : ℕ) (p : QueuedState) : Type 0 where
+    pub place : ℕ
+    pub number : s ≡ FIRST_INNER + place
+    pub waits : slice_get queue place ≡ Some p
+
+  -- the next state is the start, or the first in the queue that isn't complete
   abbrev pub IsNext : List QueuedState → ℕ → QueuedState → Type 0
-  IsNext queue s p =
-      ((s ≡ START) × (queue ≡ []) × (p.depth ≡ 0))
-      ⊎ ((k : ℕ) × (s ≡ FIRST_INNER + k) × (slice_get queue k ≡ Some p))
+  IsNext queue s p = IsFirst queue s p ⊎ IsQueued queue s p
 
 module _ (kind : MatchKind) (fold : Bool) (patterns : List (List ℕ)) (sorted : List Keyed) where
   -- what the numbers mean as far as the trie has grown
@@ -107,7 +126,7 @@ module _ (kind : MatchKind) (fold : Bool) (patterns : List (List ℕ)) (sorted :
     nodes = nodes_of sorted queue;
   }
 
-  -- the states are whole up to one that is next
+  -- all states before the next one are complete
   pub record IsReady (states : List State) (transitions : List Transition) (queue : List QueuedState)
       (p : QueuedState) : Type 0 where
     pub order : IsOrder kind patterns sorted
@@ -117,7 +136,7 @@ module _ (kind : MatchKind) (fold : Bool) (patterns : List (List ℕ)) (sorted :
     pub waits : Waits kind patterns sorted queue (length states) p
     pub next : IsNext kind patterns sorted queue (length states) p
 
-  -- a waiting state has a child by the byte: the patterns from the place on lead to it
+  -- a queued state has a child by the byte, whose patterns begin at the place
   pub record HasChild (states : List State) (transitions : List Transition) (queue : List QueuedState)
       (p : QueuedState)
       (place byte : ℕ) : Type 0 where
@@ -130,7 +149,7 @@ module _ (kind : MatchKind) (fold : Bool) (patterns : List (List ℕ)) (sorted :
     pub range : IsRangeOf sorted (word sorted p ++ byte ∷ []) place to
     pub some : place < to
 
-  -- its children have been put behind the queue, and it is whole
+  -- the children of a queued state have been added to the queue, and it is complete
   pub record HasBranched (states : List State) (queue : List QueuedState) (p : QueuedState) (t : State)
       (new_transitions : List Transition)
       (new_queue : List QueuedState) : Type 0 where
@@ -140,13 +159,48 @@ module _ (kind : MatchKind) (fold : Bool) (patterns : List (List ℕ)) (sorted :
         (Some (word sorted p)) t
     pub kept : (k : ℕ) (q : QueuedState) → slice_get queue k ≡ Some q → slice_get new_queue k ≡ Some q
 
--- the fail number stands for the failure target of the node, and is among the states below s, but for the
--- start's
+-- what branching leaves as it is: the match kind, the sorted patterns, and the complete states
+pub record Source : Type 0 where
+  pub kind : MatchKind
+  pub sorted : Sorted
+  pub states : List State
+
+-- that of a growing trie
+abbrev pub source_of : {Z : Type 0} → Growth Z → Source
+source_of growth = record { kind = growth.kind; sorted = growth.sorted; states = growth.states.items }
+
+-- a growing trie may branch at a queued state
+abbrev pub MayBranch : {Z : Type 0} → List (List ℕ) → Growth Z → QueuedState → Type 0
+MayBranch patterns growth queued =
+    IsReady growth.kind growth.sorted.fold patterns growth.sorted.patterns growth.states.items
+    growth.transitions.items growth.queue.items queued
+
+-- it has branched there, and the complete state is t
+abbrev pub Branches : {Z : Type 0} → List (List ℕ) → Growth Z → Growth Z → QueuedState → State → Type 0
+Branches patterns growth new_growth queued t =
+    HasBranched growth.kind growth.sorted.fold patterns growth.sorted.patterns growth.states.items
+    growth.queue.items queued t new_growth.transitions.items new_growth.queue.items
+
+-- a queued state of a growing trie has such a child
+abbrev pub HasChildIn : {Z : Type 0} → List (List ℕ) → Growth Z → QueuedState → ℕ → ℕ → Type 0
+HasChildIn patterns growth queued place byte =
+    HasChild growth.kind growth.sorted.fold patterns growth.sorted.patterns growth.states.items
+    growth.transitions.items growth.queue.items queued place byte
+
+-- the number fail stands for the failure target of the node; that of the start may be the start itself, any
+-- other is less than s
 pub record LinkIsDue (g : Meaning) (s : ℕ) (u : List ℕ) (fail : ℕ) : Type 0 where
   pub fails : slice_get g.nodes fail ≡ Some (miss g.kind g.patterns (Some u))
   pub dead : slice_get g.nodes DEAD ≡ Some None
   pub near : u ≢ [] → fail < s
   pub start : u ≡ [] → fail < s → (fail < START) × (slice_get g.nodes fail ≡ Some None)
+
+-- a trie of the patterns begins to grow: with its first two states, and nothing in the queue
+pub record HasBegun {Z : Type 0} (fold : Bool) (texts : List (List ℕ)) (growth : Growth Z) : Type 0 where
+  pub sorts : AreSorted growth.kind fold texts growth.sorted
+  pub two : growth.states.items ≡ first_states
+  pub no_transitions : growth.transitions.items ≡ []
+  pub no_queue : growth.queue.items ≡ []
 
 -- the transitions and states are those of an automaton, which has no more states than there are numbers
 pub record IsWhole (texts : List (List ℕ)) (fold : Bool) (kind : MatchKind) (order : List ℕ)

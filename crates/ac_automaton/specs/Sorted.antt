@@ -17,13 +17,22 @@ pub record Keyed : Type 0 where
   pub key : List ℕ
   pub number : ℕ
 
+-- sorted patterns, and whether their case is ignored
+pub record Sorted : Type 0 where
+  pub fold : Bool
+  pub patterns : List Keyed
+
 -- the numbers of sorted patterns
 abbrev pub numbers : List Keyed → List ℕ
 numbers sorted = map (λ m. m.number) sorted
 
--- the patterns of a list with their plain bytes
+-- a pattern with its plain bytes
+abbrev pub keyed_one : Bool → SortedPattern → Keyed
+keyed_one fold m = record { key = plain fold m.bytes.now; number = m.number }
+
+-- the patterns of a list so
 abbrev pub keyed : Bool → List SortedPattern → List Keyed
-keyed fold sorted = map (λ m. record { key = plain fold m.bytes.now; number = m.number }) sorted
+keyed fold sorted = map (keyed_one fold) sorted
 
 -- the plain bytes of the pattern at a place
 abbrev pub key_at : List Keyed → ℕ → List ℕ
@@ -57,3 +66,8 @@ pub record IsOrder (kind : MatchKind) (patterns : List (List ℕ)) (sorted : Lis
   pub ascending : AllPairs Precedes sorted
   pub named : All (λ m. m.key ≡ pattern_of patterns m.number) sorted
   pub lists : (n : ℕ) → Contains (numbers sorted) n ↔ Contains (participants kind patterns) n
+
+-- these are the patterns of the list that take part, sorted with or without case
+pub record AreSorted (kind : MatchKind) (fold : Bool) (texts : List (List ℕ)) (sorted : Sorted) : Type 0 where
+  pub fold_is : sorted.fold ≡ fold
+  pub order : IsOrder kind (map (plain fold) texts) sorted.patterns

@@ -15,6 +15,7 @@ use ac_util::patterns::Patterns;
 use ac_util::prefilter::Prefilter;
 use ac_util::primitives::{PatternID, StateID};
 use ac_util::search::{Anchored, MatchKind};
+use growth::TrieLists;
 use state::{
     ANCHORED_START, DEAD, FIRST_INNER, START, State, Transition, follow, listed_len, listed_pattern,
 };
@@ -43,9 +44,7 @@ pub struct NFA<A: Allocator = Global> {
     fold: bool,
     shortest: usize,
     longest: usize,
-    order: Vec<PatternID, A>,
-    transitions: Vec<Transition, A>,
-    states: Vec<State, A>,
+    lists: TrieLists<A>,
 }
 
 impl<A: Allocator> Model for NFA<A> {
@@ -57,11 +56,11 @@ impl<A: Allocator> Model for NFA<A> {
     ghost Value = { Trie };
 
     ghost view = { λ n. trie_of n.patterns.value n.fold n.kind
-        n.order.items n.transitions.items n.states.items };
+        n.lists.order.items n.lists.transitions.items n.lists.states.items };
 
     ghost invariant = { λ n. record {
       table : (nodes : List Node) × IsTable (trie_of n.patterns.value n.fold n.kind
-          n.order.items n.transitions.items n.states.items) nodes;
+          n.lists.order.items n.lists.transitions.items n.lists.states.items) nodes;
       shortest : n.shortest ≡ shortest_len n.patterns.value;
       longest : n.longest ≡ longest_len n.patterns.value;
     } };
@@ -97,7 +96,7 @@ impl<A: Allocator> NFA<A> {
         ensures value { result.now ≡ self.now.states }
         ensures table { (nodes : List Node) × IsTable self.now nodes }
     {
-        &self.states
+        &self.lists.states
     }
 
     /// Returns the transitions of all states.
@@ -105,7 +104,7 @@ impl<A: Allocator> NFA<A> {
     fn transitions(&self) -> &[Transition]
         ensures { result.now ≡ self.now.transitions }
     {
-        &self.transitions
+        &self.lists.transitions
     }
 
     /// Returns the patterns that take part, in ascending order of their bytes.
@@ -113,12 +112,12 @@ impl<A: Allocator> NFA<A> {
     fn order(&self) -> &[PatternID]
         ensures { result.now ≡ self.now.order }
     {
-        &self.order
+        &self.lists.order
     }
 
     /// Returns the allocator of the automaton.
     pub fn allocator(&self) -> &A {
-        self.states.allocator()
+        self.lists.states.allocator()
     }
 
     /// Returns the patterns.
@@ -218,12 +217,13 @@ impl<A: Allocator> Automaton for NFA<A> {
     }
 
     fn memory_usage(&self) -> usize {
-        let states = self.states.len().saturating_mul(size_of::<State>());
-        let transitions = self
+        let lists = &self.lists;
+        let states = lists.states.len().saturating_mul(size_of::<State>());
+        let transitions = lists
             .transitions
             .len()
             .saturating_mul(size_of::<Transition>());
-        let order = self.order.len().saturating_mul(size_of::<PatternID>());
+        let order = lists.order.len().saturating_mul(size_of::<PatternID>());
         states
             .saturating_add(transitions)
             .saturating_add(order)

@@ -1,21 +1,15 @@
 //! Builds of a trie with failure links.
-ghost use Rattle.std.specs.Prelude.{◌≡◌, IfOk, MatchResult, map};
+ghost use Rattle.std.specs.Prelude.{◌≡◌, MatchResult};
 ghost use Rattle.ac_util.specs.Borrowed.{bytes_of};
-ghost use Rattle.ac_util.specs.Sameness.{plain};
-ghost use Rattle.ac_automaton.specs.Builds.{IsBuilt, IsRefused, Refuses, noncontiguous_rules, too_many_states, usual_settings};
-ghost use Rattle.ac_automaton.specs.Growths.{IsWhole};
-ghost use Rattle.ac_automaton.specs.Sorted.{numbers};
+ghost use Rattle.ac_automaton.specs.Builds.{IsBuilt, Refuses, noncontiguous_rules, usual_settings};
 
 use super::NFA;
-use super::growth::{Grown, grow};
+use super::growth::TrieLists;
 use super::lengths::{longest_of, shortest_of};
-use super::sorted::SortedPatterns;
-use super::state::{State, Transition};
 use ac_util::error::BuildError;
 use ac_util::patterns::Patterns;
-use ac_util::primitives::PatternID;
 use ac_util::search::MatchKind;
-use std::alloc::{AllocError, Allocator};
+use std::alloc::Allocator;
 use std::marker::Model;
 use std::rc::Rc;
 
@@ -100,7 +94,7 @@ impl Builder {
             (Refuses noncontiguous_rules self.now (bytes_of patterns.now)) }
     {
         let patterns = Patterns::new(alloc, patterns)?;
-        let whole = whole_of(&patterns, self.kind, self.fold)?;
+        let lists = TrieLists::of(&patterns, self.kind, self.fold)?;
         let alloc = patterns.allocator().clone()?;
         Ok(NFA {
             shortest: shortest_of(&patterns),
@@ -108,63 +102,7 @@ impl Builder {
             patterns: Rc::new(alloc, patterns)?,
             kind: self.kind,
             fold: self.fold,
-            order: whole.order,
-            transitions: whole.transitions,
-            states: whole.states,
+            lists,
         })
     }
-}
-
-/// The lists of an automaton.
-#[derive(Drop)]
-struct Whole<A: Allocator> {
-    order: Vec<PatternID, A>,
-    transitions: Vec<Transition, A>,
-    states: Vec<State, A>,
-}
-
-/// Returns the lists of an automaton over these patterns.
-///
-/// # Errors
-/// `StateIdOverflow` where there are more nodes than state numbers, `Memory` where a request for memory is
-/// refused.
-fn whole_of<A: Allocator + Clone>(
-    patterns: &Patterns<A>,
-    kind: MatchKind,
-    fold: bool,
-) -> Result<Whole<A>, BuildError>
-    ensures { MatchResult result
-        (λ whole. IsWhole patterns.now fold kind
-        whole.order.items whole.transitions.items whole.states.items)
-        (IsRefused (too_many_states kind (map (plain fold) patterns.now))) }
-{
-    let alloc = patterns.allocator();
-    let sorted = SortedPatterns::of(alloc.clone()?, patterns, kind, fold)?;
-    let order = numbers_of(alloc.clone()?, &sorted)?;
-    let Grown {
-        transitions,
-        states,
-    } = grow(alloc.clone()?, &sorted, kind, fold)?;
-    Ok(Whole {
-        order,
-        transitions,
-        states,
-    })
-}
-
-/// Returns the numbers of the patterns that take part, in their order.
-///
-/// # Errors
-/// `AllocError` where a request for memory is refused.
-fn numbers_of<A: Allocator>(
-    alloc: A,
-    sorted: &SortedPatterns<'_, A>,
-) -> Result<Vec<PatternID, A>, AllocError>
-    ensures { IfOk result (λ order. order.items ≡ numbers sorted.now) }
-{
-    let mut order = Vec::new(alloc);
-    for place in 0..sorted.len() {
-        order.push(sorted.number(place))?;
-    }
-    Ok(order)
 }

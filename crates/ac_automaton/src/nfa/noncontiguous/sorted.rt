@@ -1,10 +1,10 @@
 //! The patterns that take part, sorted by their bytes.
-ghost use Rattle.std.specs.Prelude.{◌≡◌, ◌≢◌, ℕ, ◌+◌, ◌-◌, ◌<◌, ◌≤◌, List, true, false, nat_eq, All, IfOk, IsTrue, OnOk, length, map, slice_get, take};
+ghost use Rattle.std.specs.Prelude.{◌≡◌, ◌≢◌, ℕ, ◌+◌, ◌-◌, ◌<◌, ◌≤◌, Bool, List, true, false, nat_eq, All, IfOk, IsTrue, OnOk, length, map, slice_get, take};
 ghost use Rattle.std.specs.List.{AllWithin, HoldsAt, starts_with};
 ghost use Rattle.ac_util.specs.declared.primitives.TheConstants.{GREATEST};
 ghost use Rattle.ac_util.specs.declared.search.MatchKind.TheVariants.{LeftmostFirst, Standard};
 ghost use Rattle.ac_util.specs.Sameness.{plain};
-ghost use Rattle.ac_automaton.specs.Sorted.{AreListed, IsOrder, byte_at, compared, is_prefix, key_at, keyed, numbers};
+ghost use Rattle.ac_automaton.specs.Sorted.{AreListed, AreSorted, IsOrder, byte_at, compared, is_prefix, key_at, keyed, numbers};
 
 use ac_util::patterns::{Patterns, plain_byte};
 use ac_util::primitives::PatternID;
@@ -32,13 +32,13 @@ pub(crate) struct SortedPatterns<'p, A: Allocator> {
 }
 
 impl<'p, A: Allocator> Model for SortedPatterns<'p, A> {
-    ghost use Rattle.std.specs.Prelude.{List, ◌≤◌, ◌+◌, All, length};
+    ghost use Rattle.std.specs.Prelude.{◌≤◌, ◌+◌, All, length};
     ghost use Rattle.ac_util.specs.declared.primitives.TheConstants.{GREATEST};
-    ghost use Rattle.ac_automaton.specs.Sorted.{Keyed, keyed};
+    ghost use Rattle.ac_automaton.specs.Sorted.{Sorted, keyed};
 
-    ghost Value = { List Keyed };
+    ghost Value = { Sorted };
 
-    ghost view = { λ m. keyed m.fold m.patterns.items };
+    ghost view = { λ m. record { fold = m.fold; patterns = keyed m.fold m.patterns.items } };
 
     ghost invariant = { λ m. record {
       few : length m.patterns.items ≤ GREATEST + 1;
@@ -52,12 +52,12 @@ impl<'p, A: Allocator> SortedPatterns<'p, A> {
     ///
     /// # Errors
     /// `AllocError` where a request for memory is refused.
-    pub(crate) fn sorted(
+    fn sorted(
         alloc: A,
         patterns: &'p Patterns<A>,
         fold: bool,
     ) -> Result<SortedPatterns<'p, A>, AllocError>
-        ensures { IfOk result (λ sorted. IsOrder Standard (map (plain fold) patterns.now) sorted) }
+        ensures { IfOk result (AreSorted Standard fold patterns.now) }
     {
         let mut patterns = listed(alloc, patterns)?;
         patterns.sort_unstable_by(|a, b| compare(a, b, fold));
@@ -68,19 +68,27 @@ impl<'p, A: Allocator> SortedPatterns<'p, A> {
     ///
     /// # Errors
     /// `AllocError` where a request for memory is refused.
-    pub(crate) fn participating(mut self, alloc: A) -> Result<SortedPatterns<'p, A>, AllocError>
-        ensures { IfOk result (λ sorted. (patterns : List (List ℕ))
-            → IsOrder Standard patterns self.entry → IsOrder LeftmostFirst patterns sorted) }
+    fn participating(mut self, alloc: A) -> Result<SortedPatterns<'p, A>, AllocError>
+        ensures { IfOk result (λ sorted. (fold : Bool) (texts : List (List ℕ))
+            → AreSorted Standard fold texts self.entry → AreSorted LeftmostFirst fold texts sorted) }
     {
         let fold = self.fold;
         keep_participants(&mut self.patterns, fold, alloc)?;
         Ok(self)
     }
 
+    /// Returns whether their case is ignored.
+    #[inline]
+    pub(crate) fn fold(&self) -> bool
+        ensures { result ≡ self.now.fold }
+    {
+        self.fold
+    }
+
     /// Returns how many there are.
     #[inline]
     pub(crate) fn len(&self) -> usize
-        ensures value { result ≡ length self.now }
+        ensures value { result ≡ length self.now.patterns }
         ensures few { result ≤ GREATEST + 1 }
     {
         self.patterns.len()
@@ -88,19 +96,33 @@ impl<'p, A: Allocator> SortedPatterns<'p, A> {
 
     /// Returns the number of the one at a place.
     #[inline]
-    pub(crate) fn number(&self, place: usize) -> PatternID
-        requires within { place < length self.now }
-        ensures { slice_get (numbers self.now) place ≡ Some result }
+    fn number(&self, place: usize) -> PatternID
+        requires within { place < length self.now.patterns }
+        ensures { slice_get (numbers self.now.patterns) place ≡ Some result }
     {
         PatternID::must(self.patterns[place].number as usize)
+    }
+
+    /// Returns their numbers, in order.
+    ///
+    /// # Errors
+    /// `AllocError` where a request for memory is refused.
+    pub(crate) fn numbers(&self, alloc: A) -> Result<Vec<PatternID, A>, AllocError>
+        ensures { IfOk result (λ order. order.items ≡ numbers self.now.patterns) }
+    {
+        let mut order = Vec::new(alloc);
+        for place in 0..self.len() {
+            order.push(self.number(place))?;
+        }
+        Ok(order)
     }
 
     /// Returns the plain byte at a depth of the one at a place, or `None` past its end.
     #[inline]
     pub(crate) fn byte(&self, place: usize, depth: usize) -> Option<u8>
-        requires within { place < length self.now }
-        ensures value { result ≡ byte_at self.now depth place }
-        ensures short { length (key_at self.now place) ≤ GREATEST }
+        requires within { place < length self.now.patterns }
+        ensures value { result ≡ byte_at self.now.patterns depth place }
+        ensures short { length (key_at self.now.patterns place) ≤ GREATEST }
     {
         let byte = self.patterns[place].bytes.get(depth)?;
         Some(plain_byte(self.fold, *byte))
@@ -109,12 +131,13 @@ impl<'p, A: Allocator> SortedPatterns<'p, A> {
     /// Returns where those end that have the same byte at a depth as the one at the start, or none there as it.
     pub(crate) fn run_end(&self, start: usize, end: usize, depth: usize) -> usize
         requires some { start < end }
-        requires within { end ≤ length self.now }
+        requires within { end ≤ length self.now.patterns }
         ensures later { start < result }
         ensures within { result ≤ end }
         ensures same { (k : ℕ) → start ≤ k → k < result
-            → byte_at self.now depth k ≡ byte_at self.now depth start }
-        ensures other { result < end → byte_at self.now depth result ≢ byte_at self.now depth start }
+            → byte_at self.now.patterns depth k ≡ byte_at self.now.patterns depth start }
+        ensures other { result < end → byte_at self.now.patterns depth result
+            ≢ byte_at self.now.patterns depth start }
     {
         let first = self.byte(start, depth);
         let mut at = start + 1;
@@ -136,7 +159,7 @@ impl<'p, A: Allocator + Clone> SortedPatterns<'p, A> {
         kind: MatchKind,
         fold: bool,
     ) -> Result<SortedPatterns<'p, A>, AllocError>
-        ensures { IfOk result (λ sorted. IsOrder kind (map (plain fold) patterns.now) sorted) }
+        ensures { IfOk result (AreSorted kind fold patterns.now) }
     {
         match kind {
             MatchKind::LeftmostFirst => {

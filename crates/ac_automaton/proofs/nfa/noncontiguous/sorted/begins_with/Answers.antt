@@ -1,7 +1,7 @@
 -- One more place is compared.
 use Rattle.std.proofs.Common.{sym, ◌∙◌, arith}
 use Rattle.ac_util.specs.Sameness.{plain_byte}
-use Rattle.ac_automaton.proofs.Keeping.{starts_with-differs, starts_with-agrees}
+use Rattle.ac_automaton.proofs.Prefixes.{starts_with-differs, starts_with-agrees}
 use Rattle.ac_automaton.proofs.nfa.noncontiguous.sorted.begins_with.Goals as goal
 
 pub returns-then-plain_byte : goal.returns-then-plain_byte

@@ -2,15 +2,16 @@
 use Rattle.std.proofs.Common.{◌≡◌, ◌<◌, List, Some, length, ap, sym, ◌∙◌, arith}
 use Rattle.std.proofs.lemmas.List.{length-map}
 use Rattle.std.specs.Prelude.{slice_get}
-use Rattle.ac_automaton.specs.Sorted.{Keyed, numbers, keyed}
+use Rattle.ac_automaton.specs.Sorted.{Keyed, Sorted, numbers, keyed}
 use Rattle.ac_automaton.proofs.Sorting.{number_at}
 use Rattle.ac_automaton.proofs.nfa.noncontiguous.sorted.SortedPatterns.number.Goals as goal
 
 pub returns : goal.returns
 returns g c =
     let items = c.self.inside.patterns.items in
-    let view : c.args.self.now ≡ keyed c.self.inside.fold items = sym c.self.view_is in
-    let long : length c.args.self.now ≡ length items = ap length view ∙ length-map items _ in
+    let view : c.args.self.now.patterns ≡ keyed c.self.inside.fold items =
+    ap (λ (s : Sorted). s.patterns) (sym c.self.view_is) in
+    let long : length c.args.self.now.patterns ≡ length items = ap length view ∙ length-map items _ in
     let within : c.args.place < length items = omega (arith, long, c.requires.within) in
     ap (λ (m : List Keyed). slice_get (numbers m) c.args.place) view
     ∙ number_at c.self.inside.fold items c.args.place c.index.result.now within c.index.ensures

@@ -1,10 +1,14 @@
 -- What is kept of the patterns is in order where all patterns were.
-use Rattle.std.proofs.Common.{sym, subst}
+use Rattle.std.proofs.Common.{ap, map, sym, ◌∙◌, subst}
 use Rattle.ac_util.specs.declared.search.MatchKind.TheVariants.{Standard}
-use Rattle.ac_automaton.specs.Sorted.{IsOrder}
+use Rattle.ac_util.specs.Sameness.{plain}
+use Rattle.ac_automaton.specs.Sorted.{IsOrder, Sorted}
 use Rattle.ac_automaton.proofs.nfa.noncontiguous.sorted.SortedPatterns.participating.Goals as goal
 
 pub returns : goal.returns
-returns g c = λ patterns order.
-    c.in_ok-keep_participants.ensures.kept patterns
-    (subst (IsOrder Standard patterns) (sym c.self.view_is) order)
+returns g c = λ fold texts all. record {
+  fold_is = ap (λ (s : Sorted). s.fold) c.self.view_is ∙ all.fold_is;
+  order = c.in_ok-keep_participants.ensures.kept (map (plain fold) texts)
+      (subst (λ (s : Sorted). IsOrder Standard (map (plain fold) texts) s.patterns)
+      (sym c.self.view_is) all.order);
+}

@@ -7,7 +7,8 @@ abbrev pub invariant-loop-at : goal.invariant-loop-at
 invariant-loop-at g l = record {
   later : l.start < l.at;
   within : l.at ≤ l.end;
-  same : (k : ℕ) → l.start ≤ k → k < l.at → byte_at l.self l.depth k ≡ byte_at l.self l.depth l.start;
+  same : (k : ℕ) → l.start ≤ k → k < l.at → byte_at l.self.patterns l.depth k
+      ≡ byte_at l.self.patterns l.depth l.start;
 }
 
 abbrev pub decreases-loop-at : goal.decreases-loop-at

@@ -1,5 +1,5 @@
 -- The sort by the comparison puts the listed patterns in order.
-use Rattle.std.proofs.Common.{◌≤◌, length, rules, arith}
+use Rattle.std.proofs.Common.{◌≤◌, length, refl, rules, arith}
 use Rattle.std.proofs.lemmas.List.Sorted.{All-permutation}
 use Rattle.ac_util.specs.declared.primitives.TheConstants.{GREATEST}
 use Rattle.ac_automaton.proofs.Sorting.{IsOrder-from_sorted, IsSortedBy-from_calls}
@@ -20,6 +20,10 @@ pub returns : goal.returns
 returns g c =
     let listed = c.in_ok-patterns.patterns.items in
     let sorted = c.sort_unstable_by.new.self.items in
-    IsOrder-from_sorted c.args.fold c.args.patterns.now listed c.in_ok-patterns.ensures.listed sorted
-    c.sort_unstable_by.ensures.permutation
-    (IsSortedBy-from_calls c.args.fold sorted c.sort_unstable_by.ensures.sorted (λ a r f called. search rules))
+    record {
+      fold_is = refl;
+      order = IsOrder-from_sorted c.args.fold c.args.patterns.now listed c.in_ok-patterns.ensures.listed sorted
+          c.sort_unstable_by.ensures.permutation
+          (IsSortedBy-from_calls c.args.fold sorted c.sort_unstable_by.ensures.sorted
+          (λ a r f called. search rules));
+    }

@@ -1,4 +1,4 @@
-use Rattle.std.proofs.Common.{◌≢◌, sym, ◌∙◌, ap, refl}
+use Rattle.std.proofs.Common.{◌≢◌, sym, ◌∙◌, ap}
 use Rattle.std.specs.Prelude.{Some, slice_get}
 use Rattle.std.proofs.lemmas.Bool.{false≢true}
 use Rattle.ac_util.specs.declared.search.Anchored.TheVariants.{No}
@@ -7,18 +7,18 @@ use Rattle.ac_automaton.specs.Growths.{grown_meaning, nodes_of, word}
 use Rattle.ac_automaton.specs.Tries.{miss}
 use Rattle.ac_automaton.proofs.Places.{None-tested, Some-tested}
 use Rattle.ac_automaton.proofs.ChildFails.{fail-pattern, fail-start, fail-step, fail-state}
-use Rattle.ac_automaton.proofs.nfa.noncontiguous.growth.child_fail.Goals as goal
-use Rattle.ac_automaton.proofs.nfa.noncontiguous.growth.child_fail.Goals.{else-is_leftmost-via-then-is_leftmost+else-is_none, else-is_leftmost-via-else-is_leftmost}
+use Rattle.ac_automaton.proofs.nfa.noncontiguous.growth.Growth.child_fail.Goals as goal
+use Rattle.ac_automaton.proofs.nfa.noncontiguous.growth.Growth.child_fail.Goals.{else-is_leftmost-via-then-is_leftmost+else-is_none, else-is_leftmost-via-else-is_leftmost}
 
 pub returns-then-is_none : goal.returns-then-is_none
-returns-then-is_none g c = λ fold patterns queue h.
-    ap (slice_get (nodes_of c.args.sorted.now queue)) c.must.ensures.value
+returns-then-is_none g c = λ patterns h.
+    ap (slice_get (nodes_of c.args.self.now.sorted.patterns c.args.self.now.queue.items)) c.must.ensures.value
     ∙ (fail-pattern h
     (sym c.is_leftmost.ensures ∙ c.if-is_leftmost.true)
     (sym c.byte.ensures.value ∙ None-tested c.byte.result c.is_none.result c.is_none.ensures c.if-is_none.true))
 
 pub returns-then-queued-eq0 : goal.returns-then-queued-eq0
-returns-then-queued-eq0 g c = λ fold patterns queue h.
+returns-then-queued-eq0 g c = λ patterns h.
     fail-start h
     (λ leftmost. elim c.else-is_leftmost.branch [
       | else-is_leftmost-via-then-is_leftmost+else-is_none w ↦
@@ -30,14 +30,16 @@ returns-then-queued-eq0 g c = λ fold patterns queue h.
     c.if-queued-eq0.true
 
 pub returns : goal.returns
-returns g c = λ fold patterns queue h.
+returns g c = λ patterns h.
     let deep : c.args.queued.now.depth ≢ 0 = c.if-queued-eq0.false in
     c.follow.ensures.steps
-    (grown_meaning c.args.kind fold patterns c.args.sorted.now c.args.transitions.now queue) _ refl
-    (fail-state h deep)
+    (grown_meaning c.args.self.now.kind c.args.self.now.sorted.fold patterns
+    c.args.self.now.sorted.patterns c.args.self.now.transitions.items c.args.self.now.queue.items) _
+    (sym c.deref-2.ensures.value) (rw c.deref.ensures.value (fail-state h deep))
     ∙ ap (λ (v : Node). Some v)
-    (ap (step c.args.kind patterns No
-    (miss c.args.kind patterns (Some (word c.args.sorted.now c.args.queued.now)))) h.settled
+    (ap (step c.args.self.now.kind patterns No
+    (miss c.args.self.now.kind patterns (Some (word c.args.self.now.sorted.patterns c.args.queued.now))))
+    h.settled
     ∙ fail-step h
     (λ leftmost. elim c.else-is_leftmost.branch [
       | else-is_leftmost-via-then-is_leftmost+else-is_none w ↦

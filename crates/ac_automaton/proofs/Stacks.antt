@@ -1,0 +1,268 @@
+-- The stack of the kept prefixes of a pattern, as all patterns are gone through in order.
+use Rattle.std.proofs.Common.{◌≡◌, ◌≢◌, ℕ, ◌+◌, ◌-◌, ◌<◌, ◌≤◌, true, false, List, [], ◌∷◌, ◌++◌, length, take, get_or, ◌⊎◌, inl, inr, refl, ap, sym, ◌∙◌, subst, arith, length-take}
+use Rattle.std.specs.Prelude.{nat_eq, AllPairs}
+use Rattle.std.specs.List.{range_with_len, starts_with}
+use Rattle.std.specs.Cmp.Lexicographic.{slice_cmp}
+use Rattle.std.specs.Ordering.{is_gt, is_lt, nat_cmp}
+use Rattle.std.proofs.lemmas.Bool.{cases_lt, false≢true, not_from_true}
+use Rattle.std.proofs.lemmas.Cmp.{nat_list_cmp_total, tied_itself}
+use Rattle.std.proofs.lemmas.List.{get_or-take}
+use Rattle.std.proofs.lemmas.List.Elements.{All-contains}
+use Rattle.std.proofs.lemmas.List.Quantifiers.{all_pairs_push}
+use Rattle.ac_util.specs.declared.search.MatchKind.TheVariants.{LeftmostFirst, Standard}
+use Rattle.ac_util.specs.Node.{begins_with_pattern, participants, participates}
+use Rattle.ac_util.specs.Search.{pattern_of}
+use Rattle.ac_util.proofs.Lists.{IsIn, IsIn-at, IsIn-map, IsIn-from_map, IsIn-filter, IsIn-from_filter, IsIn-range, IsIn-from_range, IsIn-append_cases, IsIn-append_left, IsIn-append_right, Contains-from_IsIn, IsIn-from_Contains}
+use Rattle.ac_util.proofs.Fronts.{starts_with-itself}
+use Rattle.ac_util.proofs.Participants.{Fronts, IsLeader, begins-before, begins-from_Fronts, leader, leader-least, leader-takes_part, takes_part}
+use Rattle.ac_automaton.specs.Sorted.{Keyed, Precedes, IsOrder, key_at, numbers}
+use Rattle.ac_automaton.proofs.Places.{place, place-take, IsIn-take, IsIn-from_take}
+use Rattle.ac_automaton.proofs.Prefixes.{front-between, front-no_less}
+
+-- what comes before isn't greater
+no_greater-from_Precedes : (a b : Keyed) → Precedes a b → is_gt (slice_cmp nat_cmp a.key b.key) ≡ false
+no_greater-from_Precedes a b (inl less) = ap is_gt less
+no_greater-from_Precedes a b (inr same) =
+    ap (λ w. is_gt (slice_cmp nat_cmp a.key w)) (sym same.0) ∙ ap is_gt (tied_itself nat_list_cmp_total a.key)
+
+-- what is read past the end
+abbrev pub none : Keyed
+none = record { key = []; number = 0 }
+
+-- at a place of all patterns, the stack has those before it that take part and are prefixes of a later one
+pub record Standing (patterns : List (List ℕ)) (all : List Keyed) (at : ℕ) (stack : List Keyed) : Type 0 where
+  pub falling : AllPairs (λ a b. b.number < a.number) stack
+  pub before : (m : Keyed) → IsIn m stack → IsIn m (take at all)
+  pub stands : (m : Keyed) → IsIn m (take at all) → participates LeftmostFirst patterns m.number ≡ true
+      → (j : ℕ) → at ≤ j → j < length all → starts_with nat_eq (key_at all j) m.key ≡ true → IsIn m stack
+
+module _ (patterns : List (List ℕ)) (all : List Keyed) (order : IsOrder Standard patterns all) where
+  -- a pattern is the pattern of its number
+  pub named : (m : Keyed) → IsIn m all → m.key ≡ pattern_of patterns m.number
+  named m h =
+      All-contains (λ k. k.key ≡ pattern_of patterns k.number) all m order.named (Contains-from_IsIn m all h)
+
+  -- a pattern's number is one of a pattern
+  pub numbered : (m : Keyed) → IsIn m all → m.number < length patterns
+  numbered m h =
+      let c =
+      (order.lists m.number).0 (Contains-from_IsIn m.number (numbers all) (IsIn-map (λ k. k.number) m all h)) in
+      let f = IsIn-from_filter (participates Standard patterns) m.number (range_with_len 0 (length patterns))
+      (IsIn-from_Contains m.number (participants Standard patterns) c) in
+      let r = IsIn-from_range m.number 0 (length patterns) f.0 in omega arith
+
+  -- each pattern is a pattern
+  pub sorted_of : (n : ℕ) → n < length patterns → (m : Keyed) × IsIn m all × (m.number ≡ n)
+  sorted_of n within =
+      let c = (order.lists n).1 (Contains-from_IsIn n (participants Standard patterns)
+      (IsIn-filter (participates Standard patterns) n (range_with_len 0 (length patterns))
+      (IsIn-range n 0 (length patterns) (omega arith) (omega arith)) refl)) in
+      IsIn-from_map (λ k. k.number) n all (IsIn-from_Contains n (numbers all) c)
+
+  -- a pattern that is a prefix of another has its pattern as a prefix
+  Fronts-from_sorted : (w : List ℕ) (m : Keyed) → IsIn m all → starts_with nat_eq w m.key ≡ true
+      → Fronts patterns w m.number
+  Fronts-from_sorted w m h front = record {
+    numbered = numbered m h;
+    front = subst (λ (p : List ℕ). starts_with nat_eq w p ≡ true) (named m h) front;
+  }
+
+  -- a pattern comes before a later one
+  precedes : (i j : ℕ) → i < j → j < length all → Precedes (get_or all i none) (get_or all j none)
+  precedes i j below within = order.ascending i j none below within
+
+  -- patterns at two places have two numbers
+  differ : (a b : Keyed) → IsIn a all → IsIn b all → Precedes a b → a.number ≢ b.number
+  differ a b h k (inl less) same =
+      let keys : a.key ≡ b.key = named a h ∙ ap (pattern_of patterns) same ∙ sym (named b k) in
+      let tied = ap (λ w. slice_cmp nat_cmp a.key w) (sym keys) ∙ tied_itself nat_list_cmp_total a.key in
+      absurd (false≢true (ap is_lt (sym tied ∙ less)))
+  differ a b h k (inr later) same = let l = later.1 in omega arith
+
+  module _ (at : ℕ) (within : at < length all) where
+    -- the pattern at the place
+    abbrev here : Keyed
+    here = get_or all at none
+
+    -- it is one
+    here-in : IsIn here all
+    here-in = IsIn-at here none all at within refl
+
+    -- a pattern before this place that is a prefix of a later one is a prefix of this one
+    front-here : (m : Keyed) → IsIn m (take at all) → (j : ℕ) → at ≤ j → j < length all
+        → starts_with nat_eq (key_at all j) m.key ≡ true → starts_with nat_eq here.key m.key ≡ true
+    front-here m h j le below front =
+        let p = place-take none m at all h in
+        let first = subst (λ (w : Keyed). is_gt (slice_cmp nat_cmp w.key here.key) ≡ false) p.3
+        (no_greater-from_Precedes (get_or all p.0 none) here (precedes p.0 at p.1 within)) in
+        elim (cases_lt at j) [
+          | inl more ↦
+              let second = no_greater-from_Precedes here (get_or all j none) (precedes at j more below) in
+              front-between m.key here.key (key_at all j) first second front
+          | inr less ↦
+              let same : j ≡ at = omega arith in
+              subst (λ (i : ℕ). starts_with nat_eq (key_at all i) m.key ≡ true) same front
+        ]
+
+    -- a pattern with an earlier pattern as a prefix takes no part
+    pub no_part : (m : Keyed) → IsIn m all → starts_with nat_eq here.key m.key ≡ true → m.number < here.number
+        → participates LeftmostFirst patterns here.number ≡ false
+    no_part m h front below =
+        not_from_true _
+        (begins-before patterns (pattern_of patterns here.number) m.number here.number below
+        (numbered here here-in)
+        (subst (λ (w : List ℕ). Fronts patterns w m.number) (named here here-in)
+        (Fronts-from_sorted here.key m h front)))
+
+    module _ (stack : List Keyed) (s : Standing patterns all at stack) where
+      -- those from a place of the stack on that are no prefix can go
+      pub Standing-shrink : (n : ℕ)
+          → ((k : ℕ) → n ≤ k → k < length stack → starts_with nat_eq here.key (key_at stack k) ≡ false)
+          → Standing patterns all at (take n stack)
+      Standing-shrink n gone = record {
+        falling = λ i j d below more.
+            let long = length-take n stack in
+            let first = ap (λ (w : Keyed). w.number) (get_or-take n stack i d (omega arith)) in
+            let second = ap (λ (w : Keyed). w.number) (get_or-take n stack j d (omega arith)) in
+            let falls = s.falling i j d below (omega arith) in omega arith;
+        before = λ m h. s.before m (IsIn-from_take m n stack h);
+        stands = λ m h takes j le below front.
+            let p = place none m stack (s.stands m h takes j le below front) in
+            elim (cases_lt p.0 n) [
+              | inl kept ↦ IsIn-take none m n p.0 stack kept p.1 p.2
+              | inr dropped ↦
+                  let other =
+                  subst (λ (w : Keyed). starts_with nat_eq here.key w.key ≡ false) p.2 (gone p.0 dropped p.1) in
+                  absurd (false≢true (sym other ∙ front-here m h j le below front))
+            ];
+      }
+
+      -- an earlier pattern that is a prefix and takes part stands in the stack
+      leader_stands : (j : ℕ) → IsLeader patterns here.key j → j < here.number
+          → (m : Keyed) × IsIn m stack × (m.number ≡ j)
+      leader_stands j lead below =
+          let m = sorted_of j lead.fronts.numbered in
+          let front : starts_with nat_eq here.key m.0.key ≡ true =
+          subst (λ (p : List ℕ). starts_with nat_eq here.key p ≡ true)
+          (ap (pattern_of patterns) (sym m.2) ∙ sym (named m.0 m.1)) lead.fronts.front in
+          let p = place none m.0 all m.1 in
+          let takes =
+          ap (participates LeftmostFirst patterns) m.2
+          ∙ leader-takes_part patterns LeftmostFirst here.key j lead in
+          elim (cases_lt p.0 at) [
+            | inl earlier ↦ (
+              m.0,
+              s.stands m.0 (IsIn-take none m.0 at p.0 all earlier p.1 p.2) takes at
+                  (omega arith) within front,
+              m.2,
+            )
+            | inr later ↦ absurd (not_later m.0 p.0 m.2 p.1 p.2 front later)
+          ]
+        where
+          not_later : (m : Keyed) (p : ℕ) → m.number ≡ j → p < length all → get_or all p none ≡ m
+              → starts_with nat_eq here.key m.key ≡ true → at ≤ p → ⊥
+          not_later m p number more is front later = elim (cases_lt at p) [
+            | inl behind ↦ elim (subst (λ (w : Keyed). Precedes here w) is (precedes at p behind more)) [
+              | inl less ↦ false≢true (sym (front-no_less m.key here.key front) ∙ ap is_lt less)
+              | inr after ↦ let l = after.1 in omega arith
+            ]
+            | inr reached ↦
+                let same : p ≡ at = omega arith in
+                let one = ap (λ (w : Keyed). w.number) (sym is ∙ ap (λ (i : ℕ). get_or all i none) same) in
+                omega arith
+          ]
+
+      -- a pattern takes part if none in the stack has a lesser number
+      pub takes_part_here : ((m : Keyed) → IsIn m stack → here.number ≤ m.number)
+          → participates LeftmostFirst patterns here.number ≡ true
+      takes_part_here least =
+          let mine = Fronts-from_sorted here.key here here-in (starts_with-itself here.key) in
+          let lead = leader patterns here.key (begins-from_Fronts patterns here.key here.number mine) in
+          elim (cases_lt lead.0 here.number) [
+            | inl below ↦
+                let m = leader_stands lead.0 lead.1 below in
+                let le = least m.0 m.1 in
+                let e = m.2 in
+                absurd (omega arith)
+            | inr above ↦
+                let le = leader-least patterns here.key lead.0 here.number lead.1 mine in
+                let same : lead.0 ≡ here.number = omega arith in
+                takes_part patterns LeftmostFirst here.number
+                (ap (λ (w : List ℕ). begins_with_pattern (take here.number patterns) w)
+                (sym (named here here-in))
+                ∙ ap (λ (n : ℕ). begins_with_pattern (take n patterns) here.key) (sym same)
+                ∙ lead.1.none_before)
+          ]
+
+      -- a pattern before here is among those up to here
+      later-in : (m : Keyed) → IsIn m (take at all) → IsIn m (take (at + 1) all)
+      later-in m h =
+          let p = place-take none m at all h in
+          IsIn-take none m (at + 1) p.0 all (let b = p.1 in omega arith) p.2 p.3
+
+      -- a pattern among those up to here is before here or here
+      earlier-or-here : (m : Keyed) → IsIn m (take (at + 1) all) → IsIn m (take at all) ⊎ (here ≡ m)
+      earlier-or-here m h =
+          let p = place-take none m (at + 1) all h in
+          elim (cases_lt p.0 at) [
+            | inl earlier ↦ inl (IsIn-take none m at p.0 all earlier p.2 p.3)
+            | inr reached ↦
+                let b = p.1 in
+                let same : at ≡ p.0 = omega arith in inr (ap (λ (i : ℕ). get_or all i none) same ∙ p.3)
+          ]
+
+      -- where the pattern here takes no part the stack stays
+      pub Standing-skip : participates LeftmostFirst patterns here.number ≡ false
+          → Standing patterns all (at + 1) stack
+      Standing-skip none_here = record {
+        falling = s.falling;
+        before = λ m h. later-in m (s.before m h);
+        stands = λ m h takes j le below front. elim (earlier-or-here m h) [
+          | inl earlier ↦ s.stands m earlier takes j (omega arith) below front
+          | inr same ↦
+              absurd (false≢true
+              (sym none_here ∙ ap (λ (w : Keyed). participates LeftmostFirst patterns w.number) same
+              ∙ takes))
+        ];
+      }
+
+      -- where it takes part it goes on the stack
+      pub Standing-keep : ((m : Keyed) → IsIn m stack → here.number ≤ m.number)
+          → Standing patterns all (at + 1) (stack ++ here ∷ [])
+      Standing-keep least = record {
+        falling = all_pairs_push (λ a b. b.number < a.number) stack here s.falling (λ k d l.
+            let m = get_or stack k d in
+            let h : IsIn m stack = IsIn-at m d stack k l refl in
+            let p = place-take none m at all (s.before m h) in
+            let apart = differ m here (IsIn-from_take m at all (s.before m h)) here-in
+            (subst (λ (w : Keyed). Precedes w here) p.3 (precedes p.0 at p.1 within)) in
+            let le = least m h in omega arith);
+        before = λ m h. elim (IsIn-append_cases m stack (here ∷ []) h) [
+          | inl old ↦ later-in m (s.before m old)
+          | inr last ↦ elim last [
+            | inl e ↦ IsIn-take none m (at + 1) at all (omega arith) within e
+            | inr nothing ↦ absurd nothing
+          ]
+        ];
+        stands = λ m h takes j le below front. elim (earlier-or-here m h) [
+          | inl earlier ↦
+              IsIn-append_left m stack (here ∷ []) (s.stands m earlier takes j (omega arith) below front)
+          | inr same ↦ IsIn-append_right m stack (here ∷ []) (inl same)
+        ];
+      }
+
+-- the last of a stack has the least number
+pub least-from_last : (stack : List Keyed) (d : Keyed) (n : ℕ) → AllPairs (λ a b. b.number < a.number) stack
+    → (0 < length stack → n ≤ (get_or stack (length stack - 1) d).number) → (m : Keyed) → IsIn m stack
+    → n ≤ m.number
+least-from_last stack d n falling last m h =
+    let p = place d m stack h in
+    let l = p.1 in
+    let bound = last (omega arith) in
+    let is = ap (λ (w : Keyed). w.number) p.2 in
+    elim (cases_lt p.0 (length stack - 1)) [
+      | inl below ↦ let falls = falling p.0 (length stack - 1) d below (omega arith) in omega arith
+      | inr reached ↦
+          let same : p.0 ≡ length stack - 1 = omega arith in
+          let one = ap (λ (i : ℕ). (get_or stack i d).number) same in omega arith
+    ]

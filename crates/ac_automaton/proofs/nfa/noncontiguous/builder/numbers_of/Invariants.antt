@@ -1,6 +1,0 @@
-use Rattle.std.proofs.Common.{◌≡◌, take}
-use Rattle.ac_automaton.specs.Sorted.{numbers}
-use Rattle.ac_automaton.proofs.nfa.noncontiguous.builder.numbers_of.Given as goal
-
-abbrev pub invariant-loop-place : goal.invariant-loop-place
-invariant-loop-place g l = l.order.items ≡ take l.place (numbers l.sorted)

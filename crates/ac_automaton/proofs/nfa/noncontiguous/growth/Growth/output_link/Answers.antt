@@ -1,0 +1,31 @@
+use Rattle.std.proofs.Common.{◌<◌, ◌≤◌, ℕ, length, subst, sym, arith, Some}
+use Rattle.ac_automaton.specs.declared.nfa.noncontiguous.state.State.{State}
+use Rattle.ac_automaton.specs.Tries.{Links}
+use Rattle.ac_automaton.proofs.Grown.{state-read}
+use Rattle.ac_automaton.proofs.Linking.{link-far, link-here, link-behind}
+use Rattle.ac_automaton.proofs.nfa.noncontiguous.growth.Growth.output_link.Goals as goal
+
+pub returns-then-as_usize-len : goal.returns-then-as_usize-len
+returns-then-as_usize-len g c = λ m u a due.
+    subst (λ (k : ℕ). Links m (length c.args.self.now.states.items) (Some u) k) (sym c.must.ensures.value)
+    (link-far m c.args.self.now.states.items u c.args.fail due
+    (let v = c.as_usize.ensures.value in omega (arith, c.if-as_usize-len.true)))
+
+pub returns-then-target : goal.returns-then-target
+returns-then-target g c = λ m u a due.
+    let there : c.args.fail < length c.args.self.now.states.items =
+    (let v = c.as_usize.ensures.value in omega arith) in
+    let is = state-read c.args.self.now.states.items c.index-target.result.now c.as_usize-2.result c.args.fail
+    c.as_usize-2.ensures.value there c.index-target.ensures in
+    link-here m c.args.self.now.states.items u c.args.fail a due there
+    (subst (λ (t : State). t.patterns < t.patterns_end) is c.if-target.true)
+
+pub returns-else-target : goal.returns-else-target
+returns-else-target g c = λ m u a due.
+    let there : c.args.fail < length c.args.self.now.states.items =
+    (let v = c.as_usize.ensures.value in omega arith) in
+    let is = state-read c.args.self.now.states.items c.index-target.result.now c.as_usize-2.result c.args.fail
+    c.as_usize-2.ensures.value there c.index-target.ensures in
+    subst (λ (t : State). Links m (length c.args.self.now.states.items) (Some u) t.output_link) (sym is)
+    (link-behind m c.args.self.now.states.items u c.args.fail a due there
+    (subst (λ (t : State). t.patterns_end ≤ t.patterns) is c.if-target.false))
