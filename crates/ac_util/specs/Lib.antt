@@ -23,3 +23,5 @@ pub mod Classes
 pub mod Sizes
 pub mod Plain
 pub mod Built
+pub mod Inside
+pub mod Texts

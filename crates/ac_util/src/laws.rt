@@ -1,10 +1,10 @@
 //! Laws of the definitions. Each is the contract of a function that calls nothing and assumes nothing.
-ghost use Rattle.std.specs.Prelude.{◌≡◌, ◌≢◌, ℕ, ◌+◌, ◌<◌, ◌≤◌, ◌++◌, ◌↔◌, ◌⊎◌, nat_le, Bool, true, false};
-ghost use Rattle.std.specs.Prelude.{List, [], ◌∷◌, Contains, AllPairs, length, map, filter, slice_get};
+ghost use Rattle.std.specs.Prelude.{◌≡◌, ◌≢◌, ℕ, ◌+◌, ◌-◌, ◌<◌, ◌≤◌, ◌++◌, ◌↔◌, ◌⊎◌, nat_le, Bool, true, false};
+ghost use Rattle.std.specs.Prelude.{List, [], ◌∷◌, All, Contains, AllPairs, length, map, filter, slice_get};
 ghost use Rattle.std.specs.Prelude.{slice_index, Option, None, Some};
 ghost use Rattle.std.specs.Hash as fed;
 ghost use Rattle.std.specs.Ordering.{nat_cmp};
-ghost use Rattle.std.specs.Str.{IsCharBoundary};
+ghost use Rattle.std.specs.Str.{IsCharBoundary, IsUtf8};
 ghost use Rattle.ac_util.specs.declared.error.BuildError.{BuildError};
 ghost use Rattle.ac_util.specs.declared.error.MatchError.{MatchError};
 ghost use Rattle.ac_util.specs.declared.primitives.TheConstants.{GREATEST};
@@ -14,7 +14,10 @@ ghost use Rattle.ac_util.specs.declared.search.MatchKind.{MatchKind};
 ghost use Rattle.ac_util.specs.declared.search.Span.{Span};
 ghost use Rattle.ac_util.specs.declared.search.input.Input.{Input as AnInput};
 ghost use Rattle.ac_util.specs.declared.search.StartKind.{StartKind};
+ghost use Rattle.ac_util.specs.Built.{Built, found, search_in, walked};
+ghost use Rattle.ac_util.specs.Input.{Asked};
 ghost use Rattle.ac_util.specs.Inputs.{asked};
+ghost use Rattle.ac_util.specs.Inside.{LiesIn};
 ghost use Rattle.ac_util.specs.Listing.{all, IsBefore};
 ghost use Rattle.ac_util.specs.Looks.{looks};
 ghost use Rattle.ac_util.specs.Matches.{equal_to, matches, matches_at};
@@ -28,6 +31,7 @@ ghost use Rattle.ac_util.specs.Sizes.{inner_nodes};
 ghost use Rattle.ac_util.specs.Steps.{Appends, Steps, StepsSoFar, WritesText};
 ghost use Rattle.ac_util.specs.Text.{cut, outward, ending, found_at_end, longer_by, one_longer};
 ghost use Rattle.ac_util.specs.Text.{plain_patterns, text};
+ghost use Rattle.ac_util.specs.Texts.{AreTexts, IsBetweenCharacters};
 ghost use Rattle.ac_util.specs.Walk.{IsAfter, next_match, walk, walk_after};
 
 use crate::error::{BuildError, MatchError};
@@ -36,12 +40,14 @@ use crate::search::{Anchored, Input, Match, MatchKind, Span, StartKind};
 use std::hash::Hash;
 
 /// Two bytes are the same if they are equal or, where case is ignored, one ASCII letter in its two cases; two
-/// strings are the same if they have one length and are the same place by place.
+/// strings are the same if they have one length and are the same place by place, and where case counts if they
+/// are equal.
 pub fn sameness_is_by_letter()
     ensures bytes { (a b : ℕ) → (same_byte false a b ≡ true) ↔ (a ≡ b) }
     ensures letters { (a b : ℕ) → (same_byte true a b ≡ true) ↔ ((a ≡ b) ⊎ AreOneLetter a b) }
     ensures strings { (fold : Bool) (s t : List ℕ) → IsSame fold s t ↔ ((length s ≡ length t)
         × ((k : ℕ) → k < length s → same_byte fold (slice_index s k) (slice_index t k) ≡ true)) }
+    ensures counted { (s t : List ℕ) → IsSame false s t ↔ (s ≡ t) }
 {}
 
 /// The tests of the definitions decide the facts of the same names.
@@ -66,6 +72,25 @@ pub fn only_the_span_counts()
     ensures empty { (q : Search) (m : Occurrence) → q.low ≡ q.high → Occurs q m
         → pattern_of q.patterns m.pattern ≡ [] }
     ensures past_end { (q : Search) (m : Occurrence) → q.high < q.low → ¬ Occurs q m }
+{}
+
+/// What a find, a walk or a listing gives lies in the input's span, and so in the haystack: it has the number
+/// of a pattern, and that pattern's length and bytes. Call this where a haystack is sliced at a match, or a
+/// list is indexed by its pattern.
+pub fn matches_lie_inside()
+    ensures find { (built : Built) (asked : Asked) (m : Occurrence) → asked.end ≤ length asked.haystack
+        → found built asked ≡ Some m → LiesIn built asked m }
+    ensures walk { (built : Built) (asked : Asked) → asked.end ≤ length asked.haystack
+        → All (LiesIn built asked) (walked built asked) }
+    ensures listing { (built : Built) (asked : Asked) → asked.end ≤ length asked.haystack
+        → All (LiesIn built asked) (all (search_in built asked)) }
+{}
+
+/// Where the haystack and all patterns are texts, and no pattern is empty, a match starts and ends between
+/// characters, whether case counts or not. Call this where a `str` is sliced at a match.
+pub fn matches_cut_no_character()
+    ensures { (built : Built) (asked : Asked) (m : Occurrence) → AreTexts built.patterns
+        → IsUtf8 asked.haystack → LiesIn built asked m → IsBetweenCharacters asked.haystack m }
 {}
 
 /// The pick is the one answer that its relation allows; under Standard it is the first of the listing.
@@ -97,6 +122,11 @@ pub fn walk_goes_on()
 /// before it did.
 pub fn walk_is_in_order()
     ensures { (kind : MatchKind) (q : Search) → AllPairs IsAfter (walk kind q) }
+{}
+
+/// A walk has at most one match more than the span has bytes. Call this where matches are counted.
+pub fn walk_is_short()
+    ensures { (built : Built) (asked : Asked) → length (walked built asked) ≤ asked.end + 1 - asked.start }
 {}
 
 /// Under Standard the walk over a beginning of the span is those matches of the whole walk that end within it.

@@ -1,4 +1,6 @@
-use Rattle.ac_util.proofs.SamenessLemmas.{same_byte-letters, same_byte-from_letters, IsSame-length, IsSame-tested, IsSame-from_tests}
+use Rattle.std.proofs.Common.{false, ap}
+use Rattle.ac_util.specs.Sameness.{plain}
+use Rattle.ac_util.proofs.SamenessLemmas.{same_byte-letters, same_byte-from_letters, IsSame-length, IsSame-tested, IsSame-from_tests, IsSame-equal}
 use Rattle.ac_util.proofs.laws.sameness_is_by_letter.Goals as goal
 
 pub returns-clause-strings : goal.returns-clause-strings
@@ -10,3 +12,6 @@ returns-clause-strings c =
 
 pub returns-clause-letters : goal.returns-clause-letters
 returns-clause-letters c = λ a b. (same_byte-letters a b, same_byte-from_letters a b)
+
+pub returns-clause-counted : goal.returns-clause-counted
+returns-clause-counted c = λ s t. (IsSame-equal s t, λ h. ap (plain false) h)
