@@ -1,5 +1,0 @@
-use Rattle.ac_util.proofs.TextCuts.{lies-between}
-use Rattle.ac_util.proofs.laws.matches_cut_no_character.Goals as goal
-
-pub returns : goal.returns
-returns c = lies-between

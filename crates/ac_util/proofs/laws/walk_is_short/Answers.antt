@@ -1,5 +1,0 @@
-use Rattle.ac_util.proofs.Lying.{length-walked}
-use Rattle.ac_util.proofs.laws.walk_is_short.Goals as goal
-
-pub returns : goal.returns
-returns c = length-walked
