@@ -27,14 +27,14 @@ pub enum Outcome {
 /// Searches all that a reader gives for what the words ask for, and writes a line for each match: its pattern's
 /// number, its start and its end.
 ///
-/// The words are tested first, then the searcher is built, then the whole input is read, and only then
-/// something is written.
+/// The words are tested first, then the searcher is built, then the input is read up to the first read that
+/// gives no byte, and only then something is written.
 ///
 /// # Errors
 /// `Usage` exactly where the words ask for nothing that there is; then nothing is read or written. Any other
 /// fault comes for its cause alone: the build was refused, memory was, a read or a write has failed, or a write
 /// took no byte. Whether memory was refused the contract doesn't see; `Memory` is told only where no read or
-/// write has failed and no write took nothing. Where the input was not read to its end nothing is written; else
+/// write has failed and no write took nothing. Until the whole input was read nothing is written; after that
 /// what was written until then is a beginning of the lines, and not all of them.
 pub fn run<A: Allocator + Clone, R: Source, W: Sink>(
     alloc: A,
@@ -46,9 +46,9 @@ pub fn run<A: Allocator + Clone, R: Source, W: Sink>(
         ((result ≡ Err Fault.Usage)
         × (R.told reader.new ≡ R.told reader.old) × (W.told writer.new ≡ W.told writer.old))
         (λ request. MatchResult result
-        (HasRun request (patterns_of (bytes_of words.now))
+        (HasRun R.empty_means_end request (patterns_of (bytes_of words.now))
         (R.told reader.old) (R.told reader.new) (W.told writer.old) (W.told writer.new))
-        (HasFailed request (patterns_of (bytes_of words.now))
+        (HasFailed R.empty_means_end request (patterns_of (bytes_of words.now))
         (R.told reader.old) (R.told reader.new) (W.told writer.old) (W.told writer.new))) }
 {
     let Some(request) = request_of(words) else {
@@ -69,9 +69,9 @@ fn search<A: Allocator + Clone, R: Source, W: Sink>(
     writer: &mut W,
 ) -> Result<Outcome, Fault>
     ensures { MatchResult result
-        (HasRun request (bytes_of words.now)
+        (HasRun R.empty_means_end request (bytes_of words.now)
         (R.told reader.old) (R.told reader.new) (W.told writer.old) (W.told writer.new))
-        (HasFailed request (bytes_of words.now)
+        (HasFailed R.empty_means_end request (bytes_of words.now)
         (R.told reader.old) (R.told reader.new) (W.told writer.old) (W.told writer.new)) }
 {
     let patterns = patterns_of(alloc.clone()?, words)?;
