@@ -101,8 +101,8 @@ fn piece<'a>(bytes: &'a [u8], bounds: &[usize], number: usize) -> &'a [u8]
     &bytes[start..end]
 }
 
-/// Tests that each pattern can have a number and that none is too long. Patterns are slices of bytes or of text.
-/// It asks for no memory, so whoever needs some before the patterns are stored tests this first.
+/// Tests that each pattern can have a number and that none is too long. A pattern is a slice of bytes or a
+/// text. It asks for no memory, so whoever needs some before the patterns are stored tests this first.
 ///
 /// # Errors
 /// `PatternIdOverflow` or `PatternTooLong`, whichever limit is passed first.

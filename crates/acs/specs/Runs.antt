@@ -10,7 +10,7 @@ use Rattle.acs.specs.declared.fault.Fault.{Fault}
 use Rattle.acs.specs.declared.fault.Fault.TheVariants.{Io, Memory, WriteZero}
 use Rattle.acs.specs.declared.request.Request.{Request}
 use Rattle.acs.specs.declared.run.Outcome.{Outcome}
-use Rattle.acs.specs.Faults.{IsNotBuilt}
+use Rattle.acs.specs.Faults.{IsRefusal}
 use Rattle.acs.specs.Lines.{lines, outcome_of, printed}
 use Rattle.acs.specs.Requests.{settings_of}
 
@@ -71,10 +71,10 @@ module _ (ends : Bool) (request : Request) (patterns : List (List ℕ)) (reader 
     pub writes : WritesAll writer new_writer (lines (answer request patterns haystack))
     pub outcome_is : outcome ≡ outcome_of (answer request patterns haystack)
 
-  -- there was no searcher, or no memory before the first read: reader and writer are as they were
+  -- the searcher was refused, by a limit of the list where one is passed: reader and writer are as they were
   abbrev pub FailsAtFirst : Fault → Type 0
   FailsAtFirst fault =
-      IsNotBuilt (settings_of request) patterns fault × (new_reader ≡ reader) × (new_writer ≡ writer)
+      IsRefusal (settings_of request) patterns fault × (new_reader ≡ reader) × (new_writer ≡ writer)
 
   -- no limit refused the searcher; while the run read it has ended with a fault, with nothing written
   abbrev pub FailsReading : Fault → Type 0

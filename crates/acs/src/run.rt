@@ -12,7 +12,7 @@ use crate::fault::Fault;
 use crate::input::read_all;
 use crate::output::{print_found, print_walk};
 use crate::request::{Mode, Request, patterns_of, request_of};
-use ac_search::{AhoCorasick, AhoCorasickBuilder, Input, Sink, Source};
+use ac_search::{AhoCorasick, AhoCorasickBuilder, Input, Sink, Source, check_limits};
 use std::alloc::Allocator;
 
 /// How a run ends that meets no fault.
@@ -31,11 +31,15 @@ pub enum Outcome {
 /// gives no byte, and only then something is written.
 ///
 /// # Errors
-/// `Usage` exactly where the words ask for nothing that there is; then nothing is read or written. Any other
-/// fault comes for its cause alone: the build was refused, memory was, a read or a write has failed, or a write
-/// took no byte. Whether memory was refused the contract doesn't see; `Memory` is told only where no read or
-/// write has failed and no write took nothing. Until the whole input was read nothing is written; after that
-/// what was written until then is a beginning of the lines, and not all of them.
+/// - `Usage` exactly where the words ask for nothing that there is.
+/// - `TooManyPatterns` and `PatternTooLong` exactly where that limit of the list is passed.
+/// - `TooManyStates` only where the engine would need more states than there are numbers.
+/// - `Io` where a read or a write failed, and `WriteZero` where a write took no byte.
+/// - `Memory` where a request for memory was refused. A contract cannot count such requests; it says that none
+///   of the causes above was there.
+///
+/// Before the first read nothing is written, nor while the input is read. Where a run fails after that, a
+/// beginning of the lines was written, and not all of them.
 pub fn run<A: Allocator + Clone, R: Source, W: Sink>(
     alloc: A,
     words: &[&str],
@@ -74,6 +78,7 @@ fn search<A: Allocator + Clone, R: Source, W: Sink>(
         (HasFailed R.empty_means_end request (bytes_of words.now)
         (R.told reader.old) (R.told reader.new) (W.told writer.old) (W.told writer.new)) }
 {
+    check_limits(words)?;
     let patterns = patterns_of(alloc.clone()?, words)?;
     let searcher = searcher_for(alloc.clone()?, request, &patterns)?;
     let haystack = read_all(alloc.clone()?, reader)?;
