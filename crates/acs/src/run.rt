@@ -18,9 +18,9 @@ use std::alloc::Allocator;
 /// How a run ends that meets no fault.
 #[derive(Clone, Copy, PartialEq, Eq, Debug)]
 pub enum Outcome {
-    /// A line was written.
+    /// At least one line was written.
     Found,
-    /// No line was.
+    /// No line was written.
     Nothing,
 }
 
@@ -92,7 +92,7 @@ fn search<A: Allocator + Clone, R: Source, W: Sink>(
 /// Builds the searcher that is asked for.
 ///
 /// # Errors
-/// Why the build is refused: where a limit refuses it, nothing but that.
+/// As `AhoCorasickBuilder::build`: a limit of the list is told as that limit.
 fn searcher_for<A: Allocator + Clone>(
     alloc: A,
     request: Request,
