@@ -1,8 +1,15 @@
+ghost use Rattle.std.specs.Prelude.{◌≡◌, None, length};
+ghost use Rattle.ac_util.specs.Built.{find_refusal, walked};
+ghost use Rattle.ac_util.specs.Input.{asked_whole};
+ghost use Rattle.ac_util.specs.Texts.{AreTexts};
+
 use crate::MatchKind::{LeftmostFirst, LeftmostLongest, Standard};
+use crate::laws::{answers_cut_no_character, answers_lie_inside};
 use crate::{
     AhoCorasick, AhoCorasickBuilder, AhoCorasickKind, Anchored, Input, Match, MatchError,
     MatchKind, StartKind,
 };
+use std::alloc::{AllocError, Global};
 use std::test::Fail;
 
 /// A pattern number, a start and an end.
@@ -54,6 +61,75 @@ fn walk_of(rt: HostRuntime, searcher: &AhoCorasick, input: Input<'_>) -> Result<
     Ok(walked)
 }
 
+/// Returns the slices of a haystack at which the matches stand.
+fn slices_of<'t>(
+    alloc: Global,
+    searcher: &AhoCorasick,
+    haystack: &'t [u8],
+) -> Result<Vec<&'t [u8]>, AllocError>
+    requires { find_refusal searcher.now.built (asked_whole haystack.now) ≡ None }
+{
+    let mut slices = Vec::new(alloc);
+    answers_lie_inside(searcher, Input::new(haystack));
+    for m in searcher.find_iter(Input::new(haystack)) {
+        slices.push(&haystack[m.range()])?;
+    }
+    Ok(slices)
+}
+
+/// Returns the same of a text, whose characters the patterns don't cut.
+fn parts_of<'t>(
+    alloc: Global,
+    searcher: &AhoCorasick,
+    text: &'t str,
+) -> Result<Vec<&'t str>, AllocError>
+    requires supported { find_refusal searcher.now.built (asked_whole text.now) ≡ None }
+    requires texts { AreTexts searcher.now.built.patterns }
+{
+    let mut parts = Vec::new(alloc);
+    answers_cut_no_character(searcher, Input::of_text(text));
+    for m in searcher.find_iter(Input::of_text(text)) {
+        parts.push(&text[m.range()])?;
+    }
+    Ok(parts)
+}
+
+/// Returns the names that belong to the patterns of the matches.
+fn names_of<'n>(
+    alloc: Global,
+    searcher: &AhoCorasick,
+    names: &[&'n str],
+    haystack: &[u8],
+) -> Result<Vec<&'n str>, AllocError>
+    requires supported { find_refusal searcher.now.built (asked_whole haystack.now) ≡ None }
+    requires named { length names.now ≡ length searcher.now.built.patterns }
+{
+    let mut found = Vec::new(alloc);
+    answers_lie_inside(searcher, Input::new(haystack));
+    for m in searcher.find_iter(Input::new(haystack)) {
+        found.push(names[m.pattern().as_usize()])?;
+    }
+    Ok(found)
+}
+
+/// Returns how many matches the walk has.
+fn count_of(searcher: &AhoCorasick, haystack: &[u8]) -> usize
+    requires { find_refusal searcher.now.built (asked_whole haystack.now) ≡ None }
+    ensures { result ≡ length (walked searcher.now.built (asked_whole haystack.now)) }
+{
+    answers_lie_inside(searcher, Input::new(haystack));
+    searcher.find_iter(Input::new(haystack)).count()
+}
+
+/// Returns the slice at which the first match stands.
+fn first_slice<'t>(searcher: &AhoCorasick, haystack: &'t [u8]) -> Option<&'t [u8]>
+    requires { find_refusal searcher.now.built (asked_whole haystack.now) ≡ None }
+{
+    answers_lie_inside(searcher, Input::new(haystack));
+    let m = searcher.find(Input::new(haystack))?;
+    Some(&haystack[m.range()])
+}
+
 #[test]
 fn a_new_searcher_finds(rt: HostRuntime) -> Result<(), Fail> {
     let searcher = AhoCorasick::new(rt.alloc(), &[b"apple", b"maple", b"Snapple"])?;
@@ -69,6 +145,28 @@ fn a_new_searcher_finds(rt: HostRuntime) -> Result<(), Fail> {
     }
     let wanted = [(1, 13, 18), (0, 28, 33), (2, 43, 50)];
     assert_eq!(rt; walked.as_slice(), wanted.as_slice());
+    Ok(())
+}
+
+#[test]
+fn matches_can_be_used_as_indices(rt: HostRuntime) -> Result<(), Fail> {
+    let searcher = AhoCorasick::new(rt.alloc(), &[b"apple", b"maple", b"Snapple"])?;
+    let haystack = b"Nobody likes maple in their apple flavored Snapple.";
+    let slices = slices_of(rt.alloc(), &searcher, haystack)?;
+    let wanted: [&[u8]; 3] = [b"maple", b"apple", b"Snapple"];
+    assert_eq!(rt; slices.as_slice(), wanted.as_slice());
+    let names = names_of(rt.alloc(), &searcher, &["fruit", "tree", "drink"], haystack)?;
+    assert_eq!(rt; names.as_slice(), ["tree", "fruit", "drink"].as_slice());
+    assert_eq!(rt; count_of(&searcher, haystack), 3);
+    assert_eq!(rt; first_slice(&searcher, haystack), Some(b"maple".as_slice()));
+    Ok(())
+}
+
+#[test]
+fn matches_of_texts_cut_no_character(rt: HostRuntime) -> Result<(), Fail> {
+    let searcher = AhoCorasick::new(rt.alloc(), &["é".as_bytes(), "a".as_bytes()])?;
+    let parts = parts_of(rt.alloc(), &searcher, "aêéa")?;
+    assert_eq!(rt; parts.as_slice(), ["a", "é", "a"].as_slice());
     Ok(())
 }
 

@@ -3,6 +3,8 @@ pub mod Listing
 pub mod Picks
 pub mod Walks
 pub mod Beginning
+pub mod Lying
+pub mod TextCuts
 pub mod Fronts
 pub mod Participants
 pub mod Reached

@@ -1,225 +1,194 @@
--- Nodes of automata, as the definitions compute them.
-use Rattle.std.specs.Prelude.{◌≡◌, [], ◌∷◌, None, Some, codes, refl}
+-- Nodes of automata, as the definitions compute them: tables of what is asked and what the answer is.
+use Prim.Native.String.{String}
+use Rattle.std.specs.Prelude.{◌≡◌, ℕ, List, [], ◌∷◌, None, Some, codes, map, refl, slice_index}
+use Rattle.ac_util.specs.declared.search.MatchKind.{MatchKind}
 use Rattle.ac_util.specs.declared.search.MatchKind.TheVariants.{Standard, LeftmostFirst, LeftmostLongest}
-use Rattle.ac_util.specs.declared.search.Anchored.TheVariants.{No}
-use Rattle.ac_util.specs.Node.{failure, step}
+use Rattle.ac_util.specs.declared.search.Anchored.{Anchored}
+use Rattle.ac_util.specs.declared.search.Anchored.TheVariants.{No, Yes}
+use Rattle.ac_util.specs.Node.{Node, failure, step}
 use Rattle.ac_util.specs.Matches.{matches}
 use Rattle.ac_util.specs.Looks.{looks}
 use Rattle.ac_util.specs.Sizes.{state_count}
 use Rattle.ac_util.proofs.SearchRows.{nested_words, pronouns}
 
--- steps: under Standard to the longest suffix that is a node
-step-standard-start-by-a : step Standard nested_words No (Some []) 97 ≡ Some (codes "a")
-step-standard-start-by-a = refl
+-- the node of a string, and the one byte of a string
+abbrev at : String → Node
+at u = Some (codes u)
 
-step-standard-start-by-b : step Standard nested_words No (Some []) 98 ≡ Some (codes "b")
-step-standard-start-by-b = refl
+abbrev byte : String → ℕ
+byte b = slice_index (codes b) 0
 
-step-standard-start-by-c : step Standard nested_words No (Some []) 99 ≡ Some []
-step-standard-start-by-c = refl
+-- "ab" twice; two words and the empty one; and one word that follows failure targets
+abbrev twice : List (List ℕ)
+twice = codes "ab" ∷ codes "ab" ∷ []
 
-step-standard-a-by-b : step Standard nested_words No (Some (codes "a")) 98 ≡ Some (codes "ab")
-step-standard-a-by-b = refl
+abbrev with_empty : List (List ℕ)
+with_empty = codes "abc" ∷ codes "bd" ∷ codes "" ∷ []
 
-step-standard-a-by-a : step Standard nested_words No (Some (codes "a")) 97 ≡ Some (codes "a")
-step-standard-a-by-a = refl
+abbrev aab : List (List ℕ)
+aab = codes "aab" ∷ []
 
-step-standard-a-by-x : step Standard nested_words No (Some (codes "a")) 120 ≡ Some []
-step-standard-a-by-x = refl
+-- a node, a byte, and where it leads
+abbrev AreSteps : MatchKind → List (List ℕ) → Anchored → List (String × String × Node) → Type 0
+AreSteps kind patterns anchored rows =
+    map (λ row. step kind patterns anchored (at row.0) (byte row.1)) rows ≡ map (λ row. row.2) rows
 
-step-standard-b-by-a : step Standard nested_words No (Some (codes "b")) 97 ≡ Some (codes "a")
-step-standard-b-by-a = refl
+-- a node and its failure target
+abbrev AreFailures : MatchKind → List (List ℕ) → List (String × Node) → Type 0
+AreFailures kind patterns rows = map (λ row. failure kind patterns (codes row.0)) rows ≡ map (λ row. row.1) rows
 
-step-standard-b-by-c : step Standard nested_words No (Some (codes "b")) 99 ≡ Some []
-step-standard-b-by-c = refl
+-- a node and its matches
+abbrev AreMatches : MatchKind → List (List ℕ) → Anchored → List (String × List ℕ) → Type 0
+AreMatches kind patterns anchored rows =
+    map (λ row. matches kind patterns anchored (at row.0)) rows ≡ map (λ row. row.1) rows
 
-step-standard-ab-by-c : step Standard nested_words No (Some (codes "ab")) 99 ≡ Some (codes "abc")
-step-standard-ab-by-c = refl
+-- a node, a byte, and the looks of the step
+abbrev AreLooks : MatchKind → List (List ℕ) → Anchored → List (String × String × ℕ) → Type 0
+AreLooks kind patterns anchored rows =
+    map (λ row. looks kind patterns anchored (at row.0) (byte row.1)) rows ≡ map (λ row. row.2) rows
 
-step-standard-ab-by-a : step Standard nested_words No (Some (codes "ab")) 97 ≡ Some (codes "a")
-step-standard-ab-by-a = refl
+-- under Standard a step leads to the longest suffix that is a node
+standard-steps : AreSteps Standard nested_words No (
+    ("", "a", at "a") ∷ ("", "b", at "b") ∷ ("", "c", at "")
+    ∷ ("a", "a", at "a") ∷ ("a", "b", at "ab") ∷ ("a", "x", at "")
+    ∷ ("b", "a", at "a") ∷ ("b", "c", at "")
+    ∷ ("ab", "a", at "a") ∷ ("ab", "c", at "abc") ∷ ("ab", "x", at "")
+    ∷ ("abc", "b", at "b") ∷ ("abc", "d", at "abcd")
+    ∷ ("abcd", "a", at "a")
+    ∷ [])
+standard-steps = refl
 
-step-standard-ab-by-x : step Standard nested_words No (Some (codes "ab")) 120 ≡ Some []
-step-standard-ab-by-x = refl
+-- under a leftmost kind not to one that starts behind the first occurrence
+first-steps : AreSteps LeftmostFirst nested_words No (
+    ("", "a", at "a") ∷ ("", "b", at "b") ∷ ("", "c", at "")
+    ∷ ("a", "a", at "a") ∷ ("a", "b", at "ab") ∷ ("a", "x", at "")
+    ∷ ("b", "a", None) ∷ ("b", "b", None)
+    ∷ ("ab", "a", None) ∷ ("ab", "b", None) ∷ ("ab", "c", at "abc")
+    ∷ ("abc", "b", None) ∷ ("abc", "d", None)
+    ∷ [])
+first-steps = refl
 
-step-standard-abc-by-d : step Standard nested_words No (Some (codes "abc")) 100 ≡ Some (codes "abcd")
-step-standard-abc-by-d = refl
+-- the same, with the node "abcd" besides
+longest-steps : AreSteps LeftmostLongest nested_words No (
+    ("", "a", at "a") ∷ ("", "b", at "b") ∷ ("", "c", at "")
+    ∷ ("a", "a", at "a") ∷ ("a", "b", at "ab") ∷ ("a", "x", at "")
+    ∷ ("b", "a", None) ∷ ("b", "b", None)
+    ∷ ("ab", "a", None) ∷ ("ab", "b", None) ∷ ("ab", "c", at "abc")
+    ∷ ("abc", "b", None) ∷ ("abc", "d", at "abcd")
+    ∷ ("abcd", "a", None)
+    ∷ [])
+longest-steps = refl
 
-step-standard-abc-by-b : step Standard nested_words No (Some (codes "abc")) 98 ≡ Some (codes "b")
-step-standard-abc-by-b = refl
+-- an anchored step leads to the whole string, or to the dead node
+standard-steps-anchored : AreSteps Standard nested_words Yes (
+    ("", "a", at "a") ∷ ("", "b", at "b") ∷ ("", "c", None)
+    ∷ ("a", "a", None) ∷ ("a", "b", at "ab")
+    ∷ ("b", "a", None)
+    ∷ ("ab", "a", None) ∷ ("ab", "c", at "abc")
+    ∷ ("abc", "b", None) ∷ ("abc", "d", at "abcd")
+    ∷ ("abcd", "a", None)
+    ∷ [])
+standard-steps-anchored = refl
 
-step-standard-abcd-by-a : step Standard nested_words No (Some (codes "abcd")) 97 ≡ Some (codes "a")
-step-standard-abcd-by-a = refl
+-- under LeftmostFirst "abcd" leads to no node
+first-steps-anchored : AreSteps LeftmostFirst nested_words Yes (
+    ("", "a", at "a") ∷ ("", "b", at "b") ∷ ("", "c", None)
+    ∷ ("a", "b", at "ab") ∷ ("b", "a", None)
+    ∷ ("ab", "c", at "abc") ∷ ("abc", "d", None)
+    ∷ [])
+first-steps-anchored = refl
 
-step-standard-dead-by-a : step Standard nested_words No None 97 ≡ None
-step-standard-dead-by-a = refl
+longest-steps-anchored : AreSteps LeftmostLongest nested_words Yes (
+    ("", "a", at "a") ∷ ("", "b", at "b") ∷ ("", "c", None)
+    ∷ ("a", "b", at "ab") ∷ ("b", "a", None)
+    ∷ ("ab", "c", at "abc") ∷ ("abc", "d", at "abcd") ∷ ("abcd", "a", None)
+    ∷ [])
+longest-steps-anchored = refl
+
+-- from the dead node every byte leads to it
+dead-steps : step Standard nested_words No None 97 ∷ step LeftmostFirst nested_words Yes None 97 ∷ []
+    ≡ None ∷ None ∷ []
+dead-steps = refl
+
+-- with an empty pattern every step of a leftmost kind is an anchored one
+with_empty-steps : AreSteps LeftmostFirst with_empty No (
+    ("", "c", None) ∷ ("ab", "c", at "abc") ∷ ("ab", "d", None) ∷ [])
+with_empty-steps = refl
 
 -- failure targets
-failure-standard-a : failure Standard nested_words (codes "a") ≡ Some []
-failure-standard-a = refl
+standard-failures : AreFailures Standard nested_words (
+    ("a", at "") ∷ ("b", at "") ∷ ("ab", at "b") ∷ ("abc", at "") ∷ ("abcd", at "") ∷ [])
+standard-failures = refl
 
-failure-standard-b : failure Standard nested_words (codes "b") ≡ Some []
-failure-standard-b = refl
+first-failures : AreFailures LeftmostFirst nested_words (
+    ("a", at "") ∷ ("b", None) ∷ ("ab", at "b") ∷ ("abc", None) ∷ [])
+first-failures = refl
 
-failure-standard-ab : failure Standard nested_words (codes "ab") ≡ Some (codes "b")
-failure-standard-ab = refl
+longest-failures : AreFailures LeftmostLongest nested_words (
+    ("a", at "") ∷ ("b", None) ∷ ("ab", at "b") ∷ ("abc", None) ∷ ("abcd", None) ∷ [])
+longest-failures = refl
 
-failure-standard-abc : failure Standard nested_words (codes "abc") ≡ Some []
-failure-standard-abc = refl
+with_empty-failures : AreFailures LeftmostFirst with_empty (("a", None) ∷ ("ab", None) ∷ [])
+with_empty-failures = refl
 
-failure-standard-abcd : failure Standard nested_words (codes "abcd") ≡ Some []
-failure-standard-abcd = refl
+-- matches of the nodes: the longest pattern comes first
+standard-matches : AreMatches Standard nested_words No (
+    ("", []) ∷ ("a", []) ∷ ("b", 0 ∷ []) ∷ ("ab", 0 ∷ []) ∷ ("abc", 1 ∷ []) ∷ ("abcd", 2 ∷ []) ∷ [])
+standard-matches = refl
 
-failure-first-a : failure LeftmostFirst nested_words (codes "a") ≡ Some []
-failure-first-a = refl
+first-matches : AreMatches LeftmostFirst nested_words No (
+    ("", []) ∷ ("a", []) ∷ ("b", 0 ∷ []) ∷ ("ab", 0 ∷ []) ∷ ("abc", 1 ∷ []) ∷ [])
+first-matches = refl
 
-failure-first-b : failure LeftmostFirst nested_words (codes "b") ≡ None
-failure-first-b = refl
+longest-matches : AreMatches LeftmostLongest nested_words No (
+    ("", []) ∷ ("a", []) ∷ ("b", 0 ∷ []) ∷ ("ab", 0 ∷ []) ∷ ("abc", 1 ∷ []) ∷ ("abcd", 2 ∷ []) ∷ [])
+longest-matches = refl
 
-failure-first-ab : failure LeftmostFirst nested_words (codes "ab") ≡ Some (codes "b")
-failure-first-ab = refl
+pronouns-matches : AreMatches Standard pronouns No (("she", 1 ∷ 0 ∷ []) ∷ [])
+pronouns-matches = refl
 
-failure-first-abc : failure LeftmostFirst nested_words (codes "abc") ≡ None
-failure-first-abc = refl
+-- in an anchored search they are those that equal the node
+standard-matches-anchored : AreMatches Standard nested_words Yes (
+    ("", []) ∷ ("a", []) ∷ ("b", 0 ∷ []) ∷ ("ab", []) ∷ ("abc", 1 ∷ []) ∷ ("abcd", 2 ∷ []) ∷ [])
+standard-matches-anchored = refl
 
-failure-longest-a : failure LeftmostLongest nested_words (codes "a") ≡ Some []
-failure-longest-a = refl
+first-matches-anchored : AreMatches LeftmostFirst nested_words Yes (
+    ("", []) ∷ ("b", 0 ∷ []) ∷ ("ab", []) ∷ ("abc", 1 ∷ []) ∷ [])
+first-matches-anchored = refl
 
-failure-longest-b : failure LeftmostLongest nested_words (codes "b") ≡ None
-failure-longest-b = refl
+longest-matches-anchored : AreMatches LeftmostLongest nested_words Yes (
+    ("", []) ∷ ("b", 0 ∷ []) ∷ ("ab", []) ∷ ("abc", 1 ∷ []) ∷ ("abcd", 2 ∷ []) ∷ [])
+longest-matches-anchored = refl
 
-failure-longest-ab : failure LeftmostLongest nested_words (codes "ab") ≡ Some (codes "b")
-failure-longest-ab = refl
+pronouns-matches-anchored : AreMatches Standard pronouns Yes (("she", 1 ∷ []) ∷ [])
+pronouns-matches-anchored = refl
 
-failure-longest-abc : failure LeftmostLongest nested_words (codes "abc") ≡ None
-failure-longest-abc = refl
+-- one that equals an earlier one is left out under LeftmostFirst alone
+twice-standard : AreMatches Standard twice No (("ab", 0 ∷ 1 ∷ []) ∷ [])
+twice-standard = refl
 
-failure-longest-abcd : failure LeftmostLongest nested_words (codes "abcd") ≡ None
-failure-longest-abcd = refl
+twice-first : AreMatches LeftmostFirst twice No (("ab", 0 ∷ []) ∷ [])
+twice-first = refl
 
--- matches of the nodes
-matches-standard-start : matches Standard nested_words No (Some []) ≡ []
-matches-standard-start = refl
+twice-longest : AreMatches LeftmostLongest twice No (("ab", 0 ∷ 1 ∷ []) ∷ [])
+twice-longest = refl
 
-matches-standard-a : matches Standard nested_words No (Some (codes "a")) ≡ []
-matches-standard-a = refl
-
-matches-standard-b : matches Standard nested_words No (Some (codes "b")) ≡ 0 ∷ []
-matches-standard-b = refl
-
-matches-standard-ab : matches Standard nested_words No (Some (codes "ab")) ≡ 0 ∷ []
-matches-standard-ab = refl
-
-matches-standard-abc : matches Standard nested_words No (Some (codes "abc")) ≡ 1 ∷ []
-matches-standard-abc = refl
-
-matches-standard-abcd : matches Standard nested_words No (Some (codes "abcd")) ≡ 2 ∷ []
-matches-standard-abcd = refl
-
-matches-standard-dead : matches Standard nested_words No None ≡ []
-matches-standard-dead = refl
-
-matches-first-start : matches LeftmostFirst nested_words No (Some []) ≡ []
-matches-first-start = refl
-
-matches-first-a : matches LeftmostFirst nested_words No (Some (codes "a")) ≡ []
-matches-first-a = refl
-
-matches-first-b : matches LeftmostFirst nested_words No (Some (codes "b")) ≡ 0 ∷ []
-matches-first-b = refl
-
-matches-first-ab : matches LeftmostFirst nested_words No (Some (codes "ab")) ≡ 0 ∷ []
-matches-first-ab = refl
-
-matches-first-abc : matches LeftmostFirst nested_words No (Some (codes "abc")) ≡ 1 ∷ []
-matches-first-abc = refl
-
-matches-first-dead : matches LeftmostFirst nested_words No None ≡ []
-matches-first-dead = refl
-
-matches-longest-start : matches LeftmostLongest nested_words No (Some []) ≡ []
-matches-longest-start = refl
-
-matches-longest-a : matches LeftmostLongest nested_words No (Some (codes "a")) ≡ []
-matches-longest-a = refl
-
-matches-longest-b : matches LeftmostLongest nested_words No (Some (codes "b")) ≡ 0 ∷ []
-matches-longest-b = refl
-
-matches-longest-ab : matches LeftmostLongest nested_words No (Some (codes "ab")) ≡ 0 ∷ []
-matches-longest-ab = refl
-
-matches-longest-abc : matches LeftmostLongest nested_words No (Some (codes "abc")) ≡ 1 ∷ []
-matches-longest-abc = refl
-
-matches-longest-abcd : matches LeftmostLongest nested_words No (Some (codes "abcd")) ≡ 2 ∷ []
-matches-longest-abcd = refl
-
-matches-longest-dead : matches LeftmostLongest nested_words No None ≡ []
-matches-longest-dead = refl
-
--- the longest pattern comes first; one that equals an earlier one is left out under LeftmostFirst alone
-pronouns-matches-standard-she : matches Standard pronouns No (Some (codes "she")) ≡ 1 ∷ 0 ∷ []
-pronouns-matches-standard-she = refl
-
-twice-matches-standard-ab : matches Standard (codes "ab" ∷ codes "ab" ∷ []) No (Some (codes "ab")) ≡ 0 ∷ 1 ∷ []
-twice-matches-standard-ab = refl
-
-twice-matches-first-ab : matches LeftmostFirst (codes "ab" ∷ codes "ab" ∷ []) No (Some (codes "ab")) ≡ 0 ∷ []
-twice-matches-first-ab = refl
-
-twice-matches-longest-ab : matches LeftmostLongest (codes "ab" ∷ codes "ab" ∷ []) No
-    (Some (codes "ab")) ≡ 0 ∷ 1 ∷ []
-twice-matches-longest-ab = refl
-
--- with an empty pattern every step of a leftmost kind is an anchored one, and every failure target the dead
--- node
-with-empty-step-first-ab-by-d : step LeftmostFirst (codes "abc" ∷ codes "bd" ∷ codes "" ∷ []) No
-    (Some (codes "ab")) 100
-    ≡ None
-with-empty-step-first-ab-by-d = refl
-
-with-empty-step-first-start-by-c : step LeftmostFirst (codes "abc" ∷ codes "bd" ∷ codes "" ∷ []) No
-    (Some []) 99 ≡ None
-with-empty-step-first-start-by-c = refl
-
-with-empty-step-first-ab-by-c : step LeftmostFirst (codes "abc" ∷ codes "bd" ∷ codes "" ∷ []) No
-    (Some (codes "ab")) 99
-    ≡ Some (codes "abc")
-with-empty-step-first-ab-by-c = refl
-
-with-empty-failure-first-ab : failure LeftmostFirst (codes "abc" ∷ codes "bd" ∷ codes "" ∷ [])
-    (codes "ab") ≡ None
-with-empty-failure-first-ab = refl
-
-with-empty-failure-first-a : failure LeftmostFirst (codes "abc" ∷ codes "bd" ∷ codes "" ∷ []) (codes "a") ≡ None
-with-empty-failure-first-a = refl
+-- the dead node has none
+dead-matches : matches Standard nested_words No None ∷ matches LeftmostFirst nested_words Yes None ∷ []
+    ≡ [] ∷ [] ∷ []
+dead-matches = refl
 
 -- pattern "aab" on "aaab" looks at 1, 1, 2 and 1 states; a step from "aa" by the letter c looks at 3
-aab-looks-standard-start-by-a : looks Standard (codes "aab" ∷ []) No (Some []) 97 ≡ 1
-aab-looks-standard-start-by-a = refl
+aab-looks : AreLooks Standard aab No (
+    ("", "a", 1) ∷ ("a", "a", 1) ∷ ("aa", "a", 2) ∷ ("aa", "b", 1) ∷ ("aa", "c", 3) ∷ [])
+aab-looks = refl
 
-aab-looks-standard-a-by-a : looks Standard (codes "aab" ∷ []) No (Some (codes "a")) 97 ≡ 1
-aab-looks-standard-a-by-a = refl
-
-aab-looks-standard-aa-by-a : looks Standard (codes "aab" ∷ []) No (Some (codes "aa")) 97 ≡ 2
-aab-looks-standard-aa-by-a = refl
-
-aab-looks-standard-aa-by-b : looks Standard (codes "aab" ∷ []) No (Some (codes "aa")) 98 ≡ 1
-aab-looks-standard-aa-by-b = refl
-
-aab-looks-standard-aa-by-c : looks Standard (codes "aab" ∷ []) No (Some (codes "aa")) 99 ≡ 3
-aab-looks-standard-aa-by-c = refl
+-- an anchored step looks once
+aab-looks-anchored : AreLooks Standard aab Yes (("", "a", 1) ∷ ("aa", "a", 1) ∷ ("aa", "c", 1) ∷ [])
+aab-looks-anchored = refl
 
 -- how many states an automaton has
-states-of-none : state_count Standard [] ≡ 4
-states-of-none = refl
-
-states-of-nested-standard : state_count Standard nested_words ≡ 9
-states-of-nested-standard = refl
-
-states-of-nested-first : state_count LeftmostFirst nested_words ≡ 8
-states-of-nested-first = refl
-
-states-of-abcd : state_count Standard (codes "abcd" ∷ []) ≡ 8
-states-of-abcd = refl
+states : state_count Standard [] ∷ state_count Standard nested_words ∷ state_count LeftmostFirst nested_words
+    ∷ state_count Standard (codes "abcd" ∷ []) ∷ []
+    ≡ 4 ∷ 9 ∷ 8 ∷ 8 ∷ []
+states = refl

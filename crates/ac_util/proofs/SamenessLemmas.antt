@@ -1,8 +1,8 @@
 -- The sameness of bytes, strings and places of characters in other words.
-use Rattle.std.proofs.Common.{◌≡◌, ℕ, suc, ◌+◌, ◌<◌, ◌≤◌, Bool, true, List, [], ◌∷◌, length, get_or, ◌⊎◌, inl, inr, refl, ap, sym, ◌∙◌, arith}
+use Rattle.std.proofs.Common.{◌≡◌, ℕ, suc, ◌+◌, ◌<◌, ◌≤◌, Bool, true, false, List, [], ◌∷◌, length, get_or, ◌⊎◌, inl, inr, refl, ap, sym, ◌∙◌, arith}
 use Rattle.std.specs.Char.{to_ascii_lowercase}
 use Rattle.std.proofs.lemmas.Bool.{eqb-true, eq-eqb, cases_lt}
-use Rattle.std.proofs.lemmas.List.{length-map, get_or-map}
+use Rattle.std.proofs.lemmas.List.{length-map, get_or-map, map-id}
 use Rattle.std.proofs.lemmas.Str.Ascii.{lowercase_is}
 use Rattle.ac_util.specs.Sameness.{plain_byte, same_byte, IsSame, IsCapitalOf, AreOneLetter}
 
@@ -86,3 +86,7 @@ pub IsSame-from_tests : (fold : Bool) (s t : List ℕ) → length s ≡ length t
 IsSame-from_tests fold s t l each =
     IsSame-from_places fold s t l
     (λ k within. eqb-true (plain_byte fold (get_or s k 0)) (plain_byte fold (get_or t k 0)) (each k within))
+
+-- where case counts, strings that are the same are equal
+pub IsSame-equal : (s t : List ℕ) → IsSame false s t → s ≡ t
+IsSame-equal s t h = sym (map-id s) ∙ h ∙ map-id t

@@ -1,5 +1,5 @@
 -- What a read and a write do: which bytes move, and which counts rise.
-use Rattle.std.specs.Prelude.{◌≡◌, ℕ, ◌+◌, ◌<◌, ◌≤◌, ◌&&◌, ◌==◌, nat_lt, List, length, take, Option, IfSome, Result, Ok, MatchResult, min, if◌then◌else◌}
+use Rattle.std.specs.Prelude.{◌≡◌, ℕ, ◌+◌, ◌<◌, ◌≤◌, Bool, true, ◌&&◌, ◌==◌, nat_lt, List, length, take, Option, IfSome, Result, Ok, MatchResult, min, if◌then◌else◌}
 use Rattle.std.specs.Io.KnownBytes.{Consumes, IsAtEnd, Appends}
 
 -- the bytes that a reader has left, if it tells them; how many of its calls failed; and how many reads into a
@@ -20,17 +20,19 @@ pub record Writing : Type 0 where
 abbrev pub idle : ℕ → ℕ → ℕ
 idle moved room = if moved == 0 && nat_lt 0 room then 1 else 0
 
--- n bytes came and stand at the front of `into`; none comes into a slice that isn't empty only at the end
-pub record Took (old new : Reading) (into : List ℕ) (n : ℕ) : Type 0 where
+-- n bytes came and stand at the front of `into`. Where `ends` is true, none comes into a slice that isn't empty
+-- only at the end of the bytes
+pub record Took (ends : Bool) (old new : Reading) (into : List ℕ) (n : ℕ) : Type 0 where
   pub within : n ≤ length into
   pub moved : Consumes old.left new.left (take n into)
-  pub ends : n ≡ 0 → 0 < length into → IsAtEnd new.left
+  pub ended : ends ≡ true → n ≡ 0 → 0 < length into → IsAtEnd new.left
   pub failed : new.failed ≡ old.failed
   pub empties : new.empties ≡ old.empties + idle n (length into)
 
 -- a read answered r: it took what r says, or it failed and the one thing that changed is the count of failures
-abbrev pub Reads : {E : Type 0} → Reading → Reading → Result ℕ E → List ℕ → Type 0
-Reads old new r into = MatchResult r (Took old new into) (λ _. new ≡ record old { failed = old.failed + 1 })
+abbrev pub Reads : {E : Type 0} → Bool → Reading → Reading → Result ℕ E → List ℕ → Type 0
+Reads ends old new r into =
+    MatchResult r (Took ends old new into) (λ _. new ≡ record old { failed = old.failed + 1 })
 
 -- the first n bytes of the piece went over
 pub record Gave (old new : Writing) (piece : List ℕ) (n : ℕ) : Type 0 where

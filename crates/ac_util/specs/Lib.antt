@@ -24,3 +24,5 @@ pub mod Sizes
 pub mod Plain
 pub mod Prefilters
 pub mod Built
+pub mod Inside
+pub mod Texts

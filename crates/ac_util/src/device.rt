@@ -1,5 +1,5 @@
 //! Where the bytes of a stream come from and go to.
-ghost use Rattle.std.specs.Prelude.{◌≡◌, [], Some, IfErr, IfOk, length};
+ghost use Rattle.std.specs.Prelude.{◌≡◌, Bool, true, [], Some, IfErr, IfOk, length};
 ghost use Rattle.std.specs.IoError.{error_kind};
 ghost use Rattle.std.specs.declared.io.ErrorKind.TheVariants.{OutOfMemory};
 ghost use Rattle.ac_util.specs.Device.{GivesAll, Reading, Reads, Writing, Writes};
@@ -15,15 +15,20 @@ use std::snapshot::Snapshot;
 ///
 /// Contracts see the bytes that it has left, where it tells them, and how often a call failed or gave nothing.
 /// These counts only rise, and have no greatest number.
+///
+/// A read that gives no byte, though there was room, is the end for whoever reads. Where `empty_means_end` is
+/// true the bytes that the reader tells are at their end then too; else it may have more to give later.
 pub trait Source {
     ghost told: { Self → Reading };
 
-    /// Reads bytes to the front of `into` and returns how many came. None though there was room means the end.
+    ghost empty_means_end: { Bool };
+
+    /// Reads bytes to the front of `into` and returns how many came.
     ///
     /// # Errors
     /// Its own. A call that fails leaves the bytes where they were, and `into` holds nothing of use.
     fn read_some(&mut self, into: &mut [u8]) -> io::Result<usize>
-        ensures { Reads (told self.old) (told self.new) result into.new };
+        ensures { Reads empty_means_end (told self.old) (told self.new) result into.new };
 }
 
 /// A writer of bytes.
@@ -77,9 +82,11 @@ impl<'a> Bytes<'a> {
 impl<'a> Source for Bytes<'a> {
     ghost told = { λ b. b };
 
+    ghost empty_means_end = { true };
+
     // Never fails, and gives as many bytes as there are and as fit.
     fn read_some(&mut self, into: &mut [u8]) -> io::Result<usize>
-        ensures reads { Reads self.old self.new result into.new }
+        ensures reads { Reads true self.old self.new result into.new }
         ensures full { GivesAll self.old.left result into.old }
     {
         let left = self.left;
@@ -136,6 +143,9 @@ impl<R: Read + Drop> FromRead<R> {
 
 impl<R: Read + Drop> Source for FromRead<R> {
     ghost told = { λ b. b };
+
+    // A `Read` that tells its bytes gives none only at their end, if there was room.
+    ghost empty_means_end = { true };
 
     fn read_some(&mut self, into: &mut [u8]) -> io::Result<usize> {
         match self.inner.read(into) {

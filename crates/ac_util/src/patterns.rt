@@ -1,5 +1,5 @@
 //! The patterns of a searcher, stored once.
-ghost use Rattle.std.specs.Prelude.{◌≡◌, ◌+◌, ◌<◌, ◌≤◌, length, slice_get, Some, Ok, Err};
+ghost use Rattle.std.specs.Prelude.{◌≡◌, ◌+◌, ◌<◌, ◌≤◌, length, map, slice_get, Some, Ok, Err};
 ghost use Rattle.std.specs.Prelude.{MatchOption, MatchResult};
 ghost use Rattle.ac_util.specs.declared.error.BuildError.TheVariants.{Memory};
 ghost use Rattle.ac_util.specs.Borrowed.{bytes_of};
@@ -10,6 +10,7 @@ ghost use Rattle.ac_util.specs.Sameness.{plain_byte};
 use crate::error::BuildError;
 use crate::primitives::{GREATEST, PatternID};
 use std::alloc::Allocator;
+use std::convert::AsSlice;
 use std::marker::Model;
 use std::mem::size_of;
 
@@ -118,13 +119,13 @@ fn piece<'a>(bytes: &'a [u8], bounds: &[usize], number: usize) -> &'a [u8]
     &bytes[start..end]
 }
 
-/// Tests that each pattern can have a number and that none is too long. It asks for no memory, so a build that
-/// needs some before it stores the patterns tests this first.
+/// Tests that each pattern can have a number and that none is too long. A pattern is a slice of bytes or a
+/// text. It asks for no memory, so whoever needs some before the patterns are stored tests this first.
 ///
 /// # Errors
 /// `PatternIdOverflow` or `PatternTooLong`, whichever limit is passed first.
-pub fn check_limits(patterns: &[&[u8]]) -> Result<(), BuildError>
-    ensures { MatchOption (limit_refusal (bytes_of patterns.now))
+pub fn check_limits<P: AsSlice<u8>>(patterns: &[P]) -> Result<(), BuildError>
+    ensures { MatchOption (limit_refusal (map P.items patterns.now))
         (result ≡ Ok tt)
         (λ refusal. result ≡ Err refusal) }
 {
@@ -135,10 +136,11 @@ pub fn check_limits(patterns: &[&[u8]]) -> Result<(), BuildError>
         });
     }
     for (number, pattern) in patterns.iter().enumerate() {
-        if pattern.len() > PatternID::MAX {
+        let len = pattern.as_slice().len();
+        if len > PatternID::MAX {
             return Err(BuildError::PatternTooLong {
                 pattern: PatternID::must(number),
-                len: pattern.len(),
+                len,
             });
         }
     }

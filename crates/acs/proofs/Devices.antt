@@ -1,5 +1,5 @@
 -- Reading on, and writing on.
-use Rattle.std.proofs.Common.{◌≡◌, ◌≢◌, ◌+◌, ◌<◌, ℕ, zero, suc, List, [], ◌∷◌, ◌++◌, length, length-drop, take, drop, ap, sym, refl, ◌∙◌, subst, arith, Option}
+use Rattle.std.proofs.Common.{◌≡◌, ◌≢◌, ◌+◌, ◌<◌, ℕ, zero, suc, List, [], ◌∷◌, ◌++◌, length, length-drop, take, drop, ap, sym, refl, ◌∙◌, subst, arith, Bool, Option}
 use Rattle.std.proofs.lemmas.Bool.Decides.{nat_tests}
 use Rattle.std.proofs.lemmas.List.{length-take-le}
 use Rattle.std.specs.Prelude.{slice_range}
@@ -10,8 +10,8 @@ use Rattle.std.proofs.KnownBytes.{Appends-trans, Consumes-trans}
 use Rattle.ac_util.specs.Device.{Reading, Took, idle}
 
 -- what was read so far with what a read has taken
-pub read-more : (a b c : Reading) (bs piece : List ℕ) (n : ℕ) → Consumes a.left b.left bs → Took b c piece n
-    → Consumes a.left c.left (bs ++ take n piece)
+pub read-more : {ends : Bool} (a b c : Reading) (bs piece : List ℕ) (n : ℕ) → Consumes a.left b.left bs
+    → Took ends b c piece n → Consumes a.left c.left (bs ++ take n piece)
 read-more a b c bs piece n p t = Consumes-trans a.left b.left c.left bs (take n piece) p t.moved
 
 -- what was written so far with what a write has taken
@@ -40,7 +40,8 @@ pub was-idle : (n room : ℕ) → n ≡ 0 → 0 < room → idle n room ≡ 1
 was-idle n room none some = grind (arith, nat_tests)
 
 -- a read that took something wasn't an empty one
-pub not-empty : (a b : Reading) (into : List ℕ) (n : ℕ) → n ≢ 0 → Took a b into n → b.empties ≡ a.empties
+pub not-empty : {ends : Bool} (a b : Reading) (into : List ℕ) (n : ℕ) → n ≢ 0 → Took ends a b into n
+    → b.empties ≡ a.empties
 not-empty a b into n some t = let none = not-idle n (length into) some in let count = t.empties in omega arith
 
 -- what is left of the bytes from a place on

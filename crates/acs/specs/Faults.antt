@@ -1,5 +1,5 @@
 -- Why the program fails, and what it says then.
-use Rattle.std.specs.Prelude.{◌≡◌, ◌⊎◌, ℕ, List, codes}
+use Rattle.std.specs.Prelude.{◌≡◌, ℕ, List, codes}
 use Rattle.ac_util.specs.declared.error.BuildError.{BuildError}
 use Rattle.ac_util.specs.declared.error.BuildError.TheVariants.{Memory as NoMemory, PatternIdOverflow, PatternTooLong as TooLongPattern, StateIdOverflow}
 use Rattle.ac_automaton.specs.Builds.{Refuses}
@@ -24,11 +24,7 @@ fault_of (PatternIdOverflow max requested) = TooManyPatterns
 fault_of (TooLongPattern pattern len) = PatternTooLong
 fault_of (StateIdOverflow max requested) = TooManyStates
 
--- the fault of a build over these patterns that was refused
+-- the fault of a build over these patterns that was refused: a limit of the list is told before want of memory
 abbrev pub IsRefusal : Settings → List (List ℕ) → Fault → Type 0
 IsRefusal settings patterns fault =
     (e : BuildError) × (fault ≡ fault_of e) × Refuses (rules_for settings) (engine_settings settings) patterns e
-
--- the same, or there was no memory to begin the build
-abbrev pub IsNotBuilt : Settings → List (List ℕ) → Fault → Type 0
-IsNotBuilt settings patterns fault = IsRefusal settings patterns fault ⊎ (fault ≡ Memory)

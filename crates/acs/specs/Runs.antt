@@ -1,5 +1,5 @@
 -- What a run of the program does to its reader and its writer.
-use Rattle.std.specs.Prelude.{◌≡◌, ◌⊎◌, ℕ, ◌+◌, ◌<◌, List, length}
+use Rattle.std.specs.Prelude.{◌≡◌, ◌⊎◌, ℕ, ◌+◌, ◌<◌, Bool, true, List, length}
 use Rattle.std.specs.Io.{StartsWith}
 use Rattle.std.specs.Io.KnownBytes.{Appends, Consumes, IsAtEnd}
 use Rattle.ac_util.specs.Device.{Reading, Writing}
@@ -10,14 +10,15 @@ use Rattle.acs.specs.declared.fault.Fault.{Fault}
 use Rattle.acs.specs.declared.fault.Fault.TheVariants.{Io, Memory, WriteZero}
 use Rattle.acs.specs.declared.request.Request.{Request}
 use Rattle.acs.specs.declared.run.Outcome.{Outcome}
-use Rattle.acs.specs.Faults.{IsNotBuilt}
+use Rattle.acs.specs.Faults.{IsRefusal}
 use Rattle.acs.specs.Lines.{lines, outcome_of, printed}
 use Rattle.acs.specs.Requests.{settings_of}
 
--- the bytes are all that the reader had left: it has come to its end, was asked no more, and no read failed
-pub record ReadsAll (old new : Reading) (bytes : List ℕ) : Type 0 where
+-- the bytes are all that the reader gave up to the first read that gave none, where it was asked no more, and
+-- no read failed. Where `ends` is true they are all that it had left
+pub record ReadsAll (ends : Bool) (old new : Reading) (bytes : List ℕ) : Type 0 where
   pub moved : Consumes old.left new.left bytes
-  pub ended : IsAtEnd new.left
+  pub ended : ends ≡ true → IsAtEnd new.left
   pub failed : new.failed ≡ old.failed
   pub empties : new.empties ≡ old.empties + 1
 
@@ -58,21 +59,22 @@ abbrev pub answer : Request → List (List ℕ) → List ℕ → List Occurrence
 answer request patterns haystack =
     printed request.mode (built_by (settings_of request) patterns) haystack
 
-module _ (request : Request) (patterns : List (List ℕ)) (reader new_reader : Reading)
+-- `ends` is whether the reader's bytes are at their end where it gives none
+module _ (ends : Bool) (request : Request) (patterns : List (List ℕ)) (reader new_reader : Reading)
     (writer new_writer : Writing) where
   -- no limit refused the searcher, and the run has written a line for each match in all that the reader gave,
   -- and says whether there was one
   pub record HasRun (outcome : Outcome) : Type 0 where
     pub allowed : IsAllowed (rules_for (settings_of request)) (engine_settings (settings_of request)) patterns
     pub haystack : List ℕ
-    pub reads : ReadsAll reader new_reader haystack
+    pub reads : ReadsAll ends reader new_reader haystack
     pub writes : WritesAll writer new_writer (lines (answer request patterns haystack))
     pub outcome_is : outcome ≡ outcome_of (answer request patterns haystack)
 
-  -- there was no searcher, or no memory before the first read: reader and writer are as they were
+  -- the searcher was refused, by a limit of the list where one is passed: reader and writer are as they were
   abbrev pub FailsAtFirst : Fault → Type 0
   FailsAtFirst fault =
-      IsNotBuilt (settings_of request) patterns fault × (new_reader ≡ reader) × (new_writer ≡ writer)
+      IsRefusal (settings_of request) patterns fault × (new_reader ≡ reader) × (new_writer ≡ writer)
 
   -- no limit refused the searcher; while the run read it has ended with a fault, with nothing written
   abbrev pub FailsReading : Fault → Type 0
@@ -86,7 +88,7 @@ module _ (request : Request) (patterns : List (List ℕ)) (reader new_reader : R
   pub record FailsPrinting (fault : Fault) : Type 0 where
     pub allowed : IsAllowed (rules_for (settings_of request)) (engine_settings (settings_of request)) patterns
     pub haystack : List ℕ
-    pub reads : ReadsAll reader new_reader haystack
+    pub reads : ReadsAll ends reader new_reader haystack
     pub writes : FailsToPrint writer new_writer (lines (answer request patterns haystack)) fault
 
   -- the run has ended with a fault, for its cause: before the first read, while it read, or while it wrote

@@ -9,15 +9,15 @@ use std::alloc::{AllocError, AllocFailed};
 /// Why a run fails.
 #[derive(Clone, Copy, PartialEq, Eq, Debug)]
 pub enum Fault {
-    /// The words ask for nothing that there is.
+    /// The words name no mode, match kind and engine that the program has.
     Usage,
     /// A request for memory was refused.
     Memory,
-    /// There are more patterns than numbers for them.
+    /// There are more patterns than pattern numbers.
     TooManyPatterns,
     /// A pattern is too long.
     PatternTooLong,
-    /// The patterns want more states than there are numbers for.
+    /// The patterns need more states than there are state numbers.
     TooManyStates,
     /// A read or a write failed.
     Io,
@@ -26,7 +26,7 @@ pub enum Fault {
 }
 
 impl Fault {
-    /// Returns the line that tells of it, without its end.
+    /// Returns the line that tells of the fault, without the newline.
     pub fn line(&self) -> &'static str
         ensures { result.now ≡ line_of self.now }
     {

@@ -9,7 +9,7 @@ use std::alloc::Allocator;
 /// How many bytes are asked for at once.
 const PIECE: usize = 65536;
 
-/// Reads to the end.
+/// Reads until a read gives no byte, and no further.
 ///
 /// # Errors
 /// `Io` where a read fails, `Memory` where a request for memory is refused.
@@ -18,7 +18,7 @@ pub(crate) fn read_all<A: Allocator + Clone, R: Source>(
     reader: &mut R,
 ) -> Result<Vec<u8, A>, Fault>
     ensures { MatchResult result
-        (λ bytes. ReadsAll (R.told reader.old) (R.told reader.new) bytes.items)
+        (λ bytes. ReadsAll R.empty_means_end (R.told reader.old) (R.told reader.new) bytes.items)
         (FailsToRead (R.told reader.old) (R.told reader.new)) }
 {
     let mut bytes = Vec::new(alloc.clone()?);

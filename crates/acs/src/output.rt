@@ -46,7 +46,7 @@ fn write_all<W: Sink>(writer: &mut W, bytes: &[u8]) -> Result<(), Fault>
 ///
 /// # Errors
 /// `Io` where a write fails, `WriteZero` where it takes no byte, `Memory` where a request for memory is
-/// refused. The lines before are written, or a beginning of them.
+/// refused. A beginning of the lines was written then, and not all of them.
 pub(crate) fn print_walk<A: Allocator + Clone, B: Allocator, W: Sink>(
     alloc: A,
     matches: FindIter<'_, '_, B>,

@@ -12,30 +12,34 @@ use crate::fault::Fault;
 use crate::input::read_all;
 use crate::output::{print_found, print_walk};
 use crate::request::{Mode, Request, patterns_of, request_of};
-use ac_search::{AhoCorasick, AhoCorasickBuilder, Input, Sink, Source};
+use ac_search::{AhoCorasick, AhoCorasickBuilder, Input, Sink, Source, check_limits};
 use std::alloc::Allocator;
 
 /// How a run ends that meets no fault.
 #[derive(Clone, Copy, PartialEq, Eq, Debug)]
 pub enum Outcome {
-    /// A line was written.
+    /// At least one line was written.
     Found,
-    /// No line was.
+    /// No line was written.
     Nothing,
 }
 
 /// Searches all that a reader gives for what the words ask for, and writes a line for each match: its pattern's
 /// number, its start and its end.
 ///
-/// The words are tested first, then the searcher is built, then the whole input is read, and only then
-/// something is written.
+/// The words are tested first, then the searcher is built, then the input is read up to the first read that
+/// gives no byte, and only then something is written.
 ///
 /// # Errors
-/// `Usage` exactly where the words ask for nothing that there is; then nothing is read or written. Any other
-/// fault comes for its cause alone: the build was refused, memory was, a read or a write has failed, or a write
-/// took no byte. Whether memory was refused the contract doesn't see; `Memory` is told only where no read or
-/// write has failed and no write took nothing. Where the input was not read to its end nothing is written; else
-/// what was written until then is a beginning of the lines, and not all of them.
+/// - `Usage` exactly where the words ask for nothing that there is.
+/// - `TooManyPatterns` and `PatternTooLong` exactly where that limit of the list is passed.
+/// - `TooManyStates` only where the engine would need more states than there are numbers.
+/// - `Io` where a read or a write failed, and `WriteZero` where a write took no byte.
+/// - `Memory` where a request for memory was refused. A contract cannot count such requests; it says that none
+///   of the causes above was there.
+///
+/// Before the first read nothing is written, nor while the input is read. Where a run fails after that, a
+/// beginning of the lines was written, and not all of them.
 pub fn run<A: Allocator + Clone, R: Source, W: Sink>(
     alloc: A,
     words: &[&str],
@@ -46,9 +50,9 @@ pub fn run<A: Allocator + Clone, R: Source, W: Sink>(
         ((result ≡ Err Fault.Usage)
         × (R.told reader.new ≡ R.told reader.old) × (W.told writer.new ≡ W.told writer.old))
         (λ request. MatchResult result
-        (HasRun request (patterns_of (bytes_of words.now))
+        (HasRun R.empty_means_end request (patterns_of (bytes_of words.now))
         (R.told reader.old) (R.told reader.new) (W.told writer.old) (W.told writer.new))
-        (HasFailed request (patterns_of (bytes_of words.now))
+        (HasFailed R.empty_means_end request (patterns_of (bytes_of words.now))
         (R.told reader.old) (R.told reader.new) (W.told writer.old) (W.told writer.new))) }
 {
     let Some(request) = request_of(words) else {
@@ -69,11 +73,12 @@ fn search<A: Allocator + Clone, R: Source, W: Sink>(
     writer: &mut W,
 ) -> Result<Outcome, Fault>
     ensures { MatchResult result
-        (HasRun request (bytes_of words.now)
+        (HasRun R.empty_means_end request (bytes_of words.now)
         (R.told reader.old) (R.told reader.new) (W.told writer.old) (W.told writer.new))
-        (HasFailed request (bytes_of words.now)
+        (HasFailed R.empty_means_end request (bytes_of words.now)
         (R.told reader.old) (R.told reader.new) (W.told writer.old) (W.told writer.new)) }
 {
+    check_limits(words)?;
     let patterns = patterns_of(alloc.clone()?, words)?;
     let searcher = searcher_for(alloc.clone()?, request, &patterns)?;
     let haystack = read_all(alloc.clone()?, reader)?;
@@ -87,7 +92,7 @@ fn search<A: Allocator + Clone, R: Source, W: Sink>(
 /// Builds the searcher that is asked for.
 ///
 /// # Errors
-/// Why the build is refused: where a limit refuses it, nothing but that.
+/// As `AhoCorasickBuilder::build`: a limit of the list is told as that limit.
 fn searcher_for<A: Allocator + Clone>(
     alloc: A,
     request: Request,

@@ -1,9 +1,11 @@
-ghost use Rattle.std.specs.Prelude.{◌≤◌, IfOk};
+ghost use Rattle.std.specs.Prelude.{◌≤◌, false, IfOk};
 
 use super::{Bytes, FromRead, IntoWrite, Sink, Source, Written};
+use crate::tally::Tally;
 use std::alloc::Global;
 use std::io;
 use std::io::{ErrorKind, Read, Write};
+use std::marker::Model;
 use std::test::Fail;
 
 /// How many bytes a call moved, or the kind of its error.
@@ -71,6 +73,42 @@ impl<'a> Read for Drops<'a> {
             }
             _ => Ok(0),
         }
+    }
+}
+
+/// Tells its bytes, gives those up to a pause, then none, and then the others.
+#[derive(Drop)]
+struct Pauses<'a> {
+    left: &'a [u8],
+    until: usize,
+    empties: Tally,
+}
+
+impl<'a> Model for Pauses<'a> {
+    ghost use Rattle.std.specs.Prelude.{Some};
+    ghost use Rattle.ac_util.specs.Device.{Reading};
+
+    ghost Value = { Reading };
+
+    ghost view = { λ p. record { left = Some p.left.now; failed = 0; empties = p.empties.number } };
+}
+
+impl<'a> Source for Pauses<'a> {
+    ghost told = { λ p. p };
+
+    ghost empty_means_end = { false };
+
+    fn read_some(&mut self, into: &mut [u8]) -> io::Result<usize> {
+        let left = self.left;
+        let n = left.len().min(self.until).min(into.len());
+        into[..n].copy_from_slice(&left[..n]);
+        self.until -= n;
+        self.left = &left[n..];
+        if n == 0 && !into.is_empty() {
+            self.empties = Tally::after(&self.empties);
+            self.until = usize::MAX;
+        }
+        Ok(n)
     }
 }
 
@@ -177,6 +215,23 @@ fn bytes_come_in_order(rt: HostRuntime) -> Result<(), Fail> {
             "{name}"
         );
         assert_eq!(rt; &into[..wanted.len()], wanted, "{name}");
+    }
+    Ok(())
+}
+
+#[test]
+fn a_pause_is_no_end_of_the_bytes(rt: HostRuntime) -> Result<(), Fail> {
+    let mut source = Pauses {
+        left: b"abcde",
+        until: 3,
+        empties: Tally::zero(),
+    };
+    let rows: [&[u8]; 5] = [b"ab", b"c", b"", b"de", b""];
+    for wanted in rows {
+        let mut into = [b'-'; 2];
+        assert!(rt; wanted.len() <= 2);
+        assert_eq!(rt; read(&mut source, &mut into), Ok(wanted.len()));
+        assert_eq!(rt; &into[..wanted.len()], wanted);
     }
     Ok(())
 }

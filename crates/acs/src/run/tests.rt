@@ -199,6 +199,24 @@ impl<'a> Read for Drops<'a> {
     }
 }
 
+/// Gives the bytes up to a pause, then none, and then would give the others.
+#[derive(Drop)]
+struct Pauses<'a> {
+    left: &'a mut Vec<u8>,
+    until: usize,
+}
+
+impl<'a> Read for Pauses<'a> {
+    fn read(&mut self, into: &mut [u8]) -> io::Result<usize> {
+        let n = self.until.min(self.left.len()).min(into.len());
+        for (place, byte) in into.iter_mut().zip(self.left.drain(..n)) {
+            *place = byte;
+        }
+        self.until = if n == 0 { usize::MAX } else { self.until - n };
+        Ok(n)
+    }
+}
+
 /// Takes one byte a call while it holds fewer than `room`, and then fails or takes nothing.
 #[derive(Drop)]
 struct Narrow<'a> {
@@ -260,6 +278,23 @@ fn a_failed_read_is_told(rt: HostRuntime) -> Result<(), Fail> {
         assert_eq!(rt; answer, Err(Fault::Io), "behind {k} bytes");
         assert!(rt; writer.bytes().is_empty(), "behind {k} bytes");
     }
+    Ok(())
+}
+
+#[test]
+fn a_read_of_nothing_is_the_end(rt: HostRuntime) -> Result<(), Fail> {
+    let mut left = Vec::new(rt.alloc());
+    left.extend_from_slice(INPUT)?;
+    let mut reader = FromRead::new(Pauses {
+        left: &mut left,
+        until: 3,
+    });
+    let mut writer = Written::new(rt.alloc());
+    let answer = run(rt.alloc(), WORDS, &mut reader, &mut writer);
+    drop(reader);
+    assert_eq!(rt; answer, Ok(Outcome::Found));
+    assert_eq!(rt; writer.bytes(), b"0 0 2\n1 2 3\n".as_slice());
+    assert_eq!(rt; left.as_slice(), b"xab".as_slice());
     Ok(())
 }
 

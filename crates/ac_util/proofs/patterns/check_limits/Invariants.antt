@@ -4,6 +4,6 @@ use Rattle.ac_util.proofs.patterns.check_limits.Given as goal
 
 -- what is refused is refused for a pattern from here on
 abbrev pub invariant-loop-number : goal.invariant-loop-number
-invariant-loop-number l =
-    limit_refusal (map (λ p. p.now) l.patterns)
-    ≡ too_long_from l.number (drop l.number (map (λ p. p.now) l.patterns))
+invariant-loop-number g l =
+    limit_refusal (map g.P.AsSlice.items l.patterns)
+    ≡ too_long_from l.number (drop l.number (map g.P.AsSlice.items l.patterns))

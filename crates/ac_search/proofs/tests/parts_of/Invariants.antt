@@ -1,0 +1,6 @@
+use Rattle.std.specs.List.{AllByRecursion}
+use Rattle.ac_util.specs.Texts.{IsBetweenCharacters}
+use Rattle.ac_search.proofs.tests.parts_of.Given as goal
+
+abbrev pub invariant-loop-m : goal.invariant-loop-m
+invariant-loop-m l = AllByRecursion (IsBetweenCharacters l.text) l.m-iterator.rest

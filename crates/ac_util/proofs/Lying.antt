@@ -1,0 +1,101 @@
+-- Where the matches of an input lie, and how many a walk has.
+use Rattle.std.proofs.Common.{◌≡◌, ℕ, zero, suc, ◌+◌, ◌-◌, ◌≤◌, Bool, true, false, length, refl, ◌∙◌, arith, Option, Some, None}
+use Rattle.std.specs.Prelude.{All, Contains, IfSome}
+use Rattle.std.proofs.lemmas.List.Elements.{All-nil, All-cons, All-weaker, All-contains_itself}
+use Rattle.ac_util.specs.declared.search.MatchKind.{MatchKind}
+use Rattle.ac_util.specs.Occurrence.{Occurrence}
+use Rattle.ac_util.specs.Search.{Search, Occurs, from}
+use Rattle.ac_util.specs.Listing.{all}
+use Rattle.ac_util.specs.Pick.{order_of, pick}
+use Rattle.ac_util.specs.Walk.{repeats, unless_repeated, next_match, continued, walk_after}
+use Rattle.ac_util.specs.Input.{Asked}
+use Rattle.ac_util.specs.Built.{Built, found, search_in, walked}
+use Rattle.ac_util.specs.Inside.{LiesIn}
+use Rattle.ac_util.proofs.Listing.{Occurs-from_all}
+use Rattle.ac_util.proofs.Walks.{pick-Occurs, next-in_span}
+
+-- what occurs in a span of the haystack that begins no earlier than the input's lies in the input
+Occurs-lies : (built : Built) (asked : Asked) (k : ℕ) (m : Occurrence) → asked.end ≤ length asked.haystack
+    → asked.start ≤ k → Occurs (from (search_in built asked) k) m → LiesIn built asked m
+Occurs-lies built asked k m inside later o = record {
+  numbered = o.numbered;
+  from_start = (let low = o.from_low in omega arith);
+  in_order = (let long = o.as_long in omega arith);
+  to_end = o.to_high;
+  in_haystack = (let high = o.to_high in omega arith);
+  as_long = o.as_long;
+  same = o.reads;
+}
+
+-- what a find answers lies in the input
+pub found-lies : (built : Built) (asked : Asked) (m : Occurrence) → asked.end ≤ length asked.haystack
+    → found built asked ≡ Some m → LiesIn built asked m
+found-lies built asked m inside e =
+    Occurs-lies built asked asked.start m inside (omega arith)
+    (pick-Occurs (order_of built.kind asked.earliest) (search_in built asked) m e)
+
+-- the same where it may answer nothing
+pub found-IfSome : (built : Built) (asked : Asked) → asked.end ≤ length asked.haystack
+    → IfSome (found built asked) (LiesIn built asked)
+found-IfSome built asked inside = by (found built asked) refl
+  where
+    by : (r : Option Occurrence) → found built asked ≡ r → IfSome r (LiesIn built asked)
+    by None e = tt
+    by (Some m) e = found-lies built asked m inside e
+
+-- the next match of a walk occurs in a span that begins at the low end or behind it
+next-Occurs : (kind : MatchKind) (q : Search) (last : Option ℕ) (p : Option Occurrence) (t : Bool)
+    (m : Occurrence) → pick kind q ≡ p → unless_repeated kind q p t ≡ Some m
+    → (k : ℕ) × (q.low ≤ k) × Occurs (from q k) m
+next-Occurs kind q last p true m ep e =
+    (q.low + 1, omega arith, pick-Occurs kind (from q (q.low + 1)) m e)
+next-Occurs kind q last p false m ep e = (q.low, omega arith, pick-Occurs kind q m (ep ∙ e))
+
+-- what holds of all that occurs in a span from the low end on, or from behind it, holds of each match of a walk
+continued-All : (P : Occurrence → Type 0) (kind : MatchKind) (q : Search) (last : Option ℕ) (n : ℕ)
+    (r : Option Occurrence) → next_match kind q last ≡ r
+    → ((k : ℕ) (m : Occurrence) → q.low ≤ k → Occurs (from q k) m → P m)
+    → All P (continued kind q n r)
+continued-All P kind q last zero r e each = All-nil P
+continued-All P kind q last (suc n) None e each = All-nil P
+continued-All P kind q last (suc n) (Some m) e each =
+    let o = next-Occurs kind q last (pick kind q) (repeats (pick kind q) last) m refl e in
+    let s = next-in_span kind q last m e in
+    All-cons P m (continued kind q n (next_match kind (from q m.end) (Some m.end)))
+    (each o.0 m o.1 o.2)
+    (continued-All P kind (from q m.end) (Some m.end) n (next_match kind (from q m.end) (Some m.end)) refl
+    (λ k x later occurs. each k x (omega arith) occurs))
+
+-- each match of a walk lies in the input
+pub walked-lie : (built : Built) (asked : Asked) → asked.end ≤ length asked.haystack
+    → All (LiesIn built asked) (walked built asked)
+unfolding walk_after
+walked-lie built asked inside =
+    continued-All (LiesIn built asked) (order_of built.kind asked.earliest) (search_in built asked) None
+    (asked.end + 1 - asked.start)
+    (next_match (order_of built.kind asked.earliest) (search_in built asked) None) refl
+    (λ k m later o. Occurs-lies built asked k m inside later o)
+
+-- each item of the listing lies in the input
+pub listed-lie : (built : Built) (asked : Asked) → asked.end ≤ length asked.haystack
+    → All (LiesIn built asked) (all (search_in built asked))
+listed-lie built asked inside =
+    All-weaker (Contains (all (search_in built asked))) (LiesIn built asked)
+    (λ m h. Occurs-lies built asked asked.start m inside (omega arith)
+    (Occurs-from_all (search_in built asked) m h))
+    (all (search_in built asked)) (All-contains_itself (all (search_in built asked)))
+
+-- a walk has no more matches than it may have
+length-continued : (kind : MatchKind) (q : Search) (n : ℕ) (r : Option Occurrence)
+    → length (continued kind q n r) ≤ n
+length-continued kind q zero r = omega arith
+length-continued kind q (suc n) None = omega arith
+length-continued kind q (suc n) (Some m) =
+    omega (arith, length-continued kind (from q m.end) n (next_match kind (from q m.end) (Some m.end)))
+
+-- so it has at most one more than the span has bytes
+pub length-walked : (built : Built) (asked : Asked) → length (walked built asked) ≤ asked.end + 1 - asked.start
+unfolding walk_after
+length-walked built asked =
+    length-continued (order_of built.kind asked.earliest) (search_in built asked) (asked.end + 1 - asked.start)
+    (next_match (order_of built.kind asked.earliest) (search_in built asked) None)

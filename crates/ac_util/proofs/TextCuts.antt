@@ -1,0 +1,187 @@
+-- A text that occurs in a text cuts no character of it, with case or without.
+use Rattle.std.proofs.Common.{◌≡◌, ◌≢◌, ℕ, suc, ◌+◌, ◌<◌, ◌≤◌, Bool, true, false, List, [], ◌∷◌, ◌++◌, length, get_or, take, drop, inl, inr, refl, sym, ap, ap₂, ◌∙◌, subst, arith, append_assoc, append-nil, Option, Some, None}
+use Rattle.std.specs.Prelude.{All, IfSome}
+use Rattle.std.specs.Str.{IsCharBoundary, IsUtf8}
+use Rattle.std.proofs.lemmas.Bool.{and_parts, cases_lt}
+use Rattle.std.proofs.lemmas.List.Elements.{All-weaker}
+use Rattle.std.proofs.lemmas.List.{drop-map, get_or-drop, get_or-map, get_or-take, length-map, map-append, nil_from_length, take-append-drop, take-map}
+use Rattle.std.proofs.lemmas.Str.{IsCharBoundary-at_seam, IsCharBoundary-from_rest, IsCharBoundary-start, IsUtf8-append, IsUtf8-drop, IsUtf8-encode, IsUtf8-nil, IsUtf8-past_char, encode_ascii, inside_one}
+use Rattle.std.proofs.lemmas.Str.Ascii.{lowercase_ascii, lowercase_is}
+use Rattle.std.proofs.Math.Utf8.{scalar, scalars, encode, encodes, low_scalar}
+use Rattle.ac_util.specs.Occurrence.{Occurrence}
+use Rattle.ac_util.specs.Search.{pattern_of}
+use Rattle.ac_util.specs.Sameness.{plain_byte, plain}
+use Rattle.ac_util.specs.Input.{Asked}
+use Rattle.ac_util.specs.Built.{Built, found, walked}
+use Rattle.ac_util.specs.Inside.{LiesIn}
+use Rattle.ac_util.specs.Texts.{AreTexts, IsBetweenCharacters}
+use Rattle.ac_util.proofs.Lying.{found-IfSome, walked-lie}
+
+-- a byte of no ASCII letter keeps its class, and so does the small form of one
+plain_byte-low : (fold : Bool) (b : ℕ) → b < 128 → plain_byte fold b < 128
+plain_byte-low false b low = low
+plain_byte-low true b low = lowercase_ascii b low
+
+plain_byte-high : (fold : Bool) (b : ℕ) → 128 ≤ b → plain_byte fold b ≡ b
+plain_byte-high false b high = refl
+plain_byte-high true b high = (lowercase_is b).2 (omega arith)
+
+-- bytes above those of ASCII stay
+plain-high : (fold : Bool) (bs : List ℕ) → ((k : ℕ) → k < length bs → 128 ≤ get_or bs k 0)
+    → plain fold bs ≡ bs
+plain-high fold [] high = refl
+plain-high fold (b ∷ bs) high =
+    ap₂ (λ (c : ℕ) (cs : List ℕ). c ∷ cs) (plain_byte-high fold b (high 0 (omega arith)))
+    (plain-high fold bs (λ k below. high (suc k) (omega arith)))
+
+-- one ASCII byte is a text
+one-IsUtf8 : (b : ℕ) → b < 128 → IsUtf8 (b ∷ [])
+one-IsUtf8 b low = subst IsUtf8 (encode_ascii b low) (IsUtf8-encode b (low_scalar b (omega arith)))
+
+-- the plain bytes of a character are a text
+plain-character : (fold : Bool) (c : ℕ) → scalar c ≡ true → IsUtf8 (plain fold (encode c))
+plain-character fold c ok = elim (cases_lt c 128) [
+  | inl low ↦
+      subst (λ (bs : List ℕ). IsUtf8 (plain fold bs)) (sym (encode_ascii c low))
+      (one-IsUtf8 (plain_byte fold c) (plain_byte-low fold c low))
+  | inr high ↦
+      let above : (k : ℕ) → k < length (encode c) → 128 ≤ get_or (encode c) k 0 =
+      λ k below. elim (cases_lt (get_or (encode c) k 0) 128) [
+        | inl low ↦ absurd (omega (arith, inside_one c [] (encode c) k (sym (append-nil _)) below low))
+        | inr h ↦ h
+      ] in
+      subst IsUtf8 (sym (plain-high fold (encode c) above)) (IsUtf8-encode c ok)
+]
+
+-- and so are those of characters in a row
+plain-characters : (fold : Bool) (cs : List ℕ) → scalars cs ≡ true → IsUtf8 (plain fold (encodes cs))
+plain-characters fold [] ok = IsUtf8-nil
+plain-characters fold (c ∷ cs) ok =
+    let each = and_parts _ _ ok in
+    subst IsUtf8 (sym (map-append (plain_byte fold) (encode c) (encodes cs)))
+    (IsUtf8-append _ _ (plain-character fold c each.0) (plain-characters fold cs each.1))
+
+-- the plain bytes of a text are a text
+plain-IsUtf8 : (fold : Bool) (text : List ℕ) → IsUtf8 text → IsUtf8 (plain fold text)
+plain-IsUtf8 fold text u =
+    subst (λ (bs : List ℕ). IsUtf8 (plain fold bs)) u.1.1 (plain-characters fold u.0 u.1.0)
+
+-- a boundary of the plain text is one of the text
+IsCharBoundary-from_plain : (fold : Bool) (text : List ℕ) (i : ℕ) → IsCharBoundary (plain fold text) i
+    → IsCharBoundary text i
+IsCharBoundary-from_plain fold text i b =
+    let l = length-map text (plain_byte fold) in (
+      (let inside = b.0 in omega arith),
+      λ inside high.
+          let same =
+          get_or-map (plain_byte fold) text i 0 0 inside ∙ plain_byte-high fold (get_or text i 0) high in
+          let leads = b.1 (omega arith) (omega arith) in omega arith,
+    )
+
+-- what follows whole characters of a text is a text
+IsUtf8-behind : (cs rest text : List ℕ) → IsUtf8 text → text ≡ encodes cs ++ rest → IsUtf8 rest
+IsUtf8-behind [] rest text u e = subst IsUtf8 e u
+IsUtf8-behind (c ∷ cs) rest text u e =
+    IsUtf8-behind cs rest (encodes cs ++ rest)
+    (IsUtf8-past_char text (encodes cs ++ rest) c u (e ∙ append_assoc (encode c) (encodes cs) rest)) refl
+
+-- Where a text p that is not empty stands in a text at i.
+module _ (text p : List ℕ) (i : ℕ) (u : IsUtf8 text) (v : IsUtf8 p) (nonempty : p ≢ [])
+    (inside : i + length p ≤ length text) (stands : take (length p) (drop i text) ≡ p) where
+  -- it has a first byte, and that is the text's at i
+  some : 0 < length p
+  some = elim (cases_lt 0 (length p)) [
+    | inl h ↦ h
+    | inr none ↦ absurd (nonempty (nil_from_length p (omega arith)))
+  ]
+
+  first : get_or text i 0 ≡ get_or p 0 0
+  first =
+      sym (ap (λ (bs : List ℕ). get_or bs 0 0) (sym stands)
+      ∙ get_or-take (length p) (drop i text) 0 0 some
+      ∙ get_or-drop i text 0 0
+      ∙ ap (λ (k : ℕ). get_or text k 0) (omega arith))
+
+  -- there it starts a character
+  at_start : IsCharBoundary text i
+  at_start = (
+    omega arith,
+    λ within high.
+        let lead = (IsCharBoundary-start p v).1 some in let same = first in omega (arith, lead),
+  )
+
+  -- the text from i on is p and the rest
+  parts : drop i text ≡ p ++ drop (length p) (drop i text)
+  parts =
+      sym (take-append-drop (length p) (drop i text))
+      ∙ ap (λ (bs : List ℕ). bs ++ drop (length p) (drop i text)) stands
+
+  -- and behind it a character ends
+  at_end : IsCharBoundary text (i + length p)
+  at_end =
+      IsCharBoundary-from_rest text i (length p) (omega arith)
+      (IsCharBoundary-at_seam (drop i text) p (drop (length p) (drop i text)) parts
+      (IsUtf8-behind v.0 (drop (length p) (drop i text)) (drop i text) (IsUtf8-drop text i u at_start)
+      (parts ∙ ap (λ (bs : List ℕ). bs ++ drop (length p) (drop i text)) (sym v.1.1))))
+
+-- a match of a text in a text lies between characters
+pub lies-between : (built : Built) (asked : Asked) (m : Occurrence) → AreTexts built.patterns
+    → IsUtf8 asked.haystack → LiesIn built asked m → IsBetweenCharacters asked.haystack m
+lies-between built asked m texts u lies = record {
+  starts = IsCharBoundary-from_plain fold bytes m.start
+      (at_start (plain fold bytes) (plain fold p) m.start plain_text plain_pattern some inside stands);
+  ends = IsCharBoundary-from_plain fold bytes m.end
+      (subst (IsCharBoundary (plain fold bytes)) (omega (arith, lies.as_long, same_length))
+      (at_end (plain fold bytes) (plain fold p) m.start plain_text plain_pattern some inside stands));
+}
+  where
+    fold : Bool
+    fold = built.fold
+
+    bytes : List ℕ
+    bytes = asked.haystack
+
+    p : List ℕ
+    p = pattern_of built.patterns m.pattern
+
+    plain_text : IsUtf8 (plain fold bytes)
+    plain_text = plain-IsUtf8 fold bytes u
+
+    plain_pattern : IsUtf8 (plain fold p)
+    plain_pattern = plain-IsUtf8 fold p (texts.texts m.pattern [] lies.numbered)
+
+    same_length : length (plain fold p) ≡ length p
+    same_length = length-map p (plain_byte fold)
+
+    some : plain fold p ≢ []
+    some e = texts.nonempty m.pattern [] lies.numbered
+        (nil_from_length p (sym same_length ∙ ap length e))
+
+    inside : m.start + length (plain fold p) ≤ length (plain fold bytes)
+    inside = let l = length-map bytes (plain_byte fold) in
+        let long = lies.as_long in let high = lies.in_haystack in
+        let same = same_length in omega arith
+
+    stands : take (length (plain fold p)) (drop m.start (plain fold bytes)) ≡ plain fold p
+    stands =
+        ap (take (length (plain fold p))) (drop-map (plain_byte fold) m.start bytes)
+        ∙ take-map (plain_byte fold) (length (plain fold p)) (drop m.start bytes)
+        ∙ ap (λ (n : ℕ). plain fold (take n (drop m.start bytes)))
+        (let long = lies.as_long in let same = same_length in omega arith)
+        ∙ sym lies.same
+
+-- where all patterns are texts that aren't empty, so do a find's answer and each match of a walk
+module _ (built : Built) (asked : Asked) (texts : AreTexts built.patterns) (u : IsUtf8 asked.haystack)
+    (inside : asked.end ≤ length asked.haystack) where
+  pub found-between : IfSome (found built asked) (IsBetweenCharacters asked.haystack)
+  found-between = by (found built asked) (found-IfSome built asked inside)
+    where
+      by : (r : Option Occurrence) → IfSome r (LiesIn built asked)
+          → IfSome r (IsBetweenCharacters asked.haystack)
+      by None lies = tt
+      by (Some m) lies = lies-between built asked m texts u lies
+
+  pub walked-between : All (IsBetweenCharacters asked.haystack) (walked built asked)
+  walked-between =
+      All-weaker (LiesIn built asked) (IsBetweenCharacters asked.haystack)
+      (λ m. lies-between built asked m texts u) (walked built asked) (walked-lie built asked inside)

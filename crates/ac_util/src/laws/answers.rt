@@ -1,0 +1,127 @@
+//! For users: what a search answers, in other words than those of the definitions.
+ghost use Rattle.std.specs.Prelude.{◌≡◌, ℕ, ◌+◌, ◌-◌, ◌<◌, ◌≤◌, ◌++◌, ◌↔◌, ◌⊎◌, nat_le, Bool, true, false};
+ghost use Rattle.std.specs.Prelude.{List, [], ◌∷◌, All, Contains, AllPairs, length, filter, slice_get};
+ghost use Rattle.std.specs.Prelude.{slice_index, Option, None, Some};
+ghost use Rattle.std.specs.Str.{IsCharBoundary, IsUtf8};
+ghost use Rattle.ac_util.specs.declared.search.MatchKind.{MatchKind};
+ghost use Rattle.ac_util.specs.Built.{Built, found, search_in, walked};
+ghost use Rattle.ac_util.specs.Input.{Asked};
+ghost use Rattle.ac_util.specs.Inside.{LiesIn};
+ghost use Rattle.ac_util.specs.Listing.{all, IsBefore};
+ghost use Rattle.ac_util.specs.Occurrence.{Occurrence};
+ghost use Rattle.ac_util.specs.Pick.{IsPick, order_of, pick};
+ghost use Rattle.ac_util.specs.Replaced.{is_char_boundary, replaced};
+ghost use Rattle.ac_util.specs.Sameness.{AreOneLetter, IsSame, same_byte, same_string};
+ghost use Rattle.ac_util.specs.Search.{Occurs, Search, from, occurs, pattern_of};
+ghost use Rattle.ac_util.specs.Steps.{Appends, Steps, StepsSoFar, WritesText};
+ghost use Rattle.ac_util.specs.Text.{cut, outward};
+ghost use Rattle.ac_util.specs.Texts.{AreTexts, IsBetweenCharacters};
+ghost use Rattle.ac_util.specs.Walk.{IsAfter, next_match, walk, walk_after};
+
+/// Two bytes are the same if they are equal or, where case is ignored, one ASCII letter in its two cases; two
+/// strings are the same if they have one length and are the same place by place, and where case counts if they
+/// are equal.
+pub fn sameness_is_by_letter()
+    ensures bytes { (a b : ℕ) → (same_byte false a b ≡ true) ↔ (a ≡ b) }
+    ensures letters { (a b : ℕ) → (same_byte true a b ≡ true) ↔ ((a ≡ b) ⊎ AreOneLetter a b) }
+    ensures strings { (fold : Bool) (s t : List ℕ) → IsSame fold s t ↔ ((length s ≡ length t)
+        × ((k : ℕ) → k < length s → same_byte fold (slice_index s k) (slice_index t k) ≡ true)) }
+    ensures counted { (s t : List ℕ) → IsSame false s t ↔ (s ≡ t) }
+{}
+
+/// The tests of the definitions decide the facts of the same names.
+pub fn tests_decide()
+    ensures strings { (fold : Bool) (s t : List ℕ)
+        → (same_string fold s t ≡ true) ↔ IsSame fold s t }
+    ensures occurrences { (q : Search) (m : Occurrence) → (occurs q m ≡ true) ↔ Occurs q m }
+    ensures boundaries { (text : List ℕ) (i : ℕ)
+        → (is_char_boundary text i ≡ true) ↔ IsCharBoundary text i }
+{}
+
+/// The listing has exactly the occurrences, in strict order and so each once.
+pub fn listing_is_exact()
+    ensures exact { (q : Search) (m : Occurrence) → Contains (all q) m ↔ Occurs q m }
+    ensures in_order { (q : Search) → AllPairs IsBefore (all q) }
+{}
+
+/// Bytes outside the span never count: what occurs in it is what occurs in the haystack cut to it.
+pub fn only_the_span_counts()
+    ensures cut { (q : Search) (m : Occurrence) → q.low ≤ q.high
+        → Occurs (cut q) m ↔ Occurs q (outward q.low m) }
+    ensures empty { (q : Search) (m : Occurrence) → q.low ≡ q.high → Occurs q m
+        → pattern_of q.patterns m.pattern ≡ [] }
+    ensures past_end { (q : Search) (m : Occurrence) → q.high < q.low → ¬ Occurs q m }
+{}
+
+/// What a find, a walk or a listing gives lies in the input's span, and so in the haystack: it has the number
+/// of a pattern, and that pattern's length and bytes. Call this where a haystack is sliced at a match, or a
+/// list is indexed by its pattern.
+pub fn matches_lie_inside()
+    ensures find { (built : Built) (asked : Asked) (m : Occurrence) → asked.end ≤ length asked.haystack
+        → found built asked ≡ Some m → LiesIn built asked m }
+    ensures walk { (built : Built) (asked : Asked) → asked.end ≤ length asked.haystack
+        → All (LiesIn built asked) (walked built asked) }
+    ensures listing { (built : Built) (asked : Asked) → asked.end ≤ length asked.haystack
+        → All (LiesIn built asked) (all (search_in built asked)) }
+{}
+
+/// Where the haystack and all patterns are texts, and no pattern is empty, a match starts and ends between
+/// characters, whether case counts or not. Call this where a `str` is sliced at a match.
+pub fn matches_cut_no_character()
+    ensures { (built : Built) (asked : Asked) (m : Occurrence) → AreTexts built.patterns
+        → IsUtf8 asked.haystack → LiesIn built asked m → IsBetweenCharacters asked.haystack m }
+{}
+
+/// The pick is the one answer that its relation allows; under Standard it is the first of the listing.
+pub fn pick_comes_first()
+    ensures first { (kind : MatchKind) (q : Search) → IsPick kind q (pick kind q) }
+    ensures only { (kind : MatchKind) (q : Search) (r : Option Occurrence) → IsPick kind q r
+        → r ≡ pick kind q }
+    ensures standard { (q : Search) → pick MatchKind.Standard q ≡ slice_get (all q) 0 }
+{}
+
+/// `earliest` changes nothing under Standard, and gives what Standard picks under every kind.
+pub fn earliest_is_standard()
+    ensures standard { (earliest : Bool)
+        → order_of MatchKind.Standard earliest ≡ MatchKind.Standard }
+    ensures others { (kind : MatchKind) → order_of kind true ≡ MatchKind.Standard }
+    ensures unasked { (kind : MatchKind) → order_of kind false ≡ kind }
+{}
+
+/// The walk ends where there is no next match; else it is that match, and then the walk from its end on.
+pub fn walk_goes_on()
+    ensures ends { (kind : MatchKind) (q : Search) (last : Option ℕ)
+        → next_match kind q last ≡ None → walk_after kind q last ≡ [] }
+    ensures goes_on { (kind : MatchKind) (q : Search) (last : Option ℕ) (m : Occurrence)
+        → next_match kind q last ≡ Some m
+        → walk_after kind q last ≡ m ∷ walk_after kind (from q m.end) (Some m.end) }
+{}
+
+/// The matches of a walk are in order and never overlap, and their ends rise: no empty one ends where the one
+/// before it did.
+pub fn walk_is_in_order()
+    ensures { (kind : MatchKind) (q : Search) → AllPairs IsAfter (walk kind q) }
+{}
+
+/// A walk has at most one match more than the span has bytes. Call this where matches are counted.
+pub fn walk_is_short()
+    ensures { (built : Built) (asked : Asked) → length (walked built asked) ≤ asked.end + 1 - asked.start }
+{}
+
+/// Under Standard the walk over a beginning of the span is those matches of the whole walk that end within it.
+pub fn walk_has_beginnings()
+    ensures { (q : Search) (end : ℕ) → end ≤ q.high
+        → walk MatchKind.Standard (record q { high = end })
+        ≡ filter (λ m. nat_le m.end end) (walk MatchKind.Standard q) }
+{}
+
+/// A closure that appends the text of each pattern and goes on leaves the replaced text behind what was there,
+/// and a beginning of it where an append was refused.
+pub fn steps_replace()
+    ensures whole { (haystack : List ℕ) (texts : List (List ℕ)) (ms : List Occurrence) (f g : ℕ) (d e : List ℕ)
+        → Steps ℕ (List ℕ) Appends (WritesText texts) haystack 0 ms f d g e
+        → e ≡ d ++ replaced haystack texts ms }
+    ensures refused { (haystack : List ℕ) (texts : List (List ℕ)) (ms : List Occurrence) (f g : ℕ) (d e : List ℕ)
+        → StepsSoFar ℕ (List ℕ) Appends (WritesText texts) haystack 0 ms f d g e
+        → (rest : List ℕ) × (e ++ rest ≡ d ++ replaced haystack texts ms) }
+{}

@@ -1,0 +1,122 @@
+//! Of the plain types: how values compare, are hashed and are cloned.
+ghost use Rattle.std.specs.Prelude.{◌≡◌, ℕ, ◌++◌, ◌↔◌, true};
+ghost use Rattle.std.specs.Hash as fed;
+ghost use Rattle.std.specs.Ordering.{nat_cmp};
+ghost use Rattle.ac_util.specs.declared.error.BuildError.{BuildError};
+ghost use Rattle.ac_util.specs.declared.error.MatchError.{MatchError};
+ghost use Rattle.ac_util.specs.declared.primitives.TheConstants.{GREATEST};
+ghost use Rattle.ac_util.specs.declared.primitives.TooLarge.{TooLarge};
+ghost use Rattle.ac_util.specs.declared.search.Anchored.{Anchored};
+ghost use Rattle.ac_util.specs.declared.search.MatchKind.{MatchKind};
+ghost use Rattle.ac_util.specs.declared.search.Span.{Span};
+ghost use Rattle.ac_util.specs.declared.search.input.Input.{Input as AnInput};
+ghost use Rattle.ac_util.specs.declared.search.StartKind.{StartKind};
+ghost use Rattle.ac_util.specs.Inputs.{asked};
+ghost use Rattle.ac_util.specs.Occurrence.{Occurrence};
+
+use crate::error::{BuildError, MatchError};
+use crate::primitives::{PatternID, SmallIndex, StateID, TooLarge};
+use crate::search::{Anchored, Input, Match, MatchKind, Span, StartKind};
+use std::hash::Hash;
+
+/// The numbers of patterns and of states are equal, and are in order, as numbers are.
+pub fn numbers_compare_as_numbers()
+    ensures patterns { (a b : ℕ) → (⟦<PatternID as PartialEq>⟧.eq a b ≡ true) ↔ (a ≡ b) }
+    ensures patterns_order { (a b : ℕ) → ⟦<PatternID as Ord>⟧.cmp a b ≡ nat_cmp a b }
+    ensures states { (a b : ℕ) → (⟦<StateID as PartialEq>⟧.eq a b ≡ true) ↔ (a ≡ b) }
+    ensures states_order { (a b : ℕ) → ⟦<StateID as Ord>⟧.cmp a b ≡ nat_cmp a b }
+    ensures plain { (a b : ℕ) → (⟦<SmallIndex as PartialEq>⟧.eq a b ≡ true) ↔ (a ≡ b) }
+    ensures plain_order { (a b : ℕ) → ⟦<SmallIndex as Ord>⟧.cmp a b ≡ nat_cmp a b }
+{}
+
+/// A clone of a plain value is that value.
+pub fn clones_are_equal()
+    ensures patterns { (a b : ℕ) → ⟦<PatternID as Clone>⟧.is_clone a b → b ≡ a }
+    ensures states { (a b : ℕ) → ⟦<StateID as Clone>⟧.is_clone a b → b ≡ a }
+    ensures plain { (a b : ℕ) → ⟦<SmallIndex as Clone>⟧.is_clone a b → b ≡ a }
+    ensures matches { (a b : Occurrence) → ⟦<Match as Clone>⟧.is_clone a b → b ≡ a }
+    ensures spans { (a b : Span) → ⟦<Span as Clone>⟧.is_clone a b → b ≡ a }
+    ensures inputs { (a b : AnInput) → ⟦<Input<'static> as Clone>⟧.is_clone a b → asked b ≡ asked a }
+    ensures kinds { (a b : MatchKind) → ⟦<MatchKind as Clone>⟧.is_clone a b → b ≡ a }
+    ensures starts { (a b : StartKind) → ⟦<StartKind as Clone>⟧.is_clone a b → b ≡ a }
+    ensures anchorings { (a b : Anchored) → ⟦<Anchored as Clone>⟧.is_clone a b → b ≡ a }
+    ensures builds { (a b : BuildError) → ⟦<BuildError as Clone>⟧.is_clone a b → b ≡ a }
+    ensures searches { (a b : MatchError) → ⟦<MatchError as Clone>⟧.is_clone a b → b ≡ a }
+    ensures numbers { (a b : TooLarge) → ⟦<TooLarge as Clone>⟧.is_clone a b → b ≡ a }
+{}
+
+/// A plain value can be cloned whether there is memory or not.
+pub fn clones_take_no_memory()
+    ensures patterns { (a : ℕ) → ⟦<PatternID as Clone>⟧.is_infallible a }
+    ensures states { (a : ℕ) → ⟦<StateID as Clone>⟧.is_infallible a }
+    ensures plain { (a : ℕ) → ⟦<SmallIndex as Clone>⟧.is_infallible a }
+    ensures matches { (a : Occurrence) → ⟦<Match as Clone>⟧.is_infallible a }
+    ensures spans { (a : Span) → ⟦<Span as Clone>⟧.is_infallible a }
+    ensures inputs { (a : AnInput) → ⟦<Input<'static> as Clone>⟧.is_infallible a }
+    ensures kinds { (a : MatchKind) → ⟦<MatchKind as Clone>⟧.is_infallible a }
+    ensures starts { (a : StartKind) → ⟦<StartKind as Clone>⟧.is_infallible a }
+    ensures anchorings { (a : Anchored) → ⟦<Anchored as Clone>⟧.is_infallible a }
+    ensures builds { (a : BuildError) → ⟦<BuildError as Clone>⟧.is_infallible a }
+    ensures searches { (a : MatchError) → ⟦<MatchError as Clone>⟧.is_infallible a }
+    ensures numbers { (a : TooLarge) → ⟦<TooLarge as Clone>⟧.is_infallible a }
+{}
+
+/// What a search is asked and what it answers are equal where all of their parts are.
+pub fn values_compare_by_their_fields()
+    ensures matches { (a b : Occurrence)
+        → (⟦<Match as PartialEq>⟧.eq a b ≡ true) ↔ (a ≡ b) }
+    ensures spans { (a b : Span) → (⟦<Span as PartialEq>⟧.eq a b ≡ true) ↔ (a ≡ b) }
+    ensures kinds { (a b : MatchKind) → (⟦<MatchKind as PartialEq>⟧.eq a b ≡ true) ↔ (a ≡ b) }
+    ensures starts { (a b : StartKind) → (⟦<StartKind as PartialEq>⟧.eq a b ≡ true) ↔ (a ≡ b) }
+    ensures anchorings { (a b : Anchored)
+        → (⟦<Anchored as PartialEq>⟧.eq a b ≡ true) ↔ (a ≡ b) }
+{}
+
+/// Errors are equal where they are of one case, with the same numbers in it.
+pub fn errors_compare_by_their_fields()
+    ensures builds { (a b : BuildError)
+        → (⟦<BuildError as PartialEq>⟧.eq a b ≡ true) ↔ (a ≡ b) }
+    ensures searches { (a b : MatchError)
+        → (⟦<MatchError as PartialEq>⟧.eq a b ≡ true) ↔ (a ≡ b) }
+    ensures numbers { (a b : TooLarge) → (⟦<TooLarge as PartialEq>⟧.eq a b ≡ true) ↔ (a ≡ b) }
+{}
+
+/// A hasher is handed the number of a pattern or a state, the two ends of a span, and all three of a match.
+pub fn values_hash_by_their_fields()
+    ensures patterns { (n : ℕ) → ⟦<PatternID as Hash>⟧.hash_input n ≡ fed.u32 n }
+    ensures states { (n : ℕ) → ⟦<StateID as Hash>⟧.hash_input n ≡ fed.u32 n }
+    ensures plain { (n : ℕ) → ⟦<SmallIndex as Hash>⟧.hash_input n ≡ fed.u32 n }
+    ensures spans { (s : Span)
+        → ⟦<Span as Hash>⟧.hash_input s ≡ fed.usize s.start ++ fed.usize s.end }
+    ensures matches { (m : Occurrence) → ⟦<Match as Hash>⟧.hash_input m
+        ≡ fed.u32 m.pattern ++ fed.usize m.start ++ fed.usize m.end }
+{}
+
+/// Values that compare as equal hand a hasher the same.
+pub fn equal_values_hash_equally()
+    ensures patterns { (a b : ℕ) → ⟦<PatternID as PartialEq>⟧.eq a b ≡ true
+        → ⟦<PatternID as Hash>⟧.hash_input a ≡ ⟦<PatternID as Hash>⟧.hash_input b }
+    ensures states { (a b : ℕ) → ⟦<StateID as PartialEq>⟧.eq a b ≡ true
+        → ⟦<StateID as Hash>⟧.hash_input a ≡ ⟦<StateID as Hash>⟧.hash_input b }
+    ensures plain { (a b : ℕ) → ⟦<SmallIndex as PartialEq>⟧.eq a b ≡ true
+        → ⟦<SmallIndex as Hash>⟧.hash_input a ≡ ⟦<SmallIndex as Hash>⟧.hash_input b }
+    ensures spans { (a b : Span) → ⟦<Span as PartialEq>⟧.eq a b ≡ true
+        → ⟦<Span as Hash>⟧.hash_input a ≡ ⟦<Span as Hash>⟧.hash_input b }
+    ensures matches { (a b : Occurrence) → ⟦<Match as PartialEq>⟧.eq a b ≡ true
+        → ⟦<Match as Hash>⟧.hash_input a ≡ ⟦<Match as Hash>⟧.hash_input b }
+{}
+
+/// By default a number is 0, the match kind is `Standard`, and unanchored searches alone are served.
+pub fn defaults_are_told()
+    ensures patterns { (n : ℕ) → ⟦<PatternID as Default>⟧.is_default n → n ≡ 0 }
+    ensures states { (n : ℕ) → ⟦<StateID as Default>⟧.is_default n → n ≡ 0 }
+    ensures plain { (n : ℕ) → ⟦<SmallIndex as Default>⟧.is_default n → n ≡ 0 }
+    ensures kinds { (kind : MatchKind) → ⟦<MatchKind as Default>⟧.is_default kind → kind ≡ MatchKind.Standard }
+    ensures starts { (start : StartKind) → ⟦<StartKind as Default>⟧.is_default start
+        → start ≡ StartKind.Unanchored }
+{}
+
+/// The greatest number of a pattern or a state is 2,147,483,646.
+pub fn greatest_number_is_told()
+    ensures { GREATEST ≡ 2147483646 }
+{}
