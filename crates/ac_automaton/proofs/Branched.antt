@@ -11,7 +11,7 @@ use Rattle.ac_util.specs.declared.search.Anchored.TheVariants.{Yes}
 use Rattle.ac_util.specs.declared.search.MatchKind.{MatchKind}
 use Rattle.ac_util.specs.Node.{Node, is_node, step}
 use Rattle.ac_util.specs.Sameness.{plain_byte}
-use Rattle.ac_util.proofs.Fronts.{starts_with-front}
+use Rattle.ac_util.proofs.Prefixes.{starts_with-front}
 use Rattle.ac_util.proofs.Lists.{AllPairs-from_IsOrdered, Contains-from_IsIn, IsIn, IsIn-from_Contains, IsIn-from_map, IsIn-map}
 use Rattle.ac_automaton.specs.declared.nfa.noncontiguous.growth.QueuedState.{QueuedState}
 use Rattle.ac_automaton.specs.declared.nfa.noncontiguous.state.State.{State}

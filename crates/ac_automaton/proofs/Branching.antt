@@ -20,7 +20,7 @@ use Rattle.ac_automaton.specs.Tries.{AreStates, miss}
 use Rattle.ac_automaton.proofs.Grown.{AreStates-more, IsInner, nodes-cases, nodes-inner, nodes-more}
 use Rattle.ac_automaton.proofs.Leading.{leading-apart, leading-has, leading-length, leading-plain}
 use Rattle.ac_automaton.proofs.Orders.{rank}
-use Rattle.ac_util.proofs.Fronts.{starts_with-length}
+use Rattle.ac_util.proofs.Prefixes.{starts_with-length}
 use Rattle.ac_automaton.proofs.Places.{get-append, get-added, get-added_cases, get-same}
 use Rattle.ac_automaton.proofs.Prefixes.{front-is, push-injective}
 use Rattle.ac_automaton.proofs.Ranges.{run-range, longer, next-greater}

@@ -8,7 +8,7 @@ use Rattle.std.specs.declared.cmp.Ordering.{Ordering}
 use Rattle.std.specs.declared.cmp.Ordering.TheVariants.{Less, Equal, Greater}
 use Rattle.std.proofs.lemmas.Bool.{and_from, and_parts, cases_lt, eq-eqb, eqb-true, false_from_ne_true, false≢true}
 use Rattle.std.proofs.lemmas.Cmp.{ranked}
-use Rattle.ac_util.proofs.Fronts.{starts_with-length, starts_with-equal}
+use Rattle.ac_util.proofs.Prefixes.{starts_with-length, starts_with-equal}
 use Rattle.ac_automaton.proofs.Orders.{head-no_greater}
 use Rattle.std.proofs.lemmas.Option.{slice_get-get_or, slice_get_past}
 use Rattle.std.proofs.lemmas.Slice.Eq.{bytes_eq-Decides}

@@ -14,7 +14,7 @@ use Rattle.ac_util.specs.declared.search.MatchKind.{MatchKind}
 use Rattle.ac_util.specs.Matches.{equal_to}
 use Rattle.ac_util.specs.Node.{participants, is_empty, is_node}
 use Rattle.ac_util.specs.Search.{pattern_of}
-use Rattle.ac_util.proofs.Fronts.{starts_with-itself, starts_with-front, list_any-from_IsIn}
+use Rattle.ac_util.proofs.Prefixes.{starts_with-itself, starts_with-front, list_any-from_IsIn}
 use Rattle.ac_util.proofs.LimitLemmas.{All-slice_get}
 use Rattle.ac_util.proofs.Lists.{IsIn, IsIn-filter, IsIn-from_filter, IsOrdered, IsOrdered-unique, Contains-from_IsIn, IsIn-from_Contains, nil-from_none, none-from_nil}
 use Rattle.ac_util.proofs.NodeCount.{any_passes}

@@ -13,8 +13,8 @@ use Rattle.ac_util.specs.declared.search.MatchKind.TheVariants.{LeftmostFirst, S
 use Rattle.ac_util.specs.Node.{begins_with_pattern, participants, participates}
 use Rattle.ac_util.specs.Search.{pattern_of}
 use Rattle.ac_util.proofs.Lists.{IsIn, IsIn-at, IsIn-map, IsIn-from_map, IsIn-filter, IsIn-from_filter, IsIn-range, IsIn-from_range, IsIn-append_cases, IsIn-append_left, IsIn-append_right, Contains-from_IsIn, IsIn-from_Contains}
-use Rattle.ac_util.proofs.Fronts.{starts_with-itself}
-use Rattle.ac_util.proofs.Participants.{Fronts, IsLeader, begins-before, begins-from_Fronts, leader, leader-least, leader-takes_part, takes_part}
+use Rattle.ac_util.proofs.Prefixes.{starts_with-itself}
+use Rattle.ac_util.proofs.Participants.{Prefixes, IsLeader, begins-before, begins-from_Fronts, leader, leader-least, leader-takes_part, takes_part}
 use Rattle.ac_automaton.specs.Sorted.{Keyed, Precedes, IsOrder, key_at, numbers}
 use Rattle.ac_automaton.proofs.Places.{place, place-take, IsIn-take, IsIn-from_take}
 use Rattle.ac_automaton.proofs.Prefixes.{front-between, front-no_less}
@@ -60,9 +60,9 @@ module _ (patterns : List (List ℕ)) (all : List Keyed) (order : IsOrder Standa
       IsIn-from_map (λ k. k.number) n all (IsIn-from_Contains n (numbers all) c)
 
   -- a pattern that is a prefix of another has its pattern as a prefix
-  Fronts-from_sorted : (w : List ℕ) (m : Keyed) → IsIn m all → starts_with nat_eq w m.key ≡ true
-      → Fronts patterns w m.number
-  Fronts-from_sorted w m h front = record {
+  Prefixes-from_sorted : (w : List ℕ) (m : Keyed) → IsIn m all → starts_with nat_eq w m.key ≡ true
+      → Prefixes patterns w m.number
+  Prefixes-from_sorted w m h front = record {
     numbered = numbered m h;
     front = subst (λ (p : List ℕ). starts_with nat_eq w p ≡ true) (named m h) front;
   }
@@ -111,8 +111,8 @@ module _ (patterns : List (List ℕ)) (all : List Keyed) (order : IsOrder Standa
         not_from_true _
         (begins-before patterns (pattern_of patterns here.number) m.number here.number below
         (numbered here here-in)
-        (subst (λ (w : List ℕ). Fronts patterns w m.number) (named here here-in)
-        (Fronts-from_sorted here.key m h front)))
+        (subst (λ (w : List ℕ). Prefixes patterns w m.number) (named here here-in)
+        (Prefixes-from_sorted here.key m h front)))
 
     module _ (stack : List Keyed) (s : Standing patterns all at stack) where
       -- those from a place of the stack on that are no prefix can go
@@ -141,10 +141,10 @@ module _ (patterns : List (List ℕ)) (all : List Keyed) (order : IsOrder Standa
       leader_stands : (j : ℕ) → IsLeader patterns here.key j → j < here.number
           → (m : Keyed) × IsIn m stack × (m.number ≡ j)
       leader_stands j lead below =
-          let m = sorted_of j lead.fronts.numbered in
+          let m = sorted_of j lead.prefixes.numbered in
           let front : starts_with nat_eq here.key m.0.key ≡ true =
           subst (λ (p : List ℕ). starts_with nat_eq here.key p ≡ true)
-          (ap (pattern_of patterns) (sym m.2) ∙ sym (named m.0 m.1)) lead.fronts.front in
+          (ap (pattern_of patterns) (sym m.2) ∙ sym (named m.0 m.1)) lead.prefixes.front in
           let p = place none m.0 all m.1 in
           let takes =
           ap (participates LeftmostFirst patterns) m.2
@@ -176,7 +176,7 @@ module _ (patterns : List (List ℕ)) (all : List Keyed) (order : IsOrder Standa
       pub takes_part_here : ((m : Keyed) → IsIn m stack → here.number ≤ m.number)
           → participates LeftmostFirst patterns here.number ≡ true
       takes_part_here least =
-          let mine = Fronts-from_sorted here.key here here-in (starts_with-itself here.key) in
+          let mine = Prefixes-from_sorted here.key here here-in (starts_with-itself here.key) in
           let lead = leader patterns here.key (begins-from_Fronts patterns here.key here.number mine) in
           elim (cases_lt lead.0 here.number) [
             | inl below ↦

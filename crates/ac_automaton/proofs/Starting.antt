@@ -6,7 +6,7 @@ use Rattle.ac_util.specs.declared.search.MatchKind.{MatchKind}
 use Rattle.ac_util.specs.Matches.{equal_to}
 use Rattle.ac_util.specs.Node.{Node, begins_with_pattern, is_leftmost, participants}
 use Rattle.ac_util.specs.Search.{pattern_of}
-use Rattle.ac_util.proofs.Fronts.{starts_with-length}
+use Rattle.ac_util.proofs.Prefixes.{starts_with-length}
 use Rattle.ac_util.proofs.Lists.{IsIn-from_filter, nil-from_none, none-from_nil}
 use Rattle.ac_util.proofs.Participants.{IsIn-equal_to, equal_to-none_begins, leader, leader-takes_part}
 use Rattle.ac_automaton.specs.declared.nfa.noncontiguous.growth.QueuedState.{QueuedState}
@@ -35,10 +35,10 @@ module _ (kind : MatchKind) (patterns : List (List ℕ)) (sorted : List Keyed)
       let l = leader patterns [] h in
       none-from_nil l.0 (equal_to kind patterns []) none
       (IsIn-equal_to kind patterns [] l.0 (record {
-        numbered = l.1.fronts.numbered;
+        numbered = l.1.prefixes.numbered;
         takes_part = leader-takes_part patterns kind [] l.0 l.1;
         same = no-bytes (pattern_of patterns l.0)
-            (starts_with-length [] (pattern_of patterns l.0) l.1.fronts.front);
+            (starts_with-length [] (pattern_of patterns l.0) l.1.prefixes.front);
       }))
 
   some-begins : equal_to kind patterns [] ≢ [] → begins_with_pattern patterns [] ≡ true

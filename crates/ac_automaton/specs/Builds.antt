@@ -30,16 +30,16 @@ abbrev pub noncontiguous_rules : EngineRules
 noncontiguous_rules = record { start_kind = Both; state_refusal = too_many_states }
 
 -- the match kind, and whether case is ignored
-pub record Settings : Type 0 where
+pub record EngineSettings : Type 0 where
   pub kind : MatchKind
   pub fold : Bool
 
-abbrev pub usual_settings : Settings
-usual_settings = record { kind = Standard; fold = false }
+abbrev pub usual_engine_settings : EngineSettings
+usual_engine_settings = record { kind = Standard; fold = false }
 
 -- an automaton of an engine over these patterns
-abbrev pub built_by : EngineRules → Settings → List (List ℕ) → Built
-built_by rules settings patterns = record {
+abbrev pub engine_built_by : EngineRules → EngineSettings → List (List ℕ) → Built
+engine_built_by rules settings patterns = record {
   patterns = patterns;
   fold = settings.fold;
   kind = settings.kind;
@@ -47,14 +47,14 @@ built_by rules settings patterns = record {
 }
 
 -- no limit refuses a build: neither the patterns' count, nor a length, nor the numbers of states
-pub record IsAllowed (rules : EngineRules) (settings : Settings) (patterns : List (List ℕ)) : Type 0 where
+pub record IsAllowed (rules : EngineRules) (settings : EngineSettings) (patterns : List (List ℕ)) : Type 0 where
   pub within : limit_refusal patterns ≡ None
   pub few : rules.state_refusal settings.kind (map (plain settings.fold) patterns) ≡ None
 
 -- a build by these settings has succeeded
-pub record IsBuilt (rules : EngineRules) (settings : Settings) (patterns : List (List ℕ)) (built : Built)
+pub record IsEngineBuilt (rules : EngineRules) (settings : EngineSettings) (patterns : List (List ℕ)) (built : Built)
     : Type 0 where
-  pub value : built ≡ built_by rules settings patterns
+  pub value : built ≡ engine_built_by rules settings patterns
   pub allowed : IsAllowed rules settings patterns
 
 -- why a build is refused within the limits of the list: for want of memory, or of state numbers
@@ -62,7 +62,7 @@ abbrev pub IsRefused : Option BuildError → BuildError → Type 0
 IsRefused state_refusal e = (e ≡ Memory) ⊎ (state_refusal ≡ Some e)
 
 -- why a build by these settings is refused: a limit of the list is told first, whether there is memory or not
-abbrev pub Refuses : EngineRules → Settings → List (List ℕ) → BuildError → Type 0
+abbrev pub Refuses : EngineRules → EngineSettings → List (List ℕ) → BuildError → Type 0
 Refuses rules settings patterns e =
     MatchOption (limit_refusal patterns)
     (IsRefused (rules.state_refusal settings.kind (map (plain settings.fold) patterns)) e)

@@ -6,7 +6,7 @@ use Rattle.ac_util.specs.declared.search.MatchKind.{MatchKind}
 use Rattle.ac_util.specs.declared.search.MatchKind.TheVariants.{Standard}
 use Rattle.ac_util.specs.Built.{Built}
 use Rattle.ac_util.specs.Counts.{Counts, Taped}
-use Rattle.ac_util.specs.Input.{Asked}
+use Rattle.ac_util.specs.Asked.{Asked}
 use Rattle.ac_util.specs.Node.{Node, depth}
 use Rattle.ac_util.specs.Occurrence.{Occurrence, occurrence}
 use Rattle.ac_util.specs.Pick.{pick}

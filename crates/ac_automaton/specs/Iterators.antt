@@ -7,9 +7,9 @@ use Rattle.ac_util.specs.Occurrence.{Occurrence}
 use Rattle.ac_util.specs.Counts.{Counts, no_counts}
 use Rattle.ac_util.specs.Built.{Built, search_in}
 use Rattle.ac_util.specs.Search.{Search, from}
-use Rattle.ac_util.specs.Stream.{shortest_len}
+use Rattle.ac_util.specs.Sizes.{shortest_len}
 use Rattle.ac_util.specs.Walk.{next_match, repeats, walk_after}
-use Rattle.ac_util.specs.Input.{Asked}
+use Rattle.ac_util.specs.Asked.{Asked}
 use Rattle.ac_util.specs.Pick.{pick}
 use Rattle.ac_automaton.specs.Finders.{Finding, finding_of}
 use Rattle.ac_automaton.specs.Finds.{HasSearched}

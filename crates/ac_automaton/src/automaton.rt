@@ -9,7 +9,7 @@ ghost use Rattle.ac_util.specs.Node.{Node};
 ghost use Rattle.ac_util.specs.Prefilters.{skip_for, skip_of};
 ghost use Rattle.ac_util.specs.Refusal.{AnswersUnless, start_refusal};
 ghost use Rattle.ac_util.specs.Search.{pattern_of};
-ghost use Rattle.ac_util.specs.Stream.{longest_len, shortest_len};
+ghost use Rattle.ac_util.specs.Sizes.{longest_len, shortest_len};
 ghost use Rattle.ac_automaton.specs.Iterators.{GoesOn, begun};
 ghost use Rattle.ac_automaton.specs.Automata.{IsState, Lists, looks_of, step_of};
 

@@ -7,7 +7,7 @@ use Rattle.ac_util.specs.declared.search.MatchKind.TheVariants.{Standard, Leftmo
 use Rattle.ac_util.specs.declared.search.StartKind.{StartKind}
 use Rattle.ac_util.specs.declared.search.StartKind.TheVariants.{Both}
 use Rattle.ac_util.specs.Built.{Built, find_refusal, has_empty}
-use Rattle.ac_util.specs.Input.{Asked}
+use Rattle.ac_util.specs.Asked.{Asked}
 use Rattle.ac_util.specs.Refusal.{AnswersUnless, Find, empty_refusal, first_refusal, form_refusal, kind_refusal, start_refusal}
 
 -- a find or a walk is refused for its start alone

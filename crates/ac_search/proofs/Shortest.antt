@@ -4,7 +4,7 @@ use Rattle.std.specs.Prelude.{◌↔◌, ◌==◌}
 use Rattle.std.specs.List.{list_any}
 use Rattle.std.proofs.lemmas.Bool.{or_cases, or_left, or_right, false≢true, cases_lt}
 use Rattle.std.proofs.lemmas.Bool.Decides.{nat_tests}
-use Rattle.ac_util.specs.Stream.{shortest_len}
+use Rattle.ac_util.specs.Sizes.{shortest_len}
 
 -- the shortest is empty exactly if some pattern is
 pub shortest-empty : (ps : List (List ℕ)) → (shortest_len ps ≡ 0) ↔ (list_any (λ p. length p == 0) ps ≡ true)

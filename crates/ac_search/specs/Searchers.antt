@@ -6,7 +6,7 @@ use Rattle.ac_util.specs.declared.search.MatchKind.TheVariants.{Standard}
 use Rattle.ac_util.specs.declared.search.StartKind.{StartKind}
 use Rattle.ac_util.specs.declared.search.StartKind.TheVariants.{Unanchored}
 use Rattle.ac_util.specs.Built.{Built}
-use Rattle.ac_automaton.specs.Builds.{EngineRules, IsAllowed, noncontiguous_rules, Settings as EngineSettings}
+use Rattle.ac_automaton.specs.Builds.{EngineRules, IsAllowed, noncontiguous_rules, EngineSettings}
 use Rattle.ac_search.specs.declared.ahocorasick.choice.AhoCorasickKind.{AhoCorasickKind}
 use Rattle.ac_search.specs.declared.ahocorasick.choice.AhoCorasickKind.TheVariants.{NoncontiguousNFA}
 

@@ -4,12 +4,12 @@ ghost use Rattle.std.specs.Prelude.{◌≡◌, ◌≢◌, ◌+◌, ◌-◌, ◌�
 ghost use Rattle.std.specs.List.{AllByRecursion};
 ghost use Rattle.std.specs.Str.{IsUtf8};
 ghost use Rattle.ac_util.specs.Built.{Built, found, has_empty, search_in, walked};
-ghost use Rattle.ac_util.specs.Input.{Asked};
+ghost use Rattle.ac_util.specs.Asked.{Asked};
 ghost use Rattle.ac_util.specs.Inputs.{asked};
 ghost use Rattle.ac_util.specs.Inside.{LiesIn};
 ghost use Rattle.ac_util.specs.Occurrence.{Occurrence};
 ghost use Rattle.ac_util.specs.Search.{Occurs};
-ghost use Rattle.ac_util.specs.Stream.{shortest_len};
+ghost use Rattle.ac_util.specs.Sizes.{shortest_len};
 ghost use Rattle.ac_util.specs.Texts.{AreTexts, IsBetweenCharacters};
 ghost use Rattle.ac_search.specs.declared.ahocorasick.choice.AhoCorasickKind.{AhoCorasickKind};
 

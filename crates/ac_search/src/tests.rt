@@ -1,6 +1,6 @@
 ghost use Rattle.std.specs.Prelude.{◌≡◌, None, length};
 ghost use Rattle.ac_util.specs.Built.{find_refusal, walked};
-ghost use Rattle.ac_util.specs.Input.{asked_whole};
+ghost use Rattle.ac_util.specs.Asked.{asked_whole};
 ghost use Rattle.ac_util.specs.Texts.{AreTexts};
 
 use crate::MatchKind::{LeftmostFirst, LeftmostLongest, Standard};

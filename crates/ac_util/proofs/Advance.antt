@@ -16,11 +16,11 @@ use Rattle.ac_util.specs.Node.{is_leftmost, begins_with_pattern, participates}
 use Rattle.ac_util.specs.Matches.{equal_to, matches}
 use Rattle.ac_util.proofs.Lists.{IsIn, IsOrdered, none-from_nil}
 use Rattle.ac_util.proofs.Picks.{IsFirst-itself, IsFirst-trans}
-use Rattle.ac_util.proofs.Participants.{Fronts, Equals, begins-from_Fronts, leader, leader-least, leader-takes_part, participant-least, all_take_part, IsIn-equal_to, IsIn-from_equal_to, equal_to-ordered}
-use Rattle.ac_util.proofs.Fronts.{starts_with-itself}
+use Rattle.ac_util.proofs.Participants.{Prefixes, Equals, begins-from_Fronts, leader, leader-least, leader-takes_part, participant-least, all_take_part, IsIn-equal_to, IsIn-from_equal_to, equal_to-ordered}
+use Rattle.ac_util.proofs.Prefixes.{starts_with-itself}
 use Rattle.ac_util.proofs.Reached.{stops}
 use Rattle.ac_util.proofs.Found.{matches-nil, matches-cons}
-use Rattle.ac_util.proofs.Standing.{Stands, place_of, IsPickIn, first-by_start, first-one_on, first-at_one_end, Fronts-cases, Fronts-length, Fronts-equal, Stands-more, Stands-cases, Stands-behind, Stands-from_behind, Stands-from_Fronts}
+use Rattle.ac_util.proofs.Standing.{Stands, place_of, IsPickIn, first-by_start, first-one_on, first-at_one_end, Prefixes-cases, Prefixes-length, Prefixes-equal, Stands-more, Stands-cases, Stands-behind, Stands-from_behind, Stands-from_Fronts}
 
 -- the front of an empty list is empty
 pub append_nil_left : (xs ys : List ℕ) → xs ++ ys ≡ [] → xs ≡ []
@@ -36,15 +36,15 @@ module _ (kind : MatchKind) (patterns : List (List ℕ)) where
 
   -- a pattern that takes part, is a front of w and is preferred to front n or is n itself
   record Preferred (w : List ℕ) (n j : ℕ) : Type 0 where
-    fronts : Fronts patterns w j
+    prefixes : Prefixes patterns w j
     takes_part : participates kind patterns j ≡ true
     first : IsFirst kind (front_place j) (front_place n)
 
   -- there is always one
-  preferred_by : (w : List ℕ) (n : ℕ) → Fronts patterns w n → (l : Bool) → participates kind patterns n ≡ l
+  preferred_by : (w : List ℕ) (n : ℕ) → Prefixes patterns w n → (l : Bool) → participates kind patterns n ≡ l
       → (j : ℕ) × Preferred w n j
   preferred_by w n f true takes =
-      (n, record { fronts = f; takes_part = takes; first = IsFirst-itself kind (front_place n) })
+      (n, record { prefixes = f; takes_part = takes; first = IsFirst-itself kind (front_place n) })
   preferred_by w n f false takes = only_first kind refl
     where
       only_first : (k : MatchKind) → k ≡ kind → (j : ℕ) × Preferred w n j
@@ -57,26 +57,26 @@ module _ (kind : MatchKind) (patterns : List (List ℕ)) where
           let least = leader-least patterns w l.0 n l.1 f in (
             l.0,
             record {
-              fronts = l.1.fronts;
+              prefixes = l.1.prefixes;
               takes_part = leader-takes_part patterns kind w l.0 l.1;
               first = subst (λ (m : MatchKind). IsFirst m (front_place l.0) (front_place n)) same
                   (record { starts = omega arith; patterns = λ _. least });
             },
           )
 
-  preferred : (w : List ℕ) (n : ℕ) → Fronts patterns w n → (j : ℕ) × Preferred w n j
+  preferred : (w : List ℕ) (n : ℕ) → Prefixes patterns w n → (j : ℕ) × Preferred w n j
   preferred w n f = preferred_by w n f (participates kind patterns n) refl
 
   -- where no pattern is the whole of w with one more byte, a front of it is no better than a front of w
-  kept_front : (w : List ℕ) (b n : ℕ) → own (w ++ b ∷ []) ≡ [] → Fronts patterns (w ++ b ∷ []) n
-      → (j : ℕ) × Fronts patterns w j × IsFirst kind (front_place j) (front_place n)
+  kept_front : (w : List ℕ) (b n : ℕ) → own (w ++ b ∷ []) ≡ [] → Prefixes patterns (w ++ b ∷ []) n
+      → (j : ℕ) × Prefixes patterns w j × IsFirst kind (front_place j) (front_place n)
   kept_front w b n none f =
       let p = preferred (w ++ b ∷ []) n f in
-      elim (Fronts-cases patterns w b p.0 p.1.fronts) [
+      elim (Prefixes-cases patterns w b p.0 p.1.prefixes) [
         | inl before ↦ (p.0, before, p.1.first)
         | inr whole ↦ absurd (none-from_nil p.0 (own (w ++ b ∷ [])) none
             (IsIn-equal_to kind patterns (w ++ b ∷ []) p.0
-            (record { numbered = p.1.fronts.numbered; takes_part = p.1.takes_part; same = whole })))
+            (record { numbered = p.1.prefixes.numbered; takes_part = p.1.takes_part; same = whole })))
       ]
 
   -- pattern j stands at place k of w and is no worse than pattern n at s
@@ -85,7 +85,7 @@ module _ (kind : MatchKind) (patterns : List (List ℕ)) where
     first : IsFirst kind (place_of patterns j k) (place_of patterns n s)
 
   better_front : (anchored : Anchored) (w : List ℕ) (b n : ℕ) → own (w ++ b ∷ []) ≡ []
-      → Fronts patterns (w ++ b ∷ []) n
+      → Prefixes patterns (w ++ b ∷ []) n
       → (j : ℕ) × (k : ℕ) × Better anchored w n 0 j k
   better_front anchored w b n none f =
       let p = kept_front w b n none f in
@@ -95,12 +95,12 @@ module _ (kind : MatchKind) (patterns : List (List ℕ)) where
       → Stands patterns No (w ++ b ∷ []) n s
       → (j : ℕ) × (k : ℕ) × Better No w n s j k
   better_free [] b n zero none h =
-      better_front No [] b n (append_nil_left _ _ (sym (matches-cons kind patterns b []) ∙ none)) h.fronts
+      better_front No [] b n (append_nil_left _ _ (sym (matches-cons kind patterns b []) ∙ none)) h.prefixes
   better_free [] b n (suc zero) none h = (
     n,
     0,
     record {
-      stands = Stands-from_Fronts patterns No [] n h.fronts;
+      stands = Stands-from_Fronts patterns No [] n h.prefixes;
       first =
           first-by_start kind (place_of patterns n 0) (place_of patterns n 1) (omega arith) (inr (omega arith));
     },
@@ -108,7 +108,7 @@ module _ (kind : MatchKind) (patterns : List (List ℕ)) where
   better_free [] b n (suc (suc s)) none h = absurd (let i = h.within in omega arith)
   better_free (x ∷ w) b n zero none h =
       better_front No (x ∷ w) b n
-      (append_nil_left _ _ (sym (matches-cons kind patterns x (w ++ b ∷ [])) ∙ none)) h.fronts
+      (append_nil_left _ _ (sym (matches-cons kind patterns x (w ++ b ∷ [])) ∙ none)) h.prefixes
   better_free (x ∷ w) b n (suc s) none h =
       behind (stops kind patterns (x ∷ w ++ b ∷ [])) refl
       (sym (matches-cons kind patterns x (w ++ b ∷ [])) ∙ none)
@@ -122,7 +122,7 @@ module _ (kind : MatchKind) (patterns : List (List ℕ)) where
       behind true stop none later =
           let both = and_parts (is_leftmost kind) (begins_with_pattern patterns (x ∷ w ++ b ∷ [])) stop in
           let l = leader patterns (x ∷ w ++ b ∷ []) both.1 in
-          let p = kept_front (x ∷ w) b l.0 (append_nil_left _ _ none) l.1.fronts in (
+          let p = kept_front (x ∷ w) b l.0 (append_nil_left _ _ none) l.1.prefixes in (
             p.0,
             0,
             record {
@@ -151,7 +151,7 @@ module _ (kind : MatchKind) (patterns : List (List ℕ)) where
       → matches kind patterns anchored (Some (w ++ b ∷ [])) ≡ []
       → Stands patterns anchored (w ++ b ∷ []) n s → (j : ℕ) × (k : ℕ) × Better anchored w n s j k
   better_than No w b n s none h = better_free w b n s none h
-  better_than Yes w b n zero none h = better_front Yes w b n none h.fronts
+  better_than Yes w b n zero none h = better_front Yes w b n none h.prefixes
   better_than Yes w b n (suc s) none h = absurd (let e = h.at_front refl in omega arith)
 
   -- then the pick stays
@@ -195,7 +195,7 @@ module _ (kind : MatchKind) (patterns : List (List ℕ)) where
   own_head v i rest e =
       IsIn-from_equal_to kind patterns v i (subst (λ (ns : List ℕ). IsIn i ns) (sym e) (inl refl))
 
-  head_front : (v : List ℕ) (i : ℕ) (rest : List ℕ) → own v ≡ i ∷ rest → (n : ℕ) → Fronts patterns v n
+  head_front : (v : List ℕ) (i : ℕ) (rest : List ℕ) → own v ≡ i ∷ rest → (n : ℕ) → Prefixes patterns v n
       → Counts v n 0 → IsFirst kind (front_place i) (front_place n)
   head_front v i rest e n f counts = at kind refl
     where
@@ -208,7 +208,7 @@ module _ (kind : MatchKind) (patterns : List (List ℕ)) where
       equals : participates kind patterns n ≡ true → length (pattern_of patterns n) ≡ length v
           → Equals kind patterns v n
       equals takes l =
-          record { numbered = f.numbered; takes_part = takes; same = Fronts-equal patterns v n f l }
+          record { numbered = f.numbered; takes_part = takes; same = Prefixes-equal patterns v n f l }
 
       at : (k : MatchKind) → k ≡ kind → IsFirst kind (front_place i) (front_place n)
       at Standard same =
@@ -228,7 +228,7 @@ module _ (kind : MatchKind) (patterns : List (List ℕ)) where
           (record { starts = omega arith; patterns = λ _. least })
       at LeftmostLongest same =
           let takes = ap (λ (m : MatchKind). participates m patterns n) (sym same) in
-          let l = Fronts-length patterns v n f in
+          let l = Prefixes-length patterns v n f in
           let whole = same_length in
           subst (λ (m : MatchKind). IsFirst m (front_place i) (front_place n)) same (record {
             starts = omega arith;
@@ -260,7 +260,7 @@ module _ (kind : MatchKind) (patterns : List (List ℕ)) where
     where
       first : (n s : ℕ) → Stands patterns anchored v n s → Counts v n s
           → IsFirst kind (front_place i) (place_of patterns n s)
-      first n zero stands counts = head_front v i rest e n stands.fronts counts
+      first n zero stands counts = head_front v i rest e n stands.prefixes counts
       first n (suc s) stands (inl leftmost) =
           first-by_start kind (front_place i) (place_of patterns n (suc s)) (omega arith) (inl leftmost)
       first n (suc s) stands (inr ends) =
@@ -276,7 +276,7 @@ module _ (kind : MatchKind) (patterns : List (List ℕ)) where
     first = first;
   }
     where
-      no_front : (n : ℕ) → Fronts patterns (x ∷ v) n → (l : Bool) → is_leftmost kind ≡ l → Counts (x ∷ v) n 0
+      no_front : (n : ℕ) → Prefixes patterns (x ∷ v) n → (l : Bool) → is_leftmost kind ≡ l → Counts (x ∷ v) n 0
           → ⊥
       no_front n f true leftmost counts =
           false≢true (sym goes_on
@@ -287,7 +287,7 @@ module _ (kind : MatchKind) (patterns : List (List ℕ)) where
           none-from_nil n (own (x ∷ v)) none (IsIn-equal_to kind patterns (x ∷ v) n (record {
             numbered = f.numbered;
             takes_part = all_take_part patterns kind leftmost n;
-            same = Fronts-equal patterns (x ∷ v) n f (omega arith);
+            same = Prefixes-equal patterns (x ∷ v) n f (omega arith);
           }))
 
       counts_behind : (n s : ℕ) → Counts (x ∷ v) n (suc s) → Counts v n s
@@ -296,7 +296,7 @@ module _ (kind : MatchKind) (patterns : List (List ℕ)) where
 
       first : (n s : ℕ) → Stands patterns No (x ∷ v) n s → Counts (x ∷ v) n s
           → IsFirst kind (place_of patterns i (suc k)) (place_of patterns n s)
-      first n zero stands counts = absurd (no_front n stands.fronts (is_leftmost kind) refl counts)
+      first n zero stands counts = absurd (no_front n stands.prefixes (is_leftmost kind) refl counts)
       first n (suc s) stands counts =
           first-one_on kind patterns i k n s
           (head.first n s (Stands-from_behind patterns x v n s stands) (counts_behind n s counts))
@@ -370,8 +370,8 @@ module _ (kind : MatchKind) (patterns : List (List ℕ)) where
 
   -- in the empty text only the empty pattern stands, so the matches of the start say what is picked there
   start_stands : (anchored : Anchored) (n s : ℕ) → Stands patterns anchored [] n s
-      → (s ≡ 0) × Fronts patterns [] n
-  start_stands anchored n zero h = (refl, h.fronts)
+      → (s ≡ 0) × Prefixes patterns [] n
+  start_stands anchored n zero h = (refl, h.prefixes)
   start_stands anchored n (suc s) h = absurd (let i = h.within in omega arith)
 
   -- where the start has no match nothing stands in the empty text
@@ -380,11 +380,11 @@ module _ (kind : MatchKind) (patterns : List (List ℕ)) where
   start-stays anchored none n s h =
       let f = start_stands anchored n s h in
       let p = preferred [] n f.1 in
-      let l = Fronts-length patterns [] p.0 p.1.fronts in
+      let l = Prefixes-length patterns [] p.0 p.1.prefixes in
       none-from_nil p.0 (own []) (own_nil anchored none) (IsIn-equal_to kind patterns [] p.0 (record {
-        numbered = p.1.fronts.numbered;
+        numbered = p.1.prefixes.numbered;
         takes_part = p.1.takes_part;
-        same = Fronts-equal patterns [] p.0 p.1.fronts (omega arith);
+        same = Prefixes-equal patterns [] p.0 p.1.prefixes (omega arith);
       }))
     where
       own_nil : (a : Anchored) → matches kind patterns a (Some []) ≡ [] → own [] ≡ []
@@ -400,7 +400,7 @@ module _ (kind : MatchKind) (patterns : List (List ℕ)) where
     as_long = refl;
     first = (λ n s stands.
         let f = start_stands anchored n s stands in
-        let l = Fronts-length patterns [] n f.1 in
+        let l = Prefixes-length patterns [] n f.1 in
         let w = h.whole in
         also (place_of patterns i k) (place_of patterns n s) (omega arith)
         (h.first n s stands (inr (omega arith))));

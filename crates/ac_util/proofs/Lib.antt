@@ -5,7 +5,7 @@ pub mod Walks
 pub mod Beginning
 pub mod Lying
 pub mod TextCuts
-pub mod Fronts
+pub mod Prefixes
 pub mod Participants
 pub mod Reached
 pub mod Failures

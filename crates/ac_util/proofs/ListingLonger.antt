@@ -13,10 +13,10 @@ use Rattle.ac_util.specs.Text.{outward, plain_patterns, text, one_longer, found_
 use Rattle.ac_util.proofs.Lists.{IsIn, IsIn-append_left, IsIn-append_right, IsIn-append_cases, IsIn-map, IsIn-from_map, IsOrdered, IsOrdered-append}
 use Rattle.ac_util.proofs.Listing.{all-has, all-only, all-ordered, all-unique}
 use Rattle.ac_util.proofs.Picks.{same_occurrence}
-use Rattle.ac_util.proofs.Fronts.{starts_with-itself}
+use Rattle.ac_util.proofs.Prefixes.{starts_with-itself}
 use Rattle.ac_util.proofs.Participants.{IsIn-equal_to, IsIn-from_equal_to, equal_to-ordered}
 use Rattle.ac_util.proofs.Found.{matches-nil, matches-cons}
-use Rattle.ac_util.proofs.Standing.{Stands, place_of, Fronts-equal, Stands-behind, Stands-from_behind, Stands-from_Fronts}
+use Rattle.ac_util.proofs.Standing.{Stands, place_of, Prefixes-equal, Stands-behind, Stands-from_behind, Stands-from_Fronts}
 use Rattle.ac_util.proofs.Spans.{pattern_length, text_length, Stands-from_Occurs, Occurs-from_Stands}
 use Rattle.ac_util.proofs.OneLonger.{found-text}
 use Rattle.std.specs.Prelude.{nat_eq}
@@ -36,9 +36,9 @@ module _ (patterns : List (List ℕ)) where
 
   in_own : (anchored : Anchored) (v : List ℕ) (n : ℕ) → EndsWith anchored v n 0 → IsIn n (own v)
   in_own anchored v n e = IsIn-equal_to Standard patterns v n (record {
-    numbered = e.stands.fronts.numbered;
+    numbered = e.stands.prefixes.numbered;
     takes_part = refl;
-    same = Fronts-equal patterns v n e.stands.fronts (let w = e.whole in omega arith);
+    same = Prefixes-equal patterns v n e.stands.prefixes (let w = e.whole in omega arith);
   })
 
   from_own : (anchored : Anchored) (v : List ℕ) (n : ℕ) → IsIn n (own v) → EndsWith anchored v n 0

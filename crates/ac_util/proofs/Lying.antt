@@ -8,7 +8,7 @@ use Rattle.ac_util.specs.Search.{Search, Occurs, from}
 use Rattle.ac_util.specs.Listing.{all}
 use Rattle.ac_util.specs.Pick.{order_of, pick}
 use Rattle.ac_util.specs.Walk.{repeats, unless_repeated, next_match, continued, walk_after}
-use Rattle.ac_util.specs.Input.{Asked}
+use Rattle.ac_util.specs.Asked.{Asked}
 use Rattle.ac_util.specs.Built.{Built, found, search_in, walked}
 use Rattle.ac_util.specs.Inside.{LiesIn}
 use Rattle.ac_util.proofs.Listing.{Occurs-from_all}

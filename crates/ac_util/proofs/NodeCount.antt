@@ -7,9 +7,9 @@ use Rattle.std.proofs.lemmas.Slice.Eq.{bytes_eq-Decides}
 use Rattle.ac_util.specs.declared.search.MatchKind.{MatchKind}
 use Rattle.ac_util.specs.Search.{pattern_of}
 use Rattle.ac_util.specs.Node.{participants, is_empty, is_node}
-use Rattle.ac_util.specs.Sizes.{fronts, distinct, inner_nodes}
+use Rattle.ac_util.specs.Sizes.{prefixes, distinct, inner_nodes}
 use Rattle.ac_util.proofs.Lists.{IsIn, IsIn-map, IsIn-from_map, IsIn-flat_map, IsIn-from_flat_map, IsIn-filter, IsIn-from_filter, IsIn-range, IsIn-from_range, IsOrdered, IsOrdered-filter, Contains-from_IsIn, IsIn-from_Contains, AllPairs-from_IsOrdered}
-use Rattle.ac_util.proofs.Fronts.{starts_with-length, starts_with-take, list_any-from_IsIn}
+use Rattle.ac_util.proofs.Prefixes.{starts_with-length, starts_with-take, list_any-from_IsIn}
 
 -- each string of the list stands in it once
 IsIn-from_distinct : (u : List ℕ) (us : List (List ℕ)) → IsIn u (distinct us) → IsIn u us
@@ -38,11 +38,11 @@ distinct-apart (x ∷ us) = (
   IsOrdered-filter (λ u w. u ≢ w) (λ w. not (bytes_eq x w)) (distinct us) (distinct-apart us),
 )
 
--- the fronts of a pattern are those that it begins with, without the empty one
-IsIn-fronts : (p : List ℕ) (x : ℕ) (u : List ℕ) → starts_with nat_eq p (x ∷ u) ≡ true → IsIn (x ∷ u) (fronts p)
-IsIn-fronts p x u h =
+-- the prefixes of a pattern are those that it begins with, without the empty one
+IsIn-prefixes : (p : List ℕ) (x : ℕ) (u : List ℕ) → starts_with nat_eq p (x ∷ u) ≡ true → IsIn (x ∷ u) (prefixes p)
+IsIn-prefixes p x u h =
     let short = starts_with-length p (x ∷ u) h in
-    subst (λ (w : List ℕ). IsIn w (fronts p)) (sym ((bytes_eq-Decides (x ∷ u) (take (length (x ∷ u)) p)).0 h))
+    subst (λ (w : List ℕ). IsIn w (prefixes p)) (sym ((bytes_eq-Decides (x ∷ u) (take (length (x ∷ u)) p)).0 h))
     (IsIn-map (λ n. take n p) (length (x ∷ u)) (range_with_len 1 (length p))
     (IsIn-range (length (x ∷ u)) 1 (length p) (omega arith) (omega arith)))
 
@@ -51,8 +51,8 @@ record IsFrontOf (p u : List ℕ) : Type 0 where
   front : starts_with nat_eq p u ≡ true
   some : 0 < length u
 
--- each of the fronts is one, and not empty
-IsIn-from_fronts : (p u : List ℕ) → IsIn u (fronts p) → IsFrontOf p u
+-- each of the prefixes is one, and not empty
+IsIn-from_fronts : (p u : List ℕ) → IsIn u (prefixes p) → IsFrontOf p u
 IsIn-from_fronts p u h =
     let f = IsIn-from_map (λ n. take n p) u (range_with_len 1 (length p)) h in
     let r = IsIn-from_range f.0 1 (length p) f.1 in
@@ -73,7 +73,7 @@ any_passes f (x ∷ xs) h = elim (or_cases (f x) (list_any f xs) h) [
 
 module _ (kind : MatchKind) (patterns : List (List ℕ)) where
   abbrev all_fronts : List (List ℕ)
-  all_fronts = flat_map (λ number. fronts (pattern_of patterns number)) (participants kind patterns)
+  all_fronts = flat_map (λ number. prefixes (pattern_of patterns number)) (participants kind patterns)
 
   -- a string that isn't empty is counted exactly if it leads to a node
   pub inner_nodes-has : (u : List ℕ) → is_node kind patterns u ≡ true → u ≢ []
@@ -84,15 +84,15 @@ module _ (kind : MatchKind) (patterns : List (List ℕ)) where
       any_passes (λ number. starts_with nat_eq (pattern_of patterns number) (x ∷ u))
       (participants kind patterns) node in
       Contains-from_IsIn (x ∷ u) (inner_nodes kind patterns) (IsIn-distinct (x ∷ u) all_fronts
-      (IsIn-flat_map (λ number. fronts (pattern_of patterns number)) (x ∷ u) r.0
+      (IsIn-flat_map (λ number. prefixes (pattern_of patterns number)) (x ∷ u) r.0
       (participants kind patterns) r.1
-      (IsIn-fronts (pattern_of patterns r.0) x u r.2)))
+      (IsIn-prefixes (pattern_of patterns r.0) x u r.2)))
 
   -- what is counted is a node and not empty
   pub inner_nodes-only : (u : List ℕ) → Contains (inner_nodes kind patterns) u
       → (is_node kind patterns u ≡ true) × (u ≢ [])
   inner_nodes-only u h =
-      let f = IsIn-from_flat_map (λ number. fronts (pattern_of patterns number)) u (participants kind patterns)
+      let f = IsIn-from_flat_map (λ number. prefixes (pattern_of patterns number)) u (participants kind patterns)
       (IsIn-from_distinct u all_fronts (IsIn-from_Contains u (inner_nodes kind patterns) h)) in
       let front = IsIn-from_fronts (pattern_of patterns f.0) u f.2 in (
         or_right (is_empty u) _

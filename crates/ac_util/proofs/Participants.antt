@@ -11,16 +11,16 @@ use Rattle.ac_util.specs.Search.{pattern_of}
 use Rattle.ac_util.specs.Node.{is_leftmost, begins_with_pattern, participates, participants, is_empty, is_node}
 use Rattle.ac_util.specs.Matches.{equal_to}
 use Rattle.ac_util.proofs.Lists.{IsIn, IsIn-at, IsIn-filter, IsIn-from_filter, IsIn-range, IsIn-from_range, IsOrdered, IsOrdered-filter, IsOrdered-range, nil-from_none}
-use Rattle.ac_util.proofs.Fronts.{starts_with-itself, starts_with-front, starts_with-more, starts_with-whole, starts_with-trans, list_any-weaker, list_any-from_IsIn, first_any}
+use Rattle.ac_util.proofs.Prefixes.{starts_with-itself, starts_with-front, starts_with-more, starts_with-whole, starts_with-trans, list_any-weaker, list_any-from_IsIn, first_any}
 
 -- pattern n is a front of w
-pub record Fronts (patterns : List (List ℕ)) (w : List ℕ) (n : ℕ) : Type 0 where
+pub record Prefixes (patterns : List (List ℕ)) (w : List ℕ) (n : ℕ) : Type 0 where
   pub numbered : n < length patterns
   pub front : starts_with nat_eq w (pattern_of patterns n) ≡ true
 
 module _ (patterns : List (List ℕ)) where
   -- a string with such a front begins with a pattern
-  pub begins-from_Fronts : (w : List ℕ) (n : ℕ) → Fronts patterns w n → begins_with_pattern patterns w ≡ true
+  pub begins-from_Fronts : (w : List ℕ) (n : ℕ) → Prefixes patterns w n → begins_with_pattern patterns w ≡ true
   begins-from_Fronts w n f =
       list_any-from_IsIn (λ p. starts_with nat_eq w p) (pattern_of patterns n) patterns
       (IsIn-at (pattern_of patterns n) [] patterns n f.numbered refl) f.front
@@ -33,7 +33,7 @@ module _ (patterns : List (List ℕ)) where
       (λ p t. starts_with-more w p b t) patterns h
 
   -- an earlier pattern that is a front of w is among those before number j
-  pub begins-before : (w : List ℕ) (n j : ℕ) → n < j → j < length patterns → Fronts patterns w n
+  pub begins-before : (w : List ℕ) (n j : ℕ) → n < j → j < length patterns → Prefixes patterns w n
       → begins_with_pattern (take j patterns) w ≡ true
   begins-before w n j below within f =
       let l = length-take-le j patterns (omega arith) in
@@ -43,7 +43,7 @@ module _ (patterns : List (List ℕ)) where
 
   -- j is the first pattern that is a front of w: it takes part, and none before it is one
   pub record IsLeader (w : List ℕ) (j : ℕ) : Type 0 where
-    pub fronts : Fronts patterns w j
+    pub prefixes : Prefixes patterns w j
     pub none_before : begins_with_pattern (take j patterns) w ≡ false
 
   pub leader : (w : List ℕ) → begins_with_pattern patterns w ≡ true → (j : ℕ) × IsLeader w j
@@ -51,15 +51,15 @@ module _ (patterns : List (List ℕ)) where
       let first = first_any (λ p. starts_with nat_eq w p) [] patterns h in (
         first.0,
         record {
-          fronts = record { numbered = first.1.within; front = first.1.passes };
+          prefixes = record { numbered = first.1.within; front = first.1.passes };
           none_before = first.1.none_before;
         },
       )
 
   -- no pattern that is a front of w has a lesser number than the leader
-  pub leader-least : (w : List ℕ) (j n : ℕ) → IsLeader w j → Fronts patterns w n → j ≤ n
+  pub leader-least : (w : List ℕ) (j n : ℕ) → IsLeader w j → Prefixes patterns w n → j ≤ n
   leader-least w j n l f = elim (cases_lt n j) [
-    | inl below ↦ absurd (false≢true (sym l.none_before ∙ begins-before w n j below l.fronts.numbered f))
+    | inl below ↦ absurd (false≢true (sym l.none_before ∙ begins-before w n j below l.prefixes.numbered f))
     | inr le ↦ le
   ]
 
@@ -77,15 +77,15 @@ module _ (patterns : List (List ℕ)) where
   leader-takes_part kind w j l =
       takes_part kind j (false_from_ne_true _ (λ h. false≢true (sym l.none_before
       ∙ list_any-weaker (λ p. starts_with nat_eq (pattern_of patterns j) p) (λ p. starts_with nat_eq w p)
-      (λ p s. starts_with-trans w (pattern_of patterns j) p l.fronts.front s) (take j patterns) h)))
+      (λ p s. starts_with-trans w (pattern_of patterns j) p l.prefixes.front s) (take j patterns) h)))
 
   -- under LeftmostFirst no earlier pattern is a front of one that takes part
   pub participant-least : (w : List ℕ) (i n : ℕ) → i < length patterns
       → participates LeftmostFirst patterns i ≡ true
-      → pattern_of patterns i ≡ w → Fronts patterns w n → i ≤ n
+      → pattern_of patterns i ≡ w → Prefixes patterns w n → i ≤ n
   participant-least w i n within takes same f = elim (cases_lt n i) [
     | inl below ↦
-        let earlier = subst (λ (v : List ℕ). Fronts patterns v n) (sym same) f in
+        let earlier = subst (λ (v : List ℕ). Prefixes patterns v n) (sym same) f in
         absurd (false≢true
         (sym (not_from_true _ (begins-before (pattern_of patterns i) n i below within earlier)) ∙ takes))
     | inr le ↦ le
@@ -137,9 +137,9 @@ module _ (kind : MatchKind) (patterns : List (List ℕ)) where
       let no_front =
       false_from_ne_true _
       (λ t. false≢true
-      (sym n ∙ begins-from_Fronts patterns v l.0 (record { numbered = l.1.fronts.numbered; front = t }))) in
-      let whole = starts_with-whole v (pattern_of patterns l.0) b l.1.fronts.front no_front in
-      is_node-participant l.0 (v ++ b ∷ []) l.1.fronts.numbered
+      (sym n ∙ begins-from_Fronts patterns v l.0 (record { numbered = l.1.prefixes.numbered; front = t }))) in
+      let whole = starts_with-whole v (pattern_of patterns l.0) b l.1.prefixes.front no_front in
+      is_node-participant l.0 (v ++ b ∷ []) l.1.prefixes.numbered
       (leader-takes_part patterns kind (v ++ b ∷ []) l.0 l.1)
       (subst (λ (w : List ℕ). starts_with nat_eq w (v ++ b ∷ []) ≡ true) (sym whole)
       (starts_with-itself (v ++ b ∷ [])))

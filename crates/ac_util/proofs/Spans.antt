@@ -157,7 +157,7 @@ module _ (q : Search) (order : q.low ≤ q.high) (inside : q.high ≤ length q.h
       ∙ sym (pattern_plain o.pattern) in
       record {
         within = (let t = text_length in omega arith);
-        fronts = record {
+        prefixes = record {
           numbered = (let m = length-map q.patterns (plain q.fold) in let n = h.numbered in omega arith);
           front = (bytes_eq-Decides p (take (length p) (drop (o.start - q.low) (text q)))).1 (sym same);
         };
@@ -173,9 +173,9 @@ module _ (q : Search) (order : q.low ≤ q.high) (inside : q.high ≤ length q.h
       let t = text_length in
       let e = Stands-end (plain_patterns q) q.anchored (text q) n s h in
       let same : p ≡ take (length p) (drop s (text q)) =
-      (bytes_eq-Decides p (take (length p) (drop s (text q)))).0 h.fronts.front in
+      (bytes_eq-Decides p (take (length p) (drop s (text q)))).0 h.prefixes.front in
       record {
-        numbered = (let m = length-map q.patterns (plain q.fold) in let k = h.fronts.numbered in omega arith);
+        numbered = (let m = length-map q.patterns (plain q.fold) in let k = h.prefixes.numbered in omega arith);
         from_low = omega arith;
         as_long = omega arith;
         to_high = omega arith;

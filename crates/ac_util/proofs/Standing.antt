@@ -12,13 +12,13 @@ use Rattle.ac_util.specs.Occurrence.{Occurrence, occurrence}
 use Rattle.ac_util.specs.Search.{pattern_of}
 use Rattle.ac_util.specs.Pick.{IsFirst}
 use Rattle.ac_util.specs.Node.{is_leftmost}
-use Rattle.ac_util.proofs.Fronts.{starts_with-more, starts_with-whole, starts_with-length, starts_with-equal}
-use Rattle.ac_util.proofs.Participants.{Fronts}
+use Rattle.ac_util.proofs.Prefixes.{starts_with-more, starts_with-whole, starts_with-length, starts_with-equal}
+use Rattle.ac_util.proofs.Participants.{Prefixes}
 
 -- pattern n stands in the text w from place s on, and if anchored at its front
 pub record Stands (patterns : List (List ℕ)) (anchored : Anchored) (w : List ℕ) (n s : ℕ) : Type 0 where
   pub within : s ≤ length w
-  pub fronts : Fronts patterns (drop s w) n
+  pub prefixes : Prefixes patterns (drop s w) n
   pub at_front : anchored ≡ Yes → s ≡ 0
 
 -- its place there
@@ -77,33 +77,33 @@ first-at_one_end LeftmostLongest a b e f =
 
 module _ (patterns : List (List ℕ)) where
   -- a front of w is a front of w with one more byte, and a new one is the whole
-  pub Fronts-more : (w : List ℕ) (b n : ℕ) → Fronts patterns w n → Fronts patterns (w ++ b ∷ []) n
-  Fronts-more w b n f =
+  pub Prefixes-more : (w : List ℕ) (b n : ℕ) → Prefixes patterns w n → Prefixes patterns (w ++ b ∷ []) n
+  Prefixes-more w b n f =
       record { numbered = f.numbered; front = starts_with-more w (pattern_of patterns n) b f.front }
 
   -- a pattern that is a front with one more byte was a front before or is the whole
-  pub Fronts-cases : (w : List ℕ) (b n : ℕ) → Fronts patterns (w ++ b ∷ []) n
-      → Fronts patterns w n ⊎ (pattern_of patterns n ≡ w ++ b ∷ [])
-  Fronts-cases w b n f = elim (cases_Bool (starts_with nat_eq w (pattern_of patterns n))) [
+  pub Prefixes-cases : (w : List ℕ) (b n : ℕ) → Prefixes patterns (w ++ b ∷ []) n
+      → Prefixes patterns w n ⊎ (pattern_of patterns n ≡ w ++ b ∷ [])
+  Prefixes-cases w b n f = elim (cases_Bool (starts_with nat_eq w (pattern_of patterns n))) [
     | inl t ↦ inl (record { numbered = f.numbered; front = t })
     | inr t ↦ inr (starts_with-whole w (pattern_of patterns n) b f.front t)
   ]
 
   -- a pattern that is a front is no longer than the string
-  pub Fronts-length : (w : List ℕ) (n : ℕ) → Fronts patterns w n → length (pattern_of patterns n) ≤ length w
-  Fronts-length w n f = starts_with-length w (pattern_of patterns n) f.front
+  pub Prefixes-length : (w : List ℕ) (n : ℕ) → Prefixes patterns w n → length (pattern_of patterns n) ≤ length w
+  Prefixes-length w n f = starts_with-length w (pattern_of patterns n) f.front
 
   -- one that is as long is the string
-  pub Fronts-equal : (w : List ℕ) (n : ℕ) → Fronts patterns w n → length (pattern_of patterns n) ≡ length w
+  pub Prefixes-equal : (w : List ℕ) (n : ℕ) → Prefixes patterns w n → length (pattern_of patterns n) ≡ length w
       → pattern_of patterns n ≡ w
-  Fronts-equal w n f l = starts_with-equal w (pattern_of patterns n) f.front l
+  Prefixes-equal w n f l = starts_with-equal w (pattern_of patterns n) f.front l
 
   module _ (anchored : Anchored) where
     -- what stands in w ends within it
     pub Stands-end : (w : List ℕ) (n s : ℕ) → Stands patterns anchored w n s
         → s + length (pattern_of patterns n) ≤ length w
     Stands-end w n s h =
-        let l = Fronts-length (drop s w) n h.fronts in
+        let l = Prefixes-length (drop s w) n h.prefixes in
         let d = length-drop s w in
         let i = h.within in
         omega arith
@@ -113,8 +113,8 @@ module _ (patterns : List (List ℕ)) where
         → Stands patterns anchored (w ++ b ∷ []) n s
     Stands-more w b n s h = record {
       within = (let l = length_push w b in let i = h.within in omega arith);
-      fronts = subst (λ (v : List ℕ). Fronts patterns v n) (sym (drop-append-le s w (b ∷ []) h.within))
-          (Fronts-more (drop s w) b n h.fronts);
+      prefixes = subst (λ (v : List ℕ). Prefixes patterns v n) (sym (drop-append-le s w (b ∷ []) h.within))
+          (Prefixes-more (drop s w) b n h.prefixes);
       at_front = h.at_front;
     }
 
@@ -124,13 +124,13 @@ module _ (patterns : List (List ℕ)) where
     Stands-cases w b n s h = elim (cases_lt (length w) s) [
       | inl past ↦ inr (let e = Stands-end (w ++ b ∷ []) n s h in let l = length_push w b in omega arith)
       | inr in' ↦
-          inside in' (Fronts-cases (drop s w) b n
-          (subst (λ (v : List ℕ). Fronts patterns v n) (drop-append-le s w (b ∷ []) in') h.fronts))
+          inside in' (Prefixes-cases (drop s w) b n
+          (subst (λ (v : List ℕ). Prefixes patterns v n) (drop-append-le s w (b ∷ []) in') h.prefixes))
     ]
       where
-        inside : s ≤ length w → Fronts patterns (drop s w) n ⊎ (pattern_of patterns n ≡ drop s w ++ b ∷ [])
+        inside : s ≤ length w → Prefixes patterns (drop s w) n ⊎ (pattern_of patterns n ≡ drop s w ++ b ∷ [])
             → Stands patterns anchored w n s ⊎ (s + length (pattern_of patterns n) ≡ length (w ++ b ∷ []))
-        inside in' (inl f) = inl (record { within = in'; fronts = f; at_front = h.at_front })
+        inside in' (inl f) = inl (record { within = in'; prefixes = f; at_front = h.at_front })
         inside in' (inr whole) =
             let e = ap length whole in
             let l = length_push w b in let k = length_push (drop s w) b in let d = length-drop s w in
@@ -140,15 +140,15 @@ module _ (patterns : List (List ℕ)) where
   pub Stands-behind : (x : ℕ) (w : List ℕ) (n s : ℕ) → Stands patterns No w n s
       → Stands patterns No (x ∷ w) n (suc s)
   Stands-behind x w n s h =
-      record { within = (let i = h.within in omega arith); fronts = h.fronts; at_front = λ e. absurd (cc) }
+      record { within = (let i = h.within in omega arith); prefixes = h.prefixes; at_front = λ e. absurd (cc) }
 
   -- what stands behind the first byte stands in the rest
   pub Stands-from_behind : (x : ℕ) (w : List ℕ) (n s : ℕ) → Stands patterns No (x ∷ w) n (suc s)
       → Stands patterns No w n s
   Stands-from_behind x w n s h =
-      record { within = (let i = h.within in omega arith); fronts = h.fronts; at_front = λ e. absurd (cc) }
+      record { within = (let i = h.within in omega arith); prefixes = h.prefixes; at_front = λ e. absurd (cc) }
 
   -- a front stands at the front
-  pub Stands-from_Fronts : (anchored : Anchored) (w : List ℕ) (n : ℕ) → Fronts patterns w n
+  pub Stands-from_Fronts : (anchored : Anchored) (w : List ℕ) (n : ℕ) → Prefixes patterns w n
       → Stands patterns anchored w n 0
-  Stands-from_Fronts anchored w n f = record { within = omega arith; fronts = f; at_front = λ e. refl }
+  Stands-from_Fronts anchored w n f = record { within = omega arith; prefixes = f; at_front = λ e. refl }

@@ -4,7 +4,7 @@ use Rattle.std.proofs.Common.{◌≡◌, ℕ, Bool, true, false, List, [], ◌�
 use Rattle.std.specs.Prelude.{slice_range, slice_index_or, MatchBool}
 use Rattle.ac_util.specs.Occurrence.{Occurrence}
 use Rattle.ac_util.specs.Replaced.{replaced_from}
-use Rattle.ac_util.specs.Steps.{Turn, Steps, StepsSoFar, Appends, WritesText}
+use Rattle.ac_util.specs.Replacement.{Turn, ReplacementSteps, ReplacementSoFar, Appends, WritesText}
 
 module _ (haystack : List ℕ) (texts : List (List ℕ)) where
   -- a turn writes the gap and the text of the match
@@ -18,17 +18,17 @@ module _ (haystack : List ℕ) (texts : List (List ℕ)) where
 
   -- the steps leave what was there and then the replaced text
   pub steps-replaced : (place : ℕ) (ms : List Occurrence) (f : ℕ) (d : List ℕ) (g : ℕ) (e : List ℕ)
-      → Steps ℕ (List ℕ) Appends (WritesText texts) haystack place ms f d g e
+      → ReplacementSteps ℕ (List ℕ) Appends (WritesText texts) haystack place ms f d g e
       → e ≡ d ++ replaced_from haystack texts place ms
   steps-replaced place [] f d g e h = h.1
   steps-replaced place (m ∷ ms) f d g e h =
       by h.0 h.4 h.3.call.0 (λ later. steps-replaced m.end ms h.1 h.2 g e later)
     where
       by : (answer : Bool) → MatchBool answer
-          (Steps ℕ (List ℕ) Appends (WritesText texts) haystack m.end ms h.1 h.2 g e)
+          (ReplacementSteps ℕ (List ℕ) Appends (WritesText texts) haystack m.end ms h.1 h.2 g e)
           ((g ≡ h.1) × Appends (drop m.end haystack) h.2 e)
           → answer ≡ true
-          → (Steps ℕ (List ℕ) Appends (WritesText texts) haystack m.end ms h.1 h.2 g e
+          → (ReplacementSteps ℕ (List ℕ) Appends (WritesText texts) haystack m.end ms h.1 h.2 g e
           → e ≡ h.2 ++ replaced_from haystack texts m.end ms)
           → e ≡ d ++ replaced_from haystack texts place (m ∷ ms)
       by false later answered rest = absurd (cc)
@@ -37,7 +37,7 @@ module _ (haystack : List ℕ) (texts : List (List ℕ)) where
 
   -- what the steps as far as a refused append leave is a beginning of that
   pub steps_so_far-begin : (place : ℕ) (ms : List Occurrence) (f : ℕ) (d : List ℕ) (g : ℕ) (e : List ℕ)
-      → StepsSoFar ℕ (List ℕ) Appends (WritesText texts) haystack place ms f d g e
+      → ReplacementSoFar ℕ (List ℕ) Appends (WritesText texts) haystack place ms f d g e
       → (rest : List ℕ) × (e ++ rest ≡ d ++ replaced_from haystack texts place ms)
   steps_so_far-begin place [] f d g e h =
       (drop place haystack, ap (λ (w : List ℕ). w ++ drop place haystack) h.1)
@@ -50,10 +50,10 @@ module _ (haystack : List ℕ) (texts : List (List ℕ)) where
       by h.0 h.4 h.3.call.0 (λ later. steps_so_far-begin m.end ms h.1 h.2 g e later)
     where
       by : (answer : Bool) → MatchBool answer
-          (StepsSoFar ℕ (List ℕ) Appends (WritesText texts) haystack m.end ms h.1 h.2 g e)
+          (ReplacementSoFar ℕ (List ℕ) Appends (WritesText texts) haystack m.end ms h.1 h.2 g e)
           ((g ≡ h.1) × (e ≡ h.2))
           → answer ≡ true
-          → (StepsSoFar ℕ (List ℕ) Appends (WritesText texts) haystack m.end ms h.1 h.2 g e
+          → (ReplacementSoFar ℕ (List ℕ) Appends (WritesText texts) haystack m.end ms h.1 h.2 g e
           → (rest : List ℕ) × (e ++ rest ≡ h.2 ++ replaced_from haystack texts m.end ms))
           → (rest : List ℕ) × (e ++ rest ≡ d ++ replaced_from haystack texts place (m ∷ ms))
       by false later answered rest = absurd (cc)

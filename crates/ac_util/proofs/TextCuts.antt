@@ -11,7 +11,7 @@ use Rattle.std.proofs.Math.Utf8.{scalar, scalars, encode, encodes, low_scalar}
 use Rattle.ac_util.specs.Occurrence.{Occurrence}
 use Rattle.ac_util.specs.Search.{pattern_of}
 use Rattle.ac_util.specs.Sameness.{plain_byte, plain}
-use Rattle.ac_util.specs.Input.{Asked}
+use Rattle.ac_util.specs.Asked.{Asked}
 use Rattle.ac_util.specs.Built.{Built, found, walked}
 use Rattle.ac_util.specs.Inside.{LiesIn}
 use Rattle.ac_util.specs.Texts.{AreTexts, IsBetweenCharacters}

@@ -15,7 +15,8 @@ use Rattle.ac_util.specs.Pick.{pick}
 use Rattle.ac_util.specs.Walk.{walk, walk_after}
 use Rattle.ac_util.specs.Replaced.{replaced, whole_characters}
 use Rattle.ac_util.specs.Refusal.{refusal, Find, Replace, OverlappingByState, OverlappingIterator, Stream}
-use Rattle.ac_util.specs.Stream.{stream_search, longest_len, held}
+use Rattle.ac_util.specs.Stream.{stream_search, held}
+use Rattle.ac_util.specs.Sizes.{longest_len}
 use Rattle.ac_util.proofs.SearchRows.{in_text, at_start, append_words, append_text}
 
 -- a haystack of bytes in which the walk's matches are exchanged for texts

@@ -10,7 +10,7 @@ use Rattle.ac_util.specs.Search.{Search}
 use Rattle.ac_util.specs.Pick.{order_of, pick}
 use Rattle.ac_util.specs.Walk.{walk}
 use Rattle.ac_util.specs.Refusal.{refusal, Find}
-use Rattle.ac_util.specs.Input.{Asked, search_for}
+use Rattle.ac_util.specs.Asked.{Asked, search_for}
 
 -- the patterns, whether case is ignored, the match kind, and which starts there are
 pub record Built : Type 0 where

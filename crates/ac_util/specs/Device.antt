@@ -12,7 +12,7 @@ pub record Reading : Type 0 where
 -- the bytes that a writer holds, if it tells them; how many of its calls failed; and how many writes of a piece
 -- that isn't empty took no byte
 pub record Writing : Type 0 where
-  pub held : Option (List ℕ)
+  pub written : Option (List ℕ)
   pub failed : ℕ
   pub idles : ℕ
 
@@ -37,7 +37,7 @@ Reads ends old new r into =
 -- the first n bytes of the piece went over
 pub record Gave (old new : Writing) (piece : List ℕ) (n : ℕ) : Type 0 where
   pub within : n ≤ length piece
-  pub moved : Appends old.held new.held (take n piece)
+  pub moved : Appends old.written new.written (take n piece)
   pub failed : new.failed ≡ old.failed
   pub idles : new.idles ≡ old.idles + idle n (length piece)
 

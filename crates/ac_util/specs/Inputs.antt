@@ -1,6 +1,6 @@
 -- An input as contracts see it.
 use Rattle.ac_util.specs.declared.search.input.Input.{Input}
-use Rattle.ac_util.specs.Input.{Asked}
+use Rattle.ac_util.specs.Asked.{Asked}
 
 -- its haystack, span and options
 abbrev pub asked : Input → Asked

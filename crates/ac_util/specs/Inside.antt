@@ -3,7 +3,7 @@ use Rattle.std.specs.Prelude.{◌≡◌, ◌+◌, ◌<◌, ◌≤◌, length, sl
 use Rattle.ac_util.specs.Occurrence.{Occurrence}
 use Rattle.ac_util.specs.Sameness.{IsSame}
 use Rattle.ac_util.specs.Search.{pattern_of}
-use Rattle.ac_util.specs.Input.{Asked}
+use Rattle.ac_util.specs.Asked.{Asked}
 use Rattle.ac_util.specs.Built.{Built}
 
 -- m has the number of a pattern and stands in the span of the input, as long as the pattern and the same string

@@ -5,14 +5,14 @@ pub mod Listing
 pub mod Pick
 pub mod Walk
 pub mod Replaced
-pub mod Steps
+pub mod Replacement
 pub mod Refusal
 pub mod Stream
 pub mod Node
 pub mod Matches
 pub mod Looks
 pub mod Text
-pub mod Input
+pub mod Asked
 pub mod Inputs
 pub mod Counts
 pub mod Device

@@ -4,6 +4,7 @@ use Rattle.ac_util.specs.declared.search.MatchKind.{MatchKind}
 use Rattle.ac_util.specs.declared.search.Anchored.TheVariants.{No}
 use Rattle.ac_util.specs.Occurrence.{Occurrence}
 use Rattle.ac_util.specs.Search.{Search}
+use Rattle.ac_util.specs.Sizes.{longest_len}
 use Rattle.ac_util.specs.Walk.{walk}
 
 -- the search over all bytes that the reader has given: places count from 0 over the whole stream
@@ -16,16 +17,6 @@ stream_search patterns fold bytes = record {
   low = 0;
   high = length bytes;
 }
-
--- the length of the longest pattern, 0 without patterns
-abbrev pub longest_len : List (List ℕ) → ℕ
-longest_len [] = 0
-longest_len (p ∷ ps) = max (length p) (longest_len ps)
-
--- the length of the shortest pattern, the greatest usize without patterns
-abbrev pub shortest_len : List (List ℕ) → ℕ
-shortest_len [] = 18446744073709551615
-shortest_len (p ∷ ps) = min (length p) (shortest_len ps)
 
 -- where the last of the matches ends, 0 without matches
 abbrev pub last_end : List Occurrence → ℕ

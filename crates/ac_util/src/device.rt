@@ -167,7 +167,7 @@ impl<R: Read + Drop> Source for FromRead<R> {
 /// Holds what is written to it, on an allocator.
 #[derive(Drop)]
 pub struct Written<A: Allocator> {
-    held: Vec<u8, A>,
+    bytes: Vec<u8, A>,
     failed: Tally,
     idles: Tally,
 }
@@ -178,16 +178,16 @@ impl<A: Allocator> Model for Written<A> {
 
     ghost Value = { Writing };
 
-    ghost view = { λ w. record { held = Some w.held.items; failed = w.failed.number; idles = w.idles.number } };
+    ghost view = { λ w. record { written = Some w.bytes.items; failed = w.failed.number; idles = w.idles.number } };
 }
 
 impl<A: Allocator> Written<A> {
     /// Returns a writer that holds nothing yet. This is never refused.
     pub fn new(alloc: A) -> Written<A>
-        ensures { result ≡ record { held = Some []; failed = 0; idles = 0 } }
+        ensures { result ≡ record { written = Some []; failed = 0; idles = 0 } }
     {
         Written {
-            held: Vec::new(alloc),
+            bytes: Vec::new(alloc),
             failed: Tally::zero(),
             idles: Tally::zero(),
         }
@@ -195,9 +195,9 @@ impl<A: Allocator> Written<A> {
 
     /// Returns what was written so far.
     pub fn bytes(&self) -> &[u8]
-        ensures { self.now.held ≡ Some result.now }
+        ensures { self.now.written ≡ Some result.now }
     {
-        self.held.as_slice()
+        self.bytes.as_slice()
     }
 }
 
@@ -210,7 +210,7 @@ impl<A: Allocator> Sink for Written<A> {
         ensures whole { IfOk result (λ n. n ≡ length piece.now) }
         ensures refused { IfErr result (λ e. error_kind e ≡ OutOfMemory) }
     {
-        match self.held.extend_from_slice(piece) {
+        match self.bytes.extend_from_slice(piece) {
             Ok(()) => Ok(piece.len()),
             Err(e) => {
                 self.failed = Tally::after(&self.failed);
@@ -238,7 +238,7 @@ impl<W: Write + Drop> Model for IntoWrite<W> {
     ghost Value = { Writing };
 
     ghost view = { λ w. record {
-      held = W.contents w.known.value;
+      written = W.contents w.known.value;
       failed = w.failed.number;
       idles = w.idles.number;
     } };
@@ -249,7 +249,7 @@ impl<W: Write + Drop> Model for IntoWrite<W> {
 impl<W: Write + Drop> IntoWrite<W> {
     /// Returns a writer over `inner`.
     pub fn new(inner: W) -> IntoWrite<W>
-        ensures { result ≡ record { held = W.contents inner; failed = 0; idles = 0 } }
+        ensures { result ≡ record { written = W.contents inner; failed = 0; idles = 0 } }
     {
         let known = Snapshot::of(&inner);
         IntoWrite {

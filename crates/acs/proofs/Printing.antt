@@ -42,7 +42,7 @@ pub record IsPrinting (all rest : List Occurrence) (old new : Writing) (text : L
   pub done : List Occurrence
   pub parted : done ++ rest ≡ all
   pub out : List ℕ
-  pub moved : Appends old.held new.held out
+  pub moved : Appends old.written new.written out
   pub written : out ++ text ≡ lines done
   pub failed : new.failed ≡ old.failed
   pub idles : new.idles ≡ old.idles
@@ -54,7 +54,7 @@ printing-begins all old = record {
   done = [];
   parted = refl;
   out = [];
-  moved = Appends-nil old.held;
+  moved = Appends-nil old.written;
   written = refl;
   failed = refl;
   idles = refl;
@@ -87,7 +87,7 @@ module _ (all rest : List Occurrence) (old new : Writing) (text : List ℕ) (out
     done = h.done;
     parted = h.parted;
     out = h.out ++ text;
-    moved = Appends-trans old.held new.held later.held h.out text h.moved w.moved;
+    moved = Appends-trans old.written new.written later.written h.out text h.moved w.moved;
     written = append-nil (h.out ++ text) ∙ h.written;
     failed = w.failed ∙ h.failed;
     idles = w.idles ∙ h.idles;
@@ -107,8 +107,8 @@ module _ (all rest : List Occurrence) (old new : Writing) (text : List ℕ) (out
       sym (append-nil h.done) ∙ ap (λ (ms : List Occurrence). h.done ++ ms) (sym e) ∙ h.parted in
       let bytes : lines all ≡ h.out ++ text = ap lines (sym whole) ∙ sym h.written in (
         record {
-          moved = subst (Appends old.held later.held) (sym bytes)
-              (Appends-trans old.held new.held later.held h.out text h.moved w.moved);
+          moved = subst (Appends old.written later.written) (sym bytes)
+              (Appends-trans old.written new.written later.written h.out text h.moved w.moved);
           failed = w.failed ∙ h.failed;
           idles = w.idles ∙ h.idles;
         },
@@ -158,7 +158,7 @@ module _ (all rest : List Occurrence) (old new : Writing) (text : List ℕ) (out
               let b = length-append text (lines rest) in
               let c = length-append h.out part in
               let d = f.some.left_out in omega arith);
-          moved = Appends-trans old.held new.held later.held h.out part h.moved f.some.moved;
+          moved = Appends-trans old.written new.written later.written h.out part h.moved f.some.moved;
         };
         cause = elim f.cause [
           | inl io ↦ inl (io.0, (let l = io.1 in let m = h.failed in omega arith), io.2 ∙ h.idles)

@@ -1,7 +1,7 @@
 -- What the program prints.
 use Rattle.std.specs.Prelude.{ℕ, List, [], ◌∷◌, ◌++◌, codes, decimal, flat_map, option_to_list, Result, Ok, Err}
 use Rattle.ac_util.specs.Built.{Built, found, walked}
-use Rattle.ac_util.specs.Input.{asked_whole}
+use Rattle.ac_util.specs.Asked.{asked_whole}
 use Rattle.ac_util.specs.Occurrence.{Occurrence}
 use Rattle.acs.specs.declared.request.Mode.{Mode}
 use Rattle.acs.specs.declared.request.Mode.TheVariants.{Find, Walk}

@@ -24,7 +24,7 @@ pub record ReadsAll (ends : Bool) (old new : Reading) (bytes : List ℕ) : Type 
 
 -- the bytes were all written: no write failed, and none took nothing
 pub record WritesAll (old new : Writing) (bytes : List ℕ) : Type 0 where
-  pub moved : Appends old.held new.held bytes
+  pub moved : Appends old.written new.written bytes
   pub failed : new.failed ≡ old.failed
   pub idles : new.idles ≡ old.idles
 
@@ -33,7 +33,7 @@ pub record WritesSome (old new : Writing) (bytes : List ℕ) : Type 0 where
   pub part : List ℕ
   pub begins : StartsWith bytes part
   pub left_out : length part < length bytes
-  pub moved : Appends old.held new.held part
+  pub moved : Appends old.written new.written part
 
 -- a read has failed, or memory was refused and no read has; each read before took something
 pub record FailsToRead (old new : Reading) (fault : Fault) : Type 0 where

@@ -3,8 +3,8 @@ ghost use Rattle.std.specs.Prelude.{◌≡◌, false, List, MatchResult};
 ghost use Rattle.std.proofs.Common.{inr, refl};
 ghost use Rattle.ac_util.specs.Borrowed.{bytes_of};
 ghost use Rattle.ac_util.specs.Node.{Node};
-ghost use Rattle.ac_util.specs.Stream.{longest_len, shortest_len};
-ghost use Rattle.ac_automaton.specs.Builds.{IsBuilt, Refuses, noncontiguous_rules, usual_settings};
+ghost use Rattle.ac_util.specs.Sizes.{longest_len, shortest_len};
+ghost use Rattle.ac_automaton.specs.Builds.{IsEngineBuilt, Refuses, noncontiguous_rules, usual_engine_settings};
 ghost use Rattle.ac_automaton.specs.Tries.{IsTable, StandsFor, listed_within, stands-lists};
 ghost use Rattle.ac_automaton.specs.declared.nfa.noncontiguous.state.State.{State};
 
@@ -50,7 +50,7 @@ pub struct NFA<A: Allocator = Global> {
 impl<A: Allocator> Model for NFA<A> {
     ghost use Rattle.std.specs.Prelude.{◌≡◌, List};
     ghost use Rattle.ac_util.specs.Node.{Node};
-    ghost use Rattle.ac_util.specs.Stream.{longest_len, shortest_len};
+    ghost use Rattle.ac_util.specs.Sizes.{longest_len, shortest_len};
     ghost use Rattle.ac_automaton.specs.Tries.{IsTable, Trie, trie_of};
 
     ghost Value = { Trie };
@@ -73,8 +73,8 @@ impl<A: Allocator + Clone> NFA<A> {
     /// As `Builder::build`.
     pub fn new(alloc: A, patterns: &[&[u8]]) -> Result<NFA<A>, BuildError>
         ensures { MatchResult result
-            (λ nfa. IsBuilt noncontiguous_rules usual_settings (bytes_of patterns.now) nfa.built)
-            (Refuses noncontiguous_rules usual_settings (bytes_of patterns.now)) }
+            (λ nfa. IsEngineBuilt noncontiguous_rules usual_engine_settings (bytes_of patterns.now) nfa.built)
+            (Refuses noncontiguous_rules usual_engine_settings (bytes_of patterns.now)) }
     {
         Builder::new().build(alloc, patterns)
     }
@@ -83,7 +83,7 @@ impl<A: Allocator + Clone> NFA<A> {
 impl NFA {
     /// Returns a builder with the usual settings.
     pub fn builder() -> Builder
-        ensures { result ≡ usual_settings }
+        ensures { result ≡ usual_engine_settings }
     {
         Builder::new()
     }

@@ -5,7 +5,7 @@ ghost use Rattle.std.specs.Prelude.{slice_index, Option, None, Some};
 ghost use Rattle.std.specs.Str.{IsCharBoundary, IsUtf8};
 ghost use Rattle.ac_util.specs.declared.search.MatchKind.{MatchKind};
 ghost use Rattle.ac_util.specs.Built.{Built, found, search_in, walked};
-ghost use Rattle.ac_util.specs.Input.{Asked};
+ghost use Rattle.ac_util.specs.Asked.{Asked};
 ghost use Rattle.ac_util.specs.Inside.{LiesIn};
 ghost use Rattle.ac_util.specs.Listing.{all, IsBefore};
 ghost use Rattle.ac_util.specs.Occurrence.{Occurrence};
@@ -13,7 +13,7 @@ ghost use Rattle.ac_util.specs.Pick.{IsPick, order_of, pick};
 ghost use Rattle.ac_util.specs.Replaced.{is_char_boundary, replaced};
 ghost use Rattle.ac_util.specs.Sameness.{AreOneLetter, IsSame, same_byte, same_string};
 ghost use Rattle.ac_util.specs.Search.{Occurs, Search, from, occurs, pattern_of};
-ghost use Rattle.ac_util.specs.Steps.{Appends, Steps, StepsSoFar, WritesText};
+ghost use Rattle.ac_util.specs.Replacement.{Appends, ReplacementSteps, ReplacementSoFar, WritesText};
 ghost use Rattle.ac_util.specs.Text.{cut, outward};
 ghost use Rattle.ac_util.specs.Texts.{AreTexts, IsBetweenCharacters};
 ghost use Rattle.ac_util.specs.Walk.{IsAfter, next_match, walk, walk_after};
@@ -119,9 +119,9 @@ pub fn walk_has_beginnings()
 /// and a beginning of it where an append was refused.
 pub fn steps_replace()
     ensures whole { (haystack : List ℕ) (texts : List (List ℕ)) (ms : List Occurrence) (f g : ℕ) (d e : List ℕ)
-        → Steps ℕ (List ℕ) Appends (WritesText texts) haystack 0 ms f d g e
+        → ReplacementSteps ℕ (List ℕ) Appends (WritesText texts) haystack 0 ms f d g e
         → e ≡ d ++ replaced haystack texts ms }
     ensures refused { (haystack : List ℕ) (texts : List (List ℕ)) (ms : List Occurrence) (f g : ℕ) (d e : List ℕ)
-        → StepsSoFar ℕ (List ℕ) Appends (WritesText texts) haystack 0 ms f d g e
+        → ReplacementSoFar ℕ (List ℕ) Appends (WritesText texts) haystack 0 ms f d g e
         → (rest : List ℕ) × (e ++ rest ≡ d ++ replaced haystack texts ms) }
 {}

@@ -25,7 +25,7 @@ pub struct Input<'h> {
 }
 
 impl<'h> Input<'h> {
-    ghost use Rattle.ac_util.specs.Input.{IsLegal, asked_whole};
+    ghost use Rattle.ac_util.specs.Asked.{IsLegal, asked_whole};
     ghost use Rattle.ac_util.specs.Inputs.{asked};
 
     /// Returns an input that searches all of a haystack, unanchored and not for the earliest end.

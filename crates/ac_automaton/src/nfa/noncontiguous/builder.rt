@@ -1,7 +1,7 @@
 //! Builds of a trie with failure links.
 ghost use Rattle.std.specs.Prelude.{◌≡◌, MatchResult};
 ghost use Rattle.ac_util.specs.Borrowed.{bytes_of};
-ghost use Rattle.ac_automaton.specs.Builds.{IsBuilt, Refuses, noncontiguous_rules, usual_settings};
+ghost use Rattle.ac_automaton.specs.Builds.{IsEngineBuilt, Refuses, noncontiguous_rules, usual_engine_settings};
 
 use super::NFA;
 use super::growth::TrieLists;
@@ -23,9 +23,9 @@ pub struct Builder {
 }
 
 impl Model for Builder {
-    ghost use Rattle.ac_automaton.specs.Builds.{Settings};
+    ghost use Rattle.ac_automaton.specs.Builds.{EngineSettings};
 
-    ghost Value = { Settings };
+    ghost Value = { EngineSettings };
 
     ghost view = { λ b. record { kind = b.kind; fold = b.fold } };
 
@@ -33,7 +33,7 @@ impl Model for Builder {
 }
 
 impl Default for Builder {
-    ghost is_default = { λ b. b ≡ usual_settings };
+    ghost is_default = { λ b. b ≡ usual_engine_settings };
 
     fn default() -> Builder {
         Builder::new()
@@ -43,7 +43,7 @@ impl Default for Builder {
 impl Builder {
     /// Returns a builder with the usual settings: `MatchKind::Standard`, and case counts.
     pub fn new() -> Builder
-        ensures { result ≡ usual_settings }
+        ensures { result ≡ usual_engine_settings }
     {
         Builder {
             kind: MatchKind::Standard,
@@ -90,7 +90,7 @@ impl Builder {
         patterns: &[&[u8]],
     ) -> Result<NFA<A>, BuildError>
         ensures { MatchResult result
-            (λ nfa. IsBuilt noncontiguous_rules self.now (bytes_of patterns.now) nfa.built)
+            (λ nfa. IsEngineBuilt noncontiguous_rules self.now (bytes_of patterns.now) nfa.built)
             (Refuses noncontiguous_rules self.now (bytes_of patterns.now)) }
     {
         let patterns = Patterns::new(alloc, patterns)?;

@@ -1,5 +1,5 @@
 use Rattle.std.specs.List.{AllByRecursion}
-use Rattle.ac_util.specs.Input.{asked_whole}
+use Rattle.ac_util.specs.Asked.{asked_whole}
 use Rattle.ac_util.specs.Inside.{LiesIn}
 use Rattle.ac_search.proofs.tests.names_of.Given as goal
 

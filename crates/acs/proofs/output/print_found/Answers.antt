@@ -24,7 +24,7 @@ returns-in_err-add_line g c =
         begins = refl;
         left_out = subst (λ (found : Option Occurrence). 0 < length (lines (option_to_list found)))
             (sym c.in-Some.is) some;
-        moved = Appends-nil told.held;
+        moved = Appends-nil told.written;
       },
       refl,
       refl,

@@ -17,10 +17,10 @@ loop-at-preserved g c =
     record {
       within = (let d = length-drop c.loop-at.at c.args.bytes.now in omega (arith, c.loop-at-test.true));
       moved =
-          append-more (told c.args.writer.now).held (told c.loop-at.writer).held
-          (told c.write_some.new.self).held c.args.bytes.now c.loop-at.at c.in-Ok.n
+          append-more (told c.args.writer.now).written (told c.loop-at.writer).written
+          (told c.write_some.new.self).written c.args.bytes.now c.loop-at.at c.in-Ok.n
           h.moved (subst
-          (λ (piece : List ℕ). Appends (told c.loop-at.writer).held (told c.write_some.new.self).held
+          (λ (piece : List ℕ). Appends (told c.loop-at.writer).written (told c.write_some.new.self).written
           (take c.in-Ok.n piece)) rest gave.moved);
       failed = gave.failed ∙ h.failed;
       idles = gave.idles
@@ -49,10 +49,10 @@ returns-in-Ok-eq0 g c =
         left_out = take-short (c.loop-at.at + c.in-Ok-eq0.field-0) c.args.bytes.now
             (omega (arith, c.loop-at-test.true));
         moved =
-            append-more (told c.args.writer.now).held (told c.loop-at.writer).held
-            (told c.write_some.new.self).held c.args.bytes.now c.loop-at.at c.in-Ok-eq0.field-0
+            append-more (told c.args.writer.now).written (told c.loop-at.writer).written
+            (told c.write_some.new.self).written c.args.bytes.now c.loop-at.at c.in-Ok-eq0.field-0
             h.moved (subst
-            (λ (piece : List ℕ). Appends (told c.loop-at.writer).held (told c.write_some.new.self).held
+            (λ (piece : List ℕ). Appends (told c.loop-at.writer).written (told c.write_some.new.self).written
             (take c.in-Ok-eq0.field-0 piece)) rest gave.moved);
       };
       cause = inr (refl, gave.failed ∙ h.failed, (let i = gave.idles in let k = h.idles in omega arith));

@@ -7,7 +7,7 @@ invariant-loop-at g l =
     let told = g.W.Sink.told in
     record {
       within : l.at ≤ length l.bytes;
-      moved : Appends (told l.fn.writer).held (told l.writer).held (take l.at l.bytes);
+      moved : Appends (told l.fn.writer).written (told l.writer).written (take l.at l.bytes);
       failed : (told l.writer).failed ≡ (told l.fn.writer).failed;
       idles : (told l.writer).idles ≡ (told l.fn.writer).idles;
     }

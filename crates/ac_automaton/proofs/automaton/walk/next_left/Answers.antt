@@ -1,6 +1,6 @@
 use Rattle.std.proofs.Common.{sym, ◌∙◌, ap, arith}
 use Rattle.ac_util.specs.Built.{search_in}
-use Rattle.ac_util.specs.Input.{Asked}
+use Rattle.ac_util.specs.Asked.{Asked}
 use Rattle.ac_util.specs.Inputs.{asked}
 use Rattle.ac_automaton.proofs.WalkLoop.{repeated-some, unread-repeated}
 use Rattle.ac_automaton.proofs.automaton.walk.next_left.Goals as goal

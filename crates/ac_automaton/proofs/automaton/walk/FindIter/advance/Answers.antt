@@ -1,6 +1,6 @@
 use Rattle.std.proofs.Common.{◌≡◌, ℕ, ap, subst, sym, ◌∙◌, Option, Some}
 use Rattle.ac_util.specs.Built.{search_in}
-use Rattle.ac_util.specs.Input.{Asked}
+use Rattle.ac_util.specs.Asked.{Asked}
 use Rattle.ac_util.specs.Inputs.{asked}
 use Rattle.ac_automaton.specs.Iterators.{Walking, last_after, walking_of}
 use Rattle.ac_automaton.proofs.WalkLoop.{HasGone, after-within, has-gone}

@@ -1,6 +1,6 @@
 -- The shortest so far and that of the patterns left give the shortest of all.
 use Rattle.std.proofs.Common.{◌≡◌, ◌≤◌, drop, min}
-use Rattle.ac_util.specs.Stream.{shortest_len}
+use Rattle.ac_util.specs.Sizes.{shortest_len}
 use Rattle.ac_automaton.proofs.nfa.noncontiguous.lengths.shortest_of.Given as goal
 
 abbrev pub invariant-loop-number : goal.invariant-loop-number

@@ -1,4 +1,4 @@
--- Fronts of strings: `starts_with nat_eq w p` says that p is a front of w.
+-- Prefixes of strings: `starts_with nat_eq w p` says that p is a front of w.
 use Rattle.std.proofs.Common.{◌≡◌, ℕ, zero, suc, ◌<◌, ◌≤◌, Bool, true, false, ◌||◌, List, [], ◌∷◌, ◌++◌, length, take, get_or, inl, inr, refl, ap, sym, ◌∙◌, arith, eqb}
 use Rattle.std.specs.Prelude.{nat_eq}
 use Rattle.std.specs.List.{list_any, starts_with}

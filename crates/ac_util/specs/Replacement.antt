@@ -15,19 +15,19 @@ module _ (F D : Type 0) (appends : List ℕ → D → D → Type 0)
 
   -- from a place on, the matches that are left take f and d to g and e: a turn for each, up to the first that
   -- answers false; then what is left of the haystack is appended
-  abbrev pub Steps : ℕ → List Occurrence → F → D → F → D → Type 0
-  Steps place [] f d g e = (g ≡ f) × appends (drop place haystack) d e
-  Steps place (m ∷ ms) f d g e =
+  abbrev pub ReplacementSteps : ℕ → List Occurrence → F → D → F → D → Type 0
+  ReplacementSteps place [] f d g e = (g ≡ f) × appends (drop place haystack) d e
+  ReplacementSteps place (m ∷ ms) f d g e =
       (answer : Bool) × (f' : F) × (d' : D) × Turn place m f d answer f' d'
-      × MatchBool answer (Steps m.end ms f' d' g e) ((g ≡ f') × appends (drop m.end haystack) d' e)
+      × MatchBool answer (ReplacementSteps m.end ms f' d' g e) ((g ≡ f') × appends (drop m.end haystack) d' e)
 
   -- the same steps as far as an append that was refused: it adds nothing, and nothing follows
-  abbrev pub StepsSoFar : ℕ → List Occurrence → F → D → F → D → Type 0
-  StepsSoFar place [] f d g e = (g ≡ f) × (e ≡ d)
-  StepsSoFar place (m ∷ ms) f d g e =
+  abbrev pub ReplacementSoFar : ℕ → List Occurrence → F → D → F → D → Type 0
+  ReplacementSoFar place [] f d g e = (g ≡ f) × (e ≡ d)
+  ReplacementSoFar place (m ∷ ms) f d g e =
       ((g ≡ f) × (e ≡ d))
       ⊎ ((answer : Bool) × (f' : F) × (d' : D) × Turn place m f d answer f' d'
-      × MatchBool answer (StepsSoFar m.end ms f' d' g e) ((g ≡ f') × (e ≡ d')))
+      × MatchBool answer (ReplacementSoFar m.end ms f' d' g e) ((g ≡ f') × (e ≡ d')))
 
 -- appending to a list of bytes, and a closure that appends the text of the match's pattern and answers true
 abbrev pub Appends : List ℕ → List ℕ → List ℕ → Type 0
