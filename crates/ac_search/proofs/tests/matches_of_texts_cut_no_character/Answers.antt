@@ -9,7 +9,7 @@ parts_of-requires-clause-texts g c =
     let first = c.as_bytes.result.now in
     let second = c.as_bytes-2.result.now in
     let e : c.in_ok-searcher.searcher.built.patterns ≡ first ∷ second ∷ [] =
-    search (c.in_ok-searcher.ensures.value) in
+    search (c.in_ok-searcher.ensures.built) in
     subst AreTexts (sym e)
     (record {
       texts = All-cons IsUtf8 first (second ∷ []) c.as_bytes.ensures.utf8
