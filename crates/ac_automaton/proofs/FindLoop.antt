@@ -22,11 +22,12 @@ use Rattle.ac_automaton.specs.Finds.{place_of, HasSearched, IsDecided, ReadsTo, 
 use Rattle.ac_automaton.specs.Progress.{Beginning, HasCome, node_at as node_of, span_of}
 use Rattle.ac_automaton.proofs.ReadOn.{dead-come, read-come}
 
--- the dead node finds nothing, and what is found ends where the text read ends
+-- the dead node finds nothing
 pub found-dead : (built : Built) (a : Anchored) (u : Node) (end : ℕ) → u ≡ None → found_at built a u end ≡ None
 found-dead built No u end e = ap (λ (v : Node). found_at built No v end) e
 found-dead built Yes u end e = ap (λ (v : Node). found_at built Yes v end) e
 
+-- what is found ends where the text read ends
 pub found-end : (built : Built) (a : Anchored) (u : Node) (end : ℕ) (m : Occurrence)
     → found_at built a u end ≡ Some m → m.end ≡ end
 found-end built a u end m e = by (slice_get (matches_of built a u) 0) e
@@ -73,6 +74,7 @@ searched-nothing most kind order q tape counts past unread = record {
 }
 
 module _ (built : Built) (anchored : Anchored) (earliest : Bool) (began : Beginning) where
+  -- what is searched
   abbrev q : Search
   q = span_of built anchored began
 
@@ -83,9 +85,11 @@ module _ (built : Built) (anchored : Anchored) (earliest : Bool) (began : Beginn
   abbrev pub node_at : ℕ → Node
   node_at = node_of built.kind q
 
+  -- the order by which matches are picked
   abbrev pub order : MatchKind
   order = order_of built.kind earliest
 
+  -- what is found there, by the matches of the node
   found-by : (at : ℕ) (ns : List ℕ) → matches_of built anchored (node_at at) ≡ ns
       → found_at built anchored (node_at at) at ≡ option_map (place_of built at) (slice_get ns 0)
   found-by at ns e = ap (λ (ms : List ℕ). option_map (place_of built at) (slice_get ms 0)) e

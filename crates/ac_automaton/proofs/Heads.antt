@@ -47,7 +47,7 @@ module _ (built : Built) (listed : List ℕ) (start end : ℕ) where
       ap (λ (ns : List ℕ). option_map (place_of built end) (slice_get ns 0)) (sym lists ∙ none)
   found-none Yes u lists none =
       ap (λ (ns : List ℕ). option_map (place_of built end) (slice_get ns 0))
-      (append_nil_left (matches_of built Yes u) lists.passed_over (sym lists.own ∙ none))
+      (append_nil_left (matches_of built Yes u) lists.passed_over (sym lists.first ∙ none))
 
   -- a state that lists matches is not dead
   node_of : (anchored : Anchored) (u : Node) (p : ℕ) → Lists built anchored u listed
@@ -73,6 +73,7 @@ module _ (built : Built) (listed : List ℕ) (start end : ℕ) where
     pub numbered : p < length built.patterns
     pub short : length (pattern_of built.patterns p) ≤ end - start
 
+  -- so it fits into what was read
   pub head-fits : (anchored : Anchored) (u : Node) (p : ℕ) → Lists built anchored u listed
       → FitsIn anchored u start end
       → slice_get listed 0 ≡ Some p → HeadFits p
@@ -86,9 +87,10 @@ module _ (built : Built) (listed : List ℕ) (start end : ℕ) where
       let d = fits.short in
       record { numbered = omega arith; short = omega arith }
 
-  own_of : (u : List ℕ) (p : ℕ) → Lists built Yes (Some u) listed → slice_get listed 0 ≡ Some p
+  -- where a pattern listed first is as long as the node, some pattern is the whole node
+  whole-some : (u : List ℕ) (p : ℕ) → Lists built Yes (Some u) listed → slice_get listed 0 ≡ Some p
       → length (pattern_of built.patterns p) ≡ length u → matches_of built Yes (Some u) ≢ []
-  own_of u p lists e l none =
+  whole-some u p lists e l none =
       let whole =
       matches-whole built.kind (plain_of built) u p (among Yes (Some u) p lists e) (plain_length built p ∙ l) in
       subst (λ (ns : List ℕ). IsIn p ns) none whole
@@ -104,11 +106,12 @@ module _ (built : Built) (listed : List ℕ) (start end : ℕ) where
   found-first Yes None p lists fits e whole = absurd (node_of Yes None p lists e refl)
   found-first Yes (Some u) p lists fits e whole =
       let long : length u ≡ end - start = fits.whole refl (λ n. absurd (cc)) in
-      let some = own_of u p lists e (whole refl ∙ sym long) in
+      let some = whole-some u p lists e (whole refl ∙ sym long) in
       ap (λ (r : Option ℕ). option_map (place_of built end) r)
       (front_first (matches_of built Yes (Some u)) lists.passed_over p
-      (ap (λ (ns : List ℕ). slice_get ns 0) (sym lists.own) ∙ e) some)
+      (ap (λ (ns : List ℕ). slice_get ns 0) (sym lists.first) ∙ e) some)
 
+  -- in an anchored search a pattern shorter than what was read is passed over, and nothing is found
   pub found-passed_over : (u : Node) (p : ℕ) → Lists built Yes u listed → FitsIn Yes u start end
       → slice_get listed 0 ≡ Some p → length (pattern_of built.patterns p) ≢ end - start
       → found_at built Yes u end ≡ None
@@ -122,7 +125,7 @@ module _ (built : Built) (listed : List ℕ) (start end : ℕ) where
           let first : slice_get (n ∷ ns) 0 ≡ Some p =
           front_first (n ∷ ns) lists.passed_over p
           (ap (λ (ms : List ℕ). slice_get ms 0)
-          (ap (λ (ms : List ℕ). ms ++ lists.passed_over) (sym is) ∙ sym lists.own) ∙ e)
+          (ap (λ (ms : List ℕ). ms ++ lists.passed_over) (sym is) ∙ sym lists.first) ∙ e)
           (λ k. absurd (cc)) in
           let same : n ≡ p = cc in
           let equal =

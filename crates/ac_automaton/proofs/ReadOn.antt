@@ -38,16 +38,18 @@ step-within most built Yes u byte one_or_two = once (most == 1)
 below_next : (n : ℕ) (P : ℕ → Type 0) → ((k : ℕ) → k < n → P k) → P n → (k : ℕ) → k < n + 1 → P k
 below_next n P before now k up = elim (cases_lt k n) [ inl l ↦ before k l | inr l ↦ subst P (omega arith) now ]
 
--- a string that leads to a node or to the dead one is as long as the node, or longer
-depth-held : (u : List ℕ) (t : Bool) → cond t (Some u) None ≢ None → depth (cond t (Some u) None) ≡ length u
-depth-held u true some = refl
-depth-held u false some = absurd (some refl)
+-- a node that a string leads to is as long as the string
+depth-node : (u : List ℕ) (t : Bool) → cond t (Some u) None ≢ None → depth (cond t (Some u) None) ≡ length u
+depth-node u true some = refl
+depth-node u false some = absurd (some refl)
 
-held-short : (u : List ℕ) (t : Bool) → depth (cond t (Some u) None) ≤ length u
-held-short u true = omega arith
-held-short u false = omega arith
+-- and no node that a string may lead to is longer than the string
+depth-most : (u : List ℕ) (t : Bool) → depth (cond t (Some u) None) ≤ length u
+depth-most u true = omega arith
+depth-most u false = omega arith
 
 module _ (built : Built) (anchored : Anchored) (began : Beginning) where
+  -- what is searched, and the bytes of the tape
   abbrev q : Search
   q = span_of built anchored began
 
@@ -81,7 +83,7 @@ module _ (built : Built) (anchored : Anchored) (began : Beginning) where
       short No =
           let l = depth-reached built.kind (plain_of built) (text (record q { high = at })) in let s = size in omega arith
       short Yes =
-          let l = held-short (text (record q { high = at })) (is_node built.kind (plain_of built) (text (record q { high = at }))) in
+          let l = depth-most (text (record q { high = at })) (is_node built.kind (plain_of built) (text (record q { high = at }))) in
           let s = size in
           omega arith
 
@@ -89,7 +91,7 @@ module _ (built : Built) (anchored : Anchored) (began : Beginning) where
           → depth (reached built.kind (plain_of built) a (text (record q { high = at }))) ≡ at - began.start
       whole No e some = absurd (cc)
       whole Yes e some =
-          depth-held (text (record q { high = at })) (is_node built.kind (plain_of built) (text (record q { high = at }))) some ∙ size
+          depth-node (text (record q { high = at })) (is_node built.kind (plain_of built) (text (record q { high = at }))) some ∙ size
 
   -- the automaton has come to the start of the span: nothing was read
   pub come-start : (stands : ℕ → Node → Type 0) (most state : ℕ) → stands state (Some [])

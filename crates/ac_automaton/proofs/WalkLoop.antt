@@ -38,6 +38,7 @@ record Repeats (m : Occurrence) (e : ℕ) : Type 0 where
   empty : m.start ≡ m.end
   ends : m.end ≡ e
 
+-- the test that a match repeats tells this
 repeats-from : (m : Occurrence) (e : ℕ) → repeats (Some m) (Some e) ≡ true → Repeats m e
 repeats-from m e h =
     let both = and_parts (m.start == m.end) (m.end == e) h in
@@ -58,6 +59,7 @@ pub record HasRepeated (q : Search) (last : Option ℕ) (m : Occurrence) : Type 
   pub again : last ≡ Some m.end
   pub shortest : shortest_len q.patterns ≡ 0
 
+-- where the pick is a match that repeats
 repeated : (order : MatchKind) (q : Search) (m : Occurrence) (last : Option ℕ) → pick order q ≡ Some m
     → IfSome last (λ e. e ≤ q.low) → repeats (Some m) last ≡ true → HasRepeated q last m
 repeated order q m None picked behind again = absurd (cc)
@@ -94,6 +96,7 @@ kept-within Standard place = omega arith
 kept-within LeftmostFirst place = omega arith
 kept-within LeftmostLongest place = omega arith
 
+-- and under Standard it is where it was
 kept-standard : (order : MatchKind) (place : ℕ) → order ≡ Standard → kept_place order place ≡ place
 kept-standard order place standard = ap (λ (k : MatchKind). kept_place k place) standard
 
@@ -138,6 +141,7 @@ if-raised : (last : Option ℕ) (start n m : ℕ) → n ≤ m → IfSome last (�
 if-raised None start n m le h = tt
 if-raised (Some e) start n m le h = omega arith
 
+-- and so may a place that the last match ended before
 if-behind : (last : Option ℕ) (n m : ℕ) → n ≤ m → IfSome last (λ e. e ≤ n) → IfSome last (λ e. e ≤ m)
 if-behind None n m le h = tt
 if-behind (Some e) n m le h = omega arith
@@ -218,8 +222,9 @@ module _ (walking : Walking) (way : IsUnderWay walking) (place : ℕ) (counts : 
           covered = λ none some _. covers none some;
         }
 
--- a walk whose find repeats goes on one place further, with the same match before it
+-- a walk whose find repeats the match before
 module _ (walking : Walking) (way : IsUnderWay walking) where
+  -- what was found is passed over, and the span begins one place further on
   under_way-further : (m : Occurrence) (place : ℕ) (counts : Counts) → HasRepeated walking.left walking.last m
       → HasFound walking walking.left (Some m) walking.place walking.counts place counts
       → IsUnderWay (record walking {
@@ -300,6 +305,7 @@ pub record HasGone (walking : Walking) (r : Option Occurrence) (new_walking : Wa
 
 module _ (most : ℕ) (f : Finding) (i : Asked) (last : Option ℕ) (start place : ℕ) (counts : Counts)
     (r : Option Occurrence) (new_place : ℕ) (new_counts : Counts) where
+  -- what is left to be searched, and the walk before and after
   abbrev q : Search
   q = search_in f.built i
 
@@ -309,6 +315,7 @@ module _ (most : ℕ) (f : Finding) (i : Asked) (last : Option ℕ) (start place
   abbrev then_from : Asked → Option ℕ → Walking
   then_from j l = walking_of most f j l start new_place new_counts
 
+  -- the walk gives its first match, or has none
   steps : (r : Option Occurrence) → r ≡ next_match f.order q last
       → MatchOption r ((before.rest ≡ []) × (walk_after f.order (from q (after q.high r)) (last_after last r) ≡ []))
       (λ m. before.rest ≡ m ∷ walk_after f.order (from q (after q.high r)) (last_after last r))

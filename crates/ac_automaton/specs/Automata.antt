@@ -29,13 +29,13 @@ IsState stands s = (u : Node) × stands s u
 
 -- the list has the matches that count in an anchored search in front, and is itself a front of all matches of
 -- the node
-pub record ListsOwn (built : Built) (u : Node) (listed : List ℕ) : Type 0 where
+pub record ListsFirst (built : Built) (u : Node) (listed : List ℕ) : Type 0 where
   pub passed_over : List ℕ
-  pub own : listed ≡ matches_of built Yes u ++ passed_over
+  pub first : listed ≡ matches_of built Yes u ++ passed_over
   pub left_out : List ℕ
   pub front : matches_of built No u ≡ listed ++ left_out
 
 -- a state that stands for the node may list these matches
 abbrev pub Lists : Built → Anchored → Node → List ℕ → Type 0
 Lists built No u listed = listed ≡ matches_of built No u
-Lists built Yes u listed = ListsOwn built u listed
+Lists built Yes u listed = ListsFirst built u listed

@@ -202,7 +202,7 @@ stands-lists trie Yes s u h =
     let links = (h.table.states.each s u (omega arith) h.named).links in
     record {
       passed_over = all_matches (meaning_of trie h.nodes) links.linked;
-      own = h.table.lists s u h.named ∙ links.finds;
+      first = h.table.lists s u h.named ∙ links.finds;
       left_out = [];
       front = sym (h.table.lists s u h.named) ∙ sym (append-nil _);
     }

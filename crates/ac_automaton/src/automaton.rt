@@ -14,7 +14,7 @@ ghost use Rattle.ac_automaton.specs.Iterators.{GoesOn, begun};
 ghost use Rattle.ac_automaton.specs.Automata.{IsState, Lists, looks_of, step_of};
 
 use ac_util::error::MatchError;
-use ac_util::looks::{Looks, open};
+use ac_util::looks::Looks;
 use ac_util::prefilter::Prefilter;
 use ac_util::primitives::{PatternID, StateID};
 use ac_util::search::{Anchored, Input, Match, MatchKind};
@@ -23,7 +23,6 @@ mod find;
 mod step;
 mod walk;
 
-use find::Finder;
 pub use find::find_core;
 pub use walk::FindIter;
 
@@ -40,12 +39,16 @@ pub trait Automaton {
 
     ghost LOOKS: { ℕ };
 
+    // What the automaton was built from.
     ghost built: { Self → Built };
 
+    // Whether a state stands for a node, in an unanchored or in an anchored search.
     ghost stands: { Self → Anchored → ℕ → Node → Type 0 };
 
+    // The match list of a state.
     ghost listed: { Self → ℕ → List ℕ };
 
+    // Whether the automaton was built to have a prefilter, where there is one for its patterns.
     ghost filters: { Self → Bool };
 
     /// Returns the state at which a search begins.
@@ -66,8 +69,8 @@ pub trait Automaton {
         ensures looks { (u : Node) → stands self.now anchored sid u
             → looks.new ≡ more_looks (looks_of LOOKS (built self.now) anchored u byte) looks.old };
 
-    /// Returns whether the state may be dead, a match state or a start. Where it is none of them, most searches
-    /// have nothing to do but to go on.
+    /// Returns whether the state may be dead, a match state or a start. Where this is false a search reads on
+    /// without a further test.
     fn is_special(&self, sid: StateID) -> bool
         requires state { (anchored : Anchored) × IsState (stands self.now anchored) sid }
         ensures { (anchored : Anchored) (u : Node) → stands self.now anchored sid u
@@ -150,9 +153,7 @@ pub trait Automaton {
         ensures { AnswersUnless (find_refusal (built self.now) (asked input.entry))
             (found (built self.now) (asked input.entry)) result }
     {
-        let finder = Finder::new(self, input.get_anchored(), input.get_earliest())?;
-        let (mut tape, mut looks) = open(&input);
-        Ok(finder.find(input.start(), input.end(), &mut tape, &mut looks))
+        find::try_find(self, input)
     }
 
     /// Returns an iterator over the matches of an input that don't overlap, each picked from where the one
@@ -171,7 +172,6 @@ pub trait Automaton {
             (begun LOOKS (built self.now) (asked input.entry)) result }
         ensures runs { YieldsInOrder GoesOn (λ w. w.rest) }
     {
-        let find = Finder::new(self, input.get_anchored(), input.get_earliest())?;
-        Ok(FindIter::new(find, input))
+        FindIter::new(self, input)
     }
 }

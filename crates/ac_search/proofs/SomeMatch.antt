@@ -8,15 +8,18 @@ use Rattle.ac_util.specs.Pick.{IsPick, pick}
 use Rattle.ac_util.specs.Search.{Search, Occurs}
 use Rattle.ac_util.proofs.Picks.{pick-IsPick}
 
+-- what is picked is some match exactly if something occurs
 picks-some : (kind : MatchKind) (q : Search) (r : Option Occurrence) → IsPick kind q r
     → IsTrue (is_some r) ↔ ((m : Occurrence) × Occurs q m)
 picks-some kind q None h = ((λ t. absurd (false≢true t)), (λ o. absurd (h o.0 o.1)))
 picks-some kind q (Some m) h = ((λ t. (m, h.0)), (λ o. refl))
 
+-- the same of an answer that is the pick
 pub some-match : (kind : MatchKind) (q : Search) (r : Option Occurrence) → r ≡ pick kind q
     → IsTrue (is_some r) ↔ ((m : Occurrence) × Occurs q m)
 some-match kind q r e = picks-some kind q r (subst (IsPick kind q) (sym e) (pick-IsPick kind q))
 
+-- an answer is some match exactly if it isn't None
 some-or-none : (r : Option Occurrence) → (IsTrue (is_some r) → r ≢ None) × (r ≢ None → IsTrue (is_some r))
 some-or-none None = ((λ t. absurd (false≢true t)), (λ some. absurd (some refl)))
 some-or-none (Some m) = ((λ t e. absurd (cc)), (λ some. refl))

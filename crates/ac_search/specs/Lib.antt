@@ -1,2 +1,44 @@
+-- What is seen of a searcher and of its engine; then the definitions of the crates below that contracts of this
+-- crate cite, so that a user need not list those crates. Each keeps its name: `Built` here is `Built` of ac_util.
 pub mod Engines
 pub mod Searchers
+-- what is asked, what occurs, and what answers it
+pub use Rattle.ac_util.specs.Asked
+pub use Rattle.ac_util.specs.Inputs
+pub use Rattle.ac_util.specs.Search
+pub use Rattle.ac_util.specs.Occurrence
+pub use Rattle.ac_util.specs.Sameness
+pub use Rattle.ac_util.specs.Listing
+pub use Rattle.ac_util.specs.Pick
+pub use Rattle.ac_util.specs.Walk
+pub use Rattle.ac_util.specs.Built
+pub use Rattle.ac_util.specs.Refusal
+pub use Rattle.ac_util.specs.Inside
+-- replacement
+pub use Rattle.ac_util.specs.Replaced
+pub use Rattle.ac_util.specs.Replacement
+-- texts
+pub use Rattle.ac_util.specs.Text
+pub use Rattle.ac_util.specs.Texts
+-- lists of patterns: how they are borrowed, kept and limited, and their lengths
+pub use Rattle.ac_util.specs.Borrowed
+pub use Rattle.ac_util.specs.Pieces
+pub use Rattle.ac_util.specs.Limits
+pub use Rattle.ac_util.specs.Sizes
+pub use Rattle.ac_util.specs.Plain
+-- builds and iterators
+pub use Rattle.ac_automaton.specs.Builds
+pub use Rattle.ac_automaton.specs.Iterators
+pub use Rattle.ac_automaton.specs.Finders
+pub use Rattle.ac_automaton.specs.Finds
+pub use Rattle.ac_automaton.specs.Progress
+-- automata: nodes, steps, looks and prefilters
+pub use Rattle.ac_util.specs.Node
+pub use Rattle.ac_util.specs.Matches
+pub use Rattle.ac_util.specs.Looks
+pub use Rattle.ac_util.specs.Counts
+pub use Rattle.ac_util.specs.Prefilters
+pub use Rattle.ac_automaton.specs.Automata
+pub use Rattle.ac_automaton.specs.Tries
+-- readers and writers
+pub use Rattle.ac_util.specs.Device

@@ -59,10 +59,8 @@ impl<A: Allocator> Clone for AhoCorasick<A> {
 
     /// Returns a searcher that shares the engine.
     fn clone(&self) -> Result<AhoCorasick<A>, AllocError> {
-        Ok(AhoCorasick {
-            engine: self.engine.share()?,
-            start_kind: self.start_kind,
-        })
+        let engine = self.engine.share()?;
+        Ok(AhoCorasick::new_by(engine, self.start_kind))
     }
 }
 

@@ -1,4 +1,21 @@
 //! Searches for all matches of many patterns at once.
+//!
+//! All that contracts here cite has a name in this crate, so a user lists no other. Definitions stand in
+//! `specs/`, and types with their cases in `specs.declared`:
+//!
+//! ```
+//! ghost use Rattle.ac_search.specs.Asked.{asked_whole};
+//! ghost use Rattle.ac_search.specs.Built.{find_refusal, found, walked};
+//! ghost use Rattle.ac_search.specs.Searchers.{IsBuilt, usual_settings};
+//! ghost use Rattle.ac_search.specs.declared.MatchKind.TheVariants.{LeftmostFirst};
+//!
+//! fn first(searcher: &AhoCorasick, haystack: &[u8]) -> Option<Match>
+//!     requires { find_refusal searcher.now.built (asked_whole haystack.now) ≡ None }
+//!     ensures { result ≡ found searcher.now.built (asked_whole haystack.now) }
+//! {
+//!     searcher.find(Input::new(haystack))
+//! }
+//! ```
 #![tactic(auto)]
 
 pub mod ahocorasick;
@@ -11,6 +28,7 @@ pub use ac_util::error::{BuildError, MatchError};
 pub use ac_util::looks::{Looks, Tape, open};
 pub use ac_util::patterns::{Patterns, check_limits};
 pub use ac_util::plain;
+pub use ac_util::prefilter::{Candidate, Prefilter};
 pub use ac_util::primitives::{PatternID, SmallIndex, StateID, TooLarge};
 pub use ac_util::search::{Anchored, Input, Match, MatchKind, Span, StartKind};
 pub use ahocorasick::{AhoCorasick, AhoCorasickBuilder, AhoCorasickKind, FindIter};

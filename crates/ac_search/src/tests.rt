@@ -1,7 +1,7 @@
 ghost use Rattle.std.specs.Prelude.{◌≡◌, None, length};
-ghost use Rattle.ac_util.specs.Built.{find_refusal, walked};
-ghost use Rattle.ac_util.specs.Asked.{asked_whole};
-ghost use Rattle.ac_util.specs.Texts.{AreTexts};
+ghost use Rattle.ac_search.specs.Built.{find_refusal, walked};
+ghost use Rattle.ac_search.specs.Asked.{asked_whole};
+ghost use Rattle.ac_search.specs.Texts.{AreTexts};
 
 use crate::MatchKind::{LeftmostFirst, LeftmostLongest, Standard};
 use crate::laws::{answers_cut_no_character, answers_lie_inside};

@@ -1,19 +1,20 @@
 //! The core of every find.
 ghost use Rattle.std.specs.Prelude.{◌≡◌, ◌+◌, ◌≤◌, ◌↔◌, IsTrue, length, None, MatchResult};
 ghost use Rattle.ac_util.specs.declared.search.MatchKind.TheVariants.{Standard};
-ghost use Rattle.ac_util.specs.Built.{found, search_in};
+ghost use Rattle.ac_util.specs.Built.{find_refusal, found, search_in};
+ghost use Rattle.ac_util.specs.Inputs.{asked};
 ghost use Rattle.ac_util.specs.Node.{Node};
 ghost use Rattle.ac_util.specs.Pick.{order_of};
-ghost use Rattle.ac_util.specs.Refusal.{start_refusal};
+ghost use Rattle.ac_util.specs.Refusal.{AnswersUnless, start_refusal};
 ghost use Rattle.ac_automaton.specs.Finds.{FitsIn, HasSearched, asked_of, found_at};
 ghost use Rattle.ac_automaton.specs.Progress.{search_of};
 
 use super::Automaton;
 use super::step::{Cursor, read_byte};
 use ac_util::error::MatchError;
-use ac_util::looks::{Looks, Tape};
+use ac_util::looks::{Looks, Tape, open};
 use ac_util::primitives::StateID;
-use ac_util::search::{Anchored, Match, MatchKind, Span};
+use ac_util::search::{Anchored, Input, Match, MatchKind, Span};
 use std::marker::Model;
 
 /// Returns the match that the automaton's match kind picks in the span `start..end` of a tape's haystack, or
@@ -51,6 +52,20 @@ pub fn find_core<A: Automaton>(
         unreachable!()
     };
     finder.find(start, end, tape, looks)
+}
+
+/// Returns what `Automaton::try_find` does.
+#[inline]
+pub(super) fn try_find<A: Automaton>(
+    automaton: &A,
+    input: Input<'_>,
+) -> Result<Option<Match>, MatchError>
+    ensures { AnswersUnless (find_refusal (A.built automaton.now) (asked input.entry))
+        (found (A.built automaton.now) (asked input.entry)) result }
+{
+    let finder = Finder::new(automaton, input.get_anchored(), input.get_earliest())?;
+    let (mut tape, mut looks) = open(&input);
+    Ok(finder.find(input.start(), input.end(), &mut tape, &mut looks))
 }
 
 /// A find that is ready to be made in any span: its start state is known.

@@ -2,16 +2,17 @@
 ghost use Rattle.std.specs.Prelude.{◌≡◌, ◌+◌, ◌≤◌, ℕ, IfSome};
 ghost use Rattle.std.specs.Iterator.{item_count};
 ghost use Rattle.ac_util.specs.declared.search.MatchKind.TheVariants.{Standard};
-ghost use Rattle.ac_util.specs.Built.{Built, search_in};
+ghost use Rattle.ac_util.specs.Built.{find_refusal, search_in};
 ghost use Rattle.ac_util.specs.Inputs.{asked};
 ghost use Rattle.ac_util.specs.Pick.{pick};
+ghost use Rattle.ac_util.specs.Refusal.{AnswersUnless};
 ghost use Rattle.ac_util.specs.Walk.{next_match, repeats};
-ghost use Rattle.ac_automaton.specs.Finders.{finding_of};
 ghost use Rattle.ac_automaton.specs.Finds.{HasSearched};
 ghost use Rattle.ac_automaton.specs.Iterators.{Finds, GoesOn, after, begun, kept_place, walking_of};
 
 use super::Automaton;
 use super::find::Finder;
+use ac_util::error::MatchError;
 use ac_util::looks::{Looks, Tape, open};
 use ac_util::search::{Input, Match};
 use std::marker::Model;
@@ -55,22 +56,22 @@ impl<'a, 'h, A: Automaton> Model for FindIter<'a, 'h, A> {
 }
 
 impl<'a, 'h, A: Automaton> FindIter<'a, 'h, A> {
-    /// Returns an iterator over the matches of an input, by the find that it asks for.
+    /// Returns what `Automaton::try_find_iter` does.
     #[inline]
-    pub(super) fn new(finder: Finder<'a, A>, input: Input<'h>) -> FindIter<'a, 'h, A>
-        requires asks { (built : Built) × (finder ≡ finding_of built (asked input)) }
-        ensures { (built : Built) → finder.entry ≡ finding_of built (asked input.entry)
-            → result ≡ begun A.LOOKS built (asked input.entry) }
+    pub(super) fn new(automaton: &'a A, input: Input<'h>) -> Result<FindIter<'a, 'h, A>, MatchError>
+        ensures { AnswersUnless (find_refusal (A.built automaton.now) (asked input.entry))
+            (begun A.LOOKS (A.built automaton.now) (asked input.entry)) result }
     {
+        let finder = Finder::new(automaton, input.get_anchored(), input.get_earliest())?;
         let (tape, looks) = open(&input);
-        FindIter {
+        Ok(FindIter {
             finder,
             input,
             last: None,
             tape,
             looks,
             from: Snapshot::of(&input.start()),
-        }
+        })
     }
 
     /// Returns the next match, and moves on.

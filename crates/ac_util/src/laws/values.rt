@@ -4,6 +4,7 @@ ghost use Rattle.std.specs.Hash as fed;
 ghost use Rattle.std.specs.Ordering.{nat_cmp};
 ghost use Rattle.ac_util.specs.declared.error.BuildError.{BuildError};
 ghost use Rattle.ac_util.specs.declared.error.MatchError.{MatchError};
+ghost use Rattle.ac_util.specs.declared.prefilter.Candidate.{Candidate};
 ghost use Rattle.ac_util.specs.declared.primitives.TheConstants.{GREATEST};
 ghost use Rattle.ac_util.specs.declared.primitives.TooLarge.{TooLarge};
 ghost use Rattle.ac_util.specs.declared.search.Anchored.{Anchored};
@@ -15,6 +16,7 @@ ghost use Rattle.ac_util.specs.Inputs.{asked};
 ghost use Rattle.ac_util.specs.Occurrence.{Occurrence};
 
 use crate::error::{BuildError, MatchError};
+use crate::prefilter::Candidate;
 use crate::primitives::{PatternID, SmallIndex, StateID, TooLarge};
 use crate::search::{Anchored, Input, Match, MatchKind, Span, StartKind};
 use std::hash::Hash;
@@ -40,6 +42,7 @@ pub fn clones_are_equal()
     ensures kinds { (a b : MatchKind) → ⟦<MatchKind as Clone>⟧.is_clone a b → b ≡ a }
     ensures starts { (a b : StartKind) → ⟦<StartKind as Clone>⟧.is_clone a b → b ≡ a }
     ensures anchorings { (a b : Anchored) → ⟦<Anchored as Clone>⟧.is_clone a b → b ≡ a }
+    ensures candidates { (a b : Candidate) → ⟦<Candidate as Clone>⟧.is_clone a b → b ≡ a }
     ensures builds { (a b : BuildError) → ⟦<BuildError as Clone>⟧.is_clone a b → b ≡ a }
     ensures searches { (a b : MatchError) → ⟦<MatchError as Clone>⟧.is_clone a b → b ≡ a }
     ensures numbers { (a b : TooLarge) → ⟦<TooLarge as Clone>⟧.is_clone a b → b ≡ a }
@@ -56,6 +59,7 @@ pub fn clones_take_no_memory()
     ensures kinds { (a : MatchKind) → ⟦<MatchKind as Clone>⟧.is_infallible a }
     ensures starts { (a : StartKind) → ⟦<StartKind as Clone>⟧.is_infallible a }
     ensures anchorings { (a : Anchored) → ⟦<Anchored as Clone>⟧.is_infallible a }
+    ensures candidates { (a : Candidate) → ⟦<Candidate as Clone>⟧.is_infallible a }
     ensures builds { (a : BuildError) → ⟦<BuildError as Clone>⟧.is_infallible a }
     ensures searches { (a : MatchError) → ⟦<MatchError as Clone>⟧.is_infallible a }
     ensures numbers { (a : TooLarge) → ⟦<TooLarge as Clone>⟧.is_infallible a }
@@ -70,6 +74,8 @@ pub fn values_compare_by_their_fields()
     ensures starts { (a b : StartKind) → (⟦<StartKind as PartialEq>⟧.eq a b ≡ true) ↔ (a ≡ b) }
     ensures anchorings { (a b : Anchored)
         → (⟦<Anchored as PartialEq>⟧.eq a b ≡ true) ↔ (a ≡ b) }
+    ensures candidates { (a b : Candidate)
+        → (⟦<Candidate as PartialEq>⟧.eq a b ≡ true) ↔ (a ≡ b) }
 {}
 
 /// Errors are equal where they are of one case, with the same numbers in it.

@@ -1,7 +1,7 @@
 use Rattle.std.proofs.Common.{◌≡◌, ◌≢◌, [], ◌∷◌, ap, subst, sym, length, arith}
 use Rattle.std.proofs.lemmas.List.Elements.{All-nil, All-cons}
 use Rattle.std.specs.Str.{IsUtf8}
-use Rattle.ac_util.specs.Texts.{AreTexts}
+use Rattle.ac_search.specs.Texts.{AreTexts}
 use Rattle.ac_search.proofs.tests.matches_of_texts_cut_no_character.Goals as goal
 
 pub parts_of-requires-clause-texts : goal.parts_of-requires-clause-texts
@@ -9,7 +9,7 @@ parts_of-requires-clause-texts g c =
     let first = c.as_bytes.result.now in
     let second = c.as_bytes-2.result.now in
     let e : c.in_ok-searcher.searcher.built.patterns ≡ first ∷ second ∷ [] =
-    search (c.in_ok-searcher.ensures.value) in
+    search (c.in_ok-searcher.ensures.built) in
     subst AreTexts (sym e)
     (record {
       texts = All-cons IsUtf8 first (second ∷ []) c.as_bytes.ensures.utf8

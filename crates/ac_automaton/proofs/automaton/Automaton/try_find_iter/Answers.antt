@@ -3,6 +3,3 @@ use Rattle.ac_automaton.proofs.automaton.Automaton.try_find_iter.Goals as goal
 
 pub returns-clause-runs : goal.returns-clause-runs
 returns-clause-runs g c = goes_on-runs
-
-pub returns-in_err-find-clause-runs : goal.returns-in_err-find-clause-runs
-returns-in_err-find-clause-runs g c = goes_on-runs
