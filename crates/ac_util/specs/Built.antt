@@ -27,10 +27,11 @@ has_empty built = list_any (λ p. length p == 0) built.patterns
 abbrev pub search_in : Built → Asked → Search
 search_in built asked = search_for built.patterns built.fold asked
 
--- what a find answers, and which matches a walk gives
+-- what a find answers
 abbrev pub found : Built → Asked → Option Occurrence
 found built asked = pick (order_of built.kind asked.earliest) (search_in built asked)
 
+-- which matches a walk gives
 abbrev pub walked : Built → Asked → List Occurrence
 walked built asked = walk (order_of built.kind asked.earliest) (search_in built asked)
 

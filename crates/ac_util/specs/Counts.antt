@@ -7,12 +7,15 @@ pub record Counts : Type 0 where
   pub looks : ℕ
   pub calls : ℕ
 
+-- nothing was counted
 abbrev pub no_counts : Counts
 no_counts = record { reads = 0; looks = 0; calls = 0 }
 
+-- one byte more was read
 abbrev pub one_more_read : Counts → Counts
 one_more_read counts = record counts { reads = counts.reads + 1 }
 
+-- n states more were looked at
 abbrev pub more_looks : ℕ → Counts → Counts
 more_looks n counts = record counts { looks = counts.looks + n }
 

@@ -20,7 +20,7 @@ pub record Writing : Type 0 where
 abbrev pub idle : ℕ → ℕ → ℕ
 idle moved room = if moved == 0 && nat_lt 0 room then 1 else 0
 
--- n bytes came and stand at the front of `into`. Where `ends` is true, none comes into a slice that isn't empty
+-- n bytes came and are the first ones of `into`. Where `ends` is true, a slice that isn't empty gets none
 -- only at the end of the bytes
 pub record Took (ends : Bool) (old new : Reading) (into : List ℕ) (n : ℕ) : Type 0 where
   pub within : n ≤ length into

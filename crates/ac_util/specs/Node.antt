@@ -28,7 +28,7 @@ is_leftmost LeftmostLongest = true
 abbrev pub begins_with_pattern : List (List ℕ) → List ℕ → Bool
 begins_with_pattern patterns w = list_any (λ p. starts_with nat_eq w p) patterns
 
--- whether a pattern takes part: under LeftmostFirst not if an earlier one is a front of it or equals it, since
+-- whether a pattern takes part: under LeftmostFirst not if an earlier one is a prefix of it or equals it, since
 -- it is then never picked
 abbrev pub participates : MatchKind → List (List ℕ) → ℕ → Bool
 participates Standard patterns number = true
@@ -40,17 +40,18 @@ participates LeftmostLongest patterns number = true
 abbrev pub participants : MatchKind → List (List ℕ) → List ℕ
 participants kind patterns = filter (participates kind patterns) (range_with_len 0 (length patterns))
 
+-- whether a string has no bytes
 abbrev pub is_empty : List ℕ → Bool
 is_empty [] = true
 is_empty (b ∷ u) = false
 
--- whether the string leads to a node: it is empty, or a front of a pattern that takes part
+-- whether the string leads to a node: it is empty, or a prefix of a pattern that takes part
 abbrev pub is_node : MatchKind → List (List ℕ) → List ℕ → Bool
 is_node kind patterns u =
     is_empty u
     || list_any (λ number. starts_with nat_eq (pattern_of patterns number) u) (participants kind patterns)
 
--- the string itself and all that is left of it when bytes are dropped at its front, down to the empty string
+-- the suffixes of a string: the string itself, and shorter and shorter ones down to the empty string
 abbrev pub suffixes : List ℕ → List (List ℕ)
 suffixes [] = [] ∷ []
 suffixes (b ∷ u) = (b ∷ u) ∷ suffixes u
@@ -61,12 +62,12 @@ least_start patterns [] = if begins_with_pattern patterns [] then Some 0 else No
 least_start patterns (b ∷ u) =
     if begins_with_pattern patterns (b ∷ u) then Some 0 else option_map suc (least_start patterns u)
 
--- where a match may start at the latest once u was read: under a leftmost kind where the first occurrence
--- starts
+-- the last place at which a match may start once u was read: under a leftmost kind where the first occurrence
+-- starts; None where a match may start anywhere
 abbrev pub last_start : MatchKind → List (List ℕ) → List ℕ → Option ℕ
 last_start kind patterns u = if is_leftmost kind then least_start patterns u else None
 
--- those of a string's suffixes that start no later than there
+-- those of a string's suffixes, longest first, that start no later than a place, or all of them without one
 abbrev pub starting_by : Option ℕ → List (List ℕ) → List (List ℕ)
 starting_by None ws = ws
 starting_by (Some c) ws = take (suc c) ws
@@ -79,8 +80,8 @@ open_suffixes kind patterns u = starting_by (last_start kind patterns u) (suffix
 abbrev pub first_node : MatchKind → List (List ℕ) → List (List ℕ) → Node
 first_node kind patterns ws = find (is_node kind patterns) ws
 
--- where an automaton stands that has read w: at the longest suffix that is a node and doesn't start too late,
--- or if anchored at w itself
+-- where an automaton stands that has read w: at the longest suffix that is a node and doesn't start too late;
+-- if anchored at w itself where that is a node; else at the dead node
 abbrev pub reached : MatchKind → List (List ℕ) → Anchored → List ℕ → Node
 reached kind patterns No w = first_node kind patterns (open_suffixes kind patterns w)
 reached kind patterns Yes w = first_node kind patterns (w ∷ [])

@@ -7,5 +7,6 @@ pub record Occurrence : Type 0 where
   pub start : ℕ
   pub end : ℕ
 
+-- the occurrence of a pattern from a start to an end
 abbrev pub occurrence : ℕ → ℕ → ℕ → Occurrence
 occurrence pattern start end = record { pattern = pattern; start = start; end = end }

@@ -2,7 +2,8 @@
 use Rattle.std.specs.Prelude.{ℕ, ◌<◌, ◌≤◌}
 use Rattle.ac_util.specs.Occurrence.{Occurrence}
 
--- m can be exchanged for a text: it lies within so many bytes, and its pattern is one of so many
+-- m can be exchanged for a text: it lies within a haystack of so many bytes, and its pattern has one of so many
+-- texts
 pub record IsReplaceable (bytes texts : ℕ) (m : Occurrence) : Type 0 where
   pub numbered : m.pattern < texts
   pub ordered : m.start ≤ m.end

@@ -24,13 +24,15 @@ begins_with fold b (c ∷ p) = same_byte fold b c
 unfoldable pub first_bytes : Bool → List (List ℕ) → List ℕ
 first_bytes fold patterns = filter (λ b. list_any (begins_with fold b) patterns) (range_with_len 0 256)
 
--- how many patterns, and first bytes of theirs, a prefilter looks for at most
+-- how many patterns a search may have at most to skip by their first bytes
 abbrev pub MOST_PATTERNS : ℕ
 MOST_PATTERNS = 100
 
+-- how many first bytes they may have at most
 abbrev pub MOST_BYTES : ℕ
 MOST_BYTES = 3
 
+-- whether a pattern has no bytes
 abbrev pub is_empty : List ℕ → Bool
 is_empty [] = true
 is_empty (b ∷ p) = false
@@ -41,8 +43,8 @@ skip_by_bytes fold patterns =
     if nat_le (length patterns) MOST_PATTERNS && nat_le (length (first_bytes fold patterns)) MOST_BYTES
     then Some (FirstOf (first_bytes fold patterns)) else None
 
--- how a search for patterns that aren't empty skips: for a single one by itself where case counts, else by their
--- first bytes
+-- how a search for patterns that aren't empty skips: for a single one by itself where case counts, else by
+-- their first bytes
 abbrev pub skip_among : Bool → List (List ℕ) → Option Skip
 skip_among fold [] = None
 skip_among false (p ∷ []) = Some (Needle p)
@@ -53,7 +55,7 @@ skip_among fold (p ∷ ps) = skip_by_bytes fold (p ∷ ps)
 abbrev pub skip_for : Bool → Bool → List (List ℕ) → Option Skip
 skip_for on fold patterns = if on && not (list_any is_empty patterns) then skip_among fold patterns else None
 
--- how a prefilter skips. There is none yet
+-- how a prefilter skips; there is no prefilter yet
 abbrev pub skip_of : Prefilter → Skip
 skip_of filter = elim filter [ ]
 

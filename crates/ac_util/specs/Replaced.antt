@@ -9,7 +9,7 @@ replaced_from haystack texts place (m ∷ ms) =
     slice_range haystack place m.start ++ slice_index_or texts m.pattern []
     ++ replaced_from haystack texts m.end ms
 
--- the whole haystack so
+-- the whole haystack, with each match exchanged for the text of its pattern
 abbrev pub replaced : List ℕ → List (List ℕ) → List Occurrence → List ℕ
 replaced haystack texts ms = replaced_from haystack texts 0 ms
 

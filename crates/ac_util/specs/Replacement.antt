@@ -29,9 +29,10 @@ module _ (F D : Type 0) (appends : List ℕ → D → D → Type 0)
       ⊎ ((answer : Bool) × (f' : F) × (d' : D) × Turn place m f d answer f' d'
       × MatchBool answer (ReplacementSoFar m.end ms f' d' g e) ((g ≡ f') × (e ≡ d')))
 
--- appending to a list of bytes, and a closure that appends the text of the match's pattern and answers true
+-- appending to a list of bytes
 abbrev pub Appends : List ℕ → List ℕ → List ℕ → Type 0
 Appends bytes d e = e ≡ d ++ bytes
 
+-- a closure that appends the text of the match's pattern and answers true
 abbrev pub WritesText : List (List ℕ) → ℕ → Occurrence → List ℕ → List ℕ → Bool → ℕ → List ℕ → Type 0
 WritesText texts f m slice d answer g e = (answer ≡ true) × (e ≡ d ++ slice_index_or texts m.pattern [])

@@ -6,7 +6,7 @@ use Rattle.std.specs.Char.{to_ascii_lowercase}
 abbrev pub plain_byte : Bool → ℕ → ℕ
 plain_byte fold b = if fold then to_ascii_lowercase b else b
 
--- each byte so
+-- each byte of a string as a plain byte
 abbrev pub plain : Bool → List ℕ → List ℕ
 plain fold bytes = map (plain_byte fold) bytes
 
@@ -28,6 +28,6 @@ AreOneLetter a b = IsCapitalOf a b ⊎ IsCapitalOf b a
 abbrev pub IsSame : Bool → List ℕ → List ℕ → Type 0
 IsSame fold s t = plain fold s ≡ plain fold t
 
--- the same as a test
+-- `IsSame` as a test
 abbrev pub same_string : Bool → List ℕ → List ℕ → Bool
 same_string fold s t = bytes_eq (plain fold s) (plain fold t)

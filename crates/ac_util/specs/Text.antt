@@ -36,6 +36,6 @@ ending q number = occurrence number (q.high - length (pattern_of q.patterns numb
 abbrev pub cut : Search → Search
 cut q = record q { haystack = slice_range q.haystack q.low q.high; low = 0; high = q.high - q.low }
 
--- an occurrence whose places are told from `low` on, told from the haystack's front
+-- an occurrence whose places are counted from `low` on, with places that are counted from the haystack's start
 abbrev pub outward : ℕ → Occurrence → Occurrence
 outward low m = occurrence m.pattern (low + m.start) (low + m.end)

@@ -13,8 +13,8 @@ use std::snapshot::Snapshot;
 
 /// A reader of bytes.
 ///
-/// Contracts see the bytes that it has left, where it tells them, and how often a call failed or gave nothing.
-/// These counts only rise, and have no greatest number.
+/// Contracts see the bytes that it has left, where it tells them, how often a call failed, and how often one
+/// gave no byte though there was room. These counts only rise, and have no greatest number.
 ///
 /// A read that gives no byte, though there was room, is the end for whoever reads. Where `empty_means_end` is
 /// true the bytes that the reader tells are at their end then too; else it may have more to give later.
@@ -23,24 +23,25 @@ pub trait Source {
 
     ghost empty_means_end: { Bool };
 
-    /// Reads bytes to the front of `into` and returns how many came.
+    /// Reads bytes into `into`, from its start on, and returns how many came.
     ///
     /// # Errors
-    /// Its own. A call that fails leaves the bytes where they were, and `into` holds nothing of use.
+    /// Those of the reader. A call that fails takes no bytes from the reader, and may leave anything in `into`.
     fn read_some(&mut self, into: &mut [u8]) -> io::Result<usize>
         ensures { Reads empty_means_end (told self.old) (told self.new) result into.new };
 }
 
 /// A writer of bytes.
 ///
-/// Contracts see the bytes that it holds, where it tells them, and how often a call failed or took nothing.
+/// Contracts see the bytes that were written to it, where it tells them, how often a call failed, and how
+/// often one took no byte of a piece that isn't empty.
 pub trait Sink {
     ghost told: { Self → Writing };
 
-    /// Writes bytes from the front of `piece` and returns how many it took. It may take none.
+    /// Writes bytes of `piece`, from its start on, and returns how many it took. It may take none.
     ///
     /// # Errors
-    /// Its own. A call that fails has taken nothing.
+    /// Those of the writer. A call that fails has taken nothing.
     fn write_some(&mut self, piece: &[u8]) -> io::Result<usize>
         ensures { Writes (told self.old) (told self.new) result piece.now };
 }
@@ -84,7 +85,7 @@ impl<'a> Source for Bytes<'a> {
 
     ghost empty_means_end = { true };
 
-    // Never fails, and gives as many bytes as there are and as fit.
+    // Never fails, and gives all bytes that are left, or as many as fit.
     fn read_some(&mut self, into: &mut [u8]) -> io::Result<usize>
         ensures reads { Reads true self.old self.new result into.new }
         ensures full { GivesAll self.old.left result into.old }
@@ -100,12 +101,13 @@ impl<'a> Source for Bytes<'a> {
     }
 }
 
-/// Reads from any `Read`, and tells the bytes that it has left where it tells them. A reader that is lent to it
-/// stays lent until this is dropped.
+/// Reads from any `Read`. Contracts see the bytes that are left where the `Read` tells them. One that is lent
+/// by `&mut` stays lent until this is dropped.
 #[derive(Drop)]
 pub struct FromRead<R: Read + Drop> {
     inner: R,
-    // The reader as the last read that didn't fail left it. A failed read leaves the bytes that it tells.
+    // The reader as it was after the last read that succeeded. A failed read changes none of the bytes that it
+    // tells.
     known: Snapshot<R>,
     failed: Tally,
     empties: Tally,
@@ -164,7 +166,7 @@ impl<R: Read + Drop> Source for FromRead<R> {
     }
 }
 
-/// Holds what is written to it, on an allocator.
+/// A writer that keeps all that is written to it in memory.
 #[derive(Drop)]
 pub struct Written<A: Allocator> {
     bytes: Vec<u8, A>,
@@ -182,7 +184,7 @@ impl<A: Allocator> Model for Written<A> {
 }
 
 impl<A: Allocator> Written<A> {
-    /// Returns a writer that holds nothing yet. This is never refused.
+    /// Returns a writer that holds nothing yet. It takes no memory.
     pub fn new(alloc: A) -> Written<A>
         ensures { result ≡ record { written = Some []; failed = 0; idles = 0 } }
     {
@@ -204,7 +206,7 @@ impl<A: Allocator> Written<A> {
 impl<A: Allocator> Sink for Written<A> {
     ghost told = { λ w. w };
 
-    // Fails only where growth is refused, and else takes all.
+    // Fails only where a request for memory is refused, and else takes all.
     fn write_some(&mut self, piece: &[u8]) -> io::Result<usize>
         ensures writes { Writes self.old self.new result piece.now }
         ensures whole { IfOk result (λ n. n ≡ length piece.now) }
@@ -220,12 +222,13 @@ impl<A: Allocator> Sink for Written<A> {
     }
 }
 
-/// Writes to any `Write`, and tells the bytes that it holds where it tells them. A writer that is lent to it
-/// stays lent until this is dropped.
+/// Writes to any `Write`. Contracts see the bytes that were written where the `Write` tells them. One that is
+/// lent by `&mut` stays lent until this is dropped.
 #[derive(Drop)]
 pub struct IntoWrite<W: Write + Drop> {
     inner: W,
-    // The writer as the last write that didn't fail left it. A failed write leaves the bytes that it tells.
+    // The writer as it was after the last write that succeeded. A failed write changes none of the bytes that
+    // it tells.
     known: Snapshot<W>,
     failed: Tally,
     idles: Tally,

@@ -6,7 +6,7 @@ use crate::primitives::PatternID;
 use crate::search::MatchKind;
 use std::alloc::{AllocError, AllocFailed};
 
-/// Why no automaton was built. The limits are tested in the order of the cases below `Memory`.
+/// Why no automaton was built. The limits are tested in the order of the cases that follow `Memory`.
 #[derive(Clone, Copy, PartialEq, Eq, Debug)]
 pub enum BuildError {
     /// A request for memory was refused.
@@ -50,7 +50,7 @@ impl<T: Drop> From<AllocFailed<T>> for BuildError {
     }
 }
 
-/// A search that the configuration of its searcher and of its input rules out.
+/// Why a search is refused: the settings of its searcher, or the anchoring of its input, rule it out.
 ///
 /// The haystack decides nothing: a refused call has read nothing, written nothing and changed nothing.
 #[derive(Clone, Copy, PartialEq, Eq, Debug)]
@@ -59,16 +59,16 @@ pub enum MatchError {
     InvalidInputAnchored,
     /// The search is unanchored, and the searcher serves anchored searches alone.
     InvalidInputUnanchored,
-    /// An overlapping search wants `MatchKind::Standard`.
+    /// The search is overlapping, which needs `MatchKind::Standard`.
     UnsupportedOverlapping {
         /// The match kind of the searcher.
         got: MatchKind,
     },
-    /// A stream search wants `MatchKind::Standard`.
+    /// The search is that of a stream, which needs `MatchKind::Standard`.
     UnsupportedStream {
         /// The match kind of the searcher.
         got: MatchKind,
     },
-    /// A stream search wants patterns that aren't empty.
+    /// The search is that of a stream, and some pattern is empty.
     UnsupportedEmpty,
 }

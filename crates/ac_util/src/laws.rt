@@ -1,7 +1,7 @@
-//! Laws of the definitions. Each is the contract of a function that calls nothing and assumes nothing.
+//! Laws of the definitions. Each is the contract of a function that does nothing and has no condition.
 //!
-//! `answers` are for users of a search, `layers` for whoever writes an engine or a search, and `values` tell of
-//! the plain types.
+//! `answers` are for users of a search, `layers` for whoever writes an engine or a search, and `values` are
+//! laws of the plain types.
 pub mod answers;
 pub mod layers;
 pub mod values;

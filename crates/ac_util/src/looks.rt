@@ -10,8 +10,9 @@ use std::snapshot::Snapshot;
 
 /// How many bytes a search has read, how many states it has looked at, and how often it has called a prefilter.
 ///
-/// Contracts alone see these counts: at run time they take no bytes and no work. There is no way to copy them,
-/// and no call takes any back: what a contract says of them holds of all that was counted since they were made.
+/// Contracts alone see these counts: at run time they take no bytes and no work. They cannot be copied, and
+/// no call makes one of them less: what a contract says of them holds of all that was counted since they were
+/// made.
 #[derive(Drop)]
 pub struct Looks {
     reads: Tally,

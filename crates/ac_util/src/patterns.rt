@@ -95,7 +95,7 @@ impl<A: Allocator + Clone> Patterns<A> {
     }
 }
 
-/// Returns the byte, or the small letter where case is ignored and it is a capital one.
+/// Returns the byte, or its small letter where case is ignored and it is a capital ASCII letter.
 #[inline]
 pub fn plain_byte(fold: bool, byte: u8) -> u8
     ensures { result ≡ plain_byte fold byte }
@@ -120,7 +120,10 @@ fn piece<'a>(bytes: &'a [u8], bounds: &[usize], number: usize) -> &'a [u8]
 }
 
 /// Tests that each pattern can have a number and that none is too long. A pattern is a slice of bytes or a
-/// text. It asks for no memory, so whoever needs some before the patterns are stored tests this first.
+/// text.
+///
+/// This takes no memory. A caller that needs memory before it stores the patterns tests them first, and so
+/// tells a passed limit even where there is no memory.
 ///
 /// # Errors
 /// `PatternIdOverflow` or `PatternTooLong`, whichever limit is passed first.

@@ -1,6 +1,6 @@
 //! A plain and slow search, whose contracts are the definitions themselves.
 //!
-//! Every faster search is held against it.
+//! Tests compare every faster search with it.
 ghost use Rattle.std.specs.Prelude.{◌≡◌, ◌↔◌, ◌+◌, ◌≤◌, ◌<◌, IsTrue, length};
 ghost use Rattle.ac_util.specs.Borrowed.{bytes_of};
 ghost use Rattle.ac_util.specs.Occurrence.{occurrence};
@@ -129,7 +129,7 @@ pub fn find(kind: MatchKind, query: &Query) -> Option<Match>
     for number in 0..query.patterns.len() {
         let pattern = query.patterns[number];
         for start in query.low..query.high + 1 {
-            // Where the sum doesn't fit, the pattern has no room, and `occurs` says so.
+            // A sum that doesn't fit lies past the span's end, and then `occurs` answers no.
             let end = start.saturating_add(pattern.len());
             if query.occurs(number, start, end) {
                 best = Some(better(kind, Match::must(number, start..end), best));

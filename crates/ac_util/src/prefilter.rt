@@ -1,16 +1,16 @@
 //! Prefilters, which skip to where a match may start.
 use crate::search::Match;
 
-/// How a search skips ahead. There is no way to skip yet, so there is no value of this type.
+/// A way to skip to where a match may start. There is none yet, so this type has no value.
 pub enum Prefilter {}
 
-/// What a prefilter knows of a span.
+/// What a prefilter tells of a span.
 #[derive(Clone, Copy, PartialEq, Eq, Debug)]
 pub enum Candidate {
     /// No pattern occurs in it.
     None,
-    /// The match that any search of it picks.
+    /// The match that a search of it picks, whatever its match kind.
     Match(Match),
-    /// The first place at which a match may start.
+    /// A place of it before which no match starts.
     PossibleStart(usize),
 }

@@ -55,7 +55,7 @@ impl<K> Model for SmallIndex<K> {
     ghost inverse = { λ n. record { number = n; kind = record {} } };
 }
 
-// Contracts don't see the value of a constant of a generic `impl`, so each kind has its own.
+// Contracts don't see the value of a constant of a generic `impl`, so each kind has constants of its own.
 impl SmallIndex {
     /// The greatest number.
     pub const MAX: usize = GREATEST;

@@ -7,6 +7,7 @@ use std::marker::Model;
 /// A count without a greatest number. Contracts read it as `number`; at run time it takes no bytes and no work.
 #[derive(Drop)]
 pub struct Tally {
+    /// Private, so that a count is made in this crate alone.
     seal: (),
     pub ghost number: { ℕ },
 }
@@ -15,7 +16,7 @@ impl Model for Tally {
     ghost also_owns = { λ _. ftrue };
 }
 
-// A struct with `also_owns` is neither by itself. This one owns nothing.
+// A struct with `also_owns` is neither `Send` nor `Sync` by itself. This one owns nothing.
 unsafe impl Send for Tally {}
 
 unsafe impl Sync for Tally {}

@@ -1,4 +1,4 @@
-//! For users: what a search answers, in other words than those of the definitions.
+//! For users: what follows from the definitions of what a search answers.
 ghost use Rattle.std.specs.Prelude.{◌≡◌, ℕ, ◌+◌, ◌-◌, ◌<◌, ◌≤◌, ◌++◌, ◌↔◌, ◌⊎◌, nat_le, Bool, true, false};
 ghost use Rattle.std.specs.Prelude.{List, [], ◌∷◌, All, Contains, AllPairs, length, filter, slice_get};
 ghost use Rattle.std.specs.Prelude.{slice_index, Option, None, Some};
@@ -29,7 +29,8 @@ pub fn sameness_is_by_letter()
     ensures counted { (s t : List ℕ) → IsSame false s t ↔ (s ≡ t) }
 {}
 
-/// The tests of the definitions decide the facts of the same names.
+/// The computed tests answer yes exactly where their facts hold: of sameness, occurrence and character
+/// boundaries.
 pub fn tests_decide()
     ensures strings { (fold : Bool) (s t : List ℕ)
         → (same_string fold s t ≡ true) ↔ IsSame fold s t }
@@ -44,7 +45,8 @@ pub fn listing_is_exact()
     ensures in_order { (q : Search) → AllPairs IsBefore (all q) }
 {}
 
-/// Bytes outside the span never count: what occurs in it is what occurs in the haystack cut to it.
+/// Bytes outside the span never count: what occurs in it is what occurs in its bytes alone. In a span without
+/// bytes only empty patterns occur, and in one that starts past its end nothing does.
 pub fn only_the_span_counts()
     ensures cut { (q : Search) (m : Occurrence) → q.low ≤ q.high
         → Occurs (cut q) m ↔ Occurs q (outward q.low m) }

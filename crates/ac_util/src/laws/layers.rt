@@ -21,7 +21,8 @@ pub fn steps_follow()
         ≡ reached kind patterns anchored (w ++ b ∷ []) }
 {}
 
-/// An unanchored step goes by the node's own transition, or else as the step from its failure target.
+/// From a node that isn't empty an unanchored step goes by the node's own transition, or else as the step
+/// from its failure target. The empty node has no failure target, and nothing is said of it here.
 pub fn failures_step_alike()
     ensures own { (kind : MatchKind) (patterns : List (List ℕ)) (x : ℕ) (u : List ℕ) (b : ℕ)
         → is_node kind patterns (x ∷ u ++ b ∷ []) ≡ true
@@ -39,8 +40,9 @@ pub fn looks_are_paid()
         → looks kind patterns anchored u b + depth (step kind patterns anchored u b) ≤ depth u + 2 }
 {}
 
-/// The matches of the node reached are those of all that was read. Those of a node are the patterns that equal
-/// it and then those of its failure target. Under a leftmost kind they start where an occurrence first starts.
+/// The matches of the node reached are those of all that was read. Those of a node that isn't empty are the
+/// patterns that equal it and then those of its failure target. Under a leftmost kind they are the patterns
+/// that start where the first occurrence does.
 pub fn matches_follow()
     ensures reached { (kind : MatchKind) (patterns : List (List ℕ)) (anchored : Anchored) (w : List ℕ)
         → matches kind patterns anchored (reached kind patterns anchored w)

@@ -9,12 +9,12 @@ use super::{Query, walk};
 use crate::search::{Match, MatchKind};
 use std::alloc::{AllocError, Global};
 
-/// Returns the haystack with each match exchanged for the text that its pattern's number names.
+/// Returns the haystack with each match exchanged for the text of its pattern.
 ///
-/// The matches lie in the haystack in order, none overlaps another, and each number has a text.
+/// The matches have to lie in the haystack, in order and apart, and each of their patterns has to have a text.
 ///
 /// # Errors
-/// Where memory runs out.
+/// `AllocError` where a request for memory is refused.
 pub fn replaced(
     alloc: Global,
     haystack: &[u8],
@@ -39,10 +39,10 @@ pub fn replaced(
 
 /// Returns the whole haystack with each match of a walk exchanged for the text of its pattern.
 ///
-/// There is a text for each pattern. The walk is that of the span; what lies outside it stays.
+/// There has to be a text for each pattern. The walk is that of the span; what lies outside it stays as it is.
 ///
 /// # Errors
-/// Where memory runs out.
+/// `AllocError` where a request for memory is refused.
 pub fn replace_walk(
     alloc: Global,
     kind: MatchKind,

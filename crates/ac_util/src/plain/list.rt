@@ -10,7 +10,7 @@ use std::alloc::{AllocError, Global};
 /// Returns all occurrences: by end, then by start, then by pattern number.
 ///
 /// # Errors
-/// Where memory runs out.
+/// `AllocError` where a request for memory is refused.
 pub fn listing(alloc: Global, query: &Query) -> Result<Vec<Match>, AllocError>
     ensures { IfOk result (λ ms. ms.items ≡ all query.now) }
 {

@@ -25,7 +25,7 @@ pub fn next_match(kind: MatchKind, query: &Query, last: Option<usize>) -> Option
 /// Each is looked for from the end of the one before it, so none overlaps another.
 ///
 /// # Errors
-/// Where memory runs out.
+/// `AllocError` where a request for memory is refused.
 pub fn walk(alloc: Global, kind: MatchKind, query: &Query) -> Result<Vec<Match>, AllocError>
     ensures { IfOk result (λ ms. ms.items ≡ walk kind query.now) }
 {

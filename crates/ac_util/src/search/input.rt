@@ -42,7 +42,7 @@ impl<'h> Input<'h> {
         }
     }
 
-    /// Returns the same for the bytes of a text.
+    /// Returns an input that searches all of a text. Places count its bytes, not its characters.
     #[inline]
     pub fn of_text(text: &'h str) -> Input<'h>
         ensures value { asked result ≡ asked_whole text.now }
