@@ -39,7 +39,7 @@ start_refusal Unanchored Yes = Some InvalidInputAnchored
 start_refusal AnchoredAlone No = Some InvalidInputUnanchored
 start_refusal AnchoredAlone Yes = None
 
--- the call wants the match kind Standard
+-- the match kind isn't Standard, which an overlapping search and a stream need
 abbrev pub kind_refusal : MatchKind → Call → Option MatchError
 kind_refusal Standard call = None
 kind_refusal kind (Find anchored) = None
@@ -48,12 +48,12 @@ kind_refusal kind (OverlappingByState anchored) = Some (UnsupportedOverlapping k
 kind_refusal kind (OverlappingIterator anchored) = Some (UnsupportedOverlapping kind)
 kind_refusal kind Stream = Some (UnsupportedStream kind)
 
--- the overlapping iterator has no anchored form
+-- the search is anchored, and the overlapping iterator has no anchored form
 abbrev pub form_refusal : Call → Option MatchError
 form_refusal (OverlappingIterator Yes) = Some InvalidInputAnchored
 form_refusal call = None
 
--- a stream is searched for no empty pattern
+-- some pattern is empty, and a stream is searched for none such
 abbrev pub empty_refusal : Call → Bool → Option MatchError
 empty_refusal Stream true = Some UnsupportedEmpty
 empty_refusal call has_empty = None

@@ -65,7 +65,7 @@ pub fn clones_take_no_memory()
     ensures numbers { (a : TooLarge) → ⟦<TooLarge as Clone>⟧.is_infallible a }
 {}
 
-/// What a search is asked and what it answers are equal where all of their parts are.
+/// What a search is asked, what it answers, and what a prefilter tells are equal where all of their parts are.
 pub fn values_compare_by_their_fields()
     ensures matches { (a b : Occurrence)
         → (⟦<Match as PartialEq>⟧.eq a b ≡ true) ↔ (a ≡ b) }
