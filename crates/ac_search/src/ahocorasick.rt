@@ -99,7 +99,8 @@ impl<A: Allocator> AhoCorasick<A> {
 
     /// Returns whether some pattern occurs in the span of the input, or if it is anchored at its start.
     ///
-    /// The searcher has to support the input's anchoring.
+    /// The searcher has to support the input's anchoring. `laws::finds_if_something_occurs` says that this is
+    /// whether `find` answers a match.
     #[inline]
     pub fn is_match(&self, input: Input<'_>) -> bool
         requires supported { find_refusal self.now.built (asked input) ≡ None }
@@ -112,7 +113,14 @@ impl<A: Allocator> AhoCorasick<A> {
     /// Returns the match that the match kind picks of all that occur in the span of the input, or with
     /// `earliest` the one that `MatchKind::Standard` picks.
     ///
-    /// The searcher has to support the input's anchoring.
+    /// The searcher has to support the input's anchoring. `laws::answers_lie_inside` says that the match lies in
+    /// the span, so that the haystack can be sliced by it, and `laws::answers_cut_no_character` the same of a
+    /// text; `laws::pick_comes_first` says that nothing else can be picked.
+    ///
+    /// ```
+    /// // a searcher over "append", "appendage" and "app", by `MatchKind::LeftmostLongest`
+    /// searcher.find(Input::new(b"the appendage")) // pattern 1, 4..13
+    /// ```
     #[inline]
     pub fn find(&self, input: Input<'_>) -> Option<Match>
         requires supported { find_refusal self.now.built (asked input) ≡ None }
@@ -127,7 +135,17 @@ impl<A: Allocator> AhoCorasick<A> {
     /// Returns an iterator over the matches of the input that don't overlap, each picked from where the one
     /// before it ended.
     ///
-    /// The searcher has to support the input's anchoring.
+    /// The searcher has to support the input's anchoring. `laws::answers_lie_inside` says that all matches lie
+    /// in the span, and how many there are at most, and `laws::answers_cut_no_character` that those of a text
+    /// can slice it: call one before a loop over the matches. `laws::walk_is_in_order` says that they don't
+    /// overlap.
+    ///
+    /// ```
+    /// // a searcher over "append", "appendage" and "app", by `MatchKind::LeftmostFirst`
+    /// for found in searcher.find_iter(Input::new(b"append the app to the appendage")) {
+    ///     // pattern 0, 0..6; pattern 2, 11..14; pattern 0, 22..28
+    /// }
+    /// ```
     #[inline]
     pub fn find_iter<'a, 'h>(&'a self, input: Input<'h>) -> FindIter<'a, 'h, A>
         requires supported { find_refusal self.now.built (asked input) ≡ None }
