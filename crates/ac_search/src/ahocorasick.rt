@@ -11,7 +11,7 @@ ghost use Rattle.ac_util.specs.Sizes.{longest_len, shortest_len};
 ghost use Rattle.ac_automaton.specs.Builds.{Refuses};
 ghost use Rattle.ac_automaton.specs.Iterators.{GoesOn, begun};
 ghost use Rattle.ac_search.specs.Engines.{Supports, searcher_of};
-ghost use Rattle.ac_search.specs.Searchers.{IsBuilt, engine_settings, looks_of, rules_for, usual_settings};
+ghost use Rattle.ac_search.specs.Searchers.{IsBuilt, engine_settings, looks_allowed, rules_for, usual_settings};
 
 use ac_util::error::{BuildError, MatchError};
 use ac_util::search::{Anchored, Input, Match, MatchKind, StartKind};
@@ -149,7 +149,7 @@ impl<A: Allocator> AhoCorasick<A> {
     #[inline]
     pub fn find_iter<'a, 'h>(&'a self, input: Input<'h>) -> FindIter<'a, 'h, A>
         requires supported { find_refusal self.now.built (asked input) ≡ None }
-        ensures begun { result ≡ begun (looks_of self.now.kind) self.now.built (asked input.entry) }
+        ensures begun { result ≡ begun (looks_allowed self.now.kind) self.now.built (asked input.entry) }
         ensures runs { YieldsInOrder GoesOn (λ w. w.rest) }
     {
         let Ok(matches) = self.try_find_iter(input) else {
@@ -182,7 +182,7 @@ impl<A: Allocator> AhoCorasick<A> {
         input: Input<'h>,
     ) -> Result<FindIter<'a, 'h, A>, MatchError>
         ensures begun { AnswersUnless (find_refusal self.now.built (asked input.entry))
-            (begun (looks_of self.now.kind) self.now.built (asked input.entry)) result }
+            (begun (looks_allowed self.now.kind) self.now.built (asked input.entry)) result }
         ensures runs { YieldsInOrder GoesOn (λ w. w.rest) }
     {
         check_start(self.start_kind(), input.get_anchored())?;
