@@ -141,7 +141,8 @@ pub trait Automaton {
         → stands automaton anchored s u → Lists (built automaton) anchored u (listed automaton s) };
 
     /// Returns the match that the match kind picks of all that occur in the span of an input, or with
-    /// `earliest` the one that `MatchKind::Standard` picks. This ports `Automaton::try_find`.
+    /// `earliest` the one that `MatchKind::Standard` picks. This ports `Automaton::try_find`. The law
+    /// `ac_util::laws::matches_lie_inside` says that the match lies in the span.
     ///
     /// # Errors
     /// `InvalidInputAnchored` or `InvalidInputUnanchored` where the automaton has no start for the input's
@@ -157,7 +158,8 @@ pub trait Automaton {
     }
 
     /// Returns an iterator over the matches of an input that don't overlap, each picked from where the one
-    /// before it ended. This ports `Automaton::try_find_iter`.
+    /// before it ended. This ports `Automaton::try_find_iter`. The laws `matches_lie_inside` and `walk_is_short`
+    /// of `ac_util::laws` say that all matches lie in the span, and how many there are at most.
     ///
     /// # Errors
     /// As `try_find`.

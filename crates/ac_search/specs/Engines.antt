@@ -16,18 +16,18 @@ use Rattle.ac_search.specs.Searchers.{Searcher}
 abbrev pub built_of : {Z : Type 0} → Engine Z → Built
 built_of (Noncontiguous nfa) = nfa.value.built
 
-abbrev pub kind_of : {Z : Type 0} → Engine Z → AhoCorasickKind
-kind_of (Noncontiguous nfa) = NoncontiguousNFA
+abbrev pub name_of : {Z : Type 0} → Engine Z → AhoCorasickKind
+name_of (Noncontiguous nfa) = NoncontiguousNFA
 
 -- an engine with the start kind of its searcher
 abbrev pub searcher_of : {Z : Type 0} → Engine Z → StartKind → Searcher
 searcher_of engine start_kind =
-    record { built = record (built_of engine) { start_kind = start_kind }; kind = kind_of engine }
+    record { built = record (built_of engine) { start_kind = start_kind }; kind = name_of engine }
 
 -- the engine has the starts that its searcher supports: both, or just these
 abbrev pub Supports : {Z : Type 0} → Engine Z → StartKind → Type 0
 Supports engine start_kind =
     ((built_of engine).start_kind ≡ Both) ⊎ ((built_of engine).start_kind ≡ start_kind)
 
-abbrev pub walking_of : {Z : Type 0} → EngineFindIter Z → Walking
-walking_of (ByNoncontiguous matches) = matches
+abbrev pub walking_in : {Z : Type 0} → EngineFindIter Z → Walking
+walking_in (ByNoncontiguous matches) = matches

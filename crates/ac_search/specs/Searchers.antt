@@ -29,8 +29,8 @@ abbrev pub chosen : Option AhoCorasickKind → AhoCorasickKind
 chosen kind = unwrap_or kind NoncontiguousNFA
 
 -- how many looks at states an engine may take for each byte that it reads
-abbrev pub looks_of : AhoCorasickKind → ℕ
-looks_of NoncontiguousNFA = 2
+abbrev pub looks_allowed : AhoCorasickKind → ℕ
+looks_allowed NoncontiguousNFA = 2
 
 -- what the engine brings to a build, and the settings that it is built by
 abbrev pub rules_of : AhoCorasickKind → EngineRules

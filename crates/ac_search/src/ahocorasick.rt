@@ -11,7 +11,7 @@ ghost use Rattle.ac_util.specs.Sizes.{longest_len, shortest_len};
 ghost use Rattle.ac_automaton.specs.Builds.{Refuses};
 ghost use Rattle.ac_automaton.specs.Iterators.{GoesOn, begun};
 ghost use Rattle.ac_search.specs.Engines.{Supports, searcher_of};
-ghost use Rattle.ac_search.specs.Searchers.{IsBuilt, engine_settings, looks_of, rules_for, usual_settings};
+ghost use Rattle.ac_search.specs.Searchers.{IsBuilt, engine_settings, looks_allowed, rules_for, usual_settings};
 
 use ac_util::error::{BuildError, MatchError};
 use ac_util::search::{Anchored, Input, Match, MatchKind, StartKind};
@@ -99,7 +99,8 @@ impl<A: Allocator> AhoCorasick<A> {
 
     /// Returns whether some pattern occurs in the span of the input, or if it is anchored at its start.
     ///
-    /// The searcher has to support the input's anchoring.
+    /// The searcher has to support the input's anchoring. `laws::finds_if_something_occurs` says that this is
+    /// whether `find` answers a match.
     #[inline]
     pub fn is_match(&self, input: Input<'_>) -> bool
         requires supported { find_refusal self.now.built (asked input) ≡ None }
@@ -112,7 +113,14 @@ impl<A: Allocator> AhoCorasick<A> {
     /// Returns the match that the match kind picks of all that occur in the span of the input, or with
     /// `earliest` the one that `MatchKind::Standard` picks.
     ///
-    /// The searcher has to support the input's anchoring.
+    /// The searcher has to support the input's anchoring. `laws::answers_lie_inside` says that the match lies in
+    /// the span, so that the haystack can be sliced by it, and `laws::answers_cut_no_character` the same of a
+    /// text; `laws::pick_comes_first` says that nothing else can be picked.
+    ///
+    /// ```
+    /// // a searcher over "append", "appendage" and "app", by `MatchKind::LeftmostLongest`
+    /// searcher.find(Input::new(b"the appendage")) // pattern 1, 4..13
+    /// ```
     #[inline]
     pub fn find(&self, input: Input<'_>) -> Option<Match>
         requires supported { find_refusal self.now.built (asked input) ≡ None }
@@ -127,11 +135,21 @@ impl<A: Allocator> AhoCorasick<A> {
     /// Returns an iterator over the matches of the input that don't overlap, each picked from where the one
     /// before it ended.
     ///
-    /// The searcher has to support the input's anchoring.
+    /// The searcher has to support the input's anchoring. `laws::answers_lie_inside` says that all matches lie
+    /// in the span, and how many there are at most, and `laws::answers_cut_no_character` that those of a text
+    /// can slice it: call one before a loop over the matches. `laws::walk_is_in_order` says that they don't
+    /// overlap.
+    ///
+    /// ```
+    /// // a searcher over "append", "appendage" and "app", by `MatchKind::LeftmostFirst`
+    /// for found in searcher.find_iter(Input::new(b"append the app to the appendage")) {
+    ///     // pattern 0, 0..6; pattern 2, 11..14; pattern 0, 22..28
+    /// }
+    /// ```
     #[inline]
     pub fn find_iter<'a, 'h>(&'a self, input: Input<'h>) -> FindIter<'a, 'h, A>
         requires supported { find_refusal self.now.built (asked input) ≡ None }
-        ensures begun { result ≡ begun (looks_of self.now.kind) self.now.built (asked input.entry) }
+        ensures begun { result ≡ begun (looks_allowed self.now.kind) self.now.built (asked input.entry) }
         ensures runs { YieldsInOrder GoesOn (λ w. w.rest) }
     {
         let Ok(matches) = self.try_find_iter(input) else {
@@ -164,7 +182,7 @@ impl<A: Allocator> AhoCorasick<A> {
         input: Input<'h>,
     ) -> Result<FindIter<'a, 'h, A>, MatchError>
         ensures begun { AnswersUnless (find_refusal self.now.built (asked input.entry))
-            (begun (looks_of self.now.kind) self.now.built (asked input.entry)) result }
+            (begun (looks_allowed self.now.kind) self.now.built (asked input.entry)) result }
         ensures runs { YieldsInOrder GoesOn (λ w. w.rest) }
     {
         check_start(self.start_kind(), input.get_anchored())?;

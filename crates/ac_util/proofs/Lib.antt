@@ -20,7 +20,7 @@ pub mod Characters
 pub mod PiecesLemmas
 pub mod LimitLemmas
 pub mod NodeCount
-pub mod StepsLemmas
+pub mod ReplacementLemmas
 pub mod SearchLoop
 mod SearchRows
 mod TextRows

@@ -5,8 +5,8 @@ ghost use Rattle.ac_util.specs.Inputs.{asked};
 ghost use Rattle.ac_util.specs.Refusal.{AnswersUnless};
 ghost use Rattle.ac_util.specs.Sizes.{longest_len, shortest_len};
 ghost use Rattle.ac_automaton.specs.Iterators.{GoesOn, begun};
-ghost use Rattle.ac_search.specs.Engines.{built_of, kind_of, walking_of};
-ghost use Rattle.ac_search.specs.Searchers.{looks_of};
+ghost use Rattle.ac_search.specs.Engines.{built_of, name_of, walking_in};
+ghost use Rattle.ac_search.specs.Searchers.{looks_allowed};
 
 use super::choice::AhoCorasickKind;
 use ac_automaton::automaton::{self, Automaton};
@@ -29,7 +29,7 @@ impl<A: Allocator> Engine<A> {
     /// `AllocError` where a request for memory is refused.
     pub(super) fn share(&self) -> Result<Engine<A>, AllocError>
         ensures built { IfOk result (λ engine. built_of engine ≡ built_of self.now) }
-        ensures kind { IfOk result (λ engine. kind_of engine ≡ kind_of self.now) }
+        ensures kind { IfOk result (λ engine. name_of engine ≡ name_of self.now) }
     {
         match self {
             Engine::Noncontiguous(nfa) => Ok(Engine::Noncontiguous(nfa.clone()?)),
@@ -38,7 +38,7 @@ impl<A: Allocator> Engine<A> {
 
     /// Returns the engine's name.
     pub(super) fn kind(&self) -> AhoCorasickKind
-        ensures { result ≡ kind_of self.now }
+        ensures { result ≡ name_of self.now }
     {
         match self {
             Engine::Noncontiguous(_) => AhoCorasickKind::NoncontiguousNFA,
@@ -64,7 +64,7 @@ impl<A: Allocator> Engine<A> {
     ) -> Result<EngineFindIter<'a, 'h, A>, MatchError>
         ensures { MatchResult result
             (λ matches. AnswersUnless (find_refusal (built_of self.now) (asked input.entry))
-            (begun (looks_of (kind_of self.now)) (built_of self.now) (asked input.entry)) (Ok (walking_of matches)))
+            (begun (looks_allowed (name_of self.now)) (built_of self.now) (asked input.entry)) (Ok (walking_in matches)))
             (λ e. find_refusal (built_of self.now) (asked input.entry) ≡ Some e) }
     {
         match self {
@@ -129,7 +129,7 @@ impl<'a, 'h, A: Allocator> EngineFindIter<'a, 'h, A> {
     /// Returns the next match, and moves on.
     #[inline]
     pub(super) fn next(&mut self) -> Option<Match>
-        ensures { GoesOn (walking_of self.old) result (walking_of self.new) }
+        ensures { GoesOn (walking_in self.old) result (walking_in self.new) }
     {
         match self {
             EngineFindIter::Noncontiguous(matches) => matches.next(),

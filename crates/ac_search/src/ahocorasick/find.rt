@@ -20,11 +20,11 @@ pub struct FindIter<'a, 'h, A: Allocator = Global> {
 
 impl<'a, 'h, A: Allocator> Model for FindIter<'a, 'h, A> {
     ghost use Rattle.ac_automaton.specs.Iterators.{Walking};
-    ghost use Rattle.ac_search.specs.Engines.{walking_of};
+    ghost use Rattle.ac_search.specs.Engines.{walking_in};
 
     ghost Value = { Walking };
 
-    ghost view = { λ s. walking_of s.matches };
+    ghost view = { λ s. walking_in s.matches };
 }
 
 impl<'a, 'h, A: Allocator> Iterator for FindIter<'a, 'h, A> {

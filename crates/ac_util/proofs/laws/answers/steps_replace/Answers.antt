@@ -1,4 +1,4 @@
-use Rattle.ac_util.proofs.StepsLemmas.{steps-replaced, steps_so_far-begin}
+use Rattle.ac_util.proofs.ReplacementLemmas.{steps-replaced, steps_so_far-begin}
 use Rattle.ac_util.proofs.laws.answers.steps_replace.Goals as goal
 
 pub returns-clause-whole : goal.returns-clause-whole
