@@ -5,6 +5,7 @@ use Rattle.ac_util.specs.declared.prefilter.Candidate.{Candidate}
 use Rattle.ac_util.specs.declared.prefilter.Candidate.TheVariants.{None as Nothing, Match as Found, PossibleStart}
 use Rattle.ac_util.specs.declared.prefilter.Prefilter.{Prefilter}
 use Rattle.ac_util.specs.declared.search.MatchKind.{MatchKind}
+use Rattle.ac_util.specs.Node.{is_empty}
 use Rattle.ac_util.specs.Occurrence.{Occurrence}
 use Rattle.ac_util.specs.Pick.{pick}
 use Rattle.ac_util.specs.Sameness.{same_byte}
@@ -31,11 +32,6 @@ MOST_PATTERNS = 100
 -- how many first bytes they may have at most
 abbrev pub MOST_BYTES : ℕ
 MOST_BYTES = 3
-
--- whether a pattern has no bytes
-abbrev pub is_empty : List ℕ → Bool
-is_empty [] = true
-is_empty (b ∷ p) = false
 
 -- how a search for some patterns skips by their first bytes, if they and these are few
 abbrev pub skip_by_bytes : Bool → List (List ℕ) → Option Skip
