@@ -75,7 +75,7 @@ module _ (site : Site) {unsorted : List Transition} {queue : List QueuedState}
   range-is : range ≡ s.sorted
   range-is =
       let count : length transitions - length site.transitions ≡ length s.sorted =
-      (let l = ap length split in omega (arith, length-append site.transitions s.sorted)) in
+      (omega (arith, ap length split, length-append site.transitions s.sorted)) in
       ap (λ (n : ℕ). take n (drop (length site.transitions) transitions)) count
       ∙ ap (λ (ts : List Transition). take (length s.sorted) (drop (length site.transitions) ts)) split
       ∙ ap (take (length s.sorted)) (drop-append_seam site.transitions s.sorted)
@@ -113,9 +113,9 @@ module _ (site : Site) {unsorted : List Transition} {queue : List QueuedState}
   transition-node t has =
       let m = h.by_patterns t has in
       let inside : m.at < length site.sorted =
-      (let w = h.waits.range.within in let l = m.high in omega arith) in
+      (omega (arith, h.waits.range.within, m.high)) in
       let front = (h.waits.range.begins m.at inside).0
-      ((let e = site.ends.later in let l = m.low in omega arith), m.high) in
+      ((omega (arith, site.ends.later, m.low)), m.high) in
       pattern-node site.kind site.patterns site.sorted site.ready.order m.at
       (string site ++ plain_byte site.fold t.byte ∷ []) inside
       (starts_with-push (key_at site.sorted m.at) (string site) (plain_byte site.fold t.byte) front
@@ -194,7 +194,7 @@ module _ (site : Site) {unsorted : List Transition} {queue : List QueuedState}
           → site.queued.fail < length site.states
       near some (inl start) =
           absurd (some (ap (λ (n : ℕ). take n (key_at site.sorted site.queued.from)) start.depth))
-      near some (inr later) = h.waits.back (let s = later.number in omega arith)
+      near some (inr later) = h.waits.back (omega (arith, later.number))
 
       first_two : (f : ℕ) → f < START → slice_get (nodes_of site.sorted queue) f ≡ Some None
       first_two zero l = refl
@@ -205,11 +205,14 @@ module _ (site : Site) {unsorted : List Transition} {queue : List QueuedState}
           → IsNext site.kind site.patterns site.sorted site.queue (length site.states) site.queued
           → (site.queued.fail < START) × (slice_get (nodes_of site.sorted queue) site.queued.fail ≡ Some None)
       start none l (inl first) =
-          let f : site.queued.fail < START = (let s = first.number in omega arith)
+          let f : site.queued.fail < START = (omega (arith, first.number))
           in (f, first_two site.queued.fail f)
       start none l (inr later) =
-          absurd (let s = later.number in let d = h.waits.inner (omega arith) in let e = ap length none in
-          let m = long in omega arith)
+          absurd (let s = later.number in let d = h.waits.inner (omega arith) in omega (
+            arith,
+            ap length none,
+            long,
+          ))
 
   -- the state that stands for the (string site)
   abbrev pub whole_state : ℕ → State
@@ -232,7 +235,7 @@ module _ (site : Site) {unsorted : List Transition} {queue : List QueuedState}
     grown = still-grown;
     meant = still-meant;
     represents = record {
-      ordered = (let l = ap length split in omega (arith, length-append site.transitions s.sorted));
+      ordered = omega (arith, ap length split, length-append site.transitions s.sorted);
       listed = omega arith;
       ascending = ascending;
       branches = branches;
@@ -248,22 +251,26 @@ module _ (site : Site) {unsorted : List Transition} {queue : List QueuedState}
       links = links;
       long = sym long;
       outer = λ l. let m = long in outer l site.ready.next;
-      inner = λ l. let m = long in let d = h.waits.inner l in omega arith;
+      inner = λ l. omega (arith, long, h.waits.inner l);
     };
     kept = h.kept;
   }
     where
       as-many : length transitions ≡ length unsorted
       as-many =
-          let l = ap length split in
-          let m = ap length h.split in
-          let n = length_permutation h.added s.sorted sorted-from in
-          omega (arith, length-append site.transitions s.sorted, length-append site.transitions h.added)
+          omega (
+            arith,
+            ap length split,
+            ap length h.split,
+            length_permutation h.added s.sorted sorted-from,
+            length-append site.transitions s.sorted,
+            length-append site.transitions h.added,
+          )
 
       still-grown : IsGrown site.kind site.patterns site.sorted (length site.states + 1) transitions queue
       still-grown = record {
         few = h.grown.few;
-        counted = (let l = as-many in let m = h.grown.counted in omega arith);
+        counted = omega (arith, as-many, h.grown.counted);
         waits = h.grown.waits;
         apart = h.grown.apart;
         parents = h.grown.parents;
@@ -273,4 +280,4 @@ module _ (site : Site) {unsorted : List Transition} {queue : List QueuedState}
           → IsNext site.kind site.patterns site.sorted site.queue (length site.states) site.queued
           → length (string site) ≡ 0
       outer l (inl start) = long ∙ start.depth
-      outer l (inr later) = absurd (let n = later.number in omega arith)
+      outer l (inr later) = absurd (omega (arith, later.number))

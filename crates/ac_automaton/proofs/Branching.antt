@@ -141,7 +141,7 @@ module _ (site : Site) where
     more = omega arith;
     low = omega arith;
     high = site.ends.within;
-    children = λ c q le e. absurd (let l = slice_get_within site.queue c q e in omega arith);
+    children = λ c q le e. absurd (omega (arith, slice_get_within site.queue c q e));
     added = [];
     split = sym (append-nil site.transitions);
     leads = λ t none. absurd none;
@@ -150,8 +150,7 @@ module _ (site : Site) where
     apart = tt;
     smaller = λ more k a b.
         let zero : rank (next_byte k) ≡ 0 = ap rank (site.ends.whole k a b) in
-        let one = rank-some (next_byte site.patterns_end) (site.ends.other more) in
-        omega arith;
+        omega (arith, rank-some (next_byte site.patterns_end) (site.ends.other more));
   }
 
   -- behind the patterns that are the string each pattern has a further byte
@@ -163,7 +162,7 @@ module _ (site : Site) where
       word-length h.waits in
       subst (λ (n : ℕ). byte_at site.sorted n place ≢ None) same
       (longer site.kind site.patterns site.sorted site.ready.order string site.queued.from site.queued.to
-      h.waits.range site.patterns_end site.ends.later (let l = h.low in omega arith)
+      h.waits.range site.patterns_end site.ends.later (omega (arith, h.low))
       (λ k a c. subst (λ (n : ℕ). byte_at site.sorted n k ≡ None) (sym same) (site.ends.whole k a c))
       (λ l. subst (λ (n : ℕ). byte_at site.sorted n site.patterns_end ≢ None) (sym same) (site.ends.other l))
       place
@@ -196,7 +195,7 @@ module _ (site : Site) where
     child-range =
         run-range site.kind site.patterns site.sorted site.ready.order string site.queued.from
         site.queued.to h.waits.range place end b
-        (let l = h.low in let m = site.ends.later in omega arith) run.some run.high
+        (omega (arith, h.low, site.ends.later)) run.some run.high
         (subst (λ (n : ℕ). byte_at site.sorted n place ≡ Some b) (sym long) run.byte)
         (λ k a c. subst (λ (n : ℕ). rank (byte_at site.sorted n k) < suc b) (sym long) (below k a c))
         (λ k a c. subst (λ (n : ℕ). byte_at site.sorted n k ≡ byte_at site.sorted n place) (sym long)
@@ -209,7 +208,7 @@ module _ (site : Site) where
         subst (λ (n : ℕ). suc b < rank (byte_at site.sorted n end)) long
         (next-greater site.kind site.patterns site.sorted site.ready.order string site.queued.from
         site.queued.to h.waits.range place end b
-        (let m = h.low in let n = site.ends.later in omega arith) run.some run.high
+        (omega (arith, h.low, site.ends.later)) run.some run.high
         (subst (λ (n : ℕ). byte_at site.sorted n place ≡ Some b) (sym long) run.byte)
         (λ k a c. subst (λ (n : ℕ). rank (byte_at site.sorted n k) < suc b) (sym long) (below k a c))
         (λ k a c. subst (λ (n : ℕ). byte_at site.sorted n k ≡ byte_at site.sorted n place) (sym long)
@@ -218,17 +217,15 @@ module _ (site : Site) where
         (run.other m)) l)
 
     pushed : length (string ++ b ∷ []) ≡ site.queued.depth + 1
-    pushed = let l = length_push string b in let m = long in omega arith
+    pushed = omega (arith, length_push string b, long)
 
     front : starts_with nat_eq (key_at site.sorted place) (string ++ b ∷ []) ≡ true
-    front = (child-range.begins place (let w = h.waits.range.within in omega arith)).0 (omega arith, run.some)
+    front = (child-range.begins place (omega (arith, h.waits.range.within))).0 (omega arith, run.some)
 
     -- the pattern at the place has the byte
     pub child-deep : site.queued.depth + 1 ≤ length (key_at site.sorted place)
     child-deep =
-        let l = starts_with-length (key_at site.sorted place) (string ++ b ∷ []) front in
-        let m = pushed in
-        omega arith
+        omega (arith, starts_with-length (key_at site.sorted place) (string ++ b ∷ []) front, pushed)
 
     -- what the child's failure target is told by
     pub has-child : HasChild site.kind site.fold site.patterns site.sorted site.states transitions queue
@@ -252,7 +249,7 @@ module _ (site : Site) where
             → IsNext site.kind site.patterns site.sorted site.queue (length site.states) site.queued
             → site.queued.fail < length site.states
         near deep (inl start) = absurd (deep start.depth)
-        near deep (inr later) = h.waits.back (let n = later.number in omega arith)
+        near deep (inr later) = h.waits.back (omega (arith, later.number))
 
     -- the child that waits for them
     module _ (fail : ℕ)
@@ -277,8 +274,7 @@ module _ (site : Site) where
           let parent = site.ready.grown.parents k q there in
           let waits = site.ready.grown.waits k q there in
           let depth : q.depth - 1 ≡ site.queued.depth =
-          (let m = word-length waits in
-          let n = ap length w in let o = pushed in omega arith) in
+          (omega (arith, word-length waits, ap length w, pushed)) in
           let same_string : take (q.depth - 1) (word site.sorted q) ≡ string =
           ap (λ (n : ℕ). take n (word site.sorted q)) (depth ∙ sym long) ∙ ap (take (length string)) w
           ∙ take-append_seam string (b ∷ []) in
@@ -296,7 +292,7 @@ module _ (site : Site) where
             where
               at-start : (j : ℕ) → j < length site.states → START ≤ j → string ≡ []
                   → IsNext site.kind site.patterns site.sorted site.queue (length site.states) site.queued → ⊥
-              at-start j l low none (inl start) = absurd (let n = start.number in omega arith)
+              at-start j l low none (inl start) = absurd (omega (arith, start.number))
               at-start j l low none (inr later) =
                   let s = later.number in
                   let d = site.ready.waits.inner (omega arith) in
@@ -307,7 +303,7 @@ module _ (site : Site) where
               at-inner : (j : ℕ) → j < length site.states → IsInner site.sorted site.queue j (Some string)
                   → IsNext site.kind site.patterns site.sorted site.queue (length site.states) site.queued → ⊥
               at-inner j l inner (inl start) = absurd
-                  (let n = start.number in let m = inner.number in omega arith)
+                  (omega (arith, start.number, inner.number))
               at-inner j l inner (inr later) =
                   let e : word site.sorted inner.queued ≡ string =
                   (let w : Some string ≡ Some (word site.sorted inner.queued) = inner.node in
@@ -328,7 +324,7 @@ module _ (site : Site) where
             let c = h.children k q le e in
             let same_byte : c.byte ≡ b = (push-injective string string c.byte b (sym c.word_is ∙ w)).1 in
             let less =
-            h.smaller run.more c.by.at (let m = site.ends.later in let l = c.by.low in omega arith) c.by.high in
+            h.smaller run.more c.by.at (omega (arith, site.ends.later, c.by.low)) c.by.high in
             let r : rank (next_byte c.by.at) ≡ suc c.byte = ap rank c.by.byte in
             let s : rank (next_byte place) ≡ suc b = ap rank run.byte in
             absurd (omega arith)
@@ -343,7 +339,7 @@ module _ (site : Site) where
           (miss site.kind site.patterns (Some (string ++ b ∷ []))) fails in
           let count = length-map queue (λ (q : QueuedState). Some (word site.sorted q)) in
           record {
-            deep = (let l = pushed in omega arith);
+            deep = omega (arith, pushed);
             range = subst (λ (v : List ℕ). IsRangeOf site.sorted v place end) (sym child-word) child-range;
             fails = nodes-more site.sorted queue (child ∷ []) fail _
                 (fails ∙ ap (λ (v : List ℕ). Some (miss site.kind site.patterns (Some v))) (sym child-word));
@@ -367,7 +363,7 @@ module _ (site : Site) where
 
       parent-string : take (child.depth - 1) (word site.sorted child) ≡ string
       parent-string =
-          let back : site.queued.depth + 1 - 1 ≡ length string = (let l = long in omega arith) in
+          let back : site.queued.depth + 1 - 1 ≡ length string = (omega (arith, long)) in
           ap (λ (n : ℕ). take n (word site.sorted child)) back
           ∙ ap (take (length string)) child-word
           ∙ take-append_seam string (b ∷ [])
@@ -383,11 +379,14 @@ module _ (site : Site) where
           → IsGrown site.kind site.patterns site.sorted (length site.states + 1)
           (transitions ++ more_transitions) (queue ++ child ∷ [])
       still-grown few = record {
-        counted = (let l = h.grown.counted in let m = length-append transitions more_transitions in
-            let o = leading-length site.fold b (FIRST_INNER + length queue) in
-            let n = length_push queue child in
-            omega arith);
-        few = (let n = length_push queue child in omega arith);
+        counted = omega (
+          arith,
+          h.grown.counted,
+          length-append transitions more_transitions,
+          leading-length site.fold b (FIRST_INNER + length queue),
+          length_push queue child,
+        );
+        few = omega (arith, length_push queue child);
         waits = λ k q e. elim (get-added_cases queue child q k e) [
           | inl old ↦
               Waits-more (h.grown.waits k q old) (child ∷ [])
@@ -471,7 +470,7 @@ module _ (site : Site) where
           (λ s t old new e.
           let r = h.by_patterns s old in
           let less =
-          h.smaller run.more r.at (let m = site.ends.later in let l = r.low in omega arith) r.high in
+          h.smaller run.more r.at (omega (arith, site.ends.later, r.low)) r.high in
           let low : rank (next_byte r.at) ≡ suc (plain_byte site.fold s.byte) = ap rank r.byte in
           let high : rank (next_byte place) ≡ suc b = ap rank run.byte in
           let is : plain_byte site.fold s.byte ≡ b =
@@ -484,7 +483,7 @@ module _ (site : Site) where
       step-smaller l k low m =
           let up = greater l in
           elim (cases_lt k place) [
-            | inl before ↦ let r = below k low before in omega arith
+            | inl before ↦ omega (arith, below k low before)
             | inr le ↦ let r : rank (next_byte k) ≡ suc b = ap rank (run.same k le m ∙ run.byte) in omega arith
           ]
 
@@ -501,13 +500,13 @@ module _ (site : Site) where
             (nodes-more site.sorted queue (child ∷ [])) site.states
             (let m = length-map queue (λ (q : QueuedState). Some (word site.sorted q)) in
             let n = length-map (queue ++ child ∷ []) (λ (q : QueuedState). Some (word site.sorted q)) in
-            let o = length_push queue child in omega arith)
+            omega (arith, length_push queue child))
             h.meant;
         waits = Waits-more h.waits (child ∷ []);
         node = nodes-more site.sorted queue (child ∷ []) (length site.states) _ h.node;
         kept = λ k q e. get-append queue (child ∷ []) k q (h.kept k q e);
-        more = (let m = h.more in let n = length_push queue child in omega arith);
-        low = (let m = h.low in omega arith);
+        more = omega (arith, h.more, length_push queue child);
+        low = omega (arith, h.low);
         high = run.high;
         children = λ c q le e. elim (get-added_cases queue child q c e) [
           | inl old ↦

@@ -106,7 +106,7 @@ module _ (g : Meaning) (states : List State) (b : ℕ) (u : Node) (old : Counts)
       → new ≡ more_looks (looks g.kind g.patterns anchored u (plain_byte g.fold b)) old
   counted-last anchored now new s o one more =
       more ∙ ap (more_looks 1) o.counted ∙ more_looks-twice o.taken 1 old
-      ∙ ap (λ (n : ℕ). more_looks n old) (let l = o.looks in omega arith)
+      ∙ ap (λ (n : ℕ). more_looks n old) (omega (arith, o.looks))
 
   -- a byte that leads on leads to one node in any search, with one look
   step-leads : (anchored : Anchored) (v : Node) → own_target g v b ≢ None

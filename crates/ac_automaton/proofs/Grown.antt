@@ -91,7 +91,7 @@ module _ (g : Meaning) (transitions more : List Transition) (split : transitions
       ap (λ (ts : List Transition). transitions_of ts t) split
       ∙ slice_range-append g.transitions more t.transitions t.transitions_end r.ordered r.listed in
       let longer : t.transitions_end ≤ length transitions =
-      (let l = r.listed in let m = ap length split in omega (arith, length-append g.transitions more)) in
+      (omega (arith, r.listed, ap length split, length-append g.transitions more)) in
       record {
         ordered = r.ordered;
         listed = longer;
@@ -124,10 +124,10 @@ module _ (g : Meaning) (transitions more : List Transition) (split : transitions
       → AreStates g states → AreStates (more_meaning g transitions nodes) states
   AreStates-more states longer a = record {
     dead = keeps 0 None a.dead;
-    named = (let l = a.named in omega arith);
+    named = omega (arith, a.named);
     each = λ s v l e.
         let h = slice_get_within nodes s v e in
-        let known = slice_get-get_or g.nodes s None (let m = a.named in omega arith) in
+        let known = slice_get-get_or g.nodes s None (omega (arith, a.named)) in
         let same = get-same nodes s (get_or g.nodes s None) v (keeps s (get_or g.nodes s None) known) e in
         Represents-more s v (state_at states s) (a.each s v l (known ∙ ap (λ (w : Node). Some w) same));
   }
@@ -139,9 +139,8 @@ module _ (g : Meaning) (states : List State) (v : Node) (t : State) where
       → AreStates g (states ++ t ∷ [])
   AreStates-push a node r = record {
     dead = a.dead;
-    named = (let l = slice_get_within g.nodes (length states) v node in let m = length_push states t in
-        omega arith);
-    each = λ s w l e. each s w e (cases_lt s (length states)) (let m = length_push states t in omega arith);
+    named = omega (arith, slice_get_within g.nodes (length states) v node, length_push states t);
+    each = λ s w l e. each s w e (cases_lt s (length states)) (omega (arith, length_push states t));
   }
     where
       each : (s : ℕ) (w : Node) → slice_get g.nodes s ≡ Some w → (s < length states) ⊎ (length states ≤ s)

@@ -119,8 +119,8 @@ leading-apart fold b target = elim (leading-cases fold b target) [
 -- and at most two
 pub leading-length : (fold : Bool) (b target : ℕ) → length (leading fold b target) ≤ 2
 leading-length fold b target = elim (leading-cases fold b target) [
-  | inl both ↦ let l = ap length both.2 in omega arith
-  | inr alone ↦ let l = ap length alone in omega arith
+  | inl both ↦ omega (arith, ap length both.2)
+  | inr alone ↦ omega (arith, ap length alone)
 ]
 
 -- transitions by different bytes that are sorted by them rise strictly

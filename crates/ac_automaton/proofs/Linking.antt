@@ -94,7 +94,7 @@ module _ (g : Meaning) (states : List State) where
       record {
         linked = r.links.linked;
         leads = r.links.leads;
-        back = (let b = r.links.back in omega arith);
+        back = omega (arith, r.links.back);
         finds = matches-failure g.kind g.patterns x u
             ∙ ap (λ (ns : List ℕ). anchored_matches g (Some (x ∷ u)) ++ ns) later;
         useful = r.links.useful;

@@ -121,9 +121,12 @@ module _ (g : Meaning) (states : List State) where
         → count + (t.patterns_end - t.patterns) ≡ length (all_matches g u)
     counting-end count o last =
         let r = represented g states s o.node t o.state is in
-        let l = length-listed s o.node t o.state r in
-        let m = o.counted in
-        let none = ap (length {A = ℕ}) (none-linked s o.node t o.state r last) in omega arith
+        omega (
+          arith,
+          length-listed s o.node t o.state r,
+          o.counted,
+          ap (length {A = ℕ}) (none-linked s o.node t o.state r last),
+        )
 
     module _ (index left : ℕ) (o : Seeking u index s left) where
       -- the match is one of the state's own

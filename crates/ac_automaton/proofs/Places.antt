@@ -27,7 +27,7 @@ get-added_cases [] y x (suc k) e = absurd (cc)
 get-added_cases (z ∷ xs) y x zero e = inl e
 get-added_cases (z ∷ xs) y x (suc k) e = elim (get-added_cases xs y x k e) [
   | inl h ↦ inl h
-  | inr h ↦ inr (let same = h.0 in omega arith, h.1)
+  | inr h ↦ inr (omega (arith, h.0), h.1)
 ]
 
 -- a place has one element
@@ -56,7 +56,7 @@ past-take : {X : Type 0} (n : ℕ) (xs : List X) (k : ℕ) (x : X) → slice_get
 past-take zero xs k x e = absurd (cc)
 past-take (suc n) [] k x e = absurd (cc)
 past-take (suc n) (y ∷ xs) zero x e = omega arith
-past-take (suc n) (y ∷ xs) (suc k) x e = let l = past-take n xs k x e in omega arith
+past-take (suc n) (y ∷ xs) (suc k) x e = omega (arith, past-take n xs k x e)
 
 -- a place in the part is one in the list
 pub get-from_range : {X : Type 0} (xs : List X) (a b k : ℕ) (x : X) → slice_get (slice_range xs a b) k ≡ Some x
@@ -118,7 +118,7 @@ written-whole xs ys len l =
 pub place : {X : Type 0} (d m : X) (xs : List X) → IsIn m xs → (p : ℕ) × (p < length xs) × (get_or xs p d ≡ m)
 place d m [] h = absurd h
 place d m (x ∷ xs) (inl e) = (0, omega arith, e)
-place d m (x ∷ xs) (inr h) = let r = place d m xs h in (suc r.0, (let l = r.1 in omega arith), r.2)
+place d m (x ∷ xs) (inr h) = let r = place d m xs h in (suc r.0, (omega (arith, r.1)), r.2)
 
 -- among the first n it is below n
 pub place-take : {X : Type 0} (d m : X) (n : ℕ) (xs : List X) → IsIn m (take n xs)

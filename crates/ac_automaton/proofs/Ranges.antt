@@ -106,13 +106,13 @@ module _ (kind : MatchKind) (patterns : List (List ℕ)) (sorted : List Keyed)
 
   module _ (u : List ℕ) (from to : ℕ) (range : IsRangeOf sorted u from to) where
     begins : (k : ℕ) → from ≤ k → k < to → starts_with nat_eq (key_at sorted k) u ≡ true
-    begins k low high = (range.begins k (let w = range.within in omega arith)).0 (low, high)
+    begins k low high = (range.begins k (omega (arith, range.within))).0 (low, high)
 
     -- where one in the range has a byte behind the string, all later ones have one that isn't less
     pub range-ascends : (j k : ℕ) → from ≤ j → j ≤ k → k < to
         → rank (byte_at sorted (length u) j) ≤ rank (byte_at sorted (length u) k)
     range-ascends j k low le high =
-        byte_at-ascends kind patterns sorted order u j k le (let w = range.within in omega arith)
+        byte_at-ascends kind patterns sorted order u j k le (omega (arith, range.within))
         (begins j low (omega arith)) (begins k (omega arith) high)
 
     -- the patterns that are the string stand before the range
@@ -133,7 +133,7 @@ module _ (kind : MatchKind) (patterns : List (List ℕ)) (sorted : List Keyed)
       among-equal_to n h =
           let p = place-of n (slice_range (numbers sorted) from end) h in
           let q = get-from_range (numbers sorted) from end p.0 n p.1 in
-          let s = at-place (from + p.0) (let w = range.within in omega (arith, q.0)) in
+          let s = at-place (from + p.0) (omega (arith, range.within, q.0)) in
           let same = get-same (numbers sorted) (from + p.0) s.0 n s.1.number q.1 in
           let key : pattern_of patterns s.0 ≡ u = sym s.1.key ∙ whole (from + p.0) (omega arith) q.0 in
           subst (λ (m : ℕ). IsIn m (equal_to kind patterns u)) same
@@ -176,7 +176,7 @@ module _ (kind : MatchKind) (patterns : List (List ℕ)) (sorted : List Keyed)
                 absurd (not-less u
                 (sym (ap (λ (w : List ℕ). slice_cmp nat_cmp w (key_at sorted (from + k))) a
                 ∙ ap (slice_cmp nat_cmp u) b) ∙ less))
-            | inr below ↦ let c = below.1 in omega arith
+            | inr below ↦ omega (arith, below.1)
           ])
 
       pub range-equal_to : slice_range (numbers sorted) from end ≡ equal_to kind patterns u
@@ -188,7 +188,7 @@ module _ (kind : MatchKind) (patterns : List (List ℕ)) (sorted : List Keyed)
     -- the first of the range is the string exactly if some pattern that takes part is
     pub equal_to-some : from < to → byte_at sorted (length u) from ≡ None → equal_to kind patterns u ≢ []
     equal_to-some some ends none =
-        let s = at-place from (let w = range.within in omega arith) in
+        let s = at-place from (omega (arith, range.within)) in
         let key : pattern_of patterns s.0 ≡ u =
         sym s.1.key ∙ starts_with-ended (key_at sorted from) u (begins from (omega arith) some) ends in
         none-from_nil s.0 (equal_to kind patterns u) none
@@ -235,14 +235,14 @@ module _ (kind : MatchKind) (patterns : List (List ℕ)) (sorted : List Keyed)
           let r : rank (byte_at sorted (length u) k) ≡ suc b =
           ap rank (starts_with-last (key_at sorted k) u b h) in (
             elim (cases_lt k place) [
-              | inl before ↦ absurd (let s = smaller k there.0 before in omega arith)
+              | inl before ↦ absurd (omega (arith, smaller k there.0 before))
               | inr le ↦ le
             ],
             elim (cases_lt k end) [
               | inl before ↦ before
               | inr le ↦
                   let up = range-ascends end k (omega arith) le there.1 in
-                  let above = next-greater (let t = there.1 in omega arith) in
+                  let above = next-greater (omega (arith, there.1)) in
                   absurd (omega arith)
             ],
           )
@@ -250,6 +250,6 @@ module _ (kind : MatchKind) (patterns : List (List ℕ)) (sorted : List Keyed)
       pub run-range : IsRangeOf sorted (u ++ b ∷ []) place end
       run-range = record {
         ordered = omega arith;
-        within = (let w = range.within in omega arith);
+        within = omega (arith, range.within);
         begins = λ k within. ((λ in'. child-within k in'.0 in'.1), (λ h. child-only k within h));
       }

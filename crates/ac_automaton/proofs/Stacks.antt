@@ -49,7 +49,7 @@ module _ (patterns : List (List ℕ)) (all : List Keyed) (order : IsOrder Standa
       (order.lists m.number).0 (Contains-from_IsIn m.number (numbers all) (IsIn-map (λ k. k.number) m all h)) in
       let f = IsIn-from_filter (participates Standard patterns) m.number (range_with_len 0 (length patterns))
       (IsIn-from_Contains m.number (participants Standard patterns) c) in
-      let r = IsIn-from_range m.number 0 (length patterns) f.0 in omega arith
+      omega (arith, IsIn-from_range m.number 0 (length patterns) f.0)
 
   -- each pattern is a pattern
   pub sorted_of : (n : ℕ) → n < length patterns → (m : Keyed) × IsIn m all × (m.number ≡ n)
@@ -77,7 +77,7 @@ module _ (patterns : List (List ℕ)) (all : List Keyed) (order : IsOrder Standa
       let keys : a.key ≡ b.key = named a h ∙ ap (pattern_of patterns) same ∙ sym (named b k) in
       let tied = ap (λ w. slice_cmp nat_cmp a.key w) (sym keys) ∙ tied_itself nat_list_cmp_total a.key in
       absurd (false≢true (ap is_lt (sym tied ∙ less)))
-  differ a b h k (inr later) same = let l = later.1 in omega arith
+  differ a b h k (inr later) same = omega (arith, later.1)
 
   module _ (at : ℕ) (within : at < length all) where
     -- the pattern at the place
@@ -164,7 +164,7 @@ module _ (patterns : List (List ℕ)) (all : List Keyed) (order : IsOrder Standa
           not_later m p number more is front later = elim (cases_lt at p) [
             | inl behind ↦ elim (subst (λ (w : Keyed). Precedes here w) is (precedes at p behind more)) [
               | inl less ↦ false≢true (sym (front-no_less m.key here.key front) ∙ ap is_lt less)
-              | inr after ↦ let l = after.1 in omega arith
+              | inr after ↦ omega (arith, after.1)
             ]
             | inr reached ↦
                 let same : p ≡ at = omega arith in
@@ -198,7 +198,7 @@ module _ (patterns : List (List ℕ)) (all : List Keyed) (order : IsOrder Standa
       later-in : (m : Keyed) → IsIn m (take at all) → IsIn m (take (at + 1) all)
       later-in m h =
           let p = place-take none m at all h in
-          IsIn-take none m (at + 1) p.0 all (let b = p.1 in omega arith) p.2 p.3
+          IsIn-take none m (at + 1) p.0 all (omega (arith, p.1)) p.2 p.3
 
       -- a pattern among those up to here is before here or here
       earlier-or-here : (m : Keyed) → IsIn m (take (at + 1) all) → IsIn m (take at all) ⊎ (here ≡ m)
@@ -236,7 +236,7 @@ module _ (patterns : List (List ℕ)) (all : List Keyed) (order : IsOrder Standa
             let p = place-take none m at all (s.before m h) in
             let apart = differ m here (IsIn-from_take m at all (s.before m h)) here-in
             (subst (λ (w : Keyed). Precedes w here) p.3 (precedes p.0 at p.1 within)) in
-            let le = least m h in omega arith);
+            omega (arith, least m h));
         before = λ m h. elim (IsIn-append_cases m stack (here ∷ []) h) [
           | inl old ↦ later-in m (s.before m old)
           | inr last ↦ elim last [

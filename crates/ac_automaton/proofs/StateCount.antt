@@ -81,7 +81,7 @@ module _ (kind : MatchKind) (patterns : List (List ℕ)) (sorted : List Keyed)
   range-node : (u : List ℕ) (from to : ℕ) → IsRangeOf sorted u from to → from < to
       → is_node kind patterns u ≡ true
   range-node u from to range some =
-      let inside : from < length sorted = (let w = range.within in omega arith) in
+      let inside : from < length sorted = (omega (arith, range.within)) in
       pattern-node kind patterns sorted order from u inside ((range.begins from inside).0 (omega arith, some))
 
   word-inner : (u : List ℕ) → IsIn u words → IsIn u (inner_nodes kind patterns)
@@ -101,8 +101,8 @@ module _ (kind : MatchKind) (patterns : List (List ℕ)) (sorted : List Keyed)
   inner-at : (s : ℕ) (v : Node) → FIRST_INNER ≤ s → slice_get (nodes_of sorted queue) s ≡ Some v
       → IsInner sorted queue s v
   inner-at s v inner e = elim (nodes-cases sorted queue s v e) [
-    | inl dead ↦ absurd (let l = dead.0 in omega arith)
-    | inr (inl start) ↦ absurd (let l = start.1 in omega arith)
+    | inl dead ↦ absurd (omega (arith, dead.0))
+    | inr (inl start) ↦ absurd (omega (arith, start.1))
     | inr (inr i) ↦ i
   ]
 
@@ -136,14 +136,18 @@ module _ (kind : MatchKind) (patterns : List (List ℕ)) (sorted : List Keyed)
         | inl e ↦ subst (λ (v : List ℕ). IsIn v (inner_nodes kind patterns)) e here
         | inr later ↦ word-inner w later
       ]) in
-      let l = length-map queue (word sorted) in
-      omega arith
+      omega (arith, length-map queue (word sorted))
 
   module _ (fold : Bool)
       (settled : (place depth b : ℕ) → byte_at sorted depth place ≡ Some b → plain_byte fold b ≡ b)
       (states : List State)
       (meant : AreStates (grown_meaning kind fold patterns sorted transitions queue) states)
       (all : length states ≡ FIRST_INNER + length queue) where
+    -- the string has a state, with this number
+    record HasNumber (u : List ℕ) : Type 0 where
+      pub number : ℕ
+      pub named : slice_get (nodes_of sorted queue) number ≡ Some (Some u)
+
     -- where the state of a string stands, and the byte that makes a longer node of it
     module _ (w : List ℕ) (b s : ℕ) (at : slice_get (nodes_of sorted queue) s ≡ Some (Some w))
         (longer : is_node kind patterns (w ++ b ∷ []) ≡ true) where
@@ -172,7 +176,7 @@ module _ (kind : MatchKind) (patterns : List (List ℕ)) (sorted : List Keyed)
           (ap (λ (x : ℕ). step kind patterns Yes (Some w) (plain_byte fold x)) is ∙ onto)
 
       -- and there is one
-      onward : (next : ℕ) × (slice_get (nodes_of sorted queue) next ≡ Some (Some (w ++ b ∷ [])))
+      onward : HasNumber (w ++ b ∷ [])
       onward =
           let own = transitions_of transitions (state_at states s) in
           let some : step kind patterns Yes (Some w) (plain_byte fold b) ≢ None =
@@ -182,12 +186,11 @@ module _ (kind : MatchKind) (patterns : List (List ℕ)) (sorted : List Keyed)
           IsIn-from_map (λ (x : Transition). x.byte) b own
           (IsIn-from_Contains b (transition_bytes own) ((represented.branches b).1 some)) in
           let k = place-of t.0 own t.1 in
-          (t.0.target, leads-on t.0 k.0 k.1 t.2)
+          record { number = t.0.target; named = leads-on t.0 k.0 k.1 t.2 }
 
     -- each node has a state
-    reaches : (n : ℕ) (u : List ℕ) → length u ≡ n → is_node kind patterns u ≡ true
-        → (s : ℕ) × (slice_get (nodes_of sorted queue) s ≡ Some (Some u))
-    reaches zero [] l node = (START, refl)
+    reaches : (n : ℕ) (u : List ℕ) → length u ≡ n → is_node kind patterns u ≡ true → HasNumber u
+    reaches zero [] l node = record { number = START; named = refl }
     reaches zero (x ∷ u) l node = absurd (omega arith)
     reaches (suc n) [] l node = absurd (omega arith)
     reaches (suc n) (x ∷ u) l node =
@@ -195,10 +198,9 @@ module _ (kind : MatchKind) (patterns : List (List ℕ)) (sorted : List Keyed)
         let longer : is_node kind patterns (last.0 ++ last.1 ∷ []) ≡ true =
         subst (λ (v : List ℕ). is_node kind patterns v ≡ true) last.2 node in
         let len : length last.0 ≡ n =
-        (let m = length_push last.0 last.1 in let o = ap length last.2 in omega arith) in
+        (omega (arith, length_push last.0 last.1, ap length last.2)) in
         let s = reaches n last.0 len (is_node-front kind patterns last.0 last.1 longer) in
-        let next = onward last.0 last.1 s.0 s.1 longer in
-        (next.0, next.1 ∙ ap (λ (v : List ℕ). Some (Some v)) (sym last.2))
+        subst HasNumber (sym last.2) (onward last.0 last.1 s.number s.named longer)
 
     -- and each nonempty one an inner state
     inner-number : (u : List ℕ) → Contains (inner_nodes kind patterns) u
@@ -206,10 +208,10 @@ module _ (kind : MatchKind) (patterns : List (List ℕ)) (sorted : List Keyed)
     inner-number u h =
         let only = inner_nodes-only kind patterns u h in
         let s = reaches (length u) u refl only.0 in
-        elim (nodes-cases sorted queue s.0 (Some u) s.1) [
+        elim (nodes-cases sorted queue s.number (Some u) s.named) [
           | inl dead ↦ absurd (let e = dead.1 in cc)
           | inr (inl start) ↦ absurd (only.1 (let e : Some u ≡ Some [] = start.2 in let f : u ≡ [] = cc in f))
-          | inr (inr i) ↦ (s.0, record { inner = (let n = i.number in omega arith); named = s.1 })
+          | inr (inr i) ↦ (s.number, record { inner = omega (arith, i.number); named = s.named })
         ]
 
     inner-word : (u : List ℕ) → IsIn u (inner_nodes kind patterns) → IsIn u words
@@ -245,11 +247,8 @@ module _ (kind : MatchKind) (patterns : List (List ℕ)) (sorted : List Keyed)
       once = λ s t u m n.
           let i = inner-at s (Some u) m.inner m.named in
           let j = inner-at t (Some u) n.inner n.named in
-          let same = grown.apart i.place j.place i.queued j.queued i.waits j.waits
-          (sym (inner-is s u i) ∙ inner-is t u j) in
-          let k = i.number in
-          let l = j.number in
-          omega arith;
+          let same = sym (inner-is s u i) ∙ inner-is t u j in
+          omega (arith, grown.apart i.place j.place i.queued j.queued i.waits j.waits same, i.number, j.number);
     }
 
 -- a child for which there is no number is one node too many

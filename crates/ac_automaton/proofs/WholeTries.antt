@@ -39,7 +39,7 @@ Represents-beside g v t r = record {
   links = record {
     linked = r.links.linked;
     leads = r.links.leads;
-    back = (let b = r.links.back in omega arith);
+    back = omega (arith, r.links.back);
     finds = r.links.finds;
     useful = r.links.useful;
   };
@@ -90,7 +90,7 @@ module _ (kind : MatchKind) (fold : Bool) (patterns : List (List ℕ)) (sorted :
     ordered = omega arith;
     listed = omega arith;
     ascending = λ k h. absurd (omega arith);
-    branches = λ b. ((λ has. absurd (let h = has.1 in omega arith)), (λ some. absurd (some refl)));
+    branches = λ b. ((λ has. absurd (omega (arith, has.1))), (λ some. absurd (some refl)));
     leads = λ k t e. absurd (cc);
     fails = refl;
     back = λ h. absurd (omega arith);
@@ -235,11 +235,11 @@ module _ (kind : MatchKind) (fold : Bool) (patterns : List (List ℕ)) (sorted :
     order = h.order;
     settled = h.settled;
     grown = subst (λ (n : ℕ). IsGrown kind patterns sorted n new_transitions new_queue)
-        (let l = length_push states t in omega arith) b.grown;
+        (omega (arith, length_push states t)) b.grown;
     meant = AreStates-push (grown_meaning kind fold patterns sorted new_transitions new_queue) states
         (Some (word sorted p)) t b.meant node b.represents;
-    count = (let l = length_push states t in let m = h.count in omega arith);
-    within = (let l = slice_get_within new_queue at p (b.kept at p e) in omega arith);
+    count = omega (arith, length_push states t, h.count);
+    within = omega (arith, slice_get_within new_queue at p (b.kept at p e));
   }
     where
       node : slice_get (nodes_of sorted new_queue) (length states) ≡ Some (Some (word sorted p))
@@ -267,7 +267,7 @@ module _ (texts : List (List ℕ)) {fold : Bool} {kind : MatchKind} {sorted : Li
     (h : IsGoing kind fold (map (plain fold) texts) sorted states transitions queue at)
     (all : length queue ≤ at) where
   counted : length states ≡ FIRST_INNER + length queue
-  counted = let l = h.count in let m = h.within in omega arith
+  counted = omega (arith, h.count, h.within)
 
   numbered : NumbersNodes kind (map (plain fold) texts) (nodes_of sorted queue)
   numbered =
@@ -281,7 +281,7 @@ module _ (texts : List (List ℕ)) {fold : Bool} {kind : MatchKind} {sorted : Li
       record {
         both = refl;
         states = h.meant;
-        whole = (let c = counted in omega arith);
+        whole = omega (arith, counted);
         unreached = refl;
         start = refl;
         anchored_start = refl;
@@ -292,7 +292,7 @@ module _ (texts : List (List ℕ)) {fold : Bool} {kind : MatchKind} {sorted : Li
             (record {
               meant = h.meant;
               there =
-                  (let l = slice_get_within (nodes_of sorted queue) s v e in let c = counted in omega arith);
+                  (omega (arith, slice_get_within (nodes_of sorted queue) s v e, counted));
               named = e;
             })
             (omega arith);
