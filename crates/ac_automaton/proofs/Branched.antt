@@ -1,5 +1,5 @@
 -- Once all its children have come a state is whole.
-use Rattle.std.proofs.Common.{◌≡◌, ◌≢◌, ℕ, zero, suc, ◌+◌, ◌-◌, ◌<◌, ◌≤◌, true, List, [], ◌∷◌, ◌++◌, length, length-append, take, drop, inl, inr, refl, ap, sym, ◌∙◌, subst, arith, Some, None}
+use Rattle.std.proofs.Common.{◌≡◌, ◌≢◌, ℕ, zero, suc, ◌-◌, ◌<◌, ◌≤◌, true, List, [], ◌∷◌, ◌++◌, length, length-append, take, drop, inl, inr, refl, ap, sym, ◌∙◌, subst, arith, Some, None}
 use Rattle.std.specs.Prelude.{nat_eq, slice_get, slice_range, Contains, ◌↔◌}
 use Rattle.std.specs.List.{starts_with}
 use Rattle.std.specs.List.Sorted.{IsPermutation, IsStrictlyIncreasing}
@@ -17,11 +17,11 @@ use Rattle.ac_automaton.specs.declared.nfa.noncontiguous.growth.QueuedState.{Que
 use Rattle.ac_automaton.specs.declared.nfa.noncontiguous.state.State.{State}
 use Rattle.ac_automaton.specs.declared.nfa.noncontiguous.state.TheConstants.{START, FIRST_INNER}
 use Rattle.ac_automaton.specs.declared.nfa.noncontiguous.state.Transition.{Transition}
-use Rattle.ac_automaton.specs.Growths.{HasBranched, HasSorted, IsGrown, IsNext, LinkIsDue, grown_meaning, nodes_of}
+use Rattle.ac_automaton.specs.Growths.{HasBranched, HasSorted, IsNext, LinkIsDue, grown_meaning, nodes_of}
 use Rattle.ac_automaton.specs.Sorted.{IsOrder, Keyed, byte_at, key_at}
 use Rattle.ac_automaton.specs.Tries.{AreStates, Links, transition_bytes}
 use Rattle.ac_automaton.proofs.Branching.{IsBranching, Site, string, word-length}
-use Rattle.ac_automaton.proofs.Grown.{AreStates-more}
+use Rattle.ac_automaton.proofs.Grown.{AreStates-more, IsGrown-later}
 use Rattle.ac_automaton.proofs.Leading.{sorted-ascends}
 use Rattle.ac_automaton.proofs.Places.{IsIn-place}
 use Rattle.ac_automaton.proofs.Ranges.{pattern-node, node-pattern, range-equal_to}
@@ -208,11 +208,9 @@ module _ (site : Site) {unsorted : List Transition} {queue : List QueuedState}
           let f : site.queued.fail < START = (omega (arith, first.number))
           in (f, first_two site.queued.fail f)
       start none l (inr later) =
-          absurd (let s = later.number in let d = h.waits.inner (omega arith) in omega (
-            arith,
-            ap length none,
-            long,
-          ))
+          let number = later.number in
+          let deep = h.waits.inner (omega arith) in
+          absurd (omega (arith, deep, ap length none, long))
 
   -- the state that stands for the (string site)
   abbrev pub whole_state : ℕ → State
@@ -232,7 +230,7 @@ module _ (site : Site) {unsorted : List Transition} {queue : List QueuedState}
       → HasBranched site.kind site.fold site.patterns site.sorted site.states site.queue site.queued
       (whole_state link) transitions queue
   has-branched {link} links = record {
-    grown = still-grown;
+    grown = IsGrown-later (omega arith) (omega (arith, as-many)) h.grown;
     meant = still-meant;
     represents = record {
       ordered = omega (arith, ap length split, length-append site.transitions s.sorted);
@@ -258,23 +256,8 @@ module _ (site : Site) {unsorted : List Transition} {queue : List QueuedState}
     where
       as-many : length transitions ≡ length unsorted
       as-many =
-          omega (
-            arith,
-            ap length split,
-            ap length h.split,
-            length_permutation h.added s.sorted sorted-from,
-            length-append site.transitions s.sorted,
-            length-append site.transitions h.added,
-          )
-
-      still-grown : IsGrown site.kind site.patterns site.sorted (length site.states + 1) transitions queue
-      still-grown = record {
-        few = h.grown.few;
-        counted = omega (arith, as-many, h.grown.counted);
-        waits = h.grown.waits;
-        apart = h.grown.apart;
-        parents = h.grown.parents;
-      }
+          let moved = length_permutation h.added s.sorted sorted-from in
+          omega (arith, ap length split, ap length h.split, moved, length-append {A = Transition})
 
       outer : length site.states < FIRST_INNER
           → IsNext site.kind site.patterns site.sorted site.queue (length site.states) site.queued

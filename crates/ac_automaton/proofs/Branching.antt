@@ -17,7 +17,7 @@ use Rattle.ac_automaton.specs.declared.nfa.noncontiguous.state.Transition.{Trans
 use Rattle.ac_automaton.specs.Growths.{Source, EndsPatterns, HasChild, IsGrown, IsNext, IsRangeOf, IsReady, Waits, grown_meaning, leading, nodes_of, word}
 use Rattle.ac_automaton.specs.Sorted.{Keyed, byte_at, key_at}
 use Rattle.ac_automaton.specs.Tries.{AreStates, miss}
-use Rattle.ac_automaton.proofs.Grown.{AreStates-more, IsInner, nodes-cases, nodes-inner, nodes-more}
+use Rattle.ac_automaton.proofs.Grown.{AreStates-more, IsGrown-later, IsInner, nodes-cases, nodes-inner, nodes-more}
 use Rattle.ac_automaton.proofs.Leading.{leading-apart, leading-has, leading-length, leading-plain}
 use Rattle.ac_automaton.proofs.Orders.{rank}
 use Rattle.ac_util.proofs.Prefixes.{starts_with-length}
@@ -123,16 +123,7 @@ module _ (site : Site) where
   -- it begins behind the patterns that are the string
   pub branching-begins : IsBranching site.patterns_end site.transitions site.queue
   branching-begins = record {
-    grown = record {
-      few = site.ready.grown.few;
-      counted = site.ready.grown.counted;
-      waits = site.ready.grown.waits;
-      apart = site.ready.grown.apart;
-      parents = λ k q e.
-          let r = site.ready.grown.parents k q e in
-          let early = r.early in
-          record { parent = r.parent; early = omega arith; named = r.named };
-    };
+    grown = IsGrown-later (omega arith) (omega arith) site.ready.grown;
     meant = site.ready.meant;
     waits = site.ready.waits;
     node = next-node site.kind site.patterns site.sorted site.queue
@@ -379,13 +370,8 @@ module _ (site : Site) where
           → IsGrown site.kind site.patterns site.sorted (length site.states + 1)
           (transitions ++ more_transitions) (queue ++ child ∷ [])
       still-grown few = record {
-        counted = omega (
-          arith,
-          h.grown.counted,
-          length-append transitions more_transitions,
-          leading-length site.fold b (FIRST_INNER + length queue),
-          length_push queue child,
-        );
+        counted = (let added = leading-length site.fold b (FIRST_INNER + length queue) in
+            omega (arith, h.grown.counted, added, length-append {A = Transition}, length_push queue child));
         few = omega (arith, length_push queue child);
         waits = λ k q e. elim (get-added_cases queue child q k e) [
           | inl old ↦

@@ -5,13 +5,14 @@ use Rattle.std.specs.List.Sorted.{IsStrictlyIncreasing}
 use Rattle.std.proofs.lemmas.Bool.{cases_lt}
 use Rattle.std.proofs.lemmas.List.{get_or_default, get_or_append_left, get_or_push, length_push}
 use Rattle.std.proofs.lemmas.Option.{slice_get-map, slice_get-get_or, slice_get_within}
+use Rattle.ac_util.specs.declared.search.MatchKind.{MatchKind}
 use Rattle.ac_util.specs.Node.{Node}
 use Rattle.ac_util.proofs.PiecesLemmas.{slice_range-append}
 use Rattle.ac_automaton.specs.declared.nfa.noncontiguous.growth.QueuedState.{QueuedState}
 use Rattle.ac_automaton.specs.declared.nfa.noncontiguous.state.State.{State}
 use Rattle.ac_automaton.specs.declared.nfa.noncontiguous.state.TheConstants.{START, FIRST_INNER}
 use Rattle.ac_automaton.specs.declared.nfa.noncontiguous.state.Transition.{Transition}
-use Rattle.ac_automaton.specs.Growths.{nodes_of, word}
+use Rattle.ac_automaton.specs.Growths.{IsGrown, nodes_of, word}
 use Rattle.ac_automaton.specs.Sorted.{Keyed}
 use Rattle.ac_automaton.specs.Tries.{Meaning, AreStates, Represents, transition_bytes, own_target, transitions_of, state_at}
 use Rattle.ac_automaton.proofs.Places.{get-same}
@@ -67,6 +68,20 @@ module _ (sorted : List Keyed) where
   nodes-cases queue (suc (suc (suc (suc k)))) v e =
       let r = words_from queue k v e in
       inr (inr (record { place = k; number = omega arith; queued = r.0; waits = r.1; node = r.2 }))
+
+-- it is still so for more states, and for other transitions that are no more
+pub IsGrown-later : {kind : MatchKind} {patterns : List (List ℕ)} {sorted : List Keyed} {m n : ℕ}
+    {transitions others : List Transition} {queue : List QueuedState} → m ≤ n → length others ≤ length transitions
+    → IsGrown kind patterns sorted m transitions queue → IsGrown kind patterns sorted n others queue
+IsGrown-later more few grown = record {
+  few = grown.few;
+  counted = omega (arith, grown.counted);
+  waits = grown.waits;
+  apart = grown.apart;
+  parents = λ k q e.
+      let r = grown.parents k q e in
+      record { parent = r.parent; early = omega (arith, r.early); named = r.named };
+}
 
 -- the meaning with other transitions and nodes
 abbrev pub more_meaning : Meaning → List Transition → List Node → Meaning

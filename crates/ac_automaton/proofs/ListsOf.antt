@@ -121,12 +121,8 @@ module _ (g : Meaning) (states : List State) where
         → count + (t.patterns_end - t.patterns) ≡ length (all_matches g u)
     counting-end count o last =
         let r = represented g states s o.node t o.state is in
-        omega (
-          arith,
-          length-listed s o.node t o.state r,
-          o.counted,
-          ap (length {A = ℕ}) (none-linked s o.node t o.state r last),
-        )
+        let alone = ap (length {A = ℕ}) (none-linked s o.node t o.state r last) in
+        omega (arith, length-listed s o.node t o.state r, o.counted, alone)
 
     module _ (index left : ℕ) (o : Seeking u index s left) where
       -- the match is one of the state's own

@@ -8,7 +8,7 @@ use Rattle.std.specs.Ordering.{nat_cmp, ordering_reverse}
 use Rattle.std.specs.declared.cmp.Ordering.TheVariants.{Less, Greater}
 use Rattle.std.proofs.lemmas.Bool.{or_right, cases_lt}
 use Rattle.std.proofs.lemmas.List.{length-map}
-use Rattle.std.proofs.lemmas.Option.{slice_get-map, slice_get-get_or, slice_get_within}
+use Rattle.std.proofs.lemmas.Option.{slice_get-map, slice_get-get_or}
 use Rattle.std.proofs.lemmas.Slice.Eq.{bytes_eq-Decides}
 use Rattle.ac_util.specs.declared.search.MatchKind.{MatchKind}
 use Rattle.ac_util.specs.Matches.{equal_to}
@@ -30,9 +30,10 @@ not-less u e =
     let flip : Less ≡ Greater = sym e ∙ nat_list_cmp_total.antisymm u u ∙ ap ordering_reverse e in absurd (cc)
 
 -- the pattern at a place, and its number in the list of the numbers
-abbrev pattern_at : List Keyed → ℕ → Keyed
+abbrev pub pattern_at : List Keyed → ℕ → Keyed
 pattern_at sorted k = get_or sorted k (record { key = []; number = 0 })
 
+-- the list of the numbers has it at the same place
 number-at : (sorted : List Keyed) (k : ℕ) → k < length sorted
     → slice_get (numbers sorted) k ≡ Some (pattern_at sorted k).number
 number-at sorted k within =
@@ -40,6 +41,7 @@ number-at sorted k within =
     ∙ ap (option_map (λ (q : Keyed). q.number))
     (slice_get-get_or sorted k (record { key = []; number = 0 }) within)
 
+-- what the rank of a byte tells of it
 rank-None : (r : Option ℕ) → rank r ≤ 0 → r ≡ None
 rank-None None l = refl
 rank-None (Some b) l = absurd (omega arith)
@@ -57,33 +59,36 @@ module _ (kind : MatchKind) (patterns : List (List ℕ)) (sorted : List Keyed)
     pub key : key_at sorted k ≡ pattern_of patterns n
     pub takes_part : IsIn n (participants kind patterns)
 
-  pub at-place : (k : ℕ) → k < length sorted → (n : ℕ) × Stands k n
+  pub at-place : (k : ℕ) → k < length sorted → Stands k (pattern_at sorted k).number
   at-place k within =
       let m = pattern_at sorted k in
       let is = slice_get-get_or sorted k (record { key = []; number = 0 }) within in
-      let number = number-at sorted k within in (
-        m.number,
-        record {
-          within = within;
-          number = number;
-          key = All-slice_get (λ (q : Keyed). q.key ≡ pattern_of patterns q.number) sorted k m order.named is;
-          takes_part = IsIn-from_Contains m.number (participants kind patterns)
-              ((order.lists m.number).0
-              (Contains-from_IsIn m.number (numbers sorted) (IsIn-place m.number (numbers sorted) k number)));
-        },
-      )
+      let number = number-at sorted k within in
+      record {
+        within = within;
+        number = number;
+        key = All-slice_get (λ (q : Keyed). q.key ≡ pattern_of patterns q.number) sorted k m order.named is;
+        takes_part = IsIn-from_Contains m.number (participants kind patterns)
+            ((order.lists m.number).0
+            (Contains-from_IsIn m.number (numbers sorted) (IsIn-place m.number (numbers sorted) k number)));
+      }
+
+  -- the pattern of a number stands somewhere
+  pub record IsPlaced (n : ℕ) : Type 0 where
+    pub place : ℕ
+    pub stands : Stands place n
 
   -- and each pattern that takes part has a place
-  pub place-at : (n : ℕ) → IsIn n (participants kind patterns) → (k : ℕ) × Stands k n
+  pub place-at : (n : ℕ) → IsIn n (participants kind patterns) → IsPlaced n
   place-at n h =
       let p = place-of n (numbers sorted)
       (IsIn-from_Contains n (numbers sorted)
       ((order.lists n).1 (Contains-from_IsIn n (participants kind patterns) h))) in
-      let within : p.0 < length sorted =
-      (let l = slice_get_within (numbers sorted) p.0 n p.1 in
-      let m = length-map sorted (λ (q : Keyed). q.number) in omega arith) in
-      let s = at-place p.0 within in
-      (p.0, subst (λ (m : ℕ). Stands p.0 m) (get-same (numbers sorted) p.0 s.0 n s.1.number p.1) s.1)
+      let within : p.place < length sorted =
+      omega (arith, p.within, length-map sorted (λ (q : Keyed). q.number)) in
+      let s = at-place p.place within in
+      let same = get-same (numbers sorted) p.place (pattern_at sorted p.place).number n s.number p.there in
+      record { place = p.place; stands = subst (λ (m : ℕ). Stands p.place m) same s }
 
   -- a prefix of a pattern leads to a node
   pub pattern-node : (k : ℕ) (u : List ℕ) → k < length sorted → starts_with nat_eq (key_at sorted k) u ≡ true
@@ -91,9 +96,9 @@ module _ (kind : MatchKind) (patterns : List (List ℕ)) (sorted : List Keyed)
   pattern-node k u within front =
       let s = at-place k within in
       or_right (is_empty u) _
-      (list_any-from_IsIn (λ n. starts_with nat_eq (pattern_of patterns n) u) s.0
-      (participants kind patterns) s.1.takes_part
-      (subst (λ (w : List ℕ). starts_with nat_eq w u ≡ true) s.1.key front))
+      (list_any-from_IsIn (λ n. starts_with nat_eq (pattern_of patterns n) u) (pattern_at sorted k).number
+      (participants kind patterns) s.takes_part
+      (subst (λ (w : List ℕ). starts_with nat_eq w u ≡ true) s.key front))
 
   -- and a node that isn't the start is a prefix of some pattern
   pub node-pattern : (x : ℕ) (u : List ℕ) → is_node kind patterns (x ∷ u) ≡ true
@@ -102,7 +107,8 @@ module _ (kind : MatchKind) (patterns : List (List ℕ)) (sorted : List Keyed)
       let r =
       any_passes (λ n. starts_with nat_eq (pattern_of patterns n) (x ∷ u)) (participants kind patterns) node in
       let s = place-at r.0 r.1 in
-      (s.0, s.1.within, subst (λ (w : List ℕ). starts_with nat_eq w (x ∷ u) ≡ true) (sym s.1.key) r.2)
+      let front = subst (λ (w : List ℕ). starts_with nat_eq w (x ∷ u) ≡ true) (sym s.stands.key) r.2 in
+      (s.place, s.stands.within, front)
 
   module _ (u : List ℕ) (from to : ℕ) (range : IsRangeOf sorted u from to) where
     begins : (k : ℕ) → from ≤ k → k < to → starts_with nat_eq (key_at sorted k) u ≡ true
@@ -132,31 +138,32 @@ module _ (kind : MatchKind) (patterns : List (List ℕ)) (sorted : List Keyed)
           → IsIn n (equal_to kind patterns u)
       among-equal_to n h =
           let p = place-of n (slice_range (numbers sorted) from end) h in
-          let q = get-from_range (numbers sorted) from end p.0 n p.1 in
-          let s = at-place (from + p.0) (omega (arith, range.within, q.0)) in
-          let same = get-same (numbers sorted) (from + p.0) s.0 n s.1.number q.1 in
-          let key : pattern_of patterns s.0 ≡ u = sym s.1.key ∙ whole (from + p.0) (omega arith) q.0 in
-          subst (λ (m : ℕ). IsIn m (equal_to kind patterns u)) same
-          (IsIn-filter (λ m. bytes_eq (pattern_of patterns m) u) s.0 (participants kind patterns) s.1.takes_part
-          ((bytes_eq-Decides (pattern_of patterns s.0) u).1 key))
+          let q = get-from_range (numbers sorted) from end p.place n p.there in
+          let s = at-place (from + p.place) (omega (arith, range.within, q.0)) in
+          let m = (pattern_at sorted (from + p.place)).number in
+          let same = get-same (numbers sorted) (from + p.place) m n s.number q.1 in
+          let key : pattern_of patterns m ≡ u = sym s.key ∙ whole (from + p.place) (omega arith) q.0 in
+          subst (λ (k : ℕ). IsIn k (equal_to kind patterns u)) same
+          (IsIn-filter (λ k. bytes_eq (pattern_of patterns k) u) m (participants kind patterns) s.takes_part
+          ((bytes_eq-Decides (pattern_of patterns m) u).1 key))
 
       equal_to-among : (n : ℕ) → IsIn n (equal_to kind patterns u)
           → IsIn n (slice_range (numbers sorted) from end)
       equal_to-among n h =
           let e = IsIn-from_filter (λ m. bytes_eq (pattern_of patterns m) u) n (participants kind patterns) h in
           let s = place-at n e.0 in
-          let key : key_at sorted s.0 ≡ u = s.1.key ∙ (bytes_eq-Decides (pattern_of patterns n) u).0 e.1 in
+          let key : key_at sorted s.place ≡ u = s.stands.key ∙ (bytes_eq-Decides (pattern_of patterns n) u).0 e.1 in
           let there =
-          (range.begins s.0 s.1.within).1
+          (range.begins s.place s.stands.within).1
           (subst (λ (w : List ℕ). starts_with nat_eq w u ≡ true) (sym key) (starts_with-itself u)) in
-          elim (cases_lt s.0 end) [
+          elim (cases_lt s.place end) [
             | inl before ↦
-                IsIn-place n (slice_range (numbers sorted) from end) (s.0 - from)
-                (get-range (numbers sorted) from end (s.0 - from) (omega (arith, there.0))
+                IsIn-place n (slice_range (numbers sorted) from end) (s.place - from)
+                (get-range (numbers sorted) from end (s.place - from) (omega (arith, there.0))
                 ∙ ap (slice_get (numbers sorted))
-                (let at : from + (s.0 - from) ≡ s.0 = omega (arith, there.0) in at) ∙ s.1.number)
+                (let at : from + (s.place - from) ≡ s.place = omega (arith, there.0) in at) ∙ s.stands.number)
             | inr behind ↦
-                absurd (longer s.0 behind there.1 (ap (λ (w : List ℕ). slice_get w (length u)) key ∙ ended u))
+                absurd (longer s.place behind there.1 (ap (λ (w : List ℕ). slice_get w (length u)) key ∙ ended u))
           ]
 
       among-ordered : IsOrdered (λ m n. m < n) (slice_range (numbers sorted) from end)
@@ -189,22 +196,23 @@ module _ (kind : MatchKind) (patterns : List (List ℕ)) (sorted : List Keyed)
     pub equal_to-some : from < to → byte_at sorted (length u) from ≡ None → equal_to kind patterns u ≢ []
     equal_to-some some ends none =
         let s = at-place from (omega (arith, range.within)) in
-        let key : pattern_of patterns s.0 ≡ u =
-        sym s.1.key ∙ starts_with-ended (key_at sorted from) u (begins from (omega arith) some) ends in
-        none-from_nil s.0 (equal_to kind patterns u) none
-        (IsIn-filter (λ m. bytes_eq (pattern_of patterns m) u) s.0 (participants kind patterns) s.1.takes_part
-        ((bytes_eq-Decides (pattern_of patterns s.0) u).1 key))
+        let n = (pattern_at sorted from).number in
+        let key : pattern_of patterns n ≡ u =
+        sym s.key ∙ starts_with-ended (key_at sorted from) u (begins from (omega arith) some) ends in
+        none-from_nil n (equal_to kind patterns u) none
+        (IsIn-filter (λ m. bytes_eq (pattern_of patterns m) u) n (participants kind patterns) s.takes_part
+        ((bytes_eq-Decides (pattern_of patterns n) u).1 key))
 
     pub equal_to-none : byte_at sorted (length u) from ≢ None → equal_to kind patterns u ≡ []
     equal_to-none goes_on = nil-from_none (equal_to kind patterns u) (λ n h.
         let e = IsIn-from_filter (λ m. bytes_eq (pattern_of patterns m) u) n (participants kind patterns) h in
         let s = place-at n e.0 in
-        let key : key_at sorted s.0 ≡ u = s.1.key ∙ (bytes_eq-Decides (pattern_of patterns n) u).0 e.1 in
+        let key : key_at sorted s.place ≡ u = s.stands.key ∙ (bytes_eq-Decides (pattern_of patterns n) u).0 e.1 in
         let there =
-        (range.begins s.0 s.1.within).1
+        (range.begins s.place s.stands.within).1
         (subst (λ (w : List ℕ). starts_with nat_eq w u ≡ true) (sym key) (starts_with-itself u)) in
-        let up = range-ascends from s.0 (omega arith) there.0 there.1 in
-        let zero : rank (byte_at sorted (length u) s.0) ≡ 0 =
+        let up = range-ascends from s.place (omega arith) there.0 there.1 in
+        let zero : rank (byte_at sorted (length u) s.place) ≡ 0 =
         ap rank (ap (λ (w : List ℕ). slice_get w (length u)) key ∙ ended u) in
         goes_on (rank-None (byte_at sorted (length u) from) (omega arith)))
 

@@ -63,8 +63,7 @@ module _ (kind : MatchKind) (patterns : List (List ℕ)) (sorted : List Keyed)
         let s =
         place-at kind patterns sorted order n
         (IsIn-from_filter (λ m. bytes_eq (pattern_of patterns m) []) n (participants kind patterns) h).0 in
-        let w = s.1.within in
-        absurd (omega arith))
+        absurd (omega (arith, s.stands.within)))
   ]))
 
   miss-stays : (is_leftmost kind ≡ true → 0 < length sorted → byte_at sorted 0 0 ≢ None)

@@ -87,8 +87,8 @@ module _ (kind : MatchKind) (patterns : List (List ℕ)) (sorted : List Keyed)
   word-inner : (u : List ℕ) → IsIn u words → IsIn u (inner_nodes kind patterns)
   word-inner u h =
       let k = place-of u words h in
-      let q = word-at k.0 u k.1 in
-      let w = grown.waits k.0 q.0 q.1 in
+      let q = word-at k.place u k.there in
+      let w = grown.waits k.place q.0 q.1 in
       let node = range-node (word sorted q.0) q.0.from q.0.to w.range (w.some (omega arith)) in
       let some : word sorted q.0 ≢ [] =
       (λ e. let l = word-length w in let m = ap length e in
@@ -128,8 +128,8 @@ module _ (kind : MatchKind) (patterns : List (List ℕ)) (sorted : List Keyed)
       IsIn-from_Contains (u ++ b ∷ []) (inner_nodes kind patterns)
       (inner_nodes-has kind patterns (u ++ b ∷ []) node longer) in
       let count = length-le-from_IsOrdered ((u ++ b ∷ []) ∷ words) (inner_nodes kind patterns) (
-        (λ w h same. let k = place-of w words h in let q = word-at k.0 w k.1 in
-            fresh k.0 q.0 q.1 (q.2 ∙ sym same)),
+        (λ w h same. let k = place-of w words h in let q = word-at k.place w k.there in
+            fresh k.place q.0 q.1 (q.2 ∙ sym same)),
         words-apart,
       )
       (λ w h. elim h [
@@ -186,7 +186,7 @@ module _ (kind : MatchKind) (patterns : List (List ℕ)) (sorted : List Keyed)
           IsIn-from_map (λ (x : Transition). x.byte) b own
           (IsIn-from_Contains b (transition_bytes own) ((represented.branches b).1 some)) in
           let k = place-of t.0 own t.1 in
-          record { number = t.0.target; named = leads-on t.0 k.0 k.1 t.2 }
+          record { number = t.0.target; named = leads-on t.0 k.place k.there t.2 }
 
     -- each node has a state
     reaches : (n : ℕ) (u : List ℕ) → length u ≡ n → is_node kind patterns u ≡ true → HasNumber u

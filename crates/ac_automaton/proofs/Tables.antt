@@ -91,9 +91,6 @@ module _ (trie : Trie) (s : ℕ) (u : Node) (h : StandsFor trie s u) where
               let more = length-not_nil (all_matches meaning read.links.linked) (read.links.useful linked) in
               not_nil-length (listed_within trie.order trie.states s s) (omega arith)),
           (λ some last.
-              omega (
-                arith,
-                ap (length {A = ℕ}) (none-linked meaning trie.states s u t has-state read last),
-                length-not_nil (listed_within trie.order trie.states s s) some,
-              )),
+              let alone = ap (length {A = ℕ}) (none-linked meaning trie.states s u t has-state read last) in
+              omega (arith, alone, length-not_nil (listed_within trie.order trie.states s s) some)),
         )

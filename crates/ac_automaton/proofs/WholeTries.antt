@@ -18,7 +18,7 @@ use Rattle.ac_automaton.specs.Builds.{too_many_states}
 use Rattle.ac_automaton.specs.Growths.{first_states, HasBegun, HasBranched, IsGrown, IsReady, Waits, grown_meaning, nodes_of, word}
 use Rattle.ac_automaton.specs.Sorted.{Keyed, IsOrder, Sorted, byte_at, key_at, numbers}
 use Rattle.ac_automaton.specs.Tries.{AreStates, IsTable, Meaning, NumbersNodes, Represents, dead_state, state_at, trie_of}
-use Rattle.ac_automaton.proofs.Grown.{AreStates-push, nodes-inner}
+use Rattle.ac_automaton.proofs.Grown.{AreStates-push, IsGrown-later, nodes-inner}
 use Rattle.ac_automaton.proofs.ListsOf.{listed_within-matches}
 use Rattle.ac_automaton.proofs.StateCount.{numbers-nodes, too_many_states-none}
 
@@ -156,19 +156,6 @@ module _ (kind : MatchKind) (fold : Bool) (patterns : List (List ℕ)) (sorted :
     pub count : length states ≡ FIRST_INNER + at
     pub within : at ≤ length queue
 
-  later-grown : (m n : ℕ) (transitions : List Transition) (queue : List QueuedState) → m ≤ n
-      → IsGrown kind patterns sorted m transitions queue → IsGrown kind patterns sorted n transitions queue
-  later-grown m n transitions queue l grown = record {
-    few = grown.few;
-    counted = grown.counted;
-    waits = grown.waits;
-    apart = grown.apart;
-    parents = λ k q e.
-        let r = grown.parents k q e in
-        let early = r.early in
-        record { parent = r.parent; early = omega arith; named = r.named };
-  }
-
   -- with the start at both its numbers the first four are whole
   started : (p : QueuedState) (t : State) (transitions : List Transition) (queue : List QueuedState)
       → IsOrder kind patterns sorted
@@ -178,7 +165,7 @@ module _ (kind : MatchKind) (fold : Bool) (patterns : List (List ℕ)) (sorted :
   started p t transitions queue order settled depth h = record {
     order = order;
     settled = settled;
-    grown = later-grown ANCHORED_START FIRST_INNER transitions queue (omega arith) h.grown;
+    grown = IsGrown-later (omega arith) (omega arith) h.grown;
     meant =
         AreStates-push (grown_meaning kind fold patterns sorted transitions queue) (first_states ++ t ∷ [])
         (Some []) t once refl

@@ -28,11 +28,8 @@ patterns_len-len-requires c = record { ordered = (known c).patterns_ordered }
 
 pub bounds-order-state : goal.bounds-order-state
 bounds-order-state c =
-    omega (
-      arith,
-      (known (goal.at.bounds-order-state c).After-index-states-as_usize).within,
-      ap (length {A = ℕ}) c.requires.state.2,
-    )
+    let within = (known (goal.at.bounds-order-state c).After-index-states-as_usize).within in
+    omega (arith, within, ap (length {A = ℕ}) c.requires.state.2)
 
 pub returns-then-left-len : goal.returns-then-left-len
 returns-then-left-len c = λ g u same h.

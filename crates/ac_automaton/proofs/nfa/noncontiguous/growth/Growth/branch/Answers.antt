@@ -156,14 +156,8 @@ sort_from-requires g c =
     let h = c.loop-place.invariant.branching c.requires.ready.0 ready (ends-now g s) in
     let first : c.len-first.result ≡ length c.args.self.now.transitions.items =
     c.len-first.ensures ∙ c.args.self.now.transitions.ok.0 in
-    record {
-      within = omega (
-        arith,
-        ap length h.split,
-        ap length c.deref_mut.ensures.value,
-        length-append c.args.self.now.transitions.items h.added,
-      );
-    }
+    let longer = length-append c.args.self.now.transitions.items h.added in
+    record { within = omega (arith, ap length h.split, ap length c.deref_mut.ensures.value, longer) }
 
 pub overflow_cast-result-2 : goal.overflow_cast-result-2
 overflow_cast-result-2 g c =

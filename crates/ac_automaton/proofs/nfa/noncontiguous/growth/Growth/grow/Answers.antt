@@ -134,13 +134,8 @@ loop-at-smaller g c =
     let begun = c.requires.begun in
     let at = (goal.at.loop-at-smaller g c).At-loop-at in
     let order = order-now g at begun.1 (begun-order begun.0 begun.1 c.args.self begun.2) in
-    omega (
-      arith,
-      (c.loop-at.invariant.going begun.1 order).grown.few,
-      c.len.ensures,
-      c.loop-at.self.queue.ok.0,
-      c.loop-at-test.true,
-    )
+    let few = (c.loop-at.invariant.going begun.1 order).grown.few in
+    omega (arith, few, c.len.ensures, c.loop-at.self.queue.ok.0, c.loop-at-test.true)
 
 pub loop-at-preserved : goal.loop-at-preserved
 loop-at-preserved g c =
