@@ -34,6 +34,7 @@ pub own_target-is : (kind : MatchKind) (patterns : List (List ℕ)) (u : List �
 own_target-is kind patterns u b node = cond-true (is_node kind patterns (u ++ b ∷ []))
     (Some (u ++ b ∷ [])) None node
 
+-- where it goes on, the longer string is a node
 pub own_target-node : (kind : MatchKind) (patterns : List (List ℕ)) (u : List ℕ) (b : ℕ)
     → step kind patterns Yes (Some u) b ≢ None
     → is_node kind patterns (u ++ b ∷ []) ≡ true
@@ -55,6 +56,7 @@ some_node kind patterns sorted order (x ∷ u) b node =
 module _ (site : Site) {unsorted : List Transition} {queue : List QueuedState}
     (h : IsBranching site site.queued.to unsorted queue)
     {transitions : List Transition} (s : HasSorted (length site.transitions) unsorted transitions) where
+  -- the string has as many bytes as the state is deep
   long : length (string site) ≡ site.queued.depth
   long = word-length h.waits
 
@@ -64,14 +66,17 @@ module _ (site : Site) {unsorted : List Transition} {queue : List QueuedState}
       s.split ∙ ap (λ (ts : List Transition). ts ++ s.sorted)
       (ap (take (length site.transitions)) h.split ∙ take-append_seam site.transitions h.added)
 
+  -- the sorted transitions are those that were added
   sorted-from : IsPermutation h.added s.sorted
   sorted-from =
       subst (λ (ts : List Transition). IsPermutation ts s.sorted)
       (ap (drop (length site.transitions)) h.split ∙ drop-append_seam site.transitions h.added) s.permutation
 
+  -- the transitions of the state
   abbrev range : List Transition
   range = slice_range transitions (length site.transitions) (length transitions)
 
+  -- they are the sorted ones
   range-is : range ≡ s.sorted
   range-is =
       let count : length transitions - length site.transitions ≡ length s.sorted =
@@ -81,28 +86,33 @@ module _ (site : Site) {unsorted : List Transition} {queue : List QueuedState}
       ∙ ap (take (length s.sorted)) (drop-append_seam site.transitions s.sorted)
       ∙ take-length s.sorted
 
+  -- a transition that was added is one of them
   in-range : (t : Transition) → IsIn t h.added → IsIn t range
   in-range t has =
       subst (IsIn t) (sym range-is)
       (IsIn-from_Contains t s.sorted
       (Contains-permutation h.added s.sorted t sorted-from (Contains-from_IsIn t h.added has)))
 
+  -- and each of them was added
   from-range : (t : Transition) → IsIn t range → IsIn t h.added
   from-range t has =
       IsIn-from_Contains t h.added
       (Contains-permutation s.sorted h.added t (IsPermutation-sym h.added s.sorted sorted-from)
       (Contains-from_IsIn t s.sorted (subst (IsIn t) range-is has)))
 
+  -- their bytes ascend
   ascending : IsStrictlyIncreasing (transition_bytes range)
   ascending =
       subst (λ (ts : List Transition). IsStrictlyIncreasing (transition_bytes ts)) (sym range-is)
       (sorted-ascends h.added s.sorted
       (AllPairs-from_IsOrdered (λ (a b : Transition). a.byte ≢ b.byte) h.added h.apart) sorted-from s.order)
 
+  -- the patterns before the end of the string have no byte behind it
   whole' : (k : ℕ) → site.queued.from ≤ k → k < site.patterns_end
       → byte_at site.sorted (length (string site)) k ≡ None
   whole' k a c = subst (λ (n : ℕ). byte_at site.sorted n k ≡ None) (sym long) (site.ends.whole k a c)
 
+  -- and the first one after them has
   other' : site.patterns_end < site.queued.to → byte_at site.sorted (length (string site)) site.patterns_end
       ≢ None
   other' l = subst (λ (n : ℕ). byte_at site.sorted n site.patterns_end ≢ None) (sym long) (site.ends.other l)
@@ -121,6 +131,7 @@ module _ (site : Site) {unsorted : List Transition} {queue : List QueuedState}
       (starts_with-push (key_at site.sorted m.at) (string site) (plain_byte site.fold t.byte) front
       (subst (λ (n : ℕ). byte_at site.sorted n m.at ≡ Some (plain_byte site.fold t.byte)) (sym long) m.byte))
 
+  -- and each byte that makes a node has a transition
   node-transition : (b : ℕ)
       → is_node site.kind site.patterns (string site ++ plain_byte site.fold b ∷ []) ≡ true
       → Contains (transition_bytes range) b
@@ -144,6 +155,7 @@ module _ (site : Site) {unsorted : List Transition} {queue : List QueuedState}
             (IsIn-map (λ (x : Transition). x.byte) t.0 range (in-range t.0 t.1)))
       ]
 
+  -- so the transitions are by the bytes by which an anchored search goes on
   branches : (b : ℕ) → Contains (transition_bytes range) b ↔
       (step site.kind site.patterns Yes (Some (string site)) (plain_byte site.fold b) ≢ None)
   branches b = (
@@ -160,6 +172,7 @@ module _ (site : Site) {unsorted : List Transition} {queue : List QueuedState}
         (own_target-node site.kind site.patterns (string site) (plain_byte site.fold b) some)),
   )
 
+  -- and each leads where it goes on
   leads : (k : ℕ) (t : Transition) → slice_get range k ≡ Some t
       → slice_get (nodes_of site.sorted queue) t.target
       ≡ Some (step site.kind site.patterns Yes (Some (string site)) (plain_byte site.fold t.byte))
@@ -212,7 +225,7 @@ module _ (site : Site) {unsorted : List Transition} {queue : List QueuedState}
           let deep = h.waits.inner (omega arith) in
           absurd (omega (arith, deep, ap length none, long))
 
-  -- the state that stands for the (string site)
+  -- the state that stands for the string
   abbrev pub whole_state : ℕ → State
   whole_state link = record {
     transitions = length site.transitions;
@@ -224,6 +237,7 @@ module _ (site : Site) {unsorted : List Transition} {queue : List QueuedState}
     depth = site.queued.depth;
   }
 
+  -- the trie has branched: the state is whole
   pub has-branched : {link : ℕ}
       → Links (grown_meaning site.kind site.fold site.patterns site.sorted transitions queue)
       (length site.states) (Some (string site)) link

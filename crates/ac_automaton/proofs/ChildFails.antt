@@ -20,9 +20,11 @@ module _ {kind : MatchKind} {fold : Bool} {patterns : List (List ℕ)} {sorted :
     {states : List State} {transitions : List Transition}
     {queue : List QueuedState} {p : QueuedState} {place b : ℕ}
     (h : HasChild kind fold patterns sorted states transitions queue p place b) where
+  -- the string has as many bytes as the state is deep
   long : length (word sorted p) ≡ p.depth
   long = word-length h.waits
 
+  -- and that of the child one more
   longer : length (word sorted p ++ b ∷ []) ≡ p.depth + 1
   longer = omega (arith, length_push (word sorted p) b, long)
 
@@ -34,6 +36,7 @@ module _ {kind : MatchKind} {fold : Bool} {patterns : List (List ℕ)} {sorted :
       (equal_to-some kind patterns sorted h.order (word sorted p ++ b ∷ []) place h.to h.range h.some
       (subst (λ (n : ℕ). byte_at sorted n place ≡ None) (sym longer) ends))))
 
+  -- where the first pattern goes on, none is the string of the child
   no-pattern : (is_leftmost kind ≡ true → byte_at sorted (p.depth + 1) place ≢ None) → is_leftmost kind ≡ true
       → equal_to kind patterns (word sorted p ++ b ∷ []) ≡ []
   no-pattern goes_on leftmost =

@@ -26,6 +26,7 @@ pub record IsInner (sorted : List Keyed) (queue : List QueuedState) (s : ℕ) (v
   pub node : v ≡ Some (word sorted queued)
 
 module _ (sorted : List Keyed) where
+  -- a string of the queue keeps its place
   words_more : (queue more : List QueuedState) (k : ℕ) (v : Node)
       → slice_get (map (λ p. Some (word sorted p)) queue) k ≡ Some v
       → slice_get (map (λ p. Some (word sorted p)) (queue ++ more)) k ≡ Some v
@@ -50,6 +51,7 @@ module _ (sorted : List Keyed) where
       subst (λ (s : ℕ). slice_get (nodes_of sorted queue) s ≡ Some (Some (word sorted p))) four
       (slice_get-map (λ q. Some (word sorted q)) queue k ∙ ap (option_map (λ q. Some (word sorted q))) e)
 
+  -- each of the strings is that of a state in the queue
   words_from : (queue : List QueuedState) (k : ℕ) (v : Node)
       → slice_get (map (λ p. Some (word sorted p)) queue) k ≡ Some v
       → (p : QueuedState) × (slice_get queue k ≡ Some p) × (v ≡ Some (word sorted p))
@@ -149,6 +151,7 @@ module _ (g : Meaning) (transitions more : List Transition) (split : transitions
 
 -- one more state is whole
 module _ (g : Meaning) (states : List State) (v : Node) (t : State) where
+  -- then all of them are
   pub AreStates-push : AreStates g states → slice_get g.nodes (length states) ≡ Some v
       → Represents g (length states) v t
       → AreStates g (states ++ t ∷ [])

@@ -16,6 +16,7 @@ slice_get-left [] ys k h = absurd (omega arith)
 slice_get-left (x ∷ xs) ys zero h = refl
 slice_get-left (x ∷ xs) ys (suc k) h = slice_get-left xs ys k (omega arith)
 
+-- what stands behind a list in two lists, one behind the other
 slice_get-right : (xs ys : List ℕ) (k : ℕ) → length xs ≤ k
     → slice_get (xs ++ ys) k ≡ slice_get ys (k - length xs)
 slice_get-right [] ys k h = ap (slice_get ys) (let e : k ≡ k - 0 = omega arith in e)

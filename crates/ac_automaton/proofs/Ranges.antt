@@ -25,6 +25,7 @@ use Rattle.ac_automaton.proofs.Prefixes.{ended, starts_with-ended, starts_with-l
 use Rattle.ac_automaton.proofs.Orders.{rank, byte_at-ascends}
 use Rattle.ac_automaton.proofs.Places.{get-same, get-range, get-from_range, place-of, IsIn-place, IsOrdered-places}
 
+-- no string is less than itself
 not-less : (u : List ℕ) → slice_cmp nat_cmp u u ≡ Less → ⊥
 not-less u e =
     let flip : Less ≡ Greater = sym e ∙ nat_list_cmp_total.antisymm u u ∙ ap ordering_reverse e in absurd (cc)
@@ -46,6 +47,7 @@ rank-None : (r : Option ℕ) → rank r ≤ 0 → r ≡ None
 rank-None None l = refl
 rank-None (Some b) l = absurd (omega arith)
 
+-- or of its being there
 rank-Some : (r : Option ℕ) (b : ℕ) → rank r ≡ suc b → r ≡ Some b
 rank-Some None b e = absurd (omega arith)
 rank-Some (Some x) b e = ap (λ (z : ℕ). Some z) (let same : x ≡ b = omega arith in same)
@@ -59,6 +61,7 @@ module _ (kind : MatchKind) (patterns : List (List ℕ)) (sorted : List Keyed)
     pub key : key_at sorted k ≡ pattern_of patterns n
     pub takes_part : IsIn n (participants kind patterns)
 
+  -- each place has such a pattern
   pub at-place : (k : ℕ) → k < length sorted → Stands k (pattern_at sorted k).number
   at-place k within =
       let m = pattern_at sorted k in
@@ -111,6 +114,7 @@ module _ (kind : MatchKind) (patterns : List (List ℕ)) (sorted : List Keyed)
       (s.place, s.stands.within, front)
 
   module _ (u : List ℕ) (from to : ℕ) (range : IsRangeOf sorted u from to) where
+    -- each in the range begins with the string
     begins : (k : ℕ) → from ≤ k → k < to → starts_with nat_eq (key_at sorted k) u ≡ true
     begins k low high = (range.begins k (omega (arith, range.within))).0 (low, high)
 
@@ -125,15 +129,18 @@ module _ (kind : MatchKind) (patterns : List (List ℕ)) (sorted : List Keyed)
     module _ (end : ℕ) (later : from ≤ end) (within : end ≤ to)
         (ends : (k : ℕ) → from ≤ k → k < end → byte_at sorted (length u) k ≡ None)
         (other : end < to → byte_at sorted (length u) end ≢ None) where
+      -- each before the end is the string
       whole : (k : ℕ) → from ≤ k → k < end → key_at sorted k ≡ u
       whole k low high = starts_with-ended (key_at sorted k) u (begins k low (omega arith)) (ends k low high)
 
+      -- each from the end on is longer
       pub longer : (k : ℕ) → end ≤ k → k < to → byte_at sorted (length u) k ≢ None
       longer k low high none =
           let up = range-ascends end k later low high in
           let zero : rank (byte_at sorted (length u) k) ≡ 0 = ap rank none in
           other (omega arith) (rank-None (byte_at sorted (length u) end) (omega arith))
 
+      -- each before the end is one of the patterns that are the string
       among-equal_to : (n : ℕ) → IsIn n (slice_range (numbers sorted) from end)
           → IsIn n (equal_to kind patterns u)
       among-equal_to n h =
@@ -147,12 +154,14 @@ module _ (kind : MatchKind) (patterns : List (List ℕ)) (sorted : List Keyed)
           (IsIn-filter (λ k. bytes_eq (pattern_of patterns k) u) m (participants kind patterns) s.takes_part
           ((bytes_eq-Decides (pattern_of patterns m) u).1 key))
 
+      -- and each of these stands before the end
       equal_to-among : (n : ℕ) → IsIn n (equal_to kind patterns u)
           → IsIn n (slice_range (numbers sorted) from end)
       equal_to-among n h =
           let e = IsIn-from_filter (λ m. bytes_eq (pattern_of patterns m) u) n (participants kind patterns) h in
           let s = place-at n e.0 in
-          let key : key_at sorted s.place ≡ u = s.stands.key ∙ (bytes_eq-Decides (pattern_of patterns n) u).0 e.1 in
+          let same = (bytes_eq-Decides (pattern_of patterns n) u).0 e.1 in
+          let key : key_at sorted s.place ≡ u = s.stands.key ∙ same in
           let there =
           (range.begins s.place s.stands.within).1
           (subst (λ (w : List ℕ). starts_with nat_eq w u ≡ true) (sym key) (starts_with-itself u)) in
@@ -163,9 +172,11 @@ module _ (kind : MatchKind) (patterns : List (List ℕ)) (sorted : List Keyed)
                 ∙ ap (slice_get (numbers sorted))
                 (let at : from + (s.place - from) ≡ s.place = omega (arith, there.0) in at) ∙ s.stands.number)
             | inr behind ↦
-                absurd (longer s.place behind there.1 (ap (λ (w : List ℕ). slice_get w (length u)) key ∙ ended u))
+                absurd
+                (longer s.place behind there.1 (ap (λ (w : List ℕ). slice_get w (length u)) key ∙ ended u))
           ]
 
+      -- their numbers ascend there
       among-ordered : IsOrdered (λ m n. m < n) (slice_range (numbers sorted) from end)
       among-ordered = IsOrdered-places (λ m n. m < n) (slice_range (numbers sorted) from end) (λ j k m n l e f.
           let p = get-from_range (numbers sorted) from end j m e in
@@ -186,6 +197,7 @@ module _ (kind : MatchKind) (patterns : List (List ℕ)) (sorted : List Keyed)
             | inr below ↦ omega (arith, below.1)
           ])
 
+      -- so these are the patterns that are the string
       pub range-equal_to : slice_range (numbers sorted) from end ≡ equal_to kind patterns u
       range-equal_to =
           IsOrdered-unique (λ m n. m < n) (λ m n l h. absurd (omega arith)) _ _ among-equal_to equal_to-among
@@ -203,11 +215,13 @@ module _ (kind : MatchKind) (patterns : List (List ℕ)) (sorted : List Keyed)
         (IsIn-filter (λ m. bytes_eq (pattern_of patterns m) u) n (participants kind patterns) s.takes_part
         ((bytes_eq-Decides (pattern_of patterns n) u).1 key))
 
+    -- and where it is longer, none is
     pub equal_to-none : byte_at sorted (length u) from ≢ None → equal_to kind patterns u ≡ []
     equal_to-none goes_on = nil-from_none (equal_to kind patterns u) (λ n h.
         let e = IsIn-from_filter (λ m. bytes_eq (pattern_of patterns m) u) n (participants kind patterns) h in
         let s = place-at n e.0 in
-        let key : key_at sorted s.place ≡ u = s.stands.key ∙ (bytes_eq-Decides (pattern_of patterns n) u).0 e.1 in
+        let same = (bytes_eq-Decides (pattern_of patterns n) u).0 e.1 in
+        let key : key_at sorted s.place ≡ u = s.stands.key ∙ same in
         let there =
         (range.begins s.place s.stands.within).1
         (subst (λ (w : List ℕ). starts_with nat_eq w u ≡ true) (sym key) (starts_with-itself u)) in
@@ -232,10 +246,12 @@ module _ (kind : MatchKind) (patterns : List (List ℕ)) (sorted : List Keyed)
             absurd (other more (rank-Some (byte_at sorted (length u) end) b (omega arith) ∙ sym byte))
       ]
 
+      -- each in the run begins with the longer string
       child-within : (k : ℕ) → place ≤ k → k < end → starts_with nat_eq (key_at sorted k) (u ++ b ∷ []) ≡ true
       child-within k a c =
           starts_with-push (key_at sorted k) u b (begins k (omega arith) (omega arith)) (same k a c ∙ byte)
 
+      -- and only these do
       child-only : (k : ℕ) → k < length sorted → starts_with nat_eq (key_at sorted k) (u ++ b ∷ []) ≡ true
           → (place ≤ k) × (k < end)
       child-only k within h =
@@ -255,6 +271,7 @@ module _ (kind : MatchKind) (patterns : List (List ℕ)) (sorted : List Keyed)
             ],
           )
 
+      -- so the run is its range
       pub run-range : IsRangeOf sorted (u ++ b ∷ []) place end
       run-range = record {
         ordered = omega arith;

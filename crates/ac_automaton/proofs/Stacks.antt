@@ -95,8 +95,8 @@ module _ (patterns : List (List ℕ)) (all : List Keyed) (order : IsOrder Standa
         let p = place-take m at all h in
         let first = subst (λ (w : Keyed). is_gt (slice_cmp nat_cmp w.key here.key) ≡ false)
         (place-read none m all p.whole)
-        (no_greater-from_Precedes (get_or all p.whole.place none) here (precedes p.whole.place at p.below within))
-        in
+        (no_greater-from_Precedes (get_or all p.whole.place none) here
+        (precedes p.whole.place at p.below within)) in
         elim (cases_lt at j) [
           | inl more ↦
               let second = no_greater-from_Precedes here (get_or all j none) (precedes at j more below) in

@@ -25,7 +25,8 @@ use Rattle.ac_automaton.specs.Growths.{IsGrown, IsNotPushed, IsRangeOf, grown_me
 use Rattle.ac_automaton.specs.Sorted.{Keyed, IsOrder, byte_at, key_at}
 use Rattle.ac_automaton.specs.Tries.{AreStates, IsNumberOf, NumbersNodes, Represents, transition_bytes, transitions_of, miss, state_at}
 use Rattle.ac_automaton.proofs.Branched.{own_target-is, some_node}
-use Rattle.ac_automaton.proofs.Branching.{IsBranching, IsRun, Site, child-range, fresh, string, word-length}
+use Rattle.ac_automaton.proofs.Branching.{IsBranching, IsRun, Site, child-range, string, word-length}
+use Rattle.ac_automaton.proofs.Child.{fresh}
 use Rattle.ac_automaton.proofs.Counting.{IsOrdered-from_AllPairs, length-le-from_IsOrdered}
 use Rattle.ac_automaton.proofs.Grown.{IsInner, nodes-cases}
 use Rattle.ac_automaton.proofs.Places.{place-of, IsIn-place, IsOrdered-places}
@@ -61,6 +62,7 @@ module _ (kind : MatchKind) (patterns : List (List ℕ)) (sorted : List Keyed)
   abbrev words : List (List ℕ)
   words = map (word sorted) queue
 
+  -- each of them is that of a state in the queue
   word-at : (k : ℕ) (w : List ℕ) → slice_get words k ≡ Some w
       → (q : QueuedState) × (slice_get queue k ≡ Some q) × (word sorted q ≡ w)
   word-at k w e = by queue k e
@@ -71,6 +73,7 @@ module _ (kind : MatchKind) (patterns : List (List ℕ)) (sorted : List Keyed)
       by (q ∷ qs) zero e = (q, refl, (cc))
       by (q ∷ qs) (suc j) e = by qs j e
 
+  -- no two are the same
   words-apart : IsOrdered (λ u w. u ≢ w) words
   words-apart = IsOrdered-places (λ u w. u ≢ w) words (λ j k u w l e f same.
       let q = word-at j u e in
@@ -78,12 +81,14 @@ module _ (kind : MatchKind) (patterns : List (List ℕ)) (sorted : List Keyed)
       let at = grown.apart j k q.0 r.0 q.1 r.1 (q.2 ∙ same ∙ sym r.2) in
       absurd (omega arith))
 
+  -- a string with a range is a node
   range-node : (u : List ℕ) (from to : ℕ) → IsRangeOf sorted u from to → from < to
       → is_node kind patterns u ≡ true
   range-node u from to range some =
       let inside : from < length sorted = (omega (arith, range.within)) in
       pattern-node kind patterns sorted order from u inside ((range.begins from inside).0 (omega arith, some))
 
+  -- each string of the queue is an inner node
   word-inner : (u : List ℕ) → IsIn u words → IsIn u (inner_nodes kind patterns)
   word-inner u h =
       let k = place-of u words h in
@@ -110,6 +115,7 @@ module _ (kind : MatchKind) (patterns : List (List ℕ)) (sorted : List Keyed)
   inner-is : (s : ℕ) (u : List ℕ) (i : IsInner sorted queue s (Some u)) → u ≡ word sorted i.queued
   inner-is s u i = let e : Some u ≡ Some (word sorted i.queued) = i.node in cc
 
+  -- so the string of an inner number is one of the queue
   word-of_inner : (s : ℕ) (u : List ℕ) → IsInner sorted queue s (Some u) → IsIn u words
   word-of_inner s u i =
       IsIn-place u words i.place
@@ -151,14 +157,17 @@ module _ (kind : MatchKind) (patterns : List (List ℕ)) (sorted : List Keyed)
     -- where the state of a string stands, and the byte that makes a longer node of it
     module _ (w : List ℕ) (b s : ℕ) (at : slice_get (nodes_of sorted queue) s ≡ Some (Some w))
         (longer : is_node kind patterns (w ++ b ∷ []) ≡ true) where
+      -- the byte is a plain one
       settled-byte : plain_byte fold b ≡ b
       settled-byte =
           let m = some_node kind patterns sorted order w b longer in
           settled m.0 (length w) b (starts_with-last (key_at sorted m.0) w b m.2)
 
+      -- an anchored search goes on by it
       onto : step kind patterns Yes (Some w) (plain_byte fold b) ≡ Some (w ++ b ∷ [])
       onto = ap (step kind patterns Yes (Some w)) settled-byte ∙ own_target-is kind patterns w b longer
 
+      -- the state stands for its string
       represented : Represents (grown_meaning kind fold patterns sorted transitions queue) s (Some w)
           (state_at states s)
       represented =
@@ -214,6 +223,7 @@ module _ (kind : MatchKind) (patterns : List (List ℕ)) (sorted : List Keyed)
           | inr (inr i) ↦ (s.number, record { inner = omega (arith, i.number); named = s.named })
         ]
 
+    -- so each inner node is a string of the queue
     inner-word : (u : List ℕ) → IsIn u (inner_nodes kind patterns) → IsIn u words
     inner-word u h =
         let n = inner-number u (Contains-from_IsIn u (inner_nodes kind patterns) h) in

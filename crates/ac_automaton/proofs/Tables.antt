@@ -14,6 +14,7 @@ length-not_nil : (xs : List ℕ) → xs ≢ [] → 0 < length xs
 length-not_nil [] h = absurd (h refl)
 length-not_nil (x ∷ xs) h = omega arith
 
+-- a list with elements is not empty
 not_nil-length : (xs : List ℕ) → 0 < length xs → xs ≢ []
 not_nil-length xs h e = omega (arith, ap (length {A = ℕ}) e)
 

@@ -53,6 +53,7 @@ plain-twice : (fold : Bool) (b : ℕ) → plain_byte fold (plain_byte fold b) �
 plain-twice false b = refl
 plain-twice true b = grind (arith, nat_tests)
 
+-- so does each byte of a plain string
 plain-byte : (fold : Bool) (text : List ℕ) (k b : ℕ) → slice_get (plain fold text) k ≡ Some b
     → plain_byte fold b ≡ b
 plain-byte fold [] k b e = absurd (cc)
@@ -60,6 +61,7 @@ plain-byte fold (x ∷ text) zero b e =
     let is : plain_byte fold x ≡ b = cc in ap (plain_byte fold) (sym is) ∙ plain-twice fold x ∙ is
 plain-byte fold (x ∷ text) (suc k) b e = plain-byte fold text k b e
 
+-- and of a plain pattern
 plain-pattern : (fold : Bool) (texts : List (List ℕ)) (n k b : ℕ)
     → slice_get (pattern_of (map (plain fold) texts) n) k ≡ Some b
     → plain_byte fold b ≡ b
@@ -84,6 +86,7 @@ sorted-plain kind fold texts sorted order place depth b e =
     ]
 
 module _ (kind : MatchKind) (fold : Bool) (patterns : List (List ℕ)) (sorted : List Keyed) where
+  -- the dead state stands for the dead node
   dead-represents : (s : ℕ) → s < START
       → Represents (grown_meaning kind fold patterns sorted [] []) s None dead_state
   dead-represents s l = record {
@@ -109,6 +112,7 @@ module _ (kind : MatchKind) (fold : Bool) (patterns : List (List ℕ)) (sorted :
     inner = λ h. absurd (omega arith);
   }
 
+  -- so the first two states are whole
   first-states : AreStates (grown_meaning kind fold patterns sorted [] []) first_states
   first-states = record {
     dead = refl;
@@ -185,6 +189,7 @@ module _ (kind : MatchKind) (fold : Bool) (patterns : List (List ℕ)) (sorted :
           AreStates-push (grown_meaning kind fold patterns sorted transitions queue) first_states
           (Some []) t h.meant refl start
 
+  -- with the start at both its numbers a trie goes on to grow
   pub start-going : (first : List State) (none : List QueuedState) (p : QueuedState) (t : State)
       (transitions : List Transition) (queue : List QueuedState) → first ≡ first_states → none ≡ []
       → IsOrder kind patterns sorted
@@ -212,6 +217,7 @@ module _ (kind : MatchKind) (fold : Bool) (patterns : List (List ℕ)) (sorted :
     next = inr (record { place = at; number = h.count; waits = e });
   }
 
+  -- once a state of the queue has branched, the next one is next
   pub going-on : {states : List State} {transitions : List Transition} {queue : List QueuedState} {at : ℕ}
       {p : QueuedState} {t : State} {new_transitions : List Transition} {new_queue : List QueuedState}
       → IsGoing states transitions queue at
@@ -253,14 +259,17 @@ module _ (texts : List (List ℕ)) {fold : Bool} {kind : MatchKind} {sorted : Li
     {states : List State} {transitions : List Transition} {queue : List QueuedState} {at : ℕ}
     (h : IsGoing kind fold (map (plain fold) texts) sorted states transitions queue at)
     (all : length queue ≤ at) where
+  -- there are as many states as the first ones and the queue
   counted : length states ≡ FIRST_INNER + length queue
   counted = omega (arith, h.count, h.within)
 
+  -- so their numbers are those of the nodes
   numbered : NumbersNodes kind (map (plain fold) texts) (nodes_of sorted queue)
   numbered =
       numbers-nodes kind (map (plain fold) texts) sorted h.order (length states) transitions queue h.grown
       fold h.settled states h.meant counted
 
+  -- the states are those of an automaton
   pub whole-table : IsTable (trie_of texts fold kind (numbers sorted) transitions states)
       (nodes_of sorted queue)
   whole-table =

@@ -4,7 +4,8 @@ use Rattle.ac_automaton.specs.Builds.{IsRefused, too_many_states}
 use Rattle.ac_automaton.specs.Growths.{EndsPatterns, HasBranched, HasChild, HasSorted, IsReady, Source, grown_meaning, nodes_of, source_of, word}
 use Rattle.ac_automaton.specs.Tries.{miss}
 use Rattle.ac_automaton.proofs.Branched.{has-branched, link-due, still-meant, whole_state}
-use Rattle.ac_automaton.proofs.Branching.{IsBranching, IsBranchingFrom, IsRun, Site, branching-begins, branching-goes_on, child-deep, goes-on, has-child, string}
+use Rattle.ac_automaton.proofs.Branching.{IsBranching, IsBranchingFrom, IsRun, Site, branching-begins, child-deep, goes-on, has-child, string}
+use Rattle.ac_automaton.proofs.Child.{branching-goes_on}
 use Rattle.ac_automaton.proofs.Places.{refused-by, written-whole}
 use Rattle.ac_automaton.proofs.StateCount.{refused}
 use Rattle.ac_automaton.proofs.nfa.noncontiguous.growth.Growth.branch.Given.{Over}
