@@ -150,9 +150,9 @@ module _ (site : Site) {unsorted : List Transition} {queue : List QueuedState}
             h.covered m.0 (plain_byte site.fold b) b le there.1
             (subst (λ (n : ℕ). byte_at site.sorted n m.0 ≡ Some (plain_byte site.fold b)) long byte) refl
             in
-            subst (Contains (transition_bytes range)) t.2
-            (Contains-from_IsIn t.0.byte (transition_bytes range)
-            (IsIn-map (λ (x : Transition). x.byte) t.0 range (in-range t.0 t.1)))
+            subst (Contains (transition_bytes range)) t.by
+            (Contains-from_IsIn t.transition.byte (transition_bytes range)
+            (IsIn-map (λ (x : Transition). x.byte) t.transition range (in-range t.transition t.among)))
       ]
 
   -- so the transitions are by the bytes by which an anchored search goes on

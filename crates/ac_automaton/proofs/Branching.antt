@@ -47,6 +47,12 @@ next-node kind patterns sorted queue s p (inr later) =
     subst (λ (k : ℕ). slice_get (nodes_of sorted queue) k ≡ Some (Some (word sorted p))) (sym later.number)
     (nodes-inner sorted queue later.place p later.waits)
 
+-- one of the transitions is by the byte
+pub record HasTransition (x : ℕ) (transitions : List Transition) : Type 0 where
+  pub transition : Transition
+  pub among : IsIn transition transitions
+  pub by : transition.byte ≡ x
+
 -- a state whose children come: the trie as far as it has grown, the state, and where the patterns end that are
 -- its string
 pub record Site : Type 0 where
@@ -104,7 +110,7 @@ module _ (site : Site) where
     pub by_patterns : (t : Transition) → IsIn t added → GoesOnBy place (plain_byte site.fold t.byte)
     pub covered : (k b x : ℕ) → site.patterns_end ≤ k → k < place → next_byte k ≡ Some b
         → plain_byte site.fold x ≡ b
-        → (t : Transition) × IsIn t added × (t.byte ≡ x)
+        → HasTransition x added
     pub apart : IsOrdered (λ s t. s.byte ≢ t.byte) added
     pub smaller : place < site.queued.to → (k : ℕ) → site.queued.from ≤ k → k < place
         → rank (next_byte k) < rank (next_byte place)

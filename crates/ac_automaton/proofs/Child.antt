@@ -20,7 +20,7 @@ use Rattle.ac_automaton.proofs.Orders.{rank}
 use Rattle.ac_util.proofs.Prefixes.{starts_with-length}
 use Rattle.ac_automaton.proofs.Places.{get-append, get-added, get-added_cases, get-same}
 use Rattle.ac_automaton.proofs.Prefixes.{front-is, push-injective}
-use Rattle.ac_automaton.proofs.Branching.{GoesOnBy, IsBranching, IsRun, Site, Waits-more, below, child-range, front, greater, long, next_byte, pushed, string, word-length}
+use Rattle.ac_automaton.proofs.Branching.{GoesOnBy, HasTransition, IsBranching, IsRun, Site, Waits-more, below, child-range, front, greater, long, next_byte, pushed, string, word-length}
 
 module _ (site : Site) {place end b : ℕ} {transitions : List Transition} {queue : List QueuedState}
     (h : IsBranching site place transitions queue) (run : IsRun site place end b)
@@ -57,10 +57,10 @@ module _ (site : Site) {place end b : ℕ} {transitions : List Transition} {queu
       same-parent : (j : ℕ) → j < length site.states
           → slice_get (nodes_of site.sorted site.queue) j ≡ Some (Some (string site)) → ⊥
       same-parent j l node = elim (nodes-cases site.sorted site.queue j (Some (string site)) node) [
-        | inl dead ↦ absurd (let e = dead.1 in cc)
+        | inl dead ↦ absurd (let e = dead.node in cc)
         | inr (inl start) ↦
-            at-start j l start.0
-            (let e : Some (string site) ≡ Some [] = start.2 in let f : string site ≡ [] = cc in f)
+            at-start j l start.from
+            (let e : Some (string site) ≡ Some [] = start.node in let f : string site ≡ [] = cc in f)
             site.ready.next
         | inr (inr inner) ↦ at-inner j l inner site.ready.next
       ]
@@ -228,18 +228,23 @@ module _ (site : Site) {place end b : ℕ} {transitions : List Transition} {queu
   -- each pattern up to the end of the run has a transition by its byte
   step-covered : (k c x : ℕ) → site.patterns_end ≤ k → k < end → next_byte site k ≡ Some c
       → plain_byte site.fold x ≡ c
-      → (t : Transition) × IsIn t (h.added ++ more_transitions) × (t.byte ≡ x)
+      → HasTransition x (h.added ++ more_transitions)
   step-covered k c x l m e is = elim (cases_lt k place) [
     | inl before ↦
         let r = h.covered k c x l before e is in
-        (r.0, IsIn-append_left r.0 h.added more_transitions r.1, r.2)
+        record {
+          transition = r.transition;
+          among = IsIn-append_left r.transition h.added more_transitions r.among;
+          by = r.by;
+        }
     | inr le ↦
-        let same_byte : c ≡ b = (let f : Some c ≡ Some b = sym e ∙ run.same k le m ∙ run.byte in cc) in (
-          record { byte = x; target = FIRST_INNER + length queue },
-          IsIn-append_right _ h.added more_transitions
-              (leading-has site.fold b (FIRST_INNER + length queue) settled x (is ∙ same_byte)),
-          refl,
-        )
+        let same_byte : c ≡ b = (let f : Some c ≡ Some b = sym e ∙ run.same k le m ∙ run.byte in cc) in
+        record {
+          transition = record { byte = x; target = FIRST_INNER + length queue };
+          among = IsIn-append_right _ h.added more_transitions
+              (leading-has site.fold b (FIRST_INNER + length queue) settled x (is ∙ same_byte));
+          by = refl;
+        }
   ]
 
   -- no two transitions have one byte

@@ -1,5 +1,5 @@
 -- What stays as a trie grows.
-use Rattle.std.proofs.Common.{◌≡◌, ℕ, zero, suc, ◌+◌, ◌<◌, ◌≤◌, ◌≢◌, List, [], ◌∷◌, ◌++◌, length, map, ◌⊎◌, length-append, inl, inr, refl, ap, sym, ◌∙◌, subst, arith, Some, None, get_or}
+use Rattle.std.proofs.Common.{◌≡◌, ℕ, zero, suc, ◌+◌, ◌<◌, ◌≤◌, ◌≢◌, List, [], ◌∷◌, ◌++◌, length, map, ◌⊎◌, length-append, inl, inr, ap, sym, ◌∙◌, subst, arith, Some, None, get_or}
 use Rattle.std.specs.Prelude.{slice_get, option_map, Contains, ◌↔◌}
 use Rattle.std.specs.List.Sorted.{IsStrictlyIncreasing}
 use Rattle.std.proofs.lemmas.Bool.{cases_lt}
@@ -15,9 +15,18 @@ use Rattle.ac_automaton.specs.declared.nfa.noncontiguous.state.Transition.{Trans
 use Rattle.ac_automaton.specs.Growths.{IsGrown, nodes_of, word}
 use Rattle.ac_automaton.specs.Sorted.{Keyed}
 use Rattle.ac_automaton.specs.Tries.{Meaning, AreStates, Represents, transition_bytes, own_target, transitions_of, state_at}
-use Rattle.ac_automaton.proofs.Places.{get-same}
+use Rattle.ac_automaton.proofs.Places.{get-from_map, get-same}
 
 -- what a number says of its node: dead, the start, or the string of a state in the queue
+pub record IsDeadNumber (s : ℕ) (v : Node) : Type 0 where
+  pub below : s < START
+  pub node : v ≡ None
+
+pub record IsStartNumber (s : ℕ) (v : Node) : Type 0 where
+  pub from : START ≤ s
+  pub below : s < FIRST_INNER
+  pub node : v ≡ Some []
+
 pub record IsInner (sorted : List Keyed) (queue : List QueuedState) (s : ℕ) (v : Node) : Type 0 where
   pub place : ℕ
   pub number : s ≡ FIRST_INNER + place
@@ -51,25 +60,18 @@ module _ (sorted : List Keyed) where
       subst (λ (s : ℕ). slice_get (nodes_of sorted queue) s ≡ Some (Some (word sorted p))) four
       (slice_get-map (λ q. Some (word sorted q)) queue k ∙ ap (option_map (λ q. Some (word sorted q))) e)
 
-  -- each of the strings is that of a state in the queue
-  words_from : (queue : List QueuedState) (k : ℕ) (v : Node)
-      → slice_get (map (λ p. Some (word sorted p)) queue) k ≡ Some v
-      → (p : QueuedState) × (slice_get queue k ≡ Some p) × (v ≡ Some (word sorted p))
-  words_from [] k v e = absurd (cc)
-  words_from (p ∷ queue) zero v e = (p, refl, (cc))
-  words_from (p ∷ queue) (suc k) v e = words_from queue k v e
-
   -- a number is one of the two that stand for the dead node, of a start, or of a state in the queue
   pub nodes-cases : (queue : List QueuedState) (s : ℕ) (v : Node) → slice_get (nodes_of sorted queue) s ≡ Some v
-      → ((s < START) × (v ≡ None))
-      ⊎ (((START ≤ s) × (s < FIRST_INNER) × (v ≡ Some [])) ⊎ IsInner sorted queue s v)
-  nodes-cases queue zero v e = inl (omega arith, (cc))
-  nodes-cases queue (suc zero) v e = inl (omega arith, (cc))
-  nodes-cases queue (suc (suc zero)) v e = inr (inl (omega arith, omega arith, (cc)))
-  nodes-cases queue (suc (suc (suc zero))) v e = inr (inl (omega arith, omega arith, (cc)))
+      → IsDeadNumber s v ⊎ (IsStartNumber s v ⊎ IsInner sorted queue s v)
+  nodes-cases queue zero v e = inl (record { below = omega arith; node = (cc) })
+  nodes-cases queue (suc zero) v e = inl (record { below = omega arith; node = (cc) })
+  nodes-cases queue (suc (suc zero)) v e =
+      inr (inl (record { from = omega arith; below = omega arith; node = (cc) }))
+  nodes-cases queue (suc (suc (suc zero))) v e =
+      inr (inl (record { from = omega arith; below = omega arith; node = (cc) }))
   nodes-cases queue (suc (suc (suc (suc k)))) v e =
-      let r = words_from queue k v e in
-      inr (inr (record { place = k; number = omega arith; queued = r.0; waits = r.1; node = r.2 }))
+      let r = get-from_map (λ p. Some (word sorted p)) queue k v e in
+      inr (inr (record { place = k; number = omega arith; queued = r.from; waits = r.there; node = sym r.is }))
 
 -- it is still so for more states, and for other transitions that are no more
 pub IsGrown-later : {kind : MatchKind} {patterns : List (List ℕ)} {sorted : List Keyed} {m n : ℕ}

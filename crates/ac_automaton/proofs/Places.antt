@@ -1,5 +1,5 @@
 -- Elements of lists by their places, as a list grows and in a part of it.
-use Rattle.std.proofs.Common.{◌≡◌, ◌≢◌, Bool, true, false, not, ℕ, zero, suc, ◌+◌, ◌-◌, ◌<◌, List, [], ◌∷◌, ◌++◌, length, get_or, take, drop, ◌⊎◌, inl, inr, refl, ap, sym, ◌∙◌, subst, arith, Option, Some, None}
+use Rattle.std.proofs.Common.{◌≡◌, ◌≢◌, Bool, true, false, not, ℕ, zero, suc, ◌+◌, ◌-◌, ◌<◌, List, [], ◌∷◌, ◌++◌, length, map, get_or, take, drop, ◌⊎◌, inl, inr, refl, ap, sym, ◌∙◌, subst, arith, Option, Some, None}
 use Rattle.std.specs.Prelude.{is_some, slice_get, slice_range, Result, Ok, Err, MatchResult, IsErrAnd}
 use Rattle.std.proofs.lemmas.Bool.{false≢true}
 use Rattle.std.proofs.lemmas.Option.{get_or_from_slice_get, slice_get-get_or, slice_get_within}
@@ -67,6 +67,19 @@ get-from_range xs a b k x e =
     let l : k < b - a = past-take (b - a) (drop a xs) k x e in
     let m : a + k < b = omega arith in
     (m, sym (get-range xs a b k m) ∙ e)
+
+-- an element of a mapped list is the image of the one at its place
+pub record ImageAt {X Y : Type 0} (f : X → Y) (xs : List X) (k : ℕ) (y : Y) : Type 0 where
+  pub from : X
+  pub there : slice_get xs k ≡ Some from
+  pub is : f from ≡ y
+
+pub get-from_map : {X Y : Type 0} (f : X → Y) (xs : List X) (k : ℕ) (y : Y) → slice_get (map f xs) k ≡ Some y
+    → ImageAt f xs k y
+get-from_map f [] k y e = absurd (cc)
+get-from_map f (x ∷ xs) zero y e = record { from = x; there = refl; is = (cc) }
+get-from_map f (x ∷ xs) (suc k) y e =
+    let r = get-from_map f xs k y e in record { from = r.from; there = r.there; is = r.is }
 
 -- where an element stands in a list
 pub record PlaceOf {X : Type 0} (x : X) (xs : List X) : Type 0 where

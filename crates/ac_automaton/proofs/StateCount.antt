@@ -29,7 +29,7 @@ use Rattle.ac_automaton.proofs.Branching.{IsBranching, IsRun, Site, child-range,
 use Rattle.ac_automaton.proofs.Child.{fresh}
 use Rattle.ac_automaton.proofs.Counting.{IsOrdered-from_AllPairs, length-le-from_IsOrdered}
 use Rattle.ac_automaton.proofs.Grown.{IsInner, nodes-cases}
-use Rattle.ac_automaton.proofs.Places.{place-of, IsIn-place, IsOrdered-places}
+use Rattle.ac_automaton.proofs.Places.{ImageAt, get-from_map, place-of, IsIn-place, IsOrdered-places}
 use Rattle.ac_automaton.proofs.Ranges.{pattern-node}
 use Rattle.ac_automaton.proofs.Prefixes.{starts_with-last}
 
@@ -63,22 +63,15 @@ module _ (kind : MatchKind) (patterns : List (List ℕ)) (sorted : List Keyed)
   words = map (word sorted) queue
 
   -- each of them is that of a state in the queue
-  word-at : (k : ℕ) (w : List ℕ) → slice_get words k ≡ Some w
-      → (q : QueuedState) × (slice_get queue k ≡ Some q) × (word sorted q ≡ w)
-  word-at k w e = by queue k e
-    where
-      by : (qs : List QueuedState) (j : ℕ) → slice_get (map (word sorted) qs) j ≡ Some w
-          → (q : QueuedState) × (slice_get qs j ≡ Some q) × (word sorted q ≡ w)
-      by [] j e = absurd (cc)
-      by (q ∷ qs) zero e = (q, refl, (cc))
-      by (q ∷ qs) (suc j) e = by qs j e
+  word-at : (k : ℕ) (w : List ℕ) → slice_get words k ≡ Some w → ImageAt (word sorted) queue k w
+  word-at k w e = get-from_map (word sorted) queue k w e
 
   -- no two are the same
   words-apart : IsOrdered (λ u w. u ≢ w) words
   words-apart = IsOrdered-places (λ u w. u ≢ w) words (λ j k u w l e f same.
       let q = word-at j u e in
       let r = word-at k w f in
-      let at = grown.apart j k q.0 r.0 q.1 r.1 (q.2 ∙ same ∙ sym r.2) in
+      let at = grown.apart j k q.from r.from q.there r.there (q.is ∙ same ∙ sym r.is) in
       absurd (omega arith))
 
   -- a string with a range is a node
@@ -93,21 +86,21 @@ module _ (kind : MatchKind) (patterns : List (List ℕ)) (sorted : List Keyed)
   word-inner u h =
       let k = place-of u words h in
       let q = word-at k.place u k.there in
-      let w = grown.waits k.place q.0 q.1 in
-      let node = range-node (word sorted q.0) q.0.from q.0.to w.range (w.some (omega arith)) in
-      let some : word sorted q.0 ≢ [] =
+      let w = grown.waits k.place q.from q.there in
+      let node = range-node (word sorted q.from) q.from.from q.from.to w.range (w.some (omega arith)) in
+      let some : word sorted q.from ≢ [] =
       (λ e. let l = word-length w in let m = ap length e in
       let d = w.inner (omega arith) in absurd (omega arith)) in
-      subst (λ (v : List ℕ). IsIn v (inner_nodes kind patterns)) q.2
-      (IsIn-from_Contains (word sorted q.0) (inner_nodes kind patterns)
-      (inner_nodes-has kind patterns (word sorted q.0) node some))
+      subst (λ (v : List ℕ). IsIn v (inner_nodes kind patterns)) q.is
+      (IsIn-from_Contains (word sorted q.from) (inner_nodes kind patterns)
+      (inner_nodes-has kind patterns (word sorted q.from) node some))
 
   -- an inner number is that of a place in the queue
   inner-at : (s : ℕ) (v : Node) → FIRST_INNER ≤ s → slice_get (nodes_of sorted queue) s ≡ Some v
       → IsInner sorted queue s v
   inner-at s v inner e = elim (nodes-cases sorted queue s v e) [
-    | inl dead ↦ absurd (omega (arith, dead.0))
-    | inr (inl start) ↦ absurd (omega (arith, start.1))
+    | inl dead ↦ absurd (omega (arith, dead.below))
+    | inr (inl start) ↦ absurd (omega (arith, start.below))
     | inr (inr i) ↦ i
   ]
 
@@ -135,7 +128,7 @@ module _ (kind : MatchKind) (patterns : List (List ℕ)) (sorted : List Keyed)
       (inner_nodes-has kind patterns (u ++ b ∷ []) node longer) in
       let count = length-le-from_IsOrdered ((u ++ b ∷ []) ∷ words) (inner_nodes kind patterns) (
         (λ w h same. let k = place-of w words h in let q = word-at k.place w k.there in
-            fresh k.place q.0 q.1 (q.2 ∙ sym same)),
+            fresh k.place q.from q.there (q.is ∙ sym same)),
         words-apart,
       )
       (λ w h. elim h [
@@ -218,8 +211,8 @@ module _ (kind : MatchKind) (patterns : List (List ℕ)) (sorted : List Keyed)
         let only = inner_nodes-only kind patterns u h in
         let s = reaches (length u) u refl only.0 in
         elim (nodes-cases sorted queue s.number (Some u) s.named) [
-          | inl dead ↦ absurd (let e = dead.1 in cc)
-          | inr (inl start) ↦ absurd (only.1 (let e : Some u ≡ Some [] = start.2 in let f : u ≡ [] = cc in f))
+          | inl dead ↦ absurd (let e = dead.node in cc)
+          | inr (inl start) ↦ absurd (only.1 (let e : Some u ≡ Some [] = start.node in let f : u ≡ [] = cc in f))
           | inr (inr i) ↦ (s.number, record { inner = omega (arith, i.number); named = s.named })
         ]
 
