@@ -1,5 +1,5 @@
 -- Once all its children have come a state is whole.
-use Rattle.std.proofs.Common.{◌≡◌, ◌≢◌, ℕ, zero, suc, ◌+◌, ◌-◌, ◌<◌, ◌≤◌, true, List, [], ◌∷◌, ◌++◌, length, length-append, take, drop, inl, inr, refl, ap, sym, ◌∙◌, subst, arith, Some, None}
+use Rattle.std.proofs.Common.{◌≡◌, ◌≢◌, ℕ, zero, suc, ◌-◌, ◌<◌, ◌≤◌, true, List, [], ◌∷◌, ◌++◌, length, length-append, take, drop, inl, inr, refl, ap, sym, ◌∙◌, subst, arith, Some, None}
 use Rattle.std.specs.Prelude.{nat_eq, slice_get, slice_range, Contains, ◌↔◌}
 use Rattle.std.specs.List.{starts_with}
 use Rattle.std.specs.List.Sorted.{IsPermutation, IsStrictlyIncreasing}
@@ -17,11 +17,11 @@ use Rattle.ac_automaton.specs.declared.nfa.noncontiguous.growth.QueuedState.{Que
 use Rattle.ac_automaton.specs.declared.nfa.noncontiguous.state.State.{State}
 use Rattle.ac_automaton.specs.declared.nfa.noncontiguous.state.TheConstants.{START, FIRST_INNER}
 use Rattle.ac_automaton.specs.declared.nfa.noncontiguous.state.Transition.{Transition}
-use Rattle.ac_automaton.specs.Growths.{HasBranched, HasSorted, IsGrown, IsNext, LinkIsDue, grown_meaning, nodes_of}
+use Rattle.ac_automaton.specs.Growths.{HasBranched, HasSorted, IsNext, LinkIsDue, grown_meaning, nodes_of}
 use Rattle.ac_automaton.specs.Sorted.{IsOrder, Keyed, byte_at, key_at}
 use Rattle.ac_automaton.specs.Tries.{AreStates, Links, transition_bytes}
 use Rattle.ac_automaton.proofs.Branching.{IsBranching, Site, string, word-length}
-use Rattle.ac_automaton.proofs.Grown.{AreStates-more}
+use Rattle.ac_automaton.proofs.Grown.{AreStates-more, IsGrown-later}
 use Rattle.ac_automaton.proofs.Leading.{sorted-ascends}
 use Rattle.ac_automaton.proofs.Places.{IsIn-place}
 use Rattle.ac_automaton.proofs.Ranges.{pattern-node, node-pattern, range-equal_to}
@@ -34,6 +34,7 @@ pub own_target-is : (kind : MatchKind) (patterns : List (List ℕ)) (u : List �
 own_target-is kind patterns u b node = cond-true (is_node kind patterns (u ++ b ∷ []))
     (Some (u ++ b ∷ [])) None node
 
+-- where it goes on, the longer string is a node
 pub own_target-node : (kind : MatchKind) (patterns : List (List ℕ)) (u : List ℕ) (b : ℕ)
     → step kind patterns Yes (Some u) b ≢ None
     → is_node kind patterns (u ++ b ∷ []) ≡ true
@@ -55,6 +56,7 @@ some_node kind patterns sorted order (x ∷ u) b node =
 module _ (site : Site) {unsorted : List Transition} {queue : List QueuedState}
     (h : IsBranching site site.queued.to unsorted queue)
     {transitions : List Transition} (s : HasSorted (length site.transitions) unsorted transitions) where
+  -- the string has as many bytes as the state is deep
   long : length (string site) ≡ site.queued.depth
   long = word-length h.waits
 
@@ -64,45 +66,53 @@ module _ (site : Site) {unsorted : List Transition} {queue : List QueuedState}
       s.split ∙ ap (λ (ts : List Transition). ts ++ s.sorted)
       (ap (take (length site.transitions)) h.split ∙ take-append_seam site.transitions h.added)
 
+  -- the sorted transitions are those that were added
   sorted-from : IsPermutation h.added s.sorted
   sorted-from =
       subst (λ (ts : List Transition). IsPermutation ts s.sorted)
       (ap (drop (length site.transitions)) h.split ∙ drop-append_seam site.transitions h.added) s.permutation
 
+  -- the transitions of the state
   abbrev range : List Transition
   range = slice_range transitions (length site.transitions) (length transitions)
 
+  -- they are the sorted ones
   range-is : range ≡ s.sorted
   range-is =
       let count : length transitions - length site.transitions ≡ length s.sorted =
-      (let l = ap length split in omega (arith, length-append site.transitions s.sorted)) in
+      (omega (arith, ap length split, length-append site.transitions s.sorted)) in
       ap (λ (n : ℕ). take n (drop (length site.transitions) transitions)) count
       ∙ ap (λ (ts : List Transition). take (length s.sorted) (drop (length site.transitions) ts)) split
       ∙ ap (take (length s.sorted)) (drop-append_seam site.transitions s.sorted)
       ∙ take-length s.sorted
 
+  -- a transition that was added is one of them
   in-range : (t : Transition) → IsIn t h.added → IsIn t range
   in-range t has =
       subst (IsIn t) (sym range-is)
       (IsIn-from_Contains t s.sorted
       (Contains-permutation h.added s.sorted t sorted-from (Contains-from_IsIn t h.added has)))
 
+  -- and each of them was added
   from-range : (t : Transition) → IsIn t range → IsIn t h.added
   from-range t has =
       IsIn-from_Contains t h.added
       (Contains-permutation s.sorted h.added t (IsPermutation-sym h.added s.sorted sorted-from)
       (Contains-from_IsIn t s.sorted (subst (IsIn t) range-is has)))
 
+  -- their bytes ascend
   ascending : IsStrictlyIncreasing (transition_bytes range)
   ascending =
       subst (λ (ts : List Transition). IsStrictlyIncreasing (transition_bytes ts)) (sym range-is)
       (sorted-ascends h.added s.sorted
       (AllPairs-from_IsOrdered (λ (a b : Transition). a.byte ≢ b.byte) h.added h.apart) sorted-from s.order)
 
+  -- the patterns before the end of the string have no byte behind it
   whole' : (k : ℕ) → site.queued.from ≤ k → k < site.patterns_end
       → byte_at site.sorted (length (string site)) k ≡ None
   whole' k a c = subst (λ (n : ℕ). byte_at site.sorted n k ≡ None) (sym long) (site.ends.whole k a c)
 
+  -- and the first one after them has
   other' : site.patterns_end < site.queued.to → byte_at site.sorted (length (string site)) site.patterns_end
       ≢ None
   other' l = subst (λ (n : ℕ). byte_at site.sorted n site.patterns_end ≢ None) (sym long) (site.ends.other l)
@@ -113,14 +123,15 @@ module _ (site : Site) {unsorted : List Transition} {queue : List QueuedState}
   transition-node t has =
       let m = h.by_patterns t has in
       let inside : m.at < length site.sorted =
-      (let w = h.waits.range.within in let l = m.high in omega arith) in
+      (omega (arith, h.waits.range.within, m.high)) in
       let front = (h.waits.range.begins m.at inside).0
-      ((let e = site.ends.later in let l = m.low in omega arith), m.high) in
+      ((omega (arith, site.ends.later, m.low)), m.high) in
       pattern-node site.kind site.patterns site.sorted site.ready.order m.at
       (string site ++ plain_byte site.fold t.byte ∷ []) inside
       (starts_with-push (key_at site.sorted m.at) (string site) (plain_byte site.fold t.byte) front
       (subst (λ (n : ℕ). byte_at site.sorted n m.at ≡ Some (plain_byte site.fold t.byte)) (sym long) m.byte))
 
+  -- and each byte that makes a node has a transition
   node-transition : (b : ℕ)
       → is_node site.kind site.patterns (string site ++ plain_byte site.fold b ∷ []) ≡ true
       → Contains (transition_bytes range) b
@@ -139,11 +150,12 @@ module _ (site : Site) {unsorted : List Transition} {queue : List QueuedState}
             h.covered m.0 (plain_byte site.fold b) b le there.1
             (subst (λ (n : ℕ). byte_at site.sorted n m.0 ≡ Some (plain_byte site.fold b)) long byte) refl
             in
-            subst (Contains (transition_bytes range)) t.2
-            (Contains-from_IsIn t.0.byte (transition_bytes range)
-            (IsIn-map (λ (x : Transition). x.byte) t.0 range (in-range t.0 t.1)))
+            subst (Contains (transition_bytes range)) t.by
+            (Contains-from_IsIn t.transition.byte (transition_bytes range)
+            (IsIn-map (λ (x : Transition). x.byte) t.transition range (in-range t.transition t.among)))
       ]
 
+  -- so the transitions are by the bytes by which an anchored search goes on
   branches : (b : ℕ) → Contains (transition_bytes range) b ↔
       (step site.kind site.patterns Yes (Some (string site)) (plain_byte site.fold b) ≢ None)
   branches b = (
@@ -160,6 +172,7 @@ module _ (site : Site) {unsorted : List Transition} {queue : List QueuedState}
         (own_target-node site.kind site.patterns (string site) (plain_byte site.fold b) some)),
   )
 
+  -- and each leads where it goes on
   leads : (k : ℕ) (t : Transition) → slice_get range k ≡ Some t
       → slice_get (nodes_of site.sorted queue) t.target
       ≡ Some (step site.kind site.patterns Yes (Some (string site)) (plain_byte site.fold t.byte))
@@ -194,7 +207,7 @@ module _ (site : Site) {unsorted : List Transition} {queue : List QueuedState}
           → site.queued.fail < length site.states
       near some (inl start) =
           absurd (some (ap (λ (n : ℕ). take n (key_at site.sorted site.queued.from)) start.depth))
-      near some (inr later) = h.waits.back (let s = later.number in omega arith)
+      near some (inr later) = h.waits.back (omega (arith, later.number))
 
       first_two : (f : ℕ) → f < START → slice_get (nodes_of site.sorted queue) f ≡ Some None
       first_two zero l = refl
@@ -205,13 +218,14 @@ module _ (site : Site) {unsorted : List Transition} {queue : List QueuedState}
           → IsNext site.kind site.patterns site.sorted site.queue (length site.states) site.queued
           → (site.queued.fail < START) × (slice_get (nodes_of site.sorted queue) site.queued.fail ≡ Some None)
       start none l (inl first) =
-          let f : site.queued.fail < START = (let s = first.number in omega arith)
+          let f : site.queued.fail < START = (omega (arith, first.number))
           in (f, first_two site.queued.fail f)
       start none l (inr later) =
-          absurd (let s = later.number in let d = h.waits.inner (omega arith) in let e = ap length none in
-          let m = long in omega arith)
+          let number = later.number in
+          let deep = h.waits.inner (omega arith) in
+          absurd (omega (arith, deep, ap length none, long))
 
-  -- the state that stands for the (string site)
+  -- the state that stands for the string
   abbrev pub whole_state : ℕ → State
   whole_state link = record {
     transitions = length site.transitions;
@@ -223,16 +237,17 @@ module _ (site : Site) {unsorted : List Transition} {queue : List QueuedState}
     depth = site.queued.depth;
   }
 
+  -- the trie has branched: the state is whole
   pub has-branched : {link : ℕ}
       → Links (grown_meaning site.kind site.fold site.patterns site.sorted transitions queue)
       (length site.states) (Some (string site)) link
       → HasBranched site.kind site.fold site.patterns site.sorted site.states site.queue site.queued
       (whole_state link) transitions queue
   has-branched {link} links = record {
-    grown = still-grown;
+    grown = IsGrown-later (omega arith) (omega (arith, as-many)) h.grown;
     meant = still-meant;
     represents = record {
-      ordered = (let l = ap length split in omega (arith, length-append site.transitions s.sorted));
+      ordered = omega (arith, ap length split, length-append site.transitions s.sorted);
       listed = omega arith;
       ascending = ascending;
       branches = branches;
@@ -248,29 +263,18 @@ module _ (site : Site) {unsorted : List Transition} {queue : List QueuedState}
       links = links;
       long = sym long;
       outer = λ l. let m = long in outer l site.ready.next;
-      inner = λ l. let m = long in let d = h.waits.inner l in omega arith;
+      inner = λ l. omega (arith, long, h.waits.inner l);
     };
     kept = h.kept;
   }
     where
       as-many : length transitions ≡ length unsorted
       as-many =
-          let l = ap length split in
-          let m = ap length h.split in
-          let n = length_permutation h.added s.sorted sorted-from in
-          omega (arith, length-append site.transitions s.sorted, length-append site.transitions h.added)
-
-      still-grown : IsGrown site.kind site.patterns site.sorted (length site.states + 1) transitions queue
-      still-grown = record {
-        few = h.grown.few;
-        counted = (let l = as-many in let m = h.grown.counted in omega arith);
-        waits = h.grown.waits;
-        apart = h.grown.apart;
-        parents = h.grown.parents;
-      }
+          let moved = length_permutation h.added s.sorted sorted-from in
+          omega (arith, ap length split, ap length h.split, moved, length-append {A = Transition})
 
       outer : length site.states < FIRST_INNER
           → IsNext site.kind site.patterns site.sorted site.queue (length site.states) site.queued
           → length (string site) ≡ 0
       outer l (inl start) = long ∙ start.depth
-      outer l (inr later) = absurd (let n = later.number in omega arith)
+      outer l (inr later) = absurd (omega (arith, later.number))

@@ -1,28 +1,21 @@
 -- How the children of a state are put behind the queue, one run of patterns after another.
-use Rattle.std.proofs.Common.{◌≡◌, ◌≢◌, ℕ, suc, ◌+◌, ◌-◌, ◌<◌, ◌≤◌, true, Bool, List, [], ◌∷◌, ◌++◌, length, length-append, take, ◌⊎◌, inl, inr, refl, ap, sym, ◌∙◌, subst, arith, Option, Some, None, get_or}
+use Rattle.std.proofs.Common.{◌≡◌, ◌≢◌, ℕ, suc, ◌+◌, ◌<◌, ◌≤◌, true, Bool, List, [], ◌∷◌, ◌++◌, length, take, inl, inr, refl, ap, sym, subst, arith, Option, Some, None}
 use Rattle.std.specs.Prelude.{nat_eq, slice_get}
 use Rattle.std.specs.List.{starts_with}
-use Rattle.std.proofs.lemmas.Bool.{cases_lt}
-use Rattle.std.proofs.lemmas.List.{append-nil, append_assoc, length-map, length_push, length-take-le}
-use Rattle.std.proofs.lemmas.Option.{slice_get-get_or, slice_get_within}
-use Rattle.std.proofs.Math.Seq.{take-append_seam}
+use Rattle.std.proofs.lemmas.List.{append-nil, length_push, length-take-le}
+use Rattle.std.proofs.lemmas.Option.{slice_get_within}
 use Rattle.ac_util.specs.declared.search.MatchKind.{MatchKind}
-use Rattle.ac_util.specs.declared.primitives.TheConstants.{GREATEST}
 use Rattle.ac_util.specs.Sameness.{plain_byte}
-use Rattle.ac_util.proofs.Lists.{IsIn, IsIn-append_cases, IsIn-append_left, IsIn-append_right, IsOrdered, IsOrdered-append}
+use Rattle.ac_util.proofs.Lists.{IsIn, IsOrdered}
 use Rattle.ac_automaton.specs.declared.nfa.noncontiguous.growth.QueuedState.{QueuedState}
 use Rattle.ac_automaton.specs.declared.nfa.noncontiguous.state.State.{State}
-use Rattle.ac_automaton.specs.declared.nfa.noncontiguous.state.TheConstants.{START, FIRST_INNER}
 use Rattle.ac_automaton.specs.declared.nfa.noncontiguous.state.Transition.{Transition}
-use Rattle.ac_automaton.specs.Growths.{Source, EndsPatterns, HasChild, IsGrown, IsNext, IsRangeOf, IsReady, Waits, grown_meaning, leading, nodes_of, word}
+use Rattle.ac_automaton.specs.Growths.{Source, EndsPatterns, HasChild, IsGrown, IsNext, IsRangeOf, IsReady, Waits, grown_meaning, nodes_of, word}
 use Rattle.ac_automaton.specs.Sorted.{Keyed, byte_at, key_at}
-use Rattle.ac_automaton.specs.Tries.{AreStates, miss}
-use Rattle.ac_automaton.proofs.Grown.{AreStates-more, IsInner, nodes-cases, nodes-inner, nodes-more}
-use Rattle.ac_automaton.proofs.Leading.{leading-apart, leading-has, leading-length, leading-plain}
+use Rattle.ac_automaton.specs.Tries.{AreStates}
+use Rattle.ac_automaton.proofs.Grown.{AreStates-more, IsGrown-later, nodes-inner, nodes-more}
 use Rattle.ac_automaton.proofs.Orders.{rank}
 use Rattle.ac_util.proofs.Prefixes.{starts_with-length}
-use Rattle.ac_automaton.proofs.Places.{get-append, get-added, get-added_cases, get-same}
-use Rattle.ac_automaton.proofs.Prefixes.{front-is, push-injective}
 use Rattle.ac_automaton.proofs.Ranges.{run-range, longer, next-greater}
 
 module _ {kind : MatchKind} {patterns : List (List ℕ)} {sorted : List Keyed} {queue : List QueuedState}
@@ -53,6 +46,12 @@ next-node kind patterns sorted queue s p (inl start) =
 next-node kind patterns sorted queue s p (inr later) =
     subst (λ (k : ℕ). slice_get (nodes_of sorted queue) k ≡ Some (Some (word sorted p))) (sym later.number)
     (nodes-inner sorted queue later.place p later.waits)
+
+-- one of the transitions is by the byte
+pub record HasTransition (x : ℕ) (transitions : List Transition) : Type 0 where
+  pub transition : Transition
+  pub among : IsIn transition transitions
+  pub by : transition.byte ≡ x
 
 -- a state whose children come: the trie as far as it has grown, the state, and where the patterns end that are
 -- its string
@@ -111,11 +110,12 @@ module _ (site : Site) where
     pub by_patterns : (t : Transition) → IsIn t added → GoesOnBy place (plain_byte site.fold t.byte)
     pub covered : (k b x : ℕ) → site.patterns_end ≤ k → k < place → next_byte k ≡ Some b
         → plain_byte site.fold x ≡ b
-        → (t : Transition) × IsIn t added × (t.byte ≡ x)
+        → HasTransition x added
     pub apart : IsOrdered (λ s t. s.byte ≢ t.byte) added
     pub smaller : place < site.queued.to → (k : ℕ) → site.queued.from ≤ k → k < place
         → rank (next_byte k) < rank (next_byte place)
 
+  -- a byte ranks above none
   rank-some : (r : Option ℕ) → r ≢ None → 0 < rank r
   rank-some None some = absurd (some refl)
   rank-some (Some b) some = omega arith
@@ -123,16 +123,7 @@ module _ (site : Site) where
   -- it begins behind the patterns that are the string
   pub branching-begins : IsBranching site.patterns_end site.transitions site.queue
   branching-begins = record {
-    grown = record {
-      few = site.ready.grown.few;
-      counted = site.ready.grown.counted;
-      waits = site.ready.grown.waits;
-      apart = site.ready.grown.apart;
-      parents = λ k q e.
-          let r = site.ready.grown.parents k q e in
-          let early = r.early in
-          record { parent = r.parent; early = omega arith; named = r.named };
-    };
+    grown = IsGrown-later (omega arith) (omega arith) site.ready.grown;
     meant = site.ready.meant;
     waits = site.ready.waits;
     node = next-node site.kind site.patterns site.sorted site.queue
@@ -141,7 +132,7 @@ module _ (site : Site) where
     more = omega arith;
     low = omega arith;
     high = site.ends.within;
-    children = λ c q le e. absurd (let l = slice_get_within site.queue c q e in omega arith);
+    children = λ c q le e. absurd (omega (arith, slice_get_within site.queue c q e));
     added = [];
     split = sym (append-nil site.transitions);
     leads = λ t none. absurd none;
@@ -150,8 +141,7 @@ module _ (site : Site) where
     apart = tt;
     smaller = λ more k a b.
         let zero : rank (next_byte k) ≡ 0 = ap rank (site.ends.whole k a b) in
-        let one = rank-some (next_byte site.patterns_end) (site.ends.other more) in
-        omega arith;
+        omega (arith, rank-some (next_byte site.patterns_end) (site.ends.other more));
   }
 
   -- behind the patterns that are the string each pattern has a further byte
@@ -163,7 +153,7 @@ module _ (site : Site) where
       word-length h.waits in
       subst (λ (n : ℕ). byte_at site.sorted n place ≢ None) same
       (longer site.kind site.patterns site.sorted site.ready.order string site.queued.from site.queued.to
-      h.waits.range site.patterns_end site.ends.later (let l = h.low in omega arith)
+      h.waits.range site.patterns_end site.ends.later (omega (arith, h.low))
       (λ k a c. subst (λ (n : ℕ). byte_at site.sorted n k ≡ None) (sym same) (site.ends.whole k a c))
       (λ l. subst (λ (n : ℕ). byte_at site.sorted n site.patterns_end ≢ None) (sym same) (site.ends.other l))
       place
@@ -182,10 +172,12 @@ module _ (site : Site) where
   module _ {place end b : ℕ} {transitions : List Transition} {queue : List QueuedState}
       (h : IsBranching place transitions queue)
       (run : IsRun place end b) where
-    long : length string ≡ site.queued.depth
+    -- the string has as many bytes as the state is deep
+    pub long : length string ≡ site.queued.depth
     long = word-length h.waits
 
-    below : (k : ℕ) → site.queued.from ≤ k → k < place → rank (next_byte k) < suc b
+    -- the patterns before the run have lesser bytes
+    pub below : (k : ℕ) → site.queued.from ≤ k → k < place → rank (next_byte k) < suc b
     below k a c =
         let r = h.smaller run.more k a c in
         let at : rank (next_byte place) ≡ suc b = ap rank run.byte in
@@ -196,7 +188,7 @@ module _ (site : Site) where
     child-range =
         run-range site.kind site.patterns site.sorted site.ready.order string site.queued.from
         site.queued.to h.waits.range place end b
-        (let l = h.low in let m = site.ends.later in omega arith) run.some run.high
+        (omega (arith, h.low, site.ends.later)) run.some run.high
         (subst (λ (n : ℕ). byte_at site.sorted n place ≡ Some b) (sym long) run.byte)
         (λ k a c. subst (λ (n : ℕ). rank (byte_at site.sorted n k) < suc b) (sym long) (below k a c))
         (λ k a c. subst (λ (n : ℕ). byte_at site.sorted n k ≡ byte_at site.sorted n place) (sym long)
@@ -204,12 +196,13 @@ module _ (site : Site) where
         (λ l. subst (λ (n : ℕ). byte_at site.sorted n end ≢ byte_at site.sorted n place) (sym long)
         (run.other l))
 
-    greater : end < site.queued.to → suc b < rank (next_byte end)
+    -- the pattern behind the run has a greater one
+    pub greater : end < site.queued.to → suc b < rank (next_byte end)
     greater l =
         subst (λ (n : ℕ). suc b < rank (byte_at site.sorted n end)) long
         (next-greater site.kind site.patterns site.sorted site.ready.order string site.queued.from
         site.queued.to h.waits.range place end b
-        (let m = h.low in let n = site.ends.later in omega arith) run.some run.high
+        (omega (arith, h.low, site.ends.later)) run.some run.high
         (subst (λ (n : ℕ). byte_at site.sorted n place ≡ Some b) (sym long) run.byte)
         (λ k a c. subst (λ (n : ℕ). rank (byte_at site.sorted n k) < suc b) (sym long) (below k a c))
         (λ k a c. subst (λ (n : ℕ). byte_at site.sorted n k ≡ byte_at site.sorted n place) (sym long)
@@ -217,18 +210,18 @@ module _ (site : Site) where
         (λ m. subst (λ (n : ℕ). byte_at site.sorted n end ≢ byte_at site.sorted n place) (sym long)
         (run.other m)) l)
 
-    pushed : length (string ++ b ∷ []) ≡ site.queued.depth + 1
-    pushed = let l = length_push string b in let m = long in omega arith
+    -- the string of the child is one byte longer
+    pub pushed : length (string ++ b ∷ []) ≡ site.queued.depth + 1
+    pushed = omega (arith, length_push string b, long)
 
-    front : starts_with nat_eq (key_at site.sorted place) (string ++ b ∷ []) ≡ true
-    front = (child-range.begins place (let w = h.waits.range.within in omega arith)).0 (omega arith, run.some)
+    -- the pattern at the place begins with it
+    pub front : starts_with nat_eq (key_at site.sorted place) (string ++ b ∷ []) ≡ true
+    front = (child-range.begins place (omega (arith, h.waits.range.within))).0 (omega arith, run.some)
 
     -- the pattern at the place has the byte
     pub child-deep : site.queued.depth + 1 ≤ length (key_at site.sorted place)
     child-deep =
-        let l = starts_with-length (key_at site.sorted place) (string ++ b ∷ []) front in
-        let m = pushed in
-        omega arith
+        omega (arith, starts_with-length (key_at site.sorted place) (string ++ b ∷ []) front, pushed)
 
     -- what the child's failure target is told by
     pub has-child : HasChild site.kind site.fold site.patterns site.sorted site.states transitions queue
@@ -252,287 +245,7 @@ module _ (site : Site) where
             → IsNext site.kind site.patterns site.sorted site.queue (length site.states) site.queued
             → site.queued.fail < length site.states
         near deep (inl start) = absurd (deep start.depth)
-        near deep (inr later) = h.waits.back (let n = later.number in omega arith)
-
-    -- the child that waits for them
-    module _ (fail : ℕ)
-        (fails : slice_get (nodes_of site.sorted queue) fail
-        ≡ Some (miss site.kind site.patterns (Some (string ++ b ∷ [])))) where
-      abbrev child : QueuedState
-      child = record { from = place; to = end; depth = site.queued.depth + 1; fail = fail }
-
-      child-word : word site.sorted child ≡ string ++ b ∷ []
-      child-word =
-          ap (λ (n : ℕ). take n (key_at site.sorted place)) (sym pushed)
-          ∙ front-is (key_at site.sorted place) (string ++ b ∷ []) front
-
-      -- a state that was there before has another string: else it would have this parent
-      old-child : (k : ℕ) (q : QueuedState) → k < length site.queue → slice_get queue k ≡ Some q
-          → word site.sorted q ≡ string ++ b ∷ [] → ⊥
-      old-child k q l e w =
-          let known = slice_get-get_or site.queue k q l in
-          let is : get_or site.queue k q ≡ q =
-          get-same queue k (get_or site.queue k q) q (h.kept k (get_or site.queue k q) known) e in
-          let there : slice_get site.queue k ≡ Some q = known ∙ ap (λ (r : QueuedState). Some r) is in
-          let parent = site.ready.grown.parents k q there in
-          let waits = site.ready.grown.waits k q there in
-          let depth : q.depth - 1 ≡ site.queued.depth =
-          (let m = word-length waits in
-          let n = ap length w in let o = pushed in omega arith) in
-          let same_string : take (q.depth - 1) (word site.sorted q) ≡ string =
-          ap (λ (n : ℕ). take n (word site.sorted q)) (depth ∙ sym long) ∙ ap (take (length string)) w
-          ∙ take-append_seam string (b ∷ []) in
-          same-parent parent.parent parent.early (parent.named ∙ ap (λ (v : List ℕ). Some (Some v)) same_string)
-        where
-          same-parent : (j : ℕ) → j < length site.states
-              → slice_get (nodes_of site.sorted site.queue) j ≡ Some (Some string) → ⊥
-          same-parent j l node = elim (nodes-cases site.sorted site.queue j (Some string) node) [
-            | inl dead ↦ absurd (let e = dead.1 in cc)
-            | inr (inl start) ↦
-                at-start j l start.0
-                (let e : Some string ≡ Some [] = start.2 in let f : string ≡ [] = cc in f) site.ready.next
-            | inr (inr inner) ↦ at-inner j l inner site.ready.next
-          ]
-            where
-              at-start : (j : ℕ) → j < length site.states → START ≤ j → string ≡ []
-                  → IsNext site.kind site.patterns site.sorted site.queue (length site.states) site.queued → ⊥
-              at-start j l low none (inl start) = absurd (let n = start.number in omega arith)
-              at-start j l low none (inr later) =
-                  let s = later.number in
-                  let d = site.ready.waits.inner (omega arith) in
-                  let e = ap length none in
-                  let m = long in
-                  absurd (omega arith)
-
-              at-inner : (j : ℕ) → j < length site.states → IsInner site.sorted site.queue j (Some string)
-                  → IsNext site.kind site.patterns site.sorted site.queue (length site.states) site.queued → ⊥
-              at-inner j l inner (inl start) = absurd
-                  (let n = start.number in let m = inner.number in omega arith)
-              at-inner j l inner (inr later) =
-                  let e : word site.sorted inner.queued ≡ string =
-                  (let w : Some string ≡ Some (word site.sorted inner.queued) = inner.node in
-                  let v : string ≡ word site.sorted inner.queued = cc in sym v) in
-                  let at =
-                  site.ready.grown.apart inner.place later.place inner.queued site.queued inner.waits
-                  later.waits e in
-                  let m = inner.number in
-                  let n = later.number in
-                  absurd (omega arith)
-
-      -- nor does a child that came before have this string
-      pub fresh : (k : ℕ) (q : QueuedState) → slice_get queue k ≡ Some q → word site.sorted q ≡ string ++ b ∷ []
-          → ⊥
-      fresh k q e w = elim (cases_lt k (length site.queue)) [
-        | inl before ↦ old-child k q before e w
-        | inr le ↦
-            let c = h.children k q le e in
-            let same_byte : c.byte ≡ b = (push-injective string string c.byte b (sym c.word_is ∙ w)).1 in
-            let less =
-            h.smaller run.more c.by.at (let m = site.ends.later in let l = c.by.low in omega arith) c.by.high in
-            let r : rank (next_byte c.by.at) ≡ suc c.byte = ap rank c.by.byte in
-            let s : rank (next_byte place) ≡ suc b = ap rank run.byte in
-            absurd (omega arith)
-      ]
-
-      child-waits : Waits site.kind site.patterns site.sorted (queue ++ child ∷ [])
-          (FIRST_INNER + length queue) child
-      child-waits =
-          let front_long = starts_with-length (key_at site.sorted place) (string ++ b ∷ []) front in
-          let named =
-          slice_get_within (nodes_of site.sorted queue) fail
-          (miss site.kind site.patterns (Some (string ++ b ∷ []))) fails in
-          let count = length-map queue (λ (q : QueuedState). Some (word site.sorted q)) in
-          record {
-            deep = (let l = pushed in omega arith);
-            range = subst (λ (v : List ℕ). IsRangeOf site.sorted v place end) (sym child-word) child-range;
-            fails = nodes-more site.sorted queue (child ∷ []) fail _
-                (fails ∙ ap (λ (v : List ℕ). Some (miss site.kind site.patterns (Some v))) (sym child-word));
-            back = λ l. omega arith;
-            some = λ l. run.some;
-            inner = λ l. omega arith;
-          }
-
-      still-apart : (j k : ℕ) (q r : QueuedState) → slice_get (queue ++ child ∷ []) j ≡ Some q
-          → slice_get (queue ++ child ∷ []) k ≡ Some r
-          → word site.sorted q ≡ word site.sorted r → j ≡ k
-      still-apart j k q r e f w = by (get-added_cases queue child q j e) (get-added_cases queue child r k f)
-        where
-          by : ((slice_get queue j ≡ Some q) ⊎ ((j ≡ length queue) × (child ≡ q)))
-              → ((slice_get queue k ≡ Some r) ⊎ ((k ≡ length queue) × (child ≡ r))) → j ≡ k
-          by (inl old) (inl old') = h.grown.apart j k q r old old' w
-          by (inl old) (inr new) = absurd (fresh j q old (w ∙ ap (word site.sorted) (sym new.1) ∙ child-word))
-          by (inr new) (inl old) =
-              absurd (fresh k r old (sym w ∙ ap (word site.sorted) (sym new.1) ∙ child-word))
-          by (inr new) (inr new') = new.0 ∙ sym new'.0
-
-      parent-string : take (child.depth - 1) (word site.sorted child) ≡ string
-      parent-string =
-          let back : site.queued.depth + 1 - 1 ≡ length string = (let l = long in omega arith) in
-          ap (λ (n : ℕ). take n (word site.sorted child)) back
-          ∙ ap (take (length string)) child-word
-          ∙ take-append_seam string (b ∷ [])
-
-      -- the transitions to it
-      abbrev pub more_transitions : List Transition
-      more_transitions = leading site.fold b (FIRST_INNER + length queue)
-
-      settled : plain_byte site.fold b ≡ b
-      settled = site.ready.settled place site.queued.depth b run.byte
-
-      still-grown : FIRST_INNER + length queue < GREATEST + 1
-          → IsGrown site.kind site.patterns site.sorted (length site.states + 1)
-          (transitions ++ more_transitions) (queue ++ child ∷ [])
-      still-grown few = record {
-        counted = (let l = h.grown.counted in let m = length-append transitions more_transitions in
-            let o = leading-length site.fold b (FIRST_INNER + length queue) in
-            let n = length_push queue child in
-            omega arith);
-        few = (let n = length_push queue child in omega arith);
-        waits = λ k q e. elim (get-added_cases queue child q k e) [
-          | inl old ↦
-              Waits-more (h.grown.waits k q old) (child ∷ [])
-          | inr new ↦
-              subst (λ (r : QueuedState). Waits site.kind site.patterns site.sorted (queue ++ child ∷ [])
-              (FIRST_INNER + k) r) new.1
-              (subst (λ (n : ℕ). Waits site.kind site.patterns site.sorted (queue ++ child ∷ [])
-              (FIRST_INNER + n) child)
-              (sym new.0) child-waits)
-        ];
-        apart = still-apart;
-        parents = λ k q e. elim (get-added_cases queue child q k e) [
-          | inl old ↦
-              let r = h.grown.parents k q old in
-              record {
-                parent = r.parent;
-                early = r.early;
-                named = nodes-more site.sorted queue (child ∷ []) r.parent _ r.named;
-              }
-          | inr new ↦ record {
-            parent = length site.states;
-            early = omega arith;
-            named = subst (λ (r : QueuedState). slice_get (nodes_of site.sorted (queue ++ child ∷ []))
-                (length site.states)
-                ≡ Some (Some (take (r.depth - 1) (word site.sorted r)))) new.1
-                (nodes-more site.sorted queue (child ∷ []) (length site.states) _
-                (h.node ∙ ap (λ (v : List ℕ). Some (Some v)) (sym parent-string)));
-          }
-        ];
-      }
-
-      step-leads : (t : Transition) → IsIn t (h.added ++ more_transitions)
-          → slice_get (nodes_of site.sorted (queue ++ child ∷ [])) t.target
-          ≡ Some (Some (string ++ plain_byte site.fold t.byte ∷ []))
-      step-leads t has = elim (IsIn-append_cases t h.added more_transitions has) [
-        | inl old ↦ nodes-more site.sorted queue (child ∷ []) t.target _ (h.leads t old)
-        | inr new ↦
-            let by = leading-plain site.fold b (FIRST_INNER + length queue) settled t new in
-            ap (slice_get (nodes_of site.sorted (queue ++ child ∷ []))) by.1
-            ∙ nodes-inner site.sorted (queue ++ child ∷ []) (length queue) child (get-added queue child)
-            ∙ ap (λ (v : List ℕ). Some (Some v)) (child-word ∙ ap (λ (y : ℕ). string ++ y ∷ []) (sym by.0))
-      ]
-
-      step-by_patterns : (t : Transition) → IsIn t (h.added ++ more_transitions)
-          → GoesOnBy end (plain_byte site.fold t.byte)
-      step-by_patterns t has = elim (IsIn-append_cases t h.added more_transitions has) [
-        | inl old ↦
-            let r = h.by_patterns t old in
-            let high = r.high in
-            record { at = r.at; low = r.low; high = omega arith; byte = r.byte }
-        | inr new ↦ record {
-          at = place;
-          low = h.low;
-          high = run.some;
-          byte = run.byte
-              ∙ ap (λ (y : ℕ). Some y)
-              (sym (leading-plain site.fold b (FIRST_INNER + length queue) settled t new).0);
-        }
-      ]
-
-      step-covered : (k c x : ℕ) → site.patterns_end ≤ k → k < end → next_byte k ≡ Some c
-          → plain_byte site.fold x ≡ c
-          → (t : Transition) × IsIn t (h.added ++ more_transitions) × (t.byte ≡ x)
-      step-covered k c x l m e is = elim (cases_lt k place) [
-        | inl before ↦
-            let r = h.covered k c x l before e is in
-            (r.0, IsIn-append_left r.0 h.added more_transitions r.1, r.2)
-        | inr le ↦
-            let same_byte : c ≡ b = (let f : Some c ≡ Some b = sym e ∙ run.same k le m ∙ run.byte in cc) in (
-              record { byte = x; target = FIRST_INNER + length queue },
-              IsIn-append_right _ h.added more_transitions
-                  (leading-has site.fold b (FIRST_INNER + length queue) settled x (is ∙ same_byte)),
-              refl,
-            )
-      ]
-
-      step-apart : IsOrdered (λ s t. s.byte ≢ t.byte) (h.added ++ more_transitions)
-      step-apart =
-          IsOrdered-append (λ (s t : Transition). s.byte ≢ t.byte) h.added more_transitions h.apart
-          (leading-apart site.fold b (FIRST_INNER + length queue))
-          (λ s t old new e.
-          let r = h.by_patterns s old in
-          let less =
-          h.smaller run.more r.at (let m = site.ends.later in let l = r.low in omega arith) r.high in
-          let low : rank (next_byte r.at) ≡ suc (plain_byte site.fold s.byte) = ap rank r.byte in
-          let high : rank (next_byte place) ≡ suc b = ap rank run.byte in
-          let is : plain_byte site.fold s.byte ≡ b =
-          ap (plain_byte site.fold) e ∙ (leading-plain site.fold b (FIRST_INNER + length queue) settled t new).0
-          in
-          absurd (omega arith))
-
-      step-smaller : end < site.queued.to → (k : ℕ) → site.queued.from ≤ k → k < end
-          → rank (next_byte k) < rank (next_byte end)
-      step-smaller l k low m =
-          let up = greater l in
-          elim (cases_lt k place) [
-            | inl before ↦ let r = below k low before in omega arith
-            | inr le ↦ let r : rank (next_byte k) ≡ suc b = ap rank (run.same k le m ∙ run.byte) in omega arith
-          ]
-
-      -- with the child behind the queue the children up to the end of its run have come
-      pub branching-goes_on : FIRST_INNER + length queue < GREATEST + 1
-          → IsBranching end (transitions ++ more_transitions) (queue ++ child ∷ [])
-      branching-goes_on few = record {
-        grown = still-grown few;
-        meant =
-            AreStates-more
-            (grown_meaning site.kind site.fold site.patterns site.sorted site.transitions queue)
-            site.transitions [] (sym (append-nil site.transitions))
-            (nodes_of site.sorted (queue ++ child ∷ []))
-            (nodes-more site.sorted queue (child ∷ [])) site.states
-            (let m = length-map queue (λ (q : QueuedState). Some (word site.sorted q)) in
-            let n = length-map (queue ++ child ∷ []) (λ (q : QueuedState). Some (word site.sorted q)) in
-            let o = length_push queue child in omega arith)
-            h.meant;
-        waits = Waits-more h.waits (child ∷ []);
-        node = nodes-more site.sorted queue (child ∷ []) (length site.states) _ h.node;
-        kept = λ k q e. get-append queue (child ∷ []) k q (h.kept k q e);
-        more = (let m = h.more in let n = length_push queue child in omega arith);
-        low = (let m = h.low in omega arith);
-        high = run.high;
-        children = λ c q le e. elim (get-added_cases queue child q c e) [
-          | inl old ↦
-              let r = h.children c q le old in
-              let high = r.by.high in
-              record {
-                byte = r.byte;
-                by = record { at = r.by.at; low = r.by.low; high = omega arith; byte = r.by.byte };
-                word_is = r.word_is;
-              }
-          | inr new ↦ record {
-            byte = b;
-            by = record { at = place; low = h.low; high = run.some; byte = run.byte };
-            word_is = sym (ap (word site.sorted) new.1) ∙ child-word;
-          }
-        ];
-        added = h.added ++ more_transitions;
-        split = ap (λ (ts : List Transition). ts ++ more_transitions) h.split
-            ∙ append_assoc site.transitions h.added more_transitions;
-        leads = step-leads;
-        by_patterns = step-by_patterns;
-        covered = step-covered;
-        apart = step-apart;
-        smaller = step-smaller;
-      }
+        near deep (inr later) = h.waits.back (omega (arith, later.number))
 
 -- from this source, with these transitions and this queue: the children of a state up to a place have come
 abbrev pub IsBranchingFrom : Source → List Transition → List QueuedState → QueuedState → ℕ → ℕ

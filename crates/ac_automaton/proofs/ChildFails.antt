@@ -20,11 +20,13 @@ module _ {kind : MatchKind} {fold : Bool} {patterns : List (List ℕ)} {sorted :
     {states : List State} {transitions : List Transition}
     {queue : List QueuedState} {p : QueuedState} {place b : ℕ}
     (h : HasChild kind fold patterns sorted states transitions queue p place b) where
+  -- the string has as many bytes as the state is deep
   long : length (word sorted p) ≡ p.depth
   long = word-length h.waits
 
+  -- and that of the child one more
   longer : length (word sorted p ++ b ∷ []) ≡ p.depth + 1
-  longer = let l = length_push (word sorted p) b in let m = long in omega arith
+  longer = omega (arith, length_push (word sorted p) b, long)
 
   -- under a leftmost kind a child that is a pattern fails to the dead state
   pub fail-pattern : is_leftmost kind ≡ true → byte_at sorted (p.depth + 1) place ≡ None
@@ -34,6 +36,7 @@ module _ {kind : MatchKind} {fold : Bool} {patterns : List (List ℕ)} {sorted :
       (equal_to-some kind patterns sorted h.order (word sorted p ++ b ∷ []) place h.to h.range h.some
       (subst (λ (n : ℕ). byte_at sorted n place ≡ None) (sym longer) ends))))
 
+  -- where the first pattern goes on, none is the string of the child
   no-pattern : (is_leftmost kind ≡ true → byte_at sorted (p.depth + 1) place ≢ None) → is_leftmost kind ≡ true
       → equal_to kind patterns (word sorted p ++ b ∷ []) ≡ []
   no-pattern goes_on leftmost =
@@ -52,7 +55,7 @@ module _ {kind : MatchKind} {fold : Bool} {patterns : List (List ℕ)} {sorted :
           ∙ miss-start kind patterns b
           (λ leftmost. sym (ap (λ (v : List ℕ). equal_to kind patterns (v ++ b ∷ [])) e)
           ∙ no-pattern goes_on leftmost))
-      by (x ∷ u) e = absurd (let l = long in let m = ap length e in omega arith)
+      by (x ∷ u) e = absurd (omega (arith, long, ap length e))
 
   -- any other child fails to where the byte leads from the failure target of its parent
   pub fail-step : (is_leftmost kind ≡ true → byte_at sorted (p.depth + 1) place ≢ None) → p.depth ≢ 0
@@ -63,7 +66,7 @@ module _ {kind : MatchKind} {fold : Bool} {patterns : List (List ℕ)} {sorted :
       by : (u : List ℕ) → word sorted p ≡ u
           → step kind patterns No (miss kind patterns (Some (word sorted p))) b
           ≡ miss kind patterns (Some (word sorted p ++ b ∷ []))
-      by [] e = absurd (deep (let l = long in let m = ap length e in omega arith))
+      by [] e = absurd (deep (omega (arith, long, ap length e)))
       by (x ∷ u) e =
           ap (λ (v : List ℕ). step kind patterns No (miss kind patterns (Some v)) b) e
           ∙ sym (miss-child kind patterns x u b

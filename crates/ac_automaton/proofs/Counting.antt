@@ -9,7 +9,7 @@ IsOrdered-from_AllPairs R [] pairs = tt
 IsOrdered-from_AllPairs R (x ∷ xs) pairs = (
   (λ y h.
       let at = Contains-from_IsIn y xs h in
-      subst (R x) at.2 (pairs 0 (suc at.0) y (omega arith) (let l = at.1 in omega arith))),
+      subst (R x) at.2 (pairs 0 (suc at.0) y (omega arith) (omega (arith, at.1)))),
   IsOrdered-from_AllPairs R xs (λ i j d below within. pairs (suc i) (suc j) d (omega arith) (omega arith)),
 )
 

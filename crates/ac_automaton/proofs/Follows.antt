@@ -27,6 +27,7 @@ more_looks-none : (counts : Counts) → counts ≡ more_looks 0 counts
 more_looks-none counts =
     ap (λ (n : ℕ). record counts { looks = n }) (let e : counts.looks ≡ counts.looks + 0 = omega arith in e)
 
+-- looks counted twice are counted together
 more_looks-twice : (n m : ℕ) (counts : Counts) → more_looks m (more_looks n counts) ≡ more_looks (n + m) counts
 more_looks-twice n m counts =
     let e : (counts.looks + n) + m ≡ counts.looks + (n + m) = omega arith in
@@ -106,7 +107,7 @@ module _ (g : Meaning) (states : List State) (b : ℕ) (u : Node) (old : Counts)
       → new ≡ more_looks (looks g.kind g.patterns anchored u (plain_byte g.fold b)) old
   counted-last anchored now new s o one more =
       more ∙ ap (more_looks 1) o.counted ∙ more_looks-twice o.taken 1 old
-      ∙ ap (λ (n : ℕ). more_looks n old) (let l = o.looks in omega arith)
+      ∙ ap (λ (n : ℕ). more_looks n old) (omega (arith, o.looks))
 
   -- a byte that leads on leads to one node in any search, with one look
   step-leads : (anchored : Anchored) (v : Node) → own_target g v b ≢ None
@@ -114,6 +115,7 @@ module _ (g : Meaning) (states : List State) (b : ℕ) (u : Node) (old : Counts)
   step-leads No v on = step-own_target g.kind g.patterns v (plain_byte g.fold b) on
   step-leads Yes v on = refl
 
+  -- where a node has a transition of its own, a step takes one look
   looks-leads : (anchored : Anchored) (v : Node) → own_target g v b ≢ None
       → looks g.kind g.patterns anchored v (plain_byte g.fold b) ≡ 1
   looks-leads No v on = looks-own_target g.kind g.patterns v (plain_byte g.fold b) on

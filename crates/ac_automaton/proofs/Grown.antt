@@ -1,22 +1,32 @@
 -- What stays as a trie grows.
-use Rattle.std.proofs.Common.{◌≡◌, ℕ, zero, suc, ◌+◌, ◌<◌, ◌≤◌, ◌≢◌, List, [], ◌∷◌, ◌++◌, length, map, ◌⊎◌, length-append, inl, inr, refl, ap, sym, ◌∙◌, subst, arith, Some, None, get_or}
+use Rattle.std.proofs.Common.{◌≡◌, ℕ, zero, suc, ◌+◌, ◌<◌, ◌≤◌, ◌≢◌, List, [], ◌∷◌, ◌++◌, length, map, ◌⊎◌, length-append, inl, inr, ap, sym, ◌∙◌, subst, arith, Some, None, get_or}
 use Rattle.std.specs.Prelude.{slice_get, option_map, Contains, ◌↔◌}
 use Rattle.std.specs.List.Sorted.{IsStrictlyIncreasing}
 use Rattle.std.proofs.lemmas.Bool.{cases_lt}
 use Rattle.std.proofs.lemmas.List.{get_or_default, get_or_append_left, get_or_push, length_push}
 use Rattle.std.proofs.lemmas.Option.{slice_get-map, slice_get-get_or, slice_get_within}
+use Rattle.ac_util.specs.declared.search.MatchKind.{MatchKind}
 use Rattle.ac_util.specs.Node.{Node}
 use Rattle.ac_util.proofs.PiecesLemmas.{slice_range-append}
 use Rattle.ac_automaton.specs.declared.nfa.noncontiguous.growth.QueuedState.{QueuedState}
 use Rattle.ac_automaton.specs.declared.nfa.noncontiguous.state.State.{State}
 use Rattle.ac_automaton.specs.declared.nfa.noncontiguous.state.TheConstants.{START, FIRST_INNER}
 use Rattle.ac_automaton.specs.declared.nfa.noncontiguous.state.Transition.{Transition}
-use Rattle.ac_automaton.specs.Growths.{nodes_of, word}
+use Rattle.ac_automaton.specs.Growths.{IsGrown, nodes_of, word}
 use Rattle.ac_automaton.specs.Sorted.{Keyed}
 use Rattle.ac_automaton.specs.Tries.{Meaning, AreStates, Represents, transition_bytes, own_target, transitions_of, state_at}
-use Rattle.ac_automaton.proofs.Places.{get-same}
+use Rattle.ac_automaton.proofs.Places.{get-from_map, get-same}
 
 -- what a number says of its node: dead, the start, or the string of a state in the queue
+pub record IsDeadNumber (s : ℕ) (v : Node) : Type 0 where
+  pub below : s < START
+  pub node : v ≡ None
+
+pub record IsStartNumber (s : ℕ) (v : Node) : Type 0 where
+  pub from : START ≤ s
+  pub below : s < FIRST_INNER
+  pub node : v ≡ Some []
+
 pub record IsInner (sorted : List Keyed) (queue : List QueuedState) (s : ℕ) (v : Node) : Type 0 where
   pub place : ℕ
   pub number : s ≡ FIRST_INNER + place
@@ -25,6 +35,7 @@ pub record IsInner (sorted : List Keyed) (queue : List QueuedState) (s : ℕ) (v
   pub node : v ≡ Some (word sorted queued)
 
 module _ (sorted : List Keyed) where
+  -- a string of the queue keeps its place
   words_more : (queue more : List QueuedState) (k : ℕ) (v : Node)
       → slice_get (map (λ p. Some (word sorted p)) queue) k ≡ Some v
       → slice_get (map (λ p. Some (word sorted p)) (queue ++ more)) k ≡ Some v
@@ -49,24 +60,32 @@ module _ (sorted : List Keyed) where
       subst (λ (s : ℕ). slice_get (nodes_of sorted queue) s ≡ Some (Some (word sorted p))) four
       (slice_get-map (λ q. Some (word sorted q)) queue k ∙ ap (option_map (λ q. Some (word sorted q))) e)
 
-  words_from : (queue : List QueuedState) (k : ℕ) (v : Node)
-      → slice_get (map (λ p. Some (word sorted p)) queue) k ≡ Some v
-      → (p : QueuedState) × (slice_get queue k ≡ Some p) × (v ≡ Some (word sorted p))
-  words_from [] k v e = absurd (cc)
-  words_from (p ∷ queue) zero v e = (p, refl, (cc))
-  words_from (p ∷ queue) (suc k) v e = words_from queue k v e
-
   -- a number is one of the two that stand for the dead node, of a start, or of a state in the queue
   pub nodes-cases : (queue : List QueuedState) (s : ℕ) (v : Node) → slice_get (nodes_of sorted queue) s ≡ Some v
-      → ((s < START) × (v ≡ None))
-      ⊎ (((START ≤ s) × (s < FIRST_INNER) × (v ≡ Some [])) ⊎ IsInner sorted queue s v)
-  nodes-cases queue zero v e = inl (omega arith, (cc))
-  nodes-cases queue (suc zero) v e = inl (omega arith, (cc))
-  nodes-cases queue (suc (suc zero)) v e = inr (inl (omega arith, omega arith, (cc)))
-  nodes-cases queue (suc (suc (suc zero))) v e = inr (inl (omega arith, omega arith, (cc)))
+      → IsDeadNumber s v ⊎ (IsStartNumber s v ⊎ IsInner sorted queue s v)
+  nodes-cases queue zero v e = inl (record { below = omega arith; node = (cc) })
+  nodes-cases queue (suc zero) v e = inl (record { below = omega arith; node = (cc) })
+  nodes-cases queue (suc (suc zero)) v e =
+      inr (inl (record { from = omega arith; below = omega arith; node = (cc) }))
+  nodes-cases queue (suc (suc (suc zero))) v e =
+      inr (inl (record { from = omega arith; below = omega arith; node = (cc) }))
   nodes-cases queue (suc (suc (suc (suc k)))) v e =
-      let r = words_from queue k v e in
-      inr (inr (record { place = k; number = omega arith; queued = r.0; waits = r.1; node = r.2 }))
+      let r = get-from_map (λ p. Some (word sorted p)) queue k v e in
+      inr (inr (record { place = k; number = omega arith; queued = r.from; waits = r.there; node = sym r.is }))
+
+-- it is still so for more states, and for other transitions that are no more
+pub IsGrown-later : {kind : MatchKind} {patterns : List (List ℕ)} {sorted : List Keyed} {m n : ℕ}
+    {transitions others : List Transition} {queue : List QueuedState} → m ≤ n → length others ≤ length transitions
+    → IsGrown kind patterns sorted m transitions queue → IsGrown kind patterns sorted n others queue
+IsGrown-later more few grown = record {
+  few = grown.few;
+  counted = omega (arith, grown.counted);
+  waits = grown.waits;
+  apart = grown.apart;
+  parents = λ k q e.
+      let r = grown.parents k q e in
+      record { parent = r.parent; early = omega (arith, r.early); named = r.named };
+}
 
 -- the meaning with other transitions and nodes
 abbrev pub more_meaning : Meaning → List Transition → List Node → Meaning
@@ -91,7 +110,7 @@ module _ (g : Meaning) (transitions more : List Transition) (split : transitions
       ap (λ (ts : List Transition). transitions_of ts t) split
       ∙ slice_range-append g.transitions more t.transitions t.transitions_end r.ordered r.listed in
       let longer : t.transitions_end ≤ length transitions =
-      (let l = r.listed in let m = ap length split in omega (arith, length-append g.transitions more)) in
+      (omega (arith, r.listed, ap length split, length-append g.transitions more)) in
       record {
         ordered = r.ordered;
         listed = longer;
@@ -124,24 +143,24 @@ module _ (g : Meaning) (transitions more : List Transition) (split : transitions
       → AreStates g states → AreStates (more_meaning g transitions nodes) states
   AreStates-more states longer a = record {
     dead = keeps 0 None a.dead;
-    named = (let l = a.named in omega arith);
+    named = omega (arith, a.named);
     each = λ s v l e.
         let h = slice_get_within nodes s v e in
-        let known = slice_get-get_or g.nodes s None (let m = a.named in omega arith) in
+        let known = slice_get-get_or g.nodes s None (omega (arith, a.named)) in
         let same = get-same nodes s (get_or g.nodes s None) v (keeps s (get_or g.nodes s None) known) e in
         Represents-more s v (state_at states s) (a.each s v l (known ∙ ap (λ (w : Node). Some w) same));
   }
 
 -- one more state is whole
 module _ (g : Meaning) (states : List State) (v : Node) (t : State) where
+  -- then all of them are
   pub AreStates-push : AreStates g states → slice_get g.nodes (length states) ≡ Some v
       → Represents g (length states) v t
       → AreStates g (states ++ t ∷ [])
   AreStates-push a node r = record {
     dead = a.dead;
-    named = (let l = slice_get_within g.nodes (length states) v node in let m = length_push states t in
-        omega arith);
-    each = λ s w l e. each s w e (cases_lt s (length states)) (let m = length_push states t in omega arith);
+    named = omega (arith, slice_get_within g.nodes (length states) v node, length_push states t);
+    each = λ s w l e. each s w e (cases_lt s (length states)) (omega (arith, length_push states t));
   }
     where
       each : (s : ℕ) (w : Node) → slice_get g.nodes s ≡ Some w → (s < length states) ⊎ (length states ≤ s)

@@ -76,7 +76,7 @@ module _ (fold : Bool) (patterns : List (List ℕ)) (all : List SortedPattern)
     (gone : AllWithin (λ p. is_prefix fold pattern p ≡ false) old (length new) (length old)) where
   -- the place lies within the view
   within-view : at < length (keyed fold all)
-  within-view = let l = length-map all (keyed_one fold) in omega arith
+  within-view = omega (arith, length-map all (keyed_one fold))
 
   -- the pattern there is the stored one
   here-is : get_or (keyed fold all) at none ≡ keyed_one fold pattern
@@ -193,7 +193,7 @@ module _ (fold : Bool) (all sorted : List SortedPattern) (kept at : ℕ) (old ne
   module _ (patterns : List (List ℕ)) (order : IsOrder Standard patterns (keyed fold all)) where
     -- the place is one of all patterns
     in_all : at < length all
-    in_all = let l = keeps.long in omega arith
+    in_all = omega (arith, keeps.long)
 
     -- and has the pattern as it was
     is_in_all : pattern ≡ get_or all at pattern

@@ -31,6 +31,7 @@ small-of x b is plain apart = (grind (arith, nat_tests), grind (arith, nat_tests
 abbrev one : ℕ → ℕ → List Transition
 one b target = record { byte = b; target = target } ∷ []
 
+-- two transitions to a target
 abbrev two : ℕ → ℕ → ℕ → List Transition
 two b x target = record { byte = b; target = target } ∷ one x target
 
@@ -41,6 +42,7 @@ AreOneOrTwo fold b target =
     × (leading fold b target ≡ two b (to_ascii_uppercase b) target))
     ⊎ (leading fold b target ≡ one b target)
 
+-- there are one or two
 leading-cases : (fold : Bool) (b target : ℕ) → AreOneOrTwo fold b target
 leading-cases false b target = inr refl
 leading-cases true b target = elim (cases_Bool (is_ascii_lowercase b)) [
@@ -119,8 +121,8 @@ leading-apart fold b target = elim (leading-cases fold b target) [
 -- and at most two
 pub leading-length : (fold : Bool) (b target : ℕ) → length (leading fold b target) ≤ 2
 leading-length fold b target = elim (leading-cases fold b target) [
-  | inl both ↦ let l = ap length both.2 in omega arith
-  | inr alone ↦ let l = ap length alone in omega arith
+  | inl both ↦ omega (arith, ap length both.2)
+  | inr alone ↦ omega (arith, ap length alone)
 ]
 
 -- transitions by different bytes that are sorted by them rise strictly

@@ -15,13 +15,13 @@ drop-slice_get xs i x at =
 -- the shortest of no list of patterns passes the greatest usize
 pub shortest_len-le : (ps : List (List ℕ)) → shortest_len ps ≤ 18446744073709551615
 shortest_len-le [] = omega arith
-shortest_len-le (p ∷ ps) = let rest = shortest_len-le ps in omega arith
+shortest_len-le (p ∷ ps) = omega (arith, shortest_len-le ps)
 
 -- the shortest so far and that of the patterns from a place on give the same as when the pattern there is
 -- counted too
 pub shortest_len-drop : (ps : List (List ℕ)) (i so_far : ℕ) (p : List ℕ) → slice_get ps i ≡ Some p
     → min (min so_far (length p)) (shortest_len (drop (i + 1) ps)) ≡ min so_far (shortest_len (drop i ps))
-shortest_len-drop ps i so_far p at = let e = ap shortest_len (drop-slice_get ps i p at) in omega arith
+shortest_len-drop ps i so_far p at = omega (arith, ap shortest_len (drop-slice_get ps i p at))
 
 -- past the end of the patterns the shortest of those left is the greatest usize
 pub shortest_len-end : (ps : List (List ℕ)) (i : ℕ) → length ps ≤ i
@@ -32,4 +32,4 @@ shortest_len-end ps i past = ap shortest_len (drop_all i ps past)
 -- counted too
 pub longest_len-drop : (ps : List (List ℕ)) (i so_far : ℕ) (p : List ℕ) → slice_get ps i ≡ Some p
     → max (max so_far (length p)) (longest_len (drop (i + 1) ps)) ≡ max so_far (longest_len (drop i ps))
-longest_len-drop ps i so_far p at = let e = ap longest_len (drop-slice_get ps i p at) in omega arith
+longest_len-drop ps i so_far p at = omega (arith, ap longest_len (drop-slice_get ps i p at))

@@ -1,5 +1,6 @@
 pub mod Branched
 pub mod Branching
+pub mod Child
 pub mod ChildFails
 pub mod Counting
 pub mod FindLoop

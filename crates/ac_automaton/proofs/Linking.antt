@@ -22,6 +22,7 @@ patterns_of-some order t l within none =
     let nothing : slice_get (patterns_of order t) 0 ≡ None = ap (λ (ns : List ℕ). slice_get ns 0) none in
     absurd (cc)
 
+-- where the patterns of a state end before they begin there are none
 pub patterns_of-none : (order : List ℕ) (t : State) → t.patterns_end ≤ t.patterns → patterns_of order t ≡ []
 patterns_of-none order t l =
     ap (λ (n : ℕ). take n (drop t.patterns order))
@@ -50,6 +51,7 @@ module _ (g : Meaning) (states : List State) where
       → Represents g fail (miss g.kind g.patterns (Some u)) (state_at states fail)
   target u fail a due l = a.each fail (miss g.kind g.patterns (Some u)) l due.fails
 
+  -- a failure target of the start that comes before it is dead
   dead_target : (fail : ℕ) → AreStates g states → LinkIsDue g (length states) [] fail → fail < length states
       → Represents g fail None (state_at states fail)
   dead_target fail a due l = a.each fail None l (due.start refl l).1
@@ -94,7 +96,7 @@ module _ (g : Meaning) (states : List State) where
       record {
         linked = r.links.linked;
         leads = r.links.leads;
-        back = (let b = r.links.back in omega arith);
+        back = omega (arith, r.links.back);
         finds = matches-failure g.kind g.patterns x u
             ∙ ap (λ (ns : List ℕ). anchored_matches g (Some (x ∷ u)) ++ ns) later;
         useful = r.links.useful;

@@ -16,6 +16,7 @@ slice_get-left [] ys k h = absurd (omega arith)
 slice_get-left (x ∷ xs) ys zero h = refl
 slice_get-left (x ∷ xs) ys (suc k) h = slice_get-left xs ys k (omega arith)
 
+-- what stands behind a list in two lists, one behind the other
 slice_get-right : (xs ys : List ℕ) (k : ℕ) → length xs ≤ k
     → slice_get (xs ++ ys) k ≡ slice_get ys (k - length xs)
 slice_get-right [] ys k h = ap (slice_get ys) (let e : k ≡ k - 0 = omega arith in e)
@@ -121,9 +122,8 @@ module _ (g : Meaning) (states : List State) where
         → count + (t.patterns_end - t.patterns) ≡ length (all_matches g u)
     counting-end count o last =
         let r = represented g states s o.node t o.state is in
-        let l = length-listed s o.node t o.state r in
-        let m = o.counted in
-        let none = ap (length {A = ℕ}) (none-linked s o.node t o.state r last) in omega arith
+        let alone = ap (length {A = ℕ}) (none-linked s o.node t o.state r last) in
+        omega (arith, length-listed s o.node t o.state r, o.counted, alone)
 
     module _ (index left : ℕ) (o : Seeking u index s left) where
       -- the match is one of the state's own

@@ -13,6 +13,7 @@ use Rattle.ac_util.proofs.Reached.{stops, reached-nil, step-reached}
 use Rattle.ac_automaton.specs.Tries.{miss}
 
 module _ (kind : MatchKind) (patterns : List (List ℕ)) where
+  -- where no pattern is the longer string, it begins with a pattern if the shorter one does
   begins-same : (w : List ℕ) (b : ℕ) → equal_to kind patterns (w ++ b ∷ []) ≡ []
       → begins_with_pattern patterns (w ++ b ∷ []) ≡ begins_with_pattern patterns w
   begins-same w b none = elim (cases_Bool (begins_with_pattern patterns w)) [
@@ -47,6 +48,7 @@ module _ (kind : MatchKind) (patterns : List (List ℕ)) where
         | inr f ↦ absurd (some (equal_to-none_begins kind patterns w f))
       ]
 
+  -- only a leftmost search stops
   stops-free : (w : List ℕ) → is_leftmost kind ≡ false → stops kind patterns w ≡ false
   stops-free w free = ap (λ (l : Bool). l && begins_with_pattern patterns w) free
 
@@ -62,6 +64,7 @@ module _ (kind : MatchKind) (patterns : List (List ℕ)) where
       ∙ cond-true (stops kind patterns (x ∷ w ++ b ∷ [])) None (reached kind patterns No (w ++ b ∷ []))
       (stops-pattern (x ∷ w ++ b ∷ []) leftmost some)
 
+  -- where no pattern is the longer string, it stops a search if the shorter one does
   same-stop : (w : List ℕ) (b : ℕ) → (is_leftmost kind ≡ true → equal_to kind patterns (w ++ b ∷ []) ≡ [])
       → stops kind patterns (w ++ b ∷ []) ≡ stops kind patterns w
   same-stop w b none = elim (cases_Bool (is_leftmost kind)) [
@@ -77,6 +80,7 @@ module _ (kind : MatchKind) (patterns : List (List ℕ)) where
       ∙ ap (λ (s : Bool). cond s None (reached kind patterns No [])) (same-stop [] b none)
       ∙ ap (λ (v : Node). cond (stops kind patterns []) None v) (reached-nil kind patterns No)
 
+  -- a step after the shorter string leads where the longer one does
   stepped : (w : List ℕ) (b : ℕ) (s : Bool)
       → cond s None (reached kind patterns No (w ++ b ∷ []))
       ≡ step kind patterns No (cond s None (reached kind patterns No w)) b

@@ -38,9 +38,8 @@ rank-ascends : (u a b : List ℕ) → slice_cmp nat_cmp a b ≡ Less → starts_
 rank-ascends [] [] b less p q = omega arith
 rank-ascends [] (x ∷ a) [] less p q = absurd (cc)
 rank-ascends [] (x ∷ a) (y ∷ b) less p q =
-    let le =
-    head-no_greater x y (nat_cmp x y) (slice_cmp nat_cmp a b) (ranked x y (nat_cmp x y) refl) (ap is_gt less) in
-    omega arith
+    let order = ranked x y (nat_cmp x y) refl in
+    omega (arith, head-no_greater x y (nat_cmp x y) (slice_cmp nat_cmp a b) order (ap is_gt less))
 rank-ascends (z ∷ u) [] b less p q = absurd (false≢true p)
 rank-ascends (z ∷ u) (x ∷ a) [] less p q = absurd (false≢true q)
 rank-ascends (z ∷ u) (x ∷ a) (y ∷ b) less p q =

@@ -1,11 +1,10 @@
 -- Elements of lists by their places, as a list grows and in a part of it.
-use Rattle.std.proofs.Common.{◌≡◌, ◌≢◌, Bool, true, false, not, ℕ, zero, suc, ◌+◌, ◌-◌, ◌<◌, List, [], ◌∷◌, ◌++◌, length, length-take, get_or, take, drop, ◌⊎◌, inl, inr, refl, ap, sym, ◌∙◌, subst, arith, Option, Some, None}
+use Rattle.std.proofs.Common.{◌≡◌, ◌≢◌, Bool, true, false, not, ℕ, zero, suc, ◌+◌, ◌-◌, ◌<◌, List, [], ◌∷◌, ◌++◌, length, map, get_or, take, drop, ◌⊎◌, inl, inr, refl, ap, sym, ◌∙◌, subst, arith, Option, Some, None}
 use Rattle.std.specs.Prelude.{is_some, slice_get, slice_range, Result, Ok, Err, MatchResult, IsErrAnd}
 use Rattle.std.proofs.lemmas.Bool.{false≢true}
-use Rattle.std.proofs.lemmas.List.{get_or-take}
-use Rattle.std.proofs.lemmas.Option.{get_or_from_slice_get, slice_get_within}
+use Rattle.std.proofs.lemmas.Option.{get_or_from_slice_get, slice_get-get_or, slice_get_within}
 use Rattle.std.proofs.Math.Seq.{take-append_seam, take-suc}
-use Rattle.ac_util.proofs.Lists.{IsIn, IsIn-at, IsOrdered}
+use Rattle.ac_util.proofs.Lists.{IsIn, IsOrdered}
 
 -- an element stays at its place as the list grows
 pub get-append : {X : Type 0} (xs ys : List X) (k : ℕ) (x : X) → slice_get xs k ≡ Some x
@@ -27,7 +26,7 @@ get-added_cases [] y x (suc k) e = absurd (cc)
 get-added_cases (z ∷ xs) y x zero e = inl e
 get-added_cases (z ∷ xs) y x (suc k) e = elim (get-added_cases xs y x k e) [
   | inl h ↦ inl h
-  | inr h ↦ inr (let same = h.0 in omega arith, h.1)
+  | inr h ↦ inr (omega (arith, h.0), h.1)
 ]
 
 -- a place has one element
@@ -35,12 +34,14 @@ pub get-same : {X : Type 0} (xs : List X) (k : ℕ) (x y : X) → slice_get xs k
     → x ≡ y
 get-same xs k x y e f = let g : Some x ≡ Some y = sym e ∙ f in cc
 
+-- the first n are as they were
 get-take : {X : Type 0} (n : ℕ) (xs : List X) (k : ℕ) → k < n → slice_get (take n xs) k ≡ slice_get xs k
 get-take zero xs k l = absurd (omega arith)
 get-take (suc n) [] k l = refl
 get-take (suc n) (x ∷ xs) zero l = refl
 get-take (suc n) (x ∷ xs) (suc k) l = get-take n xs k (omega arith)
 
+-- what stands behind n elements
 get-drop : {X : Type 0} (n : ℕ) (xs : List X) (k : ℕ) → slice_get (drop n xs) k ≡ slice_get xs (n + k)
 get-drop zero xs k = ap (slice_get xs) (omega arith)
 get-drop (suc n) [] k = refl
@@ -52,11 +53,12 @@ pub get-range : {X : Type 0} (xs : List X) (a b k : ℕ) → a + k < b
     → slice_get (slice_range xs a b) k ≡ slice_get xs (a + k)
 get-range xs a b k l = get-take (b - a) (drop a xs) k (omega arith) ∙ get-drop a xs k
 
+-- what stands among the first n stands before place n
 past-take : {X : Type 0} (n : ℕ) (xs : List X) (k : ℕ) (x : X) → slice_get (take n xs) k ≡ Some x → k < n
 past-take zero xs k x e = absurd (cc)
 past-take (suc n) [] k x e = absurd (cc)
 past-take (suc n) (y ∷ xs) zero x e = omega arith
-past-take (suc n) (y ∷ xs) (suc k) x e = let l = past-take n xs k x e in omega arith
+past-take (suc n) (y ∷ xs) (suc k) x e = omega (arith, past-take n xs k x e)
 
 -- a place in the part is one in the list
 pub get-from_range : {X : Type 0} (xs : List X) (a b k : ℕ) (x : X) → slice_get (slice_range xs a b) k ≡ Some x
@@ -66,12 +68,33 @@ get-from_range xs a b k x e =
     let m : a + k < b = omega arith in
     (m, sym (get-range xs a b k m) ∙ e)
 
--- an element has a place, and what has a place is an element
-pub place-of : {X : Type 0} (x : X) (xs : List X) → IsIn x xs → (k : ℕ) × (slice_get xs k ≡ Some x)
-place-of x [] h = absurd h
-place-of x (y ∷ xs) (inl e) = (0, ap (λ w. Some w) e)
-place-of x (y ∷ xs) (inr h) = let r = place-of x xs h in (suc r.0, r.1)
+-- an element of a mapped list is the image of the one at its place
+pub record ImageAt {X Y : Type 0} (f : X → Y) (xs : List X) (k : ℕ) (y : Y) : Type 0 where
+  pub from : X
+  pub there : slice_get xs k ≡ Some from
+  pub is : f from ≡ y
 
+pub get-from_map : {X Y : Type 0} (f : X → Y) (xs : List X) (k : ℕ) (y : Y) → slice_get (map f xs) k ≡ Some y
+    → ImageAt f xs k y
+get-from_map f [] k y e = absurd (cc)
+get-from_map f (x ∷ xs) zero y e = record { from = x; there = refl; is = (cc) }
+get-from_map f (x ∷ xs) (suc k) y e =
+    let r = get-from_map f xs k y e in record { from = r.from; there = r.there; is = r.is }
+
+-- where an element stands in a list
+pub record PlaceOf {X : Type 0} (x : X) (xs : List X) : Type 0 where
+  pub place : ℕ
+  pub within : place < length xs
+  pub there : slice_get xs place ≡ Some x
+
+-- an element has a place
+pub place-of : {X : Type 0} (x : X) (xs : List X) → IsIn x xs → PlaceOf x xs
+place-of x [] h = absurd h
+place-of x (y ∷ xs) (inl e) = record { place = 0; within = omega arith; there = ap (λ w. Some w) e }
+place-of x (y ∷ xs) (inr h) =
+    let r = place-of x xs h in record { place = suc r.place; within = omega (arith, r.within); there = r.there }
+
+-- what has a place is an element
 pub IsIn-place : {X : Type 0} (x : X) (xs : List X) (k : ℕ) → slice_get xs k ≡ Some x → IsIn x xs
 IsIn-place x [] k e = absurd (cc)
 IsIn-place x (y ∷ xs) zero e = inl (cc)
@@ -82,7 +105,7 @@ pub IsOrdered-places : {X : Type 0} (R : X → X → Type 0) (xs : List X)
     → ((j k : ℕ) (x y : X) → j < k → slice_get xs j ≡ Some x → slice_get xs k ≡ Some y → R x y) → IsOrdered R xs
 IsOrdered-places R [] h = tt
 IsOrdered-places R (x ∷ xs) h = (
-  (λ y i. let r = place-of y xs i in h 0 (suc r.0) x y (omega arith) refl r.1),
+  (λ y i. let r = place-of y xs i in h 0 (suc r.place) x y (omega arith) refl r.there),
   IsOrdered-places R xs (λ j k y z l e f. h (suc j) (suc k) y z (omega arith) e f),
 )
 
@@ -91,6 +114,7 @@ pub None-tested : {X : Type 0} (r : Option X) (t : Bool) → is_some r ≡ not t
 None-tested None t e is = refl
 None-tested (Some x) t e is = absurd (false≢true (sym (e ∙ ap not is)))
 
+-- and what it rules out
 pub Some-tested : {X : Type 0} (r : Option X) (t : Bool) → is_some r ≡ not t → t ≡ false → r ≢ None
 Some-tested r t e is none = false≢true (ap is_some (sym none) ∙ e ∙ ap not is)
 
@@ -114,30 +138,36 @@ pub written-whole : {X : Type 0} (xs ys : List X) (len : ℕ) → length xs ≡ 
 written-whole xs ys len l =
     ap (λ (n : ℕ). take n (xs ++ drop (length xs) ys)) (sym l) ∙ take-append_seam xs (drop (length xs) ys)
 
--- the place of an element, as seen through any default
-pub place : {X : Type 0} (d m : X) (xs : List X) → IsIn m xs → (p : ℕ) × (p < length xs) × (get_or xs p d ≡ m)
-place d m [] h = absurd h
-place d m (x ∷ xs) (inl e) = (0, omega arith, e)
-place d m (x ∷ xs) (inr h) = let r = place d m xs h in (suc r.0, (let l = r.1 in omega arith), r.2)
+-- what is read at a place, whatever the default
+pub place-read : {X : Type 0} (d x : X) (xs : List X) (p : PlaceOf x xs) → get_or xs p.place d ≡ x
+place-read d x xs p = get_or_from_slice_get xs p.place x d p.there
+
+-- what is read within a list has its place there
+abbrev pub read-place : {X : Type 0} (d : X) (xs : List X) (k : ℕ) → k < length xs → PlaceOf (get_or xs k d) xs
+read-place d xs k within = record { place = k; within = within; there = slice_get-get_or xs k d within }
+
+-- the place of an element that is among the first n
+pub record PlaceAmong {X : Type 0} (x : X) (n : ℕ) (xs : List X) : Type 0 where
+  pub whole : PlaceOf x xs
+  pub below : whole.place < n
 
 -- among the first n it is below n
-pub place-take : {X : Type 0} (d m : X) (n : ℕ) (xs : List X) → IsIn m (take n xs)
-    → (p : ℕ) × (p < n) × (p < length xs) × (get_or xs p d ≡ m)
-place-take d m n xs h =
-    let r = place d m (take n xs) h in
-    let l = r.1 in
-    let long = length-take n xs in
-    let below : r.0 < n = omega arith in
-    let within : r.0 < length xs = omega arith in
-    (r.0, below, within, sym (get_or-take n xs r.0 d below) ∙ r.2)
+pub place-take : {X : Type 0} (x : X) (n : ℕ) (xs : List X) → IsIn x (take n xs) → PlaceAmong x n xs
+place-take x n xs h =
+    let p = place-of x (take n xs) h in
+    let below = past-take n xs p.place x p.there in
+    let there = sym (get-take n xs p.place below) ∙ p.there in
+    record {
+      whole = record { place = p.place; within = slice_get_within xs p.place x there; there = there };
+      below = below;
+    }
 
 -- an element below place n is among the first n
-pub IsIn-take : {X : Type 0} (d m : X) (n p : ℕ) (xs : List X) → p < n → p < length xs → get_or xs p d ≡ m
-    → IsIn m (take n xs)
-IsIn-take d m n p xs below within is =
-    let long = length-take n xs in
-    IsIn-at m d (take n xs) p (omega arith) (get_or-take n xs p d below ∙ is)
+pub IsIn-take : {X : Type 0} (x : X) (n : ℕ) (xs : List X) (p : PlaceOf x xs) → p.place < n → IsIn x (take n xs)
+IsIn-take x n xs p below = IsIn-place x (take n xs) p.place (get-take n xs p.place below ∙ p.there)
 
 -- an element among the first n is one
-pub IsIn-from_take : {X : Type 0} (m : X) (n : ℕ) (xs : List X) → IsIn m (take n xs) → IsIn m xs
-IsIn-from_take m n xs h = let r = place-take m m n xs h in IsIn-at m m xs r.0 r.2 r.3
+pub IsIn-from_take : {X : Type 0} (x : X) (n : ℕ) (xs : List X) → IsIn x (take n xs) → IsIn x xs
+IsIn-from_take x n xs h =
+    let p = (place-take x n xs h).whole in
+    IsIn-place x xs p.place p.there

@@ -8,7 +8,7 @@ use Rattle.std.specs.Ordering.{nat_cmp, ordering_reverse}
 use Rattle.std.specs.declared.cmp.Ordering.TheVariants.{Less, Greater}
 use Rattle.std.proofs.lemmas.Bool.{or_right, cases_lt}
 use Rattle.std.proofs.lemmas.List.{length-map}
-use Rattle.std.proofs.lemmas.Option.{slice_get-map, slice_get-get_or, slice_get_within}
+use Rattle.std.proofs.lemmas.Option.{slice_get-map, slice_get-get_or}
 use Rattle.std.proofs.lemmas.Slice.Eq.{bytes_eq-Decides}
 use Rattle.ac_util.specs.declared.search.MatchKind.{MatchKind}
 use Rattle.ac_util.specs.Matches.{equal_to}
@@ -25,14 +25,16 @@ use Rattle.ac_automaton.proofs.Prefixes.{ended, starts_with-ended, starts_with-l
 use Rattle.ac_automaton.proofs.Orders.{rank, byte_at-ascends}
 use Rattle.ac_automaton.proofs.Places.{get-same, get-range, get-from_range, place-of, IsIn-place, IsOrdered-places}
 
+-- no string is less than itself
 not-less : (u : List ℕ) → slice_cmp nat_cmp u u ≡ Less → ⊥
 not-less u e =
     let flip : Less ≡ Greater = sym e ∙ nat_list_cmp_total.antisymm u u ∙ ap ordering_reverse e in absurd (cc)
 
 -- the pattern at a place, and its number in the list of the numbers
-abbrev pattern_at : List Keyed → ℕ → Keyed
+abbrev pub pattern_at : List Keyed → ℕ → Keyed
 pattern_at sorted k = get_or sorted k (record { key = []; number = 0 })
 
+-- the list of the numbers has it at the same place
 number-at : (sorted : List Keyed) (k : ℕ) → k < length sorted
     → slice_get (numbers sorted) k ≡ Some (pattern_at sorted k).number
 number-at sorted k within =
@@ -40,10 +42,12 @@ number-at sorted k within =
     ∙ ap (option_map (λ (q : Keyed). q.number))
     (slice_get-get_or sorted k (record { key = []; number = 0 }) within)
 
+-- what the rank of a byte tells of it
 rank-None : (r : Option ℕ) → rank r ≤ 0 → r ≡ None
 rank-None None l = refl
 rank-None (Some b) l = absurd (omega arith)
 
+-- or of its being there
 rank-Some : (r : Option ℕ) (b : ℕ) → rank r ≡ suc b → r ≡ Some b
 rank-Some None b e = absurd (omega arith)
 rank-Some (Some x) b e = ap (λ (z : ℕ). Some z) (let same : x ≡ b = omega arith in same)
@@ -57,33 +61,37 @@ module _ (kind : MatchKind) (patterns : List (List ℕ)) (sorted : List Keyed)
     pub key : key_at sorted k ≡ pattern_of patterns n
     pub takes_part : IsIn n (participants kind patterns)
 
-  pub at-place : (k : ℕ) → k < length sorted → (n : ℕ) × Stands k n
+  -- each place has such a pattern
+  pub at-place : (k : ℕ) → k < length sorted → Stands k (pattern_at sorted k).number
   at-place k within =
       let m = pattern_at sorted k in
       let is = slice_get-get_or sorted k (record { key = []; number = 0 }) within in
-      let number = number-at sorted k within in (
-        m.number,
-        record {
-          within = within;
-          number = number;
-          key = All-slice_get (λ (q : Keyed). q.key ≡ pattern_of patterns q.number) sorted k m order.named is;
-          takes_part = IsIn-from_Contains m.number (participants kind patterns)
-              ((order.lists m.number).0
-              (Contains-from_IsIn m.number (numbers sorted) (IsIn-place m.number (numbers sorted) k number)));
-        },
-      )
+      let number = number-at sorted k within in
+      record {
+        within = within;
+        number = number;
+        key = All-slice_get (λ (q : Keyed). q.key ≡ pattern_of patterns q.number) sorted k m order.named is;
+        takes_part = IsIn-from_Contains m.number (participants kind patterns)
+            ((order.lists m.number).0
+            (Contains-from_IsIn m.number (numbers sorted) (IsIn-place m.number (numbers sorted) k number)));
+      }
+
+  -- the pattern of a number stands somewhere
+  pub record IsPlaced (n : ℕ) : Type 0 where
+    pub place : ℕ
+    pub stands : Stands place n
 
   -- and each pattern that takes part has a place
-  pub place-at : (n : ℕ) → IsIn n (participants kind patterns) → (k : ℕ) × Stands k n
+  pub place-at : (n : ℕ) → IsIn n (participants kind patterns) → IsPlaced n
   place-at n h =
       let p = place-of n (numbers sorted)
       (IsIn-from_Contains n (numbers sorted)
       ((order.lists n).1 (Contains-from_IsIn n (participants kind patterns) h))) in
-      let within : p.0 < length sorted =
-      (let l = slice_get_within (numbers sorted) p.0 n p.1 in
-      let m = length-map sorted (λ (q : Keyed). q.number) in omega arith) in
-      let s = at-place p.0 within in
-      (p.0, subst (λ (m : ℕ). Stands p.0 m) (get-same (numbers sorted) p.0 s.0 n s.1.number p.1) s.1)
+      let within : p.place < length sorted =
+      omega (arith, p.within, length-map sorted (λ (q : Keyed). q.number)) in
+      let s = at-place p.place within in
+      let same = get-same (numbers sorted) p.place (pattern_at sorted p.place).number n s.number p.there in
+      record { place = p.place; stands = subst (λ (m : ℕ). Stands p.place m) same s }
 
   -- a prefix of a pattern leads to a node
   pub pattern-node : (k : ℕ) (u : List ℕ) → k < length sorted → starts_with nat_eq (key_at sorted k) u ≡ true
@@ -91,9 +99,9 @@ module _ (kind : MatchKind) (patterns : List (List ℕ)) (sorted : List Keyed)
   pattern-node k u within front =
       let s = at-place k within in
       or_right (is_empty u) _
-      (list_any-from_IsIn (λ n. starts_with nat_eq (pattern_of patterns n) u) s.0
-      (participants kind patterns) s.1.takes_part
-      (subst (λ (w : List ℕ). starts_with nat_eq w u ≡ true) s.1.key front))
+      (list_any-from_IsIn (λ n. starts_with nat_eq (pattern_of patterns n) u) (pattern_at sorted k).number
+      (participants kind patterns) s.takes_part
+      (subst (λ (w : List ℕ). starts_with nat_eq w u ≡ true) s.key front))
 
   -- and a node that isn't the start is a prefix of some pattern
   pub node-pattern : (x : ℕ) (u : List ℕ) → is_node kind patterns (x ∷ u) ≡ true
@@ -102,63 +110,73 @@ module _ (kind : MatchKind) (patterns : List (List ℕ)) (sorted : List Keyed)
       let r =
       any_passes (λ n. starts_with nat_eq (pattern_of patterns n) (x ∷ u)) (participants kind patterns) node in
       let s = place-at r.0 r.1 in
-      (s.0, s.1.within, subst (λ (w : List ℕ). starts_with nat_eq w (x ∷ u) ≡ true) (sym s.1.key) r.2)
+      let front = subst (λ (w : List ℕ). starts_with nat_eq w (x ∷ u) ≡ true) (sym s.stands.key) r.2 in
+      (s.place, s.stands.within, front)
 
   module _ (u : List ℕ) (from to : ℕ) (range : IsRangeOf sorted u from to) where
+    -- each in the range begins with the string
     begins : (k : ℕ) → from ≤ k → k < to → starts_with nat_eq (key_at sorted k) u ≡ true
-    begins k low high = (range.begins k (let w = range.within in omega arith)).0 (low, high)
+    begins k low high = (range.begins k (omega (arith, range.within))).0 (low, high)
 
     -- where one in the range has a byte behind the string, all later ones have one that isn't less
     pub range-ascends : (j k : ℕ) → from ≤ j → j ≤ k → k < to
         → rank (byte_at sorted (length u) j) ≤ rank (byte_at sorted (length u) k)
     range-ascends j k low le high =
-        byte_at-ascends kind patterns sorted order u j k le (let w = range.within in omega arith)
+        byte_at-ascends kind patterns sorted order u j k le (omega (arith, range.within))
         (begins j low (omega arith)) (begins k (omega arith) high)
 
     -- the patterns that are the string stand before the range
     module _ (end : ℕ) (later : from ≤ end) (within : end ≤ to)
         (ends : (k : ℕ) → from ≤ k → k < end → byte_at sorted (length u) k ≡ None)
         (other : end < to → byte_at sorted (length u) end ≢ None) where
+      -- each before the end is the string
       whole : (k : ℕ) → from ≤ k → k < end → key_at sorted k ≡ u
       whole k low high = starts_with-ended (key_at sorted k) u (begins k low (omega arith)) (ends k low high)
 
+      -- each from the end on is longer
       pub longer : (k : ℕ) → end ≤ k → k < to → byte_at sorted (length u) k ≢ None
       longer k low high none =
           let up = range-ascends end k later low high in
           let zero : rank (byte_at sorted (length u) k) ≡ 0 = ap rank none in
           other (omega arith) (rank-None (byte_at sorted (length u) end) (omega arith))
 
+      -- each before the end is one of the patterns that are the string
       among-equal_to : (n : ℕ) → IsIn n (slice_range (numbers sorted) from end)
           → IsIn n (equal_to kind patterns u)
       among-equal_to n h =
           let p = place-of n (slice_range (numbers sorted) from end) h in
-          let q = get-from_range (numbers sorted) from end p.0 n p.1 in
-          let s = at-place (from + p.0) (let w = range.within in omega (arith, q.0)) in
-          let same = get-same (numbers sorted) (from + p.0) s.0 n s.1.number q.1 in
-          let key : pattern_of patterns s.0 ≡ u = sym s.1.key ∙ whole (from + p.0) (omega arith) q.0 in
-          subst (λ (m : ℕ). IsIn m (equal_to kind patterns u)) same
-          (IsIn-filter (λ m. bytes_eq (pattern_of patterns m) u) s.0 (participants kind patterns) s.1.takes_part
-          ((bytes_eq-Decides (pattern_of patterns s.0) u).1 key))
+          let q = get-from_range (numbers sorted) from end p.place n p.there in
+          let s = at-place (from + p.place) (omega (arith, range.within, q.0)) in
+          let m = (pattern_at sorted (from + p.place)).number in
+          let same = get-same (numbers sorted) (from + p.place) m n s.number q.1 in
+          let key : pattern_of patterns m ≡ u = sym s.key ∙ whole (from + p.place) (omega arith) q.0 in
+          subst (λ (k : ℕ). IsIn k (equal_to kind patterns u)) same
+          (IsIn-filter (λ k. bytes_eq (pattern_of patterns k) u) m (participants kind patterns) s.takes_part
+          ((bytes_eq-Decides (pattern_of patterns m) u).1 key))
 
+      -- and each of these stands before the end
       equal_to-among : (n : ℕ) → IsIn n (equal_to kind patterns u)
           → IsIn n (slice_range (numbers sorted) from end)
       equal_to-among n h =
           let e = IsIn-from_filter (λ m. bytes_eq (pattern_of patterns m) u) n (participants kind patterns) h in
           let s = place-at n e.0 in
-          let key : key_at sorted s.0 ≡ u = s.1.key ∙ (bytes_eq-Decides (pattern_of patterns n) u).0 e.1 in
+          let same = (bytes_eq-Decides (pattern_of patterns n) u).0 e.1 in
+          let key : key_at sorted s.place ≡ u = s.stands.key ∙ same in
           let there =
-          (range.begins s.0 s.1.within).1
+          (range.begins s.place s.stands.within).1
           (subst (λ (w : List ℕ). starts_with nat_eq w u ≡ true) (sym key) (starts_with-itself u)) in
-          elim (cases_lt s.0 end) [
+          elim (cases_lt s.place end) [
             | inl before ↦
-                IsIn-place n (slice_range (numbers sorted) from end) (s.0 - from)
-                (get-range (numbers sorted) from end (s.0 - from) (omega (arith, there.0))
+                IsIn-place n (slice_range (numbers sorted) from end) (s.place - from)
+                (get-range (numbers sorted) from end (s.place - from) (omega (arith, there.0))
                 ∙ ap (slice_get (numbers sorted))
-                (let at : from + (s.0 - from) ≡ s.0 = omega (arith, there.0) in at) ∙ s.1.number)
+                (let at : from + (s.place - from) ≡ s.place = omega (arith, there.0) in at) ∙ s.stands.number)
             | inr behind ↦
-                absurd (longer s.0 behind there.1 (ap (λ (w : List ℕ). slice_get w (length u)) key ∙ ended u))
+                absurd
+                (longer s.place behind there.1 (ap (λ (w : List ℕ). slice_get w (length u)) key ∙ ended u))
           ]
 
+      -- their numbers ascend there
       among-ordered : IsOrdered (λ m n. m < n) (slice_range (numbers sorted) from end)
       among-ordered = IsOrdered-places (λ m n. m < n) (slice_range (numbers sorted) from end) (λ j k m n l e f.
           let p = get-from_range (numbers sorted) from end j m e in
@@ -176,9 +194,10 @@ module _ (kind : MatchKind) (patterns : List (List ℕ)) (sorted : List Keyed)
                 absurd (not-less u
                 (sym (ap (λ (w : List ℕ). slice_cmp nat_cmp w (key_at sorted (from + k))) a
                 ∙ ap (slice_cmp nat_cmp u) b) ∙ less))
-            | inr below ↦ let c = below.1 in omega arith
+            | inr below ↦ omega (arith, below.1)
           ])
 
+      -- so these are the patterns that are the string
       pub range-equal_to : slice_range (numbers sorted) from end ≡ equal_to kind patterns u
       range-equal_to =
           IsOrdered-unique (λ m n. m < n) (λ m n l h. absurd (omega arith)) _ _ among-equal_to equal_to-among
@@ -188,23 +207,26 @@ module _ (kind : MatchKind) (patterns : List (List ℕ)) (sorted : List Keyed)
     -- the first of the range is the string exactly if some pattern that takes part is
     pub equal_to-some : from < to → byte_at sorted (length u) from ≡ None → equal_to kind patterns u ≢ []
     equal_to-some some ends none =
-        let s = at-place from (let w = range.within in omega arith) in
-        let key : pattern_of patterns s.0 ≡ u =
-        sym s.1.key ∙ starts_with-ended (key_at sorted from) u (begins from (omega arith) some) ends in
-        none-from_nil s.0 (equal_to kind patterns u) none
-        (IsIn-filter (λ m. bytes_eq (pattern_of patterns m) u) s.0 (participants kind patterns) s.1.takes_part
-        ((bytes_eq-Decides (pattern_of patterns s.0) u).1 key))
+        let s = at-place from (omega (arith, range.within)) in
+        let n = (pattern_at sorted from).number in
+        let key : pattern_of patterns n ≡ u =
+        sym s.key ∙ starts_with-ended (key_at sorted from) u (begins from (omega arith) some) ends in
+        none-from_nil n (equal_to kind patterns u) none
+        (IsIn-filter (λ m. bytes_eq (pattern_of patterns m) u) n (participants kind patterns) s.takes_part
+        ((bytes_eq-Decides (pattern_of patterns n) u).1 key))
 
+    -- and where it is longer, none is
     pub equal_to-none : byte_at sorted (length u) from ≢ None → equal_to kind patterns u ≡ []
     equal_to-none goes_on = nil-from_none (equal_to kind patterns u) (λ n h.
         let e = IsIn-from_filter (λ m. bytes_eq (pattern_of patterns m) u) n (participants kind patterns) h in
         let s = place-at n e.0 in
-        let key : key_at sorted s.0 ≡ u = s.1.key ∙ (bytes_eq-Decides (pattern_of patterns n) u).0 e.1 in
+        let same = (bytes_eq-Decides (pattern_of patterns n) u).0 e.1 in
+        let key : key_at sorted s.place ≡ u = s.stands.key ∙ same in
         let there =
-        (range.begins s.0 s.1.within).1
+        (range.begins s.place s.stands.within).1
         (subst (λ (w : List ℕ). starts_with nat_eq w u ≡ true) (sym key) (starts_with-itself u)) in
-        let up = range-ascends from s.0 (omega arith) there.0 there.1 in
-        let zero : rank (byte_at sorted (length u) s.0) ≡ 0 =
+        let up = range-ascends from s.place (omega arith) there.0 there.1 in
+        let zero : rank (byte_at sorted (length u) s.place) ≡ 0 =
         ap rank (ap (λ (w : List ℕ). slice_get w (length u)) key ∙ ended u) in
         goes_on (rank-None (byte_at sorted (length u) from) (omega arith)))
 
@@ -224,10 +246,12 @@ module _ (kind : MatchKind) (patterns : List (List ℕ)) (sorted : List Keyed)
             absurd (other more (rank-Some (byte_at sorted (length u) end) b (omega arith) ∙ sym byte))
       ]
 
+      -- each in the run begins with the longer string
       child-within : (k : ℕ) → place ≤ k → k < end → starts_with nat_eq (key_at sorted k) (u ++ b ∷ []) ≡ true
       child-within k a c =
           starts_with-push (key_at sorted k) u b (begins k (omega arith) (omega arith)) (same k a c ∙ byte)
 
+      -- and only these do
       child-only : (k : ℕ) → k < length sorted → starts_with nat_eq (key_at sorted k) (u ++ b ∷ []) ≡ true
           → (place ≤ k) × (k < end)
       child-only k within h =
@@ -235,21 +259,22 @@ module _ (kind : MatchKind) (patterns : List (List ℕ)) (sorted : List Keyed)
           let r : rank (byte_at sorted (length u) k) ≡ suc b =
           ap rank (starts_with-last (key_at sorted k) u b h) in (
             elim (cases_lt k place) [
-              | inl before ↦ absurd (let s = smaller k there.0 before in omega arith)
+              | inl before ↦ absurd (omega (arith, smaller k there.0 before))
               | inr le ↦ le
             ],
             elim (cases_lt k end) [
               | inl before ↦ before
               | inr le ↦
                   let up = range-ascends end k (omega arith) le there.1 in
-                  let above = next-greater (let t = there.1 in omega arith) in
+                  let above = next-greater (omega (arith, there.1)) in
                   absurd (omega arith)
             ],
           )
 
+      -- so the run is its range
       pub run-range : IsRangeOf sorted (u ++ b ∷ []) place end
       run-range = record {
         ordered = omega arith;
-        within = (let w = range.within in omega arith);
+        within = omega (arith, range.within);
         begins = λ k within. ((λ in'. child-within k in'.0 in'.1), (λ h. child-only k within h));
       }

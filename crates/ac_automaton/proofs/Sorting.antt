@@ -155,6 +155,7 @@ IsOrdered-weaker R S weaker (x ∷ xs) o = ((λ y h. weaker x y (o.0 y h)), IsOr
 
 module _ (fold : Bool) (patterns : List (List ℕ)) (listed : List SortedPattern)
     (are : AreListed patterns listed) where
+  -- the number of a listed pattern
   abbrev number_of : SortedPattern → ℕ
   number_of m = m.number
 
@@ -186,6 +187,7 @@ module _ (fold : Bool) (patterns : List (List ℕ)) (listed : List SortedPattern
       (IsOrdered-range 0 (length patterns))))
 
   module _ (sorted : List SortedPattern) (moved : IsPermutation listed sorted) where
+    -- a sort moves the numbers with the patterns
     numbers-moved : IsPermutation (map number_of listed) (map number_of sorted)
     numbers-moved = IsPermutation-map number_of listed sorted moved
 

@@ -16,7 +16,7 @@ use Rattle.ac_util.proofs.Lists.{IsIn, IsIn-at, IsIn-map, IsIn-from_map, IsIn-fi
 use Rattle.ac_util.proofs.Prefixes.{starts_with-itself}
 use Rattle.ac_util.proofs.Participants.{Prefixes, IsLeader, begins-before, begins-from_Fronts, leader, leader-least, leader-takes_part, takes_part}
 use Rattle.ac_automaton.specs.Sorted.{Keyed, Precedes, IsOrder, key_at, numbers}
-use Rattle.ac_automaton.proofs.Places.{place, place-take, IsIn-take, IsIn-from_take}
+use Rattle.ac_automaton.proofs.Places.{place-of, place-read, place-take, read-place, IsIn-take, IsIn-from_take}
 use Rattle.ac_automaton.proofs.Prefixes.{front-between, front-no_less}
 
 -- what comes before isn't greater
@@ -49,7 +49,7 @@ module _ (patterns : List (List ℕ)) (all : List Keyed) (order : IsOrder Standa
       (order.lists m.number).0 (Contains-from_IsIn m.number (numbers all) (IsIn-map (λ k. k.number) m all h)) in
       let f = IsIn-from_filter (participates Standard patterns) m.number (range_with_len 0 (length patterns))
       (IsIn-from_Contains m.number (participants Standard patterns) c) in
-      let r = IsIn-from_range m.number 0 (length patterns) f.0 in omega arith
+      omega (arith, IsIn-from_range m.number 0 (length patterns) f.0)
 
   -- each pattern is a pattern
   pub sorted_of : (n : ℕ) → n < length patterns → (m : Keyed) × IsIn m all × (m.number ≡ n)
@@ -77,7 +77,7 @@ module _ (patterns : List (List ℕ)) (all : List Keyed) (order : IsOrder Standa
       let keys : a.key ≡ b.key = named a h ∙ ap (pattern_of patterns) same ∙ sym (named b k) in
       let tied = ap (λ w. slice_cmp nat_cmp a.key w) (sym keys) ∙ tied_itself nat_list_cmp_total a.key in
       absurd (false≢true (ap is_lt (sym tied ∙ less)))
-  differ a b h k (inr later) same = let l = later.1 in omega arith
+  differ a b h k (inr later) same = omega (arith, later.1)
 
   module _ (at : ℕ) (within : at < length all) where
     -- the pattern at the place
@@ -92,9 +92,11 @@ module _ (patterns : List (List ℕ)) (all : List Keyed) (order : IsOrder Standa
     front-here : (m : Keyed) → IsIn m (take at all) → (j : ℕ) → at ≤ j → j < length all
         → starts_with nat_eq (key_at all j) m.key ≡ true → starts_with nat_eq here.key m.key ≡ true
     front-here m h j le below front =
-        let p = place-take none m at all h in
-        let first = subst (λ (w : Keyed). is_gt (slice_cmp nat_cmp w.key here.key) ≡ false) p.3
-        (no_greater-from_Precedes (get_or all p.0 none) here (precedes p.0 at p.1 within)) in
+        let p = place-take m at all h in
+        let first = subst (λ (w : Keyed). is_gt (slice_cmp nat_cmp w.key here.key) ≡ false)
+        (place-read none m all p.whole)
+        (no_greater-from_Precedes (get_or all p.whole.place none) here
+        (precedes p.whole.place at p.below within)) in
         elim (cases_lt at j) [
           | inl more ↦
               let second = no_greater-from_Precedes here (get_or all j none) (precedes at j more below) in
@@ -127,12 +129,12 @@ module _ (patterns : List (List ℕ)) (all : List Keyed) (order : IsOrder Standa
             let falls = s.falling i j d below (omega arith) in omega arith;
         before = λ m h. s.before m (IsIn-from_take m n stack h);
         stands = λ m h takes j le below front.
-            let p = place none m stack (s.stands m h takes j le below front) in
-            elim (cases_lt p.0 n) [
-              | inl kept ↦ IsIn-take none m n p.0 stack kept p.1 p.2
+            let p = place-of m stack (s.stands m h takes j le below front) in
+            elim (cases_lt p.place n) [
+              | inl kept ↦ IsIn-take m n stack p kept
               | inr dropped ↦
-                  let other =
-                  subst (λ (w : Keyed). starts_with nat_eq here.key w.key ≡ false) p.2 (gone p.0 dropped p.1) in
+                  let other = subst (λ (w : Keyed). starts_with nat_eq here.key w.key ≡ false)
+                  (place-read none m stack p) (gone p.place dropped p.within) in
                   absurd (false≢true (sym other ∙ front-here m h j le below front))
             ];
       }
@@ -145,18 +147,18 @@ module _ (patterns : List (List ℕ)) (all : List Keyed) (order : IsOrder Standa
           let front : starts_with nat_eq here.key m.0.key ≡ true =
           subst (λ (p : List ℕ). starts_with nat_eq here.key p ≡ true)
           (ap (pattern_of patterns) (sym m.2) ∙ sym (named m.0 m.1)) lead.prefixes.front in
-          let p = place none m.0 all m.1 in
+          let p = place-of m.0 all m.1 in
           let takes =
           ap (participates LeftmostFirst patterns) m.2
           ∙ leader-takes_part patterns LeftmostFirst here.key j lead in
-          elim (cases_lt p.0 at) [
+          elim (cases_lt p.place at) [
             | inl earlier ↦ (
               m.0,
-              s.stands m.0 (IsIn-take none m.0 at p.0 all earlier p.1 p.2) takes at
-                  (omega arith) within front,
+              s.stands m.0 (IsIn-take m.0 at all p earlier) takes at (omega arith) within front,
               m.2,
             )
-            | inr later ↦ absurd (not_later m.0 p.0 m.2 p.1 p.2 front later)
+            | inr later ↦
+                absurd (not_later m.0 p.place m.2 p.within (place-read none m.0 all p) front later)
           ]
         where
           not_later : (m : Keyed) (p : ℕ) → m.number ≡ j → p < length all → get_or all p none ≡ m
@@ -164,7 +166,7 @@ module _ (patterns : List (List ℕ)) (all : List Keyed) (order : IsOrder Standa
           not_later m p number more is front later = elim (cases_lt at p) [
             | inl behind ↦ elim (subst (λ (w : Keyed). Precedes here w) is (precedes at p behind more)) [
               | inl less ↦ false≢true (sym (front-no_less m.key here.key front) ∙ ap is_lt less)
-              | inr after ↦ let l = after.1 in omega arith
+              | inr after ↦ omega (arith, after.1)
             ]
             | inr reached ↦
                 let same : p ≡ at = omega arith in
@@ -197,18 +199,18 @@ module _ (patterns : List (List ℕ)) (all : List Keyed) (order : IsOrder Standa
       -- a pattern before here is among those up to here
       later-in : (m : Keyed) → IsIn m (take at all) → IsIn m (take (at + 1) all)
       later-in m h =
-          let p = place-take none m at all h in
-          IsIn-take none m (at + 1) p.0 all (let b = p.1 in omega arith) p.2 p.3
+          let p = place-take m at all h in
+          IsIn-take m (at + 1) all p.whole (omega (arith, p.below))
 
       -- a pattern among those up to here is before here or here
       earlier-or-here : (m : Keyed) → IsIn m (take (at + 1) all) → IsIn m (take at all) ⊎ (here ≡ m)
       earlier-or-here m h =
-          let p = place-take none m (at + 1) all h in
-          elim (cases_lt p.0 at) [
-            | inl earlier ↦ inl (IsIn-take none m at p.0 all earlier p.2 p.3)
+          let p = place-take m (at + 1) all h in
+          elim (cases_lt p.whole.place at) [
+            | inl earlier ↦ inl (IsIn-take m at all p.whole earlier)
             | inr reached ↦
-                let b = p.1 in
-                let same : at ≡ p.0 = omega arith in inr (ap (λ (i : ℕ). get_or all i none) same ∙ p.3)
+                let same : at ≡ p.whole.place = omega (arith, p.below) in
+                inr (ap (λ (i : ℕ). get_or all i none) same ∙ place-read none m all p.whole)
           ]
 
       -- where the pattern here takes no part the stack stays
@@ -233,14 +235,17 @@ module _ (patterns : List (List ℕ)) (all : List Keyed) (order : IsOrder Standa
         falling = all_pairs_push (λ a b. b.number < a.number) stack here s.falling (λ k d l.
             let m = get_or stack k d in
             let h : IsIn m stack = IsIn-at m d stack k l refl in
-            let p = place-take none m at all (s.before m h) in
+            let p = place-take m at all (s.before m h) in
             let apart = differ m here (IsIn-from_take m at all (s.before m h)) here-in
-            (subst (λ (w : Keyed). Precedes w here) p.3 (precedes p.0 at p.1 within)) in
-            let le = least m h in omega arith);
+            (subst (λ (w : Keyed). Precedes w here) (place-read none m all p.whole)
+            (precedes p.whole.place at p.below within)) in
+            omega (arith, least m h));
         before = λ m h. elim (IsIn-append_cases m stack (here ∷ []) h) [
           | inl old ↦ later-in m (s.before m old)
           | inr last ↦ elim last [
-            | inl e ↦ IsIn-take none m (at + 1) at all (omega arith) within e
+            | inl e ↦
+                subst (λ (w : Keyed). IsIn w (take (at + 1) all)) e
+                (IsIn-take here (at + 1) all (read-place none all at within) (omega arith))
             | inr nothing ↦ absurd nothing
           ]
         ];
@@ -256,13 +261,13 @@ pub least-from_last : (stack : List Keyed) (d : Keyed) (n : ℕ) → AllPairs (�
     → (0 < length stack → n ≤ (get_or stack (length stack - 1) d).number) → (m : Keyed) → IsIn m stack
     → n ≤ m.number
 least-from_last stack d n falling last m h =
-    let p = place d m stack h in
-    let l = p.1 in
+    let p = place-of m stack h in
+    let within = p.within in
     let bound = last (omega arith) in
-    let is = ap (λ (w : Keyed). w.number) p.2 in
-    elim (cases_lt p.0 (length stack - 1)) [
-      | inl below ↦ let falls = falling p.0 (length stack - 1) d below (omega arith) in omega arith
+    let is = ap (λ (w : Keyed). w.number) (place-read d m stack p) in
+    elim (cases_lt p.place (length stack - 1)) [
+      | inl below ↦ let falls = falling p.place (length stack - 1) d below (omega arith) in omega arith
       | inr reached ↦
-          let same : p.0 ≡ length stack - 1 = omega arith in
+          let same : p.place ≡ length stack - 1 = omega arith in
           let one = ap (λ (i : ℕ). (get_or stack i d).number) same in omega arith
     ]

@@ -16,12 +16,14 @@ use Rattle.ac_automaton.specs.Sorted.{Keyed, IsOrder, byte_at}
 use Rattle.ac_automaton.specs.Tries.{miss}
 use Rattle.ac_automaton.proofs.Ranges.{equal_to-some, equal_to-none, place-at}
 
+-- a string without bytes is empty
 no-bytes : (w : List ℕ) → length w ≤ 0 → w ≡ []
 no-bytes [] l = refl
 no-bytes (x ∷ w) l = absurd (omega arith)
 
 module _ (kind : MatchKind) (patterns : List (List ℕ)) (sorted : List Keyed)
     (order : IsOrder kind patterns sorted) where
+  -- all patterns begin with the empty string
   all-range : IsRangeOf sorted [] 0 (length sorted)
   all-range = record {
     ordered = omega arith;
@@ -41,6 +43,7 @@ module _ (kind : MatchKind) (patterns : List (List ℕ)) (sorted : List Keyed)
             (starts_with-length [] (pattern_of patterns l.0) l.1.prefixes.front);
       }))
 
+  -- where some pattern is empty, the empty string begins with a pattern
   some-begins : equal_to kind patterns [] ≢ [] → begins_with_pattern patterns [] ≡ true
   some-begins some = elim (cases_Bool (begins_with_pattern patterns [])) [
     | inl t ↦ t
@@ -56,6 +59,7 @@ module _ (kind : MatchKind) (patterns : List (List ℕ)) (sorted : List Keyed)
       cond-true (is_leftmost kind && begins_with_pattern patterns []) None (Some [])
       (ap (λ (t : Bool). t && begins_with_pattern patterns []) leftmost ∙ begins)
 
+  -- and where the first pattern has a byte, it does not
   none-begins : (0 < length sorted → byte_at sorted 0 0 ≢ None) → begins_with_pattern patterns [] ≡ false
   none-begins goes_on = false_from_ne_true _ (λ t. begins-some t (elim (cases_lt 0 (length sorted)) [
     | inl some ↦ equal_to-none kind patterns sorted order [] 0 (length sorted) all-range (goes_on some)
@@ -63,10 +67,10 @@ module _ (kind : MatchKind) (patterns : List (List ℕ)) (sorted : List Keyed)
         let s =
         place-at kind patterns sorted order n
         (IsIn-from_filter (λ m. bytes_eq (pattern_of patterns m) []) n (participants kind patterns) h).0 in
-        let w = s.1.within in
-        absurd (omega arith))
+        absurd (omega (arith, s.stands.within)))
   ]))
 
+  -- then a search stays at the start
   miss-stays : (is_leftmost kind ≡ true → 0 < length sorted → byte_at sorted 0 0 ≢ None)
       → miss kind patterns (Some []) ≡ Some []
   miss-stays goes_on = elim (cases_Bool (is_leftmost kind)) [
@@ -82,6 +86,7 @@ module _ (kind : MatchKind) (patterns : List (List ℕ)) (sorted : List Keyed)
   abbrev pub queued_start : ℕ → QueuedState
   queued_start fail = record { from = 0; to = length sorted; depth = 0; fail = fail }
 
+  -- the start waits with a failure target that stands for where it goes on
   waits : (fail : ℕ) → slice_get (None ∷ None ∷ Some [] ∷ Some [] ∷ []) fail ≡ Some
       (miss kind patterns (Some []))
       → Waits kind patterns sorted [] START (queued_start fail)
@@ -94,10 +99,12 @@ module _ (kind : MatchKind) (patterns : List (List ℕ)) (sorted : List Keyed)
     inner = λ l. absurd (omega arith);
   }
 
+  -- with an empty pattern a leftmost search ends there
   pub waits-dead : is_leftmost kind ≡ true → 0 < length sorted → byte_at sorted 0 0 ≡ None
       → Waits kind patterns sorted [] START (queued_start DEAD)
   waits-dead leftmost some ends = waits DEAD (ap (λ (v : Node). Some v) (sym (miss-dead leftmost some ends)))
 
+  -- and else it stays there
   pub waits-start : (is_leftmost kind ≡ true → 0 < length sorted → byte_at sorted 0 0 ≢ None)
       → Waits kind patterns sorted [] START (queued_start START)
   waits-start goes_on = waits START (ap (λ (v : Node). Some v) (sym (miss-stays goes_on)))

@@ -25,10 +25,11 @@ use Rattle.ac_automaton.specs.Growths.{IsGrown, IsNotPushed, IsRangeOf, grown_me
 use Rattle.ac_automaton.specs.Sorted.{Keyed, IsOrder, byte_at, key_at}
 use Rattle.ac_automaton.specs.Tries.{AreStates, IsNumberOf, NumbersNodes, Represents, transition_bytes, transitions_of, miss, state_at}
 use Rattle.ac_automaton.proofs.Branched.{own_target-is, some_node}
-use Rattle.ac_automaton.proofs.Branching.{IsBranching, IsRun, Site, child-range, fresh, string, word-length}
+use Rattle.ac_automaton.proofs.Branching.{IsBranching, IsRun, Site, child-range, string, word-length}
+use Rattle.ac_automaton.proofs.Child.{fresh}
 use Rattle.ac_automaton.proofs.Counting.{IsOrdered-from_AllPairs, length-le-from_IsOrdered}
 use Rattle.ac_automaton.proofs.Grown.{IsInner, nodes-cases}
-use Rattle.ac_automaton.proofs.Places.{place-of, IsIn-place, IsOrdered-places}
+use Rattle.ac_automaton.proofs.Places.{ImageAt, get-from_map, place-of, IsIn-place, IsOrdered-places}
 use Rattle.ac_automaton.proofs.Ranges.{pattern-node}
 use Rattle.ac_automaton.proofs.Prefixes.{starts_with-last}
 
@@ -61,48 +62,45 @@ module _ (kind : MatchKind) (patterns : List (List ℕ)) (sorted : List Keyed)
   abbrev words : List (List ℕ)
   words = map (word sorted) queue
 
-  word-at : (k : ℕ) (w : List ℕ) → slice_get words k ≡ Some w
-      → (q : QueuedState) × (slice_get queue k ≡ Some q) × (word sorted q ≡ w)
-  word-at k w e = by queue k e
-    where
-      by : (qs : List QueuedState) (j : ℕ) → slice_get (map (word sorted) qs) j ≡ Some w
-          → (q : QueuedState) × (slice_get qs j ≡ Some q) × (word sorted q ≡ w)
-      by [] j e = absurd (cc)
-      by (q ∷ qs) zero e = (q, refl, (cc))
-      by (q ∷ qs) (suc j) e = by qs j e
+  -- each of them is that of a state in the queue
+  word-at : (k : ℕ) (w : List ℕ) → slice_get words k ≡ Some w → ImageAt (word sorted) queue k w
+  word-at k w e = get-from_map (word sorted) queue k w e
 
+  -- no two are the same
   words-apart : IsOrdered (λ u w. u ≢ w) words
   words-apart = IsOrdered-places (λ u w. u ≢ w) words (λ j k u w l e f same.
       let q = word-at j u e in
       let r = word-at k w f in
-      let at = grown.apart j k q.0 r.0 q.1 r.1 (q.2 ∙ same ∙ sym r.2) in
+      let at = grown.apart j k q.from r.from q.there r.there (q.is ∙ same ∙ sym r.is) in
       absurd (omega arith))
 
+  -- a string with a range is a node
   range-node : (u : List ℕ) (from to : ℕ) → IsRangeOf sorted u from to → from < to
       → is_node kind patterns u ≡ true
   range-node u from to range some =
-      let inside : from < length sorted = (let w = range.within in omega arith) in
+      let inside : from < length sorted = (omega (arith, range.within)) in
       pattern-node kind patterns sorted order from u inside ((range.begins from inside).0 (omega arith, some))
 
+  -- each string of the queue is an inner node
   word-inner : (u : List ℕ) → IsIn u words → IsIn u (inner_nodes kind patterns)
   word-inner u h =
       let k = place-of u words h in
-      let q = word-at k.0 u k.1 in
-      let w = grown.waits k.0 q.0 q.1 in
-      let node = range-node (word sorted q.0) q.0.from q.0.to w.range (w.some (omega arith)) in
-      let some : word sorted q.0 ≢ [] =
+      let q = word-at k.place u k.there in
+      let w = grown.waits k.place q.from q.there in
+      let node = range-node (word sorted q.from) q.from.from q.from.to w.range (w.some (omega arith)) in
+      let some : word sorted q.from ≢ [] =
       (λ e. let l = word-length w in let m = ap length e in
       let d = w.inner (omega arith) in absurd (omega arith)) in
-      subst (λ (v : List ℕ). IsIn v (inner_nodes kind patterns)) q.2
-      (IsIn-from_Contains (word sorted q.0) (inner_nodes kind patterns)
-      (inner_nodes-has kind patterns (word sorted q.0) node some))
+      subst (λ (v : List ℕ). IsIn v (inner_nodes kind patterns)) q.is
+      (IsIn-from_Contains (word sorted q.from) (inner_nodes kind patterns)
+      (inner_nodes-has kind patterns (word sorted q.from) node some))
 
   -- an inner number is that of a place in the queue
   inner-at : (s : ℕ) (v : Node) → FIRST_INNER ≤ s → slice_get (nodes_of sorted queue) s ≡ Some v
       → IsInner sorted queue s v
   inner-at s v inner e = elim (nodes-cases sorted queue s v e) [
-    | inl dead ↦ absurd (let l = dead.0 in omega arith)
-    | inr (inl start) ↦ absurd (let l = start.1 in omega arith)
+    | inl dead ↦ absurd (omega (arith, dead.below))
+    | inr (inl start) ↦ absurd (omega (arith, start.below))
     | inr (inr i) ↦ i
   ]
 
@@ -110,6 +108,7 @@ module _ (kind : MatchKind) (patterns : List (List ℕ)) (sorted : List Keyed)
   inner-is : (s : ℕ) (u : List ℕ) (i : IsInner sorted queue s (Some u)) → u ≡ word sorted i.queued
   inner-is s u i = let e : Some u ≡ Some (word sorted i.queued) = i.node in cc
 
+  -- so the string of an inner number is one of the queue
   word-of_inner : (s : ℕ) (u : List ℕ) → IsInner sorted queue s (Some u) → IsIn u words
   word-of_inner s u i =
       IsIn-place u words i.place
@@ -128,33 +127,40 @@ module _ (kind : MatchKind) (patterns : List (List ℕ)) (sorted : List Keyed)
       IsIn-from_Contains (u ++ b ∷ []) (inner_nodes kind patterns)
       (inner_nodes-has kind patterns (u ++ b ∷ []) node longer) in
       let count = length-le-from_IsOrdered ((u ++ b ∷ []) ∷ words) (inner_nodes kind patterns) (
-        (λ w h same. let k = place-of w words h in let q = word-at k.0 w k.1 in
-            fresh k.0 q.0 q.1 (q.2 ∙ sym same)),
+        (λ w h same. let k = place-of w words h in let q = word-at k.place w k.there in
+            fresh k.place q.from q.there (q.is ∙ sym same)),
         words-apart,
       )
       (λ w h. elim h [
         | inl e ↦ subst (λ (v : List ℕ). IsIn v (inner_nodes kind patterns)) e here
         | inr later ↦ word-inner w later
       ]) in
-      let l = length-map queue (word sorted) in
-      omega arith
+      omega (arith, length-map queue (word sorted))
 
   module _ (fold : Bool)
       (settled : (place depth b : ℕ) → byte_at sorted depth place ≡ Some b → plain_byte fold b ≡ b)
       (states : List State)
       (meant : AreStates (grown_meaning kind fold patterns sorted transitions queue) states)
       (all : length states ≡ FIRST_INNER + length queue) where
+    -- the string has a state, with this number
+    record HasNumber (u : List ℕ) : Type 0 where
+      pub number : ℕ
+      pub named : slice_get (nodes_of sorted queue) number ≡ Some (Some u)
+
     -- where the state of a string stands, and the byte that makes a longer node of it
     module _ (w : List ℕ) (b s : ℕ) (at : slice_get (nodes_of sorted queue) s ≡ Some (Some w))
         (longer : is_node kind patterns (w ++ b ∷ []) ≡ true) where
+      -- the byte is a plain one
       settled-byte : plain_byte fold b ≡ b
       settled-byte =
           let m = some_node kind patterns sorted order w b longer in
           settled m.0 (length w) b (starts_with-last (key_at sorted m.0) w b m.2)
 
+      -- an anchored search goes on by it
       onto : step kind patterns Yes (Some w) (plain_byte fold b) ≡ Some (w ++ b ∷ [])
       onto = ap (step kind patterns Yes (Some w)) settled-byte ∙ own_target-is kind patterns w b longer
 
+      -- the state stands for its string
       represented : Represents (grown_meaning kind fold patterns sorted transitions queue) s (Some w)
           (state_at states s)
       represented =
@@ -172,7 +178,7 @@ module _ (kind : MatchKind) (patterns : List (List ℕ)) (sorted : List Keyed)
           (ap (λ (x : ℕ). step kind patterns Yes (Some w) (plain_byte fold x)) is ∙ onto)
 
       -- and there is one
-      onward : (next : ℕ) × (slice_get (nodes_of sorted queue) next ≡ Some (Some (w ++ b ∷ [])))
+      onward : HasNumber (w ++ b ∷ [])
       onward =
           let own = transitions_of transitions (state_at states s) in
           let some : step kind patterns Yes (Some w) (plain_byte fold b) ≢ None =
@@ -182,12 +188,11 @@ module _ (kind : MatchKind) (patterns : List (List ℕ)) (sorted : List Keyed)
           IsIn-from_map (λ (x : Transition). x.byte) b own
           (IsIn-from_Contains b (transition_bytes own) ((represented.branches b).1 some)) in
           let k = place-of t.0 own t.1 in
-          (t.0.target, leads-on t.0 k.0 k.1 t.2)
+          record { number = t.0.target; named = leads-on t.0 k.place k.there t.2 }
 
     -- each node has a state
-    reaches : (n : ℕ) (u : List ℕ) → length u ≡ n → is_node kind patterns u ≡ true
-        → (s : ℕ) × (slice_get (nodes_of sorted queue) s ≡ Some (Some u))
-    reaches zero [] l node = (START, refl)
+    reaches : (n : ℕ) (u : List ℕ) → length u ≡ n → is_node kind patterns u ≡ true → HasNumber u
+    reaches zero [] l node = record { number = START; named = refl }
     reaches zero (x ∷ u) l node = absurd (omega arith)
     reaches (suc n) [] l node = absurd (omega arith)
     reaches (suc n) (x ∷ u) l node =
@@ -195,10 +200,9 @@ module _ (kind : MatchKind) (patterns : List (List ℕ)) (sorted : List Keyed)
         let longer : is_node kind patterns (last.0 ++ last.1 ∷ []) ≡ true =
         subst (λ (v : List ℕ). is_node kind patterns v ≡ true) last.2 node in
         let len : length last.0 ≡ n =
-        (let m = length_push last.0 last.1 in let o = ap length last.2 in omega arith) in
+        (omega (arith, length_push last.0 last.1, ap length last.2)) in
         let s = reaches n last.0 len (is_node-front kind patterns last.0 last.1 longer) in
-        let next = onward last.0 last.1 s.0 s.1 longer in
-        (next.0, next.1 ∙ ap (λ (v : List ℕ). Some (Some v)) (sym last.2))
+        subst HasNumber (sym last.2) (onward last.0 last.1 s.number s.named longer)
 
     -- and each nonempty one an inner state
     inner-number : (u : List ℕ) → Contains (inner_nodes kind patterns) u
@@ -206,12 +210,13 @@ module _ (kind : MatchKind) (patterns : List (List ℕ)) (sorted : List Keyed)
     inner-number u h =
         let only = inner_nodes-only kind patterns u h in
         let s = reaches (length u) u refl only.0 in
-        elim (nodes-cases sorted queue s.0 (Some u) s.1) [
-          | inl dead ↦ absurd (let e = dead.1 in cc)
-          | inr (inl start) ↦ absurd (only.1 (let e : Some u ≡ Some [] = start.2 in let f : u ≡ [] = cc in f))
-          | inr (inr i) ↦ (s.0, record { inner = (let n = i.number in omega arith); named = s.1 })
+        elim (nodes-cases sorted queue s.number (Some u) s.named) [
+          | inl dead ↦ absurd (let e = dead.node in cc)
+          | inr (inl start) ↦ absurd (only.1 (let e : Some u ≡ Some [] = start.node in let f : u ≡ [] = cc in f))
+          | inr (inr i) ↦ (s.number, record { inner = omega (arith, i.number); named = s.named })
         ]
 
+    -- so each inner node is a string of the queue
     inner-word : (u : List ℕ) → IsIn u (inner_nodes kind patterns) → IsIn u words
     inner-word u h =
         let n = inner-number u (Contains-from_IsIn u (inner_nodes kind patterns) h) in
@@ -245,11 +250,8 @@ module _ (kind : MatchKind) (patterns : List (List ℕ)) (sorted : List Keyed)
       once = λ s t u m n.
           let i = inner-at s (Some u) m.inner m.named in
           let j = inner-at t (Some u) n.inner n.named in
-          let same = grown.apart i.place j.place i.queued j.queued i.waits j.waits
-          (sym (inner-is s u i) ∙ inner-is t u j) in
-          let k = i.number in
-          let l = j.number in
-          omega arith;
+          let same = sym (inner-is s u i) ∙ inner-is t u j in
+          omega (arith, grown.apart i.place j.place i.queued j.queued i.waits j.waits same, i.number, j.number);
     }
 
 -- a child for which there is no number is one node too many

@@ -11,9 +11,11 @@ use Rattle.ac_util.proofs.Failures.{step-own, step-failure, depth-failure}
 use Rattle.ac_automaton.specs.Tries.{miss}
 
 module _ (kind : MatchKind) (patterns : List (List ℕ)) where
+  -- where an anchored search goes on from a node
   abbrev own_target : Node → ℕ → Node
   own_target v b = step kind patterns Yes v b
 
+  -- where an unanchored search goes on
   abbrev stepped : Node → ℕ → Node
   stepped v b = step kind patterns No v b
 
@@ -22,6 +24,7 @@ module _ (kind : MatchKind) (patterns : List (List ℕ)) where
   leads w true h = refl
   leads w false h = absurd (h refl)
 
+  -- a choice that is dead was decided so
   stays : (w : List ℕ) (t : Bool) → cond t (Some w) None ≡ None → t ≡ false
   stays w true h = absurd (cc)
   stays w false h = refl

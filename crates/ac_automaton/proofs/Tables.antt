@@ -14,8 +14,9 @@ length-not_nil : (xs : List ℕ) → xs ≢ [] → 0 < length xs
 length-not_nil [] h = absurd (h refl)
 length-not_nil (x ∷ xs) h = omega arith
 
+-- a list with elements is not empty
 not_nil-length : (xs : List ℕ) → 0 < length xs → xs ≢ []
-not_nil-length xs h e = let l = ap (length {A = ℕ}) e in omega arith
+not_nil-length xs h e = omega (arith, ap (length {A = ℕ}) e)
 
 module _ (trie : Trie) (s : ℕ) (u : Node) (h : StandsFor trie s u) where
   -- what the numbers mean
@@ -55,7 +56,7 @@ module _ (trie : Trie) (s : ℕ) (u : Node) (h : StandsFor trie s u) where
     (λ small. elim (shallow s refl (omega arith)) [ inl d ↦ d.1 | inr e ↦ absurd (omega arith) ]),
     (λ dead. elim (cases_lt s FIRST_INNER) [
       | inl small ↦ elim (shallow s refl small) [ inl d ↦ d.0 | inr e ↦ absurd (let start = e.1 in cc) ]
-      | inr large ↦ absurd (let d = deep (omega arith) in let none = ap depth dead in omega arith)
+      | inr large ↦ absurd (let d = deep (omega arith) in omega (arith, ap depth dead))
     ]),
   )
 
@@ -65,7 +66,7 @@ module _ (trie : Trie) (s : ℕ) (u : Node) (h : StandsFor trie s u) where
     (λ among. elim (shallow s refl among.1) [ inl d ↦ absurd (omega arith) | inr e ↦ e.1 ]),
     (λ start. elim (cases_lt s FIRST_INNER) [
       | inl small ↦ elim (shallow s refl small) [ inl d ↦ absurd (let dead = d.1 in cc) | inr e ↦ (e.0, small) ]
-      | inr large ↦ absurd (let d = deep (omega arith) in let none = ap depth start in omega arith)
+      | inr large ↦ absurd (let d = deep (omega arith) in omega (arith, ap depth start))
     ]),
   )
 
@@ -91,6 +92,6 @@ module _ (trie : Trie) (s : ℕ) (u : Node) (h : StandsFor trie s u) where
               let more = length-not_nil (all_matches meaning read.links.linked) (read.links.useful linked) in
               not_nil-length (listed_within trie.order trie.states s s) (omega arith)),
           (λ some last.
-              let end = ap (length {A = ℕ}) (none-linked meaning trie.states s u t has-state read last) in
-              let more = length-not_nil (listed_within trie.order trie.states s s) some in omega arith),
+              let alone = ap (length {A = ℕ}) (none-linked meaning trie.states s u t has-state read last) in
+              omega (arith, alone, length-not_nil (listed_within trie.order trie.states s s) some)),
         )

@@ -18,7 +18,7 @@ use Rattle.ac_automaton.specs.Builds.{too_many_states}
 use Rattle.ac_automaton.specs.Growths.{first_states, HasBegun, HasBranched, IsGrown, IsReady, Waits, grown_meaning, nodes_of, word}
 use Rattle.ac_automaton.specs.Sorted.{Keyed, IsOrder, Sorted, byte_at, key_at, numbers}
 use Rattle.ac_automaton.specs.Tries.{AreStates, IsTable, Meaning, NumbersNodes, Represents, dead_state, state_at, trie_of}
-use Rattle.ac_automaton.proofs.Grown.{AreStates-push, nodes-inner}
+use Rattle.ac_automaton.proofs.Grown.{AreStates-push, IsGrown-later, nodes-inner}
 use Rattle.ac_automaton.proofs.ListsOf.{listed_within-matches}
 use Rattle.ac_automaton.proofs.StateCount.{numbers-nodes, too_many_states-none}
 
@@ -39,7 +39,7 @@ Represents-beside g v t r = record {
   links = record {
     linked = r.links.linked;
     leads = r.links.leads;
-    back = (let b = r.links.back in omega arith);
+    back = omega (arith, r.links.back);
     finds = r.links.finds;
     useful = r.links.useful;
   };
@@ -53,6 +53,7 @@ plain-twice : (fold : Bool) (b : ℕ) → plain_byte fold (plain_byte fold b) �
 plain-twice false b = refl
 plain-twice true b = grind (arith, nat_tests)
 
+-- so does each byte of a plain string
 plain-byte : (fold : Bool) (text : List ℕ) (k b : ℕ) → slice_get (plain fold text) k ≡ Some b
     → plain_byte fold b ≡ b
 plain-byte fold [] k b e = absurd (cc)
@@ -60,6 +61,7 @@ plain-byte fold (x ∷ text) zero b e =
     let is : plain_byte fold x ≡ b = cc in ap (plain_byte fold) (sym is) ∙ plain-twice fold x ∙ is
 plain-byte fold (x ∷ text) (suc k) b e = plain-byte fold text k b e
 
+-- and of a plain pattern
 plain-pattern : (fold : Bool) (texts : List (List ℕ)) (n k b : ℕ)
     → slice_get (pattern_of (map (plain fold) texts) n) k ≡ Some b
     → plain_byte fold b ≡ b
@@ -84,13 +86,14 @@ sorted-plain kind fold texts sorted order place depth b e =
     ]
 
 module _ (kind : MatchKind) (fold : Bool) (patterns : List (List ℕ)) (sorted : List Keyed) where
+  -- the dead state stands for the dead node
   dead-represents : (s : ℕ) → s < START
       → Represents (grown_meaning kind fold patterns sorted [] []) s None dead_state
   dead-represents s l = record {
     ordered = omega arith;
     listed = omega arith;
     ascending = λ k h. absurd (omega arith);
-    branches = λ b. ((λ has. absurd (let h = has.1 in omega arith)), (λ some. absurd (some refl)));
+    branches = λ b. ((λ has. absurd (omega (arith, has.1))), (λ some. absurd (some refl)));
     leads = λ k t e. absurd (cc);
     fails = refl;
     back = λ h. absurd (omega arith);
@@ -109,6 +112,7 @@ module _ (kind : MatchKind) (fold : Bool) (patterns : List (List ℕ)) (sorted :
     inner = λ h. absurd (omega arith);
   }
 
+  -- so the first two states are whole
   first-states : AreStates (grown_meaning kind fold patterns sorted [] []) first_states
   first-states = record {
     dead = refl;
@@ -156,19 +160,6 @@ module _ (kind : MatchKind) (fold : Bool) (patterns : List (List ℕ)) (sorted :
     pub count : length states ≡ FIRST_INNER + at
     pub within : at ≤ length queue
 
-  later-grown : (m n : ℕ) (transitions : List Transition) (queue : List QueuedState) → m ≤ n
-      → IsGrown kind patterns sorted m transitions queue → IsGrown kind patterns sorted n transitions queue
-  later-grown m n transitions queue l grown = record {
-    few = grown.few;
-    counted = grown.counted;
-    waits = grown.waits;
-    apart = grown.apart;
-    parents = λ k q e.
-        let r = grown.parents k q e in
-        let early = r.early in
-        record { parent = r.parent; early = omega arith; named = r.named };
-  }
-
   -- with the start at both its numbers the first four are whole
   started : (p : QueuedState) (t : State) (transitions : List Transition) (queue : List QueuedState)
       → IsOrder kind patterns sorted
@@ -178,7 +169,7 @@ module _ (kind : MatchKind) (fold : Bool) (patterns : List (List ℕ)) (sorted :
   started p t transitions queue order settled depth h = record {
     order = order;
     settled = settled;
-    grown = later-grown ANCHORED_START FIRST_INNER transitions queue (omega arith) h.grown;
+    grown = IsGrown-later (omega arith) (omega arith) h.grown;
     meant =
         AreStates-push (grown_meaning kind fold patterns sorted transitions queue) (first_states ++ t ∷ [])
         (Some []) t once refl
@@ -198,6 +189,7 @@ module _ (kind : MatchKind) (fold : Bool) (patterns : List (List ℕ)) (sorted :
           AreStates-push (grown_meaning kind fold patterns sorted transitions queue) first_states
           (Some []) t h.meant refl start
 
+  -- with the start at both its numbers a trie goes on to grow
   pub start-going : (first : List State) (none : List QueuedState) (p : QueuedState) (t : State)
       (transitions : List Transition) (queue : List QueuedState) → first ≡ first_states → none ≡ []
       → IsOrder kind patterns sorted
@@ -225,6 +217,7 @@ module _ (kind : MatchKind) (fold : Bool) (patterns : List (List ℕ)) (sorted :
     next = inr (record { place = at; number = h.count; waits = e });
   }
 
+  -- once a state of the queue has branched, the next one is next
   pub going-on : {states : List State} {transitions : List Transition} {queue : List QueuedState} {at : ℕ}
       {p : QueuedState} {t : State} {new_transitions : List Transition} {new_queue : List QueuedState}
       → IsGoing states transitions queue at
@@ -235,11 +228,11 @@ module _ (kind : MatchKind) (fold : Bool) (patterns : List (List ℕ)) (sorted :
     order = h.order;
     settled = h.settled;
     grown = subst (λ (n : ℕ). IsGrown kind patterns sorted n new_transitions new_queue)
-        (let l = length_push states t in omega arith) b.grown;
+        (omega (arith, length_push states t)) b.grown;
     meant = AreStates-push (grown_meaning kind fold patterns sorted new_transitions new_queue) states
         (Some (word sorted p)) t b.meant node b.represents;
-    count = (let l = length_push states t in let m = h.count in omega arith);
-    within = (let l = slice_get_within new_queue at p (b.kept at p e) in omega arith);
+    count = omega (arith, length_push states t, h.count);
+    within = omega (arith, slice_get_within new_queue at p (b.kept at p e));
   }
     where
       node : slice_get (nodes_of sorted new_queue) (length states) ≡ Some (Some (word sorted p))
@@ -266,14 +259,17 @@ module _ (texts : List (List ℕ)) {fold : Bool} {kind : MatchKind} {sorted : Li
     {states : List State} {transitions : List Transition} {queue : List QueuedState} {at : ℕ}
     (h : IsGoing kind fold (map (plain fold) texts) sorted states transitions queue at)
     (all : length queue ≤ at) where
+  -- there are as many states as the first ones and the queue
   counted : length states ≡ FIRST_INNER + length queue
-  counted = let l = h.count in let m = h.within in omega arith
+  counted = omega (arith, h.count, h.within)
 
+  -- so their numbers are those of the nodes
   numbered : NumbersNodes kind (map (plain fold) texts) (nodes_of sorted queue)
   numbered =
       numbers-nodes kind (map (plain fold) texts) sorted h.order (length states) transitions queue h.grown
       fold h.settled states h.meant counted
 
+  -- the states are those of an automaton
   pub whole-table : IsTable (trie_of texts fold kind (numbers sorted) transitions states)
       (nodes_of sorted queue)
   whole-table =
@@ -281,7 +277,7 @@ module _ (texts : List (List ℕ)) {fold : Bool} {kind : MatchKind} {sorted : Li
       record {
         both = refl;
         states = h.meant;
-        whole = (let c = counted in omega arith);
+        whole = omega (arith, counted);
         unreached = refl;
         start = refl;
         anchored_start = refl;
@@ -292,7 +288,7 @@ module _ (texts : List (List ℕ)) {fold : Bool} {kind : MatchKind} {sorted : Li
             (record {
               meant = h.meant;
               there =
-                  (let l = slice_get_within (nodes_of sorted queue) s v e in let c = counted in omega arith);
+                  (omega (arith, slice_get_within (nodes_of sorted queue) s v e, counted));
               named = e;
             })
             (omega arith);

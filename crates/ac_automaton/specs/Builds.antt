@@ -13,8 +13,7 @@ use Rattle.ac_util.specs.Sameness.{plain}
 use Rattle.ac_util.specs.Sizes.{state_count}
 
 -- an engine as its builds see it: which starts it has, and why it is refused, if it is, where plain patterns
--- need
--- more state numbers than there are
+-- need more state numbers than there are
 pub record EngineRules : Type 0 where
   pub start_kind : StartKind
   pub state_refusal : MatchKind → List (List ℕ) → Option BuildError

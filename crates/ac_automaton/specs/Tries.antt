@@ -116,8 +116,7 @@ module _ (g : Meaning) where
 
   -- the state with this number stands for the node: its transitions are the node's own, in ascending order of
   -- their bytes, its failure target is where an unanchored search goes on by any other byte, and its patterns
-  -- are
-  -- the node's. The first four states stand for the dead node and the start
+  -- are the node's. The first four states stand for the dead node and the start
   pub record Represents (s : ℕ) (v : Node) (t : State) : Type 0 where
     pub ordered : t.transitions ≤ t.transitions_end
     pub listed : t.transitions_end ≤ length g.transitions

@@ -1,20 +1,24 @@
 -- Values of the other definitions that users see, as they compute: replaced texts, streams, refusals, places,
 -- sameness.
-use Rattle.std.specs.Prelude.{◌≡◌, ℕ, ◌-◌, true, false, List, [], ◌∷◌, ◌++◌, None, Some, length, take, codes, refl}
+use Prim.Native.String.{String}
+use Rattle.std.specs.Prelude.{◌≡◌, ℕ, ◌-◌, Bool, true, false, List, [], ◌∷◌, ◌++◌, Option, None, Some, length, map, take, codes, refl}
 use Rattle.ac_util.specs.declared.search.MatchKind.{MatchKind}
 use Rattle.ac_util.specs.declared.search.MatchKind.TheVariants.{Standard, LeftmostFirst, LeftmostLongest}
+use Rattle.ac_util.specs.declared.search.StartKind.{StartKind}
 use Rattle.ac_util.specs.declared.search.StartKind.TheVariants.{Both, Unanchored, Anchored as AnchoredAlone}
 use Rattle.ac_util.specs.declared.search.Anchored.TheVariants.{No, Yes}
+use Rattle.ac_util.specs.declared.error.MatchError.{MatchError}
 use Rattle.ac_util.specs.declared.error.MatchError.TheVariants.{InvalidInputAnchored, InvalidInputUnanchored}
 use Rattle.ac_util.specs.declared.error.MatchError.TheVariants.{UnsupportedOverlapping, UnsupportedStream}
 use Rattle.ac_util.specs.declared.error.MatchError.TheVariants.{UnsupportedEmpty}
 use Rattle.ac_util.specs.Sameness.{same_byte, same_string}
-use Rattle.ac_util.specs.Occurrence.{occurrence}
+use Rattle.ac_util.specs.Occurrence.{Occurrence, occurrence}
+use Rattle.ac_util.specs.Search.{Search}
 use Rattle.ac_util.specs.Listing.{all, item_at, place_after}
 use Rattle.ac_util.specs.Pick.{pick}
 use Rattle.ac_util.specs.Walk.{walk, walk_after}
 use Rattle.ac_util.specs.Replaced.{replaced, whole_characters}
-use Rattle.ac_util.specs.Refusal.{refusal, Find, Replace, OverlappingByState, OverlappingIterator, Stream}
+use Rattle.ac_util.specs.Refusal.{Call, refusal, Find, Replace, OverlappingByState, OverlappingIterator, Stream}
 use Rattle.ac_util.specs.Stream.{stream_search, held}
 use Rattle.ac_util.specs.Sizes.{longest_len}
 use Rattle.ac_util.proofs.SearchRows.{in_text, at_start, append_words, append_text}
@@ -130,241 +134,125 @@ fox-emptied : bytes_replaced Standard fox_words (codes "" ∷ codes "" ∷ codes
 unfolding walk_after pick all
 fox-emptied = refl
 
--- a stream that ends too early: its matches, what is held back and what is written
-fox-found-after-12 : walk Standard
-    (stream_search fox_words false (codes "The quick br")) ≡ occurrence 2 4 9 ∷ []
+-- a stream that ends too early: its matches
+fox-found-after-12 : walk Standard (stream_search fox_words false (codes "The quick br"))
+    ≡ occurrence 2 4 9 ∷ []
 unfolding walk_after pick all
 fox-found-after-12 = refl
 
-fox-held-after-12 : held Standard fox_words false (codes "The quick br") ≡ 3
-unfolding walk_after pick all
-fox-held-after-12 = refl
+-- what a stream has given, how many bytes of it are held back, and what is written
+abbrev AreStreamed : List (String × ℕ × String) → Type 0
+AreStreamed rows =
+    (map (λ row. held Standard fox_words false (codes row.0)) rows ≡ map (λ row. row.1) rows)
+    × (map (λ row. written Standard fox_words fox_texts (codes row.0)) rows ≡ map (λ row. codes row.2) rows)
 
-fox-written-after-12 : written Standard fox_words fox_texts (codes "The quick br") ≡ codes "The slow"
+-- a sentence as it comes
+fox-streamed : AreStreamed (
+    ("The ", 4, "")
+    ∷ ("The q", 4, "T")
+    ∷ ("The quick", 0, "The slow")
+    ∷ ("The quick br", 3, "The slow")
+    ∷ ("The quick brow", 4, "The slow ")
+    ∷ ("The quick brown", 0, "The slow grey")
+    ∷ ("The quick brown fox", 0, "The slow grey sloth")
+    ∷ ("The quick brown fox.", 1, "The slow grey sloth")
+    ∷ [])
 unfolding walk_after pick all
-fox-written-after-12 = refl
+fox-streamed = (refl, refl)
 
-fox-held-after-4 : held Standard fox_words false (codes "The ") ≡ 4
-unfolding walk_after pick all
-fox-held-after-4 = refl
-
-fox-written-after-4 : written Standard fox_words fox_texts (codes "The ") ≡ codes ""
-unfolding walk_after pick all
-fox-written-after-4 = refl
-
-fox-held-after-5 : held Standard fox_words false (codes "The q") ≡ 4
-unfolding walk_after pick all
-fox-held-after-5 = refl
-
-fox-written-after-5 : written Standard fox_words fox_texts (codes "The q") ≡ codes "T"
-unfolding walk_after pick all
-fox-written-after-5 = refl
-
-fox-held-after-9 : held Standard fox_words false (codes "The quick") ≡ 0
-unfolding walk_after pick all
-fox-held-after-9 = refl
-
-fox-written-after-9 : written Standard fox_words fox_texts (codes "The quick") ≡ codes "The slow"
-unfolding walk_after pick all
-fox-written-after-9 = refl
-
-fox-held-after-14 : held Standard fox_words false (codes "The quick brow") ≡ 4
-unfolding walk_after pick all
-fox-held-after-14 = refl
-
-fox-written-after-14 : written Standard fox_words fox_texts (codes "The quick brow") ≡ codes "The slow "
-unfolding walk_after pick all
-fox-written-after-14 = refl
-
-fox-held-after-15 : held Standard fox_words false (codes "The quick brown") ≡ 0
-unfolding walk_after pick all
-fox-held-after-15 = refl
-
-fox-written-after-15 : written Standard fox_words fox_texts (codes "The quick brown") ≡ codes "The slow grey"
-unfolding walk_after pick all
-fox-written-after-15 = refl
-
-fox-held-after-19 : held Standard fox_words false (codes "The quick brown fox") ≡ 0
-unfolding walk_after pick all
-fox-held-after-19 = refl
-
-fox-written-after-19 : written Standard fox_words fox_texts
-    (codes "The quick brown fox") ≡ codes "The slow grey sloth"
-unfolding walk_after pick all
-fox-written-after-19 = refl
-
-fox-held-after-20 : held Standard fox_words false (codes "The quick brown fox.") ≡ 1
-unfolding walk_after pick all
-fox-held-after-20 = refl
-
-fox-written-after-20 : written Standard fox_words fox_texts
-    (codes "The quick brown fox.") ≡ codes "The slow grey sloth"
-unfolding walk_after pick all
-fox-written-after-20 = refl
+-- a start kind, a match kind, a call, whether some pattern is empty, and why the call is refused
+abbrev AreRefusals : List (StartKind × MatchKind × Call × Bool × Option MatchError) → Type 0
+AreRefusals rows = map (λ row. refusal row.0 row.1 row.2 row.3) rows ≡ map (λ row. row.4) rows
 
 -- an overlapping search wants the kind Standard
-overlapping-by-state-wants-standard : refusal Unanchored LeftmostFirst (OverlappingByState No) false
-    ≡ Some (UnsupportedOverlapping LeftmostFirst)
-overlapping-by-state-wants-standard = refl
-
-overlapping-iterator-wants-standard : refusal Unanchored LeftmostFirst (OverlappingIterator No) false
-    ≡ Some (UnsupportedOverlapping LeftmostFirst)
-overlapping-iterator-wants-standard = refl
+overlapping-wants-standard : AreRefusals (
+    (Unanchored, LeftmostFirst, OverlappingByState No, false, Some (UnsupportedOverlapping LeftmostFirst))
+    ∷ (Unanchored, LeftmostFirst, OverlappingIterator No, false, Some (UnsupportedOverlapping LeftmostFirst))
+    ∷ [])
+overlapping-wants-standard = refl
 
 -- a stream wants the kind Standard, which is asked first, and no empty pattern
-stream-wants-standard : refusal Unanchored LeftmostFirst Stream false ≡ Some (UnsupportedStream LeftmostFirst)
+stream-wants-standard : AreRefusals (
+    (Unanchored, LeftmostFirst, Stream, false, Some (UnsupportedStream LeftmostFirst))
+    ∷ (Unanchored, LeftmostFirst, Stream, true, Some (UnsupportedStream LeftmostFirst))
+    ∷ (Unanchored, Standard, Stream, true, Some UnsupportedEmpty)
+    ∷ [])
 stream-wants-standard = refl
 
-stream-wants-standard-first : refusal Unanchored LeftmostFirst Stream true ≡ Some
-    (UnsupportedStream LeftmostFirst)
-stream-wants-standard-first = refl
-
-stream-wants-no-empty-pattern : refusal Unanchored Standard Stream true ≡ Some UnsupportedEmpty
-stream-wants-no-empty-pattern = refl
-
 -- the start is asked before the kind, and the iterator has no anchored form
-overlapping-wants-its-start-first : refusal Unanchored LeftmostFirst (OverlappingByState Yes) false
-    ≡ Some InvalidInputAnchored
-overlapping-wants-its-start-first = refl
-
-overlapping-iterator-never-anchored : refusal Both Standard
-    (OverlappingIterator Yes) false ≡ Some InvalidInputAnchored
-overlapping-iterator-never-anchored = refl
-
-stream-wants-its-start-first : refusal AnchoredAlone LeftmostFirst Stream false ≡ Some InvalidInputUnanchored
-stream-wants-its-start-first = refl
-
-replacement-wants-its-start : refusal AnchoredAlone Standard Replace false ≡ Some InvalidInputUnanchored
-replacement-wants-its-start = refl
+start-wanted-first : AreRefusals (
+    (Unanchored, LeftmostFirst, OverlappingByState Yes, false, Some InvalidInputAnchored)
+    ∷ (Both, Standard, OverlappingIterator Yes, false, Some InvalidInputAnchored)
+    ∷ (AnchoredAlone, LeftmostFirst, Stream, false, Some InvalidInputUnanchored)
+    ∷ (AnchoredAlone, Standard, Replace, false, Some InvalidInputUnanchored)
+    ∷ [])
+start-wanted-first = refl
 
 -- a find wants its start, whatever its span
-anchored-find-wants-its-start : refusal Unanchored Standard (Find Yes) false ≡ Some InvalidInputAnchored
-anchored-find-wants-its-start = refl
-
-unanchored-find-wants-its-start : refusal AnchoredAlone Standard (Find No) false ≡ Some InvalidInputUnanchored
-unanchored-find-wants-its-start = refl
+find-wants-its-start : AreRefusals (
+    (Unanchored, Standard, Find Yes, false, Some InvalidInputAnchored)
+    ∷ (AnchoredAlone, Standard, Find No, false, Some InvalidInputUnanchored)
+    ∷ [])
+find-wants-its-start = refl
 
 -- what is not refused
-anchored-find-served-standard : refusal Both Standard (Find Yes) false ≡ None
-anchored-find-served-standard = refl
+served : AreRefusals (
+    (Both, Standard, Find Yes, false, None)
+    ∷ (Both, LeftmostFirst, Find Yes, false, None)
+    ∷ (Both, LeftmostLongest, Find Yes, false, None)
+    ∷ (AnchoredAlone, Standard, OverlappingByState Yes, false, None)
+    ∷ (Unanchored, Standard, Stream, false, None)
+    ∷ [])
+served = refl
 
-anchored-find-served-first : refusal Both LeftmostFirst (Find Yes) false ≡ None
-anchored-find-served-first = refl
+-- a place of an overlapping search, its item, and the place after it
+abbrev AreItems : Search → List (ℕ × Option Occurrence × ℕ) → Type 0
+AreItems q rows =
+    (map (λ row. item_at q row.0) rows ≡ map (λ row. row.1) rows)
+    × (map (λ row. place_after q row.0) rows ≡ map (λ row. row.2) rows)
 
-anchored-find-served-longest : refusal Both LeftmostLongest (Find Yes) false ≡ None
-anchored-find-served-longest = refl
-
-anchored-overlapping-served-by-state : refusal AnchoredAlone Standard (OverlappingByState Yes) false ≡ None
-anchored-overlapping-served-by-state = refl
-
-stream-served : refusal Unanchored Standard Stream false ≡ None
-stream-served = refl
-
--- the places of an overlapping search: six items, then none, and the place stays
-append-item-0 : item_at (in_text append_words append_text) 0 ≡ Some (occurrence 2 0 3)
+-- six items, then none, and the place stays
+append-items : AreItems (in_text append_words append_text) (
+    (0, Some (occurrence 2 0 3), 1)
+    ∷ (1, Some (occurrence 0 0 6), 2)
+    ∷ (2, Some (occurrence 2 11 14), 3)
+    ∷ (3, Some (occurrence 2 22 25), 4)
+    ∷ (4, Some (occurrence 0 22 28), 5)
+    ∷ (5, Some (occurrence 1 22 31), 6)
+    ∷ (6, None, 6)
+    ∷ [])
 unfolding all
-append-item-0 = refl
-
-append-place-after-0 : place_after (in_text append_words append_text) 0 ≡ 1
-unfolding all
-append-place-after-0 = refl
-
-append-item-1 : item_at (in_text append_words append_text) 1 ≡ Some (occurrence 0 0 6)
-unfolding all
-append-item-1 = refl
-
-append-place-after-1 : place_after (in_text append_words append_text) 1 ≡ 2
-unfolding all
-append-place-after-1 = refl
-
-append-item-2 : item_at (in_text append_words append_text) 2 ≡ Some (occurrence 2 11 14)
-unfolding all
-append-item-2 = refl
-
-append-place-after-2 : place_after (in_text append_words append_text) 2 ≡ 3
-unfolding all
-append-place-after-2 = refl
-
-append-item-3 : item_at (in_text append_words append_text) 3 ≡ Some (occurrence 2 22 25)
-unfolding all
-append-item-3 = refl
-
-append-place-after-3 : place_after (in_text append_words append_text) 3 ≡ 4
-unfolding all
-append-place-after-3 = refl
-
-append-item-4 : item_at (in_text append_words append_text) 4 ≡ Some (occurrence 0 22 28)
-unfolding all
-append-item-4 = refl
-
-append-place-after-4 : place_after (in_text append_words append_text) 4 ≡ 5
-unfolding all
-append-place-after-4 = refl
-
-append-item-5 : item_at (in_text append_words append_text) 5 ≡ Some (occurrence 1 22 31)
-unfolding all
-append-item-5 = refl
-
-append-place-after-5 : place_after (in_text append_words append_text) 5 ≡ 6
-unfolding all
-append-place-after-5 = refl
-
-append-item-6 : item_at (in_text append_words append_text) 6 ≡ None
-unfolding all
-append-item-6 = refl
-
-append-place-after-6 : place_after (in_text append_words append_text) 6 ≡ 6
-unfolding all
-append-place-after-6 = refl
+append-items = (refl, refl)
 
 -- the same anchored: two items
-append-anchored-item-0 : item_at (at_start (in_text append_words append_text)) 0 ≡ Some (occurrence 2 0 3)
+append-items-anchored : AreItems (at_start (in_text append_words append_text)) (
+    (0, Some (occurrence 2 0 3), 1)
+    ∷ (1, Some (occurrence 0 0 6), 2)
+    ∷ (2, None, 2)
+    ∷ [])
 unfolding all
-append-anchored-item-0 = refl
+append-items-anchored = (refl, refl)
 
-append-anchored-item-1 : item_at (at_start (in_text append_words append_text)) 1 ≡ Some (occurrence 0 0 6)
-unfolding all
-append-anchored-item-1 = refl
+-- whether case is ignored, two bytes, and whether they are the same
+abbrev AreBytesSame : List (Bool × ℕ × ℕ × Bool) → Type 0
+AreBytesSame rows = map (λ row. same_byte row.0 row.1 row.2) rows ≡ map (λ row. row.3) rows
 
-append-anchored-item-2 : item_at (at_start (in_text append_words append_text)) 2 ≡ None
-unfolding all
-append-anchored-item-2 = refl
+-- letters in their two cases, where case is ignored; a bracket and a brace, 32 apart too, are no letters, and
+-- neither are an at sign and a backquote
+bytes-same : AreBytesSame (
+    (true, 97, 65, true) ∷ (true, 90, 122, true) ∷ (false, 97, 65, false) ∷ (true, 97, 66, false)
+    ∷ (true, 91, 123, false) ∷ (true, 64, 96, false) ∷ (false, 91, 91, true)
+    ∷ [])
+bytes-same = refl
 
-append-anchored-place-after-2 : place_after (at_start (in_text append_words append_text)) 2 ≡ 2
-unfolding all
-append-anchored-place-after-2 = refl
+-- the same of strings
+abbrev AreStringsSame : List (Bool × String × String × Bool) → Type 0
+AreStringsSame rows =
+    map (λ row. same_string row.0 (codes row.1) (codes row.2)) rows ≡ map (λ row. row.3) rows
 
--- sameness: letters in their two cases, where case is ignored; a bracket and a brace, 32 apart too, are no
--- letters
-a-and-capital-a-caseless : same_byte true 97 65 ≡ true
-a-and-capital-a-caseless = refl
-
-capital-z-and-z-caseless : same_byte true 90 122 ≡ true
-capital-z-and-z-caseless = refl
-
-a-and-capital-a : same_byte false 97 65 ≡ false
-a-and-capital-a = refl
-
-a-and-capital-b-caseless : same_byte true 97 66 ≡ false
-a-and-capital-b-caseless = refl
-
-bracket-and-brace-caseless : same_byte true 91 123 ≡ false
-bracket-and-brace-caseless = refl
-
-at-sign-and-backquote-caseless : same_byte true 64 96 ≡ false
-at-sign-and-backquote-caseless = refl
-
-bracket-and-bracket : same_byte false 91 91 ≡ true
-bracket-and-bracket = refl
-
-words-same-caseless : same_string true (codes "bAr") (codes "BaR") ≡ true
-words-same-caseless = refl
-
-words-differ : same_string false (codes "bAr") (codes "bar") ≡ false
-words-differ = refl
-
-shorter-word-differs : same_string true (codes "ba") (codes "bar") ≡ false
-shorter-word-differs = refl
-
-bracketed-words-differ : same_string true (codes "[a") (codes "{A") ≡ false
-bracketed-words-differ = refl
+-- each letter counts, and so does the length
+strings-same : AreStringsSame (
+    (true, "bAr", "BaR", true) ∷ (false, "bAr", "bar", false) ∷ (true, "ba", "bar", false)
+    ∷ (true, "[a", "{A", false)
+    ∷ [])
+strings-same = refl

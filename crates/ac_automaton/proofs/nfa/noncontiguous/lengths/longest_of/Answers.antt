@@ -5,7 +5,5 @@ use Rattle.ac_automaton.proofs.nfa.noncontiguous.lengths.longest_of.Goals as goa
 
 pub loop-number-preserved : goal.loop-number-preserved
 loop-number-preserved g c =
-    let kept =
-    longest_len-drop c.args.patterns.now c.loop-number.number c.loop-number.longest c.get.result.now
-    c.get.ensures.value in
-    omega arith
+    let left = longest_len-drop c.args.patterns.now c.loop-number.number in
+    omega (arith, left c.loop-number.longest c.get.result.now c.get.ensures.value)

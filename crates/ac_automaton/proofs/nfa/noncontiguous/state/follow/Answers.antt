@@ -13,8 +13,7 @@ loop-next-init c =
 pub bounds-states-as_usize : goal.bounds-states-as_usize
 bounds-states-as_usize c =
     let r = c.requires.state in
-    let there = (c.loop-next.invariant r.0 r.1 r.2 r.3).state.there in
-    omega arith
+    omega (arith, (c.loop-next.invariant r.0 r.1 r.2 r.3).state.there)
 
 -- what the state that was read tells, by one of the meanings that there are
 abbrev known_node : After-index-states-as_usize → Node

@@ -32,7 +32,7 @@ returns-then-at-eq-DEAD c = λ g u h.
 
 pub loop-at-smaller : goal.loop-at-smaller
 loop-at-smaller c =
-    let back = (known (goal.at.loop-at-smaller c).After-index-states-at).links.back in omega arith
+    omega (arith, (known (goal.at.loop-at-smaller c).After-index-states-at).links.back)
 
 pub loop-at-preserved : goal.loop-at-preserved
 loop-at-preserved c = record {
@@ -41,5 +41,5 @@ loop-at-preserved c = record {
       (counting-on g c.args.states.now u c.loop-at.at c.index-states-at.result c.index-states-at.is
       c.loop-at.count
       (c.loop-at.invariant.counted g u h));
-  fits = let back = (known (goal.at.loop-at-preserved c).After-index-states-at).links.back in omega arith;
+  fits = omega (arith, (known (goal.at.loop-at-preserved c).After-index-states-at).links.back);
 }

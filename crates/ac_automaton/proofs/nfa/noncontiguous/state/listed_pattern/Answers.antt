@@ -9,8 +9,7 @@ use Rattle.ac_automaton.proofs.nfa.noncontiguous.state.listed_pattern.Goals.{Aft
 pub bounds-states-as_usize : goal.bounds-states-as_usize
 bounds-states-as_usize c =
     let r = c.requires.state in
-    let there = (c.loop-left.invariant r.0 r.1 r.2 r.3).state.there in
-    omega arith
+    omega (arith, (c.loop-left.invariant r.0 r.1 r.2 r.3).state.there)
 
 -- what the state that was read tells, by one of the meanings that there are
 abbrev known_node : After-index-states-as_usize → Node
@@ -30,8 +29,7 @@ patterns_len-len-requires c = record { ordered = (known c).patterns_ordered }
 pub bounds-order-state : goal.bounds-order-state
 bounds-order-state c =
     let within = (known (goal.at.bounds-order-state c).After-index-states-as_usize).within in
-    let same = ap (length {A = ℕ}) c.requires.state.2 in
-    omega arith
+    omega (arith, within, ap (length {A = ℕ}) c.requires.state.2)
 
 pub returns-then-left-len : goal.returns-then-left-len
 returns-then-left-len c = λ g u same h.

@@ -32,8 +32,8 @@ absent xs x place ascending h found =
     let s = searched xs x (Err place) h (rises xs ascending) in
     let here : get_or xs found.0 0 ≡ x = sym (get_or_default_zero xs found.0 x found.1) ∙ found.2 in
     elim (cases_lt found.0 place) [
-      | inl before ↦ (let l = s.1 found.0 before in omega arith)
-      | inr after ↦ (let l = s.2 found.0 after found.1 in omega arith)
+      | inl before ↦ (omega (arith, s.1 found.0 before))
+      | inr after ↦ (omega (arith, s.2 found.0 after found.1))
     ]
 
 -- the byte of the transition at a place

@@ -1,7 +1,7 @@
 use Rattle.std.proofs.Common.{◌≡◌, ℕ, length, refl, ap, sym, ◌∙◌, arith, inl, inr}
 use Rattle.std.specs.Prelude.{Some, slice_get}
 use Rattle.std.proofs.lemmas.Bool.{cases_lt}
-use Rattle.std.proofs.lemmas.Option.{slice_get_read, slice_get_within}
+use Rattle.std.proofs.lemmas.Option.{slice_get_read}
 use Rattle.ac_util.proofs.Lists.{IsIn-from_Contains, IsIn-from_map}
 use Rattle.ac_automaton.specs.declared.nfa.noncontiguous.state.Transition.{Transition}
 use Rattle.ac_automaton.specs.Tries.{transition_bytes}
@@ -38,5 +38,4 @@ returns c = λ has.
     IsIn-from_map (λ (x : Transition). x.byte) c.args.byte c.args.own.now
     (IsIn-from_Contains c.args.byte (transition_bytes c.args.own.now) has) in
     let k = place-of t.0 c.args.own.now t.1 in
-    let within = slice_get_within c.args.own.now k.0 t.0 k.1 in
-    c.loop-next.invariant k.0 t.0 (omega (arith, c.loop-next-test.false)) k.1 t.2
+    c.loop-next.invariant k.place t.0 (omega (arith, k.within, c.loop-next-test.false)) k.there t.2

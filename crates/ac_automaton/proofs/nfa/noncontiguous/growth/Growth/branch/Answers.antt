@@ -4,7 +4,8 @@ use Rattle.ac_automaton.specs.Builds.{IsRefused, too_many_states}
 use Rattle.ac_automaton.specs.Growths.{EndsPatterns, HasBranched, HasChild, HasSorted, IsReady, Source, grown_meaning, nodes_of, source_of, word}
 use Rattle.ac_automaton.specs.Tries.{miss}
 use Rattle.ac_automaton.proofs.Branched.{has-branched, link-due, still-meant, whole_state}
-use Rattle.ac_automaton.proofs.Branching.{IsBranching, IsBranchingFrom, IsRun, Site, branching-begins, branching-goes_on, child-deep, goes-on, has-child, string}
+use Rattle.ac_automaton.proofs.Branching.{IsBranching, IsBranchingFrom, IsRun, Site, branching-begins, child-deep, goes-on, has-child, string}
+use Rattle.ac_automaton.proofs.Child.{branching-goes_on}
 use Rattle.ac_automaton.proofs.Places.{refused-by, written-whole}
 use Rattle.ac_automaton.proofs.StateCount.{refused}
 use Rattle.ac_automaton.proofs.nfa.noncontiguous.growth.Growth.branch.Given.{Over}
@@ -96,11 +97,9 @@ overflow_add-child g c =
     let patterns = c.requires.ready.0 in
     let ready = ready-now g (at g s) patterns c.requires.ready.1 in
     let ends = ends-now g (at g s) in
-    let deep =
-    child-deep (site g (at g s) patterns ready ends)
-    (c.loop-place.invariant.branching patterns ready ends) (run g s patterns ready ends) in
-    let short = c.byte.ensures.short in
-    omega arith
+    let branching = c.loop-place.invariant.branching patterns ready ends in
+    let deep = child-deep (site g (at g s) patterns ready ends) branching (run g s patterns ready ends) in
+    omega (arith, deep, c.byte.ensures.short)
 
 pub push-requires : goal.push-requires
 push-requires g c =
@@ -158,21 +157,15 @@ sort_from-requires g c =
     let h = c.loop-place.invariant.branching c.requires.ready.0 ready (ends-now g s) in
     let first : c.len-first.result ≡ length c.args.self.now.transitions.items =
     c.len-first.ensures ∙ c.args.self.now.transitions.ok.0 in
-    record {
-      within = (let l = ap length h.split in let m = ap length c.deref_mut.ensures.value in
-          omega (arith, length-append c.args.self.now.transitions.items h.added));
-    }
+    let longer = length-append c.args.self.now.transitions.items h.added in
+    record { within = omega (arith, ap length h.split, ap length c.deref_mut.ensures.value, longer) }
 
 pub overflow_cast-result-2 : goal.overflow_cast-result-2
 overflow_cast-result-2 g c =
     let s = (goal.at.overflow_cast-result-2 g c).At-loop-place in
     let ready = ready-now g s c.requires.ready.0 c.requires.ready.1 in
     let grown = (c.loop-place.invariant.branching c.requires.ready.0 ready (ends-now g s)).grown in
-    let few = grown.few in
-    let counted = grown.counted in
-    let len = c.len.ensures in
-    let ok = c.loop-place.self.transitions.ok.0 in
-    omega arith
+    omega (arith, grown.few, grown.counted, c.len.ensures, c.loop-place.self.transitions.ok.0)
 
 -- all children have come, and their transitions have been sorted
 pub returns-clause-branched : goal.returns-clause-branched
@@ -186,7 +179,7 @@ returns-clause-branched g c = λ patterns entry.
     let queue = c.loop-place.self.queue.items in
     let h = c.loop-place.invariant.branching patterns ready ends in
     let at-end : c.loop-place.place ≡ c.args.queued.to =
-    (let l = h.high in omega (arith, c.loop-place-test.false)) in
+    (omega (arith, h.high, c.loop-place-test.false)) in
     let all = subst (λ (n : ℕ). IsBranching state n unsorted queue) at-end h in
     let first : c.len-first.result ≡ length c.args.self.now.transitions.items =
     c.len-first.ensures ∙ c.args.self.now.transitions.ok.0 in

@@ -89,7 +89,7 @@ module _ (g : Over) (c : After-index-queued g) where
   waits : slice_get c.loop-at.self.queue.items c.loop-at.at ≡ Some c.index-queued.result.now
   waits =
       let within : c.loop-at.at < length c.loop-at.self.queue.items =
-      (let l = c.len.ensures in let k = c.loop-at.self.queue.ok.0 in omega (arith, c.loop-at-test.true)) in
+      (omega (arith, c.len.ensures, c.loop-at.self.queue.ok.0, c.loop-at-test.true)) in
       slice_get_read c.loop-at.self.queue.items (length c.loop-at.self.queue.items) c.loop-at.at
       c.index-queued.result.now refl within c.index-queued.ensures
 
@@ -135,9 +135,7 @@ loop-at-smaller g c =
     let at = (goal.at.loop-at-smaller g c).At-loop-at in
     let order = order-now g at begun.1 (begun-order begun.0 begun.1 c.args.self begun.2) in
     let few = (c.loop-at.invariant.going begun.1 order).grown.few in
-    let l = c.len.ensures in
-    let k = c.loop-at.self.queue.ok.0 in
-    omega (arith, c.loop-at-test.true)
+    omega (arith, few, c.len.ensures, c.loop-at.self.queue.ok.0, c.loop-at-test.true)
 
 pub loop-at-preserved : goal.loop-at-preserved
 loop-at-preserved g c =
@@ -164,7 +162,7 @@ returns g c = λ fold texts begun.
     let at = (goal.at.returns g c).At-loop-at in
     let h = c.loop-at.invariant.going texts (order-now g at texts (begun-order fold texts c.args.self begun)) in
     let all : length c.loop-at.self.queue.items ≤ c.loop-at.at =
-    (let l = c.len.ensures in let k = c.loop-at.self.queue.ok.0 in omega (arith, c.loop-at-test.false)) in
+    (omega (arith, c.len.ensures, c.loop-at.self.queue.ok.0, c.loop-at-test.false)) in
     let same : c.loop-at.self.sorted.fold ≡ fold =
     ap (λ (sorted : Sorted). sorted.fold) c.loop-at.invariant.sorted ∙ begun.sorts.fold_is in
     let whole : IsWhole texts c.loop-at.self.sorted.fold c.loop-at.self.kind

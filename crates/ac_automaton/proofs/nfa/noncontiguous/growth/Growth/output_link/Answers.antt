@@ -9,12 +9,12 @@ pub returns-then-as_usize-len : goal.returns-then-as_usize-len
 returns-then-as_usize-len g c = λ m u a due.
     subst (λ (k : ℕ). Links m (length c.args.self.now.states.items) (Some u) k) (sym c.must.ensures.value)
     (link-far m c.args.self.now.states.items u c.args.fail due
-    (let v = c.as_usize.ensures.value in omega (arith, c.if-as_usize-len.true)))
+    (omega (arith, c.as_usize.ensures.value, c.if-as_usize-len.true)))
 
 pub returns-then-target : goal.returns-then-target
 returns-then-target g c = λ m u a due.
     let there : c.args.fail < length c.args.self.now.states.items =
-    (let v = c.as_usize.ensures.value in omega arith) in
+    (omega (arith, c.as_usize.ensures.value)) in
     let is = state-read c.args.self.now.states.items c.index-target.result.now c.as_usize-2.result c.args.fail
     c.as_usize-2.ensures.value there c.index-target.ensures in
     link-here m c.args.self.now.states.items u c.args.fail a due there
@@ -23,7 +23,7 @@ returns-then-target g c = λ m u a due.
 pub returns-else-target : goal.returns-else-target
 returns-else-target g c = λ m u a due.
     let there : c.args.fail < length c.args.self.now.states.items =
-    (let v = c.as_usize.ensures.value in omega arith) in
+    (omega (arith, c.as_usize.ensures.value)) in
     let is = state-read c.args.self.now.states.items c.index-target.result.now c.as_usize-2.result c.args.fail
     c.as_usize-2.ensures.value there c.index-target.ensures in
     subst (λ (t : State). Links m (length c.args.self.now.states.items) (Some u) t.output_link) (sym is)

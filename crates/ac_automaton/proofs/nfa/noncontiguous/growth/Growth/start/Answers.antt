@@ -14,7 +14,7 @@ returns-clause-waits g c = λ patterns order.
       | then-is_leftmost+then-len-gt0+then-is_none w ↦
           rw w.fail-is
           (waits-dead c.args.self.now.kind patterns m order (sym c.is_leftmost.ensures ∙ w.if-is_leftmost.true)
-          (let l = w.len.ensures.value in omega (arith, w.if-len-gt0.true))
+          (omega (arith, w.len.ensures.value, w.if-len-gt0.true))
           (sym w.byte.ensures.value
           ∙ None-tested w.byte.result w.is_none.result w.is_none.ensures w.if-is_none.true))
       | else-is_leftmost w ↦
@@ -24,7 +24,7 @@ returns-clause-waits g c = λ patterns order.
                 λ none. Some-tested v.byte.result v.is_none.result v.is_none.ensures v.if-is_none.false
                 (v.byte.ensures.value ∙ none)
             | else-is_leftmost-via-then-is_leftmost+else-len-gt0 v ↦
-                absurd (let l = v.len.ensures.value in omega (arith, v.if-len-gt0.false))
+                absurd (omega (arith, v.len.ensures.value, v.if-len-gt0.false))
             | else-is_leftmost-via-else-is_leftmost v ↦
                 absurd (false≢true (sym v.if-is_leftmost.false ∙ c.is_leftmost.ensures ∙ leftmost))
           ]))

@@ -1,0 +1,320 @@
+-- The child of a run of patterns, which is put behind the queue.
+use Rattle.std.proofs.Common.{◌≡◌, ◌≢◌, ℕ, suc, ◌+◌, ◌-◌, ◌<◌, ◌≤◌, List, [], ◌∷◌, ◌++◌, length, length-append, take, ◌⊎◌, inl, inr, refl, ap, sym, ◌∙◌, subst, arith, Some, get_or}
+use Rattle.std.specs.Prelude.{slice_get}
+use Rattle.std.proofs.lemmas.Bool.{cases_lt}
+use Rattle.std.proofs.lemmas.List.{append-nil, append_assoc, length-map, length_push}
+use Rattle.std.proofs.lemmas.Option.{slice_get-get_or, slice_get_within}
+use Rattle.std.proofs.Math.Seq.{take-append_seam}
+use Rattle.ac_util.specs.declared.primitives.TheConstants.{GREATEST}
+use Rattle.ac_util.specs.Sameness.{plain_byte}
+use Rattle.ac_util.proofs.Lists.{IsIn, IsIn-append_cases, IsIn-append_left, IsIn-append_right, IsOrdered, IsOrdered-append}
+use Rattle.ac_automaton.specs.declared.nfa.noncontiguous.growth.QueuedState.{QueuedState}
+use Rattle.ac_automaton.specs.declared.nfa.noncontiguous.state.TheConstants.{START, FIRST_INNER}
+use Rattle.ac_automaton.specs.declared.nfa.noncontiguous.state.Transition.{Transition}
+use Rattle.ac_automaton.specs.Growths.{IsGrown, IsNext, IsRangeOf, Waits, grown_meaning, leading, nodes_of, word}
+use Rattle.ac_automaton.specs.Sorted.{key_at}
+use Rattle.ac_automaton.specs.Tries.{miss}
+use Rattle.ac_automaton.proofs.Grown.{AreStates-more, IsInner, nodes-cases, nodes-inner, nodes-more}
+use Rattle.ac_automaton.proofs.Leading.{leading-apart, leading-has, leading-length, leading-plain}
+use Rattle.ac_automaton.proofs.Orders.{rank}
+use Rattle.ac_util.proofs.Prefixes.{starts_with-length}
+use Rattle.ac_automaton.proofs.Places.{get-append, get-added, get-added_cases, get-same}
+use Rattle.ac_automaton.proofs.Prefixes.{front-is, push-injective}
+use Rattle.ac_automaton.proofs.Branching.{GoesOnBy, HasTransition, IsBranching, IsRun, Site, Waits-more, below, child-range, front, greater, long, next_byte, pushed, string, word-length}
+
+module _ (site : Site) {place end b : ℕ} {transitions : List Transition} {queue : List QueuedState}
+    (h : IsBranching site place transitions queue) (run : IsRun site place end b)
+    (fail : ℕ) (fails : slice_get (nodes_of site.sorted queue) fail
+    ≡ Some (miss site.kind site.patterns (Some (string site ++ b ∷ [])))) where
+  -- the queued state
+  abbrev child : QueuedState
+  child = record { from = place; to = end; depth = site.queued.depth + 1; fail = fail }
+
+  -- its string is that of the state with the byte
+  child-word : word site.sorted child ≡ string site ++ b ∷ []
+  child-word =
+      ap (λ (n : ℕ). take n (key_at site.sorted place)) (sym (pushed site h run))
+      ∙ front-is (key_at site.sorted place) (string site ++ b ∷ []) (front site h run)
+
+  -- a state that was there before has another string: else it would have this parent
+  old-child : (k : ℕ) (q : QueuedState) → k < length site.queue → slice_get queue k ≡ Some q
+      → word site.sorted q ≡ string site ++ b ∷ [] → ⊥
+  old-child k q l e w =
+      let known = slice_get-get_or site.queue k q l in
+      let is : get_or site.queue k q ≡ q =
+      get-same queue k (get_or site.queue k q) q (h.kept k (get_or site.queue k q) known) e in
+      let there : slice_get site.queue k ≡ Some q = known ∙ ap (λ (r : QueuedState). Some r) is in
+      let parent = site.ready.grown.parents k q there in
+      let waits = site.ready.grown.waits k q there in
+      let depth : q.depth - 1 ≡ site.queued.depth =
+      (omega (arith, word-length waits, ap length w, pushed site h run)) in
+      let same_string : take (q.depth - 1) (word site.sorted q) ≡ string site =
+      ap (λ (n : ℕ). take n (word site.sorted q)) (depth ∙ sym (long site h run))
+      ∙ ap (take (length (string site))) w
+      ∙ take-append_seam (string site) (b ∷ []) in
+      same-parent parent.parent parent.early (parent.named ∙ ap (λ (v : List ℕ). Some (Some v)) same_string)
+    where
+      same-parent : (j : ℕ) → j < length site.states
+          → slice_get (nodes_of site.sorted site.queue) j ≡ Some (Some (string site)) → ⊥
+      same-parent j l node = elim (nodes-cases site.sorted site.queue j (Some (string site)) node) [
+        | inl dead ↦ absurd (let e = dead.node in cc)
+        | inr (inl start) ↦
+            at-start j l start.from
+            (let e : Some (string site) ≡ Some [] = start.node in let f : string site ≡ [] = cc in f)
+            site.ready.next
+        | inr (inr inner) ↦ at-inner j l inner site.ready.next
+      ]
+        where
+          at-start : (j : ℕ) → j < length site.states → START ≤ j → string site ≡ []
+              → IsNext site.kind site.patterns site.sorted site.queue (length site.states) site.queued → ⊥
+          at-start j l low none (inl start) = absurd (omega (arith, start.number))
+          at-start j l low none (inr later) =
+              let s = later.number in
+              let d = site.ready.waits.inner (omega arith) in
+              let e = ap length none in
+              let m = long site h run in
+              absurd (omega arith)
+
+          at-inner : (j : ℕ) → j < length site.states → IsInner site.sorted site.queue j (Some (string site))
+              → IsNext site.kind site.patterns site.sorted site.queue (length site.states) site.queued → ⊥
+          at-inner j l inner (inl start) = absurd (omega (arith, start.number, inner.number))
+          at-inner j l inner (inr later) =
+              let e : word site.sorted inner.queued ≡ string site =
+              (let w : Some (string site) ≡ Some (word site.sorted inner.queued) = inner.node in
+              let v : string site ≡ word site.sorted inner.queued = cc in sym v) in
+              let at =
+              site.ready.grown.apart inner.place later.place inner.queued site.queued inner.waits
+              later.waits e in
+              let m = inner.number in
+              let n = later.number in
+              absurd (omega arith)
+
+  -- nor does a child that came before have this string
+  pub fresh : (k : ℕ) (q : QueuedState) → slice_get queue k ≡ Some q
+      → word site.sorted q ≡ string site ++ b ∷ [] → ⊥
+  fresh k q e w = elim (cases_lt k (length site.queue)) [
+    | inl before ↦ old-child k q before e w
+    | inr le ↦
+        let c = h.children k q le e in
+        let same_byte : c.byte ≡ b =
+        (push-injective (string site) (string site) c.byte b (sym c.word_is ∙ w)).1 in
+        let less = h.smaller run.more c.by.at (omega (arith, site.ends.later, c.by.low)) c.by.high in
+        let r : rank (next_byte site c.by.at) ≡ suc c.byte = ap rank c.by.byte in
+        let s : rank (next_byte site place) ≡ suc b = ap rank run.byte in
+        absurd (omega arith)
+  ]
+
+  -- it waits for its children
+  child-waits : Waits site.kind site.patterns site.sorted (queue ++ child ∷ [])
+      (FIRST_INNER + length queue) child
+  child-waits =
+      let front_long =
+      starts_with-length (key_at site.sorted place) (string site ++ b ∷ []) (front site h run) in
+      let named =
+      slice_get_within (nodes_of site.sorted queue) fail
+      (miss site.kind site.patterns (Some (string site ++ b ∷ []))) fails in
+      let count = length-map queue (λ (q : QueuedState). Some (word site.sorted q)) in
+      record {
+        deep = omega (arith, pushed site h run);
+        range = subst (λ (v : List ℕ). IsRangeOf site.sorted v place end) (sym child-word)
+            (child-range site h run);
+        fails = nodes-more site.sorted queue (child ∷ []) fail _
+            (fails ∙ ap (λ (v : List ℕ). Some (miss site.kind site.patterns (Some v))) (sym child-word));
+        back = λ l. omega arith;
+        some = λ l. run.some;
+        inner = λ l. omega arith;
+      }
+
+  -- no two states in the queue have one string
+  still-apart : (j k : ℕ) (q r : QueuedState) → slice_get (queue ++ child ∷ []) j ≡ Some q
+      → slice_get (queue ++ child ∷ []) k ≡ Some r
+      → word site.sorted q ≡ word site.sorted r → j ≡ k
+  still-apart j k q r e f w = by (get-added_cases queue child q j e) (get-added_cases queue child r k f)
+    where
+      by : ((slice_get queue j ≡ Some q) ⊎ ((j ≡ length queue) × (child ≡ q)))
+          → ((slice_get queue k ≡ Some r) ⊎ ((k ≡ length queue) × (child ≡ r))) → j ≡ k
+      by (inl old) (inl old') = h.grown.apart j k q r old old' w
+      by (inl old) (inr new) = absurd (fresh j q old (w ∙ ap (word site.sorted) (sym new.1) ∙ child-word))
+      by (inr new) (inl old) =
+          absurd (fresh k r old (sym w ∙ ap (word site.sorted) (sym new.1) ∙ child-word))
+      by (inr new) (inr new') = new.0 ∙ sym new'.0
+
+  -- the string of its parent is that of the state
+  parent-string : take (child.depth - 1) (word site.sorted child) ≡ string site
+  parent-string =
+      let back : site.queued.depth + 1 - 1 ≡ length (string site) = (omega (arith, long site h run)) in
+      ap (λ (n : ℕ). take n (word site.sorted child)) back
+      ∙ ap (take (length (string site))) child-word
+      ∙ take-append_seam (string site) (b ∷ [])
+
+  -- the transitions to it
+  abbrev pub more_transitions : List Transition
+  more_transitions = leading site.fold b (FIRST_INNER + length queue)
+
+  -- the byte is a plain one
+  settled : plain_byte site.fold b ≡ b
+  settled = site.ready.settled place site.queued.depth b run.byte
+
+  -- the trie is grown with it
+  still-grown : FIRST_INNER + length queue < GREATEST + 1
+      → IsGrown site.kind site.patterns site.sorted (length site.states + 1)
+      (transitions ++ more_transitions) (queue ++ child ∷ [])
+  still-grown few = record {
+    counted = (let added = leading-length site.fold b (FIRST_INNER + length queue) in
+        omega (arith, h.grown.counted, added, length-append {A = Transition}, length_push queue child));
+    few = omega (arith, length_push queue child);
+    waits = λ k q e. elim (get-added_cases queue child q k e) [
+      | inl old ↦
+          Waits-more (h.grown.waits k q old) (child ∷ [])
+      | inr new ↦
+          subst (λ (r : QueuedState). Waits site.kind site.patterns site.sorted (queue ++ child ∷ [])
+          (FIRST_INNER + k) r) new.1
+          (subst (λ (n : ℕ). Waits site.kind site.patterns site.sorted (queue ++ child ∷ [])
+          (FIRST_INNER + n) child)
+          (sym new.0) child-waits)
+    ];
+    apart = still-apart;
+    parents = λ k q e. elim (get-added_cases queue child q k e) [
+      | inl old ↦
+          let r = h.grown.parents k q old in
+          record {
+            parent = r.parent;
+            early = r.early;
+            named = nodes-more site.sorted queue (child ∷ []) r.parent _ r.named;
+          }
+      | inr new ↦ record {
+        parent = length site.states;
+        early = omega arith;
+        named = subst (λ (r : QueuedState). slice_get (nodes_of site.sorted (queue ++ child ∷ []))
+            (length site.states)
+            ≡ Some (Some (take (r.depth - 1) (word site.sorted r)))) new.1
+            (nodes-more site.sorted queue (child ∷ []) (length site.states) _
+            (h.node ∙ ap (λ (v : List ℕ). Some (Some v)) (sym parent-string)));
+      }
+    ];
+  }
+
+  -- each transition leads to the state of its string
+  step-leads : (t : Transition) → IsIn t (h.added ++ more_transitions)
+      → slice_get (nodes_of site.sorted (queue ++ child ∷ [])) t.target
+      ≡ Some (Some (string site ++ plain_byte site.fold t.byte ∷ []))
+  step-leads t has = elim (IsIn-append_cases t h.added more_transitions has) [
+    | inl old ↦ nodes-more site.sorted queue (child ∷ []) t.target _ (h.leads t old)
+    | inr new ↦
+        let by = leading-plain site.fold b (FIRST_INNER + length queue) settled t new in
+        ap (slice_get (nodes_of site.sorted (queue ++ child ∷ []))) by.1
+        ∙ nodes-inner site.sorted (queue ++ child ∷ []) (length queue) child (get-added queue child)
+        ∙ ap (λ (v : List ℕ). Some (Some v)) (child-word ∙ ap (λ (y : ℕ). string site ++ y ∷ []) (sym by.0))
+  ]
+
+  -- each is by the byte of some pattern
+  step-by_patterns : (t : Transition) → IsIn t (h.added ++ more_transitions)
+      → GoesOnBy site end (plain_byte site.fold t.byte)
+  step-by_patterns t has = elim (IsIn-append_cases t h.added more_transitions has) [
+    | inl old ↦
+        let r = h.by_patterns t old in
+        let high = r.high in
+        record { at = r.at; low = r.low; high = omega arith; byte = r.byte }
+    | inr new ↦ record {
+      at = place;
+      low = h.low;
+      high = run.some;
+      byte = run.byte
+          ∙ ap (λ (y : ℕ). Some y)
+          (sym (leading-plain site.fold b (FIRST_INNER + length queue) settled t new).0);
+    }
+  ]
+
+  -- each pattern up to the end of the run has a transition by its byte
+  step-covered : (k c x : ℕ) → site.patterns_end ≤ k → k < end → next_byte site k ≡ Some c
+      → plain_byte site.fold x ≡ c
+      → HasTransition x (h.added ++ more_transitions)
+  step-covered k c x l m e is = elim (cases_lt k place) [
+    | inl before ↦
+        let r = h.covered k c x l before e is in
+        record {
+          transition = r.transition;
+          among = IsIn-append_left r.transition h.added more_transitions r.among;
+          by = r.by;
+        }
+    | inr le ↦
+        let same_byte : c ≡ b = (let f : Some c ≡ Some b = sym e ∙ run.same k le m ∙ run.byte in cc) in
+        record {
+          transition = record { byte = x; target = FIRST_INNER + length queue };
+          among = IsIn-append_right _ h.added more_transitions
+              (leading-has site.fold b (FIRST_INNER + length queue) settled x (is ∙ same_byte));
+          by = refl;
+        }
+  ]
+
+  -- no two transitions have one byte
+  step-apart : IsOrdered (λ s t. s.byte ≢ t.byte) (h.added ++ more_transitions)
+  step-apart =
+      IsOrdered-append (λ (s t : Transition). s.byte ≢ t.byte) h.added more_transitions h.apart
+      (leading-apart site.fold b (FIRST_INNER + length queue))
+      (λ s t old new e.
+      let r = h.by_patterns s old in
+      let less =
+      h.smaller run.more r.at (omega (arith, site.ends.later, r.low)) r.high in
+      let low : rank (next_byte site r.at) ≡ suc (plain_byte site.fold s.byte) = ap rank r.byte in
+      let high : rank (next_byte site place) ≡ suc b = ap rank run.byte in
+      let is : plain_byte site.fold s.byte ≡ b =
+      ap (plain_byte site.fold) e ∙ (leading-plain site.fold b (FIRST_INNER + length queue) settled t new).0
+      in
+      absurd (omega arith))
+
+  -- the patterns up to the end of the run have lesser bytes than the next one
+  step-smaller : end < site.queued.to → (k : ℕ) → site.queued.from ≤ k → k < end
+      → rank (next_byte site k) < rank (next_byte site end)
+  step-smaller l k low m =
+      let up = greater site h run l in
+      elim (cases_lt k place) [
+        | inl before ↦ omega (arith, below site h run k low before)
+        | inr le ↦ let r : rank (next_byte site k) ≡ suc b = ap rank (run.same k le m ∙ run.byte) in omega arith
+      ]
+
+  -- with the child behind the queue the children up to the end of its run have come
+  pub branching-goes_on : FIRST_INNER + length queue < GREATEST + 1
+      → IsBranching site end (transitions ++ more_transitions) (queue ++ child ∷ [])
+  branching-goes_on few = record {
+    grown = still-grown few;
+    meant =
+        AreStates-more
+        (grown_meaning site.kind site.fold site.patterns site.sorted site.transitions queue)
+        site.transitions [] (sym (append-nil site.transitions))
+        (nodes_of site.sorted (queue ++ child ∷ []))
+        (nodes-more site.sorted queue (child ∷ [])) site.states
+        (let m = length-map queue (λ (q : QueuedState). Some (word site.sorted q)) in
+        let n = length-map (queue ++ child ∷ []) (λ (q : QueuedState). Some (word site.sorted q)) in
+        omega (arith, length_push queue child))
+        h.meant;
+    waits = Waits-more h.waits (child ∷ []);
+    node = nodes-more site.sorted queue (child ∷ []) (length site.states) _ h.node;
+    kept = λ k q e. get-append queue (child ∷ []) k q (h.kept k q e);
+    more = omega (arith, h.more, length_push queue child);
+    low = omega (arith, h.low);
+    high = run.high;
+    children = λ c q le e. elim (get-added_cases queue child q c e) [
+      | inl old ↦
+          let r = h.children c q le old in
+          let high = r.by.high in
+          record {
+            byte = r.byte;
+            by = record { at = r.by.at; low = r.by.low; high = omega arith; byte = r.by.byte };
+            word_is = r.word_is;
+          }
+      | inr new ↦ record {
+        byte = b;
+        by = record { at = place; low = h.low; high = run.some; byte = run.byte };
+        word_is = sym (ap (word site.sorted) new.1) ∙ child-word;
+      }
+    ];
+    added = h.added ++ more_transitions;
+    split = ap (λ (ts : List Transition). ts ++ more_transitions) h.split
+        ∙ append_assoc site.transitions h.added more_transitions;
+    leads = step-leads;
+    by_patterns = step-by_patterns;
+    covered = step-covered;
+    apart = step-apart;
+    smaller = step-smaller;
+  }
