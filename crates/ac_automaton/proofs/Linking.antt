@@ -8,23 +8,23 @@ use Rattle.ac_util.proofs.Found.{matches-nil, matches-failure}
 use Rattle.ac_automaton.specs.declared.nfa.noncontiguous.state.State.{State}
 use Rattle.ac_automaton.specs.declared.nfa.noncontiguous.state.TheConstants.{DEAD}
 use Rattle.ac_automaton.specs.Growths.{LinkIsDue}
-use Rattle.ac_automaton.specs.Tries.{Meaning, AreStates, Links, Represents, all_matches, anchored_matches, patterns_of, state_at, miss}
+use Rattle.ac_automaton.specs.Tries.{Meaning, AreStates, Links, Represents, all_matches, anchored_matches, state_patterns, state_at, miss}
 use Rattle.ac_automaton.proofs.Places.{get-range}
 
 -- a state has patterns exactly if its range of them isn't empty
-pub patterns_of-some : (order : List ℕ) (t : State) → t.patterns < t.patterns_end
-    → t.patterns_end ≤ length order → patterns_of order t ≢ []
-patterns_of-some order t l within none =
+pub state_patterns-some : (order : List ℕ) (t : State) → t.patterns < t.patterns_end
+    → t.patterns_end ≤ length order → state_patterns order t ≢ []
+state_patterns-some order t l within none =
     let there : slice_get order (t.patterns + 0) ≡ Some (get_or order (t.patterns + 0) 0) =
     slice_get-get_or order (t.patterns + 0) 0 (omega arith) in
-    let first : slice_get (patterns_of order t) 0 ≡ slice_get order (t.patterns + 0) =
+    let first : slice_get (state_patterns order t) 0 ≡ slice_get order (t.patterns + 0) =
     get-range order t.patterns t.patterns_end 0 (omega arith) in
-    let nothing : slice_get (patterns_of order t) 0 ≡ None = ap (λ (ns : List ℕ). slice_get ns 0) none in
+    let nothing : slice_get (state_patterns order t) 0 ≡ None = ap (λ (ns : List ℕ). slice_get ns 0) none in
     absurd (cc)
 
 -- where the patterns of a state end before they begin there are none
-pub patterns_of-none : (order : List ℕ) (t : State) → t.patterns_end ≤ t.patterns → patterns_of order t ≡ []
-patterns_of-none order t l =
+pub state_patterns-none : (order : List ℕ) (t : State) → t.patterns_end ≤ t.patterns → state_patterns order t ≡ []
+state_patterns-none order t l =
     ap (λ (n : ℕ). take n (drop t.patterns order))
     (let none : t.patterns_end - t.patterns ≡ 0 = omega arith in none)
 
@@ -63,7 +63,7 @@ module _ (g : Meaning) (states : List State) where
       → Links g (length states) (Some u) fail
   link-here [] fail a due l some =
       let r = dead_target fail a due l in
-      absurd (patterns_of-some g.order (state_at states fail) some r.within r.patterns)
+      absurd (state_patterns-some g.order (state_at states fail) some r.within r.patterns)
   link-here (x ∷ u) fail a due l some =
       let r = target (x ∷ u) fail a due l in
       record {
@@ -72,7 +72,7 @@ module _ (g : Meaning) (states : List State) where
         back = omega arith;
         finds = matches-failure g.kind g.patterns x u;
         useful = λ apart none.
-            patterns_of-some g.order (state_at states fail) some r.within
+            state_patterns-some g.order (state_at states fail) some r.within
             (r.patterns ∙ append_nil_left (anchored_matches g (miss g.kind g.patterns (Some (x ∷ u))))
             (all_matches g r.links.linked) (sym r.links.finds ∙ none));
       }
@@ -90,7 +90,7 @@ module _ (g : Meaning) (states : List State) where
   link-behind (x ∷ u) fail a due l none =
       let r = target (x ∷ u) fail a due l in
       let nothing : anchored_matches g (miss g.kind g.patterns (Some (x ∷ u))) ≡ [] =
-      sym r.patterns ∙ patterns_of-none g.order (state_at states fail) none in
+      sym r.patterns ∙ state_patterns-none g.order (state_at states fail) none in
       let later : all_matches g (miss g.kind g.patterns (Some (x ∷ u))) ≡ all_matches g r.links.linked =
       r.links.finds ∙ ap (λ (ns : List ℕ). ns ++ all_matches g r.links.linked) nothing in
       record {

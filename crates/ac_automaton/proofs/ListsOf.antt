@@ -7,7 +7,7 @@ use Rattle.std.proofs.lemmas.Option.{slice_get-get_or, slice_get_within}
 use Rattle.ac_util.specs.Node.{Node}
 use Rattle.ac_automaton.specs.declared.nfa.noncontiguous.state.State.{State}
 use Rattle.ac_automaton.specs.declared.nfa.noncontiguous.state.TheConstants.{DEAD}
-use Rattle.ac_automaton.specs.Tries.{Meaning, HasState, Represents, all_matches, listed_within, patterns_of, state_at}
+use Rattle.ac_automaton.specs.Tries.{Meaning, HasState, Represents, all_matches, listed_within, state_patterns, state_at}
 use Rattle.ac_automaton.proofs.Follows.{represented}
 
 -- an element of two lists put together is one of the first or one of the second
@@ -32,7 +32,7 @@ module _ (g : Meaning) (states : List State) where
 
   module _ (s : ℕ) (v : Node) (t : State) (h : HasState g states s v) (r : Represents g s v t) where
     -- the matches of the node are the state's patterns, and those of the node that its output link leads to
-    pub all-listed : all_matches g v ≡ patterns_of g.order t ++ all_matches g r.links.linked
+    pub all-listed : all_matches g v ≡ state_patterns g.order t ++ all_matches g r.links.linked
     all-listed = r.links.finds ∙ ap (λ (ns : List ℕ). ns ++ all_matches g r.links.linked) (sym r.patterns)
 
     -- a state stands for the node that the output link leads to
@@ -42,8 +42,8 @@ module _ (g : Meaning) (states : List State) where
         let there = h.there in record { meant = h.meant; there = omega arith; named = r.links.leads }
 
     -- the state has as many patterns as its range says
-    pub length-patterns_of : length (patterns_of g.order t) ≡ t.patterns_end - t.patterns
-    length-patterns_of = let patterns_ordered = r.patterns_ordered in let within = r.within
+    pub length-state_patterns : length (state_patterns g.order t) ≡ t.patterns_end - t.patterns
+    length-state_patterns = let patterns_ordered = r.patterns_ordered in let within = r.within
         in simp (length-take, length-drop) (omega arith)
 
     -- nothing is found through an output link to the dead state
@@ -54,17 +54,17 @@ module _ (g : Meaning) (states : List State) where
     pub length-listed : length (all_matches g v) ≡ (t.patterns_end - t.patterns) + length
         (all_matches g r.links.linked)
     length-listed =
-        ap (length {A = ℕ}) all-listed ∙ length-append (patterns_of g.order t) (all_matches g r.links.linked)
-        ∙ ap (λ (n : ℕ). n + length (all_matches g r.links.linked)) length-patterns_of
+        ap (length {A = ℕ}) all-listed ∙ length-append (state_patterns g.order t) (all_matches g r.links.linked)
+        ∙ ap (λ (n : ℕ). n + length (all_matches g r.links.linked)) length-state_patterns
 
     -- one of its own, by place
     pub pattern-at : (k d : ℕ) → k < t.patterns_end - t.patterns
         → slice_get (all_matches g v) k ≡ Some (get_or g.order (t.patterns + k) d)
     pattern-at k d inside =
-        let l = length-patterns_of in
+        let l = length-state_patterns in
         ap (λ (ns : List ℕ). slice_get ns k) all-listed
-        ∙ slice_get-left (patterns_of g.order t) (all_matches g r.links.linked) k (omega arith)
-        ∙ slice_get-get_or (patterns_of g.order t) k d (omega arith)
+        ∙ slice_get-left (state_patterns g.order t) (all_matches g r.links.linked) k (omega arith)
+        ∙ slice_get-get_or (state_patterns g.order t) k d (omega arith)
         ∙ ap (λ (n : ℕ). Some n)
         (get_or-take (t.patterns_end - t.patterns) (drop t.patterns g.order) k d inside
         ∙ get_or-drop t.patterns g.order k d)
@@ -74,10 +74,10 @@ module _ (g : Meaning) (states : List State) where
         → slice_get (all_matches g v) k ≡ slice_get (all_matches g r.links.linked)
         (k - (t.patterns_end - t.patterns))
     linked-at k past =
-        let l = length-patterns_of in
+        let l = length-state_patterns in
         ap (λ (ns : List ℕ). slice_get ns k) all-listed
-        ∙ slice_get-right (patterns_of g.order t) (all_matches g r.links.linked) k (omega arith)
-        ∙ ap (λ (n : ℕ). slice_get (all_matches g r.links.linked) (k - n)) length-patterns_of
+        ∙ slice_get-right (state_patterns g.order t) (all_matches g r.links.linked) k (omega arith)
+        ∙ ap (λ (n : ℕ). slice_get (all_matches g r.links.linked) (k - n)) length-state_patterns
 
   -- along the output links, of which there are no more than the state's number says, the state lists the
   -- matches of its node
@@ -88,7 +88,7 @@ module _ (g : Meaning) (states : List State) where
       let t = state_at states s in
       let r = h.meant.each s v h.there h.named in
       let back = r.links.back in
-      ap (λ (ns : List ℕ). patterns_of g.order t ++ ns)
+      ap (λ (ns : List ℕ). state_patterns g.order t ++ ns)
       (listed_within-matches n t.output_link r.links.linked (linked-state s v t h r) (omega arith))
       ∙ sym (all-listed s v t h r)
 

@@ -8,7 +8,7 @@ use Rattle.ac_util.specs.Node.{Node, is_leftmost, begins_with_pattern, reached, 
 use Rattle.ac_util.proofs.Failures.{failure-cons}
 use Rattle.ac_util.proofs.Prefixes.{starts_with-whole}
 use Rattle.ac_util.proofs.Lists.{none-from_nil}
-use Rattle.ac_util.proofs.Participants.{IsIn-equal_to, begins-more, begins-from_Fronts, leader, leader-takes_part, equal_to-none_begins}
+use Rattle.ac_util.proofs.Participants.{IsIn-equal_to, begins-more, begins-from_Prefixes, leader, leader-takes_part, equal_to-none_begins}
 use Rattle.ac_util.proofs.Reached.{stops, reached-nil, step-reached}
 use Rattle.ac_automaton.specs.Tries.{miss}
 
@@ -23,7 +23,7 @@ module _ (kind : MatchKind) (patterns : List (List ℕ)) where
         let l = leader patterns (w ++ b ∷ []) t in
         let no_front = false_from_ne_true _ (λ s.
         false≢true (sym f
-        ∙ begins-from_Fronts patterns w l.0 (record { numbered = l.1.prefixes.numbered; front = s }))) in
+        ∙ begins-from_Prefixes patterns w l.0 (record { numbered = l.1.prefixes.numbered; front = s }))) in
         none-from_nil l.0 (equal_to kind patterns (w ++ b ∷ [])) none
         (IsIn-equal_to kind patterns (w ++ b ∷ []) l.0 (record {
           numbered = l.1.prefixes.numbered;

@@ -14,7 +14,7 @@ use Rattle.ac_util.specs.Node.{begins_with_pattern, participants, participates}
 use Rattle.ac_util.specs.Search.{pattern_of}
 use Rattle.ac_util.proofs.Lists.{IsIn, IsIn-at, IsIn-map, IsIn-from_map, IsIn-filter, IsIn-from_filter, IsIn-range, IsIn-from_range, IsIn-append_cases, IsIn-append_left, IsIn-append_right, Contains-from_IsIn, IsIn-from_Contains}
 use Rattle.ac_util.proofs.Prefixes.{starts_with-itself}
-use Rattle.ac_util.proofs.Participants.{Prefixes, IsLeader, begins-before, begins-from_Fronts, leader, leader-least, leader-takes_part, takes_part}
+use Rattle.ac_util.proofs.Participants.{Prefixes, IsLeader, begins-before, begins-from_Prefixes, leader, leader-least, leader-takes_part, takes_part}
 use Rattle.ac_automaton.specs.Sorted.{Keyed, Precedes, IsOrder, key_at, numbers}
 use Rattle.ac_automaton.proofs.Places.{place-of, place-read, place-take, read-place, IsIn-take, IsIn-from_take}
 use Rattle.ac_automaton.proofs.Prefixes.{front-between, front-no_less}
@@ -179,7 +179,7 @@ module _ (patterns : List (List ℕ)) (all : List Keyed) (order : IsOrder Standa
           → participates LeftmostFirst patterns here.number ≡ true
       takes_part_here least =
           let mine = Prefixes-from_sorted here.key here here-in (starts_with-itself here.key) in
-          let lead = leader patterns here.key (begins-from_Fronts patterns here.key here.number mine) in
+          let lead = leader patterns here.key (begins-from_Prefixes patterns here.key here.number mine) in
           elim (cases_lt lead.0 here.number) [
             | inl below ↦
                 let m = leader_stands lead.0 lead.1 below in

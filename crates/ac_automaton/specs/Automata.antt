@@ -27,7 +27,7 @@ matches_of built anchored u = matches built.kind (plain_of built) anchored u
 abbrev pub IsState : (ℕ → Node → Type 0) → ℕ → Type 0
 IsState stands s = (u : Node) × stands s u
 
--- the list has the matches that count in an anchored search in front, and is itself a front of all matches of
+-- the list has the matches that count in an anchored search in front, and is itself a prefix of all matches of
 -- the node
 pub record ListsFirst (built : Built) (u : Node) (listed : List ℕ) : Type 0 where
   pub passed_over : List ℕ

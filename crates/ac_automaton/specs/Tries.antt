@@ -67,14 +67,14 @@ IsTarget transitions byte result =
     (λ target. (k : ℕ) × (slice_get transitions k ≡ Some (record { byte = byte; target = target })))
 
 -- the patterns of a state: those that equal its string
-abbrev pub patterns_of : List ℕ → State → List ℕ
-patterns_of order t = slice_range order t.patterns t.patterns_end
+abbrev pub state_patterns : List ℕ → State → List ℕ
+state_patterns order t = slice_range order t.patterns t.patterns_end
 
 -- the patterns of a state and of those that its output links lead to, of at most n states
 abbrev pub listed_within : List ℕ → List State → ℕ → ℕ → List ℕ
 listed_within order states zero s = []
 listed_within order states (suc n) s =
-    patterns_of order (state_at states s) ++ listed_within order states n (state_at states s).output_link
+    state_patterns order (state_at states s) ++ listed_within order states n (state_at states s).output_link
 
 -- where an unanchored search goes on from a node by a byte without a transition: from the start it stays there,
 -- unless under a leftmost kind an empty pattern has begun the match
@@ -129,7 +129,7 @@ module _ (g : Meaning) where
     pub back : FIRST_INNER ≤ s → t.fail < s
     pub patterns_ordered : t.patterns ≤ t.patterns_end
     pub within : t.patterns_end ≤ length g.order
-    pub patterns : patterns_of g.order t ≡ anchored_matches v
+    pub patterns : state_patterns g.order t ≡ anchored_matches v
     pub links : Links s v t.output_link
     pub long : t.depth ≡ depth v
     pub outer : s < FIRST_INNER → depth v ≡ 0

@@ -29,7 +29,7 @@ pub use ac_util::looks::{Looks, Tape, open};
 pub use ac_util::patterns::{Patterns, check_limits};
 pub use ac_util::plain;
 pub use ac_util::prefilter::{Candidate, Prefilter};
-pub use ac_util::primitives::{PatternID, SmallIndex, StateID, TooLarge};
+pub use ac_util::primitives::{GREATEST, PatternID, SmallIndex, StateID, TooLarge};
 pub use ac_util::search::{Anchored, Input, Match, MatchKind, Span, StartKind};
 pub use ahocorasick::{AhoCorasick, AhoCorasickBuilder, AhoCorasickKind, FindIter};
 

@@ -16,11 +16,11 @@ use Rattle.ac_util.specs.Node.{is_leftmost, begins_with_pattern, participates}
 use Rattle.ac_util.specs.Matches.{equal_to, matches}
 use Rattle.ac_util.proofs.Lists.{IsIn, IsOrdered, none-from_nil}
 use Rattle.ac_util.proofs.Picks.{IsFirst-itself, IsFirst-trans}
-use Rattle.ac_util.proofs.Participants.{Prefixes, Equals, begins-from_Fronts, leader, leader-least, leader-takes_part, participant-least, all_take_part, IsIn-equal_to, IsIn-from_equal_to, equal_to-ordered}
+use Rattle.ac_util.proofs.Participants.{Prefixes, Equals, begins-from_Prefixes, leader, leader-least, leader-takes_part, participant-least, all_take_part, IsIn-equal_to, IsIn-from_equal_to, equal_to-ordered}
 use Rattle.ac_util.proofs.Prefixes.{starts_with-itself}
 use Rattle.ac_util.proofs.Reached.{stops}
 use Rattle.ac_util.proofs.Found.{matches-nil, matches-cons}
-use Rattle.ac_util.proofs.Standing.{Stands, place_of, IsPickIn, first-by_start, first-one_on, first-at_one_end, Prefixes-cases, Prefixes-length, Prefixes-equal, Stands-more, Stands-cases, Stands-behind, Stands-from_behind, Stands-from_Fronts}
+use Rattle.ac_util.proofs.Standing.{Stands, place_of, IsPickIn, first-by_start, first-one_on, first-at_one_end, Prefixes-cases, Prefixes-length, Prefixes-equal, Stands-more, Stands-cases, Stands-behind, Stands-from_behind, Stands-from_Prefixes}
 
 -- the front of an empty list is empty
 pub append_nil_left : (xs ys : List ℕ) → xs ++ ys ≡ [] → xs ≡ []
@@ -34,7 +34,7 @@ module _ (kind : MatchKind) (patterns : List (List ℕ)) where
   abbrev front_place : ℕ → Occurrence
   front_place n = place_of patterns n 0
 
-  -- a pattern that takes part, is a front of w and is preferred to front n or is n itself
+  -- a pattern that takes part, is a prefix of w and is preferred to prefix n or is n itself
   record Preferred (w : List ℕ) (n j : ℕ) : Type 0 where
     prefixes : Prefixes patterns w j
     takes_part : participates kind patterns j ≡ true
@@ -53,7 +53,7 @@ module _ (kind : MatchKind) (patterns : List (List ℕ)) where
       only_first LeftmostLongest same =
           absurd (false≢true (sym takes ∙ ap (λ (m : MatchKind). participates m patterns n) (sym same)))
       only_first LeftmostFirst same =
-          let l = leader patterns w (begins-from_Fronts patterns w n f) in
+          let l = leader patterns w (begins-from_Prefixes patterns w n f) in
           let least = leader-least patterns w l.0 n l.1 f in (
             l.0,
             record {
@@ -67,7 +67,7 @@ module _ (kind : MatchKind) (patterns : List (List ℕ)) where
   preferred : (w : List ℕ) (n : ℕ) → Prefixes patterns w n → (j : ℕ) × Preferred w n j
   preferred w n f = preferred_by w n f (participates kind patterns n) refl
 
-  -- where no pattern is the whole of w with one more byte, a front of it is no better than a front of w
+  -- where no pattern is the whole of w with one more byte, a prefix of it is no better than a prefix of w
   kept_front : (w : List ℕ) (b n : ℕ) → own (w ++ b ∷ []) ≡ [] → Prefixes patterns (w ++ b ∷ []) n
       → (j : ℕ) × Prefixes patterns w j × IsFirst kind (front_place j) (front_place n)
   kept_front w b n none f =
@@ -89,7 +89,7 @@ module _ (kind : MatchKind) (patterns : List (List ℕ)) where
       → (j : ℕ) × (k : ℕ) × Better anchored w n 0 j k
   better_front anchored w b n none f =
       let p = kept_front w b n none f in
-      (p.0, 0, record { stands = Stands-from_Fronts patterns anchored w p.0 p.1; first = p.2 })
+      (p.0, 0, record { stands = Stands-from_Prefixes patterns anchored w p.0 p.1; first = p.2 })
 
   better_free : (w : List ℕ) (b n s : ℕ) → matches kind patterns No (Some (w ++ b ∷ [])) ≡ []
       → Stands patterns No (w ++ b ∷ []) n s
@@ -100,7 +100,7 @@ module _ (kind : MatchKind) (patterns : List (List ℕ)) where
     n,
     0,
     record {
-      stands = Stands-from_Fronts patterns No [] n h.prefixes;
+      stands = Stands-from_Prefixes patterns No [] n h.prefixes;
       first =
           first-by_start kind (place_of patterns n 0) (place_of patterns n 1) (omega arith) (inr (omega arith));
     },
@@ -126,7 +126,7 @@ module _ (kind : MatchKind) (patterns : List (List ℕ)) where
             p.0,
             0,
             record {
-              stands = Stands-from_Fronts patterns No (x ∷ w) p.0 p.1;
+              stands = Stands-from_Prefixes patterns No (x ∷ w) p.0 p.1;
               first = first-by_start kind (place_of patterns p.0 0) (place_of patterns n (suc s)) (omega arith)
                   (inl both.0);
             },
@@ -240,7 +240,7 @@ module _ (kind : MatchKind) (patterns : List (List ℕ)) where
       → Stands patterns anchored v i 0
   own_stands anchored v i rest e =
       let head = own_head v i rest e in
-      Stands-from_Fronts patterns anchored v i (record {
+      Stands-from_Prefixes patterns anchored v i (record {
         numbered = head.numbered;
         front = subst (λ (p : List ℕ). starts_with nat_eq v p ≡ true) (sym head.same) (starts_with-itself v);
       })
@@ -281,7 +281,7 @@ module _ (kind : MatchKind) (patterns : List (List ℕ)) where
       no_front n f true leftmost counts =
           false≢true (sym goes_on
           ∙ (ap (λ (l : Bool). l && begins_with_pattern patterns (x ∷ v)) leftmost
-          ∙ begins-from_Fronts patterns (x ∷ v) n f))
+          ∙ begins-from_Prefixes patterns (x ∷ v) n f))
       no_front n f false leftmost (inl e) = false≢true (sym leftmost ∙ e)
       no_front n f false leftmost (inr ends) =
           none-from_nil n (own (x ∷ v)) none (IsIn-equal_to kind patterns (x ∷ v) n (record {

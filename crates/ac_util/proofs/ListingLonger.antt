@@ -16,7 +16,7 @@ use Rattle.ac_util.proofs.Picks.{same_occurrence}
 use Rattle.ac_util.proofs.Prefixes.{starts_with-itself}
 use Rattle.ac_util.proofs.Participants.{IsIn-equal_to, IsIn-from_equal_to, equal_to-ordered}
 use Rattle.ac_util.proofs.Found.{matches-nil, matches-cons}
-use Rattle.ac_util.proofs.Standing.{Stands, place_of, Prefixes-equal, Stands-behind, Stands-from_behind, Stands-from_Fronts}
+use Rattle.ac_util.proofs.Standing.{Stands, place_of, Prefixes-equal, Stands-behind, Stands-from_behind, Stands-from_Prefixes}
 use Rattle.ac_util.proofs.Spans.{pattern_length, text_length, Stands-from_Occurs, Occurs-from_Stands}
 use Rattle.ac_util.proofs.OneLonger.{found-text}
 use Rattle.std.specs.Prelude.{nat_eq}
@@ -45,7 +45,7 @@ module _ (patterns : List (List ℕ)) where
   from_own anchored v n h =
       let e = IsIn-from_equal_to Standard patterns v n h in
       record {
-        stands = Stands-from_Fronts patterns anchored v n (record {
+        stands = Stands-from_Prefixes patterns anchored v n (record {
           numbered = e.numbered;
           front = subst (λ (p : List ℕ). starts_with nat_eq v p ≡ true) (sym e.same) (starts_with-itself v);
         });

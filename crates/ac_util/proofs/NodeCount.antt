@@ -46,7 +46,7 @@ IsIn-prefixes p x u h =
     (IsIn-map (λ n. take n p) (length (x ∷ u)) (range_with_len 1 (length p))
     (IsIn-range (length (x ∷ u)) 1 (length p) (omega arith) (omega arith)))
 
--- u is a front of the pattern and isn't empty
+-- u is a prefix of the pattern and isn't empty
 record IsFrontOf (p u : List ℕ) : Type 0 where
   front : starts_with nat_eq p u ≡ true
   some : 0 < length u

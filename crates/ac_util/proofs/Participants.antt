@@ -13,15 +13,15 @@ use Rattle.ac_util.specs.Matches.{equal_to}
 use Rattle.ac_util.proofs.Lists.{IsIn, IsIn-at, IsIn-filter, IsIn-from_filter, IsIn-range, IsIn-from_range, IsOrdered, IsOrdered-filter, IsOrdered-range, nil-from_none}
 use Rattle.ac_util.proofs.Prefixes.{starts_with-itself, starts_with-front, starts_with-more, starts_with-whole, starts_with-trans, list_any-weaker, list_any-from_IsIn, first_any}
 
--- pattern n is a front of w
+-- pattern n is a prefix of w
 pub record Prefixes (patterns : List (List ℕ)) (w : List ℕ) (n : ℕ) : Type 0 where
   pub numbered : n < length patterns
   pub front : starts_with nat_eq w (pattern_of patterns n) ≡ true
 
 module _ (patterns : List (List ℕ)) where
-  -- a string with such a front begins with a pattern
-  pub begins-from_Fronts : (w : List ℕ) (n : ℕ) → Prefixes patterns w n → begins_with_pattern patterns w ≡ true
-  begins-from_Fronts w n f =
+  -- a string with such a prefix begins with a pattern
+  pub begins-from_Prefixes : (w : List ℕ) (n : ℕ) → Prefixes patterns w n → begins_with_pattern patterns w ≡ true
+  begins-from_Prefixes w n f =
       list_any-from_IsIn (λ p. starts_with nat_eq w p) (pattern_of patterns n) patterns
       (IsIn-at (pattern_of patterns n) [] patterns n f.numbered refl) f.front
 
@@ -32,7 +32,7 @@ module _ (patterns : List (List ℕ)) where
       list_any-weaker (λ p. starts_with nat_eq w p) (λ p. starts_with nat_eq (w ++ b ∷ []) p)
       (λ p t. starts_with-more w p b t) patterns h
 
-  -- an earlier pattern that is a front of w is among those before number j
+  -- an earlier pattern that is a prefix of w is among those before number j
   pub begins-before : (w : List ℕ) (n j : ℕ) → n < j → j < length patterns → Prefixes patterns w n
       → begins_with_pattern (take j patterns) w ≡ true
   begins-before w n j below within f =
@@ -41,7 +41,7 @@ module _ (patterns : List (List ℕ)) where
       (IsIn-at (pattern_of patterns n) [] (take j patterns) n (omega arith) (get_or-take j patterns n [] below))
       f.front
 
-  -- j is the first pattern that is a front of w: it takes part, and none before it is one
+  -- j is the first pattern that is a prefix of w: it takes part, and none before it is one
   pub record IsLeader (w : List ℕ) (j : ℕ) : Type 0 where
     pub prefixes : Prefixes patterns w j
     pub none_before : begins_with_pattern (take j patterns) w ≡ false
@@ -56,14 +56,14 @@ module _ (patterns : List (List ℕ)) where
         },
       )
 
-  -- no pattern that is a front of w has a lesser number than the leader
+  -- no pattern that is a prefix of w has a lesser number than the leader
   pub leader-least : (w : List ℕ) (j n : ℕ) → IsLeader w j → Prefixes patterns w n → j ≤ n
   leader-least w j n l f = elim (cases_lt n j) [
     | inl below ↦ absurd (false≢true (sym l.none_before ∙ begins-before w n j below l.prefixes.numbered f))
     | inr le ↦ le
   ]
 
-  -- a pattern that no earlier one is a front of takes part
+  -- a pattern that no earlier one is a prefix of takes part
   pub takes_part : (kind : MatchKind) (n : ℕ)
       → begins_with_pattern (take n patterns) (pattern_of patterns n) ≡ false
       → participates kind patterns n ≡ true
@@ -79,7 +79,7 @@ module _ (patterns : List (List ℕ)) where
       ∙ list_any-weaker (λ p. starts_with nat_eq (pattern_of patterns j) p) (λ p. starts_with nat_eq w p)
       (λ p s. starts_with-trans w (pattern_of patterns j) p l.prefixes.front s) (take j patterns) h)))
 
-  -- under LeftmostFirst no earlier pattern is a front of one that takes part
+  -- under LeftmostFirst no earlier pattern is a prefix of one that takes part
   pub participant-least : (w : List ℕ) (i n : ℕ) → i < length patterns
       → participates LeftmostFirst patterns i ≡ true
       → pattern_of patterns i ≡ w → Prefixes patterns w n → i ≤ n
@@ -106,7 +106,7 @@ module _ (kind : MatchKind) (patterns : List (List ℕ)) where
       IsIn-filter (participates kind patterns) n (range_with_len 0 (length patterns))
       (IsIn-range n 0 (length patterns) (omega arith) (omega arith)) takes
 
-  -- a front of a pattern that takes part leads to a node
+  -- a prefix of a pattern that takes part leads to a node
   pub is_node-participant : (n : ℕ) (w : List ℕ) → n < length patterns → participates kind patterns n ≡ true
       → starts_with nat_eq (pattern_of patterns n) w ≡ true → is_node kind patterns w ≡ true
   is_node-participant n w within takes front =
@@ -137,7 +137,7 @@ module _ (kind : MatchKind) (patterns : List (List ℕ)) where
       let no_front =
       false_from_ne_true _
       (λ t. false≢true
-      (sym n ∙ begins-from_Fronts patterns v l.0 (record { numbered = l.1.prefixes.numbered; front = t }))) in
+      (sym n ∙ begins-from_Prefixes patterns v l.0 (record { numbered = l.1.prefixes.numbered; front = t }))) in
       let whole = starts_with-whole v (pattern_of patterns l.0) b l.1.prefixes.front no_front in
       is_node-participant l.0 (v ++ b ∷ []) l.1.prefixes.numbered
       (leader-takes_part patterns kind (v ++ b ∷ []) l.0 l.1)
@@ -187,7 +187,7 @@ module _ (kind : MatchKind) (patterns : List (List ℕ)) where
       → equal_to kind patterns w ≡ []
   equal_to-none_begins w none = nil-from_none (equal_to kind patterns w) (λ n h.
       let e = IsIn-from_equal_to w n h in
-      false≢true (sym none ∙ begins-from_Fronts patterns w n (record {
+      false≢true (sym none ∙ begins-from_Prefixes patterns w n (record {
         numbered = e.numbered;
         front = subst (λ (p : List ℕ). starts_with nat_eq w p ≡ true) (sym e.same) (starts_with-itself w);
       })))

@@ -1,16 +1,16 @@
--- Prefixes of strings: `starts_with nat_eq w p` says that p is a front of w.
+-- Prefixes of strings: `starts_with nat_eq w p` says that p is a prefix of w.
 use Rattle.std.proofs.Common.{◌≡◌, ℕ, zero, suc, ◌<◌, ◌≤◌, Bool, true, false, ◌||◌, List, [], ◌∷◌, ◌++◌, length, take, get_or, inl, inr, refl, ap, sym, ◌∙◌, arith, eqb}
 use Rattle.std.specs.Prelude.{nat_eq}
 use Rattle.std.specs.List.{list_any, starts_with}
 use Rattle.std.proofs.lemmas.Bool.{or_cases, or_left, or_right, and_parts, and_from, eqb-true, eq-eqb, false≢true, false_from_ne_true}
 use Rattle.ac_util.proofs.Lists.{IsIn}
 
--- a string is a front of itself
+-- a string is a prefix of itself
 pub starts_with-itself : (w : List ℕ) → starts_with nat_eq w w ≡ true
 starts_with-itself [] = refl
 starts_with-itself (x ∷ w) = and_from _ _ (eq-eqb x x refl) (starts_with-itself w)
 
--- what is left of a front without its last byte is a front
+-- what is left of a prefix without its last byte is a prefix
 pub starts_with-front : (p v : List ℕ) (b : ℕ) → starts_with nat_eq p (v ++ b ∷ []) ≡ true
     → starts_with nat_eq p v ≡ true
 starts_with-front p [] b h = refl
@@ -18,7 +18,7 @@ starts_with-front [] (x ∷ v) b h = absurd (false≢true h)
 starts_with-front (y ∷ p) (x ∷ v) b h =
     let parts = and_parts _ _ h in and_from _ _ parts.0 (starts_with-front p v b parts.1)
 
--- a front of w is a front of w with one more byte
+-- a prefix of w is a prefix of w with one more byte
 pub starts_with-more : (w p : List ℕ) (b : ℕ) → starts_with nat_eq w p ≡ true
     → starts_with nat_eq (w ++ b ∷ []) p ≡ true
 starts_with-more w [] b h = refl
@@ -26,7 +26,7 @@ starts_with-more [] (y ∷ p) b h = absurd (false≢true h)
 starts_with-more (x ∷ w) (y ∷ p) b h =
     let parts = and_parts _ _ h in and_from _ _ parts.0 (starts_with-more w p b parts.1)
 
--- a front of w with one more byte that is no front of w is the whole of it
+-- a prefix of w with one more byte that is no prefix of w is the whole of it
 pub starts_with-whole : (w p : List ℕ) (b : ℕ)
     → starts_with nat_eq (w ++ b ∷ []) p ≡ true → starts_with nat_eq w p ≡ false → p ≡ w ++ b ∷ []
 starts_with-whole w [] b h n = absurd (false≢true (sym n))
@@ -40,20 +40,20 @@ starts_with-whole (x ∷ w) (y ∷ p) b h n =
     let rest = starts_with-whole w p b parts.1 no_front in
     λ i. e i ∷ rest i
 
--- a front is no longer than the string
+-- a prefix is no longer than the string
 pub starts_with-length : (w p : List ℕ) → starts_with nat_eq w p ≡ true → length p ≤ length w
 starts_with-length w [] h = omega arith
 starts_with-length [] (y ∷ p) h = absurd (false≢true h)
 starts_with-length (x ∷ w) (y ∷ p) h =
     let l = starts_with-length w p (and_parts (eqb y x) (starts_with nat_eq w p) h).1 in omega arith
 
--- the first bytes of a string are a front of it
+-- the first bytes of a string are a prefix of it
 pub starts_with-take : (n : ℕ) (w : List ℕ) → starts_with nat_eq w (take n w) ≡ true
 starts_with-take zero w = refl
 starts_with-take (suc n) [] = refl
 starts_with-take (suc n) (x ∷ w) = and_from _ _ (eq-eqb x x refl) (starts_with-take n w)
 
--- a front as long as the string is the string
+-- a prefix as long as the string is the string
 pub starts_with-equal : (w p : List ℕ) → starts_with nat_eq w p ≡ true → length p ≡ length w → p ≡ w
 starts_with-equal [] [] h l = refl
 starts_with-equal (x ∷ w) [] h l = absurd (omega arith)
@@ -64,7 +64,7 @@ starts_with-equal (x ∷ w) (y ∷ p) h l =
     let rest = starts_with-equal w p parts.1 (omega arith) in
     λ i. e i ∷ rest i
 
--- a front of a front is a front
+-- a prefix of a prefix is a prefix
 pub starts_with-trans : (w p r : List ℕ)
     → starts_with nat_eq w p ≡ true → starts_with nat_eq p r ≡ true → starts_with nat_eq w r ≡ true
 starts_with-trans w p [] h k = refl

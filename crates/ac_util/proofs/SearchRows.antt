@@ -115,7 +115,7 @@ samwise-finds : AreFinds (
 unfolding pick all
 samwise-finds = refl
 
--- three patterns with a common front
+-- three patterns with a common prefix
 append-walks : AreWalks (
     row Standard (in_text append_words append_text)
     (occurrence 2 0 3 ∷ occurrence 2 11 14 ∷ occurrence 2 22 25 ∷ [])

@@ -76,12 +76,12 @@ first-at_one_end LeftmostLongest a b e f =
     record { ends = omega arith; starts = λ _. f.starts; patterns = λ k s. f.patterns s k }
 
 module _ (patterns : List (List ℕ)) where
-  -- a front of w is a front of w with one more byte, and a new one is the whole
+  -- a prefix of w is a prefix of w with one more byte, and a new one is the whole
   pub Prefixes-more : (w : List ℕ) (b n : ℕ) → Prefixes patterns w n → Prefixes patterns (w ++ b ∷ []) n
   Prefixes-more w b n f =
       record { numbered = f.numbered; front = starts_with-more w (pattern_of patterns n) b f.front }
 
-  -- a pattern that is a front with one more byte was a front before or is the whole
+  -- a pattern that is a prefix with one more byte was a prefix before or is the whole
   pub Prefixes-cases : (w : List ℕ) (b n : ℕ) → Prefixes patterns (w ++ b ∷ []) n
       → Prefixes patterns w n ⊎ (pattern_of patterns n ≡ w ++ b ∷ [])
   Prefixes-cases w b n f = elim (cases_Bool (starts_with nat_eq w (pattern_of patterns n))) [
@@ -89,7 +89,7 @@ module _ (patterns : List (List ℕ)) where
     | inr t ↦ inr (starts_with-whole w (pattern_of patterns n) b f.front t)
   ]
 
-  -- a pattern that is a front is no longer than the string
+  -- a pattern that is a prefix is no longer than the string
   pub Prefixes-length : (w : List ℕ) (n : ℕ) → Prefixes patterns w n → length (pattern_of patterns n) ≤ length w
   Prefixes-length w n f = starts_with-length w (pattern_of patterns n) f.front
 
@@ -148,7 +148,7 @@ module _ (patterns : List (List ℕ)) where
   Stands-from_behind x w n s h =
       record { within = (let i = h.within in omega arith); prefixes = h.prefixes; at_front = λ e. absurd (cc) }
 
-  -- a front stands at the front
-  pub Stands-from_Fronts : (anchored : Anchored) (w : List ℕ) (n : ℕ) → Prefixes patterns w n
+  -- a prefix stands at the front
+  pub Stands-from_Prefixes : (anchored : Anchored) (w : List ℕ) (n : ℕ) → Prefixes patterns w n
       → Stands patterns anchored w n 0
-  Stands-from_Fronts anchored w n f = record { within = omega arith; prefixes = f; at_front = λ e. refl }
+  Stands-from_Prefixes anchored w n f = record { within = omega arith; prefixes = f; at_front = λ e. refl }

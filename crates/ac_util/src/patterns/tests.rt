@@ -10,7 +10,7 @@ const ROWS: &[(&str, &[&[u8]])] = &[
     ("two alike", &[b"ab", b"ab"]),
     ("empty ones between others", &[b"", b"ab", b"", b"", b"c"]),
     (
-        "a front of another",
+        "a prefix of another",
         &[b"append", b"appendage", b"app", b"ab"],
     ),
 ];
