@@ -1,5 +1,5 @@
 -- How a search may skip ahead to where a match can start, and what it is told of what it skips.
-use Rattle.std.specs.Prelude.{◌≡◌, ℕ, ◌≤◌, Bool, true, false, ◌&&◌, nat_le, not, List, [], ◌∷◌, length, filter, Option, None, Some, if◌then◌else◌}
+use Rattle.std.specs.Prelude.{◌≡◌, ℕ, ◌≤◌, Bool, false, ◌&&◌, nat_le, not, List, [], ◌∷◌, length, filter, Option, None, Some, if◌then◌else◌}
 use Rattle.std.specs.List.{list_any, range_with_len}
 use Rattle.ac_util.specs.declared.prefilter.Candidate.{Candidate}
 use Rattle.ac_util.specs.declared.prefilter.Candidate.TheVariants.{None as Nothing, Match as Found, PossibleStart}

@@ -80,7 +80,7 @@ module _ (ends : Bool) (request : Request) (patterns : List (List ℕ)) (reader 
   abbrev pub FailsReading : Fault → Type 0
   FailsReading fault =
       IsAllowed (rules_for (settings_of request)) (engine_settings (settings_of request)) patterns
-          × FailsToRead reader new_reader fault
+      × FailsToRead reader new_reader fault
       × (new_writer ≡ writer)
 
   -- no limit refused the searcher; while the run wrote the lines of all that the reader gave it has ended with
