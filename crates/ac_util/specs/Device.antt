@@ -9,8 +9,8 @@ pub record Reading : Type 0 where
   pub failed : ℕ
   pub empties : ℕ
 
--- the bytes that a writer holds, if it tells them; how many of its calls failed; and how many writes of a piece
--- that isn't empty took no byte
+-- the bytes that were written, if the writer tells them; how many of its calls failed; and how many writes of a
+-- piece that isn't empty took no byte
 pub record Writing : Type 0 where
   pub written : Option (List ℕ)
   pub failed : ℕ

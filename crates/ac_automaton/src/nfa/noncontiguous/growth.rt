@@ -177,9 +177,8 @@ impl<'p, A: Allocator + Clone> Growth<'p, A> {
         })
     }
 
-    /// Adds a state to the queue, and the transitions to it by a plain byte: where case is ignored by a
-    /// letter's
-    /// capital too.
+    /// Adds a state to the queue, and the transition to it by a plain byte, or where case is ignored those by
+    /// both cases of a letter.
     ///
     /// # Errors
     /// `StateIdOverflow` where no number is left for it, `Memory` where a request for memory is refused.

@@ -212,8 +212,7 @@ fn compare(a: &SortedPattern<'_>, b: &SortedPattern<'_>, fold: bool) -> Ordering
 /// prefix.
 ///
 /// Patterns that begin with a string stand right behind it. So a stack holds the kept prefixes of the pattern
-/// at
-/// hand, each with a lesser number than the one below it, and only the last is compared.
+/// at hand, each with a lesser number than the one below it, and only the last is compared.
 ///
 /// # Errors
 /// `AllocError` where a request for memory is refused, and some patterns may then have been moved.
