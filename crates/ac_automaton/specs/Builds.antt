@@ -18,7 +18,7 @@ pub record EngineRules : Type 0 where
   pub start_kind : StartKind
   pub state_refusal : MatchKind → List (List ℕ) → Option BuildError
 
--- that there are more nodes of plain patterns than state numbers, if there are
+-- the refusal of plain patterns that have more nodes than there are state numbers, or None
 abbrev pub too_many_states : MatchKind → List (List ℕ) → Option BuildError
 too_many_states kind patterns =
     if nat_lt (GREATEST + 1) (state_count kind patterns) then Some (StateIdOverflow GREATEST (GREATEST + 1))

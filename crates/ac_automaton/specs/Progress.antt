@@ -64,7 +64,7 @@ pub record Beginning : Type 0 where
   pub tape : Taped
   pub counts : Counts
 
--- what an automaton searches that began so
+-- the search of an automaton that began in this way
 abbrev pub span_of : Built → Anchored → Beginning → Search
 span_of built anchored began = search_of built anchored began.tape.bytes began.start began.end
 

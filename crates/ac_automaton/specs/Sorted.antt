@@ -30,7 +30,7 @@ numbers sorted = map (λ m. m.number) sorted
 abbrev pub keyed_one : Bool → SortedPattern → Keyed
 keyed_one fold m = record { key = plain fold m.bytes.now; number = m.number }
 
--- the patterns of a list so
+-- each pattern of a list with its plain bytes
 abbrev pub keyed : Bool → List SortedPattern → List Keyed
 keyed fold sorted = map (keyed_one fold) sorted
 

@@ -21,7 +21,7 @@ struct SortedPattern<'p> {
     number: u32,
 }
 
-/// The patterns that take part in ascending order of their plain bytes, the same ones by number.
+/// The patterns that take part in ascending order of their plain bytes, equal ones by number.
 ///
 /// Those that begin with one string stand side by side. So a state of a trie is a range of them: of those that
 /// have the state's string as a prefix.
