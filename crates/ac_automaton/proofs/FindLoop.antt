@@ -10,6 +10,7 @@ use Rattle.ac_util.specs.declared.search.Anchored.TheVariants.{No, Yes}
 use Rattle.ac_util.specs.Occurrence.{Occurrence}
 use Rattle.ac_util.specs.Search.{Search}
 use Rattle.ac_util.specs.Pick.{order_of, pick}
+use Rattle.ac_util.specs.Prefilters.{may_skip}
 use Rattle.ac_util.specs.Counts.{Counts, Taped}
 use Rattle.ac_util.specs.Node.{Node, is_leftmost}
 use Rattle.ac_util.specs.Built.{Built}
@@ -19,8 +20,8 @@ use Rattle.ac_util.proofs.OneLonger.{pick-empty_none, pick-empty_some, none-past
 use Rattle.ac_util.proofs.SearchLoop.{GoesOn, pick-goes_on, pick-found, pick-stays_dead}
 use Rattle.ac_automaton.specs.Automata.{matches_of}
 use Rattle.ac_automaton.specs.Finds.{place_of, HasSearched, IsDecided, ReadsTo, Tells, found_at}
-use Rattle.ac_automaton.specs.Progress.{Beginning, HasCome, node_at as node_of, span_of}
-use Rattle.ac_automaton.proofs.ReadOn.{dead-come, read-come}
+use Rattle.ac_automaton.specs.Progress.{Beginning, HasCome, most_looks, node_at as node_of, span_of}
+use Rattle.ac_automaton.proofs.ReadOn.{dead-come, read-come, read-nothing}
 
 -- the dead node finds nothing
 pub found-dead : (built : Built) (a : Anchored) (u : Node) (end : ℕ) → u ≡ None → found_at built a u end ≡ None
@@ -52,21 +53,12 @@ goes_on-none kind order r P (inr first) standard =
     subst (λ (x : Option Occurrence). IfSome x P) (sym first.1) tt
 
 -- where a span starts past its end nothing is found, and nothing done
-pub searched-nothing : (most : ℕ) (kind order : MatchKind) (q : Search) (tape : Taped) (counts : Counts)
-    → q.high < q.low → tape.place ≤ q.low → HasSearched most kind order q None tape tape counts counts
-searched-nothing most kind order q tape counts past unread = record {
+pub searched-nothing : (most : ℕ) (filters : Bool) (kind order : MatchKind) (q : Search) (tape : Taped)
+    (counts : Counts)
+    → q.high < q.low → tape.place ≤ q.low → HasSearched most filters kind order q None tape tape counts counts
+searched-nothing most filters kind order q tape counts past unread = record {
   answer = sym (none-past_end order q past);
-  read = record {
-    bytes = refl;
-    onward = omega arith;
-    within = omega arith;
-    grows = record { reads = omega arith; looks = omega arith; calls = omega arith };
-    told = λ moved. omega arith;
-    whole = λ _. omega arith;
-    reads = omega arith;
-    looks = omega arith;
-    calls = omega arith;
-  };
+  read = read-nothing (most_looks q.anchored most) (may_skip filters q) q.low q.high tape counts unread;
   tells = tt;
   stops = λ _. tt;
   dead = λ k from below. absurd (omega arith);
@@ -126,8 +118,8 @@ module _ (built : Built) (anchored : Anchored) (earliest : Bool) (began : Beginn
       by (Some x) h = kept x (ends_by at x) h
 
   -- what a find has done that answers r once it has come to a place, where it has read enough
-  module _ {stands : ℕ → Node → Type 0} {most state at : ℕ} {tape : Taped} {counts : Counts}
-      (come : HasCome stands most built anchored began state at tape counts) where
+  module _ {stands : ℕ → Node → Type 0} {most : ℕ} {filters : Bool} {state at : ℕ} {tape : Taped} {counts : Counts}
+      (come : HasCome stands most filters built anchored began state at tape counts) where
     -- each byte of what was picked was read
     picked-told : (r : Option Occurrence) → r ≡ pick order (up_to at)
         → IfSome r (Tells began.start tape began.counts counts)
@@ -144,14 +136,14 @@ module _ (built : Built) (anchored : Anchored) (earliest : Bool) (began : Beginn
         → IfSome r (ReadsTo began.start began.tape tape began.counts counts)
     ends-here None h = tt
     ends-here (Some m) h =
-        let w = come.within in
-        let c = come.calls in
+        let w = come.read.within in
+        let c = come.read.calls in
         record { place = omega arith; calls = omega arith }
 
     pub searched : (r : Option Occurrence) → r ≡ pick order q → at ≤ began.end → r ≡ pick order (up_to at)
         → (order ≡ Standard → IfSome r (λ m. m.end ≡ at))
         → (counts.calls ≡ began.counts.calls → IsDecided built.kind order q r tape.place)
-        → HasSearched most built.kind order q r began.tape tape began.counts counts
+        → HasSearched most filters built.kind order q r began.tape tape began.counts counts
     searched r answer up picked ends decided =
         record {
           answer = answer;
@@ -163,11 +155,11 @@ module _ (built : Built) (anchored : Anchored) (earliest : Bool) (began : Beginn
         }
 
   -- a find that stops at the first match has read enough where its start state has one
-  pub searched-first : {stands : ℕ → Node → Type 0} {most state : ℕ}
-      → HasCome stands most built anchored began state began.start began.tape began.counts
+  pub searched-first : {stands : ℕ → Node → Type 0} {most : ℕ} {filters : Bool} {state : ℕ}
+      → HasCome stands most filters built anchored began state began.start began.tape began.counts
       → (r : Option Occurrence) → is_some r ≡ true → order ≡ Standard → began.start ≤ began.end
       → r ≡ pick order (up_to began.start)
-      → HasSearched most built.kind order q r began.tape began.tape began.counts began.counts
+      → HasSearched most filters built.kind order q r began.tape began.tape began.counts began.counts
   searched-first come None some standard ordered picked = absurd (cc)
   searched-first come (Some m) some standard ordered picked =
       searched come (Some m) (picked-final began.start m ordered standard picked) ordered picked

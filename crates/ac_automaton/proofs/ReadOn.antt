@@ -1,6 +1,6 @@
 -- A search that reads byte by byte: where its automaton stands with one byte more, what it has read and looked at,
 -- and that each look is paid for.
-use Rattle.std.proofs.Common.{◌≡◌, ◌≢◌, ◌⊎◌, ℕ, ◌+◌, ◌-◌, ◌<◌, ◌≤◌, true, false, cond, List, [], length, slice_index, inl, inr, refl, ap, sym, subst, ◌∙◌, arith, Bool, Some, None}
+use Rattle.std.proofs.Common.{◌≡◌, ◌≢◌, ◌⊎◌, ℕ, ◌+◌, ◌-◌, ◌*◌, ◌<◌, ◌≤◌, true, false, cond, List, [], length, slice_index, inl, inr, refl, ap, sym, subst, ◌∙◌, arith, Bool, Some, None}
 use Rattle.std.specs.Prelude.{◌==◌, if◌then◌else◌}
 use Rattle.std.proofs.lemmas.Bool.{cases_lt}
 use Rattle.ac_util.specs.declared.search.Anchored.{Anchored}
@@ -9,6 +9,7 @@ use Rattle.ac_util.specs.Built.{Built}
 use Rattle.ac_util.specs.Counts.{Counts, Taped, one_more_read, more_looks}
 use Rattle.ac_util.specs.Looks.{credit}
 use Rattle.ac_util.specs.Node.{Node, depth, is_node, reached}
+use Rattle.ac_util.specs.Prefilters.{may_skip}
 use Rattle.ac_util.specs.Sameness.{plain_byte}
 use Rattle.ac_util.specs.Search.{Search}
 use Rattle.ac_util.specs.Text.{text}
@@ -47,6 +48,22 @@ depth-node u false some = absurd (some refl)
 depth-most : (u : List ℕ) (t : Bool) → depth (cond t (Some u) None) ≤ length u
 depth-most u true = omega arith
 depth-most u false = omega arith
+
+-- a search that has read nothing
+pub read-nothing : (most : ℕ) (skips : Bool) (start end : ℕ) (tape : Taped) (counts : Counts)
+    → tape.place ≤ start → HasRead most skips start end tape tape counts counts
+read-nothing most skips start end tape counts unread = record {
+  bytes = refl;
+  onward = omega arith;
+  within = omega arith;
+  grows = record { reads = omega arith; looks = omega arith; calls = omega arith };
+  told = λ moved. omega arith;
+  whole = λ _. omega arith;
+  reads = omega arith;
+  looks = omega arith;
+  calls = omega arith;
+  quiet = λ _. refl;
+}
 
 module _ (built : Built) (anchored : Anchored) (began : Beginning) where
   -- what is searched, and the bytes of the tape
@@ -94,10 +111,10 @@ module _ (built : Built) (anchored : Anchored) (began : Beginning) where
           depth-node (text (record q { high = at })) (is_node built.kind (plain_of built) (text (record q { high = at }))) some ∙ size
 
   -- the automaton has come to the start of the span: nothing was read
-  pub come-start : (stands : ℕ → Node → Type 0) (most state : ℕ) → stands state (Some [])
+  pub come-start : (stands : ℕ → Node → Type 0) (most : ℕ) (filters : Bool) (state : ℕ) → stands state (Some [])
       → began.tape.place ≤ began.start → began.start ≤ length bytes
-      → HasCome stands most built anchored began state began.start began.tape began.counts
-  come-start stands most state there unread room =
+      → HasCome stands most filters built anchored began state began.start began.tape began.counts
+  come-start stands most filters state there unread room =
       let worthless = ap (credit (most_looks anchored most)) node-start ∙ credit-nil (most_looks anchored most) in
       record {
         there = subst (stands state) (sym node-start) there;
@@ -105,32 +122,28 @@ module _ (built : Built) (anchored : Anchored) (began : Beginning) where
         inside = room;
         alive = λ k from below. absurd (omega arith);
         unread = unread;
-        bytes = refl;
-        further = omega arith;
-        within = unread;
-        grows = record { reads = omega arith; looks = omega arith; calls = omega arith };
-        told = λ moved. omega arith;
+        read = read-nothing (most_looks anchored most) (may_skip filters q) began.start began.start began.tape
+            began.counts unread;
         whole = λ _. omega arith;
         counted = λ _. omega arith;
-        reads = omega arith;
         paid = rw worthless (omega arith);
-        calls = omega arith;
       }
 
-  module _ {stands : ℕ → Node → Type 0} {most state at : ℕ} {tape : Taped} {counts : Counts}
-      (come : HasCome stands most built anchored began state at tape counts) where
+  module _ {stands : ℕ → Node → Type 0} {most : ℕ} {filters : Bool} {state at : ℕ} {tape : Taped} {counts : Counts}
+      (come : HasCome stands most filters built anchored began state at tape counts) where
     -- it comes one place further by reading a byte and following it
     pub come-next : {next byte : ℕ} {new_tape : Taped} {read new_counts : Counts} → (most ≡ 1) ⊎ (most ≡ 2)
         → byte ≡ slice_index tape.bytes at → at < length tape.bytes
         → new_tape ≡ record { bytes = tape.bytes; place = at + 1 } → read ≡ one_more_read counts
         → new_counts ≡ more_looks (looks_of most built anchored (node_at built.kind q at) byte) read
         → stands next (step_of built anchored (node_at built.kind q at) byte) → node_at built.kind q at ≢ None
-        → HasCome stands most built anchored began next (at + 1) new_tape new_counts
+        → HasCome stands most filters built anchored began next (at + 1) new_tape new_counts
     come-next {next} {byte} {new_tape} {read} {new_counts} one_or_two is room place counted looked there living =
         let node = node_at built.kind q at in
-        let inside : at < length bytes = omega (arith, ap length come.bytes) in
+        let so_far = come.read in
+        let inside : at < length bytes = omega (arith, ap length so_far.bytes) in
         let moved = node-step at byte come.onward inside
-        (is ∙ ap (λ (bs : List ℕ). slice_index bs at) come.bytes) in
+        (is ∙ ap (λ (bs : List ℕ). slice_index bs at) so_far.bytes) in
         let paid = subst (λ (v : Node). looks_of most built anchored node byte
         + credit (most_looks anchored most) v
         ≤ credit (most_looks anchored most) node + most_looks anchored most) moved
@@ -141,8 +154,12 @@ module _ (built : Built) (anchored : Anchored) (began : Beginning) where
         let looks = ap (λ (c : Counts). c.looks) looked in
         let before = ap (λ (c : Counts). c.looks) counted in
         let calls = ap (λ (c : Counts). c.calls) looked ∙ ap (λ (c : Counts). c.calls) counted in
-        let grows = come.grows in
+        let grows = so_far.grows in
         let one : new_counts.reads - began.counts.reads ≡ (counts.reads - began.counts.reads) + 1 = omega arith in
+        let paid_now : new_counts.looks
+        + credit (most_looks anchored most) (node_at built.kind q (at + 1))
+        ≤ began.counts.looks + most_looks anchored most * (new_counts.reads - began.counts.reads) =
+        rw one (omega arith) in
         record {
           there = subst (stands next) moved there;
           onward = omega arith;
@@ -150,34 +167,42 @@ module _ (built : Built) (anchored : Anchored) (began : Beginning) where
           alive = λ k from below. below_next at (λ n. began.start ≤ n → node_at built.kind q n ≢ None)
               (λ n up low. come.alive n low up) (λ _. living) k below from;
           unread = come.unread;
-          bytes = ap (λ (t : Taped). t.bytes) place ∙ come.bytes;
-          further = omega arith;
-          within = omega arith;
-          grows = record { reads = omega arith; looks = omega arith; calls = omega arith };
-          told = λ _. omega arith;
+          read = record {
+            bytes = ap (λ (t : Taped). t.bytes) place ∙ so_far.bytes;
+            onward = omega arith;
+            within = omega arith;
+            grows = record { reads = omega arith; looks = omega arith; calls = omega arith };
+            told = λ _. omega arith;
+            whole = λ same. let c = come.counted (omega arith) in omega arith;
+            reads = omega arith;
+            looks = omega arith;
+            calls = omega arith;
+            quiet = λ none. let s = so_far.quiet none in omega arith;
+          };
           whole = λ same. omega arith;
           counted = λ same. let c = come.counted (omega arith) in omega arith;
-          reads = omega arith;
-          paid = rw one (omega arith);
-          calls = omega arith;
+          paid = paid_now;
         }
 
     -- what a search has done that has come to a place of its span
     pub read-come : at ≤ began.end
-        → HasRead (most_looks anchored most) began.start began.end began.tape tape began.counts counts
+        → HasRead (most_looks anchored most) (may_skip filters q) began.start began.end began.tape tape
+        began.counts counts
     read-come up =
-        let grows = come.grows in record {
-          bytes = come.bytes;
-          onward = come.further;
+        let read = come.read in record {
+          bytes = read.bytes;
+          onward = read.onward;
           within = omega arith;
-          grows = come.grows;
-          told = come.told;
-          whole = λ same. let c = come.counted same in omega arith;
-          reads = come.reads;
-          looks = omega arith;
+          grows = read.grows;
+          told = read.told;
+          whole = read.whole;
+          reads = read.reads;
+          looks = read.looks;
           calls = omega arith;
+          quiet = read.quiet;
         }
 
     -- and it has read nothing from the dead node on
     pub dead-come : StopsAtDead built.kind q tape.place
-    dead-come = λ k from below. come.alive k from (omega arith)
+    dead-come = λ k from below. let w = come.read.within in let u = come.unread in
+        come.alive k from (omega arith)

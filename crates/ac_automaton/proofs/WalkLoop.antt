@@ -1,5 +1,5 @@
 -- A walk that finds match after match: what it has read and counted.
-use Rattle.std.proofs.Common.{◌≡◌, ℕ, zero, suc, ◌+◌, ◌-◌, ◌*◌, ◌<◌, ◌≤◌, Bool, true, false, List, [], ◌∷◌, length, refl, ap, sym, subst, arith, Option, Some, None}
+use Rattle.std.proofs.Common.{◌≡◌, ℕ, zero, suc, ◌+◌, ◌-◌, ◌*◌, ◌<◌, ◌≤◌, Bool, true, false, List, [], ◌∷◌, length, refl, ap, sym, subst, ◌∙◌, arith, Option, Some, None}
 use Rattle.std.specs.Prelude.{IfSome, MatchBool, MatchOption, ◌==◌}
 use Rattle.std.proofs.lemmas.Bool.{and_parts, eqb-true}
 use Rattle.ac_util.specs.declared.search.MatchKind.{MatchKind}
@@ -101,9 +101,9 @@ kept-standard : (order : MatchKind) (place : ℕ) → order ≡ Standard → kep
 kept-standard order place standard = ap (λ (k : MatchKind). kept_place k place) standard
 
 -- under Standard a find that repeats has read nothing of what is left
-pub unread-repeated : {most : ℕ} {kind order : MatchKind} {q : Search} {r : Option Occurrence}
+pub unread-repeated : {most : ℕ} {filters : Bool} {kind order : MatchKind} {q : Search} {r : Option Occurrence}
     {place new_place : ℕ} {counts new_counts : Counts} (last : Option ℕ)
-    → HasSearched most kind order q r (record { bytes = q.haystack; place = kept_place order place })
+    → HasSearched most filters kind order q r (record { bytes = q.haystack; place = kept_place order place })
     (record { bytes = q.haystack; place = new_place }) counts new_counts
     → IfSome last (λ e. e ≤ q.low) → repeats r last ≡ true → order ≡ Standard → place ≤ q.low
     → new_place ≤ q.low
@@ -115,14 +115,15 @@ unread-repeated {order = order} {q = q} {r = Some m} {place = place} last found 
     omega arith
 
 -- a walk that begins is under way
-pub under_way-begun : (most : ℕ) (built : Built) (asked : Asked) → asked.start ≤ asked.end + 1
-    → IsUnderWay (begun most built asked)
-under_way-begun most built asked legal = record {
+pub under_way-begun : (most : ℕ) (built : Built) (filters : Bool) (asked : Asked) → asked.start ≤ asked.end + 1
+    → IsUnderWay (begun most built filters asked)
+under_way-begun most built filters asked legal = record {
   paid = record {
     looked = omega arith;
     looks = omega arith;
     reads = λ _. omega arith;
     calls = λ _. omega arith;
+    quiet = λ _. refl;
     told = λ _ _. tt;
   };
   onward = omega arith;
@@ -177,6 +178,7 @@ module _ (walking : Walking) (way : IsUnderWay walking) (place : ℕ) (counts : 
             reads = λ standard. let u = way.unread standard in let r = way.reads standard in
                 let k = kept standard in omega arith;
             calls = λ standard. let c = way.called standard in omega arith;
+            quiet = λ none. read.quiet none ∙ paid.quiet none;
             told = λ none some. if-raised walking.last walking.start walking.counts.reads counts.reads
                 grows.reads (paid.told (omega arith) some);
           };
@@ -209,6 +211,7 @@ module _ (walking : Walking) (way : IsUnderWay walking) (place : ℕ) (counts : 
             reads = λ standard. let u = way.unread standard in let r = way.reads standard in
                 let k = kept standard in omega arith;
             calls = λ standard. let c = way.called standard in let s = (found.stops standard).calls in omega arith;
+            quiet = λ none. read.quiet none ∙ paid.quiet none;
             told = covers;
           };
           onward = omega arith;
@@ -241,6 +244,7 @@ module _ (walking : Walking) (way : IsUnderWay walking) where
           looks = there.paid.looks;
           reads = there.paid.reads;
           calls = there.paid.calls;
+          quiet = there.paid.quiet;
           told = λ _ some. absurd (omega arith);
         };
         onward = omega arith;

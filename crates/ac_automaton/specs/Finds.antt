@@ -10,6 +10,7 @@ use Rattle.ac_util.specs.Asked.{Asked}
 use Rattle.ac_util.specs.Node.{Node, depth}
 use Rattle.ac_util.specs.Occurrence.{Occurrence, occurrence}
 use Rattle.ac_util.specs.Pick.{pick}
+use Rattle.ac_util.specs.Prefilters.{may_skip}
 use Rattle.ac_util.specs.Search.{Search, pattern_of}
 use Rattle.ac_automaton.specs.Automata.{matches_of}
 use Rattle.ac_automaton.specs.Progress.{HasRead, StopsAtDead, most_looks, node_at}
@@ -45,11 +46,11 @@ IsDecided kind order q found place =
 -- a find over an automaton of this kind, which picks by this order, has answered: what it has done to its tape
 -- and its counts. One that stops at the first match has read nothing past its end, and none has read from the
 -- dead node on; and unless it called the prefilter it has read enough
-pub record HasSearched (most : ℕ) (kind order : MatchKind) (q : Search) (found : Option Occurrence)
-    (tape new_tape : Taped)
+pub record HasSearched (most : ℕ) (filters : Bool) (kind order : MatchKind) (q : Search)
+    (found : Option Occurrence) (tape new_tape : Taped)
     (counts new_counts : Counts) : Type 0 where
   pub answer : found ≡ pick order q
-  pub read : HasRead (most_looks q.anchored most) q.low q.high tape new_tape counts new_counts
+  pub read : HasRead (most_looks q.anchored most) (may_skip filters q) q.low q.high tape new_tape counts new_counts
   pub tells : IfSome found (Tells q.low new_tape counts new_counts)
   pub stops : order ≡ Standard → IfSome found (ReadsTo q.low tape new_tape counts new_counts)
   pub dead : StopsAtDead kind q new_tape.place

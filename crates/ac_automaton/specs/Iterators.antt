@@ -1,5 +1,5 @@
 -- What is seen of an iterator over matches.
-use Rattle.std.specs.Prelude.{◌≡◌, ℕ, ◌+◌, ◌-◌, ◌*◌, ◌<◌, ◌≤◌, MatchBool, List, Option, None, Some, IfSome, min}
+use Rattle.std.specs.Prelude.{◌≡◌, ℕ, ◌+◌, ◌-◌, ◌*◌, ◌<◌, ◌≤◌, Bool, false, MatchBool, List, Option, None, Some, IfSome, min}
 use Rattle.std.specs.Iterator.{YieldsFirst}
 use Rattle.ac_util.specs.declared.search.MatchKind.{MatchKind}
 use Rattle.ac_util.specs.declared.search.MatchKind.TheVariants.{Standard, LeftmostFirst, LeftmostLongest}
@@ -11,13 +11,15 @@ use Rattle.ac_util.specs.Sizes.{shortest_len}
 use Rattle.ac_util.specs.Walk.{next_match, repeats, walk_after}
 use Rattle.ac_util.specs.Asked.{Asked}
 use Rattle.ac_util.specs.Pick.{pick}
+use Rattle.ac_util.specs.Prefilters.{may_skip}
 use Rattle.ac_automaton.specs.Finders.{Finding, finding_of}
 use Rattle.ac_automaton.specs.Finds.{HasSearched}
 use Rattle.ac_automaton.specs.Progress.{most_looks}
 
 -- the matches still to come; the kind of the automaton, and the order by which matches are picked; the search
 -- that is left, and where the match before it ended, if there was one; where the whole span began; up to which
--- place the tape was read; what was counted; and how many looks are allowed for each byte
+-- place the tape was read; what was counted; and how many looks are allowed for each byte, and whether the
+-- automaton was built to have a prefilter
 pub record Walking : Type 0 where
   pub rest : List Occurrence
   pub kind : MatchKind
@@ -28,6 +30,7 @@ pub record Walking : Type 0 where
   pub place : ℕ
   pub counts : Counts
   pub most : ℕ
+  pub filters : Bool
 
 -- a walk over an automaton, which has come to this input after a match that ended at `last`
 abbrev pub walking_of : ℕ → Finding → Asked → Option ℕ → ℕ → ℕ → Counts → Walking
@@ -41,11 +44,13 @@ walking_of most finding asked last start place counts = record {
   place = place;
   counts = counts;
   most = most;
+  filters = finding.filters;
 }
 
 -- a walk that begins: all its matches are still to come
-abbrev pub begun : ℕ → Built → Asked → Walking
-begun most built asked = walking_of most (finding_of built asked) asked None asked.start 0 no_counts
+abbrev pub begun : ℕ → Built → Bool → Asked → Walking
+begun most built filters asked =
+    walking_of most (finding_of built filters asked) asked None asked.start 0 no_counts
 
 -- where a walk in a span with this end goes on once a find has answered: at the end of the match, or past that of
 -- the span
@@ -68,7 +73,7 @@ kept_place LeftmostLongest place = 0
 -- a find of a walk in a span has answered, and left its tape at a place with these counts
 abbrev pub HasFound : Walking → Search → Option Occurrence → ℕ → Counts → ℕ → Counts → Type 0
 HasFound walking q found place counts new_place new_counts =
-    HasSearched walking.most walking.kind walking.order q found
+    HasSearched walking.most walking.filters walking.kind walking.order q found
     (record { bytes = q.haystack; place = kept_place walking.order place })
     (record { bytes = q.haystack; place = new_place }) counts new_counts
 
@@ -86,13 +91,15 @@ Finds walking new_place new_counts =
 
 -- what a walk has counted since it was made: for each byte read it has looked at states at least once and at
 -- most `most` times on the whole, or where it is anchored exactly once; under Standard it has read each byte of
--- the span at most once and called the prefilter at most so often; and unless it called the prefilter, or some
--- pattern is empty, it has read each byte as far as the end of its last match
+-- the span at most once and called the prefilter at most so often; where it may not skip it has called no
+-- prefilter; and unless it called one, or some pattern is empty, it has read each byte as far as the end of its
+-- last match
 pub record IsPaid (walking : Walking) : Type 0 where
   pub looked : walking.counts.reads ≤ walking.counts.looks
   pub looks : walking.counts.looks ≤ most_looks walking.left.anchored walking.most * walking.counts.reads
   pub reads : walking.order ≡ Standard → walking.counts.reads ≤ walking.left.high - walking.start
   pub calls : walking.order ≡ Standard → walking.counts.calls ≤ walking.left.high - walking.start
+  pub quiet : may_skip walking.filters walking.left ≡ false → walking.counts.calls ≡ 0
   pub told : walking.counts.calls ≡ 0 → 0 < shortest_len walking.left.patterns
       → IfSome walking.last (λ e. e - walking.start ≤ walking.counts.reads)
 

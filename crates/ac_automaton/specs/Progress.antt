@@ -1,6 +1,6 @@
 -- What a search that reads byte by byte has done: where its automaton stands, what it has read of its tape, and
 -- what it has counted.
-use Rattle.std.specs.Prelude.{◌≡◌, ◌≢◌, ℕ, ◌+◌, ◌-◌, ◌*◌, ◌<◌, ◌≤◌, List, None, length, max}
+use Rattle.std.specs.Prelude.{◌≡◌, ◌≢◌, ℕ, ◌+◌, ◌-◌, ◌*◌, ◌<◌, ◌≤◌, Bool, false, List, None, length, max}
 use Rattle.ac_util.specs.declared.search.Anchored.{Anchored}
 use Rattle.ac_util.specs.declared.search.Anchored.TheVariants.{No, Yes}
 use Rattle.ac_util.specs.declared.search.MatchKind.{MatchKind}
@@ -8,6 +8,7 @@ use Rattle.ac_util.specs.Built.{Built}
 use Rattle.ac_util.specs.Counts.{Counts, Taped}
 use Rattle.ac_util.specs.Looks.{credit}
 use Rattle.ac_util.specs.Node.{Node, reached}
+use Rattle.ac_util.specs.Prefilters.{may_skip}
 use Rattle.ac_util.specs.Search.{Search}
 use Rattle.ac_util.specs.Text.{plain_patterns, text}
 
@@ -45,8 +46,9 @@ pub record Grows (counts new_counts : Counts) : Type 0 where
 -- a search of start..end has read on from the start, each byte once and none past the end, and has counted that
 -- it did: each byte that it passed over, unless it called the prefilter; it has looked at states at least once
 -- and at most `most` times for each byte read, and has called the prefilter at most once for each byte of the
--- span
-pub record HasRead (most start end : ℕ) (tape new_tape : Taped) (counts new_counts : Counts) : Type 0 where
+-- span, and not at all where it may not skip
+pub record HasRead (most : ℕ) (skips : Bool) (start end : ℕ) (tape new_tape : Taped)
+    (counts new_counts : Counts) : Type 0 where
   pub bytes : new_tape.bytes ≡ tape.bytes
   pub onward : tape.place ≤ new_tape.place
   pub within : new_tape.place ≤ max tape.place end
@@ -56,6 +58,7 @@ pub record HasRead (most start end : ℕ) (tape new_tape : Taped) (counts new_co
   pub reads : new_counts.reads ≤ counts.reads + (new_tape.place - start)
   pub looks : new_counts.looks ≤ counts.looks + most * (new_counts.reads - counts.reads)
   pub calls : new_counts.calls ≤ counts.calls + (end - start)
+  pub quiet : skips ≡ false → new_counts.calls ≡ counts.calls
 
 -- how a search began: the span, and the tape and the counts that it was handed
 pub record Beginning : Type 0 where
@@ -68,10 +71,11 @@ pub record Beginning : Type 0 where
 abbrev pub span_of : Built → Anchored → Beginning → Search
 span_of built anchored began = search_of built anchored began.tape.bytes began.start began.end
 
--- an automaton that reads a span has come to a place: it stands there at the node reached, by bytes each of
--- which it has read once, or passed over by the prefilter, and none from the dead node; and each look is paid
--- for, by the bytes read and what the node's length is worth
-pub record HasCome (stands : ℕ → Node → Type 0) (most : ℕ) (built : Built) (anchored : Anchored)
+-- an automaton that reads a span has come to a place: it has read the span so far and stands there at the node
+-- reached, by bytes each of which it has read, or passed over by the prefilter, and none from the dead node; and
+-- each look is paid for, by the bytes read and what the node's length is worth
+pub record HasCome (stands : ℕ → Node → Type 0) (most : ℕ) (filters : Bool) (built : Built)
+    (anchored : Anchored)
     (began : Beginning) (state at : ℕ) (tape : Taped)
     (counts : Counts) : Type 0 where
   pub there : stands state (node_at built.kind (span_of built anchored began) at)
@@ -79,14 +83,9 @@ pub record HasCome (stands : ℕ → Node → Type 0) (most : ℕ) (built : Buil
   pub inside : at ≤ length began.tape.bytes
   pub alive : StopsAtDead built.kind (span_of built anchored began) at
   pub unread : began.tape.place ≤ began.start
-  pub bytes : tape.bytes ≡ began.tape.bytes
-  pub further : began.tape.place ≤ tape.place
-  pub within : tape.place ≤ at
-  pub grows : Grows began.counts counts
-  pub told : began.tape.place < tape.place → began.counts.reads < counts.reads
+  pub read : HasRead (most_looks anchored most) (may_skip filters (span_of built anchored began)) began.start at
+      began.tape tape began.counts counts
   pub whole : counts.calls ≡ began.counts.calls → at ≤ max began.start tape.place
   pub counted : counts.calls ≡ began.counts.calls → began.counts.reads + (at - began.start) ≤ counts.reads
-  pub reads : counts.reads ≤ began.counts.reads + (tape.place - began.start)
   pub paid : counts.looks + credit (most_looks anchored most) (node_at built.kind (span_of built anchored began) at)
       ≤ began.counts.looks + most_looks anchored most * (counts.reads - began.counts.reads)
-  pub calls : counts.calls ≤ began.counts.calls + (at - began.start)

@@ -171,7 +171,7 @@ pub trait Automaton {
     where
         Self: Sized,
         ensures begun { AnswersUnless (find_refusal (built self.now) (asked input.entry))
-            (begun LOOKS (built self.now) (asked input.entry)) result }
+            (begun LOOKS (built self.now) (filters self.now) (asked input.entry)) result }
         ensures runs { YieldsInOrder GoesOn (λ w. w.rest) }
     {
         FindIter::new(self, input)

@@ -1,5 +1,5 @@
 -- What the engine of a searcher, and the iterator of an engine, is seen as.
-use Rattle.std.specs.Prelude.{◌≡◌, ◌⊎◌}
+use Rattle.std.specs.Prelude.{◌≡◌, ◌⊎◌, Bool, false}
 use Rattle.ac_util.specs.declared.search.StartKind.{StartKind}
 use Rattle.ac_util.specs.declared.search.StartKind.TheVariants.{Both}
 use Rattle.ac_util.specs.Built.{Built}
@@ -12,17 +12,23 @@ use Rattle.ac_search.specs.declared.ahocorasick.engine.EngineFindIter.{EngineFin
 use Rattle.ac_search.specs.declared.ahocorasick.engine.EngineFindIter.TheVariants.{Noncontiguous as ByNoncontiguous}
 use Rattle.ac_search.specs.Searchers.{Searcher}
 
--- what an engine was built from, and its name
+-- what an engine was built from, whether to have a prefilter, and its name
 abbrev pub built_of : {Z : Type 0} → Engine Z → Built
 built_of (Noncontiguous nfa) = nfa.value.built
+
+abbrev pub filters_of : {Z : Type 0} → Engine Z → Bool
+filters_of (Noncontiguous nfa) = false
 
 abbrev pub name_of : {Z : Type 0} → Engine Z → AhoCorasickKind
 name_of (Noncontiguous nfa) = NoncontiguousNFA
 
 -- an engine with the start kind of its searcher
 abbrev pub searcher_of : {Z : Type 0} → Engine Z → StartKind → Searcher
-searcher_of engine start_kind =
-    record { built = record (built_of engine) { start_kind = start_kind }; kind = name_of engine }
+searcher_of engine start_kind = record {
+  built = record (built_of engine) { start_kind = start_kind };
+  filters = filters_of engine;
+  kind = name_of engine;
+}
 
 -- the engine has the starts that its searcher supports: both, or just these
 abbrev pub Supports : {Z : Type 0} → Engine Z → StartKind → Type 0

@@ -1,5 +1,5 @@
--- What is seen of a searcher: what it was built from, and the name of its engine. No answer of a search hangs
--- on the name.
+-- What is seen of a searcher: what it was built from, whether to have a prefilter, and the name of its engine. No
+-- answer of a search hangs on the last two.
 use Rattle.std.specs.Prelude.{◌≡◌, ℕ, Bool, false, List, Option, None, unwrap_or}
 use Rattle.ac_util.specs.declared.search.MatchKind.{MatchKind}
 use Rattle.ac_util.specs.declared.search.MatchKind.TheVariants.{Standard}
@@ -12,6 +12,7 @@ use Rattle.ac_search.specs.declared.ahocorasick.choice.AhoCorasickKind.TheVarian
 
 pub record Searcher : Type 0 where
   pub built : Built
+  pub filters : Bool
   pub kind : AhoCorasickKind
 
 -- what a builder of searchers was told
@@ -51,8 +52,10 @@ built_by settings patterns = record {
   start_kind = settings.start_kind;
 }
 
--- a build by these settings has succeeded: the searcher is over these patterns, and no limit refused it
+-- a build by these settings has succeeded: the searcher is over these patterns, and no limit refused it. No engine
+-- has a prefilter yet
 pub record IsBuilt (settings : Settings) (patterns : List (List ℕ)) (searcher : Searcher) : Type 0 where
   pub built : searcher.built ≡ built_by settings patterns
+  pub filters : searcher.filters ≡ false
   pub kind : searcher.kind ≡ chosen settings.kind
   pub allowed : IsAllowed (rules_for settings) (engine_settings settings) patterns

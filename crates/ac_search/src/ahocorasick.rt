@@ -149,7 +149,8 @@ impl<A: Allocator> AhoCorasick<A> {
     #[inline]
     pub fn find_iter<'a, 'h>(&'a self, input: Input<'h>) -> FindIter<'a, 'h, A>
         requires supported { find_refusal self.now.built (asked input) ≡ None }
-        ensures begun { result ≡ begun (looks_allowed self.now.kind) self.now.built (asked input.entry) }
+        ensures begun { result
+            ≡ begun (looks_allowed self.now.kind) self.now.built self.now.filters (asked input.entry) }
         ensures runs { YieldsInOrder GoesOn (λ w. w.rest) }
     {
         let Ok(matches) = self.try_find_iter(input) else {
@@ -182,7 +183,7 @@ impl<A: Allocator> AhoCorasick<A> {
         input: Input<'h>,
     ) -> Result<FindIter<'a, 'h, A>, MatchError>
         ensures begun { AnswersUnless (find_refusal self.now.built (asked input.entry))
-            (begun (looks_allowed self.now.kind) self.now.built (asked input.entry)) result }
+            (begun (looks_allowed self.now.kind) self.now.built self.now.filters (asked input.entry)) result }
         ensures runs { YieldsInOrder GoesOn (λ w. w.rest) }
     {
         check_start(self.start_kind(), input.get_anchored())?;

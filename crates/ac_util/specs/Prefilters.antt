@@ -1,9 +1,12 @@
 -- How a search may skip ahead to where a match can start, and what it is told of what it skips.
 use Rattle.std.specs.Prelude.{◌≡◌, ℕ, ◌≤◌, Bool, false, ◌&&◌, nat_le, not, List, [], ◌∷◌, length, filter, Option, None, Some, if◌then◌else◌}
 use Rattle.std.specs.List.{list_any, range_with_len}
+use Rattle.std.specs.Option.{is_some}
 use Rattle.ac_util.specs.declared.prefilter.Candidate.{Candidate}
 use Rattle.ac_util.specs.declared.prefilter.Candidate.TheVariants.{None as Nothing, Match as Found, PossibleStart}
 use Rattle.ac_util.specs.declared.prefilter.Prefilter.{Prefilter}
+use Rattle.ac_util.specs.declared.search.Anchored.{Anchored}
+use Rattle.ac_util.specs.declared.search.Anchored.TheVariants.{No, Yes}
 use Rattle.ac_util.specs.declared.search.MatchKind.{MatchKind}
 use Rattle.ac_util.specs.Node.{is_empty}
 use Rattle.ac_util.specs.Occurrence.{Occurrence}
@@ -50,6 +53,15 @@ skip_among fold (p ∷ ps) = skip_by_bytes fold (p ∷ ps)
 -- start anywhere
 abbrev pub skip_for : Bool → Bool → List (List ℕ) → Option Skip
 skip_for on fold patterns = if on && not (list_any is_empty patterns) then skip_among fold patterns else None
+
+-- whether a search may call a prefilter, where the setting is on or off: there is one for its patterns, and a
+-- match may start anywhere
+abbrev pub may_skip : Bool → Search → Bool
+may_skip on q = skips_in q.anchored (is_some (skip_for on q.fold q.patterns))
+  where
+    skips_in : Anchored → Bool → Bool
+    skips_in No some = some
+    skips_in Yes some = false
 
 -- how a prefilter skips; there is no prefilter yet
 abbrev pub skip_of : Prefilter → Skip

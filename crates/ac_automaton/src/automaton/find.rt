@@ -43,7 +43,7 @@ pub fn find_core<A: Automaton>(
     requires unread { tape.old.place ≤ start }
     ensures pick { result ≡ found (A.built automaton.now)
         (asked_of tape.old.bytes start end anchored earliest) }
-    ensures searched { HasSearched A.LOOKS (A.built automaton.now).kind
+    ensures searched { HasSearched A.LOOKS (A.filters automaton.now) (A.built automaton.now).kind
         (order_of (A.built automaton.now).kind earliest)
         (search_in (A.built automaton.now) (asked_of tape.old.bytes start end anchored earliest)) result
         tape.old tape.new looks.old looks.new }
@@ -89,6 +89,7 @@ impl<'a, A: Automaton> Model for Finder<'a, A> {
 
     ghost view = { λ f. record {
       built = A.built f.automaton.now;
+      filters = A.filters f.automaton.now;
       anchored = f.anchored;
       order = if f.stops then Standard else (A.built f.automaton.now).kind;
     } };
@@ -114,6 +115,7 @@ impl<'a, A: Automaton> Finder<'a, A> {
             (λ finder. (start_refusal (A.built automaton.now).start_kind anchored ≡ None)
             × (finder ≡ record {
               built = A.built automaton.now;
+              filters = A.filters automaton.now;
               anchored = anchored;
               order = order_of (A.built automaton.now).kind earliest;
             }))
@@ -149,7 +151,7 @@ impl<'a, A: Automaton> Finder<'a, A> {
         requires end_within { end ≤ length tape.old.bytes }
         requires start_within { start ≤ end + 1 }
         requires unread { tape.old.place ≤ start }
-        ensures { HasSearched A.LOOKS self.now.built.kind self.now.order
+        ensures { HasSearched A.LOOKS self.now.filters self.now.built.kind self.now.order
             (search_of self.now.built self.now.anchored tape.old.bytes start end) result
             tape.old tape.new looks.old looks.new }
     {

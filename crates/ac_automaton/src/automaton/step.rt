@@ -27,13 +27,13 @@ pub(super) fn read_byte<A: Automaton>(
     looks: &mut Looks,
 ) -> StateID
     requires come { (began : Beginning) × HasCome (A.stands automaton.now anchored) A.LOOKS
-        (A.built automaton.now) anchored began cursor.state cursor.at tape.old looks.old }
+        (A.filters automaton.now) (A.built automaton.now) anchored began cursor.state cursor.at tape.old looks.old }
     requires inside { cursor.at < length tape.old.bytes }
     ensures { (began : Beginning) → HasCome (A.stands automaton.now anchored) A.LOOKS
-        (A.built automaton.now) anchored began cursor.state cursor.at tape.old looks.old
+        (A.filters automaton.now) (A.built automaton.now) anchored began cursor.state cursor.at tape.old looks.old
         → node_at (A.built automaton.now).kind (span_of (A.built automaton.now) anchored began) cursor.at ≢ None
         → HasCome (A.stands automaton.now anchored) A.LOOKS
-        (A.built automaton.now) anchored began result (cursor.at + 1) tape.new looks.new }
+        (A.filters automaton.now) (A.built automaton.now) anchored began result (cursor.at + 1) tape.new looks.new }
 {
     let byte = tape.read(cursor.at, looks);
     automaton.next_state(anchored, cursor.state, byte, looks)

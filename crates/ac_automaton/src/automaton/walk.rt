@@ -60,7 +60,7 @@ impl<'a, 'h, A: Automaton> FindIter<'a, 'h, A> {
     #[inline]
     pub(super) fn new(automaton: &'a A, input: Input<'h>) -> Result<FindIter<'a, 'h, A>, MatchError>
         ensures { AnswersUnless (find_refusal (A.built automaton.now) (asked input.entry))
-            (begun A.LOOKS (A.built automaton.now) (asked input.entry)) result }
+            (begun A.LOOKS (A.built automaton.now) (A.filters automaton.now) (asked input.entry)) result }
     {
         let finder = Finder::new(automaton, input.get_anchored(), input.get_earliest())?;
         let (tape, looks) = open(&input);
@@ -157,7 +157,7 @@ fn find_left<'h, A: Automaton>(
     requires unread { finder.now.order ≡ Standard → tape.old.place ≤ (asked input.now).start }
     ensures pick { result ≡ pick finder.now.order (search_in finder.now.built (asked input.now)) }
     ensures bytes { tape.new.bytes ≡ (asked input.now).haystack }
-    ensures found { HasSearched A.LOOKS finder.now.built.kind finder.now.order
+    ensures found { HasSearched A.LOOKS finder.now.filters finder.now.built.kind finder.now.order
         (search_in finder.now.built (asked input.now)) result
         (record { bytes = (asked input.now).haystack; place = kept_place finder.now.order tape.old.place })
         (record { bytes = (asked input.now).haystack; place = tape.new.place }) looks.old looks.new }

@@ -5,7 +5,7 @@ ghost use Rattle.ac_util.specs.Inputs.{asked};
 ghost use Rattle.ac_util.specs.Refusal.{AnswersUnless};
 ghost use Rattle.ac_util.specs.Sizes.{longest_len, shortest_len};
 ghost use Rattle.ac_automaton.specs.Iterators.{GoesOn, begun};
-ghost use Rattle.ac_search.specs.Engines.{built_of, name_of, walking_in};
+ghost use Rattle.ac_search.specs.Engines.{built_of, filters_of, name_of, walking_in};
 ghost use Rattle.ac_search.specs.Searchers.{looks_allowed};
 
 use super::choice::AhoCorasickKind;
@@ -29,6 +29,7 @@ impl<A: Allocator> Engine<A> {
     /// `AllocError` where a request for memory is refused.
     pub(super) fn share(&self) -> Result<Engine<A>, AllocError>
         ensures built { IfOk result (λ engine. built_of engine ≡ built_of self.now) }
+        ensures filters { IfOk result (λ engine. filters_of engine ≡ filters_of self.now) }
         ensures kind { IfOk result (λ engine. name_of engine ≡ name_of self.now) }
     {
         match self {
@@ -64,7 +65,8 @@ impl<A: Allocator> Engine<A> {
     ) -> Result<EngineFindIter<'a, 'h, A>, MatchError>
         ensures { MatchResult result
             (λ matches. AnswersUnless (find_refusal (built_of self.now) (asked input.entry))
-            (begun (looks_allowed (name_of self.now)) (built_of self.now) (asked input.entry)) (Ok (walking_in matches)))
+            (begun (looks_allowed (name_of self.now)) (built_of self.now) (filters_of self.now) (asked input.entry))
+            (Ok (walking_in matches)))
             (λ e. find_refusal (built_of self.now) (asked input.entry) ≡ Some e) }
     {
         match self {

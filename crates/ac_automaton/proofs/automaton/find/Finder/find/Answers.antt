@@ -30,6 +30,9 @@ module _ (g : Over) (c : After-match_at-last g) where
   abbrev built : Built
   built = g.A.Automaton.built c.self.inside.automaton.now
 
+  abbrev filters : Bool
+  filters = g.A.Automaton.filters c.self.inside.automaton.now
+
   abbrev began : Beginning
   began = record { start = c.args.start; end = c.args.end; tape = c.args.tape.now; counts = c.args.looks.now }
 
@@ -37,11 +40,11 @@ module _ (g : Over) (c : After-match_at-last g) where
   inside = let e = c.requires.end_within in omega arith
 
   come : HasCome (g.A.Automaton.stands c.self.inside.automaton.now c.self.inside.anchored)
-      g.A.Automaton.LOOKS built c.self.inside.anchored began c.self.inside.start c.args.start
+      g.A.Automaton.LOOKS filters built c.self.inside.anchored began c.self.inside.start c.args.start
       c.args.tape.now c.args.looks.now
   come =
       come-start built c.self.inside.anchored began
-      (g.A.Automaton.stands c.self.inside.automaton.now c.self.inside.anchored) g.A.Automaton.LOOKS
+      (g.A.Automaton.stands c.self.inside.automaton.now c.self.inside.anchored) g.A.Automaton.LOOKS filters
       c.self.inside.start c.self.invariant.starts c.requires.unread inside
 
   -- what the start state finds is picked before a byte is read
@@ -55,14 +58,14 @@ module _ (g : Over) (c : After-match_at-last g) where
 
 -- what the find has done is told of the finder as it is seen
 told : (g : Over) (c : After-match_at-last g) (r : Option Occurrence) (tape : Taped) (counts : Counts)
-    → HasSearched g.A.Automaton.LOOKS (built g c).kind
+    → HasSearched g.A.Automaton.LOOKS (filters g c) (built g c).kind
     (order (built g c) c.self.inside.anchored c.self.inside.stops (began g c))
     (span_of (built g c) c.self.inside.anchored (began g c)) r c.args.tape.now tape c.args.looks.now counts
-    → HasSearched g.A.Automaton.LOOKS c.args.self.now.built.kind c.args.self.now.order
+    → HasSearched g.A.Automaton.LOOKS c.args.self.now.filters c.args.self.now.built.kind c.args.self.now.order
     (search_of c.args.self.now.built c.args.self.now.anchored c.args.tape.now.bytes c.args.start c.args.end) r
     c.args.tape.now tape c.args.looks.now counts
 told g c r tape counts =
-    subst (λ (f : Finding). HasSearched g.A.Automaton.LOOKS f.built.kind f.order
+    subst (λ (f : Finding). HasSearched g.A.Automaton.LOOKS f.filters f.built.kind f.order
     (search_of f.built f.anchored c.args.tape.now.bytes c.args.start c.args.end) r c.args.tape.now tape
     c.args.looks.now counts) c.self.view_is
 
@@ -85,8 +88,8 @@ module _ (g : Over) (c : After-read_byte-state g) where
   abbrev node : Node
   node = node_at built_of anchored stops began_at (c.loop-at.at + 1)
 
-  come_on : HasCome (g.A.Automaton.stands c.self.inside.automaton.now anchored) g.A.Automaton.LOOKS built_of
-      anchored began_at c.read_byte-state.result (c.loop-at.at + 1) c.read_byte-state.new.tape
+  come_on : HasCome (g.A.Automaton.stands c.self.inside.automaton.now anchored) g.A.Automaton.LOOKS
+      (g.A.Automaton.filters c.self.inside.automaton.now) built_of anchored began_at c.read_byte-state.result (c.loop-at.at + 1) c.read_byte-state.new.tape
       c.read_byte-state.new.looks
   come_on = c.read_byte-state.ensures began_at c.loop-at.invariant.come c.loop-at.invariant.living
 
@@ -113,7 +116,7 @@ module _ (g : Over) (c : After-read_byte-state g) where
 
 pub returns-then-start-end : goal.returns-then-start-end
 returns-then-start-end g c =
-    find.searched-nothing g.A.Automaton.LOOKS c.args.self.now.built.kind c.args.self.now.order
+    find.searched-nothing g.A.Automaton.LOOKS c.args.self.now.filters c.args.self.now.built.kind c.args.self.now.order
     (search_of c.args.self.now.built c.args.self.now.anchored c.args.tape.now.bytes c.args.start c.args.end)
     c.args.tape.now c.args.looks.now c.if-start-end.true c.requires.unread
 
@@ -172,7 +175,7 @@ returns-then-is_dead g c =
     (omega arith)
     (still g s (find.found-dead (built_of g s) c.self.inside.anchored (node g s) (c.loop-at.at + 1) dead))
     (find.goes_on-none (built_of g s).kind _ c.loop-at.last _ inv.goes_on)
-    (λ same. let w = on.whole same in let p = on.within in let n = inv.come.onward in
+    (λ same. let w = on.whole same in let p = on.read.within in let n = inv.come.onward in
     inr (inr (subst (λ (n : ℕ). node_at (built_of g s) c.self.inside.anchored c.self.inside.stops (began_at g s) n
     ≡ None) (omega arith) dead))))
 

@@ -12,7 +12,7 @@ invariant-loop-at g l =
     let built = A.built l.automaton in
     let began : Beginning =
     record { start = l.start; end = l.end; tape = l.fn.tape; counts = l.fn.looks } in record {
-      come : HasCome (A.stands l.automaton l.anchored) A.LOOKS built l.anchored began l.state l.at l.tape
+      come : HasCome (A.stands l.automaton l.anchored) A.LOOKS (A.filters l.automaton) built l.anchored began l.state l.at l.tape
           l.looks;
       living : node_at built l.anchored l.self-inside.stops began l.at ≢ None;
       picked : l.last ≡ pick (order built l.anchored l.self-inside.stops began)
