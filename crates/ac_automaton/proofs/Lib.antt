@@ -3,6 +3,7 @@ pub mod Branching
 pub mod Child
 pub mod ChildFails
 pub mod Counting
+pub mod Due
 pub mod FindLoop
 pub mod Follows
 pub mod Grown
@@ -11,9 +12,11 @@ pub mod Keeping
 mod Leading
 pub mod Lengths
 pub mod Linking
+pub mod ListLoop
 pub mod ListsOf
 pub mod Misses
 pub mod Orders
+pub mod Overlapping
 pub mod Places
 pub mod Prefixes
 pub mod Ranges

@@ -1,29 +1,21 @@
 -- What a state lists along its output links are the matches of its node.
-use Rattle.std.proofs.Common.{◌≡◌, ℕ, zero, suc, ◌+◌, ◌-◌, ◌≤◌, ◌<◌, List, [], ◌∷◌, ◌++◌, length, get_or, drop, refl, ap, sym, ◌∙◌, arith, Some, None, inl, inr, length-append, length-take, length-drop}
+use Rattle.std.proofs.Common.{◌≡◌, ◌≢◌, ℕ, zero, suc, ◌+◌, ◌-◌, ◌≤◌, ◌<◌, List, [], ◌∷◌, ◌++◌, length, get_or, drop, refl, ap, sym, ◌∙◌, arith, None, inl, inr, length-append, length-take, length-drop}
 use Rattle.std.proofs.lemmas.Bool.{cases_lt}
-use Rattle.std.specs.Prelude.{slice_get}
-use Rattle.std.proofs.lemmas.List.{get_or-drop, get_or-take}
-use Rattle.std.proofs.lemmas.Option.{slice_get-get_or, slice_get_within}
+use Rattle.std.proofs.Math.Seq.{drop-append-add, drop-nil}
+use Rattle.std.proofs.lemmas.List.{drop-append-le, get_or-drop, get_or-take, get_or_default}
 use Rattle.ac_util.specs.Node.{Node}
 use Rattle.ac_automaton.specs.declared.nfa.noncontiguous.state.State.{State}
 use Rattle.ac_automaton.specs.declared.nfa.noncontiguous.state.TheConstants.{DEAD}
 use Rattle.ac_automaton.specs.Tries.{Meaning, HasState, Represents, all_matches, listed_within, state_patterns, state_at}
 use Rattle.ac_automaton.proofs.Follows.{represented}
 
--- an element of two lists put together is one of the first or one of the second
-slice_get-left : (xs ys : List ℕ) (k : ℕ) → k < length xs → slice_get (xs ++ ys) k ≡ slice_get xs k
-slice_get-left [] ys k h = absurd (omega arith)
-slice_get-left (x ∷ xs) ys zero h = refl
-slice_get-left (x ∷ xs) ys (suc k) h = slice_get-left xs ys k (omega arith)
-
--- what stands behind a list in two lists, one behind the other
-slice_get-right : (xs ys : List ℕ) (k : ℕ) → length xs ≤ k
-    → slice_get (xs ++ ys) k ≡ slice_get ys (k - length xs)
-slice_get-right [] ys k h = ap (slice_get ys) (let e : k ≡ k - 0 = omega arith in e)
-slice_get-right (x ∷ xs) ys zero h = absurd (omega arith)
-slice_get-right (x ∷ xs) ys (suc k) h =
-    slice_get-right xs ys k (omega arith)
-    ∙ ap (slice_get ys) (let e : k - length xs ≡ suc k - length (x ∷ xs) = omega arith in e)
+-- what is left of a list from one of its elements on begins with that element
+drop-here : (xs : List ℕ) (k : ℕ) → k < length xs → drop k xs ≡ get_or xs k 0 ∷ drop (k + 1) xs
+drop-here [] k h = absurd (omega arith)
+drop-here (x ∷ xs) zero h = refl
+drop-here (x ∷ xs) (suc k) h =
+    drop-here xs k (omega arith)
+    ∙ ap (λ (n : ℕ). get_or xs k 0 ∷ drop n (x ∷ xs)) (let e : suc (k + 1) ≡ suc k + 1 = omega arith in e)
 
 module _ (g : Meaning) (states : List State) where
   -- the first state stands for the dead node alone
@@ -57,27 +49,32 @@ module _ (g : Meaning) (states : List State) where
         ap (length {A = ℕ}) all-listed ∙ length-append (state_patterns g.order t) (all_matches g r.links.linked)
         ∙ ap (λ (n : ℕ). n + length (all_matches g r.links.linked)) length-state_patterns
 
-    -- one of its own, by place
-    pub pattern-at : (k d : ℕ) → k < t.patterns_end - t.patterns
-        → slice_get (all_matches g v) k ≡ Some (get_or g.order (t.patterns + k) d)
-    pattern-at k d inside =
+    -- from one of its own on
+    pub patterns-from : (k : ℕ) → k < t.patterns_end - t.patterns
+        → drop k (all_matches g v) ≡ get_or g.order (t.patterns + k) 0 ∷ drop (k + 1) (all_matches g v)
+    patterns-from k inside =
+        let own = state_patterns g.order t in
+        let others = all_matches g r.links.linked in
         let l = length-state_patterns in
-        ap (λ (ns : List ℕ). slice_get ns k) all-listed
-        ∙ slice_get-left (state_patterns g.order t) (all_matches g r.links.linked) k (omega arith)
-        ∙ slice_get-get_or (state_patterns g.order t) k d (omega arith)
-        ∙ ap (λ (n : ℕ). Some n)
-        (get_or-take (t.patterns_end - t.patterns) (drop t.patterns g.order) k d inside
-        ∙ get_or-drop t.patterns g.order k d)
+        ap (drop k) all-listed
+        ∙ drop-append-le k own others (omega arith)
+        ∙ ap (λ (ns : List ℕ). ns ++ others) (drop-here own k (omega arith))
+        ∙ ap (λ (ns : List ℕ). get_or own k 0 ∷ ns)
+        (sym (ap (drop (k + 1)) all-listed ∙ drop-append-le (k + 1) own others (omega arith)))
+        ∙ ap (λ (n : ℕ). n ∷ drop (k + 1) (all_matches g v))
+        (get_or-take (t.patterns_end - t.patterns) (drop t.patterns g.order) k 0 inside
+        ∙ get_or-drop t.patterns g.order k 0)
 
-    -- and one of the others
-    pub linked-at : (k : ℕ) → t.patterns_end - t.patterns ≤ k
-        → slice_get (all_matches g v) k ≡ slice_get (all_matches g r.links.linked)
-        (k - (t.patterns_end - t.patterns))
-    linked-at k past =
+    -- and from one of the others on
+    pub linked-from : (k : ℕ) → t.patterns_end - t.patterns ≤ k
+        → drop k (all_matches g v) ≡ drop (k - (t.patterns_end - t.patterns)) (all_matches g r.links.linked)
+    linked-from k past =
+        let own = state_patterns g.order t in
         let l = length-state_patterns in
-        ap (λ (ns : List ℕ). slice_get ns k) all-listed
-        ∙ slice_get-right (state_patterns g.order t) (all_matches g r.links.linked) k (omega arith)
-        ∙ ap (λ (n : ℕ). slice_get (all_matches g r.links.linked) (k - n)) length-state_patterns
+        ap (drop k) all-listed
+        ∙ ap (λ (n : ℕ). drop n (own ++ all_matches g r.links.linked))
+        (let e : k ≡ length own + (k - (t.patterns_end - t.patterns)) = omega arith in e)
+        ∙ drop-append-add own (all_matches g r.links.linked) (k - (t.patterns_end - t.patterns))
 
   -- along the output links, of which there are no more than the state's number says, the state lists the
   -- matches of its node
@@ -98,11 +95,11 @@ module _ (g : Meaning) (states : List State) where
     pub state : HasState g states at node
     pub counted : length (all_matches g u) ≡ count + length (all_matches g node)
 
-  -- the walk is at a state, in whose list the match is still to be found
+  -- the walk is at a state, in whose list the matches stand that are sought
   pub record Seeking (u : Node) (index at left : ℕ) : Type 0 where
     pub node : Node
     pub state : HasState g states at node
-    pub same : slice_get (all_matches g u) index ≡ slice_get (all_matches g node) left
+    pub same : drop index (all_matches g u) ≡ drop left (all_matches g node)
 
   module _ (u : Node) (s : ℕ) (t : State) (is : t ≡ get_or states s t) where
     -- one state more is counted
@@ -126,39 +123,38 @@ module _ (g : Meaning) (states : List State) where
         omega (arith, length-listed s o.node t o.state r, o.counted, alone)
 
     module _ (index left : ℕ) (o : Seeking u index s left) where
-      -- the match is one of the state's own
+      -- the first of them is one of the state's own
       pub seeking-here : (x : ℕ) → left < t.patterns_end - t.patterns → x ≡ get_or g.order (t.patterns + left) x
-          → slice_get (all_matches g u) index ≡ Some x
+          → drop index (all_matches g u) ≡ x ∷ drop (left + 1) (all_matches g o.node)
       seeking-here x inside found =
           let r = represented g states s o.node t o.state is in
-          o.same ∙ pattern-at s o.node t o.state r left x inside ∙ ap (λ (n : ℕ). Some n) (sym found)
+          let within = r.within in
+          o.same ∙ patterns-from s o.node t o.state r left inside
+          ∙ ap (λ (n : ℕ). n ∷ drop (left + 1) (all_matches g o.node))
+          (get_or_default g.order (t.patterns + left) 0 x (omega arith) ∙ sym found)
 
-      -- or is looked for through the output link
+      -- or they are looked for through the output link
       pub seeking-on : t.patterns_end - t.patterns ≤ left → Seeking u index t.output_link
           (left - (t.patterns_end - t.patterns))
       seeking-on past =
           let r = represented g states s o.node t o.state is in record {
             node = r.links.linked;
             state = linked-state s o.node t o.state r;
-            same = o.same ∙ linked-at s o.node t o.state r left past;
+            same = o.same ∙ linked-from s o.node t o.state r left past;
           }
 
-      -- a place in the list of the node is one in what is left
-      pub seeking-inside : index < length (all_matches g u) → left < length (all_matches g o.node)
-      seeking-inside inside =
-          slice_get_within (all_matches g o.node) left (get_or (all_matches g u) index 0)
-          (sym o.same ∙ slice_get-get_or (all_matches g u) index 0 inside)
-
-      -- so the output link leads to a smaller number
-      pub seeking-back : index < length (all_matches g u) → t.patterns_end - t.patterns ≤ left
-          → t.output_link < s
-      seeking-back inside past =
+      -- and where that is to the dead state there are no more
+      pub seeking-end : t.patterns_end - t.patterns ≤ left → t.output_link ≡ DEAD
+          → drop index (all_matches g u) ≡ []
+      seeking-end past last =
           let r = represented g states s o.node t o.state is in
-          let l = length-listed s o.node t o.state r in
-          let m = seeking-inside inside in
+          let more = left - (t.patterns_end - t.patterns) in
+          o.same ∙ linked-from s o.node t o.state r left past
+          ∙ ap (drop more) (none-linked s o.node t o.state r last) ∙ drop-nil more
+
+      -- any other output link leads to a smaller number
+      pub seeking-back : t.output_link ≢ DEAD → t.output_link < s
+      seeking-back linked =
+          let r = represented g states s o.node t o.state is in
           let back = r.links.back in
-          elim (cases_lt 0 t.output_link) [
-            | inl later ↦ omega arith
-            | inr first ↦ absurd (
-                let none = ap (length {A = ℕ}) (none-linked s o.node t o.state r (omega arith)) in omega arith)
-          ]
+          elim (cases_lt 0 t.output_link) [ inl later ↦ omega arith | inr first ↦ absurd (linked (omega arith)) ]

@@ -18,6 +18,14 @@ pub get-added : {X : Type 0} (xs : List X) (y : X) → slice_get (xs ++ y ∷ []
 get-added [] y = refl
 get-added (z ∷ xs) y = get-added xs y
 
+-- what is left of a list from a place on begins with the element there
+pub slice_get-from_drop : {X : Type 0} (xs : List X) (k : ℕ) (y : X) (ys : List X) → drop k xs ≡ y ∷ ys
+    → slice_get xs k ≡ Some y
+slice_get-from_drop [] zero y ys e = absurd (cc)
+slice_get-from_drop [] (suc k) y ys e = absurd (cc)
+slice_get-from_drop (x ∷ xs) zero y ys e = let same : x ≡ y = cc in ap (λ (z : _). Some z) same
+slice_get-from_drop (x ∷ xs) (suc k) y ys e = slice_get-from_drop xs k y ys e
+
 -- each element of the longer list was there before, or is the one added
 pub get-added_cases : {X : Type 0} (xs : List X) (y x : X) (k : ℕ) → slice_get (xs ++ y ∷ []) k ≡ Some x
     → (slice_get xs k ≡ Some x) ⊎ ((k ≡ length xs) × (y ≡ x))

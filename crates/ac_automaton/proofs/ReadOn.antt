@@ -20,7 +20,7 @@ use Rattle.ac_util.proofs.Spans.{text_length}
 use Rattle.ac_util.proofs.SearchLoop.{credit-nil, looks_by-once, step-paid}
 use Rattle.ac_automaton.specs.Automata.{plain_of, step_of, looks_of}
 use Rattle.ac_automaton.specs.Finds.{FitsIn}
-use Rattle.ac_automaton.specs.Progress.{Beginning, HasCome, HasRead, StopsAtDead, most_looks, node_at, span_of}
+use Rattle.ac_automaton.specs.Progress.{Beginning, Grows, HasCome, HasRead, Reaches, StopsAtDead, most_looks, node_at, span_of}
 
 -- a step's looks are paid by what was saved and what the byte brings; an anchored one saves nothing and looks
 -- once
@@ -48,6 +48,27 @@ depth-node u false some = absurd (some refl)
 depth-most : (u : List ℕ) (t : Bool) → depth (cond t (Some u) None) ≤ length u
 depth-most u true = omega arith
 depth-most u false = omega arith
+
+-- what has grown twice has grown
+pub grows-trans : {a b c : Counts} → Grows a b → Grows b c → Grows a c
+grows-trans first second = record {
+  reads = (let f = first.reads in let t = second.reads in omega arith);
+  looks = (let f = first.reads in let t = second.reads in let g = first.looks in let u = second.looks in omega arith);
+  calls = (let f = first.calls in let t = second.calls in omega arith);
+}
+
+-- a byte that is read and followed takes a look at least
+pub grows-read : (most : ℕ) (built : Built) (anchored : Anchored) (u : Node) (byte : ℕ)
+    (counts read new_counts : Counts)
+    → read ≡ one_more_read counts → new_counts ≡ more_looks (looks_of most built anchored u byte) read
+    → Grows counts new_counts
+grows-read most built anchored u byte counts read new_counts counted looked =
+    let once = looks_by-once most built.kind (plain_of built) anchored u (plain_byte built.fold byte) in
+    let reads = ap (λ (c : Counts). c.reads) looked ∙ ap (λ (c : Counts). c.reads) counted in
+    let looks = ap (λ (c : Counts). c.looks) looked in
+    let before = ap (λ (c : Counts). c.looks) counted in
+    let calls = ap (λ (c : Counts). c.calls) looked ∙ ap (λ (c : Counts). c.calls) counted in
+    record { reads = omega arith; looks = omega arith; calls = omega arith }
 
 -- a search that has read nothing
 pub read-nothing : (most : ℕ) (skips : Bool) (start end : ℕ) (tape : Taped) (counts : Counts)
@@ -110,6 +131,30 @@ module _ (built : Built) (anchored : Anchored) (began : Beginning) where
       whole Yes e some =
           depth-node (text (record q { high = at })) (is_node built.kind (plain_of built) (text (record q { high = at }))) some ∙ size
 
+  module _ {stands : ℕ → Node → Type 0} where
+    -- the automaton stands at the start of the span
+    pub reaches-start : {state : ℕ} → stands state (Some []) → began.start ≤ length bytes
+        → Reaches stands built.kind q state began.start
+    reaches-start {state} there room = record {
+      there = subst (stands state) (sym node-start) there;
+      onward = omega arith;
+      inside = room;
+      alive = λ k from below. absurd (omega arith);
+    }
+
+    -- and one place further where it stands once a byte is followed
+    pub reaches-next : {state at next byte : ℕ} → Reaches stands built.kind q state at
+        → byte ≡ slice_index bytes at → at < length bytes
+        → stands next (step_of built anchored (node_at built.kind q at) byte) → node_at built.kind q at ≢ None
+        → Reaches stands built.kind q next (at + 1)
+    reaches-next {at = at} {next} {byte} reaches is room there living = record {
+      there = subst (stands next) (node-step at byte reaches.onward room is) there;
+      onward = (let o = reaches.onward in omega arith);
+      inside = omega arith;
+      alive = λ k from below. below_next at (λ n. began.start ≤ n → node_at built.kind q n ≢ None)
+          (λ n up low. reaches.alive n low up) (λ _. living) k below from;
+    }
+
   -- the automaton has come to the start of the span: nothing was read
   pub come-start : (stands : ℕ → Node → Type 0) (most : ℕ) (filters : Bool) (state : ℕ) → stands state (Some [])
       → began.tape.place ≤ began.start → began.start ≤ length bytes
@@ -117,10 +162,7 @@ module _ (built : Built) (anchored : Anchored) (began : Beginning) where
   come-start stands most filters state there unread room =
       let worthless = ap (credit (most_looks anchored most)) node-start ∙ credit-nil (most_looks anchored most) in
       record {
-        there = subst (stands state) (sym node-start) there;
-        onward = omega arith;
-        inside = room;
-        alive = λ k from below. absurd (omega arith);
+        reaches = reaches-start there room;
         unread = unread;
         read = read-nothing (most_looks anchored most) (may_skip filters q) began.start began.start began.tape
             began.counts unread;
@@ -141,46 +183,42 @@ module _ (built : Built) (anchored : Anchored) (began : Beginning) where
     come-next {next} {byte} {new_tape} {read} {new_counts} one_or_two is room place counted looked there living =
         let node = node_at built.kind q at in
         let so_far = come.read in
+        let onward = come.reaches.onward in
         let inside : at < length bytes = omega (arith, ap length so_far.bytes) in
-        let moved = node-step at byte come.onward inside
-        (is ∙ ap (λ (bs : List ℕ). slice_index bs at) so_far.bytes) in
+        let here = is ∙ ap (λ (bs : List ℕ). slice_index bs at) so_far.bytes in
         let paid = subst (λ (v : Node). looks_of most built anchored node byte
         + credit (most_looks anchored most) v
-        ≤ credit (most_looks anchored most) node + most_looks anchored most) moved
+        ≤ credit (most_looks anchored most) node + most_looks anchored most) (node-step at byte onward inside here)
         (step-within most built anchored node byte one_or_two) in
-        let once = looks_by-once most built.kind (plain_of built) anchored node (plain_byte built.fold byte) in
         let there_now = ap (λ (t : Taped). t.place) place in
         let reads = ap (λ (c : Counts). c.reads) looked ∙ ap (λ (c : Counts). c.reads) counted in
         let looks = ap (λ (c : Counts). c.looks) looked in
         let before = ap (λ (c : Counts). c.looks) counted in
         let calls = ap (λ (c : Counts). c.calls) looked ∙ ap (λ (c : Counts). c.calls) counted in
-        let grows = so_far.grows in
-        let one : new_counts.reads - began.counts.reads ≡ (counts.reads - began.counts.reads) + 1 = omega arith in
+        let one : new_counts.reads - began.counts.reads ≡ (counts.reads - began.counts.reads) + 1 =
+        let grows = so_far.grows in omega arith in
         let paid_now : new_counts.looks
         + credit (most_looks anchored most) (node_at built.kind q (at + 1))
         ≤ began.counts.looks + most_looks anchored most * (new_counts.reads - began.counts.reads) =
         rw one (omega arith) in
         record {
-          there = subst (stands next) moved there;
-          onward = omega arith;
-          inside = omega arith;
-          alive = λ k from below. below_next at (λ n. began.start ≤ n → node_at built.kind q n ≢ None)
-              (λ n up low. come.alive n low up) (λ _. living) k below from;
+          reaches = reaches-next come.reaches here inside there living;
           unread = come.unread;
           read = record {
             bytes = ap (λ (t : Taped). t.bytes) place ∙ so_far.bytes;
             onward = omega arith;
             within = omega arith;
-            grows = record { reads = omega arith; looks = omega arith; calls = omega arith };
-            told = λ _. omega arith;
-            whole = λ same. let c = come.counted (omega arith) in omega arith;
+            grows = grows-trans so_far.grows
+                (grows-read most built anchored node byte counts read new_counts counted looked);
+            told = λ _. let grows = so_far.grows in omega arith;
+            whole = λ same. let grows = so_far.grows in let c = come.counted (omega arith) in omega arith;
             reads = omega arith;
             looks = omega arith;
             calls = omega arith;
             quiet = λ none. let s = so_far.quiet none in omega arith;
           };
           whole = λ same. omega arith;
-          counted = λ same. let c = come.counted (omega arith) in omega arith;
+          counted = λ same. let grows = so_far.grows in let c = come.counted (omega arith) in omega arith;
           paid = paid_now;
         }
 
@@ -205,4 +243,4 @@ module _ (built : Built) (anchored : Anchored) (began : Beginning) where
     -- and it has read nothing from the dead node on
     pub dead-come : StopsAtDead built.kind q tape.place
     dead-come = λ k from below. let w = come.read.within in let u = come.unread in
-        come.alive k from (omega arith)
+        come.reaches.alive k from (omega arith)

@@ -1,11 +1,15 @@
 -- What the number of a state tells of the node that it stands for.
-use Rattle.std.proofs.Common.{◌≡◌, ◌≢◌, ◌⊎◌, ◌↔◌, inl, inr, ℕ, zero, suc, ◌≤◌, ◌<◌, List, [], ◌∷◌, length, get_or, refl, ap, sym, arith, Some, None}
+use Rattle.std.proofs.Common.{◌≡◌, ◌≢◌, ◌⊎◌, ◌↔◌, inl, inr, ℕ, zero, suc, ◌≤◌, ◌<◌, List, [], ◌∷◌, length, drop, get_or, refl, ap, sym, ◌∙◌, arith, Option, Some, None}
+use Rattle.std.specs.Prelude.{IfSome}
 use Rattle.std.proofs.lemmas.Bool.{cases_lt}
 use Rattle.std.proofs.lemmas.Option.{slice_get_within}
 use Rattle.ac_util.specs.Node.{Node, depth}
 use Rattle.ac_automaton.specs.declared.nfa.noncontiguous.state.State.{State}
 use Rattle.ac_automaton.specs.declared.nfa.noncontiguous.state.TheConstants.{DEAD, START, FIRST_INNER}
-use Rattle.ac_automaton.specs.Tries.{HasState, Meaning, Represents, StandsFor, Trie, all_matches, listed_within, meaning_of}
+use Rattle.ac_automaton.specs.declared.automaton.overlap.MatchRest.{MatchRest}
+use Rattle.ac_automaton.specs.Automata.{IsState}
+use Rattle.ac_automaton.specs.Overlaps.{Takes}
+use Rattle.ac_automaton.specs.Tries.{HasState, Meaning, Represents, StandsFor, TakesFrom, Trie, all_matches, listed_within, meaning_of}
 use Rattle.ac_automaton.proofs.Follows.{represented}
 use Rattle.ac_automaton.proofs.ListsOf.{length-listed, none-linked}
 
@@ -95,3 +99,25 @@ module _ (trie : Trie) (s : ℕ) (u : Node) (h : StandsFor trie s u) where
               let alone = ap (length {A = ℕ}) (none-linked meaning trie.states s u t has-state read last) in
               omega (arith, alone, length-not_nil (listed_within trie.order trie.states s s) some)),
         )
+
+-- how the state's list is gone through, told of the numbers that stand for nodes
+module _ (trie : Trie) where
+  -- the list of each state
+  abbrev listed : ℕ → List ℕ
+  listed s = listed_within trie.order trie.states s s
+
+  pub takes-listed : (rest : MatchRest) (u : Node) (h : StandsFor trie rest.state u) (r : Option (ℕ × MatchRest))
+      → TakesFrom (meaning trie rest.state u h) trie.states u rest.index r → Takes listed rest r
+  takes-listed rest u h None none = ap (drop rest.index) (listed-matches trie rest.state u h) ∙ none
+  takes-listed rest u h (Some first) taken =
+      ap (drop rest.index) (listed-matches trie rest.state u h) ∙ taken.2
+      ∙ ap (λ (ns : List ℕ). first.0 ∷ drop first.1.index ns)
+      (sym (listed-matches trie first.1.state taken.0
+      (record { nodes = h.nodes; table = h.table; named = taken.1.named })))
+
+  pub takes-state : (rest : MatchRest) (u : Node) (h : StandsFor trie rest.state u) (r : Option (ℕ × MatchRest))
+      → TakesFrom (meaning trie rest.state u h) trie.states u rest.index r
+      → IfSome r (λ first. IsState (StandsFor trie) first.1.state)
+  takes-state rest u h None none = tt
+  takes-state rest u h (Some first) taken =
+      (taken.0, record { nodes = h.nodes; table = h.table; named = taken.1.named })

@@ -1,11 +1,18 @@
--- What calls of a walk's `next` give, one after another.
+-- What calls of `next` give, one after another, of a walk and of a listing.
 use Rattle.std.proofs.Common.{ap, length}
 use Rattle.std.specs.Iterator.Runs.{YieldsInOrder}
 use Rattle.std.proofs.iter.runs.Sources.{as_is, from_front}
 use Rattle.ac_automaton.specs.Iterators.{GoesOn}
+use Rattle.ac_automaton.specs.Overlaps.{ListsNext}
 
 -- the matches that were left, in order
 pub goes_on-runs : YieldsInOrder GoesOn (λ w. w.rest)
 goes_on-runs p seen =
     as_is p p.from.rest
     (from_front GoesOn (λ x. x) (λ w. w.rest) (λ s t h. ap length h.gives.0) (λ s x t h. h.gives) p seen)
+
+-- the items of the listing that were left, in order
+pub lists-runs : YieldsInOrder ListsNext (λ l. l.rest)
+lists-runs p seen =
+    as_is p p.from.rest
+    (from_front ListsNext (λ x. x) (λ l. l.rest) (λ s t h. ap length h.gives.0) (λ s x t h. h.gives) p seen)

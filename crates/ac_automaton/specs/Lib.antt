@@ -4,6 +4,7 @@ pub mod Finders
 pub mod Finds
 pub mod Growths
 pub mod Iterators
+pub mod Overlaps
 pub mod Progress
 pub mod Sorted
 pub mod Tries

@@ -71,6 +71,13 @@ pub record Beginning : Type 0 where
 abbrev pub span_of : Built → Anchored → Beginning → Search
 span_of built anchored began = search_of built anchored began.tape.bytes began.start began.end
 
+-- an automaton of this kind stands at the node reached at a place of a span, and was dead at none before it
+pub record Reaches (stands : ℕ → Node → Type 0) (kind : MatchKind) (q : Search) (state at : ℕ) : Type 0 where
+  pub there : stands state (node_at kind q at)
+  pub onward : q.low ≤ at
+  pub inside : at ≤ length q.haystack
+  pub alive : StopsAtDead kind q at
+
 -- an automaton that reads a span has come to a place: it has read the span so far and stands there at the node
 -- reached, by bytes each of which it has read, or passed over by the prefilter, and none from the dead node; and
 -- each look is paid for, by the bytes read and what the node's length is worth
@@ -78,10 +85,7 @@ pub record HasCome (stands : ℕ → Node → Type 0) (most : ℕ) (filters : Bo
     (anchored : Anchored)
     (began : Beginning) (state at : ℕ) (tape : Taped)
     (counts : Counts) : Type 0 where
-  pub there : stands state (node_at built.kind (span_of built anchored began) at)
-  pub onward : began.start ≤ at
-  pub inside : at ≤ length began.tape.bytes
-  pub alive : StopsAtDead built.kind (span_of built anchored began) at
+  pub reaches : Reaches stands built.kind (span_of built anchored began) state at
   pub unread : began.tape.place ≤ began.start
   pub read : HasRead (most_looks anchored most) (may_skip filters (span_of built anchored began)) began.start at
       began.tape tape began.counts counts

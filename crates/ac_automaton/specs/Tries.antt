@@ -1,5 +1,5 @@
 -- How the states of a trie with failure links stand for nodes.
-use Rattle.std.specs.Prelude.{◌≡◌, ◌≢◌, ◌↔◌, ℕ, zero, suc, ◌-◌, ◌<◌, ◌≤◌, ◌&&◌, Bool, List, [], ◌∷◌, ◌++◌, length, map, slice_get, slice_range, slice_index_or, Contains, Option, None, Some, MatchOption, if◌then◌else◌}
+use Rattle.std.specs.Prelude.{◌≡◌, ◌≢◌, ◌↔◌, ℕ, zero, suc, ◌-◌, ◌<◌, ◌≤◌, ◌&&◌, Bool, List, [], ◌∷◌, ◌++◌, length, map, drop, slice_get, slice_range, slice_index_or, Contains, Option, None, Some, MatchOption, if◌then◌else◌}
 use Rattle.std.specs.List.Sorted.{IsStrictlyIncreasing}
 use Rattle.std.proofs.Common.{sym, ◌∙◌, arith}
 use Rattle.std.proofs.lemmas.List.{append-nil}
@@ -13,6 +13,7 @@ use Rattle.ac_util.specs.Matches.{matches}
 use Rattle.ac_util.specs.Node.{Node, begins_with_pattern, depth, failure, is_leftmost, step}
 use Rattle.ac_util.specs.Sameness.{plain_byte}
 use Rattle.ac_util.specs.Sizes.{inner_nodes, state_count}
+use Rattle.ac_automaton.specs.declared.automaton.overlap.MatchRest.{MatchRest}
 use Rattle.ac_automaton.specs.declared.nfa.noncontiguous.state.State.{State}
 use Rattle.ac_automaton.specs.declared.nfa.noncontiguous.state.TheConstants.{DEAD, FAIL, START, ANCHORED_START, FIRST_INNER}
 use Rattle.ac_automaton.specs.declared.nfa.noncontiguous.state.Transition.{Transition}
@@ -147,6 +148,14 @@ module _ (g : Meaning) where
     pub meant : AreStates states
     pub there : s < length states
     pub named : slice_get g.nodes s ≡ Some u
+
+-- r is one of a node's matches, that behind so many, and where the matches after it stand in the list of a state;
+-- or None where there are no more
+abbrev pub TakesFrom : Meaning → List State → Node → ℕ → Option (ℕ × MatchRest) → Type 0
+TakesFrom g states u index r =
+    MatchOption r (drop index (all_matches g u) ≡ [])
+    (λ first. (v : Node) × HasState g states first.1.state v
+    × (drop index (all_matches g u) ≡ first.0 ∷ drop first.1.index (all_matches g v)))
 
 -- what the states of an automaton mean
 abbrev pub meaning_of : Trie → List Node → Meaning

@@ -1,8 +1,8 @@
 //! What an engine offers, and the searches over any engine.
-ghost use Rattle.std.specs.Prelude.{◌≡◌, ◌≢◌, ◌↔◌, ◌⊎◌, ℕ, ◌<◌, Bool, List, [], length, option_map, slice_get, Some, None, IsTrue, MatchResult};
+ghost use Rattle.std.specs.Prelude.{◌≡◌, ◌≢◌, ◌↔◌, ◌⊎◌, ℕ, ◌<◌, Bool, List, [], length, option_map, slice_get, Some, None, IfSome, IsTrue, MatchResult};
 ghost use Rattle.std.specs.Iterator.Runs.{YieldsInOrder};
 ghost use Rattle.ac_util.specs.declared.search.Anchored.{Anchored};
-ghost use Rattle.ac_util.specs.Built.{Built, find_refusal, found};
+ghost use Rattle.ac_util.specs.Built.{Built, find_refusal, found, overlapping_iter_refusal, overlapping_refusal, search_in};
 ghost use Rattle.ac_util.specs.Inputs.{asked};
 ghost use Rattle.ac_util.specs.Counts.{more_looks};
 ghost use Rattle.ac_util.specs.Node.{Node};
@@ -12,6 +12,7 @@ ghost use Rattle.ac_util.specs.Search.{pattern_of};
 ghost use Rattle.ac_util.specs.Sizes.{longest_len, shortest_len};
 ghost use Rattle.ac_automaton.specs.Iterators.{GoesOn, begun};
 ghost use Rattle.ac_automaton.specs.Automata.{IsState, Lists, looks_of, step_of};
+ghost use Rattle.ac_automaton.specs.Overlaps.{GivesNext, IsPlaced, ListsNext, Takes, listing_begun};
 
 use ac_util::error::MatchError;
 use ac_util::looks::Looks;
@@ -20,10 +21,12 @@ use ac_util::primitives::{PatternID, StateID};
 use ac_util::search::{Anchored, Input, Match, MatchKind};
 
 mod find;
+mod overlap;
 mod step;
 mod walk;
 
 pub use find::find_core;
+pub use overlap::{FindOverlappingIter, MatchRest, OverlappingState};
 pub use walk::FindIter;
 
 /// An automaton that finds patterns: states, and where each byte leads from a state.
@@ -105,6 +108,14 @@ pub trait Automaton {
         requires within { index < length (listed self.now sid) }
         ensures { slice_get (listed self.now sid) index ≡ Some result };
 
+    /// Returns the first match in a rest of a match list and the rest after it, or None where there is none. A
+    /// list is gone through by it in as many steps as it has matches.
+    fn take_match(&self, rest: MatchRest) -> Option<(PatternID, MatchRest)>
+        requires state { (anchored : Anchored) × IsState (stands self.now anchored) rest.state }
+        ensures taken { Takes (listed self.now) rest result }
+        ensures state { (anchored : Anchored) → IsState (stands self.now anchored) rest.state
+            → IfSome result (λ first. IsState (stands self.now anchored) first.1.state) };
+
     /// Returns which of the occurrences in a span a search answers.
     fn match_kind(&self) -> MatchKind
         ensures { result ≡ (built self.now).kind };
@@ -175,5 +186,55 @@ pub trait Automaton {
         ensures runs { YieldsInOrder GoesOn (λ w. w.rest) }
     {
         FindIter::new(self, input)
+    }
+
+    /// Gives the next item of the listing of an input: all occurrences in its span, each once, by their ends, then
+    /// their starts, then their patterns. `OverlappingState::get_match` tells it, and `None` at every call past the
+    /// last item. This ports `Automaton::try_find_overlapping`. The law `ac_util::laws::listing_is_exact` says what
+    /// the listing has.
+    ///
+    /// The state has to be fresh, or left by this automaton over this same input.
+    ///
+    /// # Errors
+    /// `InvalidInputAnchored` or `InvalidInputUnanchored` where the automaton has no start for the input's
+    /// anchoring, else `UnsupportedOverlapping` where its match kind isn't `MatchKind::Standard`. Then the state is
+    /// as it was.
+    #[inline]
+    final fn try_find_overlapping(
+        &self,
+        input: Input<'_>,
+        state: &mut OverlappingState,
+    ) -> Result<(), MatchError>
+    where
+        Self: Sized,
+        requires placed { IsPlaced (stands self.now (asked input).anchored) (listed self.now)
+            (built self.now).kind (search_in (built self.now) (asked input)) state.old }
+        ensures { MatchResult result
+            (λ _. (overlapping_refusal (built self.now) (asked input.entry) ≡ None)
+            × GivesNext (stands self.now (asked input.entry).anchored) (listed self.now) (built self.now).kind
+            (search_in (built self.now) (asked input.entry)) state.old state.new)
+            (λ e. (overlapping_refusal (built self.now) (asked input.entry) ≡ Some e) × (state.new ≡ state.old)) }
+    {
+        overlap::try_find_overlapping(self, input, state)
+    }
+
+    /// Returns an iterator over the listing of an input, as `try_find_overlapping` gives it. This ports
+    /// `Automaton::try_find_overlapping_iter`. The law `ac_util::laws::matches_lie_inside` says that all items lie
+    /// in the span.
+    ///
+    /// # Errors
+    /// As `try_find_overlapping`, and else `InvalidInputAnchored` for an anchored input.
+    #[inline]
+    final fn try_find_overlapping_iter<'a, 'h>(
+        &'a self,
+        input: Input<'h>,
+    ) -> Result<FindOverlappingIter<'a, 'h, Self>, MatchError>
+    where
+        Self: Sized,
+        ensures begun { AnswersUnless (overlapping_iter_refusal (built self.now) (asked input.entry))
+            (listing_begun LOOKS (built self.now) (filters self.now) (asked input.entry)) result }
+        ensures runs { YieldsInOrder ListsNext (λ l. l.rest) }
+    {
+        FindOverlappingIter::new(self, input)
     }
 }

@@ -1,16 +1,16 @@
 -- The matches of the node reached are those of all that was read, and those of a node are its own and its
 -- failure target's.
-use Rattle.std.proofs.Common.{◌≡◌, ℕ, suc, Bool, true, false, ◌&&◌, cond, List, [], ◌∷◌, ◌++◌, refl, ap, sym, ◌∙◌, Option, Some, None, ◌<◌, ◌≤◌, length, inl, inr, arith}
+use Rattle.std.proofs.Common.{◌≡◌, ℕ, suc, Bool, true, false, ◌&&◌, cond, List, [], ◌∷◌, ◌++◌, refl, ap, sym, subst, ◌∙◌, Option, Some, None, ◌<◌, ◌≤◌, length, inl, inr, arith}
 use Rattle.std.specs.Prelude.{flat_map, option_map}
 use Rattle.std.proofs.lemmas.Bool.{cond-false, cond-true}
-use Rattle.std.proofs.lemmas.List.{append-nil}
+use Rattle.std.proofs.lemmas.List.{append_cancel_left, append-nil}
 use Rattle.ac_util.specs.declared.search.MatchKind.{MatchKind}
 use Rattle.ac_util.specs.declared.search.Anchored.{Anchored}
 use Rattle.ac_util.specs.declared.search.Anchored.TheVariants.{No, Yes}
 use Rattle.ac_util.specs.Node.{Node, is_leftmost, is_node, suffixes, open_suffixes, begins_with_pattern, least_start, reached, failure}
 use Rattle.ac_util.specs.Matches.{equal_to, matches, matches_at}
 use Rattle.ac_util.proofs.Participants.{IsIn-from_equal_to, equal_to-none, equal_to-none_begins}
-use Rattle.ac_util.proofs.Lists.{IsIn, IsIn-append_cases}
+use Rattle.ac_util.proofs.Lists.{IsIn, IsIn-append_cases, none-from_nil}
 use Rattle.ac_util.specs.Search.{pattern_of}
 use Rattle.ac_util.proofs.Reached.{stops, starting_by-cons, open_suffixes-nil, reached-nil, reached-cons}
 use Rattle.ac_util.proofs.Failures.{failure-cons}
@@ -152,3 +152,18 @@ module _ (kind : MatchKind) (patterns : List (List ℕ)) where
             absurd (let f = behind-fits x u n (stops kind patterns (x ∷ u)) (matches-fits u n) later in
             let s = f.short in omega arith)
       ]
+
+  -- and those behind the ones that equal the string are shorter than it
+  pub matches-shorter : (u behind : List ℕ) → found (Some u) ≡ own u ++ behind → (n : ℕ) → IsIn n behind
+      → length (pattern_of patterns n) < length u
+  matches-shorter [] behind e n h =
+      let none : behind ≡ [] =
+      append_cancel_left (own []) behind [] (sym e ∙ matches-nil ∙ sym (append-nil (own []))) in
+      absurd (none-from_nil n behind none h)
+  matches-shorter (x ∷ u) behind e n h =
+      let same : behind ≡ cond (stops kind patterns (x ∷ u)) [] (found (Some u)) =
+      append_cancel_left (own (x ∷ u)) behind (cond (stops kind patterns (x ∷ u)) [] (found (Some u)))
+      (sym e ∙ matches-cons x u) in
+      let f = behind-fits x u n (stops kind patterns (x ∷ u)) (matches-fits u n)
+      (subst (λ (ns : List ℕ). IsIn n ns) same h) in
+      let s = f.short in omega arith

@@ -15,6 +15,7 @@ pub mod Advance
 pub mod Spans
 pub mod OneLonger
 pub mod ListingLonger
+pub mod ListingBeginning
 pub mod SamenessLemmas
 pub mod Characters
 pub mod PiecesLemmas

@@ -163,33 +163,36 @@ module _ (kind : MatchKind) (q : Search) (empty : q.low ≡ q.high) (inside : q.
       (same_order earliest))))
       ∙ ap (λ (o : Occurrence). Some o) (ending-head kind q i h.0 (omega arith) inside there)
 
+-- n places later and one more
+pub longer-suc : (q : Search) (n : ℕ) → longer_by q (suc n) ≡ one_longer (longer_by q n)
+longer-suc q n = ap (λ (h : ℕ). record q { high = h }) (omega arith)
+
 -- what an automaton that has reached the dead node has picked is picked from any longer span
 module _ (kind : MatchKind) (q : Search) (order : q.low ≤ q.high)
     (dead : reached kind (plain_patterns q) q.anchored (text q) ≡ None) where
-  longer-suc : (n : ℕ) → longer_by q (suc n) ≡ one_longer (longer_by q n)
-  longer-suc n = ap (λ (h : ℕ). record q { high = h }) (omega arith)
-
+  -- the dead node stays reached
   still_dead : (n : ℕ) → q.high + n ≤ length q.haystack
       → reached kind (plain_patterns q) q.anchored (text (longer_by q n)) ≡ None
   still_dead zero room =
       ap (λ (h : ℕ). reached kind (plain_patterns q) q.anchored (text (record q { high = h }))) (omega arith)
       ∙ dead
   still_dead (suc n) room =
-      ap (λ (s : Search). reached kind (plain_patterns q) q.anchored (text s)) (longer-suc n)
+      ap (λ (s : Search). reached kind (plain_patterns q) q.anchored (text s)) (longer-suc q n)
       ∙ sym (step-longer kind (longer_by q n) (omega arith) (omega arith))
       ∙ ap (λ (v : Node). step kind (plain_patterns q) q.anchored v (byte_in (longer_by q n)))
       (still_dead n (omega arith))
 
-  nothing_found : (n : ℕ) → q.high + n ≤ length q.haystack → found_at_end kind (longer_by q n) ≡ []
+  -- so nothing is found any more
+  pub nothing_found : (n : ℕ) → q.high + n ≤ length q.haystack → found_at_end kind (longer_by q n) ≡ []
   nothing_found n room = ap (matches kind (plain_patterns q) q.anchored) (still_dead n room)
 
   -- once dead, the pick stays however much longer the span is
   pub pick-dead : (n : ℕ) → q.high + n ≤ length q.haystack → pick kind (longer_by q n) ≡ pick kind q
   pick-dead zero room = ap (λ (h : ℕ). pick kind (record q { high = h })) (omega arith)
   pick-dead (suc n) room =
-      ap (pick kind) (longer-suc n)
+      ap (pick kind) (longer-suc q n)
       ∙ pick-longer_stays kind (longer_by q n) (omega arith) (omega arith)
-      (sym (ap (found_at_end kind) (longer-suc n)) ∙ nothing_found (suc n) room)
+      (sym (ap (found_at_end kind) (longer-suc q n)) ∙ nothing_found (suc n) room)
       ∙ pick-dead n (omega arith)
 
   -- and where Standard picked nothing it stays so
@@ -197,9 +200,9 @@ module _ (kind : MatchKind) (q : Search) (order : q.low ≤ q.high)
       → pick Standard (longer_by q n) ≡ None
   first-dead none zero room = ap (λ (h : ℕ). pick Standard (record q { high = h })) (omega arith) ∙ none
   first-dead none (suc n) room =
-      ap (pick Standard) (longer-suc n)
+      ap (pick Standard) (longer-suc q n)
       ∙ first-longer_stays kind (longer_by q n) (omega arith) (omega arith) (first-dead none n (omega arith))
-      (sym (ap (found_at_end kind) (longer-suc n)) ∙ nothing_found (suc n) room)
+      (sym (ap (found_at_end kind) (longer-suc q n)) ∙ nothing_found (suc n) room)
 
 -- a span that begins past its end has no pick
 pub none-past_end : (kind : MatchKind) (q : Search) → q.high < q.low → pick kind q ≡ None

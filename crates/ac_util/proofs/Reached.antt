@@ -1,5 +1,5 @@
 -- A step leads from the node that an automaton has reached to the one that it reaches with one more byte.
-use Rattle.std.proofs.Common.{◌≡◌, ℕ, suc, Bool, true, false, ◌&&◌, cond, List, [], ◌∷◌, ◌++◌, inl, inr, refl, ap, sym, ◌∙◌, Option, Some, None}
+use Rattle.std.proofs.Common.{◌≡◌, ◌≢◌, ℕ, suc, Bool, true, false, ◌&&◌, cond, List, [], ◌∷◌, ◌++◌, inl, inr, refl, ap, sym, ◌∙◌, Option, Some, None}
 use Rattle.std.specs.Prelude.{find, option_map}
 use Rattle.std.proofs.lemmas.Bool.{cond-false, cond-true, false_from_ne_true, false≢true, cases_Bool}
 use Rattle.ac_util.specs.declared.search.MatchKind.{MatchKind}
@@ -70,6 +70,19 @@ module _ (kind : MatchKind) (patterns : List (List ℕ)) where
   reached-cons x w =
       ap (find (is_node kind patterns)) (starting_by-cons kind patterns x w (x ∷ w) (suffixes w))
       ∙ find-cond (is_node kind patterns) (stop (x ∷ w)) (x ∷ w) (open_suffixes kind patterns w)
+
+  -- where no node is dead for being passed a match, none reached without an anchor is
+  alive_by : (x : ℕ) (w : List ℕ) (t : Bool) → is_leftmost kind ≡ false → free w ≢ None
+      → cond t (Some (x ∷ w)) (cond (is_leftmost kind && begins_with_pattern patterns (x ∷ w)) None (free w)) ≢ None
+  alive_by x w true other later dead = absurd (cc)
+  alive_by x w false other later dead =
+      later (sym (ap (λ (l : Bool). cond (l && begins_with_pattern patterns (x ∷ w)) None (free w)) other) ∙ dead)
+
+  -- an unanchored automaton by Standard is never dead
+  pub reached-alive : is_leftmost kind ≡ false → (w : List ℕ) → free w ≢ None
+  reached-alive other [] dead = let start = reached-nil No in absurd (cc)
+  reached-alive other (x ∷ w) dead =
+      alive_by x w (node (x ∷ w)) other (reached-alive other w) (sym (reached-cons x w) ∙ dead)
 
   -- a step, by recursion on where it begins
   abbrev stepped : List ℕ → ℕ → Node

@@ -9,7 +9,7 @@ use Rattle.ac_util.specs.Occurrence.{Occurrence}
 use Rattle.ac_util.specs.Search.{Search}
 use Rattle.ac_util.specs.Pick.{order_of, pick}
 use Rattle.ac_util.specs.Walk.{walk}
-use Rattle.ac_util.specs.Refusal.{refusal, Find}
+use Rattle.ac_util.specs.Refusal.{refusal, Find, OverlappingByState, OverlappingIterator}
 use Rattle.ac_util.specs.Asked.{Asked, search_for}
 
 -- the patterns, whether case is ignored, the match kind, and which starts there are
@@ -38,3 +38,13 @@ walked built asked = walk (order_of built.kind asked.earliest) (search_in built 
 -- why a find or a walk is refused, if it is
 abbrev pub find_refusal : Built → Asked → Option MatchError
 find_refusal built asked = refusal built.start_kind built.kind (Find asked.anchored) (has_empty built)
+
+-- why an overlapping search by a state is refused, if it is
+abbrev pub overlapping_refusal : Built → Asked → Option MatchError
+overlapping_refusal built asked =
+    refusal built.start_kind built.kind (OverlappingByState asked.anchored) (has_empty built)
+
+-- why an iterator over the listing is refused, if it is
+abbrev pub overlapping_iter_refusal : Built → Asked → Option MatchError
+overlapping_iter_refusal built asked =
+    refusal built.start_kind built.kind (OverlappingIterator asked.anchored) (has_empty built)

@@ -8,7 +8,7 @@ ghost use Rattle.ac_automaton.specs.Builds.{IsEngineBuilt, Refuses, noncontiguou
 ghost use Rattle.ac_automaton.specs.Tries.{IsTable, StandsFor, listed_within, stands-lists};
 ghost use Rattle.ac_automaton.specs.declared.nfa.noncontiguous.state.State.{State};
 
-use crate::automaton::Automaton;
+use crate::automaton::{Automaton, MatchRest};
 use ac_util::error::{BuildError, MatchError};
 use ac_util::looks::Looks;
 use ac_util::patterns::Patterns;
@@ -17,7 +17,7 @@ use ac_util::primitives::{PatternID, StateID};
 use ac_util::search::{Anchored, MatchKind};
 use growth::TrieLists;
 use state::{
-    ANCHORED_START, DEAD, FIRST_INNER, START, State, Transition, follow, listed_len, listed_pattern,
+    ANCHORED_START, DEAD, FIRST_INNER, START, State, Transition, follow, listed_len, take_listed,
 };
 use std::alloc::{Allocator, Global};
 use std::marker::Model;
@@ -193,7 +193,16 @@ impl<A: Allocator> Automaton for NFA<A> {
     }
 
     fn match_pattern(&self, sid: StateID, index: usize) -> PatternID {
-        listed_pattern(self.states(), self.order(), sid, index)
+        let rest = MatchRest { state: sid, index };
+        let Some((pattern, _rest)) = self.take_match(rest) else {
+            unreachable!()
+        };
+        pattern
+    }
+
+    #[inline]
+    fn take_match(&self, rest: MatchRest) -> Option<(PatternID, MatchRest)> {
+        take_listed(self.states(), self.order(), rest)
     }
 
     fn match_kind(&self) -> MatchKind {

@@ -5,8 +5,9 @@ ghost use Rattle.ac_util.specs.Counts.{more_looks};
 ghost use Rattle.ac_util.specs.Looks.{looks as looks_of_node};
 ghost use Rattle.ac_util.specs.Node.{Node, step};
 ghost use Rattle.ac_util.specs.Sameness.{plain_byte};
-ghost use Rattle.ac_automaton.specs.Tries.{HasState, IsTarget, Meaning, all_matches, transition_bytes, dead_state, transitions_of};
+ghost use Rattle.ac_automaton.specs.Tries.{HasState, IsTarget, Meaning, TakesFrom, all_matches, transition_bytes, dead_state, transitions_of};
 
+use crate::automaton::MatchRest;
 use ac_util::looks::Looks;
 use ac_util::primitives::{PatternID, StateID};
 use ac_util::search::Anchored;
@@ -177,25 +178,33 @@ pub(crate) fn listed_len(states: &[State], from: StateID) -> usize
     }
 }
 
-/// Returns one of these patterns by its place among them, those of the state itself first.
-pub(crate) fn listed_pattern(
+/// Returns the first of these patterns in a rest of the list, those of the state itself first, and the rest after
+/// it.
+#[inline]
+pub(crate) fn take_listed(
     states: &[State],
     order: &[PatternID],
-    from: StateID,
-    index: usize,
-) -> PatternID
-    requires state { (g : Meaning) × (u : Node) × (g.order ≡ order.now)
-        × HasState g states.now from u × (index < length (all_matches g u)) }
-    ensures { (g : Meaning) (u : Node) → g.order ≡ order.now → HasState g states.now from u
-        → slice_get (all_matches g u) index ≡ Some result }
+    rest: MatchRest,
+) -> Option<(PatternID, MatchRest)>
+    requires state { (g : Meaning) × (u : Node) × (g.order ≡ order.now) × HasState g states.now rest.state u }
+    ensures { (g : Meaning) (u : Node) → g.order ≡ order.now → HasState g states.now rest.state u
+        → TakesFrom g states.now u rest.index result }
 {
-    let mut at = from;
-    let mut left = index;
+    let mut at = rest.state;
+    let mut left = rest.index;
     loop {
         let state = &states[at.as_usize()];
         let len = state.patterns_len();
         if left < len {
-            return order[state.patterns as usize + left];
+            let pattern = order[state.patterns as usize + left];
+            let rest = MatchRest {
+                state: at,
+                index: left + 1,
+            };
+            return Some((pattern, rest));
+        }
+        if state.output_link.as_usize() == DEAD {
+            return None;
         }
         left -= len;
         at = state.output_link;

@@ -53,7 +53,7 @@ module _ (g : Over) (c : After-match_at-last g) where
       (up_to built c.self.inside.anchored c.self.inside.stops began c.args.start)
   picked =
       c.match_at-last.ensures (node_at built c.self.inside.anchored c.self.inside.stops began c.args.start)
-      come.there (node-fits built c.self.inside.anchored began c.args.start (omega arith) inside)
+      come.reaches.there (node-fits built c.self.inside.anchored began c.args.start (omega arith) inside)
       ∙ sym (find.picked-start built c.self.inside.anchored c.self.inside.stops began inside)
 
 -- what the find has done is told of the finder as it is seen
@@ -91,13 +91,13 @@ module _ (g : Over) (c : After-read_byte-state g) where
   come_on : HasCome (g.A.Automaton.stands c.self.inside.automaton.now anchored) g.A.Automaton.LOOKS
       (g.A.Automaton.filters c.self.inside.automaton.now) built_of anchored began_at c.read_byte-state.result (c.loop-at.at + 1) c.read_byte-state.new.tape
       c.read_byte-state.new.looks
-  come_on = c.read_byte-state.ensures began_at c.loop-at.invariant.come c.loop-at.invariant.living
+  come_on = c.read_byte-state.ensures.come began_at c.loop-at.invariant.come c.loop-at.invariant.living
 
   fits : FitsIn anchored node c.args.start (c.loop-at.at + 1)
-  fits = node-fits built_of anchored began_at (c.loop-at.at + 1) come_on.onward come_on.inside
+  fits = node-fits built_of anchored began_at (c.loop-at.at + 1) come_on.reaches.onward come_on.reaches.inside
 
   room : c.loop-at.at < length c.args.tape.now.bytes
-  room = let i = come_on.inside in omega arith
+  room = let i = come_on.reaches.inside in omega arith
 
   -- what the state finds is picked newly, or what was picked before still is
   newly : (m : Occurrence) → found_at built_of anchored node (c.loop-at.at + 1) ≡ Some m
@@ -105,14 +105,14 @@ module _ (g : Over) (c : After-read_byte-state g) where
       (up_to built_of anchored stops began_at (c.loop-at.at + 1))
   newly =
       find.picked-newly built_of anchored stops began_at c.loop-at.at c.loop-at.last
-      c.loop-at.invariant.come.onward room c.loop-at.invariant.picked c.loop-at.invariant.goes_on
+      c.loop-at.invariant.come.reaches.onward room c.loop-at.invariant.picked c.loop-at.invariant.goes_on
 
   still : found_at built_of anchored node (c.loop-at.at + 1) ≡ None
       → c.loop-at.last ≡ pick (order built_of anchored stops began_at)
       (up_to built_of anchored stops began_at (c.loop-at.at + 1))
   still =
       find.picked-still built_of anchored stops began_at c.loop-at.at c.loop-at.last
-      c.loop-at.invariant.come.onward room c.loop-at.invariant.picked c.loop-at.invariant.goes_on
+      c.loop-at.invariant.come.reaches.onward room c.loop-at.invariant.picked c.loop-at.invariant.goes_on
 
 pub returns-then-start-end : goal.returns-then-start-end
 returns-then-start-end g c =
@@ -149,17 +149,17 @@ loop-at-init g c =
 pub is_special-requires : goal.is_special-requires
 is_special-requires g c =
     let s = (goal.at.is_special-requires g c).After-read_byte-state in
-    record { state = (c.self.inside.anchored, (node g s, (come_on g s).there)) }
+    record { state = (c.self.inside.anchored, (node g s, (come_on g s).reaches.there)) }
 
 pub is_dead-requires : goal.is_dead-requires
 is_dead-requires g c =
     let s = (goal.at.is_dead-requires g c).After-read_byte-state in
-    record { state = (c.self.inside.anchored, (node g s, (come_on g s).there)) }
+    record { state = (c.self.inside.anchored, (node g s, (come_on g s).reaches.there)) }
 
 pub match_at-requires : goal.match_at-requires
 match_at-requires g c =
     let s = (goal.at.match_at-requires g c).After-read_byte-state in
-    record { state = (node g s, (come_on g s).there, fits g s) }
+    record { state = (node g s, (come_on g s).reaches.there, fits g s) }
 
 -- from the dead node on what was picked stays
 pub returns-then-is_dead : goal.returns-then-is_dead
@@ -167,15 +167,15 @@ returns-then-is_dead g c =
     let s = (goal.at.returns-then-is_dead g c).After-read_byte-state in
     let inv = c.loop-at.invariant in
     let on = come_on g s in
-    let dead = (c.is_dead.ensures c.self.inside.anchored (node g s) on.there).0 c.if-is_dead.true in
+    let dead = (c.is_dead.ensures c.self.inside.anchored (node g s) on.reaches.there).0 c.if-is_dead.true in
     told g (goal.at.returns-then-is_dead g c).After-match_at-last c.loop-at.last c.read_byte-state.new.tape c.read_byte-state.new.looks
     (find.searched (built_of g s) c.self.inside.anchored c.self.inside.stops (began_at g s) on c.loop-at.last
     (find.picked-dead (built_of g s) c.self.inside.anchored c.self.inside.stops (began_at g s) c.loop-at.at
-    c.loop-at.last inv.come.onward (room g s) inv.picked inv.goes_on (omega arith) c.requires.end_within dead)
+    c.loop-at.last inv.come.reaches.onward (room g s) inv.picked inv.goes_on (omega arith) c.requires.end_within dead)
     (omega arith)
     (still g s (find.found-dead (built_of g s) c.self.inside.anchored (node g s) (c.loop-at.at + 1) dead))
     (find.goes_on-none (built_of g s).kind _ c.loop-at.last _ inv.goes_on)
-    (λ same. let w = on.whole same in let p = on.read.within in let n = inv.come.onward in
+    (λ same. let w = on.whole same in let p = on.read.within in let n = inv.come.reaches.onward in
     inr (inr (subst (λ (n : ℕ). node_at (built_of g s) c.self.inside.anchored c.self.inside.stops (began_at g s) n
     ≡ None) (omega arith) dead))))
 
@@ -184,7 +184,7 @@ pub returns-then-self-2 : goal.returns-then-self-2
 returns-then-self-2 g c =
     let s = (goal.at.returns-then-self-2 g c).After-read_byte-state in
     let on = come_on g s in
-    let here = sym (c.match_at.ensures (node g s) on.there (fits g s)) ∙ c.in-Some.is in
+    let here = sym (c.match_at.ensures (node g s) on.reaches.there (fits g s)) ∙ c.in-Some.is in
     let standard = ap (λ (t : Bool). order_of (built_of g s).kind t) c.if-self-2.true in
     told g (goal.at.returns-then-self-2 g c).After-match_at-last (Some c.in-Some.found) c.read_byte-state.new.tape c.read_byte-state.new.looks
     (find.searched (built_of g s) c.self.inside.anchored c.self.inside.stops (began_at g s) on
@@ -206,20 +206,20 @@ loop-at-preserved g c =
       come = on;
       living = λ dead. elim c.if-is_special.branch [
         | then-is_special+else-is_dead+in-Some+else-self-2 w ↦
-            false≢true (sym w.if-is_dead.false ∙ (w.is_dead.ensures anchored (node g s) on.there).1 dead)
+            false≢true (sym w.if-is_dead.false ∙ (w.is_dead.ensures anchored (node g s) on.reaches.there).1 dead)
         | then-is_special+else-is_dead+in_default w ↦
-            false≢true (sym w.if-is_dead.false ∙ (w.is_dead.ensures anchored (node g s) on.there).1 dead)
+            false≢true (sym w.if-is_dead.false ∙ (w.is_dead.ensures anchored (node g s) on.reaches.there).1 dead)
         | else-is_special w ↦
             false≢true (sym w.if-is_special.false
-            ∙ c.is_special.ensures anchored (node g s) on.there (inl dead))
+            ∙ c.is_special.ensures anchored (node g s) on.reaches.there (inl dead))
       ];
       picked = elim c.if-is_special.branch [
         | then-is_special+else-is_dead+in-Some+else-self-2 w ↦
             w.last-is ∙ newly g s w.in-Some.found
-            (sym (w.match_at.ensures (node g s) on.there (fits g s)) ∙ w.in-Some.is)
+            (sym (w.match_at.ensures (node g s) on.reaches.there (fits g s)) ∙ w.in-Some.is)
         | then-is_special+else-is_dead+in_default w ↦
             w.last-is ∙ still g s
-            (sym (w.match_at.ensures (node g s) on.there (fits g s)) ∙ w.in_default.is)
+            (sym (w.match_at.ensures (node g s) on.reaches.there (fits g s)) ∙ w.in_default.is)
         | else-is_special w ↦
             w.last-is
             ∙ still g s
@@ -227,11 +227,11 @@ loop-at-preserved g c =
             (g.A.Automaton.listed c.self.inside.automaton.now c.read_byte-state.result) c.args.start
             (c.loop-at.at + 1) anchored (node g s)
             (g.met.A.Automaton.lists c.self.inside.automaton.now anchored c.read_byte-state.result (node g s)
-            on.there)
+            on.reaches.there)
             (nil-from_not (g.A.Automaton.listed c.self.inside.automaton.now c.read_byte-state.result)
             (λ some. false≢true
             (sym w.if-is_special.false
-            ∙ c.is_special.ensures anchored (node g s) on.there (inr (inr some))))))
+            ∙ c.is_special.ensures anchored (node g s) on.reaches.there (inr (inr some))))))
       ];
       goes_on = elim c.if-is_special.branch [
         | then-is_special+else-is_dead+in-Some+else-self-2 w ↦

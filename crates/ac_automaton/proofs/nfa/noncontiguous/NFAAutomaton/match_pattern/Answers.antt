@@ -1,27 +1,18 @@
-use Rattle.std.proofs.Common.{ℕ, List, ap, sym, ◌∙◌}
-use Rattle.std.specs.Prelude.{slice_get}
-use Rattle.ac_automaton.proofs.Tables.{has-state, listed-matches, meaning}
+use Rattle.std.proofs.Common.{ℕ, length, ap, arith, length-drop}
+use Rattle.ac_automaton.specs.Tries.{listed_within}
+use Rattle.ac_automaton.proofs.Places.{slice_get-from_drop}
 use Rattle.ac_automaton.proofs.nfa.noncontiguous.NFAAutomaton.match_pattern.Goals as goal
 
-pub listed_pattern-requires : goal.listed_pattern-requires
-listed_pattern-requires g c =
-    let stands = c.requires.state.1 in
-    let within =
-    rw (listed-matches c.args.self.now c.args.sid stands.0 stands.1) at c.requires.within in record {
-      state = (
-        meaning c.args.self.now c.args.sid stands.0 stands.1,
-        stands.0,
-        sym c.order.ensures,
-        rw c.states.ensures.value (has-state c.args.self.now c.args.sid stands.0 stands.1),
-        within,
-      );
-    }
+-- a match is left where the index is one of the list
+pub unreachable-requires : goal.unreachable-requires
+unreachable-requires g c =
+    let trie = c.args.self.now in
+    let listed = listed_within trie.order trie.states c.args.sid c.args.sid in
+    let none = ap (length {A = ℕ}) c.in_default.ensures.taken in
+    let long = length-drop c.args.index listed in
+    omega (arith, none, long, c.requires.within)
 
 pub returns : goal.returns
 returns g c =
-    let stands = c.requires.state.1 in
-    ap (λ (ns : List ℕ). slice_get ns c.args.index)
-    (listed-matches c.args.self.now c.args.sid stands.0 stands.1)
-    ∙ c.listed_pattern.ensures (meaning c.args.self.now c.args.sid stands.0 stands.1) stands.0
-    (sym c.order.ensures)
-    (rw c.states.ensures.value (has-state c.args.self.now c.args.sid stands.0 stands.1))
+    let trie = c.args.self.now in
+    slice_get-from_drop (listed_within trie.order trie.states c.args.sid c.args.sid) c.args.index _ _ c.in-Some.ensures.taken

@@ -1,0 +1,394 @@
+-- A listing that reads byte by byte: which item is due where the automaton stands, and what is listed with one byte
+-- more.
+use Rattle.std.proofs.Common.{◌≡◌, ◌≢◌, ◌⊎◌, ℕ, suc, ◌+◌, ◌-◌, ◌<◌, ◌≤◌, Bool, true, false, cond, List, [], ◌∷◌, ◌++◌, map, length, length-append, inl, inr, refl, ap, sym, subst, ◌∙◌, arith, Option, Some, None}
+use Rattle.std.specs.Prelude.{All, IfSome, nat_lt, slice_get, drop}
+use Rattle.std.specs.List.{take_while}
+use Rattle.std.proofs.lemmas.Bool.{le-ltb, lt-ltb}
+use Rattle.std.proofs.lemmas.List.{append_assoc, append-nil, length-map}
+use Rattle.std.proofs.lemmas.List.Sums.{take_while-cons}
+use Rattle.std.proofs.lemmas.Option.{slice_get_past}
+use Rattle.ac_util.specs.declared.search.MatchKind.{MatchKind}
+use Rattle.ac_util.specs.declared.search.MatchKind.TheVariants.{Standard}
+use Rattle.ac_util.specs.declared.search.Anchored.{Anchored}
+use Rattle.ac_util.specs.Built.{Built}
+use Rattle.ac_util.specs.Counts.{Taped, no_counts}
+use Rattle.ac_util.specs.Listing.{all, item_at, place_after}
+use Rattle.ac_util.specs.Node.{Node, reached}
+use Rattle.ac_util.specs.Occurrence.{Occurrence}
+use Rattle.ac_util.specs.Search.{Occurs, Search, pattern_of}
+use Rattle.ac_util.specs.Text.{ending, found_at_end, longer_by, plain_patterns, text}
+use Rattle.ac_util.proofs.Lists.{IsIn, IsIn-append_right}
+use Rattle.ac_util.proofs.Listing.{all-only}
+use Rattle.ac_util.proofs.ListingBeginning.{ListsMore, all-dead, all-longer_by}
+use Rattle.ac_util.proofs.ListingLonger.{all-empty, all-longer}
+use Rattle.ac_automaton.specs.declared.automaton.overlap.MatchRest.{MatchRest}
+use Rattle.ac_automaton.specs.declared.automaton.overlap.Reached.{Reached}
+use Rattle.ac_automaton.specs.Automata.{IsState, Lists, matches_of}
+use Rattle.ac_automaton.specs.Overlaps.{HasGiven, HasListed, HasMoved, due_in, given_in, is_due, rest_in}
+use Rattle.ac_automaton.specs.Progress.{Reaches, node_at, search_of}
+use Rattle.ac_automaton.proofs.Due.{counts, listed-due, listed-numbered}
+use Rattle.ac_automaton.proofs.ReadOn.{node-fits}
+
+-- the element behind a list in two lists put together
+get-behind : {X : Type 0} (xs ys : List X) (y : X) → slice_get (xs ++ y ∷ ys) (length xs) ≡ Some y
+get-behind [] ys y = refl
+get-behind (x ∷ xs) ys y = get-behind xs ys y
+
+-- the item of a listing that stands behind so many, and the place after it
+pub record IsItem (q : Search) (place : ℕ) (m : Occurrence) : Type 0 where
+  pub item : item_at q place ≡ Some m
+  pub after : place_after q place ≡ place + 1
+
+item-behind : (q : Search) (before later : List Occurrence) (m : Occurrence) → all q ≡ before ++ m ∷ later
+    → IsItem q (length before) m
+item-behind q before later m e =
+    let long = ap length e ∙ length-append before (m ∷ later) in
+    record {
+      item = ap (λ (ms : List Occurrence). slice_get ms (length before)) e ∙ get-behind before later m;
+      after = ap (λ (t : Bool). cond t (length before + 1) (length before))
+          (lt-ltb (length before) (length (all q)) (omega arith));
+    }
+
+-- behind the last item there is none, and the place stays
+pub record IsPast (q : Search) (place : ℕ) : Type 0 where
+  pub item : item_at q place ≡ None
+  pub after : place_after q place ≡ place
+
+pub past-all : (q : Search) → IsPast q (length (all q))
+past-all q = record {
+  item = slice_get_past (all q) (length (all q)) (omega arith);
+  after = ap (λ (t : Bool). cond t (length (all q) + 1) (length (all q)))
+      (le-ltb (length (all q)) (length (all q)) (omega arith));
+}
+
+module _ (built : Built) (anchored : Anchored) (bytes : List ℕ) (start end : ℕ) where
+  -- what is searched, and as far as a place
+  abbrev pub q : Search
+  q = search_of built anchored bytes start end
+
+  abbrev pub up_to : ℕ → Search
+  up_to at = record q { high = at }
+
+  -- the matches where the automaton has reached a place
+  abbrev pub matches_at : ℕ → List ℕ
+  matches_at at = matches_of built anchored (node_at built.kind q at)
+
+  -- the same by Standard, as the listing goes on
+  matches-listed : built.kind ≡ Standard → (at : ℕ) → found_at_end Standard (up_to at) ≡ matches_at at
+  matches-listed standard at = ap (λ (kind : MatchKind). found_at_end kind (up_to at)) (sym standard)
+
+  -- at the start the matches of the start state are listed
+  pub listing-start : built.kind ≡ Standard → start ≤ length bytes
+      → all (up_to start) ≡ map (ending (up_to start)) (matches_at start)
+  listing-start standard inside =
+      all-empty (up_to start) refl inside
+      ∙ ap (map (ending (up_to start))) (matches-listed standard start)
+
+  -- and with one byte more those of the state that it leads to
+  pub listing-next : built.kind ≡ Standard → (at : ℕ) → start ≤ at → at < length bytes
+      → all (up_to (at + 1)) ≡ all (up_to at) ++ map (ending (up_to (at + 1))) (matches_at (at + 1))
+  listing-next standard at ordered room =
+      all-longer (up_to at) ordered room
+      ∙ ap (λ (ns : List ℕ). all (up_to at) ++ map (ending (up_to (at + 1))) ns)
+      (matches-listed standard (at + 1))
+
+  module _ {stands : ℕ → Node → Type 0} (listed : ℕ → List ℕ) where
+    -- all matches are due where a state was just come to
+    pub due-arrived : (state at : ℕ) → Reaches stands built.kind q state at
+        → Lists built anchored (node_at built.kind q at) (listed state)
+        → due_in listed q (record { state = state; at = at; rest = record { state = state; index = 0 } })
+        ≡ matches_at at
+    due-arrived state at reaches lists =
+        listed-due built (listed state) start at anchored (node_at built.kind q at) lists
+        (node-fits built anchored (record {
+          start = start;
+          end = end;
+          tape = record { bytes = bytes; place = 0 };
+          counts = no_counts;
+        }) at reaches.onward reaches.inside)
+
+    -- so what was listed before was given
+    pub given-arrived : (state at : ℕ) → Reaches stands built.kind q state at
+        → Lists built anchored (node_at built.kind q at) (listed state) → (before : List Occurrence)
+        → all (up_to at) ≡ before ++ map (ending (up_to at)) (matches_at at)
+        → given_in listed q (record { state = state; at = at; rest = record { state = state; index = 0 } })
+        ≡ length before
+    given-arrived state at reaches lists before listing =
+        let due = ap (length {A = ℕ}) (due-arrived state at reaches lists) in
+        let long = ap length listing ∙ length-append before (map (ending (up_to at)) (matches_at at)) in
+        let all_of = length-map (matches_at at) (ending (up_to at)) in
+        omega arith
+
+    -- a listing has come to a state whose matches are the last items listed
+    pub arrives : (state at : ℕ) → Reaches stands built.kind q state at → at ≤ end
+        → Lists built anchored (node_at built.kind q at) (listed state) → (before : List Occurrence)
+        → all (up_to at) ≡ before ++ map (ending (up_to at)) (matches_at at)
+        → HasListed stands listed built.kind q
+        (record { state = state; at = at; rest = record { state = state; index = 0 } })
+    arrives state at reaches within lists before listing = record {
+      reaches = reaches;
+      within = within;
+      state = (node_at built.kind q at, reaches.there);
+      numbered = listed-numbered built (listed state) start at anchored (node_at built.kind q at) lists;
+      given = before;
+      listing = listing ∙ ap (λ (ns : List ℕ). before ++ map (ending (up_to at)) ns)
+          (sym (due-arrived state at reaches lists));
+    }
+
+  module _ {stands : ℕ → Node → Type 0} {listed : ℕ → List ℕ} {reached : Reached}
+      (on : HasListed stands listed built.kind q reached) where
+    abbrev here : Search
+    here = up_to reached.at
+
+    -- how many items were given
+    given-count : given_in listed q reached ≡ length on.given
+    given-count =
+        let long = ap length on.listing
+        ∙ length-append on.given (map (ending here) (due_in listed q reached)) in
+        let due = length-map (due_in listed q reached) (ending here) in
+        omega arith
+
+    -- what is due, by the first match in the rest of the list
+    due-first : (n : ℕ) (rest : MatchRest) → rest_in listed reached.rest ≡ n ∷ rest_in listed rest
+        → due_in listed q reached
+        ≡ cond (counts built anchored (reached.at - start) n) (n ∷ due_in listed q (record reached { rest = rest })) []
+    due-first n rest e =
+        ap (take_while (counts built anchored (reached.at - start))) e
+        ∙ take_while-cons (counts built anchored (reached.at - start)) n (rest_in listed rest)
+
+    -- what is due first occurs
+    due-occurs : (n : ℕ) (later : List ℕ) → due_in listed q reached ≡ n ∷ later → Occurs here (ending here n)
+    due-occurs n later e =
+        all-only here (ending here n)
+        (subst (λ (ms : List Occurrence). IsIn (ending here n) ms)
+        (sym (on.listing ∙ ap (λ (ns : List ℕ). on.given ++ map (ending here) ns) e))
+        (IsIn-append_right (ending here n) on.given (map (ending here) (n ∷ later)) (inl refl)))
+
+    -- a match that counts is no longer than what was read
+    pub due-short : (n : ℕ) (rest : MatchRest) → rest_in listed reached.rest ≡ n ∷ rest_in listed rest
+        → counts built anchored (reached.at - start) n ≡ true
+        → length (pattern_of built.patterns n) ≤ reached.at
+    due-short n rest e counted =
+        let o = due-occurs n (due_in listed q (record reached { rest = rest }))
+        (due-first n rest e ∙ ap (λ (t : Bool). cond t (n ∷ due_in listed q (record reached { rest = rest })) []) counted) in
+        let l = o.as_long in let h = o.to_high in omega arith
+
+    -- the first match in the rest of the list has a number
+    pub first-numbered : (n : ℕ) (rest : MatchRest) → rest_in listed reached.rest ≡ n ∷ rest_in listed rest
+        → n < length built.patterns
+    first-numbered n rest e =
+        subst (λ (ns : List ℕ). All (λ k. k < length built.patterns) ns) e on.numbered 0 n (omega arith)
+
+    -- it is given where it counts
+    pub gives-first : (n : ℕ) (rest : MatchRest) → rest_in listed reached.rest ≡ n ∷ rest_in listed rest
+        → counts built anchored (reached.at - start) n ≡ true → IsState stands rest.state
+        → HasGiven stands listed built.kind q reached (Some (ending here n)) (record reached { rest = rest })
+    gives-first n rest e counted state =
+        let later = due_in listed q (record reached { rest = rest }) in
+        let due = due-first n rest e ∙ ap (λ (t : Bool). cond t (n ∷ later) []) counted in
+        record {
+          state = refl;
+          at = refl;
+          due = due;
+          ending = refl;
+          leaves = record {
+            reaches = on.reaches;
+            within = on.within;
+            state = state;
+            numbered = λ i k inside.
+                subst (λ (ns : List ℕ). All (λ k. k < length built.patterns) ns) e on.numbered (suc i) k
+                (omega arith);
+            given = on.given ++ ending here n ∷ [];
+            listing = on.listing ∙ ap (λ (ns : List ℕ). on.given ++ map (ending here) ns) due
+                ∙ sym (append_assoc on.given (ending here n ∷ []) (map (ending here) later));
+          };
+        }
+
+    -- else nothing is
+    pub nothing-due : due_in listed q reached ≡ [] → HasGiven stands listed built.kind q reached None reached
+    nothing-due none = record { state = refl; at = refl; due = (none, refl); ending = tt; leaves = on }
+
+    pub gives-none : rest_in listed reached.rest ≡ [] → HasGiven stands listed built.kind q reached None reached
+    gives-none none = nothing-due (ap (take_while (counts built anchored (reached.at - start))) none)
+
+    pub gives-not : (n : ℕ) (rest : MatchRest) → rest_in listed reached.rest ≡ n ∷ rest_in listed rest
+        → counts built anchored (reached.at - start) n ≡ false
+        → HasGiven stands listed built.kind q reached None reached
+    gives-not n rest e short =
+        nothing-due (due-first n rest e
+        ∙ ap (λ (t : Bool). cond t (n ∷ due_in listed q (record reached { rest = rest })) []) short)
+
+    -- the listing of the whole span goes on behind what is listed so far
+    goes_on : end ≤ length bytes → ListsMore here q
+    goes_on legal =
+        let order = on.reaches.onward in
+        let within = on.within in
+        subst (λ (h : ℕ). ListsMore here (record q { high = h }))
+        (let e : reached.at + (end - reached.at) ≡ end = omega arith in e)
+        (all-longer_by here (end - reached.at) order (omega arith))
+
+    -- the match given is the next item
+    pub given-item : end ≤ length bytes → (m : Occurrence) (new_reached : Reached)
+        → HasGiven stands listed built.kind q reached (Some m) new_reached → IsItem q (given_in listed q reached) m
+    given-item legal m new_reached gave =
+        let more = goes_on legal in
+        let later = map (ending here) (due_in listed q new_reached) in
+        subst (λ (n : ℕ). IsItem q n m) (sym given-count)
+        (item-behind q on.given (later ++ more.later) m
+        (more.goes_on ∙ ap (λ (ms : List Occurrence). ms ++ more.later)
+        (on.listing ∙ ap (λ (ns : List ℕ). on.given ++ map (ending here) ns) gave.due
+        ∙ ap (λ (o : Occurrence). on.given ++ o ∷ later) (sym gave.ending))
+        ∙ append_assoc on.given (m ∷ later) more.later))
+
+    -- and the place is one further
+    pub given-place : (m : Occurrence) (new_reached : Reached)
+        → HasGiven stands listed built.kind q reached (Some m) new_reached
+        → given_in listed q new_reached ≡ given_in listed q reached + 1
+    given-place m new_reached gave =
+        let long = ap length on.listing
+        ∙ length-append on.given (map (ending here) (due_in listed q reached)) in
+        let due = length-map (due_in listed q reached) (ending here) in
+        let one = ap (length {A = ℕ}) gave.due in
+        let same = ap (λ (at : ℕ). length (all (up_to at))) gave.at in
+        omega arith
+
+    -- where nothing is due all items that end up to there were given
+    pub given-all : due_in listed q reached ≡ [] → given_in listed q reached ≡ length (all here)
+    given-all none = let l = ap (length {A = ℕ}) none in omega arith
+
+    -- so at the end of the span, and where the automaton is dead, the listing is at its end
+    pub given-past : built.kind ≡ Standard → end ≤ length bytes → due_in listed q reached ≡ []
+        → (reached.at ≡ end) ⊎ (node_at built.kind q reached.at ≡ None) → IsPast q (given_in listed q reached)
+    given-past standard legal none over =
+        subst (IsPast q) (sym (given-all none ∙ ap length (sym (whole over)))) (past-all q)
+      where
+        whole : (reached.at ≡ end) ⊎ (node_at built.kind q reached.at ≡ None) → all q ≡ all here
+        whole (inl e) = ap (λ (h : ℕ). all (up_to h)) (sym e)
+        whole (inr dead) =
+            let order = on.reaches.onward in
+            let within = on.within in
+            ap (λ (h : ℕ). all (up_to h)) (let e : end ≡ reached.at + (end - reached.at) = omega arith in e)
+            ∙ all-dead here order
+            (ap (λ (kind : MatchKind). reached_by kind) (sym standard) ∙ dead)
+            (end - reached.at) (omega arith)
+          where
+            reached_by : MatchKind → Node
+            reached_by kind = node_at kind q reached.at
+
+    -- a match that was given, or that none is due at the end, is the next item of a listing that had given so many
+    pub has-moved : (old : Reached) (found : Option Occurrence) (new_reached : Reached) (tape new_tape : Taped)
+        → built.kind ≡ Standard → end ≤ length bytes
+        → given_in listed q reached ≡ given_in listed q old
+        → HasGiven stands listed built.kind q reached found new_reached
+        → (found ≡ None → (reached.at ≡ end) ⊎ (node_at built.kind q reached.at ≡ None))
+        → new_tape.bytes ≡ tape.bytes → tape.place ≤ new_tape.place → new_tape.place ≤ reached.at
+        → HasMoved stands listed built.kind q old found new_reached tape new_tape
+    has-moved old None new_reached tape new_tape standard legal as_many gave over same onward unread =
+        let past = subst (IsPast q) as_many (given-past standard legal gave.due.0 (over refl)) in
+        subst (λ (r : Reached). HasMoved stands listed built.kind q old None r tape new_tape) (sym gave.due.1)
+        (record {
+          item = sym past.item;
+          place = as_many ∙ sym past.after;
+          leaves = on;
+          ends = tt;
+          bytes = same;
+          onward = onward;
+          unread = unread;
+          whole = λ _. over refl;
+        })
+    has-moved old (Some m) new_reached tape new_tape standard legal as_many gave over same onward unread =
+        let next = subst (λ (n : ℕ). IsItem q n m) as_many (given-item legal m new_reached gave) in
+        let there = gave.at in
+        let end_of = ap (λ (o : Occurrence). o.end) gave.ending in
+        record {
+          item = sym next.item;
+          place = given-place m new_reached gave ∙ ap (λ (n : ℕ). n + 1) as_many ∙ sym next.after;
+          leaves = gave.leaves;
+          ends = end_of ∙ sym there;
+          bytes = same;
+          onward = onward;
+          unread = omega arith;
+          whole = λ none. absurd (cc);
+        }
+
+  -- all items that end up to a place were given of a listing that had given so many, and nothing is due where it was
+  -- kept last, nor at the place
+  pub record HasPassed (stands : ℕ → Node → Type 0) (listed : ℕ → List ℕ) (old reached : Reached) (state at : ℕ)
+      : Type 0 where
+    pub given : length (all (up_to at)) ≡ given_in listed q old
+    pub leaves : HasListed stands listed built.kind q reached
+    pub none : due_in listed q reached ≡ []
+    pub before : reached.at ≤ at
+    pub empty : reached.at < at → matches_at at ≡ []
+    pub same : reached.at ≡ at → reached.state ≡ state
+
+  module _ {stands : ℕ → Node → Type 0} {listed : ℕ → List ℕ} {old : Reached} where
+    -- where nothing is due at the place to which the listing has come
+    pub passed-here : {reached : Reached} → HasListed stands listed built.kind q reached
+        → given_in listed q reached ≡ given_in listed q old → due_in listed q reached ≡ []
+        → HasPassed stands listed old reached reached.state reached.at
+    passed-here on as_many none = record {
+      given = sym (given-all on none) ∙ as_many;
+      leaves = on;
+      none = none;
+      before = omega arith;
+      empty = λ below. absurd (omega arith);
+      same = λ _. refl;
+    }
+
+    -- and at the next one, where that has no matches
+    pub passed-on : {reached : Reached} {state at : ℕ} → HasPassed stands listed old reached state at → (next : ℕ)
+        → all (up_to (at + 1)) ≡ all (up_to at) ++ map (ending (up_to (at + 1))) (matches_at (at + 1))
+        → matches_at (at + 1) ≡ [] → HasPassed stands listed old reached next (at + 1)
+    passed-on {at = at} passed next goes_on none =
+        let before = passed.before in
+        record {
+          given = ap length (goes_on ∙ ap (λ (ns : List ℕ). all (up_to at) ++ map (ending (up_to (at + 1))) ns) none
+              ∙ append-nil (all (up_to at))) ∙ passed.given;
+          leaves = passed.leaves;
+          none = passed.none;
+          before = omega arith;
+          empty = λ _. none;
+          same = λ e. absurd (omega arith);
+        }
+
+  -- a listing that had given so many is at the end of the span, in this state, and nothing is due there
+  pub record IsAtEnd (stands : ℕ → Node → Type 0) (listed : ℕ → List ℕ) (old reached : Reached) (state : ℕ)
+      : Type 0 where
+    pub leaves : HasListed stands listed built.kind q reached
+    pub as_many : given_in listed q reached ≡ given_in listed q old
+    pub none : due_in listed q reached ≡ []
+    pub at : reached.at ≡ end
+    pub stands_at : reached.state ≡ state
+
+  module _ {stands : ℕ → Node → Type 0} {listed : ℕ → List ℕ} {old reached : Reached} {state at : ℕ}
+      (passed : HasPassed stands listed old reached state at) (there : at ≡ end) where
+    -- where the listing was kept last at the end
+    pub at_end-kept : end ≤ reached.at → IsAtEnd stands listed old reached state
+    at_end-kept kept =
+        let before = passed.before in
+        let same : reached.at ≡ at = omega arith in
+        record {
+          leaves = passed.leaves;
+          as_many = given-all passed.leaves passed.none ∙ ap (λ (n : ℕ). length (all (up_to n))) same ∙ passed.given;
+          none = passed.none;
+          at = same ∙ there;
+          stands_at = passed.same same;
+        }
+
+    -- or before it
+    pub at_end-read : reached.at < end → Reaches stands built.kind q state at
+        → Lists built anchored (node_at built.kind q at) (listed state)
+        → IsAtEnd stands listed old
+        (record { state = state; at = at; rest = record { state = state; index = 0 } }) state
+    at_end-read below reaches lists =
+        let none = passed.empty (omega arith) in
+        let nothing = sym (append-nil (all (up_to at)))
+        ∙ ap (λ (ns : List ℕ). all (up_to at) ++ map (ending (up_to at)) ns) (sym none) in
+        record {
+          leaves = arrives listed state at reaches (omega arith) lists (all (up_to at)) nothing;
+          as_many = given-arrived listed state at reaches lists (all (up_to at)) nothing ∙ passed.given;
+          none = due-arrived listed state at reaches lists ∙ none;
+          at = there;
+          stands_at = refl;
+        }

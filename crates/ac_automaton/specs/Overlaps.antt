@@ -1,0 +1,182 @@
+-- The places of an overlapping search: where its automaton stands, and how many items of the listing were given.
+use Rattle.std.specs.Prelude.{◌≡◌, ◌⊎◌, ℕ, ◌-◌, ◌<◌, ◌≤◌, ◌==◌, Bool, true, List, ◌∷◌, ◌++◌, [], length, map, drop, All, Option, None, Some, IfSome, MatchOption, max}
+use Rattle.std.specs.Iterator.{YieldsFirst}
+use Rattle.std.specs.List.{take_while}
+use Rattle.ac_util.specs.declared.search.Anchored.{Anchored}
+use Rattle.ac_util.specs.declared.search.Anchored.TheVariants.{No, Yes}
+use Rattle.ac_util.specs.declared.search.MatchKind.{MatchKind}
+use Rattle.ac_util.specs.declared.search.MatchKind.TheVariants.{Standard}
+use Rattle.ac_util.specs.Asked.{Asked}
+use Rattle.ac_util.specs.Built.{Built, search_in}
+use Rattle.ac_util.specs.Counts.{Counts, Taped, no_counts}
+use Rattle.ac_util.specs.Listing.{all, item_at, place_after}
+use Rattle.ac_util.specs.Node.{Node}
+use Rattle.ac_util.specs.Occurrence.{Occurrence}
+use Rattle.ac_util.specs.Prefilters.{may_skip}
+use Rattle.ac_util.specs.Search.{Search, pattern_of}
+use Rattle.ac_util.specs.Text.{ending}
+use Rattle.ac_automaton.specs.declared.automaton.overlap.MatchRest.{MatchRest}
+use Rattle.ac_automaton.specs.declared.automaton.overlap.OverlappingState.{OverlappingState}
+use Rattle.ac_automaton.specs.declared.automaton.overlap.Reached.{Reached}
+use Rattle.ac_automaton.specs.Automata.{IsState}
+use Rattle.ac_automaton.specs.Progress.{Beginning, Grows, HasCome, HasRead, Reaches, most_looks, node_at, search_of}
+
+-- the matches in a rest of a match list
+abbrev pub rest_in : (ℕ → List ℕ) → MatchRest → List ℕ
+rest_in listed rest = drop rest.index (listed rest.state)
+
+-- r is the first match in a rest and the rest after it, or None where there is none
+abbrev pub Takes : (ℕ → List ℕ) → MatchRest → Option (ℕ × MatchRest) → Type 0
+Takes listed rest r =
+    MatchOption r (rest_in listed rest ≡ []) (λ first. rest_in listed rest ≡ first.0 ∷ rest_in listed first.1)
+
+-- whether a match of this length counts where so many bytes of the span were read: in an anchored search it has
+-- to be as long
+abbrev pub is_due : Anchored → ℕ → ℕ → Bool
+is_due No len read = true
+is_due Yes len read = len == read
+
+-- the matches that are still to be given where the automaton stands: those in front that count
+abbrev pub due_in : (ℕ → List ℕ) → Search → Reached → List ℕ
+due_in listed q reached =
+    take_while (λ n. is_due q.anchored (length (pattern_of q.patterns n)) (reached.at - q.low))
+    (rest_in listed reached.rest)
+
+-- how many items of the listing were given: all that end up to there but those still to be given
+abbrev pub given_in : (ℕ → List ℕ) → Search → Reached → ℕ
+given_in listed q reached =
+    length (all (record q { high = reached.at })) - length (due_in listed q reached)
+
+-- a listing has come to a place of the span: its automaton stands there at the node reached, and what is still to
+-- be given there are the last of the items that end up to there
+pub record HasListed (stands : ℕ → Node → Type 0) (listed : ℕ → List ℕ) (kind : MatchKind) (q : Search)
+    (reached : Reached) : Type 0 where
+  pub reaches : Reaches stands kind q reached.state reached.at
+  pub within : reached.at ≤ q.high
+  pub state : IsState stands reached.rest.state
+  pub numbered : All (λ n. n < length q.patterns) (rest_in listed reached.rest)
+  pub given : List Occurrence
+  pub listing : all (record q { high = reached.at })
+      ≡ given ++ map (ending (record q { high = reached.at })) (due_in listed q reached)
+
+-- the match that is due first where the automaton stands was given and passed over, or there is none; the automaton
+-- stands where it did
+pub record HasGiven (stands : ℕ → Node → Type 0) (listed : ℕ → List ℕ) (kind : MatchKind) (q : Search)
+    (reached : Reached) (found : Option Occurrence) (new_reached : Reached) : Type 0 where
+  pub state : new_reached.state ≡ reached.state
+  pub at : new_reached.at ≡ reached.at
+  pub due : MatchOption found ((due_in listed q reached ≡ []) × (new_reached ≡ reached))
+      (λ m. due_in listed q reached ≡ m.pattern ∷ due_in listed q new_reached)
+  pub ending : IfSome found (λ m. m ≡ ending (record q { high = reached.at }) m.pattern)
+  pub leaves : HasListed stands listed kind q new_reached
+
+-- the next item of the listing was given, or none past its end, by reading on; and past its end the automaton is at
+-- the end of the span, or dead
+pub record HasMoved (stands : ℕ → Node → Type 0) (listed : ℕ → List ℕ) (kind : MatchKind) (q : Search)
+    (reached : Reached) (found : Option Occurrence) (new_reached : Reached) (tape new_tape : Taped) : Type 0 where
+  pub item : found ≡ item_at q (given_in listed q reached)
+  pub place : given_in listed q new_reached ≡ place_after q (given_in listed q reached)
+  pub leaves : HasListed stands listed kind q new_reached
+  pub ends : IfSome found (λ m. m.end ≡ new_reached.at)
+  pub bytes : new_tape.bytes ≡ tape.bytes
+  pub onward : tape.place ≤ new_tape.place
+  pub unread : new_tape.place ≤ new_reached.at
+  pub whole : found ≡ None
+      → (new_reached.at ≡ q.high) ⊎ (node_at kind q new_reached.at ≡ None)
+
+-- a state of an overlapping search that has given nothing yet
+abbrev pub fresh : OverlappingState
+fresh = record { found = None; reached = None }
+
+-- the same where a listing may not have begun
+abbrev pub given_by : (ℕ → List ℕ) → Search → Option Reached → ℕ
+given_by listed q None = 0
+given_by listed q (Some reached) = given_in listed q reached
+
+-- the place of the listing for which a state stands: how many of its items were given
+abbrev pub place_by : (ℕ → List ℕ) → Search → OverlappingState → ℕ
+place_by listed q state = given_by listed q state.reached
+
+-- a state may be handed to an overlapping search: it is fresh, or a call over the same search has left it
+abbrev pub IsPlaced : (ℕ → Node → Type 0) → (ℕ → List ℕ) → MatchKind → Search → OverlappingState → Type 0
+IsPlaced stands listed kind q state = IfSome state.reached (HasListed stands listed kind q)
+
+-- a call has given the next item of the listing, or none past its end, and has left the state at the place after
+-- it
+pub record GivesNext (stands : ℕ → Node → Type 0) (listed : ℕ → List ℕ) (kind : MatchKind) (q : Search)
+    (state new_state : OverlappingState) : Type 0 where
+  pub item : new_state.found ≡ item_at q (place_by listed q state)
+  pub place : place_by listed q new_state ≡ place_after q (place_by listed q state)
+  pub placed : IsPlaced stands listed kind q new_state
+
+-- what is seen of an iterator over the listing: the items still to come; the search, and how many of its items
+-- were given; up to which place the tape was read; what was counted; and how many looks are allowed for each
+-- byte, and whether the automaton was built to have a prefilter
+pub record Overlapping : Type 0 where
+  pub rest : List Occurrence
+  pub search : Search
+  pub given : ℕ
+  pub place : ℕ
+  pub counts : Counts
+  pub most : ℕ
+  pub filters : Bool
+
+-- a listing of which so many items were given
+abbrev pub overlapping_of : ℕ → Bool → Search → ℕ → ℕ → Counts → Overlapping
+overlapping_of most filters q given place counts = record {
+  rest = drop given (all q);
+  search = q;
+  given = given;
+  place = place;
+  counts = counts;
+  most = most;
+  filters = filters;
+}
+
+-- a listing that begins: all its items are still to come
+abbrev pub listing_begun : ℕ → Built → Bool → Asked → Overlapping
+listing_begun most built filters asked = overlapping_of most filters (search_in built asked) 0 0 no_counts
+
+-- an iterator over the listing has given its next item, or had none. It has read on by the same tape, and nothing
+-- past the end of the item; unless it called the prefilter it has read as far as that, and past the last item
+-- the whole span; and in all it has done what one search of the span may do
+pub record ListsNext (listing : Overlapping) (found : Option Occurrence) (new_listing : Overlapping) : Type 0 where
+  pub gives : YieldsFirst (λ (l : Overlapping). l.rest) listing found new_listing
+  pub item : found ≡ item_at listing.search listing.given
+  pub same : new_listing ≡ record listing {
+    rest = new_listing.rest;
+    given = place_after listing.search listing.given;
+    place = new_listing.place;
+    counts = new_listing.counts;
+  }
+  pub onward : listing.place ≤ new_listing.place
+  pub grows : Grows listing.counts new_listing.counts
+  pub stops : IfSome found (λ m. new_listing.place ≤ max listing.place m.end)
+  pub told : new_listing.counts.calls ≡ 0
+      → IfSome found (λ m. m.end ≤ max listing.search.low new_listing.place)
+  pub whole : new_listing.counts.calls ≡ 0 → found ≡ None
+      → listing.search.high ≤ max listing.search.low new_listing.place
+  pub read : HasRead (most_looks listing.search.anchored listing.most)
+      (may_skip listing.filters listing.search) listing.search.low listing.search.high
+      (record { bytes = listing.search.haystack; place = 0 })
+      (record { bytes = listing.search.haystack; place = new_listing.place }) no_counts new_listing.counts
+
+-- how an iterator over the listing of a span begins: it has read nothing
+abbrev pub beginning_of : Search → Beginning
+beginning_of q = record {
+  start = q.low;
+  end = q.high;
+  tape = record { bytes = q.haystack; place = 0 };
+  counts = no_counts;
+}
+
+-- what an iterator over the listing keeps: it searches the bytes of its tape, unanchored and by Standard; where the
+-- span doesn't start past its end its automaton has read it as far as it has come, and else it has read nothing
+pub record IsListing (stands : ℕ → Node → Type 0) (listed : ℕ → List ℕ) (most : ℕ) (filters : Bool)
+    (built : Built) (q : Search) (reached : Option Reached) (tape : Taped) (counts : Counts) : Type 0 where
+  pub standard : built.kind ≡ Standard
+  pub unanchored : q.anchored ≡ No
+  pub legal : q.high ≤ length q.haystack
+  pub begun : MatchOption reached ((q.high < q.low) × (tape.place ≡ 0) × (counts ≡ no_counts))
+      (λ here. HasListed stands listed built.kind q here
+      × HasCome stands most filters built q.anchored (beginning_of q) here.state here.at tape counts)

@@ -1,0 +1,50 @@
+-- The listing of a span begins with that of each beginning of it, and ends where the dead node is reached.
+use Rattle.std.proofs.Common.{◌≡◌, ℕ, zero, suc, ◌+◌, ◌-◌, ◌<◌, ◌≤◌, List, [], ◌∷◌, ◌++◌, map, length, refl, ap, sym, ◌∙◌, arith, None}
+use Rattle.std.proofs.lemmas.List.{append_assoc, append-nil}
+use Rattle.ac_util.specs.declared.search.MatchKind.TheVariants.{Standard}
+use Rattle.ac_util.specs.Occurrence.{Occurrence}
+use Rattle.ac_util.specs.Search.{Search}
+use Rattle.ac_util.specs.Listing.{all}
+use Rattle.ac_util.specs.Node.{reached}
+use Rattle.ac_util.specs.Text.{ending, found_at_end, longer_by, one_longer, plain_patterns, text}
+use Rattle.ac_util.proofs.Lists.{nil-from_none}
+use Rattle.ac_util.proofs.Listing.{all-only}
+use Rattle.ac_util.proofs.ListingLonger.{all-longer}
+use Rattle.ac_util.proofs.OneLonger.{longer-suc, nothing_found}
+use Rattle.ac_util.proofs.Spans.{nothing-past_end}
+
+-- a span that begins past its end has nothing to list
+pub all-past_end : (q : Search) → q.high < q.low → all q ≡ []
+all-past_end q past = nil-from_none (all q) (λ m h. nothing-past_end q m past (all-only q m h))
+
+-- what a longer span lists besides
+pub record ListsMore (q longer : Search) : Type 0 where
+  pub later : List Occurrence
+  pub goes_on : all longer ≡ all q ++ later
+
+-- the listing of a span that ends n places later goes on with that of the span
+pub all-longer_by : (q : Search) (n : ℕ) → q.low ≤ q.high → q.high + n ≤ length q.haystack
+    → ListsMore q (longer_by q n)
+all-longer_by q zero order room = record {
+  later = [];
+  goes_on = ap (λ (h : ℕ). all (record q { high = h })) (omega arith) ∙ sym (append-nil (all q));
+}
+all-longer_by q (suc n) order room =
+    let before = all-longer_by q n order (omega arith) in
+    let new = map (ending (one_longer (longer_by q n))) (found_at_end Standard (one_longer (longer_by q n))) in
+    record {
+      later = before.later ++ new;
+      goes_on = ap all (longer-suc q n) ∙ all-longer (longer_by q n) (omega arith) (omega arith)
+          ∙ ap (λ (ms : List Occurrence). ms ++ new) before.goes_on ∙ append_assoc (all q) before.later new;
+    }
+
+-- once dead, nothing more is listed however much longer the span is
+pub all-dead : (q : Search) → q.low ≤ q.high
+    → reached Standard (plain_patterns q) q.anchored (text q) ≡ None
+    → (n : ℕ) → q.high + n ≤ length q.haystack → all (longer_by q n) ≡ all q
+all-dead q order dead zero room = ap (λ (h : ℕ). all (record q { high = h })) (omega arith)
+all-dead q order dead (suc n) room =
+    ap all (longer-suc q n) ∙ all-longer (longer_by q n) (omega arith) (omega arith)
+    ∙ ap (λ (ns : List ℕ). all (longer_by q n) ++ map (ending (one_longer (longer_by q n))) ns)
+    (sym (ap (found_at_end Standard) (longer-suc q n)) ∙ nothing_found Standard q order dead (suc n) room)
+    ∙ append-nil (all (longer_by q n)) ∙ all-dead q order dead n (omega arith)
