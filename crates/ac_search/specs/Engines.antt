@@ -1,18 +1,22 @@
--- What the engine of a searcher, and the iterator of an engine, is seen as.
+-- What the engine of a searcher, and the iterators of an engine, are seen as.
 use Rattle.std.specs.Prelude.{◌≡◌, ◌⊎◌, Bool, false}
 use Rattle.ac_util.specs.declared.search.StartKind.{StartKind}
 use Rattle.ac_util.specs.declared.search.StartKind.TheVariants.{Both}
 use Rattle.ac_util.specs.Built.{Built}
 use Rattle.ac_automaton.specs.Iterators.{Walking}
+use Rattle.ac_automaton.specs.Overlaps.{Overlapping}
 use Rattle.ac_search.specs.declared.ahocorasick.choice.AhoCorasickKind.{AhoCorasickKind}
 use Rattle.ac_search.specs.declared.ahocorasick.choice.AhoCorasickKind.TheVariants.{NoncontiguousNFA}
 use Rattle.ac_search.specs.declared.ahocorasick.engine.Engine.{Engine}
 use Rattle.ac_search.specs.declared.ahocorasick.engine.Engine.TheVariants.{Noncontiguous}
 use Rattle.ac_search.specs.declared.ahocorasick.engine.EngineFindIter.{EngineFindIter}
 use Rattle.ac_search.specs.declared.ahocorasick.engine.EngineFindIter.TheVariants.{Noncontiguous as ByNoncontiguous}
+use Rattle.ac_search.specs.declared.ahocorasick.engine.EngineFindOverlappingIter.{EngineFindOverlappingIter}
+use Rattle.ac_search.specs.declared.ahocorasick.engine.EngineFindOverlappingIter.TheVariants.{Noncontiguous as ListedByNoncontiguous}
 use Rattle.ac_search.specs.Searchers.{Searcher}
+use Rattle.ac_search.specs.States.{States, Noncontiguous as OfTrie}
 
--- what an engine was built from, whether to have a prefilter, and its name
+-- what an engine was built from, whether to have a prefilter, its name and its states
 abbrev pub built_of : {Z : Type 0} → Engine Z → Built
 built_of (Noncontiguous nfa) = nfa.value.built
 
@@ -22,12 +26,16 @@ filters_of (Noncontiguous nfa) = false
 abbrev pub name_of : {Z : Type 0} → Engine Z → AhoCorasickKind
 name_of (Noncontiguous nfa) = NoncontiguousNFA
 
+abbrev pub states_of : {Z : Type 0} → Engine Z → States
+states_of (Noncontiguous nfa) = OfTrie nfa.value
+
 -- an engine with the start kind of its searcher
 abbrev pub searcher_of : {Z : Type 0} → Engine Z → StartKind → Searcher
 searcher_of engine start_kind = record {
   built = record (built_of engine) { start_kind = start_kind };
   filters = filters_of engine;
   kind = name_of engine;
+  states = states_of engine;
 }
 
 -- the engine has the starts that its searcher supports: both, or just these
@@ -37,3 +45,6 @@ Supports engine start_kind =
 
 abbrev pub walking_in : {Z : Type 0} → EngineFindIter Z → Walking
 walking_in (ByNoncontiguous matches) = matches
+
+abbrev pub listing_in : {Z : Type 0} → EngineFindOverlappingIter Z → Overlapping
+listing_in (ListedByNoncontiguous items) = items

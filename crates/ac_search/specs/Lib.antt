@@ -1,7 +1,9 @@
 -- What is seen of a searcher and of its engine; then the definitions of the crates below that contracts of this
 -- crate cite, so that a user need not list those crates. Each keeps its name: `Built` here is `Built` of ac_util.
 pub mod Engines
+pub mod Places
 pub mod Searchers
+pub mod States
 -- what is asked, what occurs, and what answers it
 pub use Rattle.ac_util.specs.Asked
 pub use Rattle.ac_util.specs.Inputs
@@ -29,6 +31,7 @@ pub use Rattle.ac_util.specs.Plain
 -- builds and iterators
 pub use Rattle.ac_automaton.specs.Builds
 pub use Rattle.ac_automaton.specs.Iterators
+pub use Rattle.ac_automaton.specs.Overlaps
 pub use Rattle.ac_automaton.specs.Finders
 pub use Rattle.ac_automaton.specs.Finds
 pub use Rattle.ac_automaton.specs.Progress

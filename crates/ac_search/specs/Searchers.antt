@@ -1,5 +1,5 @@
--- What is seen of a searcher: what it was built from, whether to have a prefilter, and the name of its engine. No
--- answer of a search hangs on the last two.
+-- What is seen of a searcher: what it was built from, whether to have a prefilter, and the name and the states of
+-- its engine. No answer of a search hangs on the last three; an overlapping state is one for these states alone.
 use Rattle.std.specs.Prelude.{◌≡◌, ℕ, Bool, false, List, Option, None, unwrap_or}
 use Rattle.ac_util.specs.declared.search.MatchKind.{MatchKind}
 use Rattle.ac_util.specs.declared.search.MatchKind.TheVariants.{Standard}
@@ -9,11 +9,13 @@ use Rattle.ac_util.specs.Built.{Built}
 use Rattle.ac_automaton.specs.Builds.{EngineRules, IsAllowed, noncontiguous_rules, EngineSettings}
 use Rattle.ac_search.specs.declared.ahocorasick.choice.AhoCorasickKind.{AhoCorasickKind}
 use Rattle.ac_search.specs.declared.ahocorasick.choice.AhoCorasickKind.TheVariants.{NoncontiguousNFA}
+use Rattle.ac_search.specs.States.{States}
 
 pub record Searcher : Type 0 where
   pub built : Built
   pub filters : Bool
   pub kind : AhoCorasickKind
+  pub states : States
 
 -- what a builder of searchers was told
 pub record Settings : Type 0 where

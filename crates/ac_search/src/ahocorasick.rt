@@ -1,18 +1,22 @@
 //! The searcher, which chooses its engine.
-ghost use Rattle.std.specs.Prelude.{◌≡◌, ◌↔◌, IsTrue, MatchResult, None, length};
+ghost use Rattle.std.specs.Prelude.{◌≡◌, ◌↔◌, IsTrue, MatchResult, None, Some, length};
 ghost use Rattle.std.specs.Iterator.Runs.{YieldsInOrder};
 ghost use Rattle.ac_util.specs.Borrowed.{bytes_of};
-ghost use Rattle.ac_util.specs.Built.{find_refusal, found, search_in};
+ghost use Rattle.ac_util.specs.Built.{find_refusal, found, overlapping_iter_refusal, overlapping_refusal, search_in};
 ghost use Rattle.ac_util.specs.Inputs.{asked};
+ghost use Rattle.ac_util.specs.Listing.{item_at, place_after};
 ghost use Rattle.ac_util.specs.Occurrence.{Occurrence};
 ghost use Rattle.ac_util.specs.Refusal.{AnswersUnless, start_refusal};
 ghost use Rattle.ac_util.specs.Search.{Occurs};
 ghost use Rattle.ac_util.specs.Sizes.{longest_len, shortest_len};
 ghost use Rattle.ac_automaton.specs.Builds.{Refuses};
 ghost use Rattle.ac_automaton.specs.Iterators.{GoesOn, begun};
+ghost use Rattle.ac_automaton.specs.Overlaps.{ListsNext, listing_begun};
 ghost use Rattle.ac_search.specs.Engines.{Supports, searcher_of};
+ghost use Rattle.ac_search.specs.Places.{GivesItem, HasPlace, place_in};
 ghost use Rattle.ac_search.specs.Searchers.{IsBuilt, engine_settings, looks_allowed, rules_for, usual_settings};
 
+use ac_automaton::automaton::OverlappingState;
 use ac_util::error::{BuildError, MatchError};
 use ac_util::search::{Anchored, Input, Match, MatchKind, StartKind};
 use engine::Engine;
@@ -23,10 +27,12 @@ mod builder;
 mod choice;
 mod engine;
 mod find;
+mod overlap;
 
 pub use builder::AhoCorasickBuilder;
 pub use choice::AhoCorasickKind;
 pub use find::FindIter;
+pub use overlap::FindOverlappingIter;
 
 /// A searcher for many patterns.
 ///
@@ -132,6 +138,37 @@ impl<A: Allocator> AhoCorasick<A> {
         found
     }
 
+    /// Gives the next item of the listing of the input: all that occur in its span, each once, by their ends, then
+    /// their starts, then their patterns. `OverlappingState::get_match` tells it, and `None` at every call past the
+    /// last item.
+    ///
+    /// The searcher has to support the input's anchoring, and its match kind to be `MatchKind::Standard`. The state
+    /// has to be fresh, or left by this searcher over this same input. An anchored search gives what starts at the
+    /// span's start. `laws::listing_is_exact` says what the listing has, and `laws::answers_lie_inside` that all of
+    /// it lies in the span.
+    ///
+    /// ```
+    /// // a searcher over "append", "appendage" and "app", by `MatchKind::Standard`
+    /// let mut state = OverlappingState::start();
+    /// searcher.find_overlapping(Input::new(b"append the app"), &mut state);
+    /// state.get_match() // pattern 2, 0..3; pattern 0, 0..6 after one more call
+    /// ```
+    #[inline]
+    pub fn find_overlapping(&self, input: Input<'_>, state: &mut OverlappingState)
+        requires supported { overlapping_refusal self.now.built (asked input) ≡ None }
+        requires placed { HasPlace self.now (asked input) state.old }
+        ensures item { state.new.found ≡ item_at (search_in self.now.built (asked input.entry))
+            (place_in self.now (asked input.entry) state.old) }
+        ensures place { place_in self.now (asked input.entry) state.new
+            ≡ place_after (search_in self.now.built (asked input.entry))
+            (place_in self.now (asked input.entry) state.old) }
+        ensures placed { HasPlace self.now (asked input.entry) state.new }
+    {
+        let Ok(()) = self.try_find_overlapping(input, state) else {
+            unreachable!()
+        };
+    }
+
     /// Returns an iterator over the matches of the input that don't overlap, each picked from where the one
     /// before it ended.
     ///
@@ -159,6 +196,31 @@ impl<A: Allocator> AhoCorasick<A> {
         matches
     }
 
+    /// Returns an iterator over the listing of the input, as `find_overlapping` gives it.
+    ///
+    /// The searcher has to support unanchored searches, its match kind to be `MatchKind::Standard`, and the input to
+    /// be unanchored. `laws::answers_lie_inside` says that all items lie in the span: call it before a loop over
+    /// them.
+    ///
+    /// ```
+    /// // a searcher over "append", "appendage" and "app", by `MatchKind::Standard`
+    /// for found in searcher.find_overlapping_iter(Input::new(b"append the app")) {
+    ///     // pattern 2, 0..3; pattern 0, 0..6; pattern 2, 11..14
+    /// }
+    /// ```
+    #[inline]
+    pub fn find_overlapping_iter<'a, 'h>(&'a self, input: Input<'h>) -> FindOverlappingIter<'a, 'h, A>
+        requires supported { overlapping_iter_refusal self.now.built (asked input) ≡ None }
+        ensures begun { result
+            ≡ listing_begun (looks_allowed self.now.kind) self.now.built self.now.filters (asked input.entry) }
+        ensures runs { YieldsInOrder ListsNext (λ l. l.rest) }
+    {
+        let Ok(items) = self.try_find_overlapping_iter(input) else {
+            unreachable!()
+        };
+        items
+    }
+
     /// Returns the same as `find`.
     ///
     /// # Errors
@@ -171,6 +233,28 @@ impl<A: Allocator> AhoCorasick<A> {
     {
         check_start(self.start_kind(), input.get_anchored())?;
         self.engine.try_find(input)
+    }
+
+    /// Does the same as `find_overlapping`. The state has to be as there.
+    ///
+    /// # Errors
+    /// As `try_find`, else `UnsupportedOverlapping` where the match kind isn't `MatchKind::Standard`. Then the state
+    /// is as it was.
+    #[inline]
+    pub fn try_find_overlapping(
+        &self,
+        input: Input<'_>,
+        state: &mut OverlappingState,
+    ) -> Result<(), MatchError>
+        requires placed { HasPlace self.now (asked input) state.old }
+        ensures { MatchResult result
+            (λ _. (overlapping_refusal self.now.built (asked input.entry) ≡ None)
+            × GivesItem self.now (asked input.entry) state.old state.new)
+            (λ e. (overlapping_refusal self.now.built (asked input.entry) ≡ Some e)
+            × (state.new ≡ state.old)) }
+    {
+        check_start(self.start_kind(), input.get_anchored())?;
+        self.engine.try_find_overlapping(input, state)
     }
 
     /// Returns the same as `find_iter`.
@@ -189,6 +273,25 @@ impl<A: Allocator> AhoCorasick<A> {
         check_start(self.start_kind(), input.get_anchored())?;
         let matches = self.engine.try_find_iter(input)?;
         Ok(FindIter { matches })
+    }
+
+    /// Returns the same as `find_overlapping_iter`.
+    ///
+    /// # Errors
+    /// As `try_find_overlapping`, and else `InvalidInputAnchored` for an anchored input.
+    #[inline]
+    pub fn try_find_overlapping_iter<'a, 'h>(
+        &'a self,
+        input: Input<'h>,
+    ) -> Result<FindOverlappingIter<'a, 'h, A>, MatchError>
+        ensures begun { AnswersUnless (overlapping_iter_refusal self.now.built (asked input.entry))
+            (listing_begun (looks_allowed self.now.kind) self.now.built self.now.filters (asked input.entry))
+            result }
+        ensures runs { YieldsInOrder ListsNext (λ l. l.rest) }
+    {
+        check_start(self.start_kind(), input.get_anchored())?;
+        let items = self.engine.try_find_overlapping_iter(input)?;
+        Ok(FindOverlappingIter { items })
     }
 
     /// Returns which engine serves the searcher.

@@ -21,7 +21,7 @@
 pub mod ahocorasick;
 pub mod laws;
 
-pub use ac_automaton::automaton::{Automaton, find_core};
+pub use ac_automaton::automaton::{Automaton, MatchRest, OverlappingState, find_core};
 pub use ac_automaton::{automaton, nfa};
 pub use ac_util::device::{Bytes, FromRead, IntoWrite, Sink, Source, Written};
 pub use ac_util::error::{BuildError, MatchError};
@@ -31,7 +31,9 @@ pub use ac_util::plain;
 pub use ac_util::prefilter::{Candidate, Prefilter};
 pub use ac_util::primitives::{GREATEST, PatternID, SmallIndex, StateID, TooLarge};
 pub use ac_util::search::{Anchored, Input, Match, MatchKind, Span, StartKind};
-pub use ahocorasick::{AhoCorasick, AhoCorasickBuilder, AhoCorasickKind, FindIter};
+pub use ahocorasick::{
+    AhoCorasick, AhoCorasickBuilder, AhoCorasickKind, FindIter, FindOverlappingIter,
+};
 
 #[cfg(test)]
 mod tests;

@@ -1,15 +1,17 @@
 //! The engines of a searcher and their iterators. This file alone tells them apart.
 ghost use Rattle.std.specs.Prelude.{◌≡◌, IfOk, MatchResult, length};
-ghost use Rattle.ac_util.specs.Built.{find_refusal, found};
+ghost use Rattle.ac_util.specs.Built.{find_refusal, found, overlapping_iter_refusal, overlapping_refusal, search_in};
 ghost use Rattle.ac_util.specs.Inputs.{asked};
 ghost use Rattle.ac_util.specs.Refusal.{AnswersUnless};
 ghost use Rattle.ac_util.specs.Sizes.{longest_len, shortest_len};
 ghost use Rattle.ac_automaton.specs.Iterators.{GoesOn, begun};
-ghost use Rattle.ac_search.specs.Engines.{built_of, filters_of, name_of, walking_in};
+ghost use Rattle.ac_automaton.specs.Overlaps.{GivesNext, IsPlaced, ListsNext, listing_begun};
+ghost use Rattle.ac_search.specs.Engines.{built_of, filters_of, listing_in, name_of, states_of, walking_in};
 ghost use Rattle.ac_search.specs.Searchers.{looks_allowed};
+ghost use Rattle.ac_search.specs.States.{listed_in, stands_in};
 
 use super::choice::AhoCorasickKind;
-use ac_automaton::automaton::{self, Automaton};
+use ac_automaton::automaton::{self, Automaton, OverlappingState};
 use ac_automaton::nfa::noncontiguous;
 use ac_util::error::MatchError;
 use ac_util::search::{Input, Match, MatchKind};
@@ -30,6 +32,7 @@ impl<A: Allocator> Engine<A> {
     pub(super) fn share(&self) -> Result<Engine<A>, AllocError>
         ensures built { IfOk result (λ engine. built_of engine ≡ built_of self.now) }
         ensures filters { IfOk result (λ engine. filters_of engine ≡ filters_of self.now) }
+        ensures states { IfOk result (λ engine. states_of engine ≡ states_of self.now) }
         ensures kind { IfOk result (λ engine. name_of engine ≡ name_of self.now) }
     {
         match self {
@@ -73,6 +76,49 @@ impl<A: Allocator> Engine<A> {
             Engine::Noncontiguous(nfa) => {
                 let matches = nfa.as_ref().try_find_iter(input)?;
                 Ok(EngineFindIter::Noncontiguous(matches))
+            }
+        }
+    }
+
+    /// Does what `Automaton::try_find_overlapping` does.
+    #[inline]
+    pub(super) fn try_find_overlapping(
+        &self,
+        input: Input<'_>,
+        state: &mut OverlappingState,
+    ) -> Result<(), MatchError>
+        requires placed { IsPlaced (stands_in (states_of self.now) (asked input).anchored)
+            (listed_in (states_of self.now)) (built_of self.now).kind (search_in (built_of self.now) (asked input))
+            state.old }
+        ensures { MatchResult result
+            (λ _. (overlapping_refusal (built_of self.now) (asked input.entry) ≡ None)
+            × GivesNext (stands_in (states_of self.now) (asked input.entry).anchored)
+            (listed_in (states_of self.now)) (built_of self.now).kind
+            (search_in (built_of self.now) (asked input.entry)) state.old state.new)
+            (λ e. (overlapping_refusal (built_of self.now) (asked input.entry) ≡ Some e)
+            × (state.new ≡ state.old)) }
+    {
+        match self {
+            Engine::Noncontiguous(nfa) => nfa.as_ref().try_find_overlapping(input, state),
+        }
+    }
+
+    /// Returns what `Automaton::try_find_overlapping_iter` does.
+    #[inline]
+    pub(super) fn try_find_overlapping_iter<'a, 'h>(
+        &'a self,
+        input: Input<'h>,
+    ) -> Result<EngineFindOverlappingIter<'a, 'h, A>, MatchError>
+        ensures { MatchResult result
+            (λ items. AnswersUnless (overlapping_iter_refusal (built_of self.now) (asked input.entry))
+            (listing_begun (looks_allowed (name_of self.now)) (built_of self.now) (filters_of self.now)
+            (asked input.entry)) (Ok (listing_in items)))
+            (λ e. overlapping_iter_refusal (built_of self.now) (asked input.entry) ≡ Some e) }
+    {
+        match self {
+            Engine::Noncontiguous(nfa) => {
+                let items = nfa.as_ref().try_find_overlapping_iter(input)?;
+                Ok(EngineFindOverlappingIter::Noncontiguous(items))
             }
         }
     }
@@ -135,6 +181,24 @@ impl<'a, 'h, A: Allocator> EngineFindIter<'a, 'h, A> {
     {
         match self {
             EngineFindIter::Noncontiguous(matches) => matches.next(),
+        }
+    }
+}
+
+/// The iterator of an engine over the listing.
+#[derive(Drop)]
+pub(super) enum EngineFindOverlappingIter<'a, 'h, A: Allocator> {
+    Noncontiguous(automaton::FindOverlappingIter<'a, 'h, noncontiguous::NFA<A>>),
+}
+
+impl<'a, 'h, A: Allocator> EngineFindOverlappingIter<'a, 'h, A> {
+    /// Returns the next item, and moves on.
+    #[inline]
+    pub(super) fn next(&mut self) -> Option<Match>
+        ensures { ListsNext (listing_in self.old) result (listing_in self.new) }
+    {
+        match self {
+            EngineFindOverlappingIter::Noncontiguous(items) => items.next(),
         }
     }
 }
