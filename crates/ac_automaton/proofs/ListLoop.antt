@@ -1,9 +1,8 @@
 -- A listing that reads byte by byte: which item is due where the automaton stands, and what is listed with one byte
 -- more.
-use Rattle.std.proofs.Common.{◌≡◌, ◌≢◌, ◌⊎◌, ℕ, suc, ◌+◌, ◌-◌, ◌<◌, ◌≤◌, Bool, true, false, cond, List, [], ◌∷◌, ◌++◌, map, length, length-append, inl, inr, refl, ap, sym, subst, ◌∙◌, arith, Option, Some, None}
-use Rattle.std.specs.Prelude.{All, IfSome, nat_lt, slice_get, drop}
+use Rattle.std.proofs.Common.{◌≡◌, ◌⊎◌, ℕ, suc, ◌+◌, ◌-◌, ◌<◌, ◌≤◌, Bool, true, false, cond, List, [], ◌∷◌, ◌++◌, map, length, length-append, inl, inr, refl, ap, sym, subst, ◌∙◌, arith, Option, Some, None}
+use Rattle.std.specs.Prelude.{All, slice_get}
 use Rattle.std.specs.List.{take_while}
-use Rattle.std.proofs.lemmas.Bool.{le-ltb, lt-ltb}
 use Rattle.std.proofs.lemmas.List.{append_assoc, append-nil, length-map}
 use Rattle.std.proofs.lemmas.List.Sums.{take_while-cons}
 use Rattle.std.proofs.lemmas.Option.{slice_get_past}
@@ -13,18 +12,18 @@ use Rattle.ac_util.specs.declared.search.Anchored.{Anchored}
 use Rattle.ac_util.specs.Built.{Built}
 use Rattle.ac_util.specs.Counts.{Taped, no_counts}
 use Rattle.ac_util.specs.Listing.{all, item_at, place_after}
-use Rattle.ac_util.specs.Node.{Node, reached}
+use Rattle.ac_util.specs.Node.{Node}
 use Rattle.ac_util.specs.Occurrence.{Occurrence}
 use Rattle.ac_util.specs.Search.{Occurs, Search, pattern_of}
-use Rattle.ac_util.specs.Text.{ending, found_at_end, longer_by, plain_patterns, text}
+use Rattle.ac_util.specs.Text.{ending, found_at_end}
 use Rattle.ac_util.proofs.Lists.{IsIn, IsIn-append_right}
 use Rattle.ac_util.proofs.Listing.{all-only}
-use Rattle.ac_util.proofs.ListingBeginning.{ListsMore, all-dead, all-longer_by}
+use Rattle.ac_util.proofs.ListingBeginning.{ListsMore, all-dead, all-longer_by, item-none, item-some}
 use Rattle.ac_util.proofs.ListingLonger.{all-empty, all-longer}
 use Rattle.ac_automaton.specs.declared.automaton.overlap.MatchRest.{MatchRest}
 use Rattle.ac_automaton.specs.declared.automaton.overlap.Reached.{Reached}
 use Rattle.ac_automaton.specs.Automata.{IsState, Lists, matches_of}
-use Rattle.ac_automaton.specs.Overlaps.{HasGiven, HasListed, HasMoved, due_in, given_in, is_due, rest_in}
+use Rattle.ac_automaton.specs.Overlaps.{HasGiven, HasListed, HasMoved, due_in, given_in, rest_in}
 use Rattle.ac_automaton.specs.Progress.{Reaches, node_at, search_of}
 use Rattle.ac_automaton.proofs.Due.{counts, listed-due, listed-numbered}
 use Rattle.ac_automaton.proofs.ReadOn.{node-fits}
@@ -42,12 +41,8 @@ pub record IsItem (q : Search) (place : ℕ) (m : Occurrence) : Type 0 where
 item-behind : (q : Search) (before later : List Occurrence) (m : Occurrence) → all q ≡ before ++ m ∷ later
     → IsItem q (length before) m
 item-behind q before later m e =
-    let long = ap length e ∙ length-append before (m ∷ later) in
-    record {
-      item = ap (λ (ms : List Occurrence). slice_get ms (length before)) e ∙ get-behind before later m;
-      after = ap (λ (t : Bool). cond t (length before + 1) (length before))
-          (lt-ltb (length before) (length (all q)) (omega arith));
-    }
+    let item = ap (λ (ms : List Occurrence). slice_get ms (length before)) e ∙ get-behind before later m in
+    record { item = item; after = (item-some q (length before) m item).1 }
 
 -- behind the last item there is none, and the place stays
 pub record IsPast (q : Search) (place : ℕ) : Type 0 where
@@ -55,11 +50,9 @@ pub record IsPast (q : Search) (place : ℕ) : Type 0 where
   pub after : place_after q place ≡ place
 
 pub past-all : (q : Search) → IsPast q (length (all q))
-past-all q = record {
-  item = slice_get_past (all q) (length (all q)) (omega arith);
-  after = ap (λ (t : Bool). cond t (length (all q) + 1) (length (all q)))
-      (le-ltb (length (all q)) (length (all q)) (omega arith));
-}
+past-all q =
+    let item = slice_get_past (all q) (length (all q)) (omega arith) in
+    record { item = item; after = (item-none q (length (all q)) item).1 }
 
 module _ (built : Built) (anchored : Anchored) (bytes : List ℕ) (start end : ℕ) where
   -- what is searched, and as far as a place

@@ -1,26 +1,23 @@
 -- Overlapping search by a state, and by an iterator: how it begins, and what a call leaves.
-use Rattle.std.proofs.Common.{◌≡◌, ◌≢◌, ℕ, zero, suc, Bool, true, false, cond, drop, length-drop, ◌+◌, ◌-◌, ◌<◌, ◌≤◌, List, [], ◌∷◌, ◌++◌, map, length, inl, inr, refl, ap, sym, subst, ◌∙◌, arith, Option, Some, None}
-use Rattle.std.specs.Prelude.{◌⊎◌, IfSome, MatchOption, max, nat_lt, slice_get}
-use Rattle.std.proofs.Math.ListN.{drop_of_length-le}
+use Rattle.std.proofs.Common.{◌≡◌, ℕ, zero, suc, Bool, drop, ◌+◌, ◌<◌, ◌≤◌, List, [], ◌∷◌, length, inl, inr, refl, ap, sym, subst, ◌∙◌, arith, Option, Some, None}
+use Rattle.std.specs.Prelude.{◌⊎◌, IfSome, MatchOption, max, slice_get}
 use Rattle.std.proofs.Math.Seq.{drop-nil}
-use Rattle.std.proofs.lemmas.Bool.{lt-ltb}
-use Rattle.std.proofs.lemmas.Option.{slice_get_within}
 use Rattle.ac_util.specs.declared.error.MatchError.{MatchError}
 use Rattle.ac_util.specs.declared.search.Anchored.{Anchored}
-use Rattle.ac_util.specs.declared.search.Anchored.TheVariants.{No, Yes}
+use Rattle.ac_util.specs.declared.search.Anchored.TheVariants.{No}
 use Rattle.ac_util.specs.declared.search.MatchKind.{MatchKind}
 use Rattle.ac_util.specs.declared.search.MatchKind.TheVariants.{Standard}
 use Rattle.ac_util.specs.Asked.{Asked}
-use Rattle.ac_util.specs.Built.{Built, has_empty, overlapping_iter_refusal, overlapping_refusal, search_in}
+use Rattle.ac_util.specs.Built.{Built, overlapping_iter_refusal, overlapping_refusal, search_in}
 use Rattle.ac_util.specs.Counts.{Counts, Taped, no_counts}
 use Rattle.ac_util.specs.Listing.{all, item_at, place_after}
 use Rattle.ac_util.specs.Node.{Node, reached}
 use Rattle.ac_util.specs.Occurrence.{Occurrence}
 use Rattle.ac_util.specs.Prefilters.{may_skip}
 use Rattle.ac_util.specs.Search.{Search}
-use Rattle.ac_util.specs.Refusal.{OverlappingByState, OverlappingIterator, empty_refusal, first_refusal, form_refusal, kind_refusal, start_refusal}
+use Rattle.ac_util.specs.Refusal.{OverlappingByState, OverlappingIterator, first_refusal, form_refusal, kind_refusal, start_refusal}
 use Rattle.ac_util.specs.Text.{plain_patterns, text}
-use Rattle.ac_util.proofs.ListingBeginning.{all-past_end}
+use Rattle.ac_util.proofs.ListingBeginning.{all-past_end, item-none, item-some}
 use Rattle.ac_util.proofs.Reached.{reached-alive}
 use Rattle.ac_automaton.specs.declared.automaton.overlap.OverlappingState.{OverlappingState}
 use Rattle.ac_automaton.specs.declared.automaton.overlap.Reached.{Reached}
@@ -165,18 +162,11 @@ left-after : (q : Search) (given : ℕ) (found : Option Occurrence) → found �
     → MatchOption found ((drop given (all q) ≡ []) × (drop (place_after q given) (all q) ≡ []))
     (λ m. drop given (all q) ≡ m ∷ drop (place_after q given) (all q))
 left-after q given None is =
-    let none = drop-none (all q) given (sym is) in (
-      none,
-      past (nat_lt given (length (all q))) none,
-    )
-  where
-    past : (t : Bool) → drop given (all q) ≡ [] → drop (cond t (given + 1) given) (all q) ≡ []
-    past false none = none
-    past true none = drop_of_length-le (all q) (let l = length-drop given (all q) in let n = ap length none in omega arith)
+    let none = drop-none (all q) given (sym is) in
+    (none, subst (λ (n : ℕ). drop n (all q) ≡ []) (sym (item-none q given (sym is)).1) none)
 left-after q given (Some m) is =
     drop-item (all q) given m (sym is)
-    ∙ ap (λ (t : Bool). m ∷ drop (cond t (given + 1) given) (all q))
-    (sym (lt-ltb given (length (all q)) (slice_get_within (all q) given m (sym is))))
+    ∙ ap (λ (n : ℕ). m ∷ drop n (all q)) (sym (item-some q given m (sym is)).1)
 
 module _ (built : Built) (anchored : Anchored) (bytes : List ℕ) (start end : ℕ) where
   -- what is listed

@@ -19,7 +19,7 @@ use Rattle.ac_automaton.specs.declared.automaton.overlap.MatchRest.{MatchRest}
 use Rattle.ac_automaton.specs.declared.automaton.overlap.OverlappingState.{OverlappingState}
 use Rattle.ac_automaton.specs.declared.automaton.overlap.Reached.{Reached}
 use Rattle.ac_automaton.specs.Automata.{IsState}
-use Rattle.ac_automaton.specs.Progress.{Beginning, Grows, HasCome, HasRead, Reaches, most_looks, node_at, search_of}
+use Rattle.ac_automaton.specs.Progress.{Beginning, Grows, HasCome, HasRead, Reaches, most_looks, node_at}
 
 -- the matches in a rest of a match list
 abbrev pub rest_in : (ℕ → List ℕ) → MatchRest → List ℕ

@@ -7,6 +7,7 @@ ghost use Rattle.ac_util.specs.Built.{Built, found, has_empty, search_in, walked
 ghost use Rattle.ac_util.specs.Asked.{Asked};
 ghost use Rattle.ac_util.specs.Inputs.{asked};
 ghost use Rattle.ac_util.specs.Inside.{LiesIn};
+ghost use Rattle.ac_util.specs.Listing.{all};
 ghost use Rattle.ac_util.specs.Occurrence.{Occurrence};
 ghost use Rattle.ac_util.specs.Search.{Occurs};
 ghost use Rattle.ac_util.specs.Sizes.{shortest_len};
@@ -17,7 +18,7 @@ use crate::ahocorasick::{AhoCorasick, AhoCorasickKind};
 pub use ac_util::laws::{
     clones_are_equal, clones_take_no_memory, defaults_are_told, earliest_is_standard,
     equal_values_hash_equally, errors_compare_by_their_fields, greatest_number_is_told,
-    listing_is_exact, matches_cut_no_character, matches_lie_inside, numbers_compare_as_numbers,
+    listing_goes_on, listing_is_exact, matches_cut_no_character, matches_lie_inside, numbers_compare_as_numbers,
     only_the_span_counts, pick_comes_first, sameness_is_by_letter, steps_replace, tests_decide,
     values_compare_by_their_fields, values_hash_by_their_fields, walk_goes_on, walk_has_beginnings,
     walk_is_in_order, walk_is_short,
@@ -25,12 +26,12 @@ pub use ac_util::laws::{
 use ac_util::search::Input;
 use std::alloc::Allocator;
 
-/// The answer of a find and each match of a walk lie in the input's span, and so in the haystack, and have
-/// the number of a pattern; and a walk has at most one match more than the span has bytes.
+/// The answer of a find, each match of a walk and each item of the listing lie in the input's span, and so in the
+/// haystack, and have the number of a pattern; and a walk has at most one match more than the span has bytes.
 ///
 /// Call this before a loop over the matches in which the haystack is sliced at them, or a list is indexed by
-/// their patterns. The loop's invariant is then `walk`, or `ends` where the searcher is a variable of the
-/// function, over the matches still to come. A `count` of the matches needs no more than the call.
+/// their patterns. The loop's invariant is then `walk` or `listing`, or `ends` or `listing_ends` where the searcher
+/// is a variable of the function, over the matches still to come. A `count` of the matches needs no more than the call.
 pub fn answers_lie_inside<A: Allocator>(searcher: &AhoCorasick<A>, input: Input<'_>)
     ensures find { IfSome (found searcher.now.built (asked input.entry))
         (LiesIn searcher.now.built (asked input.entry)) }
@@ -38,12 +39,16 @@ pub fn answers_lie_inside<A: Allocator>(searcher: &AhoCorasick<A>, input: Input<
         (walked searcher.now.built (asked input.entry)) }
     ensures ends { AllByRecursion (λ m. m.end ≤ length (asked input.entry).haystack)
         (walked searcher.now.built (asked input.entry)) }
+    ensures listing { AllByRecursion (LiesIn searcher.now.built (asked input.entry))
+        (all (search_in searcher.now.built (asked input.entry))) }
+    ensures listing_ends { AllByRecursion (λ m. m.end ≤ length (asked input.entry).haystack)
+        (all (search_in searcher.now.built (asked input.entry))) }
     ensures few { length (walked searcher.now.built (asked input.entry))
         ≤ (asked input.entry).end + 1 - (asked input.entry).start }
 {}
 
-/// Where the haystack and all patterns are texts, and no pattern is empty, the answer of a find and each match
-/// of a walk start and end between characters.
+/// Where the haystack and all patterns are texts, and no pattern is empty, the answer of a find, each match of a
+/// walk and each item of the listing start and end between characters.
 ///
 /// Call this as `answers_lie_inside`, where the haystack is a `str`.
 pub fn answers_cut_no_character<A: Allocator>(searcher: &AhoCorasick<A>, input: Input<'_>)
@@ -53,6 +58,8 @@ pub fn answers_cut_no_character<A: Allocator>(searcher: &AhoCorasick<A>, input: 
         (IsBetweenCharacters (asked input.entry).haystack) }
     ensures walk { AllByRecursion (IsBetweenCharacters (asked input.entry).haystack)
         (walked searcher.now.built (asked input.entry)) }
+    ensures listing { AllByRecursion (IsBetweenCharacters (asked input.entry).haystack)
+        (all (search_in searcher.now.built (asked input.entry))) }
 {}
 
 /// Something occurs exactly if a find answers a match, whatever the match kind and `earliest`.

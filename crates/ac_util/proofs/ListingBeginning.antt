@@ -1,10 +1,13 @@
 -- The listing of a span begins with that of each beginning of it, and ends where the dead node is reached.
-use Rattle.std.proofs.Common.{◌≡◌, ℕ, zero, suc, ◌+◌, ◌-◌, ◌<◌, ◌≤◌, List, [], ◌∷◌, ◌++◌, map, length, refl, ap, sym, ◌∙◌, arith, None}
+use Rattle.std.proofs.Common.{◌≡◌, ℕ, zero, suc, ◌+◌, ◌<◌, ◌≤◌, Bool, cond, List, [], ◌∷◌, ◌++◌, map, length, ap, sym, ◌∙◌, arith, Some, None}
+use Rattle.std.specs.Prelude.{slice_get}
+use Rattle.std.proofs.lemmas.Bool.{le-ltb, lt-ltb}
+use Rattle.std.proofs.lemmas.Option.{slice_get_within}
 use Rattle.std.proofs.lemmas.List.{append_assoc, append-nil}
 use Rattle.ac_util.specs.declared.search.MatchKind.TheVariants.{Standard}
 use Rattle.ac_util.specs.Occurrence.{Occurrence}
 use Rattle.ac_util.specs.Search.{Search}
-use Rattle.ac_util.specs.Listing.{all}
+use Rattle.ac_util.specs.Listing.{all, item_at, place_after}
 use Rattle.ac_util.specs.Node.{reached}
 use Rattle.ac_util.specs.Text.{ending, found_at_end, longer_by, one_longer, plain_patterns, text}
 use Rattle.ac_util.proofs.Lists.{nil-from_none}
@@ -48,3 +51,27 @@ all-dead q order dead (suc n) room =
     ∙ ap (λ (ns : List ℕ). all (longer_by q n) ++ map (ending (one_longer (longer_by q n))) ns)
     (sym (ap (found_at_end Standard) (longer-suc q n)) ∙ nothing_found Standard q order dead (suc n) room)
     ∙ append-nil (all (longer_by q n)) ∙ all-dead q order dead n (omega arith)
+
+-- a list has no element at its end or past it
+past-from_none : {X : Type 0} (xs : List X) (k : ℕ) → slice_get xs k ≡ None → length xs ≤ k
+past-from_none [] k e = omega arith
+past-from_none (x ∷ xs) zero e = absurd (cc)
+past-from_none (x ∷ xs) (suc k) e = let l = past-from_none xs k e in omega arith
+
+-- where the listing has no item its place stays
+pub item-none : (q : Search) (place : ℕ) → item_at q place ≡ None
+    → (length (all q) ≤ place) × (place_after q place ≡ place)
+item-none q place none =
+    let past = past-from_none (all q) place none in (
+      past,
+      ap (λ (t : Bool). cond t (place + 1) place) (le-ltb place (length (all q)) past),
+    )
+
+-- and else it goes on
+pub item-some : (q : Search) (place : ℕ) (m : Occurrence) → item_at q place ≡ Some m
+    → (place < length (all q)) × (place_after q place ≡ place + 1)
+item-some q place m some =
+    let within = slice_get_within (all q) place m some in (
+      within,
+      ap (λ (t : Bool). cond t (place + 1) place) (lt-ltb place (length (all q)) within),
+    )

@@ -12,10 +12,11 @@ use Rattle.ac_util.specs.Occurrence.{Occurrence}
 use Rattle.ac_util.specs.Search.{pattern_of}
 use Rattle.ac_util.specs.Sameness.{plain_byte, plain}
 use Rattle.ac_util.specs.Asked.{Asked}
-use Rattle.ac_util.specs.Built.{Built, found, walked}
+use Rattle.ac_util.specs.Built.{Built, found, search_in, walked}
+use Rattle.ac_util.specs.Listing.{all}
 use Rattle.ac_util.specs.Inside.{LiesIn}
 use Rattle.ac_util.specs.Texts.{AreTexts, IsBetweenCharacters}
-use Rattle.ac_util.proofs.Lying.{found-IfSome, walked-lie}
+use Rattle.ac_util.proofs.Lying.{found-IfSome, listed-lie, walked-lie}
 
 -- a byte of no ASCII letter keeps its class, and so does the small form of one
 plain_byte-low : (fold : Bool) (b : ℕ) → b < 128 → plain_byte fold b < 128
@@ -170,7 +171,8 @@ lies-between built asked m texts u lies = record {
         (let long = lies.as_long in let same = same_length in omega arith)
         ∙ sym lies.same
 
--- where all patterns are texts that aren't empty, so do a find's answer and each match of a walk
+-- where all patterns are texts that aren't empty, so do a find's answer, each match of a walk and each item of the
+-- listing
 module _ (built : Built) (asked : Asked) (texts : AreTexts built.patterns) (u : IsUtf8 asked.haystack)
     (inside : asked.end ≤ length asked.haystack) where
   pub found-between : IfSome (found built asked) (IsBetweenCharacters asked.haystack)
@@ -185,3 +187,8 @@ module _ (built : Built) (asked : Asked) (texts : AreTexts built.patterns) (u : 
   walked-between =
       All-weaker (LiesIn built asked) (IsBetweenCharacters asked.haystack)
       (λ m. lies-between built asked m texts u) (walked built asked) (walked-lie built asked inside)
+
+  pub listed-between : All (IsBetweenCharacters asked.haystack) (all (search_in built asked))
+  listed-between =
+      All-weaker (LiesIn built asked) (IsBetweenCharacters asked.haystack)
+      (λ m. lies-between built asked m texts u) (all (search_in built asked)) (listed-lie built asked inside)

@@ -7,7 +7,7 @@ pub mod layers;
 pub mod values;
 
 pub use answers::{
-    earliest_is_standard, listing_is_exact, matches_cut_no_character, matches_lie_inside,
+    earliest_is_standard, listing_goes_on, listing_is_exact, matches_cut_no_character, matches_lie_inside,
     only_the_span_counts, pick_comes_first, sameness_is_by_letter, steps_replace, tests_decide,
     walk_goes_on, walk_has_beginnings, walk_is_in_order, walk_is_short,
 };

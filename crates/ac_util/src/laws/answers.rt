@@ -7,7 +7,7 @@ ghost use Rattle.ac_util.specs.declared.search.MatchKind.{MatchKind};
 ghost use Rattle.ac_util.specs.Built.{Built, found, search_in, walked};
 ghost use Rattle.ac_util.specs.Asked.{Asked};
 ghost use Rattle.ac_util.specs.Inside.{LiesIn};
-ghost use Rattle.ac_util.specs.Listing.{all, IsBefore};
+ghost use Rattle.ac_util.specs.Listing.{all, IsBefore, item_at, place_after};
 ghost use Rattle.ac_util.specs.Occurrence.{Occurrence};
 ghost use Rattle.ac_util.specs.Pick.{IsPick, order_of, pick};
 ghost use Rattle.ac_util.specs.Replaced.{is_char_boundary, replaced};
@@ -43,6 +43,16 @@ pub fn tests_decide()
 pub fn listing_is_exact()
     ensures exact { (q : Search) (m : Occurrence) → Contains (all q) m ↔ Occurs q m }
     ensures in_order { (q : Search) → AllPairs IsBefore (all q) }
+{}
+
+/// Where an overlapping search has an item at a place the place after it is one further on; else the place stays,
+/// and all items were given. Call this in a loop over the places of a listing: the number of items that are left is
+/// its measure.
+pub fn listing_goes_on()
+    ensures ends { (q : Search) (place : ℕ) → item_at q place ≡ None
+        → (length (all q) ≤ place) × (place_after q place ≡ place) }
+    ensures goes_on { (q : Search) (place : ℕ) (m : Occurrence) → item_at q place ≡ Some m
+        → (place < length (all q)) × (place_after q place ≡ place + 1) }
 {}
 
 /// Bytes outside the span never count: what occurs in it is what occurs in its bytes alone. In a span without

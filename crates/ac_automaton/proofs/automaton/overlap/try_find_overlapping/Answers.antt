@@ -1,11 +1,11 @@
-use Rattle.std.proofs.Common.{◌≡◌, ℕ, ◌≤◌, List, [], length, ap, sym, subst, ◌∙◌, inl, inr, arith, Option, Some, None}
+use Rattle.std.proofs.Common.{◌≡◌, ℕ, [], ap, sym, subst, ◌∙◌, inl, inr, Option, Some}
 use Rattle.std.proofs.lemmas.Bool.{cases_lt, false≢true}
 use Rattle.std.specs.Prelude.{MatchOption}
 use Rattle.ac_util.specs.Built.{search_in}
 use Rattle.ac_util.specs.declared.search.Anchored.{Anchored}
 use Rattle.ac_util.specs.Inputs.{asked}
 use Rattle.ac_automaton.specs.declared.automaton.overlap.Reached.{Reached}
-use Rattle.ac_automaton.specs.Overlaps.{HasMoved, place_by}
+use Rattle.ac_automaton.specs.Overlaps.{place_by}
 use Rattle.ac_automaton.proofs.Overlapping.{GoesOnFrom, at_start, by_state-served, gives-moved, goes_on-there, past_end-gives}
 use Rattle.ac_automaton.proofs.automaton.overlap.try_find_overlapping.Given.{Over}
 use Rattle.ac_automaton.proofs.automaton.overlap.try_find_overlapping.Goals.{After-open-tape, in-Some, in-None}

@@ -1,4 +1,3 @@
-use Rattle.std.proofs.Common.{Some}
 use Rattle.ac_automaton.specs.Progress.{Beginning, node_at, search_of, span_of}
 use Rattle.ac_automaton.proofs.ReadOn.{come-next, grows-read, reaches-next}
 use Rattle.ac_automaton.proofs.automaton.step.read_byte.Goals as goal

@@ -3,8 +3,8 @@ use Rattle.ac_util.specs.Built.{Built}
 use Rattle.ac_util.specs.Occurrence.{Occurrence}
 use Rattle.ac_util.specs.Search.{Search}
 use Rattle.ac_automaton.specs.declared.automaton.overlap.Reached.{Reached}
-use Rattle.ac_automaton.specs.Overlaps.{HasListed, IsListing, ListsNext, Overlapping, beginning_of, given_by, overlapping_of}
-use Rattle.ac_automaton.specs.Progress.{Beginning, HasCome, search_of}
+use Rattle.ac_automaton.specs.Overlaps.{IsListing, ListsNext, Overlapping, beginning_of, given_by, overlapping_of}
+use Rattle.ac_automaton.specs.Progress.{search_of}
 use Rattle.ac_automaton.proofs.Overlapping.{lists-next, lists-past_end, listing-goes_on}
 use Rattle.ac_automaton.proofs.automaton.overlap.FindOverlappingIter.advance.Given.{Over}
 use Rattle.ac_automaton.proofs.automaton.overlap.FindOverlappingIter.advance.Goals.{After-self}

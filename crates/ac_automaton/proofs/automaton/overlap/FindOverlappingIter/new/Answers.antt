@@ -1,4 +1,4 @@
-use Rattle.std.proofs.Common.{◌≡◌, ℕ, ◌≤◌, [], false, ap, refl, sym, subst, ◌∙◌, inl, inr, arith, Option, Some, None}
+use Rattle.std.proofs.Common.{◌≡◌, ℕ, ◌≤◌, [], false, ap, refl, sym, subst, ◌∙◌, inl, inr, Option, Some, None}
 use Rattle.std.proofs.lemmas.Bool.{cases_lt, false≢true}
 use Rattle.ac_util.specs.declared.search.Anchored.{Anchored}
 use Rattle.ac_util.specs.declared.search.Anchored.TheVariants.{No, Yes}
@@ -10,7 +10,7 @@ use Rattle.ac_util.specs.Node.{Node}
 use Rattle.ac_util.specs.Refusal.{start_refusal}
 use Rattle.ac_automaton.specs.Automata.{Lists}
 use Rattle.ac_automaton.specs.declared.automaton.overlap.Reached.{Reached}
-use Rattle.ac_automaton.specs.Overlaps.{IsListing, Overlapping, given_by, overlapping_of}
+use Rattle.ac_automaton.specs.Overlaps.{IsListing, given_by, overlapping_of}
 use Rattle.ac_automaton.proofs.Overlapping.{at_start, goes_on-start, iterator-served, listing-starts}
 use Rattle.ac_automaton.proofs.automaton.overlap.FindOverlappingIter.new.Given.{Over}
 use Rattle.ac_automaton.proofs.automaton.overlap.FindOverlappingIter.new.Goals.{After-open-tape, then-is_done, else-is_done}

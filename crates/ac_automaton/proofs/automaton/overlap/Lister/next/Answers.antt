@@ -1,11 +1,10 @@
-use Rattle.std.proofs.Common.{◌≡◌, ◌≢◌, ◌⊎◌, ℕ, ◌+◌, ◌-◌, ◌<◌, ◌≤◌, false, true, List, [], ◌++◌, map, length, ap, refl, sym, subst, ◌∙◌, inl, inr, arith, Option, Some, None}
+use Rattle.std.proofs.Common.{◌≡◌, ◌≢◌, ◌⊎◌, ℕ, ◌+◌, ◌-◌, ◌≤◌, false, true, List, [], ◌++◌, map, ap, refl, sym, subst, ◌∙◌, inl, inr, arith, Option, Some, None}
 use Rattle.std.specs.List.{take_while}
 use Rattle.std.specs.Option.{is_some}
 use Rattle.std.proofs.lemmas.Bool.{false≢true}
-use Rattle.std.proofs.lemmas.List.{append-nil}
 use Rattle.ac_util.specs.declared.search.Anchored.{Anchored}
 use Rattle.ac_util.specs.Built.{Built}
-use Rattle.ac_util.specs.Counts.{Counts, Taped}
+use Rattle.ac_util.specs.Counts.{Taped}
 use Rattle.ac_util.specs.Listing.{all}
 use Rattle.ac_util.specs.Node.{Node}
 use Rattle.ac_util.specs.Occurrence.{Occurrence}
@@ -13,8 +12,8 @@ use Rattle.ac_util.specs.Search.{Search}
 use Rattle.ac_util.specs.Text.{ending}
 use Rattle.ac_automaton.specs.declared.automaton.overlap.Reached.{Reached}
 use Rattle.ac_automaton.specs.Automata.{Lists}
-use Rattle.ac_automaton.specs.Overlaps.{HasGiven, HasListed, HasMoved, due_in, given_in}
-use Rattle.ac_automaton.specs.Progress.{Beginning, HasCome, Reaches, node_at, search_of}
+use Rattle.ac_automaton.specs.Overlaps.{HasGiven, HasListed, HasMoved, given_in}
+use Rattle.ac_automaton.specs.Progress.{HasCome, Reaches, node_at, search_of}
 use Rattle.ac_automaton.proofs.Due.{counts}
 use Rattle.ac_automaton.proofs.Heads.{nil-from_not}
 use Rattle.ac_automaton.proofs.ListLoop.{HasPassed, IsAtEnd, arrives, at_end-kept, at_end-read, due-arrived, given-arrived, has-moved, listing-next, matches_at, nothing-due, passed-here, passed-on, up_to}

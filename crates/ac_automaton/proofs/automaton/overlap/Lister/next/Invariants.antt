@@ -1,4 +1,4 @@
-use Rattle.std.proofs.Common.{◌≡◌, ◌≢◌, ℕ, ◌≤◌, None}
+use Rattle.std.proofs.Common.{◌≡◌, ◌≢◌, ◌≤◌, None}
 use Rattle.ac_util.specs.Node.{Node}
 use Rattle.ac_automaton.specs.Progress.{Beginning, Grows, HasCome, Reaches, search_of}
 use Rattle.ac_automaton.proofs.ListLoop.{HasPassed}
