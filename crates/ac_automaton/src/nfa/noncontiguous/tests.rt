@@ -1,7 +1,7 @@
 use super::{Builder, NFA};
-use crate::automaton::Automaton;
+use crate::automaton::{Automaton, OverlappingState};
 use ac_util::error::BuildError;
-use ac_util::plain::{Query, find, walk};
+use ac_util::plain::{Query, find, listing, walk};
 use ac_util::search::Anchored::{No, Yes};
 use ac_util::search::MatchKind::{LeftmostFirst, LeftmostLongest, Standard};
 use ac_util::search::{Input, Match, MatchKind, Span};
@@ -10,6 +10,7 @@ use std::test::Fail;
 
 mod large;
 mod memory;
+mod overlap;
 mod queries;
 mod rows;
 mod small;
@@ -63,6 +64,52 @@ fn walk_of(alloc: Global, nfa: &NFA, input: Input<'_>) -> Result<Vec<Match>, Fai
     Ok(walked)
 }
 
+/// Returns the listing of the automaton, by a state.
+fn listing_by_state(alloc: Global, nfa: &NFA, input: Input<'_>) -> Result<Vec<Match>, Fail> {
+    let mut state = OverlappingState::start();
+    let mut listed = Vec::new(alloc);
+    for _ in 0..u64::MAX {
+        nfa.try_find_overlapping(input, &mut state)?;
+        let Some(found) = state.get_match() else {
+            break;
+        };
+        listed.push(found)?;
+    }
+    Ok(listed)
+}
+
+/// Returns the same by an iterator.
+fn listing_by_iterator(alloc: Global, nfa: &NFA, input: Input<'_>) -> Result<Vec<Match>, Fail> {
+    let mut items = nfa.try_find_overlapping_iter(input)?;
+    let mut listed = Vec::new(alloc);
+    for _ in 0..u64::MAX {
+        let Some(found) = items.next() else {
+            break;
+        };
+        listed.push(found)?;
+    }
+    Ok(listed)
+}
+
+/// Returns whether the listing for an input is the plain one, by a state and if it is unanchored by an iterator.
+fn lists(
+    alloc: Global,
+    nfa: &NFA,
+    query: &Query<'_>,
+    input: Input<'_>,
+) -> Result<bool, Fail> {
+    let wanted = listing(alloc, query)?;
+    let by_state = listing_by_state(alloc, nfa, input)?;
+    if by_state.as_slice() != wanted.as_slice() {
+        return Ok(false);
+    }
+    if input.get_anchored().is_anchored() {
+        return Ok(true);
+    }
+    let by_iterator = listing_by_iterator(alloc, nfa, input)?;
+    Ok(by_iterator.as_slice() == wanted.as_slice())
+}
+
 /// Compares the automaton with the plain program, in one span of a haystack, unanchored and anchored.
 ///
 /// The automaton has to be that of the patterns. A difference is told as a failure.
@@ -103,6 +150,9 @@ fn is_plain(
 ) -> Result<bool, Fail> {
     let wanted = walk(alloc, settings.kind, query)?;
     if !gives(alloc, nfa, input, &wanted)? {
+        return Ok(false);
+    }
+    if matches!(settings.kind, Standard) && !lists(alloc, nfa, query, input)? {
         return Ok(false);
     }
     if !settings.earliest {
