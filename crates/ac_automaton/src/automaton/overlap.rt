@@ -4,7 +4,7 @@ ghost use Rattle.std.specs.Iterator.{item_count};
 ghost use Rattle.ac_util.specs.declared.search.MatchKind.TheVariants.{Standard};
 ghost use Rattle.ac_util.specs.Built.{overlapping_iter_refusal, overlapping_refusal, search_in};
 ghost use Rattle.ac_util.specs.Inputs.{asked};
-ghost use Rattle.ac_util.specs.Refusal.{AnswersUnless};
+ghost use Rattle.ac_util.specs.Refusal.{AnswersUnless, start_refusal};
 ghost use Rattle.ac_automaton.specs.Overlaps.{GivesNext, HasGiven, HasListed, HasMoved, IsPlaced, ListsNext, fresh, listing_begun};
 ghost use Rattle.ac_automaton.specs.Progress.{Beginning, Grows, HasCome, search_of};
 
@@ -102,8 +102,7 @@ pub(super) fn try_find_overlapping<A: Automaton>(
         (λ e. (overlapping_refusal (A.built automaton.now) (asked input.entry) ≡ Some e)
         × (state.new ≡ state.old)) }
 {
-    let start = automaton.start_state(input.get_anchored())?;
-    check_kind(automaton.match_kind())?;
+    let start = start_of(automaton, input.get_anchored())?;
     if input.is_done() {
         state.found = None;
         return Ok(());
@@ -126,14 +125,24 @@ pub(super) fn try_find_overlapping<A: Automaton>(
     Ok(())
 }
 
-/// Tests that overlapping search is there for a match kind.
+/// Returns the state at which an overlapping search begins.
+///
+/// # Errors
+/// `InvalidInputAnchored` or `InvalidInputUnanchored` where the automaton has no such start, else
+/// `UnsupportedOverlapping` where its match kind isn't `MatchKind::Standard`.
 #[inline]
-fn check_kind(kind: MatchKind) -> Result<(), MatchError>
-    ensures { MatchResult result (λ _. kind ≡ Standard)
-        (λ e. (kind ≢ Standard) × (e ≡ MatchError.UnsupportedOverlapping kind)) }
+fn start_of<A: Automaton>(automaton: &A, anchored: Anchored) -> Result<StateID, MatchError>
+    ensures { MatchResult result
+        (λ sid. (start_refusal (A.built automaton.now).start_kind anchored ≡ None)
+        × ((A.built automaton.now).kind ≡ Standard) × A.stands automaton.now anchored sid (Some []))
+        (λ e. (start_refusal (A.built automaton.now).start_kind anchored ≡ Some e)
+        ⊎ ((start_refusal (A.built automaton.now).start_kind anchored ≡ None)
+        × ((A.built automaton.now).kind ≢ Standard)
+        × (e ≡ MatchError.UnsupportedOverlapping (A.built automaton.now).kind))) }
 {
-    match kind {
-        MatchKind::Standard => Ok(()),
+    let start = automaton.start_state(anchored)?;
+    match automaton.match_kind() {
+        MatchKind::Standard => Ok(start),
         got => Err(MatchError::UnsupportedOverlapping { got }),
     }
 }
@@ -277,15 +286,14 @@ impl<'a, 'h, A: Automaton> FindOverlappingIter<'a, 'h, A> {
         ensures { AnswersUnless (overlapping_iter_refusal (A.built automaton.now) (asked input.entry))
             (listing_begun A.LOOKS (A.built automaton.now) (A.filters automaton.now) (asked input.entry)) result }
     {
-        let start = automaton.start_state(input.get_anchored())?;
-        check_kind(automaton.match_kind())?;
+        let begun = start_of(automaton, input.get_anchored())?;
         if input.get_anchored().is_anchored() {
             return Err(MatchError::InvalidInputAnchored);
         }
         let reached = if input.is_done() {
             None
         } else {
-            Some(Reached::new(start, input.start()))
+            Some(Reached::new(begun, input.start()))
         };
         let (tape, looks) = open(&input);
         Ok(FindOverlappingIter {

@@ -16,7 +16,7 @@ returns-then-is_done g c =
     let built = g.A.Automaton.built c.args.automaton.now in (
       by_state-served built (asked c.args.input)
           (rw (sym c.get_anchored.ensures) c.in_ok-start.ensures.0)
-          (sym c.match_kind.ensures ∙ c.in_ok-check_kind.ensures),
+          (c.in_ok-start.ensures.1),
       past_end-gives (search_in built (asked c.args.input)) c.args.state.now (c.is_done.ensures.0 c.if-is_done.true)
           c.requires.placed,
     )
@@ -34,9 +34,9 @@ goes_on g c =
     let start = c.in_ok-start.start in
     goes_on-there (g.A.Automaton.listed automaton) (g.A.Automaton.built automaton) input start
     (subst (λ (a : Anchored). g.A.Automaton.stands automaton a start (Some [])) c.get_anchored.ensures
-    c.in_ok-start.ensures.1)
+    c.in_ok-start.ensures.2)
     (λ u stands. g.met.A.Automaton.lists automaton input.anchored start u stands)
-    (sym c.match_kind.ensures ∙ c.in_ok-check_kind.ensures)
+    (c.in_ok-start.ensures.1)
     (elim (cases_lt input.end input.start) [
       | inl past ↦ absurd (false≢true (sym c.if-is_done.false ∙ c.is_done.ensures.1 past))
       | inr ordered ↦ ordered
@@ -66,7 +66,7 @@ returns g c =
     let input = asked c.args.input in (
       by_state-served built input
           (rw (sym c.get_anchored.ensures) c.in_ok-start.ensures.0)
-          (sym c.match_kind.ensures ∙ c.in_ok-check_kind.ensures),
+          (c.in_ok-start.ensures.1),
       gives-moved {listed = g.A.Automaton.listed automaton} (search_in built input) c.args.state.now c.match-state.reached c.next-found.result c.next-found.new.reached
           (goes_on g s).as_many
           (rw (c.get_anchored-2.ensures, c.open-tape.ensures.tape, c.get_span.ensures) at c.next-found.ensures.moved),

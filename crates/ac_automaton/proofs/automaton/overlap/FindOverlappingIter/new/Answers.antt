@@ -26,7 +26,7 @@ module _ (g : Over) (c : After-open-tape g) where
   built = g.A.Automaton.built c.args.automaton.now
 
   standard : built.kind ≡ Standard
-  standard = sym c.match_kind.ensures ∙ c.in_ok-check_kind.ensures
+  standard = c.in_ok-begun.ensures.1
 
   unanchored : (asked c.args.input).anchored ≡ No
   unanchored =
@@ -37,19 +37,19 @@ module _ (g : Over) (c : After-open-tape g) where
   free : start_refusal built.start_kind (asked c.args.input).anchored ≡ None
   free =
       subst (λ (a : Anchored). start_refusal built.start_kind a ≡ None) c.get_anchored.ensures
-      c.in_ok-start.ensures.0
+      c.in_ok-begun.ensures.0
 
-  starts : g.A.Automaton.stands c.args.automaton.now (asked c.args.input).anchored c.in_ok-start.start (Some [])
+  starts : g.A.Automaton.stands c.args.automaton.now (asked c.args.input).anchored c.in_ok-begun.begun (Some [])
   starts =
-      subst (λ (a : Anchored). g.A.Automaton.stands c.args.automaton.now a c.in_ok-start.start (Some []))
-      c.get_anchored.ensures c.in_ok-start.ensures.1
+      subst (λ (a : Anchored). g.A.Automaton.stands c.args.automaton.now a c.in_ok-begun.begun (Some []))
+      c.get_anchored.ensures c.in_ok-begun.ensures.2
 
   lists : (u : Node)
-      → g.A.Automaton.stands c.args.automaton.now (asked c.args.input).anchored c.in_ok-start.start u
+      → g.A.Automaton.stands c.args.automaton.now (asked c.args.input).anchored c.in_ok-begun.begun u
       → Lists built (asked c.args.input).anchored u
-      (g.A.Automaton.listed c.args.automaton.now c.in_ok-start.start)
+      (g.A.Automaton.listed c.args.automaton.now c.in_ok-begun.begun)
   lists u stands =
-      g.met.A.Automaton.lists c.args.automaton.now (asked c.args.input).anchored c.in_ok-start.start u stands
+      g.met.A.Automaton.lists c.args.automaton.now (asked c.args.input).anchored c.in_ok-begun.begun u stands
 
   -- the span isn't past its end
   ordered : c.is_done.result ≡ false → (asked c.args.input).start ≤ (asked c.args.input).end
@@ -61,16 +61,16 @@ module _ (g : Over) (c : After-open-tape g) where
   -- what was made stands at its start
   begins-at : (at : ℕ) (made : Reached)
       → made ≡ record {
-        state = c.in_ok-start.start;
+        state = c.in_ok-begun.begun;
         at = at;
-        rest = record { state = c.in_ok-start.start; index = 0 };
+        rest = record { state = c.in_ok-begun.begun; index = 0 };
       }
-      → at ≡ (asked c.args.input).start → made ≡ at_start (asked c.args.input) c.in_ok-start.start
+      → at ≡ (asked c.args.input).start → made ≡ at_start (asked c.args.input) c.in_ok-begun.begun
   begins-at at made is there =
       is ∙ ap (λ (n : ℕ). record {
-        state = c.in_ok-start.start;
+        state = c.in_ok-begun.begun;
         at = n;
-        rest = record { state = c.in_ok-start.start; index = 0 };
+        rest = record { state = c.in_ok-begun.begun; index = 0 };
       }) there
 
   -- how the listing begins
@@ -94,7 +94,7 @@ module _ (g : Over) (c : After-open-tape g) where
     | else-is_done w ↦
         subst Begins (sym (w.reached-is ∙ ap (λ (r : Reached). Some r) (begins-at w.start.result w.new.result
         w.new.ensures w.start.ensures)))
-        (listing-starts (g.A.Automaton.listed c.args.automaton.now) built (asked c.args.input) c.in_ok-start.start
+        (listing-starts (g.A.Automaton.listed c.args.automaton.now) built (asked c.args.input) c.in_ok-begun.begun
         starts lists standard (ordered w.if-is_done.false) c.args.input.end_within g.A.Automaton.LOOKS
         (g.A.Automaton.filters c.args.automaton.now) unanchored)
   ]
@@ -108,7 +108,7 @@ module _ (g : Over) (c : After-open-tape g) where
         ap (given_by (g.A.Automaton.listed c.args.automaton.now) (search_in built (asked c.args.input)))
         (w.reached-is ∙ ap (λ (r : Reached). Some r) (begins-at w.start.result w.new.result w.new.ensures
         w.start.ensures))
-        ∙ (goes_on-start {stands = g.A.Automaton.stands c.args.automaton.now (asked c.args.input).anchored} (g.A.Automaton.listed c.args.automaton.now) built (asked c.args.input) c.in_ok-start.start
+        ∙ (goes_on-start {stands = g.A.Automaton.stands c.args.automaton.now (asked c.args.input).anchored} (g.A.Automaton.listed c.args.automaton.now) built (asked c.args.input) c.in_ok-begun.begun
         starts lists standard (ordered w.if-is_done.false) c.args.input.end_within).as_many
   ]
 
