@@ -1,5 +1,6 @@
-ghost use Rattle.std.specs.Prelude.{◌≡◌, None, length};
-ghost use Rattle.ac_search.specs.Built.{find_refusal, walked};
+ghost use Rattle.std.specs.Prelude.{◌≡◌, IfOk, None, length};
+ghost use Rattle.ac_search.specs.Built.{find_refusal, overlapping_refusal, search_in, walked};
+ghost use Rattle.ac_search.specs.Listing.{all};
 ghost use Rattle.ac_search.specs.Asked.{asked_whole};
 ghost use Rattle.ac_search.specs.Texts.{AreTexts};
 
@@ -7,7 +8,7 @@ use crate::MatchKind::{LeftmostFirst, LeftmostLongest, Standard};
 use crate::laws::{answers_cut_no_character, answers_lie_inside};
 use crate::{
     AhoCorasick, AhoCorasickBuilder, AhoCorasickKind, Anchored, Input, Match, MatchError,
-    MatchKind, StartKind,
+    MatchKind, OverlappingState, StartKind,
 };
 use std::alloc::{AllocError, Global};
 use std::test::Fail;
@@ -45,6 +46,85 @@ const STARTS: &[(StartKind, Anchored, Option<MatchError>)] = &[
     (StartKind::Anchored, Anchored::Yes, None),
     (StartKind::Both, Anchored::No, None),
     (StartKind::Both, Anchored::Yes, None),
+];
+
+/// Patterns, a haystack, and the listing.
+type Listing = (&'static [&'static [u8]], &'static [u8], &'static [Told]);
+
+const LISTINGS: &[Listing] = &[
+    (
+        &[b"he", b"she", b"his", b"hers"],
+        b"ushers",
+        &[(1, 1, 4), (0, 2, 4), (3, 2, 6)],
+    ),
+    (
+        &[b"append", b"appendage", b"app"],
+        b"append the app to the appendage",
+        &[
+            (2, 0, 3),
+            (0, 0, 6),
+            (2, 11, 14),
+            (2, 22, 25),
+            (0, 22, 28),
+            (1, 22, 31),
+        ],
+    ),
+    (&[b"", b"a"], b"a", &[(0, 0, 0), (1, 0, 1), (0, 1, 1)]),
+    (
+        &[b"ab", b"ab"],
+        b"abab",
+        &[(0, 0, 2), (1, 0, 2), (0, 2, 4), (1, 2, 4)],
+    ),
+    (&[b"abc"], b"xyz", &[]),
+];
+
+/// A start kind, a match kind and an anchoring, and why a search by a state and an iterator are refused, if they
+/// are.
+type Refusals = (
+    StartKind,
+    MatchKind,
+    Anchored,
+    Option<MatchError>,
+    Option<MatchError>,
+);
+
+const OVERLAPPING_REFUSALS: &[Refusals] = &[
+    (
+        StartKind::Unanchored,
+        LeftmostFirst,
+        Anchored::No,
+        Some(MatchError::UnsupportedOverlapping { got: LeftmostFirst }),
+        Some(MatchError::UnsupportedOverlapping { got: LeftmostFirst }),
+    ),
+    (
+        StartKind::Unanchored,
+        LeftmostFirst,
+        Anchored::Yes,
+        Some(MatchError::InvalidInputAnchored),
+        Some(MatchError::InvalidInputAnchored),
+    ),
+    (
+        StartKind::Anchored,
+        LeftmostLongest,
+        Anchored::No,
+        Some(MatchError::InvalidInputUnanchored),
+        Some(MatchError::InvalidInputUnanchored),
+    ),
+    (
+        StartKind::Both,
+        Standard,
+        Anchored::Yes,
+        None,
+        Some(MatchError::InvalidInputAnchored),
+    ),
+    (StartKind::Unanchored, Standard, Anchored::No, None, None),
+    (
+        StartKind::Both,
+        LeftmostLongest,
+        Anchored::Yes,
+        Some(MatchError::UnsupportedOverlapping { got: LeftmostLongest }),
+        Some(MatchError::UnsupportedOverlapping { got: LeftmostLongest }),
+    ),
 ];
 
 /// Returns what a row says of a match.
@@ -119,6 +199,27 @@ fn count_of(searcher: &AhoCorasick, haystack: &[u8]) -> usize
 {
     answers_lie_inside(searcher, Input::new(haystack));
     searcher.find_iter(Input::new(haystack)).count()
+}
+
+/// Returns all occurrences in a haystack, one call after another.
+fn all_by_state(
+    alloc: Global,
+    searcher: &AhoCorasick,
+    haystack: &[u8],
+) -> Result<Vec<Match>, AllocError>
+    requires { overlapping_refusal searcher.now.built (asked_whole haystack.now) ≡ None }
+    ensures { IfOk result (λ found. found.items
+        ≡ all (search_in searcher.now.built (asked_whole haystack.now))) }
+{
+    let mut state = OverlappingState::start();
+    let mut found = Vec::new(alloc);
+    loop {
+        searcher.find_overlapping(Input::new(haystack), &mut state);
+        let Some(m) = state.get_match() else {
+            return Ok(found);
+        };
+        found.push(m)?;
+    }
 }
 
 /// Returns the slice at which the first match stands.
@@ -294,5 +395,56 @@ fn anchored_walks_go_on_from_each_end(rt: HostRuntime) -> Result<(), Fail> {
         let wanted = [(0, 0, 0), (1, 1, 2)];
         assert_eq!(rt; walked.as_slice(), wanted.as_slice(), "{kind:?}");
     }
+    Ok(())
+}
+
+#[test]
+fn all_occurrences_are_listed(rt: HostRuntime) -> Result<(), Fail> {
+    for &(patterns, haystack, wanted) in LISTINGS {
+        let searcher = AhoCorasick::new(rt.alloc(), patterns)?;
+        let found = all_by_state(rt.alloc(), &searcher, haystack)?;
+        let by_state: Vec<Told> = found.iter().map(told).collect(rt.alloc())?;
+        assert_eq!(rt; by_state.as_slice(), wanted);
+        let mut items = Vec::new(rt.alloc());
+        for m in searcher.find_overlapping_iter(Input::new(haystack)) {
+            items.push(told(&m))?;
+        }
+        assert_eq!(rt; items.as_slice(), wanted);
+    }
+    Ok(())
+}
+
+#[test]
+fn overlapping_searches_are_refused(rt: HostRuntime) -> Result<(), Fail> {
+    for &(start_kind, match_kind, anchored, by_state, by_iterator) in OVERLAPPING_REFUSALS {
+        println!(rt; "overlapping: {start_kind:?}, {match_kind:?}, {anchored:?}")?;
+        let mut builder = AhoCorasickBuilder::new();
+        builder.start_kind(start_kind).match_kind(match_kind);
+        let searcher = builder.build(rt.alloc(), &[b"a"])?;
+        let input = Input::new(b"a").anchored(anchored);
+        let mut state = OverlappingState::start();
+        let refusal = searcher.try_find_overlapping(input, &mut state).err();
+        assert_eq!(rt; refusal, by_state);
+        let given = state.get_match().map(|m| told(&m));
+        assert_eq!(rt; given, if by_state.is_none() { Some((0, 0, 1)) } else { None });
+        let refusal = searcher.try_find_overlapping_iter(input).err();
+        assert_eq!(rt; refusal, by_iterator);
+    }
+    Ok(())
+}
+
+#[test]
+fn anchored_listings_stay_at_the_start(rt: HostRuntime) -> Result<(), Fail> {
+    let mut builder = AhoCorasickBuilder::new();
+    builder.start_kind(StartKind::Both);
+    let searcher = builder.build(rt.alloc(), &[b"append", b"appendage", b"app"])?;
+    let input = Input::new(b"append the app to the appendage").anchored(Anchored::Yes);
+    let mut state = OverlappingState::start();
+    searcher.try_find_overlapping(input, &mut state)?;
+    assert_eq!(rt; state.get_match().map(|m| told(&m)), Some((2, 0, 3)));
+    searcher.try_find_overlapping(input, &mut state)?;
+    assert_eq!(rt; state.get_match().map(|m| told(&m)), Some((0, 0, 6)));
+    searcher.try_find_overlapping(input, &mut state)?;
+    assert_eq!(rt; state.get_match(), None);
     Ok(())
 }

@@ -1,0 +1,20 @@
+use Rattle.std.proofs.Common.{◌≡◌, ◌-◌, length, take}
+use Rattle.ac_search.specs.Asked.{asked_whole}
+use Rattle.ac_search.specs.Built.{search_in}
+use Rattle.ac_search.specs.Listing.{all}
+use Rattle.ac_search.specs.Places.{HasPlace, place_in}
+use Rattle.ac_search.proofs.tests.all_by_state.Given as goal
+
+-- as many items as the state says were found
+abbrev pub invariant-loop-m : goal.invariant-loop-m
+invariant-loop-m l =
+    record {
+      placed : HasPlace l.searcher (asked_whole l.haystack) l.state;
+      found : l.found.items ≡ take (place_in l.searcher (asked_whole l.haystack) l.state)
+          (all (search_in l.searcher.built (asked_whole l.haystack)));
+    }
+
+abbrev pub decreases-loop-m : goal.decreases-loop-m
+decreases-loop-m l =
+    length (all (search_in l.searcher.built (asked_whole l.haystack)))
+    - place_in l.searcher (asked_whole l.haystack) l.state
