@@ -125,9 +125,9 @@ pub(crate) fn print_listing<A: Allocator + Clone, B: Allocator, W: Sink>(
 {
     let mut text = String::new(alloc);
     let mut outcome = Outcome::Nothing;
-    for m in items {
+    for item in items {
         outcome = Outcome::Found;
-        print_line(&mut text, &m, writer)?;
+        print_line(&mut text, &item, writer)?;
     }
     print_end(text.as_bytes(), writer)?;
     Ok(outcome)

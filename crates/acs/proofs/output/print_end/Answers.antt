@@ -2,6 +2,7 @@ use Rattle.std.proofs.Common.{[], refl}
 use Rattle.acs.proofs.Printing.{printing-closes}
 use Rattle.acs.proofs.output.print_end.Goals as goal
 
+-- the text is the last one
 pub returns : goal.returns
 returns g c all old outcome printing =
     let told = g.W.Sink.told in

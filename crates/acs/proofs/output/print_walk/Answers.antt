@@ -5,6 +5,7 @@ use Rattle.ac_automaton.proofs.Places.{refused-by}
 use Rattle.acs.proofs.Printing.{printing-begins}
 use Rattle.acs.proofs.output.print_walk.Goals as goal
 
+-- at first all matches are still to come
 pub loop-m-init : goal.loop-m-init
 loop-m-init g c = (
   rw (c.into_iter-m-iterator.ensures.into_iter_gives, c.new-text.ensures.bytes)
@@ -34,6 +35,7 @@ returns-in_err-print_end g c =
     (c.in_err-print_end.ensures c.args.matches.rest (told c.args.writer.now) c.loop-m.outcome
     (rw (sym c.in-None.ensures.steps.gives.0, c.as_bytes.ensures.value) c.loop-m.invariant.0))
 
+-- no match is left, and the last text is written
 pub returns : goal.returns
 returns g c =
     let told = g.W.Sink.told in
