@@ -1,6 +1,6 @@
--- Printing a walk, line by line.
+-- Printing matches, line by line.
 use Rattle.std.proofs.Common.{◌≡◌, ◌+◌, ◌<◌, ℕ, List, [], ◌∷◌, ◌++◌, length, length-append, take, drop, ap, sym, refl, ◌∙◌, subst, arith, inl, inr}
-use Rattle.std.specs.Prelude.{codes, decimal}
+use Rattle.std.specs.Prelude.{codes, decimal, MatchResult, Result, Ok, Err}
 use Rattle.std.specs.Io.{StartsWith}
 use Rattle.std.specs.Io.KnownBytes.{Appends}
 use Rattle.std.proofs.lemmas.List.{append-nil, append_assoc, take-append-drop}
@@ -13,6 +13,7 @@ use Rattle.acs.specs.declared.fault.Fault.TheVariants.{Memory}
 use Rattle.acs.specs.declared.run.Outcome.{Outcome}
 use Rattle.acs.specs.declared.run.Outcome.TheVariants.{Found, Nothing}
 use Rattle.acs.specs.Lines.{line, lines, outcome_of}
+use Rattle.acs.specs.Printed.{IsPrinting}
 use Rattle.acs.specs.Runs.{FailsToPrint, FailsToWrite, WritesAll}
 
 -- the lines of two lists one after the other
@@ -21,10 +22,12 @@ lines-append [] ys = refl
 lines-append (x ∷ xs) ys =
     ap (λ (w : List ℕ). line x ++ w) (lines-append xs ys) ∙ sym (append_assoc (line x) (lines xs) (lines ys))
 
+-- behind the line of one more match there is a line
 found-more : (xs : List Occurrence) (m : Occurrence) → outcome_of (xs ++ m ∷ []) ≡ Found
 found-more [] m = refl
 found-more (x ∷ xs) m = refl
 
+-- a part with a rest behind it is a beginning
 starts-from : (all part rest : List ℕ) → all ≡ part ++ rest → StartsWith all part
 starts-from all part rest e = ap (take (length part)) e ∙ take-append_seam part rest
 
@@ -35,18 +38,6 @@ line-some m =
     let whole : length (line m) ≡ length front + length (codes "\n") = length-append front (codes "\n") in
     let one : length (codes "\n") ≡ 1 = refl in
     omega arith
-
--- of all the matches some are printed and the rest is not: the lines of the first are written, but for the text
-pub record IsPrinting (all rest : List Occurrence) (old new : Writing) (text : List ℕ)
-    (outcome : Outcome) : Type 0 where
-  pub done : List Occurrence
-  pub parted : done ++ rest ≡ all
-  pub out : List ℕ
-  pub moved : Appends old.written new.written out
-  pub written : out ++ text ≡ lines done
-  pub failed : new.failed ≡ old.failed
-  pub idles : new.idles ≡ old.idles
-  pub outcome_is : outcome ≡ outcome_of done
 
 -- nothing is printed yet
 pub printing-begins : (all : List Occurrence) (old : Writing) → IsPrinting all all old old [] Nothing
@@ -94,6 +85,7 @@ module _ (all rest : List Occurrence) (old new : Writing) (text : List ℕ) (out
     outcome_is = h.outcome_is;
   }
 
+  -- the lines are what is written, the text, and the lines of the rest
   all-lines : lines all ≡ h.out ++ (text ++ lines rest)
   all-lines =
       ap lines (sym h.parted) ∙ lines-append h.done rest
@@ -165,3 +157,11 @@ module _ (all rest : List Occurrence) (old new : Writing) (text : List ℕ) (out
           | inr zero ↦ inr (zero.0, zero.1 ∙ h.failed, (let l = zero.2 in let m = h.idles in omega arith))
         ];
       })
+
+  -- the last text is written, or a write fails that has taken a part of it
+  pub printing-closes : {T : Type 0} (later : Writing) (r : Result T Fault) → rest ≡ []
+      → MatchResult r (λ _. WritesAll new later text) (FailsToWrite new later text)
+      → MatchResult r (λ _. WritesAll old later (lines all) × (outcome ≡ outcome_of all))
+      (FailsToPrint old later (lines all))
+  printing-closes later (Ok x) e w = printing-ends later e w
+  printing-closes later (Err fault) e f = printing-fails later fault f

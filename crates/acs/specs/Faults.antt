@@ -5,7 +5,7 @@ use Rattle.ac_util.specs.declared.error.BuildError.TheVariants.{Memory as NoMemo
 use Rattle.ac_automaton.specs.Builds.{Refuses}
 use Rattle.ac_search.specs.Searchers.{Settings, engine_settings, rules_for}
 use Rattle.acs.specs.declared.fault.Fault.{Fault}
-use Rattle.acs.specs.declared.fault.Fault.TheVariants.{Usage, Memory, TooManyPatterns, PatternTooLong, TooManyStates, Io, WriteZero}
+use Rattle.acs.specs.declared.fault.Fault.TheVariants.{Usage, Memory, TooManyPatterns, PatternTooLong, TooManyStates, OverlappingKind, Io, WriteZero}
 
 -- the line of each fault
 abbrev pub line_of : Fault → List ℕ
@@ -14,6 +14,7 @@ line_of Memory = codes "acs: out of memory"
 line_of TooManyPatterns = codes "acs: too many patterns"
 line_of PatternTooLong = codes "acs: pattern too long"
 line_of TooManyStates = codes "acs: too many states"
+line_of OverlappingKind = codes "acs: overlapping search needs std"
 line_of Io = codes "acs: input or output failed"
 line_of WriteZero = codes "acs: output took no byte"
 

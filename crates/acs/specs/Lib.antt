@@ -1,4 +1,5 @@
 pub mod Faults
 pub mod Lines
+pub mod Printed
 pub mod Requests
 pub mod Runs

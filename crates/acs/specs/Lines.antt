@@ -1,10 +1,11 @@
 -- What the program prints.
 use Rattle.std.specs.Prelude.{ℕ, List, [], ◌∷◌, ◌++◌, codes, decimal, flat_map, option_to_list, Result, Ok, Err}
-use Rattle.ac_util.specs.Built.{Built, found, walked}
+use Rattle.ac_util.specs.Built.{Built, found, search_in, walked}
 use Rattle.ac_util.specs.Asked.{asked_whole}
+use Rattle.ac_util.specs.Listing.{all}
 use Rattle.ac_util.specs.Occurrence.{Occurrence}
 use Rattle.acs.specs.declared.request.Mode.{Mode}
-use Rattle.acs.specs.declared.request.Mode.TheVariants.{Find, Walk}
+use Rattle.acs.specs.declared.request.Mode.TheVariants.{Find, Walk, Overlap}
 use Rattle.acs.specs.declared.run.Outcome.{Outcome}
 use Rattle.acs.specs.declared.run.Outcome.TheVariants.{Found, Nothing}
 
@@ -15,15 +16,25 @@ line m = decimal m.pattern ++ codes " " ++ decimal m.start ++ codes " " ++ decim
 abbrev pub lines : List Occurrence → List ℕ
 lines ms = flat_map line ms
 
--- the matches of a haystack that are printed
-abbrev pub printed : Mode → Built → List ℕ → List Occurrence
-printed Find built haystack = option_to_list (found built (asked_whole haystack))
-printed Walk built haystack = walked built (asked_whole haystack)
-
--- whether some were
+-- whether there is one
 abbrev pub outcome_of : List Occurrence → Outcome
 outcome_of [] = Nothing
 outcome_of (m ∷ ms) = Found
+
+-- what a run writes, and how it ends that meets no fault
+pub record Output : Type 0 where
+  pub text : List ℕ
+  pub outcome : Outcome
+
+-- a line for each match, and whether there is one
+abbrev pub lines_of : List Occurrence → Output
+lines_of ms = record { text = lines ms; outcome = outcome_of ms }
+
+-- what each mode writes for a haystack: the match that a find answers, those of a walk, all occurrences
+abbrev pub output_of : Mode → Built → List ℕ → Output
+output_of Find built haystack = lines_of (option_to_list (found built (asked_whole haystack)))
+output_of Walk built haystack = lines_of (walked built (asked_whole haystack))
+output_of Overlap built haystack = lines_of (all (search_in built (asked_whole haystack)))
 
 -- the exit status
 abbrev pub status_of : {E : Type 0} → Result Outcome E → ℕ

@@ -6,8 +6,10 @@ use Rattle.ac_util.specs.declared.search.StartKind.TheVariants.{Unanchored}
 use Rattle.ac_search.specs.declared.ahocorasick.choice.AhoCorasickKind.{AhoCorasickKind}
 use Rattle.ac_search.specs.declared.ahocorasick.choice.AhoCorasickKind.TheVariants.{NoncontiguousNFA}
 use Rattle.ac_search.specs.Searchers.{Settings}
+use Rattle.acs.specs.declared.fault.Fault.{Fault}
+use Rattle.acs.specs.declared.fault.Fault.TheVariants.{OverlappingKind}
 use Rattle.acs.specs.declared.request.Mode.{Mode}
-use Rattle.acs.specs.declared.request.Mode.TheVariants.{Find, Walk}
+use Rattle.acs.specs.declared.request.Mode.TheVariants.{Find, Walk, Overlap}
 use Rattle.acs.specs.declared.request.Request.{Request}
 
 -- the names of modes, match kinds and engines
@@ -15,6 +17,7 @@ abbrev pub mode_of : List ℕ → Option Mode
 mode_of word =
     if bytes_eq word (codes "find") then Some Find
     else if bytes_eq word (codes "walk") then Some Walk
+    else if bytes_eq word (codes "overlap") then Some Overlap
     else None
 
 abbrev pub kind_of : List ℕ → Option MatchKind
@@ -39,6 +42,16 @@ request_of words = None
 -- the patterns are the words behind these three
 abbrev pub patterns_of : List (List ℕ) → List (List ℕ)
 patterns_of words = drop 3 words
+
+-- why a mode is refused by a match kind, if it is: the overlapping search needs Standard
+abbrev pub mode_refusal : Mode → MatchKind → Option Fault
+mode_refusal mode Standard = None
+mode_refusal Overlap kind = Some OverlappingKind
+mode_refusal mode kind = None
+
+-- why a request is refused whose searcher was built, if it is
+abbrev pub request_refusal : Request → Option Fault
+request_refusal request = mode_refusal request.mode request.kind
 
 -- what the searcher is built by
 abbrev pub settings_of : Request → Settings

@@ -1,9 +1,8 @@
 -- What a run of the program does to its reader and its writer.
-use Rattle.std.specs.Prelude.{◌≡◌, ◌⊎◌, ℕ, ◌+◌, ◌<◌, Bool, true, List, length}
+use Rattle.std.specs.Prelude.{◌≡◌, ◌⊎◌, ℕ, ◌+◌, ◌<◌, Bool, true, List, length, None, Some}
 use Rattle.std.specs.Io.{StartsWith}
 use Rattle.std.specs.Io.KnownBytes.{Appends, Consumes, IsAtEnd}
 use Rattle.ac_util.specs.Device.{Reading, Writing}
-use Rattle.ac_util.specs.Occurrence.{Occurrence}
 use Rattle.ac_automaton.specs.Builds.{IsAllowed}
 use Rattle.ac_search.specs.Searchers.{built_by, engine_settings, rules_for}
 use Rattle.acs.specs.declared.fault.Fault.{Fault}
@@ -11,8 +10,8 @@ use Rattle.acs.specs.declared.fault.Fault.TheVariants.{Io, Memory, WriteZero}
 use Rattle.acs.specs.declared.request.Request.{Request}
 use Rattle.acs.specs.declared.run.Outcome.{Outcome}
 use Rattle.acs.specs.Faults.{IsRefusal}
-use Rattle.acs.specs.Lines.{lines, outcome_of, printed}
-use Rattle.acs.specs.Requests.{settings_of}
+use Rattle.acs.specs.Lines.{Output, output_of}
+use Rattle.acs.specs.Requests.{request_refusal, settings_of}
 
 -- the bytes are all that the reader gave up to the first read that gave none, where it was asked no more, and
 -- no read failed. Where `ends` is true they are all that it had left
@@ -54,42 +53,51 @@ FailsToPrint old new bytes fault =
     FailsToWrite old new bytes fault
     ⊎ ((fault ≡ Memory) × WritesSome old new bytes × (new.failed ≡ old.failed) × (new.idles ≡ old.idles))
 
--- the lines of a request's answer for a haystack are those of these matches
-abbrev pub answer : Request → List (List ℕ) → List ℕ → List Occurrence
+-- what a request writes for a haystack, and how the run ends then
+abbrev pub answer : Request → List (List ℕ) → List ℕ → Output
 answer request patterns haystack =
-    printed request.mode (built_by (settings_of request) patterns) haystack
+    output_of request.mode (built_by (settings_of request) patterns) haystack
 
 -- `ends` is whether the reader's bytes are at their end where it gives none
 module _ (ends : Bool) (request : Request) (patterns : List (List ℕ)) (reader new_reader : Reading)
     (writer new_writer : Writing) where
-  -- no limit refused the searcher, and the run has written a line for each match in all that the reader gave,
-  -- and says whether there was one
+  -- no limit refused the searcher, nor was the request refused; the run has written what is asked for over all
+  -- that the reader gave, and ends as that does
   pub record HasRun (outcome : Outcome) : Type 0 where
     pub allowed : IsAllowed (rules_for (settings_of request)) (engine_settings (settings_of request)) patterns
+    pub served : request_refusal request ≡ None
     pub haystack : List ℕ
     pub reads : ReadsAll ends reader new_reader haystack
-    pub writes : WritesAll writer new_writer (lines (answer request patterns haystack))
-    pub outcome_is : outcome ≡ outcome_of (answer request patterns haystack)
+    pub writes : WritesAll writer new_writer (answer request patterns haystack).text
+    pub outcome_is : outcome ≡ (answer request patterns haystack).outcome
 
-  -- the searcher was refused, by a limit of the list where one is passed: reader and writer are as they were
+  -- the searcher was refused, by a limit of the list where one is passed; or no limit refused it, and the request
+  -- was refused. Reader and writer are as they were
   abbrev pub FailsAtFirst : Fault → Type 0
   FailsAtFirst fault =
-      IsRefusal (settings_of request) patterns fault × (new_reader ≡ reader) × (new_writer ≡ writer)
+      (IsRefusal (settings_of request) patterns fault
+      ⊎ (IsAllowed (rules_for (settings_of request)) (engine_settings (settings_of request)) patterns
+      × (request_refusal request ≡ Some fault)))
+      × (new_reader ≡ reader)
+      × (new_writer ≡ writer)
 
-  -- no limit refused the searcher; while the run read it has ended with a fault, with nothing written
+  -- no limit refused the searcher, nor was the request refused; while the run read it has ended with a fault, with
+  -- nothing written
   abbrev pub FailsReading : Fault → Type 0
   FailsReading fault =
       IsAllowed (rules_for (settings_of request)) (engine_settings (settings_of request)) patterns
+      × (request_refusal request ≡ None)
       × FailsToRead reader new_reader fault
       × (new_writer ≡ writer)
 
-  -- no limit refused the searcher; while the run wrote the lines of all that the reader gave it has ended with
-  -- a fault
+  -- no limit refused the searcher, nor was the request refused; while the run wrote what is asked for over all that
+  -- the reader gave it has ended with a fault
   pub record FailsPrinting (fault : Fault) : Type 0 where
     pub allowed : IsAllowed (rules_for (settings_of request)) (engine_settings (settings_of request)) patterns
+    pub served : request_refusal request ≡ None
     pub haystack : List ℕ
     pub reads : ReadsAll ends reader new_reader haystack
-    pub writes : FailsToPrint writer new_writer (lines (answer request patterns haystack)) fault
+    pub writes : FailsToPrint writer new_writer (answer request patterns haystack).text fault
 
   -- the run has ended with a fault, for its cause: before the first read, while it read, or while it wrote
   abbrev pub HasFailed : Fault → Type 0

@@ -19,6 +19,8 @@ pub enum Fault {
     PatternTooLong,
     /// The patterns need more states than there are state numbers.
     TooManyStates,
+    /// An overlapping search is asked for by a leftmost kind.
+    OverlappingKind,
     /// A read or a write failed.
     Io,
     /// A write took no byte.
@@ -36,6 +38,7 @@ impl Fault {
             Fault::TooManyPatterns => "acs: too many patterns",
             Fault::PatternTooLong => "acs: pattern too long",
             Fault::TooManyStates => "acs: too many states",
+            Fault::OverlappingKind => "acs: overlapping search needs std",
             Fault::Io => "acs: input or output failed",
             Fault::WriteZero => "acs: output took no byte",
         }

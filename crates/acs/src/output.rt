@@ -1,11 +1,16 @@
 //! Lines for matches, written in large pieces.
-ghost use Rattle.std.specs.Prelude.{◌≡◌, ◌++◌, MatchResult, OnOk, option_to_list, string_bytes};
+ghost use Rattle.std.specs.Prelude.{◌≡◌, ◌++◌, ◌∷◌, [], List, MatchResult, OnOk, option_to_list, string_bytes};
+ghost use Rattle.ac_util.specs.Device.{Writing};
+ghost use Rattle.ac_util.specs.Occurrence.{Occurrence};
+ghost use Rattle.acs.specs.declared.run.Outcome.{Outcome};
+ghost use Rattle.acs.specs.declared.run.Outcome.TheVariants.{Found};
 ghost use Rattle.acs.specs.Lines.{line, lines, outcome_of};
+ghost use Rattle.acs.specs.Printed.{IsPrinting};
 ghost use Rattle.acs.specs.Runs.{FailsToPrint, FailsToWrite, WritesAll};
 
 use crate::fault::Fault;
 use crate::run::Outcome;
-use ac_search::{FindIter, Match, Sink};
+use ac_search::{FindIter, FindOverlappingIter, Match, Sink};
 use std::alloc::{AllocError, Allocator};
 
 /// From how many bytes on the lines are written.
@@ -42,7 +47,44 @@ fn write_all<W: Sink>(writer: &mut W, bytes: &[u8]) -> Result<(), Fault>
     Ok(())
 }
 
-/// Writes a line for each match.
+/// Adds the line of a match to the text, and writes the text where it is full.
+///
+/// # Errors
+/// As `print_walk`.
+fn print_line<A: Allocator + Clone, W: Sink>(
+    text: &mut String<A>,
+    m: &Match,
+    writer: &mut W,
+) -> Result<(), Fault>
+    ensures { (all later : List Occurrence) → (old : Writing) → (outcome : Outcome)
+        → IsPrinting all (m.now ∷ later) old (W.told writer.old) (string_bytes text.old) outcome
+        → MatchResult result
+        (λ _. IsPrinting all later old (W.told writer.new) (string_bytes text.new) Found)
+        (FailsToPrint old (W.told writer.new) (lines all)) }
+{
+    add_line(text, m)?;
+    if text.len() >= FULL {
+        write_all(writer, text.as_bytes())?;
+        text.clear();
+    }
+    Ok(())
+}
+
+/// Writes the text behind the last line.
+///
+/// # Errors
+/// As `print_walk`.
+fn print_end<W: Sink>(text: &[u8], writer: &mut W) -> Result<(), Fault>
+    ensures { (all : List Occurrence) → (old : Writing) → (outcome : Outcome)
+        → IsPrinting all [] old (W.told writer.old) text.now outcome
+        → MatchResult result
+        (λ _. WritesAll old (W.told writer.new) (lines all) × (outcome ≡ outcome_of all))
+        (FailsToPrint old (W.told writer.new) (lines all)) }
+{
+    write_all(writer, text)
+}
+
+/// Writes a line for each match of a walk.
 ///
 /// # Errors
 /// `Io` where a write fails, `WriteZero` where it takes no byte, `Memory` where a request for memory is
@@ -61,13 +103,33 @@ pub(crate) fn print_walk<A: Allocator + Clone, B: Allocator, W: Sink>(
     let mut outcome = Outcome::Nothing;
     for m in matches {
         outcome = Outcome::Found;
-        add_line(&mut text, &m)?;
-        if text.len() >= FULL {
-            write_all(writer, text.as_bytes())?;
-            text.clear();
-        }
+        print_line(&mut text, &m, writer)?;
     }
-    write_all(writer, text.as_bytes())?;
+    print_end(text.as_bytes(), writer)?;
+    Ok(outcome)
+}
+
+/// Writes a line for each item of a listing.
+///
+/// # Errors
+/// As `print_walk`.
+pub(crate) fn print_listing<A: Allocator + Clone, B: Allocator, W: Sink>(
+    alloc: A,
+    items: FindOverlappingIter<'_, '_, B>,
+    writer: &mut W,
+) -> Result<Outcome, Fault>
+    ensures { MatchResult result
+        (λ outcome. WritesAll (W.told writer.old) (W.told writer.new) (lines items.entry.rest)
+        × (outcome ≡ outcome_of items.entry.rest))
+        (FailsToPrint (W.told writer.old) (W.told writer.new) (lines items.entry.rest)) }
+{
+    let mut text = String::new(alloc);
+    let mut outcome = Outcome::Nothing;
+    for item in items {
+        outcome = Outcome::Found;
+        print_line(&mut text, &item, writer)?;
+    }
+    print_end(text.as_bytes(), writer)?;
     Ok(outcome)
 }
 

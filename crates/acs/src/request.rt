@@ -13,6 +13,8 @@ pub(crate) enum Mode {
     Find,
     /// The matches of a walk.
     Walk,
+    /// All occurrences, also those that overlap.
+    Overlap,
 }
 
 /// What is asked for, without the patterns.
@@ -43,6 +45,7 @@ fn mode_of(word: &str) -> Option<Mode>
     match word {
         "find" => Some(Mode::Find),
         "walk" => Some(Mode::Walk),
+        "overlap" => Some(Mode::Overlap),
         _ => None,
     }
 }

@@ -1,18 +1,18 @@
 //! The program over any reader and writer.
-ghost use Rattle.std.specs.Prelude.{◌≡◌, Err, MatchOption, MatchResult};
+ghost use Rattle.std.specs.Prelude.{◌≡◌, Err, MatchOption, MatchResult, None, Some};
 ghost use Rattle.ac_util.specs.Borrowed.{bytes_of};
 ghost use Rattle.ac_search.specs.Searchers.{IsBuilt};
 ghost use Rattle.acs.specs.declared.fault.Fault;
 ghost use Rattle.acs.specs.Lines.{status_of};
 ghost use Rattle.acs.specs.Faults.{IsRefusal};
-ghost use Rattle.acs.specs.Requests.{patterns_of, request_of, settings_of};
+ghost use Rattle.acs.specs.Requests.{patterns_of, request_of, request_refusal, settings_of};
 ghost use Rattle.acs.specs.Runs.{HasFailed, HasRun};
 
 use crate::fault::Fault;
 use crate::input::read_all;
-use crate::output::{print_found, print_walk};
+use crate::output::{print_found, print_listing, print_walk};
 use crate::request::{Mode, Request, patterns_of, request_of};
-use ac_search::{AhoCorasick, AhoCorasickBuilder, Input, Sink, Source, check_limits};
+use ac_search::{AhoCorasick, AhoCorasickBuilder, Input, MatchKind, Sink, Source, check_limits};
 use std::alloc::Allocator;
 
 /// How a run ends that meets no fault.
@@ -27,13 +27,15 @@ pub enum Outcome {
 /// Searches all that a reader gives for what the words ask for, and writes a line for each match: its pattern's
 /// number, its start and its end.
 ///
-/// The words are tested first, then the searcher is built, then the input is read up to the first read that
-/// gives no byte, and only then something is written.
+/// The words are tested first, then the searcher is built, then it is tested that the match kind allows the mode,
+/// then the input is read up to the first read that gives no byte, and only then something is written.
 ///
 /// # Errors
 /// - `Usage` exactly where the words ask for nothing that there is.
 /// - `TooManyPatterns` and `PatternTooLong` exactly where that limit of the list is passed.
 /// - `TooManyStates` only where the engine would need more states than there are numbers.
+/// - `OverlappingKind` exactly where a leftmost kind is asked for in the mode `overlap`, and no limit or want of
+///   memory refused the searcher.
 /// - `Io` where a read or a write failed, and `WriteZero` where a write took no byte.
 /// - `Memory` where a request for memory was refused. A contract cannot count such requests; it says that none
 ///   of the causes above was there.
@@ -81,11 +83,13 @@ fn search<A: Allocator + Clone, R: Source, W: Sink>(
     check_limits(words)?;
     let patterns = patterns_of(alloc.clone()?, words)?;
     let searcher = searcher_for(alloc.clone()?, request, &patterns)?;
+    check_request(request)?;
     let haystack = read_all(alloc.clone()?, reader)?;
     let input = Input::new(&haystack);
     match request.mode {
         Mode::Find => print_found(alloc, searcher.find(input), writer),
         Mode::Walk => print_walk(alloc, searcher.find_iter(input), writer),
+        Mode::Overlap => print_listing(alloc, searcher.find_overlapping_iter(input), writer),
     }
 }
 
@@ -106,6 +110,23 @@ fn searcher_for<A: Allocator + Clone>(
     builder.match_kind(request.kind);
     builder.kind(Some(request.engine));
     Ok(builder.build(alloc, patterns)?)
+}
+
+/// Tests that the match kind allows the mode.
+///
+/// # Errors
+/// `OverlappingKind` where a leftmost kind is asked for in the mode `overlap`.
+fn check_request(request: Request) -> Result<(), Fault>
+    ensures { MatchResult result
+        (λ _. request_refusal request ≡ None)
+        (λ fault. request_refusal request ≡ Some fault) }
+{
+    match (request.mode, request.kind) {
+        (Mode::Overlap, MatchKind::LeftmostFirst | MatchKind::LeftmostLongest) => {
+            Err(Fault::OverlappingKind)
+        }
+        _ => Ok(()),
+    }
 }
 
 /// Returns the exit status: 0 where a line was written, 1 where none was, 2 after a fault.

@@ -123,6 +123,56 @@ const RUNS: &[Row] = &[
         "0 0 0\n0 1 1\n0 2 2\n",
         Ok(Outcome::Found),
     ),
+    (
+        "overlap for append, appendage, app",
+        &[
+            "overlap",
+            "std",
+            "noncontiguous",
+            "append",
+            "appendage",
+            "app",
+        ],
+        "append the app to the appendage",
+        "2 0 3\n0 0 6\n2 11 14\n2 22 25\n0 22 28\n1 22 31\n",
+        Ok(Outcome::Found),
+    ),
+    (
+        "overlap for he, she, his, hers",
+        &[
+            "overlap",
+            "std",
+            "noncontiguous",
+            "he",
+            "she",
+            "his",
+            "hers",
+        ],
+        "ushers",
+        "1 1 4\n0 2 4\n3 2 6\n",
+        Ok(Outcome::Found),
+    ),
+    (
+        "overlap for an empty word and a",
+        &["overlap", "std", "noncontiguous", "", "a"],
+        "a",
+        "0 0 0\n1 0 1\n0 1 1\n",
+        Ok(Outcome::Found),
+    ),
+    (
+        "overlap for a word that is there twice",
+        &["overlap", "std", "noncontiguous", "ab", "ab"],
+        "abab",
+        "0 0 2\n1 0 2\n0 2 4\n1 2 4\n",
+        Ok(Outcome::Found),
+    ),
+    (
+        "overlap for what does not occur",
+        &["overlap", "std", "noncontiguous", "abc"],
+        "xyz",
+        "",
+        Ok(Outcome::Nothing),
+    ),
     ("no word", &[], "ushers", "", Err(Fault::Usage)),
     (
         "two words",
@@ -167,6 +217,11 @@ const ENDINGS: &[(Ending, u8, &str)] = &[
     (Err(Fault::TooManyPatterns), 2, "acs: too many patterns"),
     (Err(Fault::PatternTooLong), 2, "acs: pattern too long"),
     (Err(Fault::TooManyStates), 2, "acs: too many states"),
+    (
+        Err(Fault::OverlappingKind),
+        2,
+        "acs: overlapping search needs std",
+    ),
     (Err(Fault::Io), 2, "acs: input or output failed"),
     (Err(Fault::WriteZero), 2, "acs: output took no byte"),
 ];
@@ -295,6 +350,28 @@ fn a_read_of_nothing_is_the_end(rt: HostRuntime) -> Result<(), Fail> {
     assert_eq!(rt; answer, Ok(Outcome::Found));
     assert_eq!(rt; writer.bytes(), b"0 0 2\n1 2 3\n".as_slice());
     assert_eq!(rt; left.as_slice(), b"xab".as_slice());
+    Ok(())
+}
+
+#[test]
+fn overlap_by_a_leftmost_kind_reads_and_writes_nothing(rt: HostRuntime) -> Result<(), Fail> {
+    for kind in ["first", "longest"] {
+        println!(rt; "overlap by {kind}")?;
+        let mut left = Vec::new(rt.alloc());
+        left.extend_from_slice(INPUT)?;
+        let mut reader = FromRead::new(Pauses {
+            left: &mut left,
+            until: usize::MAX,
+        });
+        let mut writer = Written::new(rt.alloc());
+        let words = ["overlap", kind, "noncontiguous", "a"];
+        let answer = run(rt.alloc(), &words, &mut reader, &mut writer);
+        drop(reader);
+        assert_eq!(rt; answer, Err(Fault::OverlappingKind), "{kind}");
+        assert_eq!(rt; status(&answer), 2, "{kind}");
+        assert!(rt; writer.bytes().is_empty(), "{kind}");
+        assert_eq!(rt; left.as_slice(), INPUT, "{kind}");
+    }
     Ok(())
 }
 

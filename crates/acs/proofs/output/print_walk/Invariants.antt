@@ -1,5 +1,5 @@
 use Rattle.std.specs.Prelude.{string_bytes}
-use Rattle.acs.proofs.Printing.{IsPrinting}
+use Rattle.acs.specs.Printed.{IsPrinting}
 use Rattle.acs.proofs.output.print_walk.Given as goal
 
 abbrev pub invariant-loop-m : goal.invariant-loop-m
