@@ -192,12 +192,7 @@ impl<'a, A: Automaton> Lister<'a, A> {
 
     /// Returns the next item of the listing, and moves on behind it.
     #[inline]
-    fn next(
-        &self,
-        reached: &mut Reached,
-        tape: &mut Tape<'_>,
-        looks: &mut Looks,
-    ) -> Option<Match>
+    fn next(&self, reached: &mut Reached, tape: &mut Tape<'_>, looks: &mut Looks) -> Option<Match>
         requires standard { (A.built self.now.automaton.now).kind ≡ Standard }
         requires listed { HasListed (A.stands self.now.automaton.now self.now.anchored)
             (A.listed self.now.automaton.now) (A.built self.now.automaton.now).kind

@@ -92,12 +92,7 @@ fn listing_by_iterator(alloc: Global, nfa: &NFA, input: Input<'_>) -> Result<Vec
 }
 
 /// Returns whether the listing for an input is the plain one, by a state and if it is unanchored by an iterator.
-fn lists(
-    alloc: Global,
-    nfa: &NFA,
-    query: &Query<'_>,
-    input: Input<'_>,
-) -> Result<bool, Fail> {
+fn lists(alloc: Global, nfa: &NFA, query: &Query<'_>, input: Input<'_>) -> Result<bool, Fail> {
     let wanted = listing(alloc, query)?;
     let by_state = listing_by_state(alloc, nfa, input)?;
     if by_state.as_slice() != wanted.as_slice() {

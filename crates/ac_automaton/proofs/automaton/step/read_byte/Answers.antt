@@ -6,8 +6,13 @@ pub next_state-requires : goal.next_state-requires
 next_state-requires g c =
     let r = c.requires.reaches in
     let built = g.A.Automaton.built c.args.automaton.now in
-    record { state = (node_at built.kind (search_of built c.args.anchored c.args.tape.now.bytes r.0 r.1)
-    c.args.cursor.at, r.2.there) }
+    record {
+      state = (
+        node_at built.kind (search_of built c.args.anchored c.args.tape.now.bytes r.0 r.1)
+            c.args.cursor.at,
+        r.2.there,
+      );
+    }
 
 pub returns-clause-reaches : goal.returns-clause-reaches
 returns-clause-reaches g c =

@@ -65,13 +65,7 @@ const LISTINGS: &[Row] = &[
         (0, 4),
         &[(0, 0, 2), (1, 0, 2), (0, 2, 4), (1, 2, 4)],
     ),
-    (
-        "an empty pattern past the end",
-        &[b""],
-        b"a",
-        (2, 1),
-        &[],
-    ),
+    ("an empty pattern past the end", &[b""], b"a", (2, 1), &[]),
 ];
 
 const ANCHORED_LISTINGS: &[Row] = &[
