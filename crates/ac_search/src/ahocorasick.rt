@@ -209,7 +209,10 @@ impl<A: Allocator> AhoCorasick<A> {
     /// }
     /// ```
     #[inline]
-    pub fn find_overlapping_iter<'a, 'h>(&'a self, input: Input<'h>) -> FindOverlappingIter<'a, 'h, A>
+    pub fn find_overlapping_iter<'a, 'h>(
+        &'a self,
+        input: Input<'h>,
+    ) -> FindOverlappingIter<'a, 'h, A>
         requires supported { overlapping_iter_refusal self.now.built (asked input) ≡ None }
         ensures begun { result
             ≡ listing_begun (looks_allowed self.now.kind) self.now.built self.now.filters (asked input.entry) }

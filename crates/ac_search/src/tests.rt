@@ -122,8 +122,12 @@ const OVERLAPPING_REFUSALS: &[Refusals] = &[
         StartKind::Both,
         LeftmostLongest,
         Anchored::Yes,
-        Some(MatchError::UnsupportedOverlapping { got: LeftmostLongest }),
-        Some(MatchError::UnsupportedOverlapping { got: LeftmostLongest }),
+        Some(MatchError::UnsupportedOverlapping {
+            got: LeftmostLongest,
+        }),
+        Some(MatchError::UnsupportedOverlapping {
+            got: LeftmostLongest,
+        }),
     ),
 ];
 
@@ -426,7 +430,14 @@ fn overlapping_searches_are_refused(rt: HostRuntime) -> Result<(), Fail> {
         let refusal = searcher.try_find_overlapping(input, &mut state).err();
         assert_eq!(rt; refusal, by_state);
         let given = state.get_match().map(|m| told(&m));
-        assert_eq!(rt; given, if by_state.is_none() { Some((0, 0, 1)) } else { None });
+        assert_eq!(rt;
+            given,
+            if by_state.is_none() {
+                Some((0, 0, 1))
+            } else {
+                None
+            }
+        );
         let refusal = searcher.try_find_overlapping_iter(input).err();
         assert_eq!(rt; refusal, by_iterator);
     }

@@ -1,4 +1,4 @@
-use Rattle.std.proofs.Common.{◌≡◌, ◌+◌, ◌<◌, ℕ, zero, suc, subst, arith, [], ◌∷◌, ◌++◌, List, length, take, ap, sym, ◌∙◌, Some}
+use Rattle.std.proofs.Common.{◌≡◌, ◌+◌, ℕ, zero, suc, subst, arith, [], ◌∷◌, ◌++◌, List, take, ap, sym, ◌∙◌, Some}
 use Rattle.std.specs.Prelude.{slice_get}
 use Rattle.ac_search.specs.Asked.{Asked, asked_whole}
 use Rattle.ac_search.specs.Built.{search_in}
