@@ -88,7 +88,7 @@ pub record HasMoved (stands : ℕ → Node → Type 0) (listed : ℕ → List �
 abbrev pub fresh : OverlappingState
 fresh = record { found = None; reached = None }
 
--- the same where a listing may not have begun
+-- how many items were given of a listing that may not have begun: none then
 abbrev pub given_by : (ℕ → List ℕ) → Search → Option Reached → ℕ
 given_by listed q None = 0
 given_by listed q (Some reached) = given_in listed q reached
