@@ -30,3 +30,4 @@ pub mod PlainFind
 pub mod PlainListing
 pub mod PlainWalk
 pub mod PlainReplaced
+pub mod Exchanges

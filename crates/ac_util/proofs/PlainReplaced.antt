@@ -82,7 +82,7 @@ numbered_by kind q p true m ep e = (pick-Occurs kind (from q (q.low + 1)) m e).n
 numbered_by kind q p false m ep e = (pick-Occurs kind q m (ep ∙ e)).numbered
 
 -- the next match has the number of a pattern
-next-numbered : (kind : MatchKind) (q : Search) (last : Option ℕ) (m : Occurrence)
+pub next-numbered : (kind : MatchKind) (q : Search) (last : Option ℕ) (m : Occurrence)
     → next_match kind q last ≡ Some m → m.pattern < length q.patterns
 next-numbered kind q last m e = numbered_by kind q (pick kind q) (repeats (pick kind q) last) m refl e
 

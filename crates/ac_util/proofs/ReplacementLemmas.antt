@@ -1,62 +1,189 @@
--- A closure that writes the text of each pattern and goes on leaves the replaced text, or a beginning of it
--- where an append was refused.
-use Rattle.std.proofs.Common.{◌≡◌, ℕ, Bool, true, false, List, [], ◌∷◌, ◌++◌, drop, inl, inr, ap, ◌∙◌, append_assoc}
-use Rattle.std.specs.Prelude.{slice_range, slice_index_or, MatchBool}
+-- What the steps of a replacement leave, by what each call does.
+use Rattle.std.proofs.Common.{◌≡◌, ℕ, List, [], ◌∷◌, ◌++◌, drop, inl, inr, refl, ap, sym, subst, ◌∙◌, append_assoc, append-nil, Bool, Option, None, Some}
+use Rattle.std.specs.Prelude.{◌≢◌, slice_index_or, slice_range}
 use Rattle.ac_util.specs.Occurrence.{Occurrence}
-use Rattle.ac_util.specs.Replaced.{replaced_from}
-use Rattle.ac_util.specs.Replacement.{Turn, ReplacementSteps, ReplacementSoFar, Appends, WritesText}
+use Rattle.ac_util.specs.Replaced.{exchanged_from, replaced}
+use Rattle.ac_util.specs.Replacement.{AlwaysWrites, Answer, AppendsAll, AppendsBeginning, CallsNoMore, Fails, GoesOn, MatchAnswer, OnlyAppends, Replacing, ReplacementSteps, Turn, WritesText, asked_by}
 
-module _ (haystack : List ℕ) (texts : List (List ℕ)) where
-  -- a turn writes the gap and the text of the match
-  turn-text : (place : ℕ) (m : Occurrence) (f : ℕ) (d : List ℕ) (answer : Bool) (g : ℕ) (e later : List ℕ)
-      → Turn ℕ (List ℕ) Appends (WritesText texts) haystack place m f d answer g e
-      → e ++ later ≡ d ++ (slice_range haystack place m.start ++ slice_index_or texts m.pattern [] ++ later)
-  turn-text place m f d answer g e later t =
-      ap (λ (w : List ℕ). w ++ later)
-      (t.call.1 ∙ ap (λ (w : List ℕ). w ++ slice_index_or texts m.pattern []) t.gap)
-      ∙ simp append_assoc
+module _ {S R E : Type 0} (appends : List ℕ → S → Option E → S → Type 0)
+    (calls : Occurrence → List ℕ → S → R → S → Type 0) (asks : R → Answer E) (haystack : List ℕ) where
+  module _ (P : S → Type 0) (appended : (bytes : List ℕ) (s t : S) (end : Option E) → appends bytes s end t → P s → P t)
+      (called : (m : Occurrence) (slice : List ℕ) (s t : S) (r : R) → calls m slice s r t → P s → P t) where
+    -- what holds at first, and is kept by each append and each call, holds at the end
+    pub steps-keep : (place : ℕ) (ms : List Occurrence) (s t : S) (end : Option E)
+        → ReplacementSteps appends calls asks haystack place ms s end t → P s → P t
+    steps-keep place [] s t end h p = appended (drop place haystack) s t end h p
+    steps-keep place (m ∷ ms) s t end (inl h) p =
+        appended (slice_range haystack place m.start) s t end h.1 p
+    steps-keep place (m ∷ ms) s t end (inr h) p =
+        by (asks h.0) h.3 (λ later q. steps-keep m.end ms h.1 t end later q)
+        (called m (slice_range haystack m.start m.end) h.2.at_match h.1 h.0 h.2.call
+        (appended (slice_range haystack place m.start) s h.2.at_match None h.2.gap p))
+      where
+        by : (answer : Answer E) → MatchAnswer answer
+            (ReplacementSteps appends calls asks haystack m.end ms h.1 end t)
+            (appends (drop m.end haystack) h.1 end t) (λ failure. (end ≡ Some failure) × (t ≡ h.1))
+            → (ReplacementSteps appends calls asks haystack m.end ms h.1 end t → P h.1 → P t)
+            → P h.1 → P t
+        by GoesOn later on q = on later q
+        by CallsNoMore later on q = appended (drop m.end haystack) h.1 t end later q
+        by (Fails failure) later on q = subst P (sym later.1) q
 
-  -- the steps leave what was there and then the replaced text
-  pub steps-replaced : (place : ℕ) (ms : List Occurrence) (f : ℕ) (d : List ℕ) (g : ℕ) (e : List ℕ)
-      → ReplacementSteps ℕ (List ℕ) Appends (WritesText texts) haystack place ms f d g e
-      → e ≡ d ++ replaced_from haystack texts place ms
-  steps-replaced place [] f d g e h = h.1
-  steps-replaced place (m ∷ ms) f d g e h =
-      by h.0 h.4 h.3.call.0 (λ later. steps-replaced m.end ms h.1 h.2 g e later)
-    where
-      by : (answer : Bool) → MatchBool answer
-          (ReplacementSteps ℕ (List ℕ) Appends (WritesText texts) haystack m.end ms h.1 h.2 g e)
-          ((g ≡ h.1) × Appends (drop m.end haystack) h.2 e)
-          → answer ≡ true
-          → (ReplacementSteps ℕ (List ℕ) Appends (WritesText texts) haystack m.end ms h.1 h.2 g e
-          → e ≡ h.2 ++ replaced_from haystack texts m.end ms)
-          → e ≡ d ++ replaced_from haystack texts place (m ∷ ms)
-      by false later answered rest = absurd (cc)
-      by true later answered rest =
-          rest later ∙ turn-text place m f d h.0 h.1 h.2 (replaced_from haystack texts m.end ms) h.3
+  -- the destination takes all of what is appended, or a beginning of it before it fails; each call appends what
+  -- `write` gives and goes on, or a beginning of that and fails
+  module _ (holds : S → List ℕ) (write : Occurrence → List ℕ → List ℕ)
+      (appended : (bytes : List ℕ) (s t : S) → appends bytes s None t → holds t ≡ holds s ++ bytes)
+      (cut : (bytes : List ℕ) (s t : S) (end : Option E) → appends bytes s end t → (rest : List ℕ) × (holds t ++ rest ≡ holds s ++ bytes))
+      (called : (m : Occurrence) (slice : List ℕ) (s t : S) (r : R) → calls m slice s r t
+      → (asks r ≡ GoesOn) × (holds t ≡ holds s ++ write m slice)) where
+    -- a turn writes the gap and what the match is exchanged for
+    turn-writes : (place : ℕ) (m : Occurrence) (s t : S) (r : R) (later : List ℕ)
+        → Turn appends calls asks haystack place m s r t
+        → holds t ++ later ≡ holds s ++ (slice_range haystack place m.start ++ write m (slice_range haystack m.start m.end) ++ later)
+    turn-writes place m s t r later turn =
+        ap (λ (w : List ℕ). w ++ later)
+        ((called m (slice_range haystack m.start m.end) turn.at_match t r turn.call).1
+        ∙ ap (λ (w : List ℕ). w ++ write m (slice_range haystack m.start m.end))
+        (appended (slice_range haystack place m.start) s turn.at_match turn.gap))
+        ∙ simp append_assoc
 
-  -- what the steps as far as a refused append leave is a beginning of that
-  pub steps_so_far-begin : (place : ℕ) (ms : List Occurrence) (f : ℕ) (d : List ℕ) (g : ℕ) (e : List ℕ)
-      → ReplacementSoFar ℕ (List ℕ) Appends (WritesText texts) haystack place ms f d g e
-      → (rest : List ℕ) × (e ++ rest ≡ d ++ replaced_from haystack texts place ms)
-  steps_so_far-begin place [] f d g e h =
-      (drop place haystack, ap (λ (w : List ℕ). w ++ drop place haystack) h.1)
-  steps_so_far-begin place (m ∷ ms) f d g e (inl h) = (
-    replaced_from haystack texts place (m ∷ ms),
-    ap
-        (λ (w : List ℕ). w ++ replaced_from haystack texts place (m ∷ ms)) h.1,
+    -- the steps leave what was there and then the haystack with its matches exchanged
+    pub steps-exchange : (place : ℕ) (ms : List Occurrence) (s t : S)
+        → ReplacementSteps appends calls asks haystack place ms s None t
+        → holds t ≡ holds s ++ exchanged_from haystack write place ms
+    steps-exchange place [] s t h = appended (drop place haystack) s t h
+    steps-exchange place (m ∷ ms) s t (inl h) = absurd (h.0 refl)
+    steps-exchange place (m ∷ ms) s t (inr h) =
+        by (asks h.0) h.3 (called m (slice_range haystack m.start m.end) h.2.at_match h.1 h.0 h.2.call).0
+        (λ later. steps-exchange m.end ms h.1 t later)
+      where
+        by : (answer : Answer E) → MatchAnswer answer
+            (ReplacementSteps appends calls asks haystack m.end ms h.1 None t)
+            (appends (drop m.end haystack) h.1 None t) (λ failure. (None ≡ Some failure) × (t ≡ h.1))
+            → answer ≡ GoesOn
+            → (ReplacementSteps appends calls asks haystack m.end ms h.1 None t
+            → holds t ≡ holds h.1 ++ exchanged_from haystack write m.end ms)
+            → holds t ≡ holds s ++ exchanged_from haystack write place (m ∷ ms)
+        by GoesOn later goes on =
+            on later ∙ turn-writes place m s h.1 h.0 (exchanged_from haystack write m.end ms) h.2
+        by CallsNoMore later goes on = absurd (cc)
+        by (Fails failure) later goes on = absurd (cc)
+
+    -- wherever they end, what the steps leave begins what they leave as a whole
+    pub steps-begin : (place : ℕ) (ms : List Occurrence) (s t : S) (end : Option E)
+        → ReplacementSteps appends calls asks haystack place ms s end t
+        → (rest : List ℕ) × (holds t ++ rest ≡ holds s ++ exchanged_from haystack write place ms)
+    steps-begin place [] s t end h = cut (drop place haystack) s t end h
+    steps-begin place (m ∷ ms) s t end (inl h) =
+        let gap = cut (slice_range haystack place m.start) s t end h.1 in
+        let later = write m (slice_range haystack m.start m.end) ++ exchanged_from haystack write m.end ms in (
+          gap.0 ++ later,
+          sym (append_assoc (holds t) gap.0 later)
+              ∙ ap (λ (w : List ℕ). w ++ later) gap.1 ∙ simp append_assoc,
+        )
+    steps-begin place (m ∷ ms) s t end (inr h) =
+        by (asks h.0) h.3 (called m (slice_range haystack m.start m.end) h.2.at_match h.1 h.0 h.2.call).0
+        (λ later. steps-begin m.end ms h.1 t end later)
+      where
+        by : (answer : Answer E) → MatchAnswer answer
+            (ReplacementSteps appends calls asks haystack m.end ms h.1 end t)
+            (appends (drop m.end haystack) h.1 end t) (λ failure. (end ≡ Some failure) × (t ≡ h.1))
+            → answer ≡ GoesOn
+            → (ReplacementSteps appends calls asks haystack m.end ms h.1 end t
+            → (rest : List ℕ) × (holds t ++ rest ≡ holds h.1 ++ exchanged_from haystack write m.end ms))
+            → (rest : List ℕ) × (holds t ++ rest ≡ holds s ++ exchanged_from haystack write place (m ∷ ms))
+        by GoesOn later goes on =
+            let rest = on later in
+            (rest.0, rest.1 ∙ turn-writes place m s h.1 h.0 (exchanged_from haystack write m.end ms) h.2)
+        by CallsNoMore later goes on = absurd (cc)
+        by (Fails failure) later goes on = absurd (cc)
+
+module _ {F D E : Type 0} (holds : D → List ℕ) where
+  -- appending all or nothing appends a beginning
+  AppendsAll-begins : (bytes : List ℕ) (s t : Replacing F D) (end : Option E) → AppendsAll holds bytes s end t
+      → (rest : List ℕ) × (holds t.destination ++ rest ≡ holds s.destination ++ bytes)
+  AppendsAll-begins bytes s t None h = ([], append-nil (holds t.destination) ∙ h.1)
+  AppendsAll-begins bytes s t (Some failure) h = (bytes, ap (λ (w : List ℕ). w ++ bytes) h.1)
+
+  -- and so does appending a beginning
+  AppendsBeginning-begins : (bytes : List ℕ) (s t : Replacing F D) (end : Option E)
+      → AppendsBeginning holds bytes s end t
+      → (rest : List ℕ) × (holds t.destination ++ rest ≡ holds s.destination ++ bytes)
+  AppendsBeginning-begins bytes s t None h = ([], append-nil (holds t.destination) ∙ h.1)
+  AppendsBeginning-begins bytes s t (Some failure) h = h.1
+
+-- what the destination of a closure holds after the steps
+module _ (E : Type 0) {F D : Type 0} (calls : Occurrence → List ℕ → Replacing F D → Bool → Replacing F D → Type 0)
+    (holds : D → List ℕ) (write : Occurrence → List ℕ → List ℕ) (writes : AlwaysWrites calls holds write)
+    (haystack : List ℕ) where
+  asks_on : (m : Occurrence) (slice : List ℕ) (s t : Replacing F D) (r : Bool) → calls m slice s r t
+      → (asked_by {E = E} r ≡ GoesOn) × (holds t.destination ≡ holds s.destination ++ write m slice)
+  asks_on m slice s t r call =
+      let writes = writes m slice s r t call in (ap (asked_by {E = E}) writes.0, writes.1)
+
+  pub closure-exchanges : (ms : List Occurrence) (s t : Replacing F D)
+      → ReplacementSteps (AppendsAll {E = E} holds) calls asked_by haystack 0 ms s None t
+      → holds t.destination ≡ holds s.destination ++ exchanged_from haystack write 0 ms
+  closure-exchanges ms s t =
+      steps-exchange (AppendsAll {E = E} holds) calls asked_by haystack (λ u. holds u.destination) write
+      (λ bytes u v e. e.1) (AppendsAll-begins holds) asks_on 0 ms s t
+
+  pub closure-begins : (ms : List Occurrence) (s t : Replacing F D) (end : Option E)
+      → ReplacementSteps (AppendsAll {E = E} holds) calls asked_by haystack 0 ms s end t
+      → (rest : List ℕ)
+      × (holds t.destination ++ rest ≡ holds s.destination ++ exchanged_from haystack write 0 ms)
+  closure-begins ms s t end =
+      steps-begin (AppendsAll {E = E} holds) calls asked_by haystack (λ u. holds u.destination) write
+      (λ bytes u v e. e.1) (AppendsAll-begins holds) asks_on 0 ms s t end
+
+-- where calls only append, what the destination held stays at its beginning
+module _ (E : Type 0) {F D : Type 0} (calls : Occurrence → List ℕ → Replacing F D → Bool → Replacing F D → Type 0)
+    (holds : D → List ℕ) (appends : OnlyAppends calls holds) where
+  -- bytes that are appended to what is appended to these bytes
+  appends-on : (bytes : List ℕ) (was is : List ℕ) → ((more : List ℕ) × (is ≡ was ++ more))
+      → ((more : List ℕ) × (was ≡ bytes ++ more)) → (more : List ℕ) × (is ≡ bytes ++ more)
+  appends-on bytes was is then first = (
+    first.0 ++ then.0,
+    then.1 ∙ ap (λ (w : List ℕ). w ++ then.0) first.1 ∙ append_assoc bytes first.0 then.0,
   )
-  steps_so_far-begin place (m ∷ ms) f d g e (inr h) =
-      by h.0 h.4 h.3.call.0 (λ later. steps_so_far-begin m.end ms h.1 h.2 g e later)
-    where
-      by : (answer : Bool) → MatchBool answer
-          (ReplacementSoFar ℕ (List ℕ) Appends (WritesText texts) haystack m.end ms h.1 h.2 g e)
-          ((g ≡ h.1) × (e ≡ h.2))
-          → answer ≡ true
-          → (ReplacementSoFar ℕ (List ℕ) Appends (WritesText texts) haystack m.end ms h.1 h.2 g e
-          → (rest : List ℕ) × (e ++ rest ≡ h.2 ++ replaced_from haystack texts m.end ms))
-          → (rest : List ℕ) × (e ++ rest ≡ d ++ replaced_from haystack texts place (m ∷ ms))
-      by false later answered rest = absurd (cc)
-      by true later answered rest =
-          let r = rest later in
-          (r.0, r.1 ∙ turn-text place m f d h.0 h.1 h.2 (replaced_from haystack texts m.end ms) h.3)
+
+  -- what an append adds, where it adds something
+  added : (bytes : List ℕ) (s t : Replacing F D) (end : Option E) → AppendsAll holds bytes s end t
+      → (more : List ℕ) × (holds t.destination ≡ holds s.destination ++ more)
+  added bytes s t None h = (bytes, h.1)
+  added bytes s t (Some failure) h = ([], h.1 ∙ sym (append-nil (holds s.destination)))
+
+  pub closure-keeps : (haystack : List ℕ) (ms : List Occurrence) (s t : Replacing F D) (end : Option E)
+      → ReplacementSteps (AppendsAll {E = E} holds) calls asked_by haystack 0 ms s end t
+      → (more : List ℕ) × (holds t.destination ≡ holds s.destination ++ more)
+  closure-keeps haystack ms s t end steps =
+      steps-keep (AppendsAll {E = E} holds) calls asked_by haystack
+      (λ u. (more : List ℕ) × (holds u.destination ≡ holds s.destination ++ more))
+      (λ bytes u v finish h p.
+      appends-on (holds s.destination) (holds u.destination) (holds v.destination) (added bytes u v finish h) p)
+      (λ m slice u v r h p.
+      appends-on (holds s.destination) (holds u.destination) (holds v.destination) (appends m slice u r v h) p)
+      0 ms s t end steps ([], sym (append-nil (holds s.destination)))
+
+-- what calls that write the texts of patterns leave
+module _ (E : Type 0) (haystack : List ℕ) (texts : List (List ℕ)) where
+  on_texts : (m : Occurrence) (slice : List ℕ) (s t : Replacing (Unit {0}) (List ℕ)) (r : Bool)
+      → WritesText texts m slice s r t
+      → (asked_by {E = E} r ≡ GoesOn) × (t.destination ≡ s.destination ++ slice_index_or texts m.pattern [])
+  on_texts m slice s t r call = (ap (asked_by {E = E}) call.0, call.1)
+
+  pub text-replaces : (ms : List Occurrence) (s t : Replacing (Unit {0}) (List ℕ))
+      → ReplacementSteps (AppendsBeginning {E = E} (λ d. d)) (WritesText texts) asked_by haystack 0 ms s None t
+      → t.destination ≡ s.destination ++ replaced haystack texts ms
+  text-replaces ms s t =
+      steps-exchange (AppendsBeginning {E = E} (λ d. d)) (WritesText texts) asked_by haystack
+      (λ u. u.destination) (λ m slice. slice_index_or texts m.pattern []) (λ bytes u v e. e.1)
+      (AppendsBeginning-begins (λ d. d)) on_texts 0 ms s t
+
+  pub text-begins : (ms : List Occurrence) (s t : Replacing (Unit {0}) (List ℕ)) (end : Option E)
+      → ReplacementSteps (AppendsBeginning {E = E} (λ d. d)) (WritesText texts) asked_by haystack 0 ms s end t
+      → (rest : List ℕ) × (t.destination ++ rest ≡ s.destination ++ replaced haystack texts ms)
+  text-begins ms s t end =
+      steps-begin (AppendsBeginning {E = E} (λ d. d)) (WritesText texts) asked_by haystack
+      (λ u. u.destination) (λ m slice. slice_index_or texts m.pattern []) (λ bytes u v e. e.1)
+      (AppendsBeginning-begins (λ d. d)) on_texts 0 ms s t end

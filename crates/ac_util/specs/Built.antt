@@ -9,8 +9,9 @@ use Rattle.ac_util.specs.Occurrence.{Occurrence}
 use Rattle.ac_util.specs.Search.{Search}
 use Rattle.ac_util.specs.Pick.{order_of, pick}
 use Rattle.ac_util.specs.Walk.{walk}
-use Rattle.ac_util.specs.Refusal.{refusal, Find, OverlappingByState, OverlappingIterator}
-use Rattle.ac_util.specs.Asked.{Asked, search_for}
+use Rattle.ac_util.specs.Refusal.{refusal, Find, OverlappingByState, OverlappingIterator, Replace}
+use Rattle.ac_util.specs.Replaced.{whole_characters}
+use Rattle.ac_util.specs.Asked.{Asked, asked_whole, search_for}
 
 -- the patterns, whether case is ignored, the match kind, and which starts there are
 pub record Built : Type 0 where
@@ -35,6 +36,14 @@ found built asked = pick (order_of built.kind asked.earliest) (search_in built a
 abbrev pub walked : Built → Asked → List Occurrence
 walked built asked = walk (order_of built.kind asked.earliest) (search_in built asked)
 
+-- which matches are exchanged in a haystack: those of the walk over all of it
+abbrev pub exchanged : Built → List ℕ → List Occurrence
+exchanged built haystack = walked built (asked_whole haystack)
+
+-- which are exchanged in a text: those of that walk that cut no character
+abbrev pub exchanged_in_text : Built → List ℕ → List Occurrence
+exchanged_in_text built text = whole_characters text (exchanged built text)
+
 -- why a find or a walk is refused, if it is
 abbrev pub find_refusal : Built → Asked → Option MatchError
 find_refusal built asked = refusal built.start_kind built.kind (Find asked.anchored) (has_empty built)
@@ -48,3 +57,7 @@ overlapping_refusal built asked =
 abbrev pub overlapping_iter_refusal : Built → Asked → Option MatchError
 overlapping_iter_refusal built asked =
     refusal built.start_kind built.kind (OverlappingIterator asked.anchored) (has_empty built)
+
+-- why a replacement is refused, if it is
+abbrev pub replace_refusal : Built → Option MatchError
+replace_refusal built = refusal built.start_kind built.kind Replace (has_empty built)

@@ -6,6 +6,7 @@ pub mod Pick
 pub mod Walk
 pub mod Replaced
 pub mod Replacement
+pub mod Replacing
 pub mod Refusal
 pub mod Stream
 pub mod Node

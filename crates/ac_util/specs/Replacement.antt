@@ -1,38 +1,99 @@
--- Replacement by a closure, as what it does to the closure and to a destination.
-use Rattle.std.specs.Prelude.{◌≡◌, ◌⊎◌, ◌++◌, ℕ, Bool, true, MatchBool, List, [], ◌∷◌, drop, slice_range, slice_index_or}
+-- Replacement by a closure, as steps that take the closure and its destination from one state to another.
+use Rattle.std.specs.Prelude.{◌≡◌, ◌≢◌, ◌⊎◌, ◌++◌, ℕ, Bool, true, false, List, [], ◌∷◌, Option, None, Some, drop, slice_index_or, slice_range}
+use Rattle.std.specs.Borrow.{Bor, MutBor}
+use Rattle.std.specs.Fn.{Called, Mut}
 use Rattle.ac_util.specs.Occurrence.{Occurrence}
 
--- F is the closure's type, D the destination's. `appends bytes d e`: appending the bytes to d leaves e. `calls
--- f m slice d answer g e`: a call of f with the match, its slice and d may give the answer, and leave g and e.
-module _ (F D : Type 0) (appends : List ℕ → D → D → Type 0)
-    (calls : F → Occurrence → List ℕ → D → Bool → F → D → Type 0) (haystack : List ℕ) where
-  -- the gap from a place up to the match is appended, and f is called with the match: it answers, and leaves g
-  -- and e
-  pub record Turn (place : ℕ) (m : Occurrence) (f : F) (d : D) (answer : Bool) (g : F) (e : D) : Type 0 where
-    pub at_match : D
-    pub gap : appends (slice_range haystack place m.start) d at_match
-    pub call : calls f m (slice_range haystack m.start m.end) at_match answer g e
+-- what the answer of a call asks for: to go on, to call no more, or to end at once with a failure
+pub data Answer (E : Type 0) : Type 0 where
+  GoesOn : Answer E
+  CallsNoMore : Answer E
+  Fails : E → Answer E
 
-  -- from a place on, the matches that are left take f and d to g and e: a turn for each, up to the first that
-  -- answers false; then what is left of the haystack is appended
-  abbrev pub ReplacementSteps : ℕ → List Occurrence → F → D → F → D → Type 0
-  ReplacementSteps place [] f d g e = (g ≡ f) × appends (drop place haystack) d e
-  ReplacementSteps place (m ∷ ms) f d g e =
-      (answer : Bool) × (f' : F) × (d' : D) × Turn place m f d answer f' d'
-      × MatchBool answer (ReplacementSteps m.end ms f' d' g e) ((g ≡ f') × appends (drop m.end haystack) d' e)
+-- one of three things, by what an answer asks for
+abbrev pub MatchAnswer : {E : Type 0} → Answer E → Type 0 → Type 0 → (E → Type 0) → Type 0
+MatchAnswer GoesOn on last fails = on
+MatchAnswer CallsNoMore on last fails = last
+MatchAnswer (Fails failure) on last fails = fails failure
 
-  -- the same steps as far as an append that was refused: it adds nothing, and nothing follows
-  abbrev pub ReplacementSoFar : ℕ → List Occurrence → F → D → F → D → Type 0
-  ReplacementSoFar place [] f d g e = (g ≡ f) × (e ≡ d)
-  ReplacementSoFar place (m ∷ ms) f d g e =
-      ((g ≡ f) × (e ≡ d))
-      ⊎ ((answer : Bool) × (f' : F) × (d' : D) × Turn place m f d answer f' d'
-      × MatchBool answer (ReplacementSoFar m.end ms f' d' g e) ((g ≡ f') × (e ≡ d')))
+-- S is what the steps change, R the answer of a call, E a failure. `appends bytes s end t`: appending the bytes
+-- takes s to t, all of them where `end` is None, and else it failed so. `calls m slice s r t`: a call with the
+-- match and its slice may answer r, and take s to t.
+module _ {S R E : Type 0} (appends : List ℕ → S → Option E → S → Type 0)
+    (calls : Occurrence → List ℕ → S → R → S → Type 0) (asks : R → Answer E) (haystack : List ℕ) where
+  -- the gap from a place up to the match is appended, and one call is made with the match
+  pub record Turn (place : ℕ) (m : Occurrence) (s : S) (r : R) (t : S) : Type 0 where
+    pub at_match : S
+    pub gap : appends (slice_range haystack place m.start) s None at_match
+    pub call : calls m (slice_range haystack m.start m.end) at_match r t
 
--- appending to a list of bytes
-abbrev pub Appends : List ℕ → List ℕ → List ℕ → Type 0
-Appends bytes d e = e ≡ d ++ bytes
+  -- from a place on, the matches that are left take s to t: a turn for each, up to the first whose answer doesn't
+  -- go on; then what is left of the haystack is appended. The first failure ends the steps: nothing follows it
+  abbrev pub ReplacementSteps : ℕ → List Occurrence → S → Option E → S → Type 0
+  ReplacementSteps place [] s end t = appends (drop place haystack) s end t
+  ReplacementSteps place (m ∷ ms) s end t =
+      ((end ≢ None) × appends (slice_range haystack place m.start) s end t)
+      ⊎ ((r : R) × (u : S) × Turn place m s r u
+      × MatchAnswer (asks r)
+      (ReplacementSteps m.end ms u end t)
+      (appends (drop m.end haystack) u end t)
+      (λ failure. (end ≡ Some failure) × (t ≡ u)))
 
--- a closure that appends the text of the match's pattern and answers true
-abbrev pub WritesText : List (List ℕ) → ℕ → Occurrence → List ℕ → List ℕ → Bool → ℕ → List ℕ → Type 0
-WritesText texts f m slice d answer g e = (answer ≡ true) × (e ≡ d ++ slice_index_or texts m.pattern [])
+-- a closure and its destination
+pub record Replacing (F D : Type 0) : Type 0 where
+  pub closure : F
+  pub destination : D
+
+module _ {F D E : Type 0} (holds : D → List ℕ) where
+  -- the bytes are appended to what the destination holds, all of them or, where that failed, none
+  abbrev pub AppendsAll : List ℕ → Replacing F D → Option E → Replacing F D → Type 0
+  AppendsAll bytes s None t =
+      (t.closure ≡ s.closure) × (holds t.destination ≡ holds s.destination ++ bytes)
+  AppendsAll bytes s (Some failure) t =
+      (t.closure ≡ s.closure) × (holds t.destination ≡ holds s.destination)
+
+  -- the same of a destination that may take a beginning of the bytes before it fails
+  abbrev pub AppendsBeginning : List ℕ → Replacing F D → Option E → Replacing F D → Type 0
+  AppendsBeginning bytes s None t =
+      (t.closure ≡ s.closure) × (holds t.destination ≡ holds s.destination ++ bytes)
+  AppendsBeginning bytes s (Some failure) t =
+      (t.closure ≡ s.closure)
+      × ((rest : List ℕ) × (holds t.destination ++ rest ≡ holds s.destination ++ bytes))
+
+-- a call of the closure with a match, its slice and the destination may answer r, and take s to t
+pub record Calls {F D R : Type 0}
+    (closures : Mut F (Bor Occurrence × (Bor (List ℕ) × (MutBor D × Unit {0}))) (R × (MutBor D × Unit {0})))
+    (m : Occurrence) (slice : List ℕ) (s : Replacing F D) (r : R) (t : Replacing F D) : Type 0 where
+  pub found : Bor Occurrence
+  pub text : Bor (List ℕ)
+  pub before : MutBor D
+  pub after : MutBor D
+  pub shows : (found.now ≡ m) × (text.now ≡ slice) × (before.now ≡ s.destination)
+  pub called : Called closures s.closure (found, (text, (before, tt))) (r, (after, tt)) t.closure
+  pub leaves : after.now ≡ t.destination
+
+-- true asks to go on, false to call no more
+abbrev pub asked_by : {E : Type 0} → Bool → Answer E
+asked_by true = GoesOn
+asked_by false = CallsNoMore
+
+-- the text of the match's pattern is appended, and the answer asks to go on
+abbrev pub WritesText : {F : Type 0} → List (List ℕ) → Occurrence → List ℕ → Replacing F (List ℕ) → Bool
+    → Replacing F (List ℕ) → Type 0
+WritesText texts m slice s r t =
+    (r ≡ true) × (t.destination ≡ s.destination ++ slice_index_or texts m.pattern [])
+
+-- each call appends what `write` gives for the match and its slice, and asks to go on
+abbrev pub AlwaysWrites : {F D : Type 0}
+    → (Occurrence → List ℕ → Replacing F D → Bool → Replacing F D → Type 0)
+    → (D → List ℕ) → (Occurrence → List ℕ → List ℕ) → Type 0
+AlwaysWrites {F} {D} calls holds write =
+    (m : Occurrence) (slice : List ℕ) (s : Replacing F D) (r : Bool) (t : Replacing F D) → calls m slice s r t
+    → (r ≡ true) × (holds t.destination ≡ holds s.destination ++ write m slice)
+
+-- each call appends something, or nothing
+abbrev pub OnlyAppends : {F D : Type 0}
+    → (Occurrence → List ℕ → Replacing F D → Bool → Replacing F D → Type 0) → (D → List ℕ) → Type 0
+OnlyAppends {F} {D} calls holds =
+    (m : Occurrence) (slice : List ℕ) (s : Replacing F D) (r : Bool) (t : Replacing F D) → calls m slice s r t
+    → (more : List ℕ) × (holds t.destination ≡ holds s.destination ++ more)

@@ -72,3 +72,34 @@ pub enum MatchError {
     /// The search is that of a stream, and some pattern is empty.
     UnsupportedEmpty,
 }
+
+/// Why a replacement gave no whole text.
+#[derive(Clone, Copy, PartialEq, Eq, Debug)]
+pub enum ReplaceError {
+    /// It is refused: nothing was appended, and no closure called.
+    Match(MatchError),
+    /// A request for memory was refused. The destination has what was appended before.
+    Memory,
+}
+
+impl From<MatchError> for ReplaceError {
+    ghost use Rattle.ac_util.specs.declared.error.ReplaceError.TheVariants.{Match};
+    ghost use Rattle.std.specs.Prelude.{◌≡◌};
+
+    ghost from_gives = { λ refusal e. e ≡ Match refusal };
+
+    fn from(refusal: MatchError) -> ReplaceError {
+        ReplaceError::Match(refusal)
+    }
+}
+
+impl From<AllocError> for ReplaceError {
+    ghost use Rattle.std.specs.Prelude.{◌≡◌};
+    ghost use Rattle.ac_util.specs.declared.error.ReplaceError.TheVariants.{Memory};
+
+    ghost from_gives = { λ _ e. e ≡ Memory };
+
+    fn from(_refused: AllocError) -> ReplaceError {
+        ReplaceError::Memory
+    }
+}

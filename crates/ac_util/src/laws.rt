@@ -7,10 +7,10 @@ pub mod layers;
 pub mod values;
 
 pub use answers::{
-    earliest_is_standard, listing_goes_on, listing_is_exact, matches_cut_no_character,
-    matches_lie_inside, only_the_span_counts, pick_comes_first, sameness_is_by_letter,
-    steps_replace, tests_decide, walk_goes_on, walk_has_beginnings, walk_is_in_order,
-    walk_is_short,
+    closure_exchanges, earliest_is_standard, listing_goes_on, listing_is_exact,
+    matches_cut_no_character, matches_lie_inside, only_the_span_counts, pick_comes_first,
+    sameness_is_by_letter, steps_replace, tests_decide, text_closure_exchanges, walk_goes_on,
+    walk_has_beginnings, walk_is_in_order, walk_is_short,
 };
 pub use layers::{
     dead_is_the_end, failures_step_alike, first_pick_follows, listing_follows, looks_are_paid,

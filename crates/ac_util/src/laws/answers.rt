@@ -10,13 +10,18 @@ ghost use Rattle.ac_util.specs.Inside.{LiesIn};
 ghost use Rattle.ac_util.specs.Listing.{all, IsBefore, item_at, place_after};
 ghost use Rattle.ac_util.specs.Occurrence.{Occurrence};
 ghost use Rattle.ac_util.specs.Pick.{IsPick, order_of, pick};
-ghost use Rattle.ac_util.specs.Replaced.{is_char_boundary, replaced};
+ghost use Rattle.ac_util.specs.Replaced.{exchanged_from, is_char_boundary, replaced};
 ghost use Rattle.ac_util.specs.Sameness.{AreOneLetter, IsSame, same_byte, same_string};
 ghost use Rattle.ac_util.specs.Search.{Occurs, Search, from, occurs, pattern_of};
-ghost use Rattle.ac_util.specs.Replacement.{Appends, ReplacementSteps, ReplacementSoFar, WritesText};
+ghost use Rattle.ac_util.specs.declared.error.ReplaceError.{ReplaceError};
+ghost use Rattle.ac_util.specs.Replacement.{AlwaysWrites, AppendsAll, AppendsBeginning, Calls, OnlyAppends, Replacing, ReplacementSteps, WritesText, asked_by};
 ghost use Rattle.ac_util.specs.Text.{cut, outward};
 ghost use Rattle.ac_util.specs.Texts.{AreTexts, IsBetweenCharacters};
 ghost use Rattle.ac_util.specs.Walk.{IsAfter, next_match, walk, walk_after};
+
+use crate::error::ReplaceError;
+use crate::search::Match;
+use std::alloc::AllocError;
 
 /// Two bytes are the same if they are equal or, where case is ignored, one ASCII letter in its two cases; two
 /// strings are the same if they have one length and are the same place by place, and where case counts if they
@@ -127,13 +132,50 @@ pub fn walk_has_beginnings()
         ≡ filter (λ m. nat_le m.end end) (walk MatchKind.Standard q) }
 {}
 
-/// A closure that appends the text of each pattern and goes on leaves the replaced text behind what was there,
-/// and a beginning of it where an append was refused.
+/// Calls that append the text of each pattern and go on leave the replaced text behind what was there, and a
+/// beginning of it where an append failed, though it took some of its bytes.
 pub fn steps_replace()
-    ensures whole { (haystack : List ℕ) (texts : List (List ℕ)) (ms : List Occurrence) (f g : ℕ) (d e : List ℕ)
-        → ReplacementSteps ℕ (List ℕ) Appends (WritesText texts) haystack 0 ms f d g e
-        → e ≡ d ++ replaced haystack texts ms }
-    ensures refused { (haystack : List ℕ) (texts : List (List ℕ)) (ms : List Occurrence) (f g : ℕ) (d e : List ℕ)
-        → ReplacementSoFar ℕ (List ℕ) Appends (WritesText texts) haystack 0 ms f d g e
-        → (rest : List ℕ) × (e ++ rest ≡ d ++ replaced haystack texts ms) }
+    ensures whole { (haystack : List ℕ) (texts : List (List ℕ)) (ms : List Occurrence)
+        (s t : Replacing (Unit {0}) (List ℕ))
+        → ReplacementSteps (AppendsBeginning {E = AllocError} (λ d. d)) (WritesText texts) asked_by haystack 0 ms s None t
+        → t.destination ≡ s.destination ++ replaced haystack texts ms }
+    ensures begun { (haystack : List ℕ) (texts : List (List ℕ)) (ms : List Occurrence)
+        (s t : Replacing (Unit {0}) (List ℕ)) (end : Option AllocError)
+        → ReplacementSteps (AppendsBeginning (λ d. d)) (WritesText texts) asked_by haystack 0 ms s end t
+        → (rest : List ℕ) × (t.destination ++ rest ≡ s.destination ++ replaced haystack texts ms) }
+{}
+
+/// A closure that appends to its destination, at each call, what `write` gives for the match and its slice, and
+/// answers true, leaves behind what was there the haystack with each match exchanged for that; and a beginning of
+/// that where an append was refused. One that only appends, whatever it answers, leaves what was there at the
+/// beginning. Call this before a replacement by such a closure.
+pub fn closure_exchanges<D, F: FnMut(&Match, &[u8], &mut D) -> bool>(_closure: &F)
+    ensures whole { (haystack : List ℕ) (holds : D → List ℕ) (write : Occurrence → List ℕ → List ℕ)
+        (ms : List Occurrence) (s t : Replacing F D) → AlwaysWrites (Calls F.FnMut) holds write
+        → ReplacementSteps (AppendsAll {E = ReplaceError} holds) (Calls F.FnMut) asked_by haystack 0 ms s None t
+        → holds t.destination ≡ holds s.destination ++ exchanged_from haystack write 0 ms }
+    ensures begun { (haystack : List ℕ) (holds : D → List ℕ) (write : Occurrence → List ℕ → List ℕ)
+        (ms : List Occurrence) (s t : Replacing F D) (end : Option ReplaceError) → AlwaysWrites (Calls F.FnMut) holds write
+        → ReplacementSteps (AppendsAll holds) (Calls F.FnMut) asked_by haystack 0 ms s end t
+        → (rest : List ℕ) × (holds t.destination ++ rest ≡ holds s.destination ++ exchanged_from haystack write 0 ms) }
+    ensures kept { (haystack : List ℕ) (holds : D → List ℕ) (ms : List Occurrence) (s t : Replacing F D)
+        (end : Option ReplaceError) → OnlyAppends (Calls F.FnMut) holds
+        → ReplacementSteps (AppendsAll holds) (Calls F.FnMut) asked_by haystack 0 ms s end t
+        → (more : List ℕ) × (holds t.destination ≡ holds s.destination ++ more) }
+{}
+
+/// The same as `closure_exchanges`, of a replacement in a text.
+pub fn text_closure_exchanges<D, F: FnMut(&Match, &str, &mut D) -> bool>(_closure: &F)
+    ensures whole { (text : List ℕ) (holds : D → List ℕ) (write : Occurrence → List ℕ → List ℕ)
+        (ms : List Occurrence) (s t : Replacing F D) → AlwaysWrites (Calls F.FnMut) holds write
+        → ReplacementSteps (AppendsAll {E = ReplaceError} holds) (Calls F.FnMut) asked_by text 0 ms s None t
+        → holds t.destination ≡ holds s.destination ++ exchanged_from text write 0 ms }
+    ensures begun { (text : List ℕ) (holds : D → List ℕ) (write : Occurrence → List ℕ → List ℕ)
+        (ms : List Occurrence) (s t : Replacing F D) (end : Option ReplaceError) → AlwaysWrites (Calls F.FnMut) holds write
+        → ReplacementSteps (AppendsAll holds) (Calls F.FnMut) asked_by text 0 ms s end t
+        → (rest : List ℕ) × (holds t.destination ++ rest ≡ holds s.destination ++ exchanged_from text write 0 ms) }
+    ensures kept { (text : List ℕ) (holds : D → List ℕ) (ms : List Occurrence) (s t : Replacing F D)
+        (end : Option ReplaceError) → OnlyAppends (Calls F.FnMut) holds
+        → ReplacementSteps (AppendsAll holds) (Calls F.FnMut) asked_by text 0 ms s end t
+        → (more : List ℕ) × (holds t.destination ≡ holds s.destination ++ more) }
 {}

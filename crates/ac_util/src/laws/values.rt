@@ -4,6 +4,7 @@ ghost use Rattle.std.specs.Hash as fed;
 ghost use Rattle.std.specs.Ordering.{nat_cmp};
 ghost use Rattle.ac_util.specs.declared.error.BuildError.{BuildError};
 ghost use Rattle.ac_util.specs.declared.error.MatchError.{MatchError};
+ghost use Rattle.ac_util.specs.declared.error.ReplaceError.{ReplaceError};
 ghost use Rattle.ac_util.specs.declared.prefilter.Candidate.{Candidate};
 ghost use Rattle.ac_util.specs.declared.primitives.TheConstants.{GREATEST};
 ghost use Rattle.ac_util.specs.declared.primitives.TooLarge.{TooLarge};
@@ -15,7 +16,7 @@ ghost use Rattle.ac_util.specs.declared.search.StartKind.{StartKind};
 ghost use Rattle.ac_util.specs.Inputs.{asked};
 ghost use Rattle.ac_util.specs.Occurrence.{Occurrence};
 
-use crate::error::{BuildError, MatchError};
+use crate::error::{BuildError, MatchError, ReplaceError};
 use crate::prefilter::Candidate;
 use crate::primitives::{PatternID, SmallIndex, StateID, TooLarge};
 use crate::search::{Anchored, Input, Match, MatchKind, Span, StartKind};
@@ -45,6 +46,7 @@ pub fn clones_are_equal()
     ensures candidates { (a b : Candidate) → ⟦<Candidate as Clone>⟧.is_clone a b → b ≡ a }
     ensures builds { (a b : BuildError) → ⟦<BuildError as Clone>⟧.is_clone a b → b ≡ a }
     ensures searches { (a b : MatchError) → ⟦<MatchError as Clone>⟧.is_clone a b → b ≡ a }
+    ensures replacements { (a b : ReplaceError) → ⟦<ReplaceError as Clone>⟧.is_clone a b → b ≡ a }
     ensures numbers { (a b : TooLarge) → ⟦<TooLarge as Clone>⟧.is_clone a b → b ≡ a }
 {}
 
@@ -62,6 +64,7 @@ pub fn clones_take_no_memory()
     ensures candidates { (a : Candidate) → ⟦<Candidate as Clone>⟧.is_infallible a }
     ensures builds { (a : BuildError) → ⟦<BuildError as Clone>⟧.is_infallible a }
     ensures searches { (a : MatchError) → ⟦<MatchError as Clone>⟧.is_infallible a }
+    ensures replacements { (a : ReplaceError) → ⟦<ReplaceError as Clone>⟧.is_infallible a }
     ensures numbers { (a : TooLarge) → ⟦<TooLarge as Clone>⟧.is_infallible a }
 {}
 
@@ -84,6 +87,8 @@ pub fn errors_compare_by_their_fields()
         → (⟦<BuildError as PartialEq>⟧.eq a b ≡ true) ↔ (a ≡ b) }
     ensures searches { (a b : MatchError)
         → (⟦<MatchError as PartialEq>⟧.eq a b ≡ true) ↔ (a ≡ b) }
+    ensures replacements { (a b : ReplaceError)
+        → (⟦<ReplaceError as PartialEq>⟧.eq a b ≡ true) ↔ (a ≡ b) }
     ensures numbers { (a b : TooLarge) → (⟦<TooLarge as PartialEq>⟧.eq a b ≡ true) ↔ (a ≡ b) }
 {}
 

@@ -1,8 +1,8 @@
-use Rattle.ac_util.proofs.ReplacementLemmas.{steps-replaced, steps_so_far-begin}
+use Rattle.ac_util.proofs.ReplacementLemmas.{text-begins, text-replaces}
 use Rattle.ac_util.proofs.laws.answers.steps_replace.Goals as goal
 
 pub returns-clause-whole : goal.returns-clause-whole
-returns-clause-whole c = λ haystack texts ms f g d e. steps-replaced haystack texts 0 ms f d g e
+returns-clause-whole c = λ haystack texts ms s t. text-replaces _ haystack texts ms s t
 
-pub returns-clause-refused : goal.returns-clause-refused
-returns-clause-refused c = λ haystack texts ms f g d e. steps_so_far-begin haystack texts 0 ms f d g e
+pub returns-clause-begun : goal.returns-clause-begun
+returns-clause-begun c = λ haystack texts ms s t end. text-begins _ haystack texts ms s t end
