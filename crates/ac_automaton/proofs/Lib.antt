@@ -4,6 +4,7 @@ pub mod Child
 pub mod ChildFails
 pub mod Counting
 pub mod Due
+pub mod Exchanging
 pub mod FindLoop
 pub mod Follows
 pub mod Grown

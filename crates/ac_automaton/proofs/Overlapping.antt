@@ -23,7 +23,7 @@ use Rattle.ac_automaton.specs.declared.automaton.overlap.OverlappingState.{Overl
 use Rattle.ac_automaton.specs.declared.automaton.overlap.Reached.{Reached}
 use Rattle.ac_automaton.specs.Automata.{Lists}
 use Rattle.ac_automaton.specs.Overlaps.{GivesNext, HasListed, HasMoved, IsListing, IsPlaced, ListsNext, beginning_of, given_by, given_in, overlapping_of, place_by}
-use Rattle.ac_automaton.specs.Progress.{Beginning, Grows, HasCome, HasRead, most_looks, node_at, search_of}
+use Rattle.ac_automaton.specs.Progress.{Grows, HasCome, HasRead, most_looks, node_at, search_of}
 use Rattle.ac_automaton.proofs.ListLoop.{IsPast, arrives, given-arrived, listing-start, past-all}
 use Rattle.ac_automaton.proofs.ReadOn.{come-start, read-come, read-nothing, reaches-start}
 
@@ -73,15 +73,6 @@ pub record GoesOnFrom (stands : ℕ → Node → Type 0) (listed : ℕ → List 
   pub on : HasListed stands listed built.kind (search_in built asked) reached
   pub as_many : given_in listed (search_in built asked) reached ≡ given
 
--- how a search of an input begins
-abbrev begun_by : Asked → Beginning
-begun_by asked = record {
-  start = asked.start;
-  end = asked.end;
-  tape = record { bytes = asked.haystack; place = 0 };
-  counts = no_counts;
-}
-
 -- a listing that has come to the start of the span
 abbrev pub at_start : Asked → ℕ → Reached
 at_start asked start =
@@ -96,7 +87,7 @@ module _ {stands : ℕ → Node → Type 0} (listed : ℕ → List ℕ) (built :
   pub goes_on-start : GoesOnFrom stands listed built asked 0 (at_start asked start)
   goes_on-start =
       let inside : asked.start ≤ length asked.haystack = omega arith in
-      let reaches = reaches-start built asked.anchored (begun_by asked) {stands = stands} starts inside in
+      let reaches = reaches-start built asked.anchored (beginning_of (search_in built asked)) {stands = stands} starts inside in
       let there = lists (node_at built.kind (search_in built asked) asked.start) reaches.there in
       let listing = listing-start built asked.anchored asked.haystack asked.start asked.end standard inside in
       record {
@@ -127,7 +118,8 @@ module _ {stands : ℕ → Node → Type 0} (listed : ℕ → List ℕ) (built :
     legal = legal;
     begun = (
       goes_on-start.on,
-      come-start built asked.anchored (begun_by asked) stands most filters start starts (omega arith) (omega arith),
+      come-start built asked.anchored (beginning_of (search_in built asked)) stands most filters start starts
+          (omega arith) (omega arith),
     );
   }
 

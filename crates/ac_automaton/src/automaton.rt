@@ -1,27 +1,32 @@
 //! What an engine offers, and the searches over any engine.
-ghost use Rattle.std.specs.Prelude.{◌≡◌, ◌≢◌, ◌↔◌, ◌⊎◌, ℕ, ◌<◌, Bool, List, [], length, option_map, slice_get, Some, None, IfSome, IsTrue, MatchResult};
+ghost use Rattle.std.specs.Prelude.{◌≡◌, ◌≢◌, ◌↔◌, ◌⊎◌, ℕ, ◌<◌, Bool, List, [], length, option_map, slice_get, string_bytes, Some, None, IfSome, IsTrue, MatchResult};
 ghost use Rattle.std.specs.Iterator.Runs.{YieldsInOrder};
 ghost use Rattle.ac_util.specs.declared.search.Anchored.{Anchored};
-ghost use Rattle.ac_util.specs.Built.{Built, find_refusal, found, overlapping_iter_refusal, overlapping_refusal, search_in};
+ghost use Rattle.ac_util.specs.Borrowed.{bytes_of};
+ghost use Rattle.ac_util.specs.Built.{Built, exchanged, exchanged_in_text, find_refusal, found, overlapping_iter_refusal, overlapping_refusal, replace_refusal, search_in};
 ghost use Rattle.ac_util.specs.Inputs.{asked};
 ghost use Rattle.ac_util.specs.Counts.{more_looks};
 ghost use Rattle.ac_util.specs.Node.{Node};
 ghost use Rattle.ac_util.specs.Prefilters.{skip_for, skip_of};
 ghost use Rattle.ac_util.specs.Refusal.{AnswersUnless, start_refusal};
+ghost use Rattle.ac_util.specs.Replaced.{replaced};
+ghost use Rattle.ac_util.specs.Replacing.{AnswersWhole, MakesSteps, StepsLead};
 ghost use Rattle.ac_util.specs.Search.{pattern_of};
 ghost use Rattle.ac_util.specs.Sizes.{longest_len, shortest_len};
 ghost use Rattle.ac_automaton.specs.Iterators.{GoesOn, begun};
 ghost use Rattle.ac_automaton.specs.Automata.{IsState, Lists, looks_of, step_of};
 ghost use Rattle.ac_automaton.specs.Overlaps.{GivesNext, IsPlaced, ListsNext, Takes, listing_begun};
 
-use ac_util::error::MatchError;
+use ac_util::error::{MatchError, ReplaceError};
 use ac_util::looks::Looks;
 use ac_util::prefilter::Prefilter;
 use ac_util::primitives::{PatternID, StateID};
 use ac_util::search::{Anchored, Input, Match, MatchKind};
+use std::alloc::Allocator;
 
 mod find;
 mod overlap;
+mod replace;
 mod step;
 mod walk;
 
@@ -236,5 +241,106 @@ pub trait Automaton {
         ensures runs { YieldsInOrder ListsNext (λ l. l.rest) }
     {
         FindOverlappingIter::new(self, input)
+    }
+
+    /// Returns the text with each match of the walk over it exchanged for the text of its pattern. A match that cuts
+    /// a character is left as it is; the walk isn't taken again without it. This ports `Automaton::try_replace_all`.
+    ///
+    /// There have to be as many texts as patterns.
+    ///
+    /// # Errors
+    /// `ReplaceError::Match` with `InvalidInputUnanchored` where the automaton has no unanchored start, else
+    /// `ReplaceError::Memory` where a request for memory is refused.
+    final fn try_replace_all<Z: Allocator>(
+        &self,
+        alloc: Z,
+        haystack: &str,
+        texts: &[&str],
+    ) -> Result<String<Z>, ReplaceError>
+    where
+        Self: Sized,
+        requires texts { length texts.now ≡ length (built self.now).patterns }
+        ensures { AnswersWhole (replace_refusal (built self.now))
+            (λ whole. string_bytes whole
+            ≡ replaced haystack.now (bytes_of texts.now) (exchanged_in_text (built self.now) haystack.now))
+            result }
+    {
+        replace::try_replace_all(self, alloc, haystack, texts)
+    }
+
+    /// Returns the haystack with each match of the walk over it exchanged for the text of its pattern. This ports
+    /// `Automaton::try_replace_all_bytes`.
+    ///
+    /// There have to be as many texts as patterns.
+    ///
+    /// # Errors
+    /// As `try_replace_all`.
+    final fn try_replace_all_bytes<Z: Allocator>(
+        &self,
+        alloc: Z,
+        haystack: &[u8],
+        texts: &[&[u8]],
+    ) -> Result<Vec<u8, Z>, ReplaceError>
+    where
+        Self: Sized,
+        requires texts { length texts.now ≡ length (built self.now).patterns }
+        ensures { AnswersWhole (replace_refusal (built self.now))
+            (λ whole. whole.items
+            ≡ replaced haystack.now (bytes_of texts.now) (exchanged (built self.now) haystack.now)) result }
+    {
+        replace::try_replace_all_bytes(self, alloc, haystack, texts)
+    }
+
+    /// Appends the text to the destination, with a call of the closure at each match that cuts no character: it is
+    /// handed the match, the slice of the text that matched, and the destination, to which it appends what it
+    /// exchanges the match for. After an answer `false` it is called no more, and the rest is appended. This ports
+    /// `Automaton::try_replace_all_with`. The law `ac_util::laws::text_closure_exchanges` says what a closure leaves
+    /// that appends at each call.
+    ///
+    /// The closure may be called at each match and destination.
+    ///
+    /// # Errors
+    /// As `try_replace_all`. Where the search is refused the destination is as it was, and where memory is, as the
+    /// steps before left it.
+    final fn try_replace_all_with<F>(
+        &self,
+        haystack: &str,
+        destination: &mut String,
+        exchange: F,
+    ) -> Result<(), ReplaceError>
+    where
+        Self: Sized,
+        F: FnMut(&Match, &str, &mut String) -> bool,
+        requires callable { F.IsAlwaysCallable exchange }
+        ensures { MakesSteps (replace_refusal (built self.now))
+            (λ end. StepsLead F.FnMut (λ d. string_bytes d) haystack.now
+            (exchanged_in_text (built self.now) haystack.now) exchange destination.old end destination.new)
+            (destination.new ≡ destination.old) result }
+    {
+        replace::try_replace_all_with(self, haystack, destination, exchange)
+    }
+
+    /// Does the same as `try_replace_all_with` with a haystack of bytes, and with all matches. This ports
+    /// `Automaton::try_replace_all_with_bytes`. The law `ac_util::laws::closure_exchanges` says what a closure leaves
+    /// that appends at each call.
+    ///
+    /// # Errors
+    /// As `try_replace_all_with`.
+    final fn try_replace_all_with_bytes<F>(
+        &self,
+        haystack: &[u8],
+        destination: &mut Vec<u8>,
+        exchange: F,
+    ) -> Result<(), ReplaceError>
+    where
+        Self: Sized,
+        F: FnMut(&Match, &[u8], &mut Vec<u8>) -> bool,
+        requires callable { F.IsAlwaysCallable exchange }
+        ensures { MakesSteps (replace_refusal (built self.now))
+            (λ end. StepsLead F.FnMut (λ d. d.items) haystack.now (exchanged (built self.now) haystack.now) exchange
+            destination.old end destination.new)
+            (destination.new ≡ destination.old) result }
+    {
+        replace::try_replace_all_with_bytes(self, haystack, destination, exchange)
     }
 }

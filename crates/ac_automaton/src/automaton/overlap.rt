@@ -17,7 +17,7 @@ use ac_util::search::{Anchored, Input, Match, MatchKind, Span};
 use std::marker::Model;
 
 /// The rest of a match list: of the matches of `state` those from `index` on.
-#[derive(Clone, Copy)]
+#[derive(Clone, Copy, Debug)]
 pub struct MatchRest {
     /// The state whose list it is.
     pub state: StateID,
@@ -27,7 +27,7 @@ pub struct MatchRest {
 
 /// How far a listing has come: where its automaton stands, up to which place it has read the span, and what is
 /// left of the matches there.
-#[derive(Clone, Copy)]
+#[derive(Clone, Copy, Debug)]
 struct Reached {
     state: StateID,
     at: usize,
@@ -49,7 +49,7 @@ impl Reached {
 ///
 /// It belongs to one automaton, or searcher, and one input: the calls of an overlapping search over these move it
 /// on. This ports `automaton::OverlappingState`.
-#[derive(Drop)]
+#[derive(Debug, Drop)]
 pub struct OverlappingState {
     found: Option<Match>,
     /// None before the first call, and where the span starts past its end.

@@ -1,0 +1,111 @@
+use Rattle.std.proofs.Common.{◌≡◌, ◌∙◌, ◌++◌, ℕ, [], List, ap, refl, sym, subst, length, of_calls, rules}
+use Rattle.ac_util.specs.Asked.{Asked}
+use Rattle.ac_util.specs.Built.{exchanged, replace_refusal, walked}
+use Rattle.ac_util.specs.Inputs.{asked}
+use Rattle.ac_util.specs.Occurrence.{Occurrence}
+use Rattle.ac_util.specs.Replacing.{StepsLead}
+use Rattle.ac_util.proofs.Exchanges.{AreInOrder, exchanged-in_order}
+use Rattle.ac_automaton.specs.Iterators.{Walking}
+use Rattle.ac_automaton.proofs.Exchanging.{LeadsOn, leads-begin, leads-end, leads-end_refused, leads-out, leads-refused, leads-stop, leads-turn, slice_to_end, stops-by_memory, unrefused}
+use Rattle.ac_automaton.proofs.automaton.replace.try_replace_all_with_bytes.Goals as goal
+use Rattle.ac_automaton.proofs.automaton.replace.try_replace_all_with_bytes.Goals.{in-None, in-Some+in_ok-extend_from_slice+then-not-exchange}
+
+-- all matches are left
+pub loop-found-init : goal.loop-found-init
+loop-found-init g c =
+    let haystack = c.args.haystack.now in
+    let built = g.A.Automaton.built c.args.automaton.now in
+    let is = ap (λ (w : Walking). w.rest) (c.into_iter-found-iterator.ensures.into_iter_gives
+    ∙ c.in_ok-matches.ensures.1)
+    ∙ ap (λ (a : Asked). walked built a) c.new.ensures.value in (
+      tt,
+      tt,
+      c.requires.callable,
+      subst (λ (ms : List Occurrence). AreInOrder (length haystack) (length built.patterns) 0 ms) (sym is)
+          (exchanged-in_order built haystack (length built.patterns) refl),
+      leads-begin c.into_iter-found-iterator.result.rest is,
+    )
+
+-- the gap was refused
+pub returns-in_err-extend_from_slice : goal.returns-in_err-extend_from_slice
+returns-in_err-extend_from_slice g c =
+    let haystack = c.args.haystack.now in
+    let built = g.A.Automaton.built c.args.automaton.now in
+    stops-by_memory (replace_refusal built)
+    (λ end. StepsLead g.F.FnMut (λ d. d.items) haystack (exchanged built haystack) c.args.exchange
+    c.args.destination.now end c.extend_from_slice.new.self)
+    (c.extend_from_slice.new.self ≡ c.args.destination.now)
+    c.from_residual-in_err-extend_from_slice.result c.from_residual-in_err-extend_from_slice.ensures.1
+    (unrefused built haystack (asked c.new.result) c.new.ensures.value c.in_ok-matches.ensures.0)
+    (leads-refused c.in-Some.found c.next.new.self.rest c.loop-found.invariant.4 c.in-Some.ensures.steps.gives
+    c.extend_from_slice.new.self c.in_err-extend_from_slice.ensures.items)
+
+-- the gap was appended, and the call asks to go on
+pub loop-found-preserved : goal.loop-found-preserved
+loop-found-preserved g c =
+    let order = subst (λ (ms : List Occurrence). AreInOrder (length c.args.haystack.now)
+    (length (g.A.Automaton.built c.args.automaton.now).patterns) c.loop-found.place ms)
+    c.in-Some.ensures.steps.gives c.loop-found.invariant.3 in (
+      tt,
+      tt,
+      search (rules, of_calls),
+      subst (λ (place : ℕ). AreInOrder (length c.args.haystack.now)
+          (length (g.A.Automaton.built c.args.automaton.now).patterns) place c.next.new.self.rest)
+          (sym c.end-place.ensures) order.4,
+      leads-turn c.in-Some.found c.next.new.self.rest c.loop-found.invariant.4 c.in-Some.ensures.steps.gives
+          c.start.result c.start-in-loop-found.result c.end-place.result c.start.ensures
+          c.start-in-loop-found.ensures c.end-place.ensures c.extend_from_slice.new.self
+          c.in_ok-extend_from_slice.ensures.items c.exchange.new.self c.exchange.new.arg4 c.exchange.result
+          (record { found = _; text = _; before = _; after = _; shows = (refl, refl, refl); called = c.exchange.ensures; leaves = refl })
+          c.if-not-exchange.false,
+    )
+
+-- what follows the last match was refused
+pub returns-in_err-extend_from_slice-2 : goal.returns-in_err-extend_from_slice-2
+returns-in_err-extend_from_slice-2 g c =
+    let haystack = c.args.haystack.now in
+    let built = g.A.Automaton.built c.args.automaton.now in
+    let leads : LeadsOn g.F.FnMut (λ d. d.items) haystack (exchanged built haystack) c.args.exchange
+    c.args.destination.now c.match-next.place [] c.match-next.exchange c.match-next.destination =
+    elim c.match-next.branch [
+      | in-None w ↦ leads-out c.loop-found.invariant.4 w.in-None.ensures.steps.gives.0 w.place-is w.exchange-is
+          w.destination-is
+      | in-Some+in_ok-extend_from_slice+then-not-exchange w ↦ leads-out
+          (leads-stop w.in-Some.found c.next.new.self.rest c.loop-found.invariant.4 w.in-Some.ensures.steps.gives
+          w.start.result w.start-in-loop-found.result w.end-place.result w.start.ensures
+          w.start-in-loop-found.ensures w.end-place.ensures w.extend_from_slice.new.self
+          w.in_ok-extend_from_slice.ensures.items w.exchange.new.self w.exchange.new.arg4 w.exchange.result
+          (record { found = _; text = _; before = _; after = _; shows = (refl, refl, refl); called = w.exchange.ensures; leaves = refl })
+          w.if-not-exchange.true) refl w.place-is w.exchange-is w.destination-is
+    ] in
+    stops-by_memory (replace_refusal built)
+    (λ end. StepsLead g.F.FnMut (λ d. d.items) haystack (exchanged built haystack) c.args.exchange
+    c.args.destination.now end c.extend_from_slice-2.new.self)
+    (c.extend_from_slice-2.new.self ≡ c.args.destination.now)
+    c.from_residual-in_err-extend_from_slice-2.result c.from_residual-in_err-extend_from_slice-2.ensures.1
+    (unrefused built haystack (asked c.new.result) c.new.ensures.value c.in_ok-matches.ensures.0)
+    (leads-end_refused c.extend_from_slice-2.new.self leads c.in_err-extend_from_slice-2.ensures.items)
+
+-- what follows the last match was appended
+pub returns : goal.returns
+returns g c =
+    let haystack = c.args.haystack.now in
+    let built = g.A.Automaton.built c.args.automaton.now in
+    let leads : LeadsOn g.F.FnMut (λ d. d.items) haystack (exchanged built haystack) c.args.exchange
+    c.args.destination.now c.match-next.place [] c.match-next.exchange c.match-next.destination =
+    elim c.match-next.branch [
+      | in-None w ↦ leads-out c.loop-found.invariant.4 w.in-None.ensures.steps.gives.0 w.place-is w.exchange-is
+          w.destination-is
+      | in-Some+in_ok-extend_from_slice+then-not-exchange w ↦ leads-out
+          (leads-stop w.in-Some.found c.next.new.self.rest c.loop-found.invariant.4 w.in-Some.ensures.steps.gives
+          w.start.result w.start-in-loop-found.result w.end-place.result w.start.ensures
+          w.start-in-loop-found.ensures w.end-place.ensures w.extend_from_slice.new.self
+          w.in_ok-extend_from_slice.ensures.items w.exchange.new.self w.exchange.new.arg4 w.exchange.result
+          (record { found = _; text = _; before = _; after = _; shows = (refl, refl, refl); called = w.exchange.ensures; leaves = refl })
+          w.if-not-exchange.true) refl w.place-is w.exchange-is w.destination-is
+    ] in (
+      unrefused built haystack (asked c.new.result) c.new.ensures.value c.in_ok-matches.ensures.0,
+      leads-end c.extend_from_slice-2.new.self leads (c.in_ok-extend_from_slice-2.ensures.items
+          ∙ ap (λ (rest : List ℕ). c.match-next.destination.items ++ rest)
+          (slice_to_end haystack c.match-next.place)),
+    )
