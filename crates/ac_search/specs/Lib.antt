@@ -19,6 +19,7 @@ pub use Rattle.ac_util.specs.Inside
 -- replacement
 pub use Rattle.ac_util.specs.Replaced
 pub use Rattle.ac_util.specs.Replacement
+pub use Rattle.ac_util.specs.Replacing
 -- texts
 pub use Rattle.ac_util.specs.Text
 pub use Rattle.ac_util.specs.Texts

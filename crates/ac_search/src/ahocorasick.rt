@@ -28,6 +28,7 @@ mod choice;
 mod engine;
 mod find;
 mod overlap;
+mod replace;
 
 pub use builder::AhoCorasickBuilder;
 pub use choice::AhoCorasickKind;

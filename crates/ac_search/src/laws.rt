@@ -16,12 +16,13 @@ ghost use Rattle.ac_search.specs.declared.ahocorasick.choice.AhoCorasickKind.{Ah
 
 use crate::ahocorasick::{AhoCorasick, AhoCorasickKind};
 pub use ac_util::laws::{
-    clones_are_equal, clones_take_no_memory, defaults_are_told, earliest_is_standard,
-    equal_values_hash_equally, errors_compare_by_their_fields, greatest_number_is_told,
-    listing_goes_on, listing_is_exact, matches_cut_no_character, matches_lie_inside,
-    numbers_compare_as_numbers, only_the_span_counts, pick_comes_first, sameness_is_by_letter,
-    steps_replace, tests_decide, values_compare_by_their_fields, values_hash_by_their_fields,
-    walk_goes_on, walk_has_beginnings, walk_is_in_order, walk_is_short,
+    clones_are_equal, clones_take_no_memory, closure_exchanges, defaults_are_told,
+    earliest_is_standard, equal_values_hash_equally, errors_compare_by_their_fields,
+    greatest_number_is_told, listing_goes_on, listing_is_exact, matches_cut_no_character,
+    matches_lie_inside, numbers_compare_as_numbers, only_the_span_counts, pick_comes_first,
+    sameness_is_by_letter, steps_replace, tests_decide, text_closure_exchanges,
+    values_compare_by_their_fields, values_hash_by_their_fields, walk_goes_on, walk_has_beginnings,
+    walk_is_in_order, walk_is_short,
 };
 use ac_util::search::Input;
 use std::alloc::Allocator;

@@ -13,6 +13,8 @@ use crate::{
 use std::alloc::{AllocError, Global};
 use std::test::Fail;
 
+mod replace;
+
 /// A pattern number, a start and an end.
 type Told = (usize, usize, usize);
 

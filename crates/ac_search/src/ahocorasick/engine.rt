@@ -1,8 +1,11 @@
 //! The engines of a searcher and their iterators. This file alone tells them apart.
-ghost use Rattle.std.specs.Prelude.{◌≡◌, IfOk, MatchResult, length};
-ghost use Rattle.ac_util.specs.Built.{find_refusal, found, overlapping_iter_refusal, overlapping_refusal, search_in};
+ghost use Rattle.std.specs.Prelude.{◌≡◌, IfOk, MatchResult, length, string_bytes};
+ghost use Rattle.ac_util.specs.Borrowed.{bytes_of};
+ghost use Rattle.ac_util.specs.Built.{exchanged, exchanged_in_text, find_refusal, found, overlapping_iter_refusal, overlapping_refusal, replace_refusal, search_in};
 ghost use Rattle.ac_util.specs.Inputs.{asked};
 ghost use Rattle.ac_util.specs.Refusal.{AnswersUnless};
+ghost use Rattle.ac_util.specs.Replaced.{replaced};
+ghost use Rattle.ac_util.specs.Replacing.{AnswersWhole, MakesSteps, StepsLead};
 ghost use Rattle.ac_util.specs.Sizes.{longest_len, shortest_len};
 ghost use Rattle.ac_automaton.specs.Iterators.{GoesOn, begun};
 ghost use Rattle.ac_automaton.specs.Overlaps.{GivesNext, IsPlaced, ListsNext, listing_begun};
@@ -13,7 +16,7 @@ ghost use Rattle.ac_search.specs.States.{listed_in, stands_in};
 use super::choice::AhoCorasickKind;
 use ac_automaton::automaton::{self, Automaton, OverlappingState};
 use ac_automaton::nfa::noncontiguous;
-use ac_util::error::MatchError;
+use ac_util::error::{MatchError, ReplaceError};
 use ac_util::search::{Input, Match, MatchKind};
 use std::alloc::{AllocError, Allocator};
 use std::rc::Rc;
@@ -120,6 +123,87 @@ impl<A: Allocator> Engine<A> {
                 let items = nfa.as_ref().try_find_overlapping_iter(input)?;
                 Ok(EngineFindOverlappingIter::Noncontiguous(items))
             }
+        }
+    }
+
+    /// Returns what `Automaton::try_replace_all` does.
+    pub(super) fn try_replace_all<Z: Allocator>(
+        &self,
+        alloc: Z,
+        haystack: &str,
+        texts: &[&str],
+    ) -> Result<String<Z>, ReplaceError>
+        requires texts { length texts.now ≡ length (built_of self.now).patterns }
+        ensures { AnswersWhole (replace_refusal (built_of self.now))
+            (λ whole. string_bytes whole
+            ≡ replaced haystack.now (bytes_of texts.now) (exchanged_in_text (built_of self.now) haystack.now))
+            result }
+    {
+        match self {
+            Engine::Noncontiguous(nfa) => nfa.as_ref().try_replace_all(alloc, haystack, texts),
+        }
+    }
+
+    /// Returns what `Automaton::try_replace_all_bytes` does.
+    pub(super) fn try_replace_all_bytes<Z: Allocator>(
+        &self,
+        alloc: Z,
+        haystack: &[u8],
+        texts: &[&[u8]],
+    ) -> Result<Vec<u8, Z>, ReplaceError>
+        requires texts { length texts.now ≡ length (built_of self.now).patterns }
+        ensures { AnswersWhole (replace_refusal (built_of self.now))
+            (λ whole. whole.items
+            ≡ replaced haystack.now (bytes_of texts.now) (exchanged (built_of self.now) haystack.now)) result }
+    {
+        match self {
+            Engine::Noncontiguous(nfa) => nfa
+                .as_ref()
+                .try_replace_all_bytes(alloc, haystack, texts),
+        }
+    }
+
+    /// Does what `Automaton::try_replace_all_with` does.
+    pub(super) fn try_replace_all_with<F>(
+        &self,
+        haystack: &str,
+        destination: &mut String,
+        exchange: F,
+    ) -> Result<(), ReplaceError>
+    where
+        F: FnMut(&Match, &str, &mut String) -> bool,
+        requires callable { F.IsAlwaysCallable exchange }
+        ensures { MakesSteps (replace_refusal (built_of self.now))
+            (λ end. StepsLead F.FnMut (λ d. string_bytes d) haystack.now
+            (exchanged_in_text (built_of self.now) haystack.now) exchange destination.old end destination.new)
+            (destination.new ≡ destination.old) result }
+    {
+        match self {
+            Engine::Noncontiguous(nfa) => nfa
+                .as_ref()
+                .try_replace_all_with(haystack, destination, exchange),
+        }
+    }
+
+    /// Does what `Automaton::try_replace_all_with_bytes` does.
+    pub(super) fn try_replace_all_with_bytes<F>(
+        &self,
+        haystack: &[u8],
+        destination: &mut Vec<u8>,
+        exchange: F,
+    ) -> Result<(), ReplaceError>
+    where
+        F: FnMut(&Match, &[u8], &mut Vec<u8>) -> bool,
+        requires callable { F.IsAlwaysCallable exchange }
+        ensures { MakesSteps (replace_refusal (built_of self.now))
+            (λ end. StepsLead F.FnMut (λ d. d.items) haystack.now (exchanged (built_of self.now) haystack.now)
+            exchange destination.old end destination.new)
+            (destination.new ≡ destination.old) result }
+    {
+        match self {
+            Engine::Noncontiguous(nfa) => nfa
+                .as_ref()
+                .try_replace_all_with_bytes(haystack, destination, exchange),
         }
     }
 

@@ -1,0 +1,297 @@
+ghost use Rattle.std.specs.Prelude.{◌≡◌, ◌++◌, IfOk, List, ℕ, None, [], string_bytes};
+ghost use Rattle.ac_search.specs.Built.{exchanged, replace_refusal};
+ghost use Rattle.ac_search.specs.Replaced.{exchanged_from};
+
+use crate::MatchKind::{LeftmostFirst, Standard};
+use crate::laws::{closure_exchanges, text_closure_exchanges};
+use crate::{
+    AhoCorasick, AhoCorasickBuilder, Match, MatchError, MatchKind, ReplaceError, StartKind,
+};
+use std::alloc::AllocError;
+use std::test::Fail;
+
+const WORDS: &[&[u8]] = &[b"append", b"appendage", b"app"];
+
+const SENTENCE: &str = "append the app to the appendage";
+
+const NUMBERS: &[&str] = &["0", "1", "2"];
+
+/// Patterns, a match kind, their texts, a haystack, and the same with the matches exchanged.
+type InBytes = (
+    &'static [&'static [u8]],
+    MatchKind,
+    &'static [&'static [u8]],
+    &'static [u8],
+    &'static [u8],
+);
+
+const IN_BYTES: &[InBytes] = &[
+    (
+        WORDS,
+        LeftmostFirst,
+        &[b"x", b"y", b"z"],
+        b"append the app to the appendage",
+        b"x the z to the xage",
+    ),
+    (&[b""], Standard, &[b"-"], b"ab", b"-a-b-"),
+    (&[b""], Standard, &[b"-"], b"\xC3\xA9", b"-\xC3-\xA9-"),
+    (&[b"\xC3"], Standard, &[b"x"], b"\xC3\xA9", b"x\xA9"),
+    (&[], Standard, &[], b"abc", b"abc"),
+];
+
+/// The same in a text.
+type InText = (
+    &'static [&'static [u8]],
+    MatchKind,
+    &'static [&'static str],
+    &'static str,
+    &'static str,
+);
+
+const IN_TEXT: &[InText] = &[
+    (
+        WORDS,
+        LeftmostFirst,
+        &["x", "y", "z"],
+        SENTENCE,
+        "x the z to the xage",
+    ),
+    (&[b""], Standard, &["-"], "é", "-é-"),
+    (&[b"\xC3"], Standard, &["x"], "é", "é"),
+    // the second pattern stands in what the first one cut, where a walk taken anew would find it
+    (&[b"\xA9 ", b" "], LeftmostFirst, &["x", "y"], "é é", "é é"),
+    (&[], Standard, &[], "abc", "abc"),
+];
+
+/// Builds a searcher of a match kind.
+fn searcher_of(rt: HostRuntime, patterns: &[&[u8]], kind: MatchKind) -> Result<AhoCorasick, Fail> {
+    let mut builder = AhoCorasickBuilder::new();
+    builder.match_kind(kind);
+    Ok(builder.build(rt.alloc(), patterns)?)
+}
+
+/// Appends the haystack without its matches.
+fn remove(
+    searcher: &AhoCorasick,
+    haystack: &[u8],
+    destination: &mut Vec<u8>,
+) -> Result<(), AllocError>
+    requires { replace_refusal searcher.now.built ≡ None }
+    ensures { IfOk result (λ _. destination.new.items ≡ destination.old.items
+        ++ exchanged_from haystack.now (λ _ _. []) 0 (exchanged searcher.now.built haystack.now)) }
+{
+    let nothing = |_: &Match, _: &[u8], _: &mut Vec<u8>| true;
+    closure_exchanges(&nothing);
+    searcher.replace_all_with_bytes(haystack, destination, nothing)
+}
+
+/// Appends the text with a mark in place of each match. What was in the destination stays there.
+fn mark(searcher: &AhoCorasick, text: &str, destination: &mut String) -> Result<(), AllocError>
+    requires { replace_refusal searcher.now.built ≡ None }
+    ensures { (more : List ℕ) × (string_bytes destination.new ≡ string_bytes destination.old ++ more) }
+{
+    let dash = |_: &Match, _: &str, destination: &mut String| destination.push_str("-").is_ok();
+    text_closure_exchanges(&dash);
+    searcher.replace_all_with(text, destination, dash)
+}
+
+#[test]
+fn lists_exchange_bytes(rt: HostRuntime) -> Result<(), Fail> {
+    for &(patterns, kind, texts, haystack, wanted) in IN_BYTES {
+        let searcher = searcher_of(rt, patterns, kind)?;
+        assert!(rt; texts.len() == searcher.patterns_len());
+        let replaced = searcher.try_replace_all_bytes(rt.alloc(), haystack, texts)?;
+        assert_eq!(rt; replaced.as_slice(), wanted);
+    }
+    let searcher = AhoCorasick::new(rt.alloc(), &[b"fox", b"brown", b"quick"])?;
+    let replaced = searcher.replace_all_bytes(
+        rt.alloc(),
+        b"The quick brown fox.",
+        &[b"sloth", b"grey", b"slow"],
+    )?;
+    assert_eq!(rt; replaced.as_slice(), b"The slow grey sloth.".as_slice());
+    Ok(())
+}
+
+#[test]
+fn lists_exchange_whole_characters(rt: HostRuntime) -> Result<(), Fail> {
+    for &(patterns, kind, texts, haystack, wanted) in IN_TEXT {
+        let searcher = searcher_of(rt, patterns, kind)?;
+        assert!(rt; texts.len() == searcher.patterns_len());
+        let replaced = searcher.try_replace_all(rt.alloc(), haystack, texts)?;
+        assert_eq!(rt; replaced.as_str(), wanted);
+    }
+    let searcher = AhoCorasick::new(rt.alloc(), &[b"fox", b"brown", b"quick"])?;
+    let replaced = searcher.replace_all(
+        rt.alloc(),
+        "The quick brown fox.",
+        &["sloth", "grey", "slow"],
+    )?;
+    assert_eq!(rt; replaced.as_str(), "The slow grey sloth.");
+    Ok(())
+}
+
+/// Appends the number of a pattern.
+fn push_number(found: &Match, destination: &mut String) -> bool {
+    match NUMBERS.get(found.pattern().as_usize()) {
+        Some(number) => destination.push_str(number).is_ok(),
+        None => false,
+    }
+}
+
+#[test]
+fn closures_exchange_whole_characters(rt: HostRuntime) -> Result<(), Fail> {
+    let searcher = searcher_of(rt, WORDS, LeftmostFirst)?;
+    let mut numbers = String::from_str(rt.alloc(), "pre")?;
+    searcher.try_replace_all_with(SENTENCE, &mut numbers, |found, _, destination| {
+        push_number(found, destination)
+    })?;
+    assert_eq!(rt; numbers.as_str(), "pre0 the 2 to the 0age");
+    let mut stopped = String::new(rt.alloc());
+    searcher.try_replace_all_with(SENTENCE, &mut stopped, |found, _, destination| {
+        push_number(found, destination) && found.pattern().as_usize() != 2
+    })?;
+    assert_eq!(rt; stopped.as_str(), "0 the 2 to the appendage");
+    let mut cleared = String::from_str(rt.alloc(), "keep")?;
+    searcher.try_replace_all_with(SENTENCE, &mut cleared, |_, _, destination| {
+        destination.clear();
+        true
+    })?;
+    assert_eq!(rt; cleared.as_str(), "age");
+    let mut nothing = String::new(rt.alloc());
+    searcher.try_replace_all_with(SENTENCE, &mut nothing, |_, _, _| false)?;
+    assert_eq!(rt; nothing.as_str(), " the app to the appendage");
+    let cut = searcher_of(rt, &[b"\xC3"], Standard)?;
+    let mut kept = String::new(rt.alloc());
+    cut.try_replace_all_with("é", &mut kept, |_, _, _| true)?;
+    assert_eq!(rt; kept.as_str(), "é");
+    Ok(())
+}
+
+#[test]
+fn closures_exchange_bytes(rt: HostRuntime) -> Result<(), Fail> {
+    let searcher = searcher_of(rt, WORDS, LeftmostFirst)?;
+    let sentence = SENTENCE.as_bytes();
+    let mut told = Vec::new(rt.alloc());
+    searcher.try_replace_all_with_bytes(sentence, &mut told, |found, slice, destination| {
+        destination.extend_from_slice(slice).is_ok()
+            && destination.push(b'!').is_ok()
+            && found.pattern().as_usize() != 2
+    })?;
+    assert_eq!(rt;
+        told.as_slice(),
+        b"append! the app! to the appendage".as_slice()
+    );
+    let mut cleared = Vec::new(rt.alloc());
+    cleared.extend_from_slice(b"keep")?;
+    searcher.try_replace_all_with_bytes(sentence, &mut cleared, |_, _, destination| {
+        destination.clear();
+        true
+    })?;
+    assert_eq!(rt; cleared.as_slice(), b"age".as_slice());
+    let mut nothing = Vec::new(rt.alloc());
+    searcher.try_replace_all_with_bytes(sentence, &mut nothing, |_, _, _| false)?;
+    assert_eq!(rt; nothing.as_slice(), b" the app to the appendage".as_slice());
+    Ok(())
+}
+
+#[test]
+fn a_closure_needs_its_own_contract_alone(rt: HostRuntime) -> Result<(), Fail> {
+    let searcher = AhoCorasick::new(rt.alloc(), &[b"app"])?;
+    let mut removed = Vec::new(rt.alloc());
+    removed.extend_from_slice(b"pre")?;
+    remove(&searcher, b"an app, apps", &mut removed)?;
+    assert_eq!(rt; removed.as_slice(), b"prean , s".as_slice());
+    let mut marked = String::from_str(rt.alloc(), "pre")?;
+    mark(&searcher, "an app, apps", &mut marked)?;
+    assert_eq!(rt; marked.as_str(), "prean -, -s");
+    Ok(())
+}
+
+#[test]
+fn a_refused_replacement_changes_nothing(rt: HostRuntime) -> Result<(), Fail> {
+    let mut builder = AhoCorasickBuilder::new();
+    builder.start_kind(StartKind::Anchored);
+    let searcher = builder.build(rt.alloc(), &[b"a"])?;
+    let refused = ReplaceError::Match(MatchError::InvalidInputUnanchored);
+    assert_eq!(rt;
+        searcher.try_replace_all(rt.alloc(), "a", &["x"]).err(),
+        Some(refused)
+    );
+    let bytes = searcher.try_replace_all_bytes(rt.alloc(), b"a", &[b"x"]);
+    assert_eq!(rt; bytes.err(), Some(refused));
+    let mut text = String::from_str(rt.alloc(), "pre")?;
+    let told = searcher.try_replace_all_with("a", &mut text, |_, _, destination| {
+        destination.clear();
+        true
+    });
+    assert_eq!(rt; told, Err(refused));
+    assert_eq!(rt; text.as_str(), "pre");
+    let mut bytes = Vec::new(rt.alloc());
+    bytes.extend_from_slice(b"pre")?;
+    let told = searcher.try_replace_all_with_bytes(b"a", &mut bytes, |_, _, destination| {
+        destination.clear();
+        true
+    });
+    assert_eq!(rt; told, Err(refused));
+    assert_eq!(rt; bytes.as_slice(), b"pre".as_slice());
+    Ok(())
+}
+
+/// With each request for memory refused in turn: a list tells it.
+#[test]
+fn want_of_memory_is_told_by_lists(rt: HostRuntime) -> Result<(), Fail> {
+    let searcher = AhoCorasick::new(rt.alloc(), &[b"a"])?;
+    match searcher.try_replace_all(rt.alloc(), "ab", &["xyz"]) {
+        Ok(replaced) => assert_eq!(rt; replaced.as_str(), "xyzb"),
+        Err(told) => assert_eq!(rt; told, ReplaceError::Memory),
+    }
+    match searcher.try_replace_all_bytes(rt.alloc(), b"ab", &[b"xyz"]) {
+        Ok(replaced) => assert_eq!(rt; replaced.as_slice(), b"xyzb".as_slice()),
+        Err(told) => assert_eq!(rt; told, ReplaceError::Memory),
+    }
+    if let Ok(replaced) = searcher.replace_all(rt.alloc(), "ab", &["xyz"]) {
+        assert_eq!(rt; replaced.as_str(), "xyzb");
+    }
+    if let Ok(replaced) = searcher.replace_all_bytes(rt.alloc(), b"ab", &[b"xyz"]) {
+        assert_eq!(rt; replaced.as_slice(), b"xyzb".as_slice());
+    }
+    Ok(())
+}
+
+/// With each request for memory refused in turn: a closure's destination is as the steps before left it.
+#[test]
+fn want_of_memory_leaves_the_steps_before(rt: HostRuntime) -> Result<(), Fail> {
+    let searcher = AhoCorasick::new(rt.alloc(), &[b"a"])?;
+    let mut text = String::new(rt.alloc());
+    match searcher.try_replace_all_with("-ab", &mut text, |_, _, _| true) {
+        Ok(()) => assert_eq!(rt; text.as_str(), "-b"),
+        Err(told) => {
+            assert_eq!(rt; told, ReplaceError::Memory);
+            assert!(rt; "-b".starts_with(text.as_str()));
+        }
+    }
+    let mut bytes = Vec::new(rt.alloc());
+    match searcher.try_replace_all_with_bytes(b"-ab", &mut bytes, |_, _, _| true) {
+        Ok(()) => assert_eq!(rt; bytes.as_slice(), b"-b".as_slice()),
+        Err(told) => {
+            assert_eq!(rt; told, ReplaceError::Memory);
+            assert!(rt; b"-b".starts_with(bytes.as_slice()));
+        }
+    }
+    text.clear();
+    bytes.clear();
+    if searcher
+        .replace_all_with("-ab", &mut text, |_, _, _| true)
+        .is_ok()
+    {
+        assert_eq!(rt; text.as_str(), "-b");
+    }
+    if searcher
+        .replace_all_with_bytes(b"-ab", &mut bytes, |_, _, _| true)
+        .is_ok()
+    {
+        assert_eq!(rt; bytes.as_slice(), b"-b".as_slice());
+    }
+    Ok(())
+}
