@@ -1,2 +1,5 @@
 pub mod Devices
+pub mod PairLimits
+pub mod Pairs
 pub mod Printing
+pub mod Replacing

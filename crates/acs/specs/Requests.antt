@@ -1,5 +1,5 @@
 -- What the words after the program's name ask for.
-use Rattle.std.specs.Prelude.{ℕ, List, ◌∷◌, Option, None, Some, bytes_eq, codes, drop, false, if◌then◌else◌}
+use Rattle.std.specs.Prelude.{ℕ, ◌%◌, ◌==◌, List, [], ◌∷◌, Option, None, Some, Bool, true, false, bytes_eq, codes, drop, length, if◌then◌else◌}
 use Rattle.ac_util.specs.declared.search.MatchKind.{MatchKind}
 use Rattle.ac_util.specs.declared.search.MatchKind.TheVariants.{Standard, LeftmostFirst, LeftmostLongest}
 use Rattle.ac_util.specs.declared.search.StartKind.TheVariants.{Unanchored}
@@ -9,7 +9,7 @@ use Rattle.ac_search.specs.Searchers.{Settings}
 use Rattle.acs.specs.declared.fault.Fault.{Fault}
 use Rattle.acs.specs.declared.fault.Fault.TheVariants.{OverlappingKind}
 use Rattle.acs.specs.declared.request.Mode.{Mode}
-use Rattle.acs.specs.declared.request.Mode.TheVariants.{Find, Walk, Overlap}
+use Rattle.acs.specs.declared.request.Mode.TheVariants.{Find, Walk, Overlap, Replace}
 use Rattle.acs.specs.declared.request.Request.{Request}
 
 -- the names of modes, match kinds and engines
@@ -18,6 +18,7 @@ mode_of word =
     if bytes_eq word (codes "find") then Some Find
     else if bytes_eq word (codes "walk") then Some Walk
     else if bytes_eq word (codes "overlap") then Some Overlap
+    else if bytes_eq word (codes "replace") then Some Replace
     else None
 
 abbrev pub kind_of : List ℕ → Option MatchKind
@@ -30,18 +31,44 @@ kind_of word =
 abbrev pub engine_of : List ℕ → Option AhoCorasickKind
 engine_of word = if bytes_eq word (codes "noncontiguous") then Some NoncontiguousNFA else None
 
--- a mode, a kind and an engine; anything else is no request
-abbrev pub request_with : Option Mode → Option MatchKind → Option AhoCorasickKind → Option Request
-request_with (Some mode) (Some kind) (Some engine) = Some (record { mode = mode; kind = kind; engine = engine })
-request_with mode kind engine = None
+-- whether a mode allows so many words behind these three: for `replace` they stand in pairs
+abbrev pub allows_count : Mode → ℕ → Bool
+allows_count Replace count = count % 2 == 0
+allows_count mode count = true
+
+-- a mode, a kind and an engine, and so many words as the mode allows; anything else is no request
+abbrev pub request_with : Option Mode → Option MatchKind → Option AhoCorasickKind → ℕ → Option Request
+request_with (Some mode) (Some kind) (Some engine) count =
+    if allows_count mode count then Some (record { mode = mode; kind = kind; engine = engine })
+    else None
+request_with mode kind engine count = None
 
 abbrev pub request_of : List (List ℕ) → Option Request
-request_of (mode ∷ kind ∷ engine ∷ patterns) = request_with (mode_of mode) (kind_of kind) (engine_of engine)
+request_of (mode ∷ kind ∷ engine ∷ words) =
+    request_with (mode_of mode) (kind_of kind) (engine_of engine) (length words)
 request_of words = None
 
--- the patterns are the words behind these three
-abbrev pub patterns_of : List (List ℕ) → List (List ℕ)
-patterns_of words = drop 3 words
+-- the words behind these three
+abbrev pub words_behind : List (List ℕ) → List (List ℕ)
+words_behind words = drop 3 words
+
+-- the first word of each pair, where words stand in pairs, and the second
+abbrev pub firsts : List (List ℕ) → List (List ℕ)
+firsts (first ∷ second ∷ words) = first ∷ firsts words
+firsts words = []
+
+abbrev pub seconds : List (List ℕ) → List (List ℕ)
+seconds (first ∷ second ∷ words) = second ∷ seconds words
+seconds words = []
+
+-- which of the words are patterns, and which are texts: for `replace` they are pattern and text in turn
+abbrev pub patterns_in : Mode → List (List ℕ) → List (List ℕ)
+patterns_in Replace words = firsts words
+patterns_in mode words = words
+
+abbrev pub texts_in : Mode → List (List ℕ) → List (List ℕ)
+texts_in Replace words = seconds words
+texts_in mode words = []
 
 -- why a mode is refused by a match kind, if it is: the overlapping search needs Standard
 abbrev pub mode_refusal : Mode → MatchKind → Option Fault

@@ -7,11 +7,13 @@ use Rattle.ac_automaton.specs.Builds.{IsAllowed}
 use Rattle.ac_search.specs.Searchers.{built_by, engine_settings, rules_for}
 use Rattle.acs.specs.declared.fault.Fault.{Fault}
 use Rattle.acs.specs.declared.fault.Fault.TheVariants.{Io, Memory, WriteZero}
+use Rattle.acs.specs.declared.request.Mode.{Mode}
+use Rattle.acs.specs.declared.request.Mode.TheVariants.{Replace}
 use Rattle.acs.specs.declared.request.Request.{Request}
 use Rattle.acs.specs.declared.run.Outcome.{Outcome}
 use Rattle.acs.specs.Faults.{IsRefusal}
 use Rattle.acs.specs.Lines.{Output, output_of}
-use Rattle.acs.specs.Requests.{request_refusal, settings_of}
+use Rattle.acs.specs.Requests.{patterns_in, request_refusal, settings_of, texts_in}
 
 -- the bytes are all that the reader gave up to the first read that gave none, where it was asked no more, and
 -- no read failed. Where `ends` is true they are all that it had left
@@ -53,30 +55,43 @@ FailsToPrint old new bytes fault =
     FailsToWrite old new bytes fault
     ⊎ ((fault ≡ Memory) × WritesSome old new bytes × (new.failed ≡ old.failed) × (new.idles ≡ old.idles))
 
--- what a request writes for a haystack, and how the run ends then
+-- the same for what a mode writes: lines are written while others are made, but a replaced text is whole before its
+-- first byte is written, so nothing was written where memory was refused for it
+abbrev pub FailsToAnswer : Mode → Writing → Writing → List ℕ → Fault → Type 0
+FailsToAnswer Replace old new bytes fault = FailsToWrite old new bytes fault ⊎ ((fault ≡ Memory) × (new ≡ old))
+FailsToAnswer mode old new bytes fault = FailsToPrint old new bytes fault
+
+-- no limit refuses the searcher for a request with these words
+abbrev pub IsBuildable : Request → List (List ℕ) → Type 0
+IsBuildable request words =
+    IsAllowed (rules_for (settings_of request)) (engine_settings (settings_of request))
+    (patterns_in request.mode words)
+
+-- what a request with these words writes for a haystack, and how the run ends then
 abbrev pub answer : Request → List (List ℕ) → List ℕ → Output
-answer request patterns haystack =
-    output_of request.mode (built_by (settings_of request) patterns) haystack
+answer request words haystack =
+    output_of request.mode (built_by (settings_of request) (patterns_in request.mode words))
+    (texts_in request.mode words) haystack
 
 -- `ends` is whether the reader's bytes are at their end where it gives none
-module _ (ends : Bool) (request : Request) (patterns : List (List ℕ)) (reader new_reader : Reading)
+module _ (ends : Bool) (request : Request) (words : List (List ℕ)) (reader new_reader : Reading)
     (writer new_writer : Writing) where
   -- no limit refused the searcher, nor was the request refused; the run has written what is asked for over all
   -- that the reader gave, and ends as that does
   pub record HasRun (outcome : Outcome) : Type 0 where
-    pub allowed : IsAllowed (rules_for (settings_of request)) (engine_settings (settings_of request)) patterns
+    pub allowed : IsBuildable request words
     pub served : request_refusal request ≡ None
     pub haystack : List ℕ
     pub reads : ReadsAll ends reader new_reader haystack
-    pub writes : WritesAll writer new_writer (answer request patterns haystack).text
-    pub outcome_is : outcome ≡ (answer request patterns haystack).outcome
+    pub writes : WritesAll writer new_writer (answer request words haystack).text
+    pub outcome_is : outcome ≡ (answer request words haystack).outcome
 
   -- the searcher was refused, by a limit of the list where one is passed; or no limit refused it, and the request
   -- was refused. Reader and writer are as they were
   abbrev pub FailsAtFirst : Fault → Type 0
   FailsAtFirst fault =
-      (IsRefusal (settings_of request) patterns fault
-      ⊎ (IsAllowed (rules_for (settings_of request)) (engine_settings (settings_of request)) patterns
+      (IsRefusal (settings_of request) (patterns_in request.mode words) fault
+      ⊎ (IsBuildable request words
       × (request_refusal request ≡ Some fault)))
       × (new_reader ≡ reader)
       × (new_writer ≡ writer)
@@ -85,7 +100,7 @@ module _ (ends : Bool) (request : Request) (patterns : List (List ℕ)) (reader 
   -- nothing written
   abbrev pub FailsReading : Fault → Type 0
   FailsReading fault =
-      IsAllowed (rules_for (settings_of request)) (engine_settings (settings_of request)) patterns
+      IsBuildable request words
       × (request_refusal request ≡ None)
       × FailsToRead reader new_reader fault
       × (new_writer ≡ writer)
@@ -93,11 +108,11 @@ module _ (ends : Bool) (request : Request) (patterns : List (List ℕ)) (reader 
   -- no limit refused the searcher, nor was the request refused; while the run wrote what is asked for over all that
   -- the reader gave it has ended with a fault
   pub record FailsPrinting (fault : Fault) : Type 0 where
-    pub allowed : IsAllowed (rules_for (settings_of request)) (engine_settings (settings_of request)) patterns
+    pub allowed : IsBuildable request words
     pub served : request_refusal request ≡ None
     pub haystack : List ℕ
     pub reads : ReadsAll ends reader new_reader haystack
-    pub writes : FailsToPrint writer new_writer (answer request patterns haystack).text fault
+    pub writes : FailsToAnswer request.mode writer new_writer (answer request words haystack).text fault
 
   -- the run has ended with a fault, for its cause: before the first read, while it read, or while it wrote
   abbrev pub HasFailed : Fault → Type 0

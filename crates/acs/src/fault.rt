@@ -9,7 +9,8 @@ use std::alloc::{AllocError, AllocFailed};
 /// Why a run fails.
 #[derive(Clone, Copy, PartialEq, Eq, Debug)]
 pub enum Fault {
-    /// The words name no mode, match kind and engine that the program has.
+    /// The words name no mode, match kind and engine that the program has, or a pattern that is to be replaced has
+    /// no text.
     Usage,
     /// A request for memory was refused.
     Memory,

@@ -1,4 +1,4 @@
-//! `acs MODE KIND ENGINE WORD..` prints where words occur in standard input.
+//! `acs MODE KIND ENGINE WORD..` prints where words occur in standard input, or exchanges them for others.
 #![tactic(auto)]
 
 use ac_search::{FromRead, IntoWrite};

@@ -1,4 +1,4 @@
-//! Lines for matches, written in large pieces.
+//! Lines for matches, written in large pieces, and replaced texts.
 ghost use Rattle.std.specs.Prelude.{◌≡◌, ◌++◌, ◌∷◌, [], List, MatchResult, OnOk, option_to_list, string_bytes};
 ghost use Rattle.ac_util.specs.Device.{Writing};
 ghost use Rattle.ac_util.specs.Occurrence.{Occurrence};
@@ -152,6 +152,19 @@ pub(crate) fn print_found<A: Allocator + Clone, W: Sink>(
     };
     let mut text = String::new(alloc);
     add_line(&mut text, &m)?;
-    write_all(writer, text.as_bytes())?;
+    print_text(text.as_bytes(), writer)
+}
+
+/// Writes a text that is whole. No byte of an empty one is written, but it counts as written.
+///
+/// # Errors
+/// `Io` where a write fails, `WriteZero` where it takes no byte. A beginning of the text was written then, and not
+/// all of it.
+pub(crate) fn print_text<W: Sink>(text: &[u8], writer: &mut W) -> Result<Outcome, Fault>
+    ensures { MatchResult result
+        (λ outcome. WritesAll (W.told writer.old) (W.told writer.new) text.now × (outcome ≡ Found))
+        (FailsToWrite (W.told writer.old) (W.told writer.new) text.now) }
+{
+    write_all(writer, text)?;
     Ok(Outcome::Found)
 }

@@ -1,9 +1,12 @@
 //! What the words after the program's name ask for.
-ghost use Rattle.std.specs.Prelude.{◌≡◌, IfOk};
+ghost use Rattle.std.specs.Prelude.{◌≡◌, Err, IfOk, MatchOption, Ok};
 ghost use Rattle.ac_util.specs.Borrowed.{bytes_of};
-ghost use Rattle.acs.specs.Requests.{engine_of, kind_of, mode_of, request_of};
+ghost use Rattle.ac_util.specs.Limits.{limit_refusal};
+ghost use Rattle.acs.specs.Faults.{fault_of};
+ghost use Rattle.acs.specs.Requests.{allows_count, engine_of, firsts, kind_of, mode_of, patterns_in, request_of, seconds};
 
-use ac_search::{AhoCorasickKind, MatchKind};
+use crate::fault::Fault;
+use ac_search::{AhoCorasickKind, MatchKind, PatternID, check_limits};
 use std::alloc::{AllocError, Allocator};
 
 /// What is printed.
@@ -15,9 +18,11 @@ pub(crate) enum Mode {
     Walk,
     /// All occurrences, also those that overlap.
     Overlap,
+    /// The input with each match exchanged for the text of its pattern.
+    Replace,
 }
 
-/// What is asked for, without the patterns.
+/// What is asked for, without the patterns and texts.
 #[derive(Clone, Copy)]
 pub(crate) struct Request {
     pub(crate) mode: Mode,
@@ -35,6 +40,9 @@ pub(crate) fn request_of(words: &[&str]) -> Option<Request>
     let mode = mode_of(words[0])?;
     let kind = kind_of(words[1])?;
     let engine = engine_of(words[2])?;
+    if !allows_count(mode, words.len() - 3) {
+        return None;
+    }
     Some(Request { mode, kind, engine })
 }
 
@@ -46,6 +54,7 @@ fn mode_of(word: &str) -> Option<Mode>
         "find" => Some(Mode::Find),
         "walk" => Some(Mode::Walk),
         "overlap" => Some(Mode::Overlap),
+        "replace" => Some(Mode::Replace),
         _ => None,
     }
 }
@@ -72,14 +81,102 @@ fn engine_of(word: &str) -> Option<AhoCorasickKind>
     }
 }
 
-/// Returns the bytes of the words.
+/// Returns whether a mode allows so many words behind the first three: for `replace` they stand in pairs.
+fn allows_count(mode: Mode, count: usize) -> bool
+    ensures { result ≡ allows_count mode count }
+{
+    match mode {
+        Mode::Find | Mode::Walk | Mode::Overlap => true,
+        Mode::Replace => count % 2 == 0,
+    }
+}
+
+/// Tests the limits of the patterns among the words, which takes no memory. A text has no limit.
+///
+/// # Errors
+/// `TooManyPatterns` or `PatternTooLong`, whichever limit is passed first.
+pub(crate) fn check_patterns(mode: Mode, words: &[&str]) -> Result<(), Fault>
+    ensures { MatchOption (limit_refusal (patterns_in mode (bytes_of words.now)))
+        (result ≡ Ok tt)
+        (λ refusal. result ≡ Err (fault_of refusal)) }
+{
+    match mode {
+        Mode::Find | Mode::Walk | Mode::Overlap => Ok(check_limits(words)?),
+        Mode::Replace => check_firsts(words),
+    }
+}
+
+/// Tests the limits of the first words of pairs.
+///
+/// # Errors
+/// As `check_patterns`.
+fn check_firsts(words: &[&str]) -> Result<(), Fault>
+    ensures { MatchOption (limit_refusal (firsts (bytes_of words.now)))
+        (result ≡ Ok tt)
+        (λ refusal. result ≡ Err (fault_of refusal)) }
+{
+    if words.len() / 2 > PatternID::LIMIT {
+        return Err(Fault::TooManyPatterns);
+    }
+    for pair in words.chunks_exact(2) {
+        check_limits(&pair[..1])?;
+    }
+    Ok(())
+}
+
+/// Returns the bytes of the patterns among the words.
 ///
 /// # Errors
 /// `AllocError` where a request for memory is refused.
 pub(crate) fn patterns_of<'w, A: Allocator>(
     alloc: A,
+    mode: Mode,
     words: &[&'w str],
 ) -> Result<Vec<&'w [u8], A>, AllocError>
+    ensures { IfOk result (λ patterns. bytes_of patterns.items ≡ patterns_in mode (bytes_of words.now)) }
+{
+    match mode {
+        Mode::Find | Mode::Walk | Mode::Overlap => all_of(alloc, words),
+        Mode::Replace => firsts_of(alloc, words),
+    }
+}
+
+/// Returns the bytes of the texts among the words, which stand behind their patterns.
+///
+/// # Errors
+/// As `patterns_of`.
+pub(crate) fn texts_of<'w, A: Allocator>(
+    alloc: A,
+    words: &[&'w str],
+) -> Result<Vec<&'w [u8], A>, AllocError>
+    ensures { IfOk result (λ texts. bytes_of texts.items ≡ seconds (bytes_of words.now)) }
+{
+    let mut texts = Vec::new(alloc);
+    for pair in words.chunks_exact(2) {
+        texts.push(pair[1].as_bytes())?;
+    }
+    Ok(texts)
+}
+
+/// Returns the bytes of the first words of pairs.
+///
+/// # Errors
+/// As `patterns_of`.
+fn firsts_of<'w, A: Allocator>(alloc: A, words: &[&'w str]) -> Result<Vec<&'w [u8], A>, AllocError>
+    ensures { IfOk result (λ patterns. bytes_of patterns.items ≡ firsts (bytes_of words.now)) }
+{
+    let mut patterns = Vec::new(alloc);
+    for pair in words.chunks_exact(2) {
+        patterns.push(pair[0].as_bytes())?;
+    }
+    Ok(patterns)
+}
+
+/// Returns the bytes of all words.
+///
+/// # Errors
+/// As `patterns_of`.
+fn all_of<'w, A: Allocator>(alloc: A, words: &[&'w str]) -> Result<Vec<&'w [u8], A>, AllocError>
     ensures { IfOk result (λ patterns. bytes_of patterns.items ≡ bytes_of words.now) }
 {
     let mut patterns = Vec::new(alloc);

@@ -5,33 +5,35 @@ ghost use Rattle.ac_search.specs.Searchers.{IsBuilt};
 ghost use Rattle.acs.specs.declared.fault.Fault;
 ghost use Rattle.acs.specs.Lines.{status_of};
 ghost use Rattle.acs.specs.Faults.{IsRefusal};
-ghost use Rattle.acs.specs.Requests.{patterns_of, request_of, request_refusal, settings_of};
+ghost use Rattle.acs.specs.Requests.{request_of, request_refusal, settings_of, words_behind};
 ghost use Rattle.acs.specs.Runs.{HasFailed, HasRun};
 
 use crate::fault::Fault;
 use crate::input::read_all;
-use crate::output::{print_found, print_listing, print_walk};
-use crate::request::{Mode, Request, patterns_of, request_of};
-use ac_search::{AhoCorasick, AhoCorasickBuilder, Input, MatchKind, Sink, Source, check_limits};
+use crate::output::{print_found, print_listing, print_text, print_walk};
+use crate::request::{Mode, Request, check_patterns, patterns_of, request_of, texts_of};
+use ac_search::{AhoCorasick, AhoCorasickBuilder, Input, MatchKind, Sink, Source};
 use std::alloc::Allocator;
 
 /// How a run ends that meets no fault.
 #[derive(Clone, Copy, PartialEq, Eq, Debug)]
 pub enum Outcome {
-    /// At least one line was written.
+    /// At least one line was written, or a whole replaced text.
     Found,
     /// No line was written.
     Nothing,
 }
 
 /// Searches all that a reader gives for what the words ask for, and writes a line for each match: its pattern's
-/// number, its start and its end.
+/// number, its start and its end. In the mode `replace` it writes all that the reader gave with each match exchanged
+/// for the text of its pattern, and nothing else.
 ///
 /// The words are tested first, then the searcher is built, then it is tested that the match kind allows the mode,
 /// then the input is read up to the first read that gives no byte, and only then something is written.
 ///
 /// # Errors
-/// - `Usage` exactly where the words ask for nothing that there is.
+/// - `Usage` exactly where the words ask for nothing that there is, or the last pattern of the mode `replace` has no
+///   text.
 /// - `TooManyPatterns` and `PatternTooLong` exactly where that limit of the list is passed.
 /// - `TooManyStates` only where the engine would need more states than there are numbers.
 /// - `OverlappingKind` exactly where a leftmost kind is asked for in the mode `overlap`, and no limit or want of
@@ -40,8 +42,9 @@ pub enum Outcome {
 /// - `Memory` where a request for memory was refused. A contract cannot count such requests; it says that none
 ///   of the causes above was there.
 ///
-/// Before the first read nothing is written, nor while the input is read. Where a run fails after that, a
-/// beginning of the lines was written, and not all of them.
+/// Before the first read nothing is written, nor while the input is read. Where a run fails after that, a beginning
+/// of the lines or of the replaced text was written, and not all of it; where memory was refused for a replaced text,
+/// nothing was.
 pub fn run<A: Allocator + Clone, R: Source, W: Sink>(
     alloc: A,
     words: &[&str],
@@ -52,9 +55,9 @@ pub fn run<A: Allocator + Clone, R: Source, W: Sink>(
         ((result ≡ Err Fault.Usage)
         × (R.told reader.new ≡ R.told reader.old) × (W.told writer.new ≡ W.told writer.old))
         (λ request. MatchResult result
-        (HasRun R.empty_means_end request (patterns_of (bytes_of words.now))
+        (HasRun R.empty_means_end request (words_behind (bytes_of words.now))
         (R.told reader.old) (R.told reader.new) (W.told writer.old) (W.told writer.new))
-        (HasFailed R.empty_means_end request (patterns_of (bytes_of words.now))
+        (HasFailed R.empty_means_end request (words_behind (bytes_of words.now))
         (R.told reader.old) (R.told reader.new) (W.told writer.old) (W.told writer.new))) }
 {
     let Some(request) = request_of(words) else {
@@ -63,7 +66,7 @@ pub fn run<A: Allocator + Clone, R: Source, W: Sink>(
     search(alloc, request, &words[3..], reader, writer)
 }
 
-/// Searches all that a reader gives for these words, and writes a line for each match.
+/// Searches all that a reader gives for what a request with these words asks for, and writes what it finds.
 ///
 /// # Errors
 /// As `run`, but for `Usage`.
@@ -80,8 +83,8 @@ fn search<A: Allocator + Clone, R: Source, W: Sink>(
         (HasFailed R.empty_means_end request (bytes_of words.now)
         (R.told reader.old) (R.told reader.new) (W.told writer.old) (W.told writer.new)) }
 {
-    check_limits(words)?;
-    let patterns = patterns_of(alloc.clone()?, words)?;
+    check_patterns(request.mode, words)?;
+    let patterns = patterns_of(alloc.clone()?, request.mode, words)?;
     let searcher = searcher_for(alloc.clone()?, request, &patterns)?;
     check_request(request)?;
     let haystack = read_all(alloc.clone()?, reader)?;
@@ -90,6 +93,11 @@ fn search<A: Allocator + Clone, R: Source, W: Sink>(
         Mode::Find => print_found(alloc, searcher.find(input), writer),
         Mode::Walk => print_walk(alloc, searcher.find_iter(input), writer),
         Mode::Overlap => print_listing(alloc, searcher.find_overlapping_iter(input), writer),
+        Mode::Replace => {
+            let texts = texts_of(alloc.clone()?, words)?;
+            let whole = searcher.replace_all_bytes(alloc, &haystack, &texts)?;
+            print_text(&whole, writer)
+        }
     }
 }
 
@@ -129,7 +137,7 @@ fn check_request(request: Request) -> Result<(), Fault>
     }
 }
 
-/// Returns the exit status: 0 where a line was written, 1 where none was, 2 after a fault.
+/// Returns the exit status: 0 where a line or a whole replaced text was written, 1 where no line was, 2 after a fault.
 pub fn status(outcome: &Result<Outcome, Fault>) -> u8
     ensures { result ≡ status_of outcome.now }
 {

@@ -173,10 +173,76 @@ const RUNS: &[Row] = &[
         "",
         Ok(Outcome::Nothing),
     ),
+    (
+        "replace append, appendage and app by the first",
+        &[
+            "replace",
+            "first",
+            "noncontiguous",
+            "append",
+            "x",
+            "appendage",
+            "y",
+            "app",
+            "z",
+        ],
+        "append the app to the appendage",
+        "x the z to the xage",
+        Ok(Outcome::Found),
+    ),
+    (
+        "replace no word",
+        &["replace", "std", "noncontiguous"],
+        "ushers\n",
+        "ushers\n",
+        Ok(Outcome::Found),
+    ),
+    (
+        "replace no word in nothing",
+        &["replace", "std", "noncontiguous"],
+        "",
+        "",
+        Ok(Outcome::Found),
+    ),
+    (
+        "replace what does not occur",
+        &["replace", "longest", "noncontiguous", "she", "he"],
+        "h, e and s",
+        "h, e and s",
+        Ok(Outcome::Found),
+    ),
+    (
+        "replace an empty word",
+        &["replace", "std", "noncontiguous", "", "-"],
+        "ab",
+        "-a-b-",
+        Ok(Outcome::Found),
+    ),
+    (
+        "replace by nothing",
+        &["replace", "std", "noncontiguous", "she", ""],
+        "ushers",
+        "urs",
+        Ok(Outcome::Found),
+    ),
     ("no word", &[], "ushers", "", Err(Fault::Usage)),
     (
         "two words",
         &["walk", "std"],
+        "ushers",
+        "",
+        Err(Fault::Usage),
+    ),
+    (
+        "replace a word by no text",
+        &["replace", "std", "noncontiguous", "a"],
+        "ushers",
+        "",
+        Err(Fault::Usage),
+    ),
+    (
+        "replace two words, and a third by no text",
+        &["replace", "std", "noncontiguous", "a", "b", "c"],
         "ushers",
         "",
         Err(Fault::Usage),
@@ -232,6 +298,15 @@ const WORDS: &[&str] = &["walk", "std", "noncontiguous", "ab", "c"];
 const INPUT: &[u8] = b"abcxab";
 
 const LINES: &[u8] = b"0 0 2\n1 2 3\n0 4 6\n";
+
+/// The words of a walk and of a replacement over this input, and what each writes.
+const WRITTEN: &[(&[&str], &[u8])] = &[
+    (WORDS, LINES),
+    (
+        &["replace", "std", "noncontiguous", "ab", "-", "c", "+"],
+        b"-+x-",
+    ),
+];
 
 /// Gives its bytes one a call, and behind them the end or a failure.
 #[derive(Drop)]
@@ -322,16 +397,18 @@ fn endings_have_a_status_and_a_line(rt: HostRuntime) {
 
 #[test]
 fn a_failed_read_is_told(rt: HostRuntime) -> Result<(), Fail> {
-    for k in 0..INPUT.len() + 1 {
-        println!(rt; "a read fails behind {k} bytes")?;
-        let mut reader = FromRead::new(Drops {
-            left: &INPUT[..k],
-            fails: true,
-        });
-        let mut writer = Written::new(rt.alloc());
-        let answer = run(rt.alloc(), WORDS, &mut reader, &mut writer);
-        assert_eq!(rt; answer, Err(Fault::Io), "behind {k} bytes");
-        assert!(rt; writer.bytes().is_empty(), "behind {k} bytes");
+    for &(words, _) in WRITTEN {
+        for k in 0..INPUT.len() + 1 {
+            println!(rt; "{}: a read fails behind {k} bytes", words[0])?;
+            let mut reader = FromRead::new(Drops {
+                left: &INPUT[..k],
+                fails: true,
+            });
+            let mut writer = Written::new(rt.alloc());
+            let answer = run(rt.alloc(), words, &mut reader, &mut writer);
+            assert_eq!(rt; answer, Err(Fault::Io), "behind {k} bytes");
+            assert!(rt; writer.bytes().is_empty(), "behind {k} bytes");
+        }
     }
     Ok(())
 }
@@ -377,21 +454,22 @@ fn overlap_by_a_leftmost_kind_reads_and_writes_nothing(rt: HostRuntime) -> Resul
 
 #[test]
 fn a_failed_write_is_told(rt: HostRuntime) -> Result<(), Fail> {
-    let rows = [(true, Fault::Io), (false, Fault::WriteZero)];
-    for (fails, fault) in rows {
-        for room in 0..LINES.len() {
-            println!(rt; "{fault:?} behind {room} bytes")?;
-            let mut held = Vec::new(rt.alloc());
-            let mut reader = Bytes::new(INPUT);
-            let mut writer = IntoWrite::new(Narrow {
-                held: &mut held,
-                room,
-                fails,
-            });
-            let answer = run(rt.alloc(), WORDS, &mut reader, &mut writer);
-            drop(writer);
-            assert_eq!(rt; answer, Err(fault), "behind {room} bytes");
-            assert_eq!(rt; held.as_slice(), &LINES[..room], "behind {room} bytes");
+    for &(words, wanted) in WRITTEN {
+        for room in 0..wanted.len() {
+            for (fails, fault) in [(true, Fault::Io), (false, Fault::WriteZero)] {
+                println!(rt; "{}: {fault:?} behind {room} bytes", words[0])?;
+                let mut held = Vec::new(rt.alloc());
+                let mut reader = Bytes::new(INPUT);
+                let mut writer = IntoWrite::new(Narrow {
+                    held: &mut held,
+                    room,
+                    fails,
+                });
+                let answer = run(rt.alloc(), words, &mut reader, &mut writer);
+                drop(writer);
+                assert_eq!(rt; answer, Err(fault), "behind {room} bytes");
+                assert_eq!(rt; held.as_slice(), &wanted[..room], "behind {room} bytes");
+            }
         }
     }
     Ok(())
@@ -399,20 +477,41 @@ fn a_failed_write_is_told(rt: HostRuntime) -> Result<(), Fail> {
 
 #[test]
 fn short_reads_and_writes_change_nothing(rt: HostRuntime) -> Result<(), Fail> {
+    for &(words, wanted) in WRITTEN {
+        println!(rt; "{}", words[0])?;
+        let mut held = Vec::new(rt.alloc());
+        let mut reader = FromRead::new(Drops {
+            left: INPUT,
+            fails: false,
+        });
+        let mut writer = IntoWrite::new(Narrow {
+            held: &mut held,
+            room: wanted.len(),
+            fails: true,
+        });
+        let answer = run(rt.alloc(), words, &mut reader, &mut writer);
+        drop(writer);
+        assert_eq!(rt; answer, Ok(Outcome::Found));
+        assert_eq!(rt; held.as_slice(), wanted);
+    }
+    Ok(())
+}
+
+/// A writer that fails isn't asked to write nothing.
+#[test]
+fn an_empty_text_is_written_by_no_call(rt: HostRuntime) -> Result<(), Fail> {
     let mut held = Vec::new(rt.alloc());
-    let mut reader = FromRead::new(Drops {
-        left: INPUT,
-        fails: false,
-    });
+    let mut reader = Bytes::new(b"abab".as_slice());
     let mut writer = IntoWrite::new(Narrow {
         held: &mut held,
-        room: LINES.len(),
+        room: 0,
         fails: true,
     });
-    let answer = run(rt.alloc(), WORDS, &mut reader, &mut writer);
+    let words = ["replace", "std", "noncontiguous", "ab", ""];
+    let answer = run(rt.alloc(), &words, &mut reader, &mut writer);
     drop(writer);
     assert_eq!(rt; answer, Ok(Outcome::Found));
-    assert_eq!(rt; held.as_slice(), LINES);
+    assert!(rt; held.is_empty());
     Ok(())
 }
 

@@ -1,0 +1,33 @@
+-- Words in pairs: how the first of them, and the second, are gathered pair by pair.
+use Rattle.std.proofs.Common.{◌≡◌, ℕ, suc, List, [], ◌∷◌, ◌++◌, length, get_or, ap, refl, sym, ◌∙◌, arith}
+use Rattle.std.proofs.lemmas.List.{append_assoc, map-append}
+use Rattle.std.specs.Borrow.{Bor}
+use Rattle.ac_util.specs.Borrowed.{bytes_of}
+use Rattle.acs.specs.Requests.{firsts, seconds}
+
+-- there are as many second words as first ones
+pub length-seconds : (words : List (List ℕ)) → length (seconds words) ≡ length (firsts words)
+length-seconds [] = refl
+length-seconds (first ∷ []) = refl
+length-seconds (first ∷ second ∷ words) = ap (λ (n : ℕ). suc n) (length-seconds words)
+
+-- the first word of a pair stands before those of the later pairs
+pub firsts-pair : (words pair later : List (Bor (List ℕ))) (none : Bor (List ℕ)) (text : List ℕ)
+    → words ≡ pair ++ later → length pair ≡ 2 → text ≡ (get_or pair 0 none).now
+    → firsts (bytes_of words) ≡ text ∷ firsts (bytes_of later)
+firsts-pair words [] later none text parted two is = absurd (omega arith)
+firsts-pair words (first ∷ []) later none text parted two is = absurd (omega arith)
+firsts-pair words (first ∷ second ∷ []) later none text parted two is =
+    ap (λ (ws : List (Bor (List ℕ))). firsts (bytes_of ws)) parted
+    ∙ ap (λ (t : List ℕ). t ∷ firsts (bytes_of later)) (sym is)
+firsts-pair words (first ∷ second ∷ third ∷ pair) later none text parted two is = absurd (omega arith)
+
+-- one more word is gathered of all that there are
+pub gathered-more : (old new : List (Bor (List ℕ))) (word : Bor (List ℕ)) (rest later all : List (List ℕ))
+    → new ≡ old ++ word ∷ [] → rest ≡ word.now ∷ later → bytes_of old ++ rest ≡ all → bytes_of new ++ later ≡ all
+gathered-more old new word rest later all is first so_far =
+    ap (λ (ws : List (Bor (List ℕ))). bytes_of ws ++ later) is
+    ∙ ap (λ (xs : List (List ℕ)). xs ++ later) (map-append (λ (w : Bor (List ℕ)). w.now) old (word ∷ []))
+    ∙ append_assoc (bytes_of old) (word.now ∷ []) later
+    ∙ ap (λ (xs : List (List ℕ)). bytes_of old ++ xs) (sym first)
+    ∙ so_far
