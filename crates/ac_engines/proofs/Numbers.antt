@@ -1,0 +1,103 @@
+-- What the number of a state tells of the node that it stands for.
+use Rattle.std.proofs.Common.{◌≡◌, ◌≢◌, ◌⊎◌, inl, inr, ℕ, ◌+◌, ◌*◌, ◌^◌, ◌/◌, ◌<◌, ◌≤◌, Bool, true, false, List, [], ◌∷◌, ◌++◌, refl, sym, ap, ◌∙◌, arith, length, slice_index_or, Some, None}
+use Rattle.std.proofs.lemmas.Bool.{cases_lt}
+use Rattle.std.proofs.lemmas.Nat.{pow_pos}
+use Rattle.ac_util.specs.declared.search.Anchored.{Anchored}
+use Rattle.ac_util.specs.declared.search.StartKind.{StartKind}
+use Rattle.ac_util.specs.declared.search.StartKind.TheVariants.{Anchored as AnchoredAlone, Both, Unanchored}
+use Rattle.ac_util.specs.declared.search.Anchored.TheVariants.{No, Yes}
+use Rattle.ac_util.specs.declared.search.MatchKind.{MatchKind}
+use Rattle.ac_util.specs.Node.{Node, first_node, is_node, last_start, starting_by, step, suffixes}
+use Rattle.ac_util.specs.Classes.{IsNode, class_at}
+use Rattle.ac_util.specs.Sameness.{plain_byte}
+use Rattle.ac_automaton.specs.Automata.{plain_of, step_of}
+use Rattle.ac_engines.specs.Rows.{HasMatchesAmong, IsTable, StandsFor, Table, behind, list_at, stride_of}
+
+-- the first of some strings that leads to a node is one
+first_node-cons : (kind : MatchKind) (patterns : List (List ℕ)) (w : List ℕ) (ws : List (List ℕ)) (t : Bool)
+    → is_node kind patterns w ≡ t → IsNode kind patterns (first_node kind patterns ws)
+    → IsNode kind patterns (first_node kind patterns (w ∷ ws))
+first_node-cons kind patterns w ws true e rest = rw e e
+first_node-cons kind patterns w ws false e rest = rw e rest
+
+first_node-node : (kind : MatchKind) (patterns : List (List ℕ)) (ws : List (List ℕ))
+    → IsNode kind patterns (first_node kind patterns ws)
+first_node-node kind patterns [] = tt
+first_node-node kind patterns (w ∷ ws) =
+    first_node-cons kind patterns w ws (is_node kind patterns w) refl (first_node-node kind patterns ws)
+
+-- a step leads to a node
+pub step-node : (kind : MatchKind) (patterns : List (List ℕ)) (anchored : Anchored) (w : List ℕ) (b : ℕ)
+    → IsNode kind patterns (step kind patterns anchored (Some w) b)
+step-node kind patterns No w b =
+    first_node-node kind patterns (starting_by (last_start kind patterns w) (suffixes (w ++ b ∷ [])))
+step-node kind patterns Yes w b = first_node-node kind patterns ((w ++ b ∷ []) ∷ [])
+
+-- an anchored row stands at most one row behind
+pub behind-small : (start_kind : StartKind) (anchored : Anchored) (stride : ℕ)
+    → behind start_kind anchored stride ≤ stride
+behind-small Both No stride = omega arith
+behind-small Both Yes stride = omega arith
+behind-small Unanchored anchored stride = omega arith
+behind-small AnchoredAlone anchored stride = omega arith
+
+-- a row has an entry at least
+pub positive : (t : Table) → 0 < stride_of t
+positive t = pow_pos t.stride2
+
+module _ (t : Table) (anchored : Anchored) where
+  -- the row of a state lies in the table
+  pub row-within : (s : ℕ) (u : Node) (b : ℕ) → StandsFor t anchored s u → b < 256
+      → s + class_at t.classes b < length t.entries
+  row-within s None b h byte =
+      let room = h.table.within anchored [] refl in
+      let narrow = h.table.narrow b byte in
+      let number = h.number in
+      omega arith
+  row-within s (Some w) b h byte =
+      let room = h.table.within anchored w h.node in
+      let narrow = h.table.narrow b byte in
+      let number = h.number in
+      omega arith
+
+  -- an entry is the state after the step
+  pub stands-step : (s r : ℕ) (u : Node) (b : ℕ) → StandsFor t anchored s u → b < 256
+      → r ≡ slice_index_or t.entries (s + class_at t.classes b) 0 → StandsFor t anchored r (step_of t.built anchored u b)
+  stands-step s r None b h byte e = record {
+    place = h.place;
+    table = h.table;
+    supported = h.supported;
+    node = tt;
+    number = e ∙ ap (λ n. slice_index_or t.entries (n + class_at t.classes b) 0) h.number ∙ h.table.dead b byte;
+  }
+  stands-step s r (Some w) b h byte e = record {
+    place = h.place;
+    table = h.table;
+    supported = h.supported;
+    node = step-node t.built.kind (plain_of t.built) anchored w (plain_byte t.built.fold b);
+    number = e ∙ ap (λ n. slice_index_or t.entries (n + class_at t.classes b) 0) h.number
+        ∙ h.table.steps anchored w b h.supported h.node byte;
+  }
+
+  -- the dead state and the starts stand before the end of the match states
+  pub special-before : (s first end : ℕ) (u : Node) → HasMatchesAmong t first end → StandsFor t anchored s u
+      → (u ≡ None) ⊎ (u ≡ Some []) ⊎ (list_at t s ≢ []) → s < end
+  special-before s first end None among h special =
+      let starts = among.starts in let number = h.number in let wide = positive t in omega arith
+  special-before s first end (Some []) among h special =
+      let starts = among.starts in
+      let number = h.number in
+      let wide = positive t in
+      let start = h.table.start in
+      let near = behind-small t.built.start_kind anchored (stride_of t) in
+      omega arith
+  special-before s first end (Some (x ∷ w)) among h special = elim special [
+    | inl dead ↦ absurd cc
+    | inr others ↦ elim others [
+      | inl start ↦ absurd cc
+      | inr listed ↦ elim (cases_lt s end) [
+        | inl before ↦ before
+        | inr behind ↦ absurd (listed (among.late s behind))
+      ]
+    ]
+  ]

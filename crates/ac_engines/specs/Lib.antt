@@ -1,0 +1,2 @@
+-- What is seen of the engines that are built from a trie with failure links.
+pub mod Rows

@@ -1,0 +1,144 @@
+-- How the rows of a table of steps stand for nodes.
+use Rattle.std.specs.Prelude.{◌≡◌, ◌≢◌, ℕ, zero, suc, ◌+◌, ◌*◌, ◌^◌, ◌/◌, ◌<◌, ◌≤◌, Bool, List, [], length, flat_map, slice_index_or, Option, Some, None}
+use Rattle.ac_util.specs.declared.search.Anchored.{Anchored}
+use Rattle.ac_util.specs.declared.search.Anchored.TheVariants.{No, Yes}
+use Rattle.ac_util.specs.declared.search.StartKind.{StartKind}
+use Rattle.ac_util.specs.declared.search.StartKind.TheVariants.{Anchored as AnchoredAlone, Both, Unanchored}
+use Rattle.ac_util.specs.declared.search.MatchKind.{MatchKind}
+use Rattle.ac_util.specs.Built.{Built}
+use Rattle.std.proofs.Common.{◌++◌, ◌∷◌, refl, sym, ap, ◌∙◌}
+use Rattle.std.proofs.lemmas.List.{append-nil}
+use Rattle.ac_util.specs.Matches.{equal_to, matches}
+use Rattle.ac_util.proofs.Found.{matches-failure}
+use Rattle.ac_automaton.specs.Automata.{Lists}
+use Rattle.ac_util.specs.Classes.{IsNode, class_at}
+use Rattle.ac_util.specs.Node.{Node, failure, last_start, starting_by}
+use Rattle.ac_util.specs.Pieces.{pieces}
+use Rattle.ac_util.specs.Refusal.{start_refusal}
+use Rattle.ac_automaton.specs.Automata.{matches_of, plain_of, step_of}
+
+-- what a table was built from, the class of each byte, the exponent of the length of a row, the entries of all rows,
+-- and the match list of each row up to the last that has one
+pub record Table : Type 0 where
+  pub built : Built
+  pub classes : List ℕ
+  pub stride2 : ℕ
+  pub entries : List ℕ
+  pub lists : List (List ℕ)
+
+-- how many entries a row has
+abbrev pub stride_of : Table → ℕ
+stride_of t = 2 ^ t.stride2
+
+-- what stands in the row of a state's number at the class of a byte
+abbrev pub entry : List ℕ → List ℕ → ℕ → ℕ → ℕ
+entry classes entries s b = slice_index_or entries (s + class_at classes b) 0
+
+-- the match list of a state
+abbrev pub list_at : Table → ℕ → List ℕ
+list_at t s = slice_index_or t.lists (s / stride_of t) []
+
+-- how far the anchored row of a node stands behind its unanchored one: a row where there are both, else it is the
+-- only one
+abbrev pub behind : StartKind → Anchored → ℕ → ℕ
+behind Both No stride = 0
+behind Both Yes stride = stride
+behind Unanchored anchored stride = 0
+behind AnchoredAlone anchored stride = 0
+
+-- the state of a node, where the first row of each string's node is known; the dead node is 0
+abbrev pub number_of : (List ℕ → ℕ) → ℕ → Node → ℕ
+number_of place shift None = 0
+number_of place shift (Some w) = place w + shift
+
+-- the rows stand for the nodes: each node has a row in front of which whole rows stand, and from it each class of
+-- bytes leads to the row of the node after the step. Row 0 is the dead node's, the row after it is no node's, and
+-- then come those of the start. Each row lists the matches of its node
+pub record IsTable (t : Table) (place : List ℕ → ℕ) : Type 0 where
+  pub narrow : (b : ℕ) → b < 256 → class_at t.classes b < stride_of t
+  pub dead : (b : ℕ) → b < 256 → entry t.classes t.entries 0 b ≡ 0
+  pub unlisted : list_at t 0 ≡ []
+  pub start : place [] ≡ 2 * stride_of t
+  pub inner : (w : List ℕ) → IsNode t.built.kind (plain_of t.built) (Some w) → w ≢ [] → 4 * stride_of t ≤ place w
+  pub within : (anchored : Anchored) (w : List ℕ) → IsNode t.built.kind (plain_of t.built) (Some w)
+      → place w + behind t.built.start_kind anchored (stride_of t) + stride_of t ≤ length t.entries
+  pub steps : (anchored : Anchored) (w : List ℕ) (b : ℕ) → start_refusal t.built.start_kind anchored ≡ None
+      → IsNode t.built.kind (plain_of t.built) (Some w) → b < 256
+      → entry t.classes t.entries (place w + behind t.built.start_kind anchored (stride_of t)) b
+      ≡ number_of place (behind t.built.start_kind anchored (stride_of t)) (step_of t.built anchored (Some w) b)
+  pub lists : (anchored : Anchored) (w : List ℕ) → start_refusal t.built.start_kind anchored ≡ None
+      → IsNode t.built.kind (plain_of t.built) (Some w)
+      → list_at t (place w + behind t.built.start_kind anchored (stride_of t)) ≡ matches_of t.built anchored (Some w)
+
+-- the states that have matches stand from one number up to another, behind which neither the dead state nor a start
+-- stands
+pub record HasMatchesAmong (t : Table) (first end : ℕ) : Type 0 where
+  pub early : (s : ℕ) → s < first → list_at t s ≡ []
+  pub late : (s : ℕ) → end ≤ s → list_at t s ≡ []
+  pub starts : 4 * stride_of t ≤ end
+
+-- a table over these patterns
+abbrev pub table_of : List (List ℕ) → Bool → MatchKind → StartKind → List ℕ → ℕ → List ℕ → List ℕ → List ℕ → Table
+table_of patterns fold kind start_kind classes stride2 entries listed bounds = record {
+  built = record { patterns = patterns; fold = fold; kind = kind; start_kind = start_kind };
+  classes = classes;
+  stride2 = stride2;
+  entries = entries;
+  lists = pieces listed bounds;
+}
+
+-- the state at which a search with this anchoring begins, or the dead one where there is none
+abbrev pub start_number : StartKind → Anchored → ℕ → ℕ
+start_number Both No stride = 2 * stride
+start_number Both Yes stride = 3 * stride
+start_number Unanchored No stride = 2 * stride
+start_number Unanchored Yes stride = 0
+start_number AnchoredAlone No stride = 0
+start_number AnchoredAlone Yes stride = 2 * stride
+
+-- the number stands for the node, in a search with this anchoring
+pub record StandsFor (t : Table) (anchored : Anchored) (s : ℕ) (u : Node) : Type 0 where
+  pub place : List ℕ → ℕ
+  pub table : IsTable t place
+  pub supported : start_refusal t.built.start_kind anchored ≡ None
+  pub node : IsNode t.built.kind (plain_of t.built) u
+  pub number : s ≡ number_of place (behind t.built.start_kind anchored (stride_of t)) u
+
+-- the matches of a node that count in an anchored search stand in front of all its matches
+record EqualFirst (kind : MatchKind) (patterns : List (List ℕ)) (w : List ℕ) : Type 0 where
+  others : List ℕ
+  first : matches kind patterns No (Some w) ≡ equal_to kind patterns w ++ others
+
+-- the empty string alone begins where nothing was read
+only-empty : (f : List ℕ → List ℕ) (last : Option ℕ) → flat_map f (starting_by last ([] ∷ [])) ≡ f [] ++ []
+only-empty f None = refl
+only-empty f (Some zero) = refl
+only-empty f (Some (suc c)) = refl
+
+equal-first : (kind : MatchKind) (patterns : List (List ℕ)) (w : List ℕ) → EqualFirst kind patterns w
+equal-first kind patterns [] = record {
+  others = [];
+  first = only-empty (equal_to kind patterns) (last_start kind patterns []);
+}
+equal-first kind patterns (x ∷ w) = record {
+  others = matches kind patterns No (failure kind patterns (x ∷ w));
+  first = matches-failure kind patterns x w;
+}
+
+-- a state lists the matches of its node, all that an anchored search may want
+pub stands-lists : (t : Table) (anchored : Anchored) (s : ℕ) (u : Node)
+    → StandsFor t anchored s u → Lists t.built anchored u (list_at t s)
+stands-lists t No s None h = ap (list_at t) h.number ∙ h.table.unlisted
+stands-lists t No s (Some w) h = ap (list_at t) h.number ∙ h.table.lists No w h.supported h.node
+stands-lists t Yes s None h =
+    let none = ap (list_at t) h.number ∙ h.table.unlisted in
+    record { passed_over = []; first = none; left_out = []; front = sym (append-nil _ ∙ none) }
+stands-lists t Yes s (Some w) h =
+    let own = ap (list_at t) h.number ∙ h.table.lists Yes w h.supported h.node in
+    let all = equal-first t.built.kind (plain_of t.built) w in
+    record {
+      passed_over = [];
+      first = own ∙ sym (append-nil _);
+      left_out = all.others;
+      front = all.first ∙ ap (λ front. front ++ all.others) (sym own);
+    }

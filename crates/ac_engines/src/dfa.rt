@@ -1,0 +1,239 @@
+//! A table of steps: one look for each byte.
+ghost use Rattle.std.specs.Prelude.{◌≡◌, ℕ, ◌+◌, ◌<◌, false, List, length, slice_index_or};
+ghost use Rattle.std.proofs.Common.{inl, refl};
+ghost use Rattle.ac_util.specs.Node.{Node};
+ghost use Rattle.ac_engines.specs.Rows.{HasMatchesAmong, IsTable, StandsFor, list_at};
+ghost use Rattle.ac_engines.specs.Rows.{stands-lists};
+
+use ac_automaton::automaton::{Automaton, MatchRest};
+use ac_util::alphabet::ByteClasses;
+use ac_util::error::MatchError;
+use ac_util::looks::Looks;
+use ac_util::patterns::Patterns;
+use ac_util::prefilter::Prefilter;
+use ac_util::primitives::{PatternID, StateID};
+use ac_util::search::{Anchored, MatchKind, StartKind};
+use lists::MatchLists;
+use std::alloc::{Allocator, Global};
+use std::marker::Model;
+use std::mem::size_of;
+use std::ops::Range;
+use std::rc::Rc;
+
+mod lists;
+
+/// The number of the dead state, from which nothing is found any more.
+const DEAD: usize = 0;
+
+/// An automaton that looks up where each byte leads: the fastest to search with, and the largest.
+///
+/// Its table has a row for each state, and in it an entry for each class of bytes: the state where a byte of that
+/// class leads, with all failure links followed when it was built. So a search looks at one state for each byte. A
+/// state's number is that of the first entry of its row. First stand the rows of the dead state and of the starts,
+/// then those of match states, then the others: so one compare or two tell what a search has to know of a state.
+/// This ports `dfa::DFA`.
+#[derive(Drop)]
+pub struct DFA<A: Allocator = Global> {
+    patterns: Rc<Patterns<A>, A>,
+    kind: MatchKind,
+    fold: bool,
+    start_kind: StartKind,
+    shortest: usize,
+    longest: usize,
+    classes: ByteClasses,
+    /// A row has two to this power entries.
+    stride2: u32,
+    table: Vec<StateID, A>,
+    lists: MatchLists<A>,
+    /// The unanchored start, or the dead state where there is none.
+    start: StateID,
+    /// The anchored start, or the dead state where there is none.
+    anchored_start: StateID,
+    /// No state before this number has matches.
+    first_match: usize,
+    /// Nor from this one on.
+    match_end: usize,
+}
+
+impl<A: Allocator> Model for DFA<A> {
+    ghost use Rattle.std.specs.Prelude.{◌≡◌, ◌≤◌, ◌^◌, List, ℕ, length};
+    ghost use Rattle.ac_util.specs.declared.search.Anchored.TheVariants.{No, Yes};
+    ghost use Rattle.ac_util.specs.Pieces.{AreBounds};
+    ghost use Rattle.ac_util.specs.Sizes.{longest_len, shortest_len};
+    ghost use Rattle.ac_engines.specs.Rows.{HasMatchesAmong, IsTable, Table, start_number, table_of};
+
+    ghost Value = { Table };
+
+    ghost view = { λ d. table_of d.patterns.value d.fold d.kind d.start_kind d.classes d.stride2 d.table.items
+        d.lists.listed.items d.lists.bounds.items };
+
+    ghost invariant = { λ d. record {
+      table : (place : List ℕ → ℕ) × IsTable (table_of d.patterns.value d.fold d.kind d.start_kind d.classes d.stride2
+          d.table.items d.lists.listed.items d.lists.bounds.items) place;
+      shortest : d.shortest ≡ shortest_len d.patterns.value;
+      longest : d.longest ≡ longest_len d.patterns.value;
+      few : d.stride2 ≤ 8;
+      bounds : AreBounds d.lists.bounds.items (length d.lists.listed.items);
+      start : d.start ≡ start_number d.start_kind No (2 ^ d.stride2);
+      anchored_start : d.anchored_start ≡ start_number d.start_kind Yes (2 ^ d.stride2);
+      among : HasMatchesAmong (table_of d.patterns.value d.fold d.kind d.start_kind d.classes d.stride2 d.table.items
+          d.lists.listed.items d.lists.bounds.items) d.first_match d.match_end;
+    } };
+}
+
+impl<A: Allocator> DFA<A> {
+    /// Returns the entries, which are those of a table.
+    #[inline]
+    fn entries(&self) -> &[StateID]
+        ensures value { result.now ≡ self.now.entries }
+        ensures table { (place : List ℕ → ℕ) × IsTable self.now place }
+    {
+        &self.table
+    }
+
+    /// Returns the patterns.
+    #[inline]
+    fn patterns(&self) -> &Patterns<A>
+        ensures { result.now ≡ self.now.built.patterns }
+    {
+        self.patterns.as_ref()
+    }
+
+    /// Returns between which numbers the states stand that have matches. In the table of both starts there are others
+    /// among them: rows of anchored searches where only the node's suffixes match.
+    #[inline]
+    fn match_numbers(&self) -> Range<usize>
+        ensures { HasMatchesAmong self.now result.start result.end }
+    {
+        self.first_match..self.match_end
+    }
+
+    /// Returns the match list of a state.
+    #[inline]
+    fn list(&self, sid: StateID) -> &[PatternID]
+        ensures { result.now ≡ list_at self.now sid }
+    {
+        self.lists.get(sid.as_usize() >> self.stride2)
+    }
+}
+
+impl<A: Allocator> Automaton for DFA<A> {
+    const LOOKS: usize = 1;
+
+    ghost LOOKS = { 1 };
+
+    ghost built = { λ d. d.built };
+
+    ghost stands = { λ d anchored s u. StandsFor d anchored s u };
+
+    ghost listed = { λ d s. list_at d s };
+
+    ghost filters = { λ d. false };
+
+    ghost one_or_two = { inl refl };
+
+    ghost lists = { stands-lists };
+
+    fn start_state(&self, anchored: Anchored) -> Result<StateID, MatchError> {
+        // Contracts learn here which state is the start.
+        let _entries = self.entries();
+        let (start, refusal) = match anchored {
+            Anchored::No => (self.start, MatchError::InvalidInputUnanchored),
+            Anchored::Yes => (self.anchored_start, MatchError::InvalidInputAnchored),
+        };
+        if start.as_usize() == DEAD {
+            return Err(refusal);
+        }
+        Ok(start)
+    }
+
+    #[inline]
+    fn next_state(&self, _anchored: Anchored, sid: StateID, byte: u8, looks: &mut Looks) -> StateID {
+        looks.look();
+        target(self.entries(), self.classes.get(byte) as usize, sid)
+    }
+
+    #[inline]
+    fn is_special(&self, sid: StateID) -> bool {
+        sid.as_usize() < self.match_numbers().end
+    }
+
+    #[inline]
+    fn is_dead(&self, sid: StateID) -> bool {
+        sid.as_usize() == DEAD
+    }
+
+    #[inline]
+    fn is_match(&self, sid: StateID) -> bool {
+        self.match_numbers().contains(&sid.as_usize()) && !self.list(sid).is_empty()
+    }
+
+    #[inline]
+    fn is_start(&self, sid: StateID) -> bool {
+        sid.as_usize() != DEAD && (sid == self.start || sid == self.anchored_start)
+    }
+
+    #[inline]
+    fn match_len(&self, sid: StateID) -> usize {
+        self.list(sid).len()
+    }
+
+    #[inline]
+    fn match_pattern(&self, sid: StateID, index: usize) -> PatternID {
+        self.list(sid)[index]
+    }
+
+    #[inline]
+    fn take_match(&self, rest: MatchRest) -> Option<(PatternID, MatchRest)> {
+        let pattern = *self.list(rest.state).get(rest.index)?;
+        let rest = MatchRest {
+            state: rest.state,
+            index: rest.index + 1,
+        };
+        Some((pattern, rest))
+    }
+
+    fn match_kind(&self) -> MatchKind {
+        self.kind
+    }
+
+    fn patterns_len(&self) -> usize {
+        self.patterns().len()
+    }
+
+    #[inline]
+    fn pattern_len(&self, pattern: PatternID) -> usize {
+        self.patterns().get(pattern.as_usize()).len()
+    }
+
+    fn min_pattern_len(&self) -> usize {
+        self.shortest
+    }
+
+    fn max_pattern_len(&self) -> usize {
+        self.longest
+    }
+
+    fn memory_usage(&self) -> usize {
+        let table = self.table.len().saturating_mul(size_of::<StateID>());
+        table
+            .saturating_add(self.lists.memory_usage())
+            .saturating_add(self.patterns().memory_usage())
+    }
+
+    fn prefilter(&self) -> Option<&Prefilter> {
+        None
+    }
+}
+
+/// Returns what stands in the row of a state at a class.
+///
+/// The column of the class is found first, since it hangs on the byte alone: then one load leads from state to state.
+#[inline]
+fn target(entries: &[StateID], class: usize, sid: StateID) -> StateID
+    requires within { sid + class < length entries.now }
+    ensures { result ≡ slice_index_or entries.now (sid + class) 0 }
+{
+    let column = &entries[class..];
+    column[sid.as_usize()]
+}
