@@ -13,19 +13,19 @@ use ac_util::primitives::{PatternID, StateID};
 use ac_util::search::Anchored;
 
 /// The number of the dead state, from which nothing is found any more.
-pub(crate) const DEAD: usize = 0;
+pub const DEAD: usize = 0;
 
 /// The number of the state that no search reaches.
-pub(crate) const FAIL: usize = 1;
+pub const FAIL: usize = 1;
 
 /// The number of the state at which an unanchored search starts.
-pub(crate) const START: usize = 2;
+pub const START: usize = 2;
 
 /// The number of the state at which an anchored search starts.
-pub(crate) const ANCHORED_START: usize = 3;
+pub const ANCHORED_START: usize = 3;
 
 /// The number of the first of the other states, which follow breadth first.
-pub(crate) const FIRST_INNER: usize = 4;
+pub const FIRST_INNER: usize = 4;
 
 /// A byte that leads on from a state, and the state that it leads to.
 #[derive(Clone, Copy)]
