@@ -1,2 +1,6 @@
-pub mod Ranges
+pub mod Filled
+pub mod Numbered
 pub mod Numbers
+pub mod Places
+pub mod Ranges
+pub mod Setting

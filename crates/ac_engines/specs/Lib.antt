@@ -1,2 +1,3 @@
 -- What is seen of the engines that are built from a trie with failure links.
+pub mod Filling
 pub mod Rows

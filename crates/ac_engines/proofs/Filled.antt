@@ -1,0 +1,69 @@
+-- The row of a node once its own transitions are set.
+use Rattle.std.proofs.Common.{◌≡◌, ◌≢◌, ◌⊎◌, inl, inr, ℕ, ◌+◌, ◌<◌, ◌≤◌, Bool, true, false, List, [], ◌∷◌, ◌++◌, length, slice_index_or, refl, ap, sym, ◌∙◌, arith, Some, None}
+use Rattle.std.specs.Prelude.{Contains}
+use Rattle.std.specs.List.{range_with_len}
+use Rattle.std.proofs.lemmas.Bool.{false≢true}
+use Rattle.ac_util.specs.declared.search.Anchored.{Anchored}
+use Rattle.ac_util.specs.declared.search.Anchored.TheVariants.{No, Yes}
+use Rattle.ac_util.specs.Built.{Built}
+use Rattle.ac_util.specs.Classes.{class_at}
+use Rattle.ac_util.specs.Node.{Node, failure, is_node}
+use Rattle.ac_util.specs.Sameness.{plain_byte}
+use Rattle.ac_util.proofs.Failures.{step-own, step-failure}
+use Rattle.ac_util.proofs.Lists.{Contains-from_IsIn, IsIn-filter, IsIn-from_Contains, IsIn-from_filter, IsIn-range}
+use Rattle.ac_automaton.specs.Automata.{plain_of, step_of}
+use Rattle.ac_automaton.specs.Readers.{leads_on, own_bytes}
+use Rattle.ac_engines.specs.Filling.{HasSet, IsFilled, SameBeside, Sheet, row_at}
+use Rattle.ac_engines.specs.Rows.{entry}
+
+-- the bytes that lead on are those that the test tells
+own_bytes-has : (built : Built) (u : Node) (b : ℕ) → b < 256 → leads_on built u b ≡ true → Contains (own_bytes built u) b
+own_bytes-has built u b byte leads =
+    Contains-from_IsIn b (own_bytes built u)
+    (IsIn-filter (leads_on built u) b (range_with_len 0 256) (IsIn-range b 0 256 (omega arith) (omega arith)) leads)
+
+own_bytes-only : (built : Built) (u : Node) (b : ℕ) → Contains (own_bytes built u) b → leads_on built u b ≡ true
+own_bytes-only built u b has =
+    (IsIn-from_filter (leads_on built u) b (range_with_len 0 256) (IsIn-from_Contains b (own_bytes built u) has)).1
+
+module _ (p : Sheet) where
+  -- what was filled stays so while entries elsewhere are set
+  pub filled-beside : (narrow : (b : ℕ) → b < 256 → class_at p.classes b < p.stride) (anchored : Anchored) (u : Node)
+      (first width : ℕ) (old new : List ℕ)
+      → (row_at p anchored u + p.stride ≤ first) ⊎ (first + width ≤ row_at p anchored u)
+      → SameBeside p first width old new → IsFilled p anchored u old → IsFilled p anchored u new
+  filled-beside narrow anchored u first width old new (inl before) same filled = λ b byte.
+      same (row_at p anchored u + class_at p.classes b) (inl (let n = narrow b byte in omega arith)) ∙ filled b byte
+  filled-beside narrow anchored u first width old new (inr behind) same filled = λ b byte.
+      same (row_at p anchored u + class_at p.classes b) (inr (omega arith)) ∙ filled b byte
+
+  -- in an anchored row a byte that doesn't lead on leads to the dead state
+  pub filled-anchored : (w : List ℕ) (old new : List ℕ)
+      → ((b : ℕ) → b < 256 → entry p.classes old (row_at p Yes (Some w)) b ≡ 0)
+      → HasSet p Yes w (own_bytes p.built (Some w)) old new → IsFilled p Yes (Some w) new
+  filled-anchored w old new blank set = λ b byte. go b byte (leads_on p.built (Some w) b) refl
+    where
+      go : (b : ℕ) → b < 256 → (t : Bool) → leads_on p.built (Some w) b ≡ t
+          → entry p.classes new (row_at p Yes (Some w)) b ≡ row_at p Yes (step_of p.built Yes (Some w) b)
+      go b byte true leads = set.own b byte (own_bytes-has p.built (Some w) b byte leads) ∙ rw leads refl
+      go b byte false none =
+          set.others b byte (λ has. false≢true (sym none ∙ own_bytes-only p.built (Some w) b has)) ∙ blank b byte
+          ∙ rw none refl
+
+  -- in an unanchored row one that doesn't lead on leads where it leads from the failure target
+  pub filled-inner : (x : ℕ) (w : List ℕ) (old copied new : List ℕ)
+      → IsFilled p No (failure p.built.kind (plain_of p.built) (x ∷ w)) old
+      → ((b : ℕ) → b < 256 → entry p.classes copied (row_at p No (Some (x ∷ w))) b
+      ≡ entry p.classes old (row_at p No (failure p.built.kind (plain_of p.built) (x ∷ w))) b)
+      → HasSet p No (x ∷ w) (own_bytes p.built (Some (x ∷ w))) copied new → IsFilled p No (Some (x ∷ w)) new
+  filled-inner x w old copied new target copies set = λ b byte. go b byte (leads_on p.built (Some (x ∷ w)) b) refl
+    where
+      go : (b : ℕ) → b < 256 → (t : Bool) → leads_on p.built (Some (x ∷ w)) b ≡ t
+          → entry p.classes new (row_at p No (Some (x ∷ w))) b ≡ row_at p No (step_of p.built No (Some (x ∷ w)) b)
+      go b byte true leads =
+          set.own b byte (own_bytes-has p.built (Some (x ∷ w)) b byte leads)
+          ∙ ap (row_at p No) (sym (step-own p.built.kind (plain_of p.built) x w (plain_byte p.built.fold b) leads))
+      go b byte false none =
+          set.others b byte (λ has. false≢true (sym none ∙ own_bytes-only p.built (Some (x ∷ w)) b has))
+          ∙ copies b byte ∙ target b byte
+          ∙ ap (row_at p No) (sym (step-failure p.built.kind (plain_of p.built) x w (plain_byte p.built.fold b) none))

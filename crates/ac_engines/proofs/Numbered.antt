@@ -1,0 +1,52 @@
+-- Where the rows of the states of a trie stand.
+use Rattle.std.proofs.Common.{◌≡◌, ◌≢◌, ◌⊎◌, inl, inr, ℕ, zero, suc, ◌+◌, ◌*◌, ◌<◌, ◌≤◌, true, List, [], ◌∷◌, length, slice_index_or, refl, ap, sym, ◌∙◌, arith, Some, None}
+use Rattle.std.specs.Prelude.{slice_get}
+use Rattle.std.proofs.lemmas.Bool.{cases_lt}
+use Rattle.ac_util.specs.Node.{Node, is_node}
+use Rattle.ac_util.proofs.NodeCount.{inner_nodes-only}
+use Rattle.ac_automaton.specs.Automata.{plain_of}
+use Rattle.ac_automaton.specs.Readers.{AreNodes}
+use Rattle.ac_automaton.specs.Tries.{Trie}
+use Rattle.ac_engines.specs.Filling.{place_in}
+use Rattle.ac_engines.proofs.Places.{place-at}
+
+module _ (trie : Trie) (nodes : List Node) (h : AreNodes trie nodes) where
+  -- the state of a string that isn't empty stands behind the starts, and is the only one
+  pub inner-string : (s : ℕ) (w : List ℕ) → 4 ≤ s → slice_get nodes s ≡ Some (Some w) → w ≢ []
+  inner-string s w inner named =
+      (inner_nodes-only trie.built.kind (plain_of trie.built) w
+      (h.numbered.only s w (record { inner = inner; named = named }))).1
+
+  pub inner-node : (s : ℕ) (w : List ℕ) → 4 ≤ s → slice_get nodes s ≡ Some (Some w)
+      → is_node trie.built.kind (plain_of trie.built) w ≡ true
+  inner-node s w inner named =
+      (inner_nodes-only trie.built.kind (plain_of trie.built) w
+      (h.numbered.only s w (record { inner = inner; named = named }))).0
+
+  first-inner : (s : ℕ) (w : List ℕ) → 4 ≤ s → slice_get nodes s ≡ Some (Some w)
+      → (t : ℕ) → t < s → slice_get nodes t ≢ Some (Some w)
+  first-inner s w inner named zero before same = let dead = h.dead in absurd cc
+  first-inner s w inner named (suc zero) before same = let dead = h.unreached in absurd cc
+  first-inner s w inner named (suc (suc zero)) before same =
+      let start = h.start in absurd (inner-string s w inner named cc)
+  first-inner s w inner named (suc (suc (suc zero))) before same =
+      let start = h.anchored_start in absurd (inner-string s w inner named cc)
+  first-inner s w inner named (suc (suc (suc (suc t)))) before same =
+      let once = h.numbered.once (suc (suc (suc (suc t)))) s w (record { inner = omega arith; named = same })
+      (record { inner = inner; named = named }) in
+      omega arith
+
+  -- its row is the one of its state
+  pub place-inner : (numbers : List ℕ) (s : ℕ) (w : List ℕ) → length numbers ≡ length nodes → 4 ≤ s
+      → slice_get nodes s ≡ Some (Some w) → place_in nodes numbers w ≡ slice_index_or numbers s 0
+  place-inner numbers s w count inner named = place-at nodes numbers w s count named (first-inner s w inner named)
+
+  -- the empty string has that of the unanchored start
+  pub place-start : (numbers : List ℕ) → length numbers ≡ length nodes
+      → place_in nodes numbers [] ≡ slice_index_or numbers 2 0
+  place-start numbers count = place-at nodes numbers [] 2 count h.start first
+    where
+      first : (t : ℕ) → t < 2 → slice_get nodes t ≢ Some (Some [])
+      first zero before same = let dead = h.dead in absurd cc
+      first (suc zero) before same = let dead = h.unreached in absurd cc
+      first (suc (suc t)) before same = absurd (omega arith)

@@ -1,0 +1,68 @@
+-- Filling the rows of a table from a trie with failure links.
+use Rattle.std.specs.Prelude.{◌≡◌, ◌≢◌, ◌⊎◌, ℕ, ◌+◌, ◌*◌, ◌<◌, ◌≤◌, List, [], ◌∷◌, ◌++◌, Contains, bytes_eq, length, slice_index_or, if◌then◌else◌, Some, None}
+use Rattle.ac_util.specs.declared.search.Anchored.{Anchored}
+use Rattle.ac_util.specs.declared.search.Anchored.TheVariants.{Yes}
+use Rattle.ac_util.specs.Built.{Built}
+use Rattle.ac_util.specs.Node.{Node}
+use Rattle.ac_util.specs.Refusal.{start_refusal}
+use Rattle.ac_util.specs.Sameness.{plain_byte}
+use Rattle.ac_automaton.specs.Automata.{step_of}
+use Rattle.ac_engines.specs.Rows.{behind, entry, number_of}
+
+-- what a table is filled from: what it is built from, the class of each byte, how many entries a row has, which node
+-- each state of the trie stands for, and the number of each state's first row
+pub record Sheet : Type 0 where
+  pub built : Built
+  pub classes : List ℕ
+  pub stride : ℕ
+  pub nodes : List Node
+  pub numbers : List ℕ
+
+-- the number of the first of the states that stand for a string
+abbrev pub place_in : List Node → List ℕ → List ℕ → ℕ
+place_in [] numbers w = 0
+place_in (v ∷ vs) [] w = 0
+place_in (None ∷ vs) (n ∷ ns) w = place_in vs ns w
+place_in (Some v ∷ vs) (n ∷ ns) w = if bytes_eq v w then n else place_in vs ns w
+
+module _ (p : Sheet) where
+  -- where the row of a node begins
+  abbrev pub row_at : Anchored → Node → ℕ
+  row_at anchored u = number_of (place_in p.nodes p.numbers) (behind p.built.start_kind anchored p.stride) u
+
+  -- the row of a node is filled: from it each class of bytes leads to the row of the node after the step
+  abbrev pub IsFilled : Anchored → Node → List ℕ → Type 0
+  IsFilled anchored u entries = (b : ℕ) → b < 256
+      → entry p.classes entries (row_at anchored u) b ≡ row_at anchored (step_of p.built anchored u b)
+
+  -- the entries beside a part of the table are the same
+  abbrev pub SameBeside : ℕ → ℕ → List ℕ → List ℕ → Type 0
+  SameBeside first width old new = (k : ℕ) → (k < first) ⊎ (first + width ≤ k)
+      → slice_index_or new k 0 ≡ slice_index_or old k 0
+
+  -- the own transitions of a string by these bytes have been set in its row, and nothing else
+  pub record HasSet (anchored : Anchored) (w : List ℕ) (bytes : List ℕ) (old new : List ℕ) : Type 0 where
+    pub same_length : length new ≡ length old
+    pub beside : SameBeside (row_at anchored (Some w)) p.stride old new
+    pub own : (b : ℕ) → b < 256 → Contains bytes b
+        → entry p.classes new (row_at anchored (Some w)) b
+        ≡ row_at anchored (Some (w ++ plain_byte p.built.fold b ∷ []))
+    pub others : (b : ℕ) → b < 256 → (Contains bytes b → ⊥)
+        → entry p.classes new (row_at anchored (Some w)) b ≡ entry p.classes old (row_at anchored (Some w)) b
+
+  -- how many entries the rows of a string have together
+  abbrev pub width : ℕ
+  width = p.stride + behind p.built.start_kind Yes p.stride
+
+  -- the rows of the states stand in a table of this size, apart from each other: first those of the dead node and of
+  -- the start, whose state is 2, then those of the states from 4 on
+  pub record AreLaid (size : ℕ) : Type 0 where
+    pub count : length p.numbers ≡ length p.nodes
+    pub positive : 0 < p.stride
+    pub start : slice_index_or p.numbers 2 0 ≡ 2 * p.stride
+    pub whole : 4 * p.stride ≤ size
+    pub inner : (s : ℕ) → 4 ≤ s → s < length p.numbers → 4 * p.stride ≤ slice_index_or p.numbers s 0
+    pub within : (s : ℕ) → 4 ≤ s → s < length p.numbers → slice_index_or p.numbers s 0 + width ≤ size
+    pub apart : (s t : ℕ) → 4 ≤ s → s < t → t < length p.numbers
+        → (slice_index_or p.numbers s 0 + width ≤ slice_index_or p.numbers t 0)
+        ⊎ (slice_index_or p.numbers t 0 + width ≤ slice_index_or p.numbers s 0)
