@@ -81,6 +81,16 @@ module _ (kind : MatchKind) (patterns : List (List ℕ)) where
       cond-false (is_node kind patterns (u ++ a ∷ [])) (Some (u ++ a ∷ [])) None (no_a u)
       ∙ sym (cond-false (is_node kind patterns (u ++ b ∷ [])) (Some (u ++ b ∷ [])) None (no_b u))
 
+-- an automaton may step by classes that are, of all bytes, those of others that it may step by
+lawful-alike : (kind : MatchKind) (fold : Bool) (patterns : List (List ℕ)) (f g : ℕ → ℕ)
+    → ((b : ℕ) → b < 256 → g b ≡ f b) → IsLawful f kind fold patterns → IsLawful g kind fold patterns
+lawful-alike kind fold patterns f g same lawful = record {
+  begins = same 0 (omega arith) ∙ lawful.begins;
+  rises = λ b h. omega (arith, same b (omega arith), same (b + 1) (omega arith), lawful.rises b h);
+  rises_by_one = λ b h. omega (arith, same b (omega arith), same (b + 1) (omega arith), lawful.rises_by_one b h);
+  steps_alike = λ a b low high e. lawful.steps_alike a b low high (sym (same a low) ∙ e ∙ same b high);
+}
+
 module _ (fold : Bool) (patterns : List (List ℕ)) where
   -- the class of a byte, and whether it stands in a pattern, with the shorter names of this file
   abbrev class : ℕ → ℕ
@@ -153,8 +163,12 @@ module _ (fold : Bool) (patterns : List (List ℕ)) where
   class-monotone : (n a : ℕ) → class a ≤ class (a + n)
   class-monotone zero a = omega (arith, ap class (let e : a + 0 ≡ a = omega arith in e))
   class-monotone (suc n) a =
-      omega (arith, ap class (let e : a + suc n ≡ a + n + 1 = omega arith in e), class-rises (a + n),
-      class-monotone n a)
+      omega (
+        arith,
+        ap class (let e : a + suc n ≡ a + n + 1 = omega arith in e),
+        class-rises (a + n),
+        class-monotone n a,
+      )
 
   class-ordered : (a b : ℕ) → a ≤ b → class a ≤ class b
   class-ordered a b h =
@@ -209,8 +223,8 @@ module _ (fold : Bool) (patterns : List (List ℕ)) where
   }
 
   -- each byte may be a class of its own
-  pub singletons-lawful : (kind : MatchKind) → IsLawful (λ b. b) kind fold patterns
-  singletons-lawful kind = record {
+  pub bytes-lawful : (kind : MatchKind) → IsLawful (λ b. b) kind fold patterns
+  bytes-lawful kind = record {
     begins = refl;
     rises = λ b h. omega arith;
     rises_by_one = λ b h. omega arith;
@@ -237,6 +251,12 @@ module _ (fold : Bool) (patterns : List (List ℕ)) where
     rises_by_one = λ b h.
         omega (arith, class_at-of b (omega arith), class_at-of (b + 1) (omega arith), class-rises_by_one b);
   }
+
+  -- an automaton may step by the classes that are read
+  pub classes_of-lawful : (kind : MatchKind) → IsLawful (class_at (classes_of fold patterns)) kind fold patterns
+  classes_of-lawful kind =
+      lawful-alike kind fold patterns (class_of fold patterns) (class_at (classes_of fold patterns)) class_at-of
+      (class_of-lawful kind)
 
   -- a list in which each byte has this class is the list of them
   pub classes_of-from_each : (classes : List ℕ) → length classes ≡ 256
@@ -280,6 +300,13 @@ singletons-AreClasses = record {
       λ b h. omega (arith, class_at-singletons b (omega arith), class_at-singletons (b + 1) (omega arith));
 }
 
+-- an automaton may step by them as they are read
+pub singletons-lawful : (fold : Bool) (patterns : List (List ℕ)) (kind : MatchKind)
+    → IsLawful (class_at singletons) kind fold patterns
+singletons-lawful fold patterns kind =
+    lawful-alike kind fold patterns (λ b. b) (class_at singletons) class_at-singletons
+    (bytes-lawful fold patterns kind)
+
 -- and each byte, of a pattern or not, has a class of its own
 pub singletons-set_apart : (fold : Bool) (patterns : List (List ℕ)) → SetsApart fold patterns singletons
 singletons-set_apart fold patterns = record {
@@ -292,8 +319,12 @@ module _ (classes : List ℕ) (are : AreClasses classes) where
   class_at-monotone : (n a : ℕ) → a + n < 256 → class_at classes a ≤ class_at classes (a + n)
   class_at-monotone zero a h = omega (arith, ap (class_at classes) (let e : a + 0 ≡ a = omega arith in e))
   class_at-monotone (suc n) a h =
-      omega (arith, ap (class_at classes) (let e : a + suc n ≡ a + n + 1 = omega arith in e),
-      are.rises (a + n) (omega arith), class_at-monotone n a (omega arith))
+      omega (
+        arith,
+        ap (class_at classes) (let e : a + suc n ≡ a + n + 1 = omega arith in e),
+        are.rises (a + n) (omega arith),
+        class_at-monotone n a (omega arith),
+      )
 
   -- each is below their number
   pub class_at-below : (b : ℕ) → b < 256 → class_at classes b < alphabet_len classes
@@ -305,8 +336,12 @@ module _ (classes : List ℕ) (are : AreClasses classes) where
   class_at-le : (b : ℕ) → b < 256 → class_at classes b ≤ b
   class_at-le zero h = omega (arith, are.begins)
   class_at-le (suc b) h =
-      omega (arith, ap (class_at classes) (let e : suc b ≡ b + 1 = omega arith in e),
-      are.rises_by_one b (omega arith), class_at-le b (omega arith))
+      omega (
+        arith,
+        ap (class_at classes) (let e : suc b ≡ b + 1 = omega arith in e),
+        are.rises_by_one b (omega arith),
+        class_at-le b (omega arith),
+      )
 
   -- so there are no more than bytes
   pub alphabet_len-few : alphabet_len classes ≤ 256
