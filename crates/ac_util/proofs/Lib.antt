@@ -21,6 +21,8 @@ pub mod Characters
 pub mod PiecesLemmas
 pub mod LimitLemmas
 pub mod NodeCount
+pub mod ClassLemmas
+pub mod StrideLemmas
 pub mod ReplacementLemmas
 pub mod SearchLoop
 mod SearchRows

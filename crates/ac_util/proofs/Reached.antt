@@ -99,7 +99,8 @@ module _ (kind : MatchKind) (patterns : List (List ℕ)) where
       ∙ find-cond (is_node kind patterns) (stop (x ∷ u)) (x ∷ u ++ b ∷ [])
       (starting_by (last_start kind patterns u) (suffixes (u ++ b ∷ [])))
 
-  step-nil : (b : ℕ) → stepped [] b ≡ cond (node (b ∷ [])) (Some (b ∷ [])) (cond (stop []) None (Some []))
+  -- a step from the empty node
+  pub step-nil : (b : ℕ) → stepped [] b ≡ cond (node (b ∷ [])) (Some (b ∷ [])) (cond (stop []) None (Some []))
   step-nil b =
       starting_by-two (is_node kind patterns) (is_leftmost kind) (begins_with_pattern patterns []) (b ∷ []) refl
 

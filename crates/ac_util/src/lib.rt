@@ -1,6 +1,7 @@
 //! The words that all layers share: what a search is asked, what it answers, and why it is refused.
 #![tactic(auto)]
 
+pub mod alphabet;
 pub mod device;
 pub mod error;
 pub mod laws;

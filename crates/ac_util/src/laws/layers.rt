@@ -1,13 +1,15 @@
 //! Between the layers: how an automaton and its answers go on with one more byte.
-ghost use Rattle.std.specs.Prelude.{◌≡◌, ◌≢◌, ℕ, ◌+◌, ◌<◌, ◌≤◌, ◌++◌, ◌↔◌, Bool, true, false, List, [], ◌∷◌};
+ghost use Rattle.std.specs.Prelude.{◌≡◌, ◌≢◌, ℕ, ◌+◌, ◌^◌, ◌<◌, ◌≤◌, ◌++◌, ◌↔◌, Bool, true, false, List, [], ◌∷◌};
 ghost use Rattle.std.specs.Prelude.{Contains, AllPairs, length, map, None, Some};
 ghost use Rattle.ac_util.specs.declared.search.Anchored.{Anchored};
 ghost use Rattle.ac_util.specs.declared.search.MatchKind.{MatchKind};
+ghost use Rattle.ac_util.specs.Classes.{AreClasses, IsLawful, SetsApart, alphabet_len, class_at, class_of, classes_of, singletons, stands_in, stride, stride2};
 ghost use Rattle.ac_util.specs.Listing.{all};
 ghost use Rattle.ac_util.specs.Looks.{looks};
 ghost use Rattle.ac_util.specs.Matches.{equal_to, matches, matches_at};
 ghost use Rattle.ac_util.specs.Node.{Node, depth, failure, is_leftmost, is_node, least_start, reached, step};
 ghost use Rattle.ac_util.specs.Pick.{order_of, pick};
+ghost use Rattle.ac_util.specs.Sameness.{plain, plain_byte};
 ghost use Rattle.ac_util.specs.Search.{Search};
 ghost use Rattle.ac_util.specs.Sizes.{inner_nodes};
 ghost use Rattle.ac_util.specs.Text.{ending, found_at_end, longer_by, one_longer, plain_patterns, text};
@@ -63,6 +65,40 @@ pub fn nodes_are_counted()
         → Contains (inner_nodes kind patterns) u ↔ ((is_node kind patterns u ≡ true) × (u ≢ [])) }
     ensures once { (kind : MatchKind) (patterns : List (List ℕ))
         → AllPairs (λ u w. u ≢ w) (inner_nodes kind patterns) }
+{}
+
+/// An automaton may step by the classes of its patterns' bytes, or by each byte as a class of its own. The last
+/// two say it of the classes as they are read from their list.
+pub fn classes_are_lawful()
+    ensures of_patterns { (fold : Bool) (kind : MatchKind) (patterns : List (List ℕ))
+        → IsLawful (class_of fold patterns) kind fold patterns }
+    ensures singletons { (fold : Bool) (kind : MatchKind) (patterns : List (List ℕ))
+        → IsLawful (λ b. b) kind fold patterns }
+    ensures of_patterns_read { (fold : Bool) (kind : MatchKind) (patterns : List (List ℕ))
+        → IsLawful (class_at (classes_of fold patterns)) kind fold patterns }
+    ensures singletons_read { (fold : Bool) (kind : MatchKind) (patterns : List (List ℕ))
+        → IsLawful (class_at singletons) kind fold patterns }
+{}
+
+/// Each byte of a pattern has a class of its own, and only such a byte leads on from a node.
+pub fn classes_set_apart()
+    ensures of_patterns { (fold : Bool) (patterns : List (List ℕ))
+        → SetsApart fold patterns (classes_of fold patterns) }
+    ensures singletons { (fold : Bool) (patterns : List (List ℕ)) → SetsApart fold patterns singletons }
+    ensures nodes { (fold : Bool) (kind : MatchKind) (patterns : List (List ℕ)) (u : List ℕ) (b : ℕ)
+        → is_node kind (map (plain fold) patterns) (u ++ plain_byte fold b ∷ []) ≡ true
+        → stands_in fold patterns b ≡ true }
+{}
+
+/// A stride has room for each class, and no lesser power of two has.
+pub fn strides_have_room()
+    ensures of_patterns { (fold : Bool) (patterns : List (List ℕ))
+        → AreClasses (classes_of fold patterns) }
+    ensures singletons { AreClasses singletons }
+    ensures below { (classes : List ℕ) → AreClasses classes → (b : ℕ) → b < 256
+        → class_at classes b < alphabet_len classes }
+    ensures enough { (classes : List ℕ) → AreClasses classes → alphabet_len classes ≤ stride classes }
+    ensures least { (classes : List ℕ) (k : ℕ) → alphabet_len classes ≤ 2 ^ k → stride2 classes ≤ k }
 {}
 
 /// With one more byte the pick stays where the node reached has no match; under a leftmost kind it is else the

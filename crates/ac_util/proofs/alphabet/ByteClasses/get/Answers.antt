@@ -1,0 +1,8 @@
+use Rattle.std.proofs.Common.{arith}
+use Rattle.ac_util.proofs.ClassLemmas.{class_at-below}
+use Rattle.ac_util.proofs.alphabet.ByteClasses.get.Goals as goal
+
+-- the class of the byte is one of the classes
+pub returns-clause-small : goal.returns-clause-small
+returns-clause-small c =
+    rw (← c.self.view_is) (class_at-below c.self.inside.classes c.self.invariant c.args.byte (omega arith))

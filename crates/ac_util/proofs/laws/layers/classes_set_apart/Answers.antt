@@ -1,0 +1,11 @@
+use Rattle.ac_util.proofs.ClassLemmas.{classes_of-set_apart, singletons-set_apart, stands-from_node}
+use Rattle.ac_util.proofs.laws.layers.classes_set_apart.Goals as goal
+
+pub returns-clause-of_patterns : goal.returns-clause-of_patterns
+returns-clause-of_patterns c = classes_of-set_apart
+
+pub returns-clause-singletons : goal.returns-clause-singletons
+returns-clause-singletons c = singletons-set_apart
+
+pub returns-clause-nodes : goal.returns-clause-nodes
+returns-clause-nodes c = λ fold kind patterns u b node. stands-from_node fold patterns kind u b node

@@ -1,0 +1,128 @@
+//! Classes of bytes that an automaton need not tell apart, so that its rows of transitions are short.
+ghost use Rattle.std.specs.Prelude.{◌≡◌, ℕ, ◌<◌, ◌≤◌, ◌||◌, slice_index_or, false};
+ghost use Rattle.std.specs.List.{list_any};
+ghost use Rattle.ac_util.specs.Classes.{alphabet_len, class_at, classes_of, singletons, stands_in, stride, stride2};
+ghost use Rattle.ac_util.specs.Sameness.{plain_byte, same_byte};
+
+use crate::patterns::{Patterns, plain_byte};
+use std::alloc::Allocator;
+use std::marker::Model;
+
+/// The class of each byte.
+///
+/// An automaton can step by the class of a byte in place of the byte, so the row of a state needs an entry for
+/// each class alone. Contracts see it as the list of the 256 classes. Ports upstream's
+/// `util::alphabet::ByteClasses`.
+#[derive(Clone, Copy, Debug)]
+pub struct ByteClasses {
+    classes: [u8; 256],
+}
+
+impl Model for ByteClasses {
+    ghost use Rattle.std.specs.Prelude.{List, ℕ};
+    ghost use Rattle.ac_util.specs.Classes.{AreClasses};
+
+    ghost Value = { List ℕ };
+
+    ghost view = { λ b. b.classes };
+
+    ghost invariant = { λ b. AreClasses b.classes };
+
+    ghost inverse = { λ classes. record { classes = classes } };
+}
+
+impl ByteClasses {
+    /// Returns the classes in which each byte has a class of its own. Ports `ByteClasses::singletons`.
+    pub fn singletons() -> ByteClasses
+        ensures { result ≡ singletons }
+    {
+        let mut classes = [0; 256];
+        for byte in 0..256 {
+            classes[byte] = byte as u8;
+        }
+        ByteClasses { classes }
+    }
+
+    /// Returns classes in which each byte that stands in a pattern has a class of its own, in either case where
+    /// case is ignored. This takes no memory. Ports upstream's `ByteClassSet`, and its `byte_classes`.
+    pub fn of<A: Allocator>(patterns: &Patterns<A>, fold: bool) -> ByteClasses
+        ensures { result ≡ classes_of fold patterns.now }
+    {
+        let marks = marks_of(patterns, fold);
+        let mut classes = [0; 256];
+        let mut class = 0;
+        for byte in 0..255u8 {
+            let here = marks[plain_byte(fold, byte) as usize];
+            let next = marks[plain_byte(fold, byte + 1) as usize];
+            if next || here {
+                class += 1;
+            }
+            classes[byte as usize + 1] = class;
+        }
+        ByteClasses { classes }
+    }
+
+    /// Returns the class of a byte. Ports `ByteClasses::get`.
+    #[inline]
+    pub fn get(&self, byte: u8) -> u8
+        ensures value { result ≡ class_at self.now byte }
+        ensures small { result < alphabet_len self.now }
+    {
+        self.classes[byte as usize]
+    }
+
+    /// Returns how many classes there are. Ports `ByteClasses::alphabet_len`.
+    #[inline]
+    pub fn alphabet_len(&self) -> usize
+        ensures value { result ≡ alphabet_len self.now }
+        ensures some { 1 ≤ result }
+        ensures few { result ≤ 256 }
+    {
+        self.classes[255] as usize + 1
+    }
+
+    /// Returns the exponent of the stride. Ports `ByteClasses::stride2`.
+    #[inline]
+    pub fn stride2(&self) -> u32
+        ensures value { result ≡ stride2 self.now }
+        ensures small { result ≤ 8 }
+    {
+        let len = self.alphabet_len();
+        for exponent in 0..8 {
+            if len <= 1 << exponent {
+                return exponent;
+            }
+        }
+        8
+    }
+
+    /// Returns the stride: the least power of two that is not below the number of classes. Upstream has it as
+    /// `stride` of its table engine.
+    #[inline]
+    pub fn stride(&self) -> usize
+        ensures { result ≡ stride self.now }
+    {
+        1 << self.stride2()
+    }
+}
+
+/// Marks the plain bytes that stand in some pattern.
+fn marks_of<A: Allocator>(patterns: &Patterns<A>, fold: bool) -> [bool; 256]
+    ensures { (b : ℕ) → slice_index_or result (plain_byte fold b) false ≡ stands_in fold patterns.now b }
+{
+    let mut marks = [false; 256];
+    for number in 0..patterns.len() {
+        mark(&mut marks, patterns.get(number), fold);
+    }
+    marks
+}
+
+/// Marks the plain bytes of one pattern too.
+fn mark(marks: &mut [bool; 256], pattern: &[u8], fold: bool)
+    ensures { (b : ℕ) → slice_index_or marks.new (plain_byte fold b) false
+        ≡ (slice_index_or marks.old (plain_byte fold b) false || list_any (same_byte fold b) pattern.now) }
+{
+    for &byte in pattern {
+        marks[plain_byte(fold, byte) as usize] = true;
+    }
+}
