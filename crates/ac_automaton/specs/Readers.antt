@@ -14,7 +14,7 @@ leads_on built None b = false
 leads_on built (Some u) b = is_node built.kind (plain_of built) (u ++ plain_byte built.fold b ∷ [])
 
 -- the bytes that do, in ascending order
-abbrev pub own_bytes : Built → Node → List ℕ
+unfoldable pub own_bytes : Built → Node → List ℕ
 own_bytes built u = filter (leads_on built u) (range_with_len 0 256)
 
 -- the nodes are those that the state numbers stand for. The table is for the proofs of the readers alone

@@ -1,5 +1,5 @@
 //! The states of a trie with failure links, and the walks over them.
-ghost use Rattle.std.specs.Prelude.{◌≡◌, ℕ, ◌+◌, ◌-◌, ◌<◌, ◌≤◌, Some, length, slice_get};
+ghost use Rattle.std.specs.Prelude.{◌≡◌, ◌≢◌, ℕ, ◌+◌, ◌-◌, ◌<◌, ◌≤◌, [], Some, length, slice_get};
 ghost use Rattle.std.specs.List.Sorted.{IsStrictlyIncreasing};
 ghost use Rattle.ac_util.specs.Counts.{more_looks};
 ghost use Rattle.ac_util.specs.Looks.{looks as looks_of_node};
@@ -142,6 +142,9 @@ pub(crate) fn follow(
         → HasState g states.now from u
         → looks.new
         ≡ more_looks (looks_of_node g.kind g.patterns anchored u (plain_byte g.fold byte)) looks.old }
+    ensures unanchored { (g : Meaning) (u : Node) → g.transitions ≡ transitions.now
+        → HasState g states.now from u → slice_get g.nodes ANCHORED_START ≡ Some (Some [])
+        → result ≢ ANCHORED_START }
 {
     let mut at = from;
     loop {
