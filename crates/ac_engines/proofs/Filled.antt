@@ -10,21 +10,29 @@ use Rattle.ac_util.specs.Classes.{class_at}
 use Rattle.ac_util.specs.Node.{Node, failure, is_node}
 use Rattle.ac_util.specs.Sameness.{plain_byte}
 use Rattle.ac_util.proofs.Failures.{step-own, step-failure}
-use Rattle.ac_util.proofs.Lists.{Contains-from_IsIn, IsIn-filter, IsIn-from_Contains, IsIn-from_filter, IsIn-range}
+use Rattle.ac_util.proofs.Lists.{Contains-from_IsIn, IsIn-filter, IsIn-from_Contains, IsIn-from_filter, IsIn-from_range, IsIn-range}
 use Rattle.ac_automaton.specs.Automata.{plain_of, step_of}
 use Rattle.ac_automaton.specs.Readers.{leads_on, own_bytes}
 use Rattle.ac_engines.specs.Filling.{HasSet, IsFilled, SameBeside, Sheet, row_at}
 use Rattle.ac_engines.specs.Rows.{entry}
 
 -- the bytes that lead on are those that the test tells
-own_bytes-has : (built : Built) (u : Node) (b : ℕ) → b < 256 → leads_on built u b ≡ true → Contains (own_bytes built u) b
+pub own_bytes-has : (built : Built) (u : Node) (b : ℕ) → b < 256 → leads_on built u b ≡ true → Contains (own_bytes built u) b
+unfolding own_bytes
 own_bytes-has built u b byte leads =
     Contains-from_IsIn b (own_bytes built u)
     (IsIn-filter (leads_on built u) b (range_with_len 0 256) (IsIn-range b 0 256 (omega arith) (omega arith)) leads)
 
-own_bytes-only : (built : Built) (u : Node) (b : ℕ) → Contains (own_bytes built u) b → leads_on built u b ≡ true
+pub own_bytes-only : (built : Built) (u : Node) (b : ℕ) → Contains (own_bytes built u) b → leads_on built u b ≡ true
+unfolding own_bytes
 own_bytes-only built u b has =
     (IsIn-from_filter (leads_on built u) b (range_with_len 0 256) (IsIn-from_Contains b (own_bytes built u) has)).1
+
+pub own_bytes-small : (built : Built) (u : Node) (b : ℕ) → Contains (own_bytes built u) b → b < 256
+unfolding own_bytes
+own_bytes-small built u b has =
+    (IsIn-from_range b 0 256
+    (IsIn-from_filter (leads_on built u) b (range_with_len 0 256) (IsIn-from_Contains b (own_bytes built u) has)).0).1
 
 module _ (p : Sheet) where
   -- what was filled stays so while entries elsewhere are set

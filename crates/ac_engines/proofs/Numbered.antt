@@ -7,7 +7,7 @@ use Rattle.ac_util.proofs.NodeCount.{inner_nodes-only}
 use Rattle.ac_automaton.specs.Automata.{plain_of}
 use Rattle.ac_automaton.specs.Readers.{AreNodes}
 use Rattle.ac_automaton.specs.Tries.{Trie}
-use Rattle.ac_engines.specs.Filling.{place_in}
+use Rattle.ac_engines.specs.Filling.{Filling, HasRow, place_in}
 use Rattle.ac_engines.proofs.Places.{place-at}
 
 module _ (trie : Trie) (nodes : List Node) (h : AreNodes trie nodes) where
@@ -50,3 +50,25 @@ module _ (trie : Trie) (nodes : List Node) (h : AreNodes trie nodes) where
       first zero before same = let dead = h.dead in absurd cc
       first (suc zero) before same = let dead = h.unreached in absurd cc
       first (suc (suc t)) before same = absurd (omega arith)
+
+-- a string that isn't empty stands behind the starts
+pub behind-starts : (trie : Trie) (nodes : List Node) → AreNodes trie nodes → (s : ℕ) (w : List ℕ) → w ≢ []
+    → slice_get nodes s ≡ Some (Some w) → 4 ≤ s
+behind-starts trie nodes h zero w some named = let dead = h.dead in absurd cc
+behind-starts trie nodes h (suc zero) w some named = let dead = h.unreached in absurd cc
+behind-starts trie nodes h (suc (suc zero)) w some named = let start = h.start in absurd (some cc)
+behind-starts trie nodes h (suc (suc (suc zero))) w some named = let start = h.anchored_start in absurd (some cc)
+behind-starts trie nodes h (suc (suc (suc (suc s)))) w some named = omega arith
+
+module _ (f : Filling) (nodes : List Node) (size : ℕ) where
+  -- the rows of a string begin at the number of its state
+  pub place-row : (s : ℕ) (w : List ℕ) → HasRow f nodes size s w
+      → place_in nodes f.numbers w ≡ slice_index_or f.numbers s 0
+  place-row s w h = elim h.place [
+    | inl start ↦
+      let named = rw start at h.named in
+      let first = h.may.are_nodes.start in
+      let empty : w ≡ [] = cc in
+      rw (start, empty) (place-start f.trie nodes h.may.are_nodes f.numbers h.may.laid.count)
+    | inr inner ↦ place-inner f.trie nodes h.may.are_nodes f.numbers s w h.may.laid.count inner h.named
+  ]

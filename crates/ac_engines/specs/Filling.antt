@@ -1,8 +1,13 @@
 -- Filling the rows of a table from a trie with failure links.
-use Rattle.std.specs.Prelude.{◌≡◌, ◌≢◌, ◌⊎◌, ℕ, ◌+◌, ◌*◌, ◌<◌, ◌≤◌, List, [], ◌∷◌, ◌++◌, Contains, bytes_eq, length, slice_index_or, if◌then◌else◌, Some, None}
+use Rattle.std.specs.Prelude.{◌≡◌, ◌≢◌, ◌⊎◌, ℕ, ◌+◌, ◌*◌, ◌<◌, ◌≤◌, List, [], ◌∷◌, ◌++◌, Contains, bytes_eq, length, slice_get, slice_index_or, if◌then◌else◌, Some, None}
 use Rattle.ac_util.specs.declared.search.Anchored.{Anchored}
 use Rattle.ac_util.specs.declared.search.Anchored.TheVariants.{Yes}
+use Rattle.ac_util.specs.declared.primitives.TheConstants.{GREATEST}
+use Rattle.ac_util.specs.declared.search.StartKind.{StartKind}
 use Rattle.ac_util.specs.Built.{Built}
+use Rattle.ac_util.specs.Classes.{SetsApart, alphabet_len, class_at}
+use Rattle.ac_automaton.specs.Readers.{AreNodes}
+use Rattle.ac_automaton.specs.Tries.{Trie}
 use Rattle.ac_util.specs.Node.{Node}
 use Rattle.ac_util.specs.Refusal.{start_refusal}
 use Rattle.ac_util.specs.Sameness.{plain_byte}
@@ -59,6 +64,8 @@ module _ (p : Sheet) where
   pub record AreLaid (size : ℕ) : Type 0 where
     pub count : length p.numbers ≡ length p.nodes
     pub positive : 0 < p.stride
+    pub dead : slice_index_or p.numbers 0 0 ≡ 0
+    pub unreached : slice_index_or p.numbers 1 0 ≡ 0
     pub start : slice_index_or p.numbers 2 0 ≡ 2 * p.stride
     pub whole : 4 * p.stride ≤ size
     pub inner : (s : ℕ) → 4 ≤ s → s < length p.numbers → 4 * p.stride ≤ slice_index_or p.numbers s 0
@@ -66,3 +73,48 @@ module _ (p : Sheet) where
     pub apart : (s t : ℕ) → 4 ≤ s → s < t → t < length p.numbers
         → (slice_index_or p.numbers s 0 + width ≤ slice_index_or p.numbers t 0)
         ⊎ (slice_index_or p.numbers t 0 + width ≤ slice_index_or p.numbers s 0)
+
+-- what rows are filled by: the trie, the class of each byte, which starts the table has, how many entries a row has,
+-- and the number of the first row of each state
+pub record Filling : Type 0 where
+  pub trie : Trie
+  pub classes : List ℕ
+  pub start_kind : StartKind
+  pub stride : ℕ
+  pub numbers : List ℕ
+
+-- the sheet of a table, where it is known which nodes the states of the trie stand for
+abbrev pub sheet_of : Filling → List Node → Sheet
+sheet_of f nodes = record {
+  built = record f.trie.built { start_kind = f.start_kind };
+  classes = f.classes;
+  stride = f.stride;
+  nodes = nodes;
+  numbers = f.numbers;
+}
+
+module _ (f : Filling) (nodes : List Node) (size : ℕ) where
+  -- rows can be filled in a table of this size: they have room for each class, and each byte of a pattern has a
+  -- class of its own
+  pub record MayFill : Type 0 where
+    pub are_nodes : AreNodes f.trie nodes
+    pub below : (b : ℕ) → b < 256 → class_at f.classes b < alphabet_len f.classes
+    pub room : alphabet_len f.classes ≤ f.stride
+    pub apart : SetsApart f.trie.built.fold f.trie.built.patterns f.classes
+    pub laid : AreLaid (sheet_of f nodes) size
+    pub small : size ≤ GREATEST + f.stride
+
+  -- a state stands for a string, which has rows in the table: it is the unanchored start, or none of the first four
+  pub record HasRow (s : ℕ) (w : List ℕ) : Type 0 where
+    pub may : MayFill
+    pub named : slice_get nodes s ≡ Some (Some w)
+    pub place : (s ≡ 2) ⊎ (4 ≤ s)
+
+  -- the rows of all states before this one are filled, and those of the others are as empty as that of the dead state
+  pub record FilledUpTo (s : ℕ) (entries : List ℕ) : Type 0 where
+    pub long : length entries ≡ size
+    pub dead : (k : ℕ) → k < f.stride → slice_index_or entries k 0 ≡ 0
+    pub filled : (t : ℕ) (u : Node) → t < s → t ≢ 3 → slice_get nodes t ≡ Some u → (anchored : Anchored)
+        → start_refusal f.start_kind anchored ≡ None → IsFilled (sheet_of f nodes) anchored u entries
+    pub blank : (t k : ℕ) → s ≤ t → t ≢ 3 → t < length nodes → slice_index_or f.numbers t 0 ≤ k
+        → k < slice_index_or f.numbers t 0 + width (sheet_of f nodes) → slice_index_or entries k 0 ≡ 0

@@ -20,6 +20,7 @@ use std::mem::size_of;
 use std::ops::Range;
 use std::rc::Rc;
 
+mod fill;
 mod lists;
 
 /// The number of the dead state, from which nothing is found any more.

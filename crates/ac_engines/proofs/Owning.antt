@@ -1,0 +1,107 @@
+-- The rows of a state and of those to which its own transitions lead.
+use Rattle.std.proofs.Common.{◌≡◌, ◌≢◌, ◌⊎◌, inl, inr, ℕ, ◌+◌, ◌*◌, ◌<◌, ◌≤◌, true, List, [], ◌∷◌, ◌++◌, length, take, slice_index_or, slice_set, refl, ap, sym, ◌∙◌, arith, Some, None, length-append}
+use Rattle.std.specs.Prelude.{Contains, slice_get}
+use Rattle.std.proofs.lemmas.Option.{get_or_from_slice_get, slice_get_within}
+use Rattle.ac_util.specs.declared.search.Anchored.{Anchored}
+use Rattle.ac_util.specs.declared.search.Anchored.TheVariants.{No, Yes}
+use Rattle.ac_util.specs.declared.search.StartKind.{StartKind}
+use Rattle.ac_util.specs.declared.search.StartKind.TheVariants.{Anchored as AnchoredAlone, Both, Unanchored}
+use Rattle.ac_util.specs.Built.{Built}
+use Rattle.ac_util.specs.Classes.{class_at}
+use Rattle.ac_util.specs.Node.{Node}
+use Rattle.ac_util.specs.Sameness.{plain_byte}
+use Rattle.ac_util.specs.Sizes.{state_count}
+use Rattle.ac_util.proofs.ClassLemmas.{stands-from_node}
+use Rattle.ac_util.proofs.Lists.{Contains-from_IsIn, IsIn, IsIn-at}
+use Rattle.ac_automaton.specs.Automata.{plain_of}
+use Rattle.ac_automaton.specs.Readers.{AreNodes, IsOwn, own_bytes}
+use Rattle.ac_automaton.specs.Tries.{Trie}
+use Rattle.ac_automaton.proofs.Places.{take-next}
+use Rattle.ac_engines.specs.Filling.{Filling, HasRow, HasSet, row_at, sheet_of}
+use Rattle.ac_engines.specs.Rows.{behind}
+use Rattle.ac_engines.proofs.Filled.{own_bytes-only, own_bytes-small}
+use Rattle.ac_engines.proofs.Numbered.{behind-starts, place-row}
+use Rattle.ac_engines.proofs.Numbers.{behind-small}
+use Rattle.ac_engines.proofs.Setting.{set-more}
+
+-- a state that stands for a node is one of all
+pub numbered-below : (trie : Trie) (nodes : List Node) (s : ℕ) (u : Node) → AreNodes trie nodes
+    → slice_get nodes s ≡ Some u → s < state_count trie.built.kind (plain_of trie.built)
+numbered-below trie nodes s u h named =
+    let within = slice_get_within nodes s u named in
+    let count = h.numbered.count in
+    omega arith
+
+-- no row stands further behind than the anchored one
+pub behind-most : (start_kind : StartKind) (anchored : Anchored) (stride : ℕ)
+    → behind start_kind anchored stride ≤ behind start_kind Yes stride
+behind-most Both No stride = omega arith
+behind-most Both Yes stride = omega arith
+behind-most Unanchored anchored stride = omega arith
+behind-most AnchoredAlone anchored stride = omega arith
+
+-- which starts there are says nothing of own transitions
+pub own_bytes-starts : (built : Built) (start_kind : StartKind) (u : Node)
+    → own_bytes (record built { start_kind = start_kind }) u ≡ own_bytes built u
+unfolding own_bytes
+own_bytes-starts built start_kind None = refl
+own_bytes-starts built start_kind (Some w) = refl
+
+-- what stands at a place is an element
+IsIn-slice_get : (x : ℕ) (xs : List ℕ) (k : ℕ) → slice_get xs k ≡ Some x → IsIn x xs
+IsIn-slice_get x xs k at =
+    IsIn-at x x xs k (slice_get_within xs k x at) (get_or_from_slice_get xs k x x at)
+
+-- a string with one byte more isn't empty
+longer : (w : List ℕ) (b : ℕ) → w ++ b ∷ [] ≢ []
+longer [] b e = absurd cc
+longer (x ∷ w) b e = absurd cc
+
+module _ (f : Filling) (nodes : List Node) (size s : ℕ) (w : List ℕ) (h : HasRow f nodes size s w) where
+  -- the row of a string lies in the table
+  pub row-room : (anchored : Anchored) → row_at (sheet_of f nodes) anchored (Some w) + f.stride ≤ size
+  row-room anchored =
+      let most = behind-most f.start_kind anchored f.stride in
+      let most_two = behind-small f.start_kind anchored f.stride in
+      let place = place-row f nodes size s w h in
+      elim h.place [
+        | inl start ↦
+          let first = h.may.laid.start in
+          let whole = h.may.laid.whole in
+          let at = rw start at place in
+          omega arith
+        | inr inner ↦
+          let within = slice_get_within nodes s (Some w) h.named in
+          let count = h.may.laid.count in
+          let room = h.may.laid.within s inner (omega arith) in
+          omega arith
+      ]
+
+  module _ (index byte next : ℕ) (own : IsOwn f.trie nodes w index byte next) where
+    -- an own transition leads to a state that has rows too
+    pub next-row : HasRow f nodes size next (w ++ plain_byte f.trie.built.fold byte ∷ [])
+    next-row = record {
+      may = h.may;
+      named = own.leads;
+      place = inr (behind-starts f.trie nodes h.may.are_nodes next
+          (w ++ plain_byte f.trie.built.fold byte ∷ []) (longer w (plain_byte f.trie.built.fold byte)) own.leads);
+    }
+
+    -- with one own transition more set, one more of the bytes leads on in the row
+    pub own-more : (anchored : Anchored) (v : ℕ) (old now : List ℕ) → length now ≡ size
+        → v ≡ row_at (sheet_of f nodes) anchored (Some (w ++ plain_byte f.trie.built.fold byte ∷ []))
+        → HasSet (sheet_of f nodes) anchored w (take index (own_bytes f.trie.built (Some w))) old now
+        → HasSet (sheet_of f nodes) anchored w (take (index + 1) (own_bytes f.trie.built (Some w))) old
+        (slice_set now (row_at (sheet_of f nodes) anchored (Some w) + class_at f.classes byte) v)
+    own-more anchored v old now long e set =
+        let has : Contains (own_bytes f.trie.built (Some w)) byte = Contains-from_IsIn byte _ (IsIn-slice_get byte _ index own.place) in
+        let small = own_bytes-small f.trie.built (Some w) byte has in
+        let leads = own_bytes-only f.trie.built (Some w) byte has in
+        let stands = stands-from_node f.trie.built.fold f.trie.built.patterns f.trie.built.kind w byte leads in
+        let room = row-room anchored in
+        let below = h.may.below byte small in
+        let fits = h.may.room in
+        rw (take-next (own_bytes f.trie.built (Some w)) index byte own.place)
+        (set-more (sheet_of f nodes) anchored w (λ b less. let b' = h.may.below b less in omega arith)
+        (take index (own_bytes f.trie.built (Some w))) byte v old now small
+        (λ a less same. h.may.apart.own a byte less small stands same) (omega arith) e set)

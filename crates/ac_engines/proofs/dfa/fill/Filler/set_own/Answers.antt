@@ -1,0 +1,76 @@
+use Rattle.std.proofs.Common.{◌≡◌, ℕ, List, ap, sym, subst, arith, length, take, ◌∙◌, ◌+◌, ◌++◌, ◌∷◌, [], Some, slice_set, take_all}
+use Rattle.ac_util.specs.Classes.{alphabet_len, class_at}
+use Rattle.ac_util.specs.Node.{Node}
+use Rattle.ac_util.specs.Sameness.{plain_byte}
+use Rattle.ac_util.specs.Sizes.{state_count}
+use Rattle.ac_automaton.specs.Automata.{plain_of}
+use Rattle.ac_automaton.specs.Readers.{AreNodes, IsOwn, own_bytes}
+use Rattle.ac_automaton.specs.Tries.{Trie}
+use Rattle.ac_engines.specs.Filling.{Filling, HasRow, HasSet, row_at, sheet_of}
+use Rattle.ac_engines.proofs.Owning.{next-row, numbered-below, own-more, own_bytes-starts, row-room}
+use Rattle.ac_engines.proofs.Setting.{set-none}
+use Rattle.ac_engines.proofs.dfa.fill.Filler.set_own.Goals as goal
+
+-- nothing has been set at first
+pub loop-index-init : goal.loop-index-init
+loop-index-init g c = λ nodes w h.
+    set-none (sheet_of c.args.self.now nodes) c.args.anchored w
+    (λ b less. let below = h.may.below b less in let room = h.may.room in omega arith) c.args.table.now
+
+pub own-byte-requires-clause-numbered : goal.own-byte-requires-clause-numbered
+own-byte-requires-clause-numbered g c =
+    let h = c.requires.2 in
+    rw (ap (λ (f : Filling). state_count f.trie.built.kind (plain_of f.trie.built)) c.self.view_is)
+    (numbered-below c.args.self.now.trie c.requires.0 c.args.sid (Some c.requires.1) h.may.are_nodes h.named)
+
+-- an own transition, as the reader tells it
+pub number-requires-in-loop-index : goal.number-requires-in-loop-index
+number-requires-in-loop-index g c =
+    let h = c.requires.2 in
+    let trie = ap (λ (f : Filling). f.trie) c.self.view_is in
+    let own = subst (λ (t : Trie). IsOwn t c.requires.0 c.requires.1 c.loop-index.index c.own-byte.result.0 c.own-byte.result.1)
+    trie (c.own-byte.ensures c.requires.0 c.requires.1
+    (subst (λ (t : Trie). AreNodes t c.requires.0) (sym trie) h.may.are_nodes) h.named) in
+    (c.requires.0, length c.args.table.now, c.requires.1 ++ plain_byte c.args.self.now.trie.built.fold c.own-byte.result.0 ∷ [],
+    next-row c.args.self.now c.requires.0 (length c.args.table.now) c.args.sid c.requires.1 h c.loop-index.index
+    c.own-byte.result.0 c.own-byte.result.1 own)
+
+-- the row lies in the table
+pub bounds-table-row : goal.bounds-table-row
+bounds-table-row g c =
+    let h = c.requires.2 in
+    let row = c.number.ensures c.requires.0 (length c.args.table.now) c.requires.1 h in
+    let at = c.as_usize-row.ensures.value in
+    let room = row-room c.args.self.now c.requires.0 (length c.args.table.now) c.args.sid c.requires.1 h c.args.anchored in
+    let below = c.get.ensures.small in
+    let len = ap (λ (f : Filling). alphabet_len f.classes) c.self.view_is in
+    let fits = h.may.room in
+    let long = c.loop-index.auto.table in
+    omega arith
+
+-- one more is set
+pub loop-index-preserved : goal.loop-index-preserved
+loop-index-preserved g c = λ nodes w h.
+    let trie = ap (λ (f : Filling). f.trie) c.self.view_is in
+    let own = subst (λ (t : Trie). IsOwn t nodes w c.loop-index.index c.own-byte.result.0 c.own-byte.result.1)
+    trie (c.own-byte.ensures nodes w (subst (λ (t : Trie). AreNodes t nodes) (sym trie) h.may.are_nodes) h.named) in
+    let row = c.as_usize-row.ensures.value ∙ c.number.ensures nodes (length c.args.table.now) w h in
+    let class = c.get.ensures.value ∙ ap (λ (f : Filling). class_at f.classes c.own-byte.result.0) c.self.view_is in
+    let next = next-row c.args.self.now nodes (length c.args.table.now) c.args.sid w h c.loop-index.index
+    c.own-byte.result.0 c.own-byte.result.1 own in
+    let number = c.number-in-loop-index.ensures nodes (length c.args.table.now)
+    (w ++ plain_byte c.args.self.now.trie.built.fold c.own-byte.result.0 ∷ []) next in
+    rw (row, class) (own-more c.args.self.now nodes (length c.args.table.now) c.args.sid w h c.loop-index.index
+    c.own-byte.result.0 c.own-byte.result.1 own c.args.anchored c.number-in-loop-index.result c.args.table.now
+    c.loop-index.table c.loop-index.auto.table number (c.loop-index.invariant nodes w h))
+
+-- all have been set
+pub returns : goal.returns
+returns g c = λ nodes w h.
+    let trie = ap (λ (f : Filling). f.trie) c.self.view_is in
+    let len = c.own_len-index-end.ensures nodes (Some w) (subst (λ (t : Trie). AreNodes t nodes) (sym trie) h.may.are_nodes) h.named
+    ∙ ap (λ (t : Trie). length (own_bytes t.built (Some w))) trie in
+    let end = c.loop-index-test.false in
+    rw (own_bytes-starts c.args.self.now.trie.built c.args.self.now.start_kind (Some w))
+    (subst (λ bytes. HasSet (sheet_of c.args.self.now nodes) c.args.anchored w bytes c.args.table.now c.loop-index.table)
+    (take_all c.loop-index.index (own_bytes c.args.self.now.trie.built (Some w)) (omega arith)) (c.loop-index.invariant nodes w h))
