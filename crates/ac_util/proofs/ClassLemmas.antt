@@ -1,7 +1,7 @@
 -- Two bytes of one class lead alike from every node, and a byte of a pattern has a class of its own.
 use Rattle.std.proofs.Common.{◌≡◌, ℕ, zero, suc, ◌+◌, ◌-◌, ◌<◌, ◌≤◌, Bool, true, false, ◌||◌, cond, List, [], ◌∷◌, ◌++◌, map, length, get_or, replicate, ◌⊎◌, inl, inr, refl, ap, sym, ◌∙◌, subst, Some, None, add-one, arith}
 use Rattle.std.specs.Prelude.{nat_eq}
-use Rattle.std.specs.List.{range_with_len, list_any, starts_with}
+use Rattle.std.specs.List.{list_any, starts_with}
 use Rattle.std.proofs.lemmas.Bool.{or_cases, or_left, or_right, and_parts, cases_lt, cond-false, false≢true, false_from_ne_true}
 use Rattle.std.proofs.lemmas.List.FromFn.{length-range_with_len, get_or-range_with_len, length-map-range_with_len, get_or-map-range_with_len}
 use Rattle.std.proofs.lemmas.Grind.{same_number_lists}
@@ -11,7 +11,7 @@ use Rattle.ac_util.specs.declared.search.Anchored.TheVariants.{No, Yes}
 use Rattle.ac_util.specs.Sameness.{plain_byte, plain, same_byte}
 use Rattle.ac_util.specs.Search.{pattern_of}
 use Rattle.ac_util.specs.Node.{Node, is_empty, is_node, participants, step}
-use Rattle.ac_util.specs.Classes.{IsNode, IsLawful, stands_in, class_of, classes_of, singletons, class_at, alphabet_len, AreClasses, SetsApart}
+use Rattle.ac_util.specs.Classes.{IsLawful, stands_in, class_of, classes_of, singletons, class_at, alphabet_len, AreClasses, SetsApart}
 use Rattle.ac_util.proofs.NodeCount.{any_passes}
 use Rattle.ac_util.proofs.Prefixes.{list_any-weaker}
 use Rattle.ac_util.proofs.Reached.{stops, step-nil, step-cons}
