@@ -1,17 +1,15 @@
 -- Two bytes of one class lead alike from every node, and a byte of a pattern has a class of its own.
-use Rattle.std.proofs.Common.{◌≡◌, ℕ, zero, suc, ◌+◌, ◌-◌, ◌<◌, ◌≤◌, Bool, true, false, ◌||◌, cond, List, [], ◌∷◌, ◌++◌, map, length, get_or, replicate, ◌⊎◌, inl, inr, refl, ap, sym, ◌∙◌, subst, Some, None, add-one, arith}
+use Rattle.std.proofs.Common.{◌≡◌, ℕ, zero, suc, ◌+◌, ◌-◌, ◌<◌, ◌≤◌, Bool, true, false, ◌||◌, cond, List, [], ◌∷◌, ◌++◌, map, get_or, ◌⊎◌, inl, inr, refl, ap, sym, ◌∙◌, subst, Some, None, add-one, arith}
 use Rattle.std.specs.Prelude.{nat_eq}
-use Rattle.std.specs.List.{range_with_len, list_any, starts_with}
+use Rattle.std.specs.List.{list_any, starts_with}
 use Rattle.std.proofs.lemmas.Bool.{or_cases, or_left, or_right, and_parts, cases_lt, cond-false, false≢true, false_from_ne_true}
-use Rattle.std.proofs.lemmas.List.FromFn.{length-range_with_len, get_or-range_with_len, length-map-range_with_len, get_or-map-range_with_len}
-use Rattle.std.proofs.lemmas.Grind.{same_number_lists}
 use Rattle.ac_util.specs.declared.search.MatchKind.{MatchKind}
 use Rattle.ac_util.specs.declared.search.Anchored.{Anchored}
 use Rattle.ac_util.specs.declared.search.Anchored.TheVariants.{No, Yes}
 use Rattle.ac_util.specs.Sameness.{plain_byte, plain, same_byte}
 use Rattle.ac_util.specs.Search.{pattern_of}
 use Rattle.ac_util.specs.Node.{Node, is_empty, is_node, participants, step}
-use Rattle.ac_util.specs.Classes.{IsNode, IsLawful, stands_in, class_of, classes_of, singletons, class_at, alphabet_len, AreClasses, SetsApart}
+use Rattle.ac_util.specs.Classes.{IsLawful, stands_in, class_of}
 use Rattle.ac_util.proofs.NodeCount.{any_passes}
 use Rattle.ac_util.proofs.Prefixes.{list_any-weaker}
 use Rattle.ac_util.proofs.Reached.{stops, step-nil, step-cons}
@@ -39,23 +37,18 @@ list_any-map : {X Y : Type 0} (f : Y → Bool) (g : X → Y) (xs : List X)
 list_any-map f g [] = refl
 list_any-map f g (x ∷ xs) = ap (λ (t : Bool). f (g x) || t) (list_any-map f g xs)
 
--- no byte is marked at first
-pub none_marked : (n k : ℕ) → get_or (replicate n false) k false ≡ false
-none_marked zero k = refl
-none_marked (suc n) zero = refl
-none_marked (suc n) (suc k) = none_marked n k
-
 -- a string with a last byte isn't empty
 is_empty-push : (v : List ℕ) (b : ℕ) → is_empty (v ++ b ∷ []) ≡ false
 is_empty-push [] b = refl
 is_empty-push (x ∷ v) b = refl
 
--- where two bytes never end a node, they lead alike from each
+-- two bytes that never end a node lead alike
 module _ (kind : MatchKind) (patterns : List (List ℕ)) where
   -- no string that ends with the byte leads to a node
   abbrev EndsNone : ℕ → Type 0
   EndsNone b = (v : List ℕ) → is_node kind patterns (v ++ b ∷ []) ≡ false
 
+  -- so they do without an anchor, whatever was read
   step-free_alike : (a b : ℕ) → EndsNone a → EndsNone b → (u : List ℕ)
       → step kind patterns No (Some u) a ≡ step kind patterns No (Some u) b
   step-free_alike a b no_a no_b [] =
@@ -73,6 +66,7 @@ module _ (kind : MatchKind) (patterns : List (List ℕ)) where
       ∙ cond-false (is_node kind patterns (x ∷ u ++ b ∷ [])) (Some (x ∷ u ++ b ∷ []))
       (after (step kind patterns No (Some u) b)) (no_b (x ∷ u)))
 
+  -- and so they do from each node
   step-alike : (a b : ℕ) → EndsNone a → EndsNone b → (anchored : Anchored) (u : Node)
       → step kind patterns anchored u a ≡ step kind patterns anchored u b
   step-alike a b no_a no_b anchored None = refl
@@ -81,22 +75,12 @@ module _ (kind : MatchKind) (patterns : List (List ℕ)) where
       cond-false (is_node kind patterns (u ++ a ∷ [])) (Some (u ++ a ∷ [])) None (no_a u)
       ∙ sym (cond-false (is_node kind patterns (u ++ b ∷ [])) (Some (u ++ b ∷ [])) None (no_b u))
 
--- an automaton may step by classes that are, of all bytes, those of others that it may step by
-lawful-alike : (kind : MatchKind) (fold : Bool) (patterns : List (List ℕ)) (f g : ℕ → ℕ)
-    → ((b : ℕ) → b < 256 → g b ≡ f b) → IsLawful f kind fold patterns → IsLawful g kind fold patterns
-lawful-alike kind fold patterns f g same lawful = record {
-  begins = same 0 (omega arith) ∙ lawful.begins;
-  rises = λ b h. omega (arith, same b (omega arith), same (b + 1) (omega arith), lawful.rises b h);
-  rises_by_one = λ b h. omega (arith, same b (omega arith), same (b + 1) (omega arith), lawful.rises_by_one b h);
-  steps_alike = λ a b low high e. lawful.steps_alike a b low high (sym (same a low) ∙ e ∙ same b high);
-}
-
 module _ (fold : Bool) (patterns : List (List ℕ)) where
   -- the class of a byte, and whether it stands in a pattern, with the shorter names of this file
-  abbrev class : ℕ → ℕ
+  abbrev pub class : ℕ → ℕ
   class b = class_of fold patterns b
 
-  abbrev stands : ℕ → Bool
+  abbrev pub stands : ℕ → Bool
   stands b = stands_in fold patterns b
 
   -- a byte that ends a node stands in a pattern
@@ -143,15 +127,17 @@ module _ (fold : Bool) (patterns : List (List ℕ)) where
       ∙ ap (λ (t : Bool). class b + cond t 1 0) behind
       ∙ omega arith
 
+  -- a class rises by one or not at all
   one_or_none : (t : Bool) → cond t 1 0 ≤ 1
   one_or_none true = omega arith
   one_or_none false = omega arith
 
-  -- classes rise, by at most one
-  class-rises : (b : ℕ) → class b ≤ class (b + 1)
+  -- classes rise
+  pub class-rises : (b : ℕ) → class b ≤ class (b + 1)
   class-rises b = omega (arith, class-next b)
 
-  class-rises_by_one : (b : ℕ) → class (b + 1) ≤ class b + 1
+  -- and by at most one
+  pub class-rises_by_one : (b : ℕ) → class (b + 1) ≤ class b + 1
   class-rises_by_one b = omega (arith, class-next b, one_or_none (stands (b + 1) || stands b))
 
   -- no class is above its byte
@@ -159,7 +145,7 @@ module _ (fold : Bool) (patterns : List (List ℕ)) where
   class-le zero = omega (arith, class-zero)
   class-le (suc b) = omega (arith, ap class (add-one b), class-rises_by_one b, class-le b)
 
-  -- a later byte has no lesser class
+  -- a byte n places behind another has no lesser class
   class-monotone : (n a : ℕ) → class a ≤ class (a + n)
   class-monotone zero a = omega (arith, ap class (let e : a + 0 ≡ a = omega arith in e))
   class-monotone (suc n) a =
@@ -170,28 +156,32 @@ module _ (fold : Bool) (patterns : List (List ℕ)) where
         class-monotone n a,
       )
 
+  -- a later byte has no lesser class
   class-ordered : (a b : ℕ) → a ≤ b → class a ≤ class b
   class-ordered a b h =
       omega (arith, ap class (let e : a + (b - a) ≡ b = omega arith in e), class-monotone (b - a) a)
 
   -- neither byte stands in a pattern
-  record AreStrangers (a b : ℕ) : Type 0 where
-    left : stands a ≡ false
-    right : stands b ≡ false
+  pub record AreStrangers (a b : ℕ) : Type 0 where
+    pub left : stands a ≡ false
+    pub right : stands b ≡ false
 
-  -- two bytes of one class are equal, or neither stands in a pattern
+  -- where a byte has the class of a later one, neither stands in a pattern
   strangers_below : (a b : ℕ) → a ≤ b → class a ≡ class (b + 1) → AreStrangers a (b + 1)
   strangers_below a b l e = record {
-    left = false_from_ne_true _ (λ t. omega (arith, e, class-up a (inr t), class-ordered (a + 1) (b + 1) (omega arith)));
+    left = false_from_ne_true _
+        (λ t. omega (arith, e, class-up a (inr t), class-ordered (a + 1) (b + 1) (omega arith)));
     right = false_from_ne_true _ (λ t. omega (arith, e, class-up b (inl t), class-ordered a b l));
   }
 
+  -- the same, whatever the later byte is called
   strangers_apart : (a b : ℕ) → a < b → class a ≡ class b → AreStrangers a b
   strangers_apart a zero l e = absurd (omega arith)
   strangers_apart a (suc b) l e =
       subst (AreStrangers a) (add-one b) (strangers_below a b (omega arith) (e ∙ ap class (sym (add-one b))))
 
-  strangers : (a b : ℕ) → class a ≡ class b → (a ≡ b) ⊎ AreStrangers a b
+  -- two bytes of one class are equal, or neither stands in a pattern
+  pub strangers : (a b : ℕ) → class a ≡ class b → (a ≡ b) ⊎ AreStrangers a b
   strangers a b e = elim (cases_lt a b) [
     | inl below ↦ inr (strangers_apart a b below e)
     | inr from ↦ elim (cases_lt b a) [
@@ -231,118 +221,3 @@ module _ (fold : Bool) (patterns : List (List ℕ)) where
     steps_alike = λ a b low high e anchored u node.
         ap (λ (x : ℕ). step kind (map (plain fold) patterns) anchored u (plain_byte fold x)) e;
   }
-
-  -- the class that is read for a byte
-  pub class_at-of : (b : ℕ) → b < 256 → class_at (classes_of fold patterns) b ≡ class b
-  unfolding classes_of
-  class_at-of b h = get_or-map-range_with_len (class_of fold patterns) 0 256 b b 0 h (omega arith)
-
-  pub length-classes_of : length (classes_of fold patterns) ≡ 256
-  unfolding classes_of
-  length-classes_of = length-map-range_with_len (class_of fold patterns) 0 256
-
-  -- they are the classes of all bytes
-  pub classes_of-AreClasses : AreClasses (classes_of fold patterns)
-  classes_of-AreClasses = record {
-    whole = length-classes_of;
-    begins = class_at-of 0 (omega arith) ∙ class-zero;
-    rises = λ b h.
-        omega (arith, class_at-of b (omega arith), class_at-of (b + 1) (omega arith), class-rises b);
-    rises_by_one = λ b h.
-        omega (arith, class_at-of b (omega arith), class_at-of (b + 1) (omega arith), class-rises_by_one b);
-  }
-
-  -- an automaton may step by the classes that are read
-  pub classes_of-lawful : (kind : MatchKind) → IsLawful (class_at (classes_of fold patterns)) kind fold patterns
-  classes_of-lawful kind =
-      lawful-alike kind fold patterns (class_of fold patterns) (class_at (classes_of fold patterns)) class_at-of
-      (class_of-lawful kind)
-
-  -- a list in which each byte has this class is the list of them
-  pub classes_of-from_each : (classes : List ℕ) → length classes ≡ 256
-      → ((b : ℕ) → b < 256 → class_at classes b ≡ class b) → classes ≡ classes_of fold patterns
-  classes_of-from_each classes whole each =
-      same_number_lists classes (classes_of fold patterns) (whole ∙ sym length-classes_of)
-      (λ b h. each b (omega arith) ∙ sym (class_at-of b (omega arith)))
-
-  -- a byte of a pattern has a class of its own
-  pub classes_of-set_apart : SetsApart fold patterns (classes_of fold patterns)
-  classes_of-set_apart = record {
-    own = λ a b low high here e. elim (strangers a b (sym (class_at-of a low) ∙ e ∙ class_at-of b high)) [
-      | inl same ↦ same
-      | inr s ↦ absurd (false≢true (sym s.right ∙ here))
-    ];
-  }
-
--- what is read of each byte as a class of its own
-pub class_at-singletons : (b : ℕ) → b < 256 → class_at singletons b ≡ b
-unfolding singletons
-class_at-singletons b h = get_or-range_with_len 0 256 b 0 h ∙ omega arith
-
-pub length-singletons : length singletons ≡ 256
-unfolding singletons
-length-singletons = length-range_with_len 0 256
-
--- a list in which each byte is its own class is the list of them
-pub singletons-from_each : (classes : List ℕ) → length classes ≡ 256
-    → ((b : ℕ) → b < 256 → class_at classes b ≡ b) → classes ≡ singletons
-singletons-from_each classes whole each =
-    same_number_lists classes singletons (whole ∙ sym length-singletons)
-    (λ b h. each b (omega arith) ∙ sym (class_at-singletons b (omega arith)))
-
--- they are the classes of all bytes too
-pub singletons-AreClasses : AreClasses singletons
-singletons-AreClasses = record {
-  whole = length-singletons;
-  begins = class_at-singletons 0 (omega arith);
-  rises = λ b h. omega (arith, class_at-singletons b (omega arith), class_at-singletons (b + 1) (omega arith));
-  rises_by_one =
-      λ b h. omega (arith, class_at-singletons b (omega arith), class_at-singletons (b + 1) (omega arith));
-}
-
--- an automaton may step by them as they are read
-pub singletons-lawful : (fold : Bool) (patterns : List (List ℕ)) (kind : MatchKind)
-    → IsLawful (class_at singletons) kind fold patterns
-singletons-lawful fold patterns kind =
-    lawful-alike kind fold patterns (λ b. b) (class_at singletons) class_at-singletons
-    (bytes-lawful fold patterns kind)
-
--- and each byte, of a pattern or not, has a class of its own
-pub singletons-set_apart : (fold : Bool) (patterns : List (List ℕ)) → SetsApart fold patterns singletons
-singletons-set_apart fold patterns = record {
-  own = λ a b low high here e. sym (class_at-singletons a low) ∙ e ∙ class_at-singletons b high;
-}
-
--- of the classes of all bytes
-module _ (classes : List ℕ) (are : AreClasses classes) where
-  -- the later byte has no lesser class
-  class_at-monotone : (n a : ℕ) → a + n < 256 → class_at classes a ≤ class_at classes (a + n)
-  class_at-monotone zero a h = omega (arith, ap (class_at classes) (let e : a + 0 ≡ a = omega arith in e))
-  class_at-monotone (suc n) a h =
-      omega (
-        arith,
-        ap (class_at classes) (let e : a + suc n ≡ a + n + 1 = omega arith in e),
-        are.rises (a + n) (omega arith),
-        class_at-monotone n a (omega arith),
-      )
-
-  -- each is below their number
-  pub class_at-below : (b : ℕ) → b < 256 → class_at classes b < alphabet_len classes
-  class_at-below b h =
-      let up = class_at-monotone (255 - b) b (omega arith) in
-      omega (arith, up, ap (class_at classes) (let e : b + (255 - b) ≡ 255 = omega arith in e))
-
-  -- none is above its byte
-  class_at-le : (b : ℕ) → b < 256 → class_at classes b ≤ b
-  class_at-le zero h = omega (arith, are.begins)
-  class_at-le (suc b) h =
-      omega (
-        arith,
-        ap (class_at classes) (let e : suc b ≡ b + 1 = omega arith in e),
-        are.rises_by_one b (omega arith),
-        class_at-le b (omega arith),
-      )
-
-  -- so there are no more than bytes
-  pub alphabet_len-few : alphabet_len classes ≤ 256
-  alphabet_len-few = omega (arith, class_at-le 255 (omega arith))

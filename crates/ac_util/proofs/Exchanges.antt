@@ -1,6 +1,6 @@
 -- The matches of a walk as a replacement meets them, and what it has written after each.
 use Rattle.std.proofs.Common.{◌≡◌, ℕ, zero, suc, ◌+◌, ◌-◌, ◌<◌, ◌≤◌, Bool, true, false, ◌&&◌, List, [], ◌∷◌, ◌++◌, length, get_or, refl, ap, sym, ◌∙◌, subst, arith, append_assoc, Option, Some, None}
-use Rattle.std.specs.Prelude.{IsTrue, ◌↔◌, cond, filter, slice_range, slice_index_or}
+use Rattle.std.specs.Prelude.{IsTrue, ◌↔◌, cond, slice_range, slice_index_or}
 use Rattle.std.specs.Borrow.{Bor}
 use Rattle.std.specs.Str.{IsCharBoundary}
 use Rattle.std.proofs.lemmas.List.{get_or-map}

@@ -22,7 +22,9 @@ pub mod PiecesLemmas
 pub mod LimitLemmas
 pub mod NodeCount
 pub mod ClassLemmas
+pub mod ClassLists
 pub mod StrideLemmas
+mod ClassRows
 pub mod ReplacementLemmas
 pub mod SearchLoop
 mod SearchRows

@@ -1,10 +1,10 @@
 -- The stride is the least power of two that is not below the number of classes.
-use Rattle.std.proofs.Common.{◌≡◌, ℕ, zero, suc, ◌+◌, ◌<◌, ◌≤◌, ◌^◌, Bool, true, false, cond, List, inl, inr, refl, ap, sym, ◌∙◌, Option, Some, None, subst, arith}
+use Rattle.std.proofs.Common.{◌≡◌, ℕ, zero, suc, ◌+◌, ◌<◌, ◌≤◌, ◌^◌, Bool, true, false, cond, List, inl, inr, refl, ap, ◌∙◌, Option, Some, arith}
 use Rattle.std.specs.Prelude.{nat_le, find, unwrap_or}
 use Rattle.std.specs.List.{range_with_len}
-use Rattle.std.proofs.lemmas.Bool.{cases_lt, leb-true, leb-false, le-leb, false≢true}
+use Rattle.std.proofs.lemmas.Bool.{cases_lt, leb-true, leb-false}
 use Rattle.ac_util.specs.Classes.{alphabet_len, stride2, stride, AreClasses}
-use Rattle.ac_util.proofs.ClassLemmas.{alphabet_len-few}
+use Rattle.ac_util.proofs.ClassLists.{alphabet_len-few}
 
 -- k is the first number from `low` on that passes, or `high` where none below `high` does
 record IsFirstFrom (p : ℕ → Bool) (low high k : ℕ) : Type 0 where

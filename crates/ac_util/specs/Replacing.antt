@@ -6,7 +6,7 @@ use Rattle.ac_util.specs.declared.error.MatchError.{MatchError}
 use Rattle.ac_util.specs.declared.error.ReplaceError.{ReplaceError}
 use Rattle.ac_util.specs.declared.error.ReplaceError.TheVariants.{Match, Memory}
 use Rattle.ac_util.specs.Occurrence.{Occurrence}
-use Rattle.ac_util.specs.Replacement.{AppendsAll, Calls, Replacing, ReplacementSteps, asked_by}
+use Rattle.ac_util.specs.Replacement.{AppendsAll, Calls, ReplacementSteps, asked_by}
 
 -- one of two things, by why a replacement failed
 abbrev pub MatchReplaceError : ReplaceError → (MatchError → Type 0) → Type 0 → Type 0

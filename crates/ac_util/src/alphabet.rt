@@ -126,3 +126,6 @@ fn mark(marks: &mut [bool; 256], pattern: &[u8], fold: bool)
         marks[plain_byte(fold, byte) as usize] = true;
     }
 }
+
+#[cfg(test)]
+mod tests;

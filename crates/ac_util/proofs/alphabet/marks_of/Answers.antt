@@ -4,7 +4,7 @@ use Rattle.std.proofs.lemmas.List.Folds.{list_any_more}
 use Rattle.std.proofs.lemmas.Option.{get_or_from_slice_get}
 use Rattle.ac_util.specs.Classes.{stands_in}
 use Rattle.ac_util.specs.Sameness.{plain_byte, same_byte}
-use Rattle.ac_util.proofs.ClassLemmas.{none_marked}
+use Rattle.ac_util.proofs.ClassLists.{none_marked}
 use Rattle.ac_util.proofs.alphabet.marks_of.Goals as goal
 
 -- no byte is marked, and no pattern was read

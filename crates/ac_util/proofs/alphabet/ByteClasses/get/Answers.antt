@@ -1,5 +1,5 @@
 use Rattle.std.proofs.Common.{arith}
-use Rattle.ac_util.proofs.ClassLemmas.{class_at-below}
+use Rattle.ac_util.proofs.ClassLists.{class_at-below}
 use Rattle.ac_util.proofs.alphabet.ByteClasses.get.Goals as goal
 
 -- the class of the byte is one of the classes

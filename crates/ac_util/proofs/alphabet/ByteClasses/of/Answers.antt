@@ -1,7 +1,8 @@
 use Rattle.std.proofs.Common.{◌≡◌, ℕ, ◌+◌, false, get_or, length-set, inl, inr, refl, ap, sym, ◌∙◌, subst, below_more, get_or-set_same, get_or-set_other, arith}
 use Rattle.std.proofs.lemmas.List.{get_or-replicate}
 use Rattle.ac_util.specs.Classes.{AreClasses, class_of, classes_of}
-use Rattle.ac_util.proofs.ClassLemmas.{class-le, class-up, class-stays, class-zero, classes_of-AreClasses, classes_of-from_each}
+use Rattle.ac_util.proofs.ClassLemmas.{class-le, class-up, class-stays, class-zero}
+use Rattle.ac_util.proofs.ClassLists.{classes_of-AreClasses, classes_of-from_each}
 use Rattle.ac_util.proofs.alphabet.ByteClasses.of.Goals as goal
 use Rattle.ac_util.proofs.alphabet.ByteClasses.of.Goals.{then-next, else-next+else-here}
 

@@ -1,6 +1,6 @@
 use Rattle.std.proofs.Common.{◌≡◌, sym, subst, arith}
 use Rattle.ac_util.specs.Classes.{AreClasses, singletons}
-use Rattle.ac_util.proofs.ClassLemmas.{singletons-AreClasses, singletons-from_each}
+use Rattle.ac_util.proofs.ClassLists.{singletons-AreClasses, singletons-from_each}
 use Rattle.ac_util.proofs.alphabet.ByteClasses.singletons.Goals as goal
 
 -- the list holds each byte as its own class

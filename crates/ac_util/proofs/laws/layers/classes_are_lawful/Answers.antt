@@ -1,4 +1,5 @@
-use Rattle.ac_util.proofs.ClassLemmas.{bytes-lawful, class_of-lawful, classes_of-lawful, singletons-lawful}
+use Rattle.ac_util.proofs.ClassLemmas.{bytes-lawful, class_of-lawful}
+use Rattle.ac_util.proofs.ClassLists.{classes_of-lawful, singletons-lawful}
 use Rattle.ac_util.proofs.laws.layers.classes_are_lawful.Goals as goal
 
 pub returns-clause-of_patterns : goal.returns-clause-of_patterns

@@ -1,4 +1,4 @@
-use Rattle.ac_util.proofs.ClassLemmas.{class_at-below, classes_of-AreClasses, singletons-AreClasses}
+use Rattle.ac_util.proofs.ClassLists.{class_at-below, classes_of-AreClasses, singletons-AreClasses}
 use Rattle.ac_util.proofs.StrideLemmas.{stride2-least, stride-enough}
 use Rattle.ac_util.proofs.laws.layers.strides_have_room.Goals as goal
 
