@@ -1,3 +1,4 @@
 -- What is seen of the engines that are built from a trie with failure links.
 pub mod Filling
+pub mod Layouts
 pub mod Rows

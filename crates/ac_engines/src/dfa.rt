@@ -21,6 +21,7 @@ use std::ops::Range;
 use std::rc::Rc;
 
 mod fill;
+mod layout;
 mod lists;
 
 /// The number of the dead state, from which nothing is found any more.

@@ -1,0 +1,42 @@
+-- Where the rows of a table stand, and what they list.
+use Rattle.std.specs.Prelude.{◌≡◌, ◌⊎◌, ℕ, ◌+◌, ◌-◌, ◌*◌, ◌^◌, ◌/◌, ◌<◌, ◌≤◌, List, [], slice_get, slice_index_or, Some, None}
+use Rattle.ac_util.specs.declared.search.Anchored.{Anchored}
+use Rattle.ac_util.specs.declared.search.StartKind.{StartKind}
+use Rattle.ac_util.specs.declared.search.StartKind.TheVariants.{Anchored as AnchoredAlone, Both, Unanchored}
+use Rattle.ac_util.specs.Built.{Built}
+use Rattle.ac_util.specs.Node.{Node}
+use Rattle.ac_util.specs.Refusal.{start_refusal}
+use Rattle.ac_automaton.specs.Automata.{matches_of}
+use Rattle.ac_engines.specs.Filling.{AreLaid}
+use Rattle.ac_engines.specs.Rows.{behind}
+
+-- how many rows a table has for a trie of so many states: one for each, or for both starts two for each but the first
+-- four
+abbrev pub table_rows : StartKind → ℕ → ℕ
+table_rows Both states = 2 * states - 4
+table_rows Unanchored states = states
+table_rows AnchoredAlone states = states
+
+-- what a state lists, where each row has a list
+abbrev pub listed_at : List (List ℕ) → ℕ → ℕ → List ℕ
+listed_at lists stride s = slice_index_or lists (s / stride) []
+
+-- the rows of a table are laid out: the number of each state's first row, the match list of each row, and from which
+-- number up to which the states stand that have matches
+pub record IsLayout (built : Built) (stride size : ℕ) (nodes : List Node) (numbers : List ℕ) (lists : List (List ℕ))
+    (first end : ℕ) : Type 0 where
+  pub laid : (classes : List ℕ) → AreLaid (record {
+    built = built;
+    classes = classes;
+    stride = stride;
+    nodes = nodes;
+    numbers = numbers;
+  }) size
+  pub rows : (s : ℕ) (w : List ℕ) → slice_get nodes s ≡ Some (Some w) → (s ≡ 2) ⊎ (4 ≤ s)
+      → (anchored : Anchored) → start_refusal built.start_kind anchored ≡ None
+      → listed_at lists stride (slice_index_or numbers s 0 + behind built.start_kind anchored stride)
+      ≡ matches_of built anchored (Some w)
+  pub unlisted : listed_at lists stride 0 ≡ []
+  pub early : (s : ℕ) → s < first → listed_at lists stride s ≡ []
+  pub late : (s : ℕ) → end ≤ s → listed_at lists stride s ≡ []
+  pub starts : 4 * stride ≤ end
