@@ -98,6 +98,31 @@ module _ (trie : Trie) (nodes : List Node) where
         ∙ sym (length-map own (λ (x : Transition). x.byte))
         ∙ ap (length {A = ℕ}) own-is
 
+  -- and each place below their count is that of an own one
+  pub has-own : (table : IsTable trie nodes) (s : ℕ) → s < state_count trie.built.kind (plain_of trie.built)
+      → (t : State) → t ≡ get_or trie.states s t
+      → (index : ℕ) → index < t.transitions_end - t.transitions → HasOwn trie s index
+  has-own table s numbered t is index within =
+      let count = table.numbered.count in
+      let named = slice_get-get_or nodes s None (omega arith) in
+      let u = get_or nodes s None in
+      let long = own-length s u t (reads table s u named t is) in
+      record {
+        nodes = nodes;
+        are_nodes = record {
+          table = table;
+          numbered = table.numbered;
+          dead = table.states.dead;
+          unreached = table.unreached;
+          start = table.start;
+          anchored_start = table.anchored_start;
+          stands = λ n v e. record { nodes = nodes; table = table; named = e };
+        };
+        node = u;
+        named = named;
+        within = omega arith;
+      }
+
   -- the transition at a place is by the byte at the place, and leads to the longer node
   pub own-read : (s : ℕ) (w : List ℕ) (t : State) → Represents (meaning_of trie nodes) s (Some w) t
       → (index : ℕ) → index < t.transitions_end - t.transitions → (next : Transition)

@@ -54,8 +54,9 @@ impl<A: Allocator> NFA<A> {
     #[inline]
     pub fn own_len(&self, sid: StateID) -> usize
         requires numbered { sid < state_count self.now.built.kind (plain_of self.now.built) }
-        ensures { (nodes : List Node) (u : Node) → AreNodes self.now nodes → slice_get nodes sid ≡ Some u
+        ensures value { (nodes : List Node) (u : Node) → AreNodes self.now nodes → slice_get nodes sid ≡ Some u
             → result ≡ length (own_bytes self.now.built u) }
+        ensures places { (index : ℕ) → index < result → HasOwn self.now sid index }
     {
         let state = &self.states()[sid.as_usize()];
         (state.transitions_end - state.transitions) as usize
