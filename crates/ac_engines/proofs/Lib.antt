@@ -4,4 +4,6 @@ pub mod Numbers
 pub mod Owning
 pub mod Places
 pub mod Ranges
+pub mod RowByRow
 pub mod Setting
+pub mod Starts

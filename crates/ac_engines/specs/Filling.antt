@@ -1,17 +1,17 @@
 -- Filling the rows of a table from a trie with failure links.
 use Rattle.std.specs.Prelude.{◌≡◌, ◌≢◌, ◌⊎◌, ℕ, ◌+◌, ◌*◌, ◌<◌, ◌≤◌, List, [], ◌∷◌, ◌++◌, Contains, bytes_eq, length, slice_get, slice_index_or, if◌then◌else◌, Some, None}
 use Rattle.ac_util.specs.declared.search.Anchored.{Anchored}
-use Rattle.ac_util.specs.declared.search.Anchored.TheVariants.{Yes}
+use Rattle.ac_util.specs.declared.search.Anchored.TheVariants.{No, Yes}
 use Rattle.ac_util.specs.declared.primitives.TheConstants.{GREATEST}
 use Rattle.ac_util.specs.declared.search.StartKind.{StartKind}
 use Rattle.ac_util.specs.Built.{Built}
 use Rattle.ac_util.specs.Classes.{SetsApart, alphabet_len, class_at}
 use Rattle.ac_automaton.specs.Readers.{AreNodes}
 use Rattle.ac_automaton.specs.Tries.{Trie}
-use Rattle.ac_util.specs.Node.{Node}
+use Rattle.ac_util.specs.Node.{Node, failure}
 use Rattle.ac_util.specs.Refusal.{start_refusal}
 use Rattle.ac_util.specs.Sameness.{plain_byte}
-use Rattle.ac_automaton.specs.Automata.{step_of}
+use Rattle.ac_automaton.specs.Automata.{plain_of, step_of}
 use Rattle.ac_engines.specs.Rows.{behind, entry, number_of}
 
 -- what a table is filled from: what it is built from, the class of each byte, how many entries a row has, which node
@@ -54,6 +54,12 @@ module _ (p : Sheet) where
         ≡ row_at anchored (Some (w ++ plain_byte p.built.fold b ∷ []))
     pub others : (b : ℕ) → b < 256 → (Contains bytes b → ⊥)
         → entry p.classes new (row_at anchored (Some w)) b ≡ entry p.classes old (row_at anchored (Some w)) b
+
+  -- the row of a string has been filled, and nothing else
+  pub record HasFilled (anchored : Anchored) (w : List ℕ) (old new : List ℕ) : Type 0 where
+    pub same_length : length new ≡ length old
+    pub beside : SameBeside (row_at anchored (Some w)) p.stride old new
+    pub filled : IsFilled anchored (Some w) new
 
   -- how many entries the rows of a string have together
   abbrev pub width : ℕ
@@ -118,3 +124,11 @@ module _ (f : Filling) (nodes : List Node) (size : ℕ) where
         → start_refusal f.start_kind anchored ≡ None → IsFilled (sheet_of f nodes) anchored u entries
     pub blank : (t k : ℕ) → s ≤ t → t ≢ 3 → t < length nodes → slice_index_or f.numbers t 0 ≤ k
         → k < slice_index_or f.numbers t 0 + width (sheet_of f nodes) → slice_index_or entries k 0 ≡ 0
+
+  -- the row of a state is as empty as that of the dead state, and if it is unanchored that of the failure target is
+  -- filled
+  pub record MayFillRow (s : ℕ) (w : List ℕ) (anchored : Anchored) (entries : List ℕ) : Type 0 where
+    pub row : HasRow s w
+    pub blank : (b : ℕ) → b < 256 → entry f.classes entries (row_at (sheet_of f nodes) anchored (Some w)) b ≡ 0
+    pub target : anchored ≡ No → w ≢ []
+        → IsFilled (sheet_of f nodes) No (failure f.trie.built.kind (plain_of f.trie.built) w) entries

@@ -1,14 +1,14 @@
 //! Filling the rows of a table.
-ghost use Rattle.std.specs.Prelude.{◌≡◌, ℕ, ◌+◌, ◌<◌, ◌≤◌, List, None, Some, length, slice_get, slice_index_or};
+ghost use Rattle.std.specs.Prelude.{◌≡◌, ◌≢◌, ◌⊎◌, ℕ, ◌+◌, ◌<◌, ◌≤◌, List, [], Some, length, slice_index_or};
 ghost use Rattle.ac_util.specs.declared.primitives.TheConstants.{GREATEST};
 ghost use Rattle.ac_util.specs.Node.{Node};
-ghost use Rattle.ac_util.specs.Refusal.{start_refusal};
+ghost use Rattle.ac_util.specs.declared.search.Anchored;
 ghost use Rattle.ac_automaton.specs.Readers.{own_bytes};
-ghost use Rattle.ac_engines.specs.Filling.{FilledUpTo, HasRow, HasSet, IsFilled, MayFill, SameBeside, row_at, sheet_of, width};
+ghost use Rattle.ac_engines.specs.Filling.{FilledUpTo, HasFilled, HasRow, HasSet, MayFill, MayFillRow, row_at, sheet_of};
 ghost use Rattle.ac_engines.specs.Rows.{behind};
 
 use ac_automaton::automaton::Automaton;
-use ac_automaton::nfa::noncontiguous::{DEAD, FIRST_INNER, NFA, START};
+use ac_automaton::nfa::noncontiguous::{FIRST_INNER, NFA, START};
 use ac_util::alphabet::ByteClasses;
 use ac_util::primitives::StateID;
 use ac_util::search::{Anchored, StartKind};
@@ -74,6 +74,94 @@ impl<'a, A: Allocator> Filler<'a, A> {
             let (byte, next) = self.nfa.own(sid, index);
             table[row + self.classes.get(byte) as usize] = self.number(next, anchored);
         }
+    }
+
+    /// Fills the row of the start in unanchored searches. By a byte that doesn't lead on it leads to itself, or to the
+    /// dead state where under a leftmost kind an empty pattern has begun the match.
+    fn fill_start(&self, table: &mut [StateID])
+        requires { (nodes : List Node) × MayFillRow self.now nodes (length table.old) 2 [] Anchored.No table.old }
+        ensures { (nodes : List Node) → MayFillRow self.now nodes (length table.old) 2 [] Anchored.No table.old
+            → HasFilled (sheet_of self.now nodes) Anchored.No [] table.old table.new }
+    {
+        let sid = StateID::must(START);
+        let ends = self.nfa.match_kind().is_leftmost() && self.nfa.min_pattern_len() == 0;
+        if !ends {
+            let start = self.number(sid, Anchored::No);
+            lead_all(table, start, self.classes.alphabet_len());
+        }
+        self.set_own(table, sid, Anchored::No);
+    }
+
+    /// Fills the unanchored row of a state behind the starts: each class leads where it leads from the failure target,
+    /// but for those of the state's own transitions.
+    fn fill_inner(&self, table: &mut [StateID], sid: StateID)
+        requires { (nodes : List Node) × (w : List ℕ) × (w ≢ [])
+            × MayFillRow self.now nodes (length table.old) sid w Anchored.No table.old }
+        ensures { (nodes : List Node) (w : List ℕ) → w ≢ []
+            → MayFillRow self.now nodes (length table.old) sid w Anchored.No table.old
+            → HasFilled (sheet_of self.now nodes) Anchored.No w table.old table.new }
+    {
+        let from = first_row(self.numbers, self.nfa.fail(sid));
+        let to = self.number(sid, Anchored::No).as_usize();
+        table.copy_within(from..from + self.classes.alphabet_len(), to);
+        self.set_own(table, sid, Anchored::No);
+    }
+
+    /// Fills one of the rows of a state.
+    fn fill_row(&self, table: &mut [StateID], sid: StateID, anchored: Anchored)
+        requires { (nodes : List Node) × (w : List ℕ)
+            × MayFillRow self.now nodes (length table.old) sid w anchored table.old }
+        ensures { (nodes : List Node) (w : List ℕ)
+            → MayFillRow self.now nodes (length table.old) sid w anchored table.old
+            → HasFilled (sheet_of self.now nodes) anchored w table.old table.new }
+    {
+        match anchored {
+            Anchored::Yes => self.set_own(table, sid, Anchored::Yes),
+            Anchored::No if sid.as_usize() == START => self.fill_start(table),
+            Anchored::No => self.fill_inner(table, sid),
+        }
+    }
+
+    /// Fills the rows of a state.
+    fn fill_state(&self, table: &mut [StateID], sid: StateID)
+        requires { (nodes : List Node) × (w : List ℕ) × HasRow self.now nodes (length table.old) sid w
+            × FilledUpTo self.now nodes (length table.old) sid table.old }
+        ensures { (nodes : List Node) (w : List ℕ) → HasRow self.now nodes (length table.old) sid w
+            → FilledUpTo self.now nodes (length table.old) sid table.old
+            → FilledUpTo self.now nodes (length table.old) (sid + 1) table.new }
+    {
+        if !matches!(self.start_kind, StartKind::Anchored) {
+            self.fill_row(table, sid, Anchored::No);
+        }
+        if !matches!(self.start_kind, StartKind::Unanchored) {
+            self.fill_row(table, sid, Anchored::Yes);
+        }
+    }
+
+    /// Fills all rows of a table that has nothing but dead entries.
+    pub(super) fn fill(&self, table: &mut [StateID])
+        requires may { (nodes : List Node) × MayFill self.now nodes (length table.old) }
+        requires blank { (k : ℕ) → slice_index_or table.old k 0 ≡ 0 }
+        ensures { (nodes : List Node) → MayFill self.now nodes (length table.old)
+            → FilledUpTo self.now nodes (length table.old) (length nodes) table.new }
+    {
+        self.fill_state(table, StateID::must(START));
+        for state in FIRST_INNER..self.nfa.states_len() {
+            self.fill_state(table, StateID::must(state));
+        }
+    }
+}
+
+/// Lets each of so many classes lead to the state in whose row they stand.
+fn lead_all(table: &mut [StateID], start: StateID, classes: usize)
+    requires within { start + classes ≤ length table.old }
+    ensures same_length { length table.new ≡ length table.old }
+    ensures filled { (k : ℕ) → start ≤ k → k < start + classes → slice_index_or table.new k 0 ≡ start }
+    ensures beside { (k : ℕ) → (k < start) ⊎ (start + classes ≤ k)
+        → slice_index_or table.new k 0 ≡ slice_index_or table.old k 0 }
+{
+    for class in 0..classes {
+        table[start.as_usize() + class] = start;
     }
 }
 

@@ -68,7 +68,7 @@ loop-index-preserved g c = λ nodes w h.
 pub returns : goal.returns
 returns g c = λ nodes w h.
     let trie = ap (λ (f : Filling). f.trie) c.self.view_is in
-    let len = c.own_len-index-end.ensures nodes (Some w) (subst (λ (t : Trie). AreNodes t nodes) (sym trie) h.may.are_nodes) h.named
+    let len = c.own_len-index-end.ensures.value nodes (Some w) (subst (λ (t : Trie). AreNodes t nodes) (sym trie) h.may.are_nodes) h.named
     ∙ ap (λ (t : Trie). length (own_bytes t.built (Some w))) trie in
     let end = c.loop-index-test.false in
     rw (own_bytes-starts c.args.self.now.trie.built c.args.self.now.start_kind (Some w))
