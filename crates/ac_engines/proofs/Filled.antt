@@ -75,3 +75,12 @@ module _ (p : Sheet) where
           set.others b byte (λ has. false≢true (sym none ∙ own_bytes-only p.built (Some (x ∷ w)) b has))
           ∙ copies b byte ∙ target b byte
           ∙ ap (row_at p No) (sym (step-failure p.built.kind (plain_of p.built) x w (plain_byte p.built.fold b) none))
+
+  -- the same of a string that isn't empty
+  pub filled-longer : (w : List ℕ) (old copied new : List ℕ) → w ≢ []
+      → IsFilled p No (failure p.built.kind (plain_of p.built) w) old
+      → ((b : ℕ) → b < 256 → entry p.classes copied (row_at p No (Some w)) b
+      ≡ entry p.classes old (row_at p No (failure p.built.kind (plain_of p.built) w)) b)
+      → HasSet p No w (own_bytes p.built (Some w)) copied new → IsFilled p No (Some w) new
+  filled-longer [] old copied new some target copies set = absurd (some refl)
+  filled-longer (x ∷ w) old copied new some target copies set = filled-inner x w old copied new target copies set

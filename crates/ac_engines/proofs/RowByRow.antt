@@ -17,7 +17,8 @@ use Rattle.ac_automaton.specs.Automata.{plain_of, step_of}
 use Rattle.ac_automaton.specs.Readers.{leads_on, own_bytes}
 use Rattle.ac_engines.specs.Filling.{FilledUpTo, Filling, HasFilled, HasRow, HasSet, IsFilled, MayFill, MayFillRow, SameBeside, Sheet, row_at, sheet_of, width}
 use Rattle.ac_engines.specs.Rows.{behind, entry}
-use Rattle.ac_engines.proofs.Filled.{filled-anchored, filled-beside, filled-inner, own_bytes-has, own_bytes-only}
+use Rattle.ac_engines.proofs.Filled.{filled-anchored, filled-beside, filled-longer, own_bytes-has, own_bytes-only}
+use Rattle.ac_engines.proofs.Numbers.{behind-small}
 use Rattle.ac_engines.proofs.Numbered.{place-inner, place-row, place-start}
 use Rattle.ac_engines.proofs.Owning.{behind-most, own_bytes-starts, row-room}
 
@@ -74,10 +75,31 @@ module _ (f : Filling) (nodes : List Node) (size : ℕ) (may : MayFill f nodes s
       let row = row-of t (Some w) named other in
       omega arith
 
+  -- the rows of two states stand apart
+  pub rows-apart : (s t : ℕ) → (s ≡ 2) ⊎ (4 ≤ s) → 4 ≤ t → s < t → t < length f.numbers
+      → (slice_index_or f.numbers s 0 + width (sheet_of f nodes) ≤ slice_index_or f.numbers t 0)
+      ⊎ (slice_index_or f.numbers t 0 + width (sheet_of f nodes) ≤ slice_index_or f.numbers s 0)
+  rows-apart s t (inl start) inner order there =
+      let first = may.laid.start in
+      let at = ap (λ k. slice_index_or f.numbers k 0) start in
+      let later = may.laid.inner t inner there in
+      let small = behind-small f.start_kind Yes f.stride in
+      inl (omega arith)
+  rows-apart s t (inr other) inner order there = may.laid.apart s t other order there
+
+  -- and behind that of the dead state
+  pub row-behind : (s : ℕ) → (s ≡ 2) ⊎ (4 ≤ s) → s < length f.numbers
+      → 2 * f.stride ≤ slice_index_or f.numbers s 0
+  row-behind s (inl start) there =
+      let first = may.laid.start in
+      let at = ap (λ k. slice_index_or f.numbers k 0) start in
+      omega arith
+  row-behind s (inr inner) there = let later = may.laid.inner s inner there in omega arith
+
 -- what holds beside a part of the table that was changed twice
-beside-both : (p : Sheet) (first width : ℕ) (old between new : List ℕ) → SameBeside p first width old between
-    → SameBeside p first width between new → SameBeside p first width old new
-beside-both p first width old between new one two = λ k outside. two k outside ∙ one k outside
+beside-both : (p : Sheet) (first room : ℕ) (old between new : List ℕ) → SameBeside p first room old between
+    → SameBeside p first room between new → SameBeside p first room old new
+beside-both p first room old between new one two = λ k outside. two k outside ∙ one k outside
 
 module _ (f : Filling) (nodes : List Node) (size s : ℕ) (w : List ℕ) (h : HasRow f nodes size s w) where
   -- the sheet of the table
@@ -97,6 +119,11 @@ module _ (f : Filling) (nodes : List Node) (size s : ℕ) (w : List ℕ) (h : Ha
     filled = filled-anchored p w old new m.blank set;
   }
 
+  -- where a byte leads from the start that leads on
+  start-own : (b : ℕ) → leads_on p.built (Some []) b ≡ true
+      → step_of p.built No (Some []) b ≡ Some (plain_byte p.built.fold b ∷ [])
+  start-own b own = step-nil p.built.kind (plain_of p.built) (plain_byte p.built.fold b) ∙ rw own refl
+
   -- the start's row is filled where all classes led where a byte leads that doesn't lead on
   pub start-filled : (missing : Node) (old led new : List ℕ)
       → ((b : ℕ) → leads_on p.built (Some []) b ≡ false → step_of p.built No (Some []) b ≡ missing)
@@ -113,8 +140,7 @@ module _ (f : Filling) (nodes : List Node) (size s : ℕ) (w : List ℕ) (h : Ha
           → entry p.classes new (row_at p No (Some [])) b ≡ row_at p No (step_of p.built No (Some []) b)
       go b byte true own =
           set.own b byte (own_bytes-has p.built (Some []) b byte own)
-          ∙ ap (row_at p No) (sym (step-nil p.built.kind (plain_of p.built) (plain_byte p.built.fold b)
-          ∙ rw own refl))
+          ∙ ap (row_at p No) (sym (start-own b own))
       go b byte false none =
           set.others b byte (λ has. false≢true (sym none ∙ own_bytes-only p.built (Some []) b has))
           ∙ leads b byte ∙ ap (row_at p No) (sym (misses b none))
@@ -126,16 +152,17 @@ module _ (f : Filling) (nodes : List Node) (size s : ℕ) (w : List ℕ) (h : Ha
       step-nil p.built.kind (plain_of p.built) (plain_byte p.built.fold b) ∙ rw (none, stopped) refl
 
   -- an inner row is filled once that of the failure target was copied and its own transitions are set
-  pub inner-filled : (from len : ℕ) (old copied new : List ℕ) → w ≢ [] → MayFillRow f nodes size s w No old
+  pub inner-filled : (from len : ℕ) (old copied new : List ℕ) → w ≢ []
+      → IsFilled p No (failure f.trie.built.kind (plain_of f.trie.built) w) old
       → from ≡ row_at p No (failure f.trie.built.kind (plain_of f.trie.built) w) → len ≡ alphabet_len f.classes
       → length copied ≡ length old
       → CopiedTo old copied from (row_at p No (Some w)) len
       → SameBelow old copied (row_at p No (Some w)) → SameFrom old copied (row_at p No (Some w) + len)
       → HasSet p No w (own_bytes p.built (Some w)) copied new → HasFilled p No w old new
-  inner-filled from len old copied new some m target classes long copies below above set = record {
+  inner-filled from len old copied new some earlier target classes long copies below above set = record {
     same_length = set.same_length ∙ long;
     beside = beside-both p (row_at p No (Some w)) f.stride old copied new outside set.beside;
-    filled = by w refl;
+    filled = filled-longer p w old copied new some earlier copied-entry set;
   }
     where
       outside : SameBeside p (row_at p No (Some w)) f.stride old copied
@@ -150,6 +177,125 @@ module _ (f : Filling) (nodes : List Node) (size s : ℕ) (w : List ℕ) (h : Ha
               ≡ row_at p No (failure p.built.kind (plain_of p.built) w) + class_at f.classes b = omega arith in
           copies (row + class_at f.classes b) 0 (omega arith) (omega arith)
           ∙ ap (λ k. slice_index_or old k 0) place
-      by : (v : List ℕ) → w ≡ v → IsFilled p No (Some w) new
-      by [] same = absurd (some same)
-      by (x ∷ v) same = ?
+
+  -- where the rows of this state are filled and nothing else, those of all up to it are
+  pub filled-on : (old new : List ℕ) → FilledUpTo f nodes size s old → length new ≡ length old
+      → SameBeside p (slice_index_or f.numbers s 0) (width p) old new
+      → ((anchored : Anchored) → start_refusal f.start_kind anchored ≡ None → IsFilled p anchored (Some w) new)
+      → FilledUpTo f nodes size (s + 1) new
+  filled-on old new up long beside rows = record {
+    long = long ∙ up.long;
+    dead = λ k inside.
+        beside k (inl (let first = row-behind f nodes size h.may s h.place there in omega arith)) ∙ up.dead k inside;
+    filled = λ t u before other named anchored supported. elim (cases_lt t s) [
+      | inl earlier ↦ kept t u earlier other named anchored (up.filled t u earlier other named anchored supported)
+      | inr now ↦ last t u (omega arith) named anchored (rows anchored supported)
+    ];
+    blank = λ t k later other within from to. blank-still t k later other within from to;
+  }
+    where
+      there : s < length f.numbers
+      there = let within = slice_get_within nodes s (Some w) h.named in let count = h.may.laid.count in omega arith
+      last : (t : ℕ) (u : Node) → t ≡ s → slice_get nodes t ≡ Some u → (anchored : Anchored)
+          → IsFilled p anchored (Some w) new → IsFilled p anchored u new
+      last t u same named anchored filled =
+          let at = rw same at named in
+          let own = h.named in
+          let node : u ≡ Some w = cc in
+          rw node filled
+      kept : (t : ℕ) (u : Node) → t < s → t ≢ 3 → slice_get nodes t ≡ Some u → (anchored : Anchored)
+          → IsFilled p anchored u old → IsFilled p anchored u new
+      kept t None earlier other named anchored filled =
+          filled-beside p narrow anchored None (slice_index_or f.numbers s 0) (width p) old new
+          (inl (let first = row-behind f nodes size h.may s h.place there in omega arith)) beside filled
+      kept t (Some v) earlier other named anchored filled =
+          let row = has-row f nodes size h.may t v named other in
+          let place = place-row f nodes size t v row in
+          let most = behind-most f.start_kind anchored f.stride in
+          let inner : 4 ≤ s = elim h.place [
+            | inl start ↦ elim row.place [ inl first ↦ absurd (omega arith) | inr behind ↦ absurd (omega arith) ]
+            | inr behind ↦ behind
+          ] in
+          filled-beside p narrow anchored (Some v) (slice_index_or f.numbers s 0) (width p) old new
+          (elim (rows-apart f nodes size h.may t s row.place inner earlier there) [
+            | inl before ↦ inl (omega arith)
+            | inr behind ↦ inr (omega arith)
+          ]) beside filled
+      blank-still : (t k : ℕ) → s + 1 ≤ t → t ≢ 3 → t < length nodes → slice_index_or f.numbers t 0 ≤ k
+          → k < slice_index_or f.numbers t 0 + width p → slice_index_or new k 0 ≡ 0
+      blank-still t k later other within from to =
+          let count = h.may.laid.count in
+          let inner : 4 ≤ t = elim (cases_lt 3 t) [
+            | inl behind ↦ omega arith
+            | inr first ↦ absurd (other (elim h.place [ inl start ↦ omega arith | inr behind ↦ omega arith ]))
+          ] in
+          beside k (elim (rows-apart f nodes size h.may s t h.place inner (omega arith) (omega arith)) [
+            | inl before ↦ inr (omega arith)
+            | inr behind ↦ inl (omega arith)
+          ])
+          ∙ up.blank t k (omega arith) other within from to
+
+  -- the row of a state may be filled once those before it are
+  pub may-row : (anchored : Anchored) (old : List ℕ) → start_refusal f.start_kind anchored ≡ None
+      → FilledUpTo f nodes size s old → MayFillRow f nodes size s w anchored old
+  may-row anchored old supported up = record {
+    row = h;
+    blank = λ b byte.
+        let within = slice_get_within nodes s (Some w) h.named in
+        let place = place-row f nodes size s w h in
+        let most = behind-most f.start_kind anchored f.stride in
+        let class = narrow b byte in
+        up.blank s (row_at p anchored (Some w) + class_at f.classes b) (omega arith)
+        (λ third. elim h.place [ inl start ↦ omega arith | inr inner ↦ omega arith ])
+        within (omega arith) (omega arith);
+    earlier = λ unanchored t u before other named.
+        up.filled t u before other named No (rw (sym unanchored) supported);
+  }
+
+  -- what was changed in a row was changed in the rows of the state
+  row-beside : (anchored : Anchored) (old new : List ℕ) → SameBeside p (row_at p anchored (Some w)) f.stride old new
+      → SameBeside p (slice_index_or f.numbers s 0) (width p) old new
+  row-beside anchored old new beside k outside =
+      let place = place-row f nodes size s w h in
+      let most = behind-most f.start_kind anchored f.stride in
+      beside k (elim outside [ inl before ↦ inl (omega arith) | inr behind ↦ inr (omega arith) ])
+
+  -- with the only row of a state filled
+  pub one-filled : (anchored : Anchored) (old new : List ℕ)
+      → ((other : Anchored) → start_refusal f.start_kind other ≡ None → other ≡ anchored)
+      → FilledUpTo f nodes size s old → HasFilled p anchored w old new → FilledUpTo f nodes size (s + 1) new
+  one-filled anchored old new only up filled =
+      filled-on old new up filled.same_length (row-beside anchored old new filled.beside)
+      (λ other supported. rw (only other supported) filled.filled)
+
+  -- where there are both starts the anchored row stands behind the unanchored one
+  both-rows : f.start_kind ≡ Both → row_at p Yes (Some w) ≡ row_at p No (Some w) + f.stride
+  both-rows both =
+      let yes = ap (λ kind. behind kind Yes f.stride) both in
+      let no = ap (λ kind. behind kind No f.stride) both in
+      omega arith
+
+  -- and is still empty when that is filled
+  pub second-row : (old between : List ℕ) → f.start_kind ≡ Both → MayFillRow f nodes size s w Yes old
+      → HasFilled p No w old between → MayFillRow f nodes size s w Yes between
+  second-row old between both m first = record {
+    row = h;
+    blank = λ b byte.
+        let rows = both-rows both in
+        first.beside (row_at p Yes (Some w) + class_at f.classes b) (inr (omega arith)) ∙ m.blank b byte;
+    earlier = λ other. absurd cc;
+  }
+
+  -- with both rows filled
+  pub both-filled : (old between new : List ℕ) → f.start_kind ≡ Both → FilledUpTo f nodes size s old
+      → HasFilled p No w old between → HasFilled p Yes w between new → FilledUpTo f nodes size (s + 1) new
+  both-filled old between new both up first second =
+      filled-on old new up (second.same_length ∙ first.same_length)
+      (beside-both p (slice_index_or f.numbers s 0) (width p) old between new (row-beside No old between first.beside)
+      (row-beside Yes between new second.beside)) each
+    where
+      each : (anchored : Anchored) → start_refusal f.start_kind anchored ≡ None → IsFilled p anchored (Some w) new
+      each Yes supported = second.filled
+      each No supported =
+          filled-beside p narrow No (Some w) (row_at p Yes (Some w)) f.stride between new
+          (inl (let rows = both-rows both in omega arith)) second.beside first.filled

@@ -1,6 +1,8 @@
 -- Where the start leads.
-use Rattle.std.proofs.Common.{◌≡◌, ℕ, ◌<◌, ◌≤◌, Bool, true, false, ◌&&◌, ◌||◌, cond, List, [], ◌∷◌, map, length, min, refl, ap, sym, ◌∙◌, arith, Some, None}
-use Rattle.ac_util.specs.Node.{begins_with_pattern}
+use Rattle.std.proofs.Common.{◌≡◌, ℕ, ◌<◌, ◌≤◌, Bool, true, false, ◌⊎◌, inl, inr, List, [], ◌∷◌, map, length, min, refl, ap, sym, ◌∙◌, arith, Some, None}
+use Rattle.std.specs.Prelude.{◌&&◌, if◌then◌else◌}
+use Rattle.ac_util.specs.declared.search.MatchKind.{MatchKind}
+use Rattle.ac_util.specs.Node.{begins_with_pattern, is_leftmost}
 use Rattle.ac_util.specs.Sameness.{plain}
 use Rattle.ac_util.specs.Sizes.{shortest_len}
 
@@ -17,3 +19,19 @@ pub begins-longer : (fold : Bool) (patterns : List (List ℕ)) → 0 < shortest_
 begins-longer fold [] some = refl
 begins-longer fold ([] ∷ ps) some = absurd (omega arith)
 begins-longer fold ((x ∷ p) ∷ ps) some = begins-longer fold ps (omega arith)
+
+-- by a byte that doesn't lead on the start leads to the dead state where it stops there, else to itself
+pub missing-dead : (kind : MatchKind) (fold : Bool) (patterns : List (List ℕ)) (start : ℕ)
+    → is_leftmost kind ≡ true → shortest_len patterns ≡ 0
+    → 0 ≡ (if is_leftmost kind && begins_with_pattern (map (plain fold) patterns) [] then 0 else start)
+missing-dead kind fold patterns start leftmost empty = rw (leftmost, begins-shortest fold patterns empty) refl
+
+pub missing-start : (kind : MatchKind) (fold : Bool) (patterns : List (List ℕ)) (start : ℕ)
+    → (is_leftmost kind ≡ false) ⊎ (0 < shortest_len patterns)
+    → start ≡ (if is_leftmost kind && begins_with_pattern (map (plain fold) patterns) [] then 0 else start)
+missing-start kind fold patterns start (inl other) = rw other refl
+missing-start kind fold patterns start (inr some) = rw (begins-longer fold patterns some) (go (is_leftmost kind))
+  where
+    go : (t : Bool) → start ≡ (if t && false then 0 else start)
+    go true = refl
+    go false = refl

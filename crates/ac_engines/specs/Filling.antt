@@ -8,10 +8,10 @@ use Rattle.ac_util.specs.Built.{Built}
 use Rattle.ac_util.specs.Classes.{SetsApart, alphabet_len, class_at}
 use Rattle.ac_automaton.specs.Readers.{AreNodes}
 use Rattle.ac_automaton.specs.Tries.{Trie}
-use Rattle.ac_util.specs.Node.{Node, failure}
+use Rattle.ac_util.specs.Node.{Node}
 use Rattle.ac_util.specs.Refusal.{start_refusal}
 use Rattle.ac_util.specs.Sameness.{plain_byte}
-use Rattle.ac_automaton.specs.Automata.{plain_of, step_of}
+use Rattle.ac_automaton.specs.Automata.{step_of}
 use Rattle.ac_engines.specs.Rows.{behind, entry, number_of}
 
 -- what a table is filled from: what it is built from, the class of each byte, how many entries a row has, which node
@@ -125,10 +125,10 @@ module _ (f : Filling) (nodes : List Node) (size : ℕ) where
     pub blank : (t k : ℕ) → s ≤ t → t ≢ 3 → t < length nodes → slice_index_or f.numbers t 0 ≤ k
         → k < slice_index_or f.numbers t 0 + width (sheet_of f nodes) → slice_index_or entries k 0 ≡ 0
 
-  -- the row of a state is as empty as that of the dead state, and if it is unanchored that of the failure target is
+  -- the row of a state is as empty as that of the dead state, and if it is unanchored those of all states before are
   -- filled
   pub record MayFillRow (s : ℕ) (w : List ℕ) (anchored : Anchored) (entries : List ℕ) : Type 0 where
     pub row : HasRow s w
     pub blank : (b : ℕ) → b < 256 → entry f.classes entries (row_at (sheet_of f nodes) anchored (Some w)) b ≡ 0
-    pub target : anchored ≡ No → w ≢ []
-        → IsFilled (sheet_of f nodes) No (failure f.trie.built.kind (plain_of f.trie.built) w) entries
+    pub earlier : anchored ≡ No → (t : ℕ) (u : Node) → t < s → t ≢ 3 → slice_get nodes t ≡ Some u
+        → IsFilled (sheet_of f nodes) No u entries

@@ -1,14 +1,15 @@
 //! Filling the rows of a table.
-ghost use Rattle.std.specs.Prelude.{◌≡◌, ◌≢◌, ◌⊎◌, ℕ, ◌+◌, ◌<◌, ◌≤◌, List, [], Some, length, slice_index_or};
+ghost use Rattle.std.specs.Prelude.{◌≡◌, ◌≢◌, ◌⊎◌, ◌&&◌, if◌then◌else◌, ℕ, ◌+◌, ◌<◌, ◌≤◌, List, [], Some, length, slice_index_or};
 ghost use Rattle.ac_util.specs.declared.primitives.TheConstants.{GREATEST};
-ghost use Rattle.ac_util.specs.Node.{Node};
+ghost use Rattle.ac_util.specs.Node.{Node, begins_with_pattern, is_leftmost};
+ghost use Rattle.ac_automaton.specs.Automata.{plain_of};
 ghost use Rattle.ac_util.specs.declared.search.Anchored;
 ghost use Rattle.ac_automaton.specs.Readers.{own_bytes};
 ghost use Rattle.ac_engines.specs.Filling.{FilledUpTo, HasFilled, HasRow, HasSet, MayFill, MayFillRow, row_at, sheet_of};
 ghost use Rattle.ac_engines.specs.Rows.{behind};
 
 use ac_automaton::automaton::Automaton;
-use ac_automaton::nfa::noncontiguous::{FIRST_INNER, NFA, START};
+use ac_automaton::nfa::noncontiguous::{DEAD, FIRST_INNER, NFA, START};
 use ac_util::alphabet::ByteClasses;
 use ac_util::primitives::StateID;
 use ac_util::search::{Anchored, StartKind};
@@ -84,12 +85,21 @@ impl<'a, A: Allocator> Filler<'a, A> {
             → HasFilled (sheet_of self.now nodes) Anchored.No [] table.old table.new }
     {
         let sid = StateID::must(START);
-        let ends = self.nfa.match_kind().is_leftmost() && self.nfa.min_pattern_len() == 0;
-        if !ends {
-            let start = self.number(sid, Anchored::No);
-            lead_all(table, start, self.classes.alphabet_len());
-        }
+        let start = self.number(sid, Anchored::No);
+        lead_all(table, start, self.missing(start), self.classes.alphabet_len());
         self.set_own(table, sid, Anchored::No);
+    }
+
+    /// Returns where a byte leads from the start that doesn't lead on.
+    fn missing(&self, start: StateID) -> StateID
+        ensures { result ≡ (if is_leftmost self.now.trie.built.kind
+            && begins_with_pattern (plain_of self.now.trie.built) [] then 0 else start) }
+    {
+        if self.nfa.match_kind().is_leftmost() && self.nfa.min_pattern_len() == 0 {
+            StateID::must(DEAD)
+        } else {
+            start
+        }
     }
 
     /// Fills the unanchored row of a state behind the starts: each class leads where it leads from the failure target,
@@ -130,11 +140,13 @@ impl<'a, A: Allocator> Filler<'a, A> {
             → FilledUpTo self.now nodes (length table.old) sid table.old
             → FilledUpTo self.now nodes (length table.old) (sid + 1) table.new }
     {
-        if !matches!(self.start_kind, StartKind::Anchored) {
-            self.fill_row(table, sid, Anchored::No);
-        }
-        if !matches!(self.start_kind, StartKind::Unanchored) {
-            self.fill_row(table, sid, Anchored::Yes);
+        match self.start_kind {
+            StartKind::Unanchored => self.fill_row(table, sid, Anchored::No),
+            StartKind::Anchored => self.fill_row(table, sid, Anchored::Yes),
+            StartKind::Both => {
+                self.fill_row(table, sid, Anchored::No);
+                self.fill_row(table, sid, Anchored::Yes);
+            }
         }
     }
 
@@ -152,16 +164,16 @@ impl<'a, A: Allocator> Filler<'a, A> {
     }
 }
 
-/// Lets each of so many classes lead to the state in whose row they stand.
-fn lead_all(table: &mut [StateID], start: StateID, classes: usize)
-    requires within { start + classes ≤ length table.old }
+/// Lets each of so many classes lead from one state to another.
+fn lead_all(table: &mut [StateID], from: StateID, to: StateID, classes: usize)
+    requires within { from + classes ≤ length table.old }
     ensures same_length { length table.new ≡ length table.old }
-    ensures filled { (k : ℕ) → start ≤ k → k < start + classes → slice_index_or table.new k 0 ≡ start }
-    ensures beside { (k : ℕ) → (k < start) ⊎ (start + classes ≤ k)
+    ensures filled { (k : ℕ) → from ≤ k → k < from + classes → slice_index_or table.new k 0 ≡ to }
+    ensures beside { (k : ℕ) → (k < from) ⊎ (from + classes ≤ k)
         → slice_index_or table.new k 0 ≡ slice_index_or table.old k 0 }
 {
     for class in 0..classes {
-        table[start.as_usize() + class] = start;
+        table[from.as_usize() + class] = to;
     }
 }
 

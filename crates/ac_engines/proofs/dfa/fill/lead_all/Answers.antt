@@ -15,20 +15,20 @@ pub loop-class-preserved : goal.loop-class-preserved
 loop-class-preserved c =
     let led = c.loop-class.invariant in
     let at = c.as_usize.result + c.loop-class.class in
-    let start = c.as_usize.ensures.value in
+    let from = c.as_usize.ensures.value in
     let within = c.requires.within in
     let long = led.same_length in
     let more = c.loop-class-test.true in
     record {
-      same_length = length-set c.loop-class.table at c.args.start ∙ long;
+      same_length = length-set c.loop-class.table at c.args.to ∙ long;
       filled = λ k above below. elim (cases_eq k at) [
-        | inl same ↦ rw same (get_or-set_same c.loop-class.table at c.args.start 0 (omega arith))
-        | inr other ↦ get_or-set_other c.loop-class.table at k c.args.start 0 other ∙ led.filled k above (omega arith)
+        | inl same ↦ rw same (get_or-set_same c.loop-class.table at c.args.to 0 (omega arith))
+        | inr other ↦ get_or-set_other c.loop-class.table at k c.args.to 0 other ∙ led.filled k above (omega arith)
       ];
       beside = λ k outside. elim outside [
-        | inl before ↦ get_or-set_other c.loop-class.table at k c.args.start 0 (λ same. omega arith)
+        | inl before ↦ get_or-set_other c.loop-class.table at k c.args.to 0 (λ same. omega arith)
           ∙ led.beside k (inl before)
-        | inr behind ↦ get_or-set_other c.loop-class.table at k c.args.start 0 (λ same. omega arith)
+        | inr behind ↦ get_or-set_other c.loop-class.table at k c.args.to 0 (λ same. omega arith)
           ∙ led.beside k (inr (omega arith))
       ];
     }
