@@ -1,6 +1,6 @@
 -- The rows of a table, filled one after another.
 use Rattle.std.proofs.Common.{◌≡◌, ◌≢◌, ◌⊎◌, inl, inr, ℕ, zero, suc, ◌+◌, ◌-◌, ◌*◌, ◌<◌, ◌≤◌, Bool, true, false, cond, List, [], ◌∷◌, ◌++◌, length, slice_index_or, refl, ap, sym, subst, ◌∙◌, arith, Some, None}
-use Rattle.std.specs.Prelude.{◌&&◌, slice_get}
+use Rattle.std.specs.Prelude.{if◌then◌else◌, slice_get}
 use Rattle.std.specs.List.{CopiedTo, SameBelow, SameFrom}
 use Rattle.std.proofs.lemmas.Bool.{cases_eq, cases_lt, false≢true}
 use Rattle.std.proofs.lemmas.Option.{slice_get_within}
@@ -8,6 +8,7 @@ use Rattle.ac_util.specs.declared.search.Anchored.{Anchored}
 use Rattle.ac_util.specs.declared.search.Anchored.TheVariants.{No, Yes}
 use Rattle.ac_util.specs.declared.search.StartKind.{StartKind}
 use Rattle.ac_util.specs.declared.search.StartKind.TheVariants.{Anchored as AnchoredAlone, Both, Unanchored}
+use Rattle.ac_util.specs.declared.search.MatchKind.{MatchKind}
 use Rattle.ac_util.specs.Classes.{alphabet_len, class_at}
 use Rattle.ac_util.specs.Node.{Node, begins_with_pattern, failure, is_leftmost}
 use Rattle.ac_util.specs.Refusal.{start_refusal}
@@ -96,6 +97,14 @@ module _ (f : Filling) (nodes : List Node) (size : ℕ) (may : MayFill f nodes s
       omega arith
   row-behind s (inr inner) there = let later = may.laid.inner s inner there in omega arith
 
+-- the failure target of a string that isn't empty
+pub failed-to : (kind : MatchKind) (patterns : List (List ℕ)) (nodes : List Node) (s t : ℕ) (w : List ℕ) → w ≢ []
+    → ((x : ℕ) (u : List ℕ) → slice_get nodes s ≡ Some (Some (x ∷ u))
+    → slice_get nodes t ≡ Some (failure kind patterns (x ∷ u)))
+    → slice_get nodes s ≡ Some (Some w) → slice_get nodes t ≡ Some (failure kind patterns w)
+failed-to kind patterns nodes s t [] some target named = absurd (some refl)
+failed-to kind patterns nodes s t (x ∷ w) some target named = target x w named
+
 -- what holds beside a part of the table that was changed twice
 beside-both : (p : Sheet) (first room : ℕ) (old between new : List ℕ) → SameBeside p first room old between
     → SameBeside p first room between new → SameBeside p first room old new
@@ -151,31 +160,53 @@ module _ (f : Filling) (nodes : List Node) (size s : ℕ) (w : List ℕ) (h : Ha
   start-misses t stopped b none =
       step-nil p.built.kind (plain_of p.built) (plain_byte p.built.fold b) ∙ rw (none, stopped) refl
 
+  -- the row of that node
+  pub missing-row : (t : Bool) → (if t then 0 else row_at p No (Some [])) ≡ row_at p No (cond t None (Some []))
+  missing-row true = refl
+  missing-row false = refl
+
+  -- the start's row, where all its classes first led to that node
+  pub start-led : (t : Bool) (start to len : ℕ) (old led new : List ℕ) → w ≡ []
+      → stops p.built.kind (plain_of p.built) [] ≡ t → start ≡ row_at p No (Some [])
+      → to ≡ (if t then 0 else start) → len ≡ alphabet_len f.classes → length led ≡ length old
+      → ((k : ℕ) → start ≤ k → k < start + len → slice_index_or led k 0 ≡ to)
+      → ((k : ℕ) → (k < start) ⊎ (start + len ≤ k) → slice_index_or led k 0 ≡ slice_index_or old k 0)
+      → HasSet p No [] (own_bytes p.built (Some [])) led new → HasFilled p No [] old new
+  start-led t start to len old led new empty stopped row target classes long leads beside set =
+      start-filled (cond t None (Some [])) old led new (start-misses t stopped) long
+      (λ k outside. beside k (elim outside [
+        | inl before ↦ inl (omega arith)
+        | inr behind ↦ inr (let room = h.may.room in omega arith)
+      ]))
+      (λ b byte. leads (row_at p No (Some []) + class_at f.classes b) (omega arith)
+      (let below = h.may.below b byte in omega arith)
+      ∙ target ∙ ap (λ n. if t then 0 else n) row ∙ missing-row t)
+      set
+
   -- an inner row is filled once that of the failure target was copied and its own transitions are set
-  pub inner-filled : (from len : ℕ) (old copied new : List ℕ) → w ≢ []
+  pub inner-filled : (from to len : ℕ) (old copied new : List ℕ) → w ≢ []
       → IsFilled p No (failure f.trie.built.kind (plain_of f.trie.built) w) old
-      → from ≡ row_at p No (failure f.trie.built.kind (plain_of f.trie.built) w) → len ≡ alphabet_len f.classes
-      → length copied ≡ length old
-      → CopiedTo old copied from (row_at p No (Some w)) len
-      → SameBelow old copied (row_at p No (Some w)) → SameFrom old copied (row_at p No (Some w) + len)
+      → from ≡ row_at p No (failure f.trie.built.kind (plain_of f.trie.built) w) → to ≡ row_at p No (Some w)
+      → len ≡ alphabet_len f.classes → length copied ≡ length old
+      → CopiedTo old copied from to len → SameBelow old copied to → SameFrom old copied (to + len)
       → HasSet p No w (own_bytes p.built (Some w)) copied new → HasFilled p No w old new
-  inner-filled from len old copied new some earlier target classes long copies below above set = record {
+  inner-filled from to len old copied new some earlier target row classes long copies below above set = record {
     same_length = set.same_length ∙ long;
     beside = beside-both p (row_at p No (Some w)) f.stride old copied new outside set.beside;
     filled = filled-longer p w old copied new some earlier copied-entry set;
   }
     where
       outside : SameBeside p (row_at p No (Some w)) f.stride old copied
-      outside k (inl before) = below k 0 before
+      outside k (inl before) = below k 0 (omega arith)
       outside k (inr behind) = above k 0 (let room = h.may.room in omega arith)
       copied-entry : (b : ℕ) → b < 256 → entry p.classes copied (row_at p No (Some w)) b
           ≡ entry p.classes old (row_at p No (failure p.built.kind (plain_of p.built) w)) b
       copied-entry b byte =
           let small = h.may.below b byte in
-          let row = row_at p No (Some w) in
-          let place : from + (row + class_at f.classes b - row)
+          let at = row_at p No (Some w) + class_at f.classes b in
+          let place : from + (at - to)
               ≡ row_at p No (failure p.built.kind (plain_of p.built) w) + class_at f.classes b = omega arith in
-          copies (row + class_at f.classes b) 0 (omega arith) (omega arith)
+          copies at 0 (omega arith) (omega arith)
           ∙ ap (λ k. slice_index_or old k 0) place
 
   -- where the rows of this state are filled and nothing else, those of all up to it are
@@ -299,3 +330,51 @@ module _ (f : Filling) (nodes : List Node) (size s : ℕ) (w : List ℕ) (h : Ha
       each No supported =
           filled-beside p narrow No (Some w) (row_at p Yes (Some w)) f.stride between new
           (inl (let rows = both-rows both in omega arith)) second.beside first.filled
+
+-- a table for one start has rows for its searches alone
+pub only-unanchored : (kind : StartKind) → kind ≡ Unanchored → (other : Anchored) → start_refusal kind other ≡ None
+    → other ≡ No
+only-unanchored kind is No supported = refl
+only-unanchored kind is Yes supported = let refused = rw is at supported in absurd cc
+
+pub only-anchored : (kind : StartKind) → kind ≡ AnchoredAlone → (other : Anchored) → start_refusal kind other ≡ None
+    → other ≡ Yes
+only-anchored kind is Yes supported = refl
+only-anchored kind is No supported = let refused = rw is at supported in absurd cc
+
+module _ (f : Filling) (nodes : List Node) (size : ℕ) (may : MayFill f nodes size) where
+  -- a table with nothing but dead entries has the rows of the first two states filled
+  pub filled-none : (entries : List ℕ) → length entries ≡ size → ((k : ℕ) → slice_index_or entries k 0 ≡ 0)
+      → FilledUpTo f nodes size 2 entries
+  filled-none entries long blank = record {
+    long = long;
+    dead = λ k inside. blank k;
+    filled = λ t u before other named anchored supported. first t u before named anchored;
+    blank = λ t k later other within from to. blank k;
+  }
+    where
+      first : (t : ℕ) (u : Node) → t < 2 → slice_get nodes t ≡ Some u → (anchored : Anchored)
+          → IsFilled (sheet_of f nodes) anchored u entries
+      first zero u before named anchored = let dead = may.are_nodes.dead in
+          let none : u ≡ None = cc in rw none (λ b byte. blank (0 + class_at f.classes b))
+      first (suc zero) u before named anchored = let dead = may.are_nodes.unreached in
+          let none : u ≡ None = cc in rw none (λ b byte. blank (0 + class_at f.classes b))
+      first (suc (suc t)) u before named anchored = absurd (omega arith)
+
+  -- the start of anchored searches has no row of its own
+  pub filled-third : (entries : List ℕ) → FilledUpTo f nodes size 3 entries → FilledUpTo f nodes size 4 entries
+  filled-third entries up = record {
+    long = up.long;
+    dead = up.dead;
+    filled = λ t u before other named anchored supported. elim (cases_lt t 3) [
+      | inl earlier ↦ up.filled t u earlier other named anchored supported
+      | inr third ↦ absurd (other (omega arith))
+    ];
+    blank = λ t k later other within from to. up.blank t k (omega arith) other within from to;
+  }
+
+  -- each state behind the starts has a row
+  pub row-at : (s : ℕ) → 4 ≤ s → s < length nodes → (w : List ℕ) × HasRow f nodes size s w
+  row-at s inner within =
+      let node = may.are_nodes.numbered.node s inner within in
+      (node.0, record { may = may; named = node.1.named; place = inr inner })

@@ -1,10 +1,36 @@
+use Rattle.std.proofs.Common.{◌≡◌, ◌≢◌, ℕ, List, [], length, inl, inr, ap, sym, arith, ◌∙◌, Some}
+use Rattle.std.specs.Prelude.{slice_get}
+use Rattle.ac_automaton.specs.Readers.{AreNodes}
+use Rattle.ac_util.specs.Node.{Node}
+use Rattle.ac_engines.specs.Filling.{Filling, HasRow}
+use Rattle.ac_engines.proofs.Numbered.{inner-string}
+use Rattle.ac_engines.proofs.RowByRow.{anchored-filled}
 use Rattle.ac_engines.proofs.dfa.fill.Filler.fill_row.Goals as goal
 
+-- behind the start no string is empty
+not-empty : (f : Filling) (nodes : List Node) (size s : ℕ) (w : List ℕ) → HasRow f nodes size s w → (s ≡ 2 → ⊥)
+    → w ≢ []
+not-empty f nodes size s w h other = elim h.place [
+  | inl start ↦ absurd (other start)
+  | inr inner ↦ inner-string f.trie nodes h.may.are_nodes s w inner h.named
+]
+
 pub fill_inner-requires : goal.fill_inner-requires
-fill_inner-requires g c = ?
+fill_inner-requires g c =
+    let m = rw c.in-No.is at c.requires.2 in
+    (c.requires.0, c.requires.1,
+    not-empty c.args.self.now c.requires.0 (length c.args.table.now) c.args.sid c.requires.1 m.row
+    (λ start. c.if-as_usize-eq-START.false (c.as_usize.ensures.value ∙ start)), m)
 
 pub returns-in-Yes : goal.returns-in-Yes
-returns-in-Yes g c = ?
+returns-in-Yes g c = λ nodes w m'.
+    let m = rw c.in-Yes.is at m' in
+    rw c.in-Yes.is (anchored-filled c.args.self.now nodes (length c.args.table.now) c.args.sid w m.row c.args.table.now
+    c.set_own.new.table m (c.set_own.ensures nodes w m.row))
 
 pub returns-in-No-2 : goal.returns-in-No-2
-returns-in-No-2 g c = ?
+returns-in-No-2 g c = λ nodes w m'.
+    let m = rw c.in-No.is at m' in
+    let some = not-empty c.args.self.now nodes (length c.args.table.now) c.args.sid w m.row
+    (λ start. c.if-as_usize-eq-START.false (c.as_usize.ensures.value ∙ start)) in
+    rw c.in-No.is (c.fill_inner.ensures nodes w some m)

@@ -1,7 +1,34 @@
+use Rattle.std.proofs.Common.{◌≡◌, ℕ, ◌+◌, Bool, true, false, cond, length, inl, inr, refl, ap, sym, subst, arith, ◌∙◌, [], Some, None}
+use Rattle.std.specs.Prelude.{if◌then◌else◌}
+use Rattle.ac_util.specs.declared.search.Anchored.TheVariants.{No}
+use Rattle.ac_util.specs.Classes.{alphabet_len, class_at}
+use Rattle.ac_util.proofs.Reached.{stops}
+use Rattle.ac_automaton.specs.Automata.{plain_of}
+use Rattle.ac_engines.specs.Filling.{Filling, HasRow, row_at, sheet_of}
+use Rattle.ac_engines.proofs.Owning.{row-room}
+use Rattle.ac_engines.proofs.RowByRow.{start-led}
 use Rattle.ac_engines.proofs.dfa.fill.Filler.fill_start.Goals as goal
 
 pub lead_all-requires : goal.lead_all-requires
-lead_all-requires g c = ?
+lead_all-requires g c =
+    let m = c.requires.1 in
+    let size = length c.args.table.now in
+    let row = c.number-start.ensures c.requires.0 size [] (rw c.must-sid.ensures.value m.row) in
+    let room = row-room c.args.self.now c.requires.0 size 2 [] m.row No in
+    let len = c.alphabet_len.ensures.value in
+    let classes = ap (λ (f : Filling). alphabet_len f.classes) c.self.view_is in
+    let fits = m.row.may.room in
+    record { within = omega arith }
 
+-- all classes led where none leads on, and over them its own transitions were set
 pub returns : goal.returns
-returns g c = λ nodes m. ?
+returns g c = λ nodes m.
+    let f = c.args.self.now in
+    let size = length c.args.table.now in
+    let row = c.number-start.ensures nodes size [] (rw c.must-sid.ensures.value m.row) in
+    let len = c.alphabet_len.ensures.value ∙ ap (λ (f : Filling). alphabet_len f.classes) c.self.view_is in
+    let set = c.set_own.ensures nodes []
+    (rw (c.lead_all.ensures.same_length, c.must-sid.ensures.value) m.row) in
+    start-led f nodes size 2 [] m.row (stops f.trie.built.kind (plain_of f.trie.built) []) c.number-start.result
+    c.missing.result c.alphabet_len.result c.args.table.now c.lead_all.new.table c.set_own.new.table refl refl row
+    c.missing.ensures len c.lead_all.ensures.same_length c.lead_all.ensures.filled c.lead_all.ensures.beside set
