@@ -252,7 +252,9 @@ module _ (site : Site) {unsorted : List Transition} {queue : List QueuedState}
       ascending = ascending;
       branches = branches;
       leads = leads;
+      small = λ k t e. h.small t (from-range t (IsIn-place t range k e));
       fails = h.waits.fails;
+      unanchored = h.waits.unanchored;
       back = h.waits.back;
       patterns_ordered = site.ends.later;
       within = (let w = h.waits.range.within in let m = length-map site.sorted (λ (q : Keyed). q.number) in

@@ -30,6 +30,7 @@ module _ {kind : MatchKind} {patterns : List (List ℕ)} {sorted : List Keyed} {
     deep = w.deep;
     range = w.range;
     fails = nodes-more sorted queue more p.fail _ w.fails;
+    unanchored = w.unanchored;
     back = w.back;
     some = w.some;
     inner = w.inner;
@@ -108,6 +109,7 @@ module _ (site : Site) where
         → slice_get (nodes_of site.sorted queue) t.target
         ≡ Some (Some (string ++ plain_byte site.fold t.byte ∷ []))
     pub by_patterns : (t : Transition) → IsIn t added → GoesOnBy place (plain_byte site.fold t.byte)
+    pub small : (t : Transition) → IsIn t added → t.byte < 256
     pub covered : (k b x : ℕ) → site.patterns_end ≤ k → k < place → next_byte k ≡ Some b
         → plain_byte site.fold x ≡ b
         → HasTransition x added
@@ -137,6 +139,7 @@ module _ (site : Site) where
     split = sym (append-nil site.transitions);
     leads = λ t none. absurd none;
     by_patterns = λ t none. absurd none;
+    small = λ t none. absurd none;
     covered = λ k b x l h e f. absurd (omega arith);
     apart = tt;
     smaller = λ more k a b.
@@ -165,6 +168,7 @@ module _ (site : Site) where
     pub some : place < end
     pub high : end ≤ site.queued.to
     pub byte : next_byte place ≡ Some b
+    pub small : b < 256
     pub same : (k : ℕ) → place ≤ k → k < end → next_byte k ≡ next_byte place
     pub other : end < site.queued.to → next_byte end ≢ next_byte place
 

@@ -9,13 +9,13 @@ use Rattle.ac_util.specs.declared.primitives.TheConstants.{GREATEST}
 use Rattle.ac_util.specs.Sameness.{plain_byte}
 use Rattle.ac_util.proofs.Lists.{IsIn, IsIn-append_cases, IsIn-append_left, IsIn-append_right, IsOrdered, IsOrdered-append}
 use Rattle.ac_automaton.specs.declared.nfa.noncontiguous.growth.QueuedState.{QueuedState}
-use Rattle.ac_automaton.specs.declared.nfa.noncontiguous.state.TheConstants.{START, FIRST_INNER}
+use Rattle.ac_automaton.specs.declared.nfa.noncontiguous.state.TheConstants.{START, ANCHORED_START, FIRST_INNER}
 use Rattle.ac_automaton.specs.declared.nfa.noncontiguous.state.Transition.{Transition}
 use Rattle.ac_automaton.specs.Growths.{IsGrown, IsNext, IsRangeOf, Waits, grown_meaning, leading, nodes_of, word}
 use Rattle.ac_automaton.specs.Sorted.{key_at}
 use Rattle.ac_automaton.specs.Tries.{miss}
 use Rattle.ac_automaton.proofs.Grown.{AreStates-more, IsInner, nodes-cases, nodes-inner, nodes-more}
-use Rattle.ac_automaton.proofs.Leading.{leading-apart, leading-has, leading-length, leading-plain}
+use Rattle.ac_automaton.proofs.Leading.{leading-apart, leading-has, leading-length, leading-plain, leading-small}
 use Rattle.ac_automaton.proofs.Orders.{rank}
 use Rattle.ac_util.proofs.Prefixes.{starts_with-length}
 use Rattle.ac_automaton.proofs.Places.{get-append, get-added, get-added_cases, get-same}
@@ -105,9 +105,9 @@ module _ (site : Site) {place end b : ℕ} {transitions : List Transition} {queu
   ]
 
   -- it waits for its children
-  child-waits : Waits site.kind site.patterns site.sorted (queue ++ child ∷ [])
+  child-waits : fail ≢ ANCHORED_START → Waits site.kind site.patterns site.sorted (queue ++ child ∷ [])
       (FIRST_INNER + length queue) child
-  child-waits =
+  child-waits unanchored =
       let front_long =
       starts_with-length (key_at site.sorted place) (string site ++ b ∷ []) (front site h run) in
       let named =
@@ -120,6 +120,7 @@ module _ (site : Site) {place end b : ℕ} {transitions : List Transition} {queu
             (child-range site h run);
         fails = nodes-more site.sorted queue (child ∷ []) fail _
             (fails ∙ ap (λ (v : List ℕ). Some (miss site.kind site.patterns (Some v))) (sym child-word));
+        unanchored = unanchored;
         back = λ l. omega arith;
         some = λ l. run.some;
         inner = λ l. omega arith;
@@ -156,10 +157,10 @@ module _ (site : Site) {place end b : ℕ} {transitions : List Transition} {queu
   settled = site.ready.settled place site.queued.depth b run.byte
 
   -- the trie is grown with it
-  still-grown : FIRST_INNER + length queue < GREATEST + 1
+  still-grown : fail ≢ ANCHORED_START → FIRST_INNER + length queue < GREATEST + 1
       → IsGrown site.kind site.patterns site.sorted (length site.states + 1)
       (transitions ++ more_transitions) (queue ++ child ∷ [])
-  still-grown few = record {
+  still-grown unanchored few = record {
     counted = (let added = leading-length site.fold b (FIRST_INNER + length queue) in
         omega (arith, h.grown.counted, added, length-append {A = Transition}, length_push queue child));
     few = omega (arith, length_push queue child);
@@ -171,7 +172,7 @@ module _ (site : Site) {place end b : ℕ} {transitions : List Transition} {queu
           (FIRST_INNER + k) r) new.1
           (subst (λ (n : ℕ). Waits site.kind site.patterns site.sorted (queue ++ child ∷ [])
           (FIRST_INNER + n) child)
-          (sym new.0) child-waits)
+          (sym new.0) (child-waits unanchored))
     ];
     apart = still-apart;
     parents = λ k q e. elim (get-added_cases queue child q k e) [
@@ -225,6 +226,13 @@ module _ (site : Site) {place end b : ℕ} {transitions : List Transition} {queu
     }
   ]
 
+  -- and each byte is that of the code
+  step-small : (t : Transition) → IsIn t (h.added ++ more_transitions) → t.byte < 256
+  step-small t has = elim (IsIn-append_cases t h.added more_transitions has) [
+    | inl old ↦ h.small t old
+    | inr new ↦ leading-small site.fold b (FIRST_INNER + length queue) run.small t new
+  ]
+
   -- each pattern up to the end of the run has a transition by its byte
   step-covered : (k c x : ℕ) → site.patterns_end ≤ k → k < end → next_byte site k ≡ Some c
       → plain_byte site.fold x ≡ c
@@ -274,10 +282,10 @@ module _ (site : Site) {place end b : ℕ} {transitions : List Transition} {queu
       ]
 
   -- with the child behind the queue the children up to the end of its run have come
-  pub branching-goes_on : FIRST_INNER + length queue < GREATEST + 1
+  pub branching-goes_on : fail ≢ ANCHORED_START → FIRST_INNER + length queue < GREATEST + 1
       → IsBranching site end (transitions ++ more_transitions) (queue ++ child ∷ [])
-  branching-goes_on few = record {
-    grown = still-grown few;
+  branching-goes_on unanchored few = record {
+    grown = still-grown unanchored few;
     meant =
         AreStates-more
         (grown_meaning site.kind site.fold site.patterns site.sorted site.transitions queue)
@@ -314,6 +322,7 @@ module _ (site : Site) {place end b : ℕ} {transitions : List Transition} {queu
         ∙ append_assoc site.transitions h.added more_transitions;
     leads = step-leads;
     by_patterns = step-by_patterns;
+    small = step-small;
     covered = step-covered;
     apart = step-apart;
     smaller = step-smaller;

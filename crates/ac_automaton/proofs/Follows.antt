@@ -1,20 +1,21 @@
 -- A walk from state to state along the failure targets: it keeps where the byte leads at last, and counts its
 -- looks.
-use Rattle.std.proofs.Common.{◌≡◌, ◌≢◌, ℕ, ◌+◌, ◌<◌, ◌≤◌, List, get_or, refl, ap, sym, subst, ◌∙◌, arith, Some, None, Contains}
+use Rattle.std.proofs.Common.{◌≡◌, ◌≢◌, ℕ, ◌+◌, ◌<◌, ◌≤◌, List, [], ◌∷◌, ◌++◌, length, inl, inr, get_or, refl, ap, sym, subst, ◌∙◌, arith, Some, None, Contains}
 use Rattle.std.specs.Prelude.{slice_get}
-use Rattle.std.proofs.lemmas.List.{get_or_read}
+use Rattle.std.proofs.lemmas.Bool.{cases_Bool, cond-true, cond-false}
+use Rattle.std.proofs.lemmas.List.{get_or_read, length_push}
 use Rattle.ac_util.specs.declared.search.Anchored.{Anchored}
 use Rattle.ac_util.specs.declared.search.Anchored.TheVariants.{No, Yes}
 use Rattle.ac_util.specs.Counts.{Counts, more_looks}
-use Rattle.ac_util.specs.Node.{Node, step}
+use Rattle.ac_util.specs.Node.{Node, is_node, step}
 use Rattle.ac_util.specs.Looks.{looks}
 use Rattle.ac_util.specs.Sameness.{plain_byte}
 use Rattle.ac_util.proofs.Lists.{Contains-from_IsIn, IsIn-map}
 use Rattle.ac_automaton.specs.declared.nfa.noncontiguous.state.State.{State}
-use Rattle.ac_automaton.specs.declared.nfa.noncontiguous.state.TheConstants.{DEAD, FIRST_INNER}
+use Rattle.ac_automaton.specs.declared.nfa.noncontiguous.state.TheConstants.{DEAD, ANCHORED_START, FIRST_INNER}
 use Rattle.ac_automaton.specs.declared.nfa.noncontiguous.state.Transition.{Transition}
 use Rattle.ac_automaton.specs.Tries.{Meaning, HasState, Represents, transition_bytes, own_target, transitions_of, miss}
-use Rattle.ac_automaton.proofs.Places.{IsIn-place}
+use Rattle.ac_automaton.proofs.Places.{IsIn-place, get-same}
 use Rattle.ac_automaton.proofs.Steps.{step-own_target, step-miss, step-on, looks-own_target, looks-short, looks-on}
 
 -- a node that cannot be alive is dead
@@ -32,6 +33,22 @@ more_looks-twice : (n m : ℕ) (counts : Counts) → more_looks m (more_looks n 
 more_looks-twice n m counts =
     let e : (counts.looks + n) + m ≡ counts.looks + (n + m) = omega arith in
     ap (λ (k : ℕ). record counts { looks = k }) e
+
+-- no transition of a node's own leads to the empty string
+own_target-longer : (g : Meaning) (v : Node) (b : ℕ) → own_target g v b ≢ Some []
+own_target-longer g None b e = absurd (cc)
+own_target-longer g (Some w) b e = elim (cases_Bool (is_node g.kind g.patterns longer)) [
+  | inl node ↦
+      let is : Some longer ≡ Some [] = sym (cond-true (is_node g.kind g.patterns longer) (Some longer) None node) ∙ e in
+      let none : longer ≡ [] = cc in
+      absurd (omega (arith, ap length none, length_push w (plain_byte g.fold b)))
+  | inr other ↦
+      let is : None ≡ Some [] = sym (cond-false (is_node g.kind g.patterns longer) (Some longer) None other) ∙ e in
+      absurd (cc)
+]
+  where
+    longer : List ℕ
+    longer = w ++ plain_byte g.fold b ∷ []
 
 -- the state that was read stands for the node of its number
 pub represented : (g : Meaning) (states : List State) (s : ℕ) (v : Node) (t : State)
@@ -59,6 +76,15 @@ module _ (g : Meaning) (transitions : List Transition) (same : g.transitions ≡
       → slice_get (transitions_of transitions t) k ≡ Some (record { byte = b; target = target })
       → slice_get g.nodes target ≡ Some (own_target g v b)
   leads-to k target at = r.leads k (record { byte = b; target = target }) (rw same at)
+
+  -- so the target is no start
+  pub leads-inner : (k target : ℕ)
+      → slice_get (transitions_of transitions t) k ≡ Some (record { byte = b; target = target })
+      → slice_get g.nodes ANCHORED_START ≡ Some (Some []) → target ≢ ANCHORED_START
+  leads-inner k target at start is =
+      own_target-longer g v b
+      (get-same g.nodes target (own_target g v b) (Some []) (leads-to k target at)
+      (ap (slice_get g.nodes) is ∙ start))
 
   -- any other byte leads nowhere
   pub leads-nowhere : (Contains (transition_bytes (transitions_of transitions t)) b → ⊥) → own_target g v b

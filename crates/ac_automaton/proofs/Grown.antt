@@ -121,7 +121,9 @@ module _ (g : Meaning) (transitions more : List Transition) (split : transitions
             (r.branches b);
         leads =
             λ k next h. keeps _ _ (r.leads k next (sym (ap (λ (ts : List Transition). slice_get ts k) e) ∙ h));
+        small = λ k next h. r.small k next (sym (ap (λ (ts : List Transition). slice_get ts k) e) ∙ h);
         fails = keeps _ _ r.fails;
+        unanchored = r.unanchored;
         back = r.back;
         patterns_ordered = r.patterns_ordered;
         within = r.within;

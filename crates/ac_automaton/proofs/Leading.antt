@@ -22,6 +22,10 @@ capital : (b : ℕ) → is_ascii_lowercase b ≡ true
     → (to_ascii_lowercase (to_ascii_uppercase b) ≡ b) × (to_ascii_uppercase b ≢ b)
 capital b small = (grind (arith, nat_tests), grind (arith, nat_tests))
 
+-- the capital of a small letter is a byte too
+capital-small : (b : ℕ) → b < 256 → is_ascii_lowercase b ≡ true → to_ascii_uppercase b < 256
+capital-small b small lower = grind (arith, nat_tests)
+
 -- the small letter of a byte is the byte, or that of which it is the capital
 small-of : (x b : ℕ) → to_ascii_lowercase x ≡ b → to_ascii_lowercase b ≡ b → x ≢ b
     → (is_ascii_lowercase b ≡ true) × (to_ascii_uppercase b ≡ x)
@@ -116,6 +120,21 @@ leading-apart fold b target = elim (leading-cases fold b target) [
     ((λ t none. absurd none), tt),
   )
   | inr alone ↦ subst (IsOrdered (λ s t. s.byte ≢ t.byte)) (sym alone) ((λ t none. absurd none), tt)
+]
+
+-- each is below 256 where the plain one is
+pub leading-small : (fold : Bool) (b target : ℕ) → b < 256 → (t : Transition) → IsIn t (leading fold b target)
+    → t.byte < 256
+leading-small fold b target small t h = elim (leading-cases fold b target) [
+  | inl both ↦ elim (subst (λ (ts : List Transition). IsIn t ts) both.2 h) [
+    | inl is ↦ omega (arith, ap (λ (s : Transition). s.byte) is)
+    | inr (inl is) ↦ omega (arith, ap (λ (s : Transition). s.byte) is, capital-small b small both.1)
+    | inr (inr none) ↦ absurd none
+  ]
+  | inr alone ↦ elim (subst (λ (ts : List Transition). IsIn t ts) alone h) [
+    | inl is ↦ omega (arith, ap (λ (s : Transition). s.byte) is)
+    | inr none ↦ absurd none
+  ]
 ]
 
 -- and at most two

@@ -22,6 +22,7 @@ pub mod Places
 pub mod Prefixes
 pub mod Ranges
 pub mod ReadOn
+pub mod Reading
 pub mod Sorting
 pub mod Stacks
 pub mod Starting

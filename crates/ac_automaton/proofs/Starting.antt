@@ -10,7 +10,7 @@ use Rattle.ac_util.proofs.Prefixes.{starts_with-length}
 use Rattle.ac_util.proofs.Lists.{IsIn-from_filter, nil-from_none, none-from_nil}
 use Rattle.ac_util.proofs.Participants.{IsIn-equal_to, equal_to-none_begins, leader, leader-takes_part}
 use Rattle.ac_automaton.specs.declared.nfa.noncontiguous.growth.QueuedState.{QueuedState}
-use Rattle.ac_automaton.specs.declared.nfa.noncontiguous.state.TheConstants.{DEAD, START}
+use Rattle.ac_automaton.specs.declared.nfa.noncontiguous.state.TheConstants.{DEAD, START, ANCHORED_START}
 use Rattle.ac_automaton.specs.Growths.{IsRangeOf, Waits}
 use Rattle.ac_automaton.specs.Sorted.{Keyed, IsOrder, byte_at}
 use Rattle.ac_automaton.specs.Tries.{miss}
@@ -89,11 +89,12 @@ module _ (kind : MatchKind) (patterns : List (List ℕ)) (sorted : List Keyed)
   -- the start waits with a failure target that stands for where it goes on
   waits : (fail : ℕ) → slice_get (None ∷ None ∷ Some [] ∷ Some [] ∷ []) fail ≡ Some
       (miss kind patterns (Some []))
-      → Waits kind patterns sorted [] START (queued_start fail)
-  waits fail e = record {
+      → fail ≢ ANCHORED_START → Waits kind patterns sorted [] START (queued_start fail)
+  waits fail e unanchored = record {
     deep = omega arith;
     range = all-range;
     fails = e;
+    unanchored = unanchored;
     back = λ l. absurd (omega arith);
     some = λ l. absurd (omega arith);
     inner = λ l. absurd (omega arith);
@@ -102,9 +103,11 @@ module _ (kind : MatchKind) (patterns : List (List ℕ)) (sorted : List Keyed)
   -- with an empty pattern a leftmost search ends there
   pub waits-dead : is_leftmost kind ≡ true → 0 < length sorted → byte_at sorted 0 0 ≡ None
       → Waits kind patterns sorted [] START (queued_start DEAD)
-  waits-dead leftmost some ends = waits DEAD (ap (λ (v : Node). Some v) (sym (miss-dead leftmost some ends)))
+  waits-dead leftmost some ends =
+      waits DEAD (ap (λ (v : Node). Some v) (sym (miss-dead leftmost some ends))) (λ e. absurd (omega arith))
 
   -- and else it stays there
   pub waits-start : (is_leftmost kind ≡ true → 0 < length sorted → byte_at sorted 0 0 ≢ None)
       → Waits kind patterns sorted [] START (queued_start START)
-  waits-start goes_on = waits START (ap (λ (v : Node). Some v) (sym (miss-stays goes_on)))
+  waits-start goes_on =
+      waits START (ap (λ (v : Node). Some v) (sym (miss-stays goes_on))) (λ e. absurd (omega arith))

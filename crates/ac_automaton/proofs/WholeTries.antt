@@ -31,7 +31,9 @@ Represents-beside g v t r = record {
   ascending = r.ascending;
   branches = r.branches;
   leads = r.leads;
+  small = r.small;
   fails = r.fails;
+  unanchored = r.unanchored;
   back = λ l. absurd (omega arith);
   patterns_ordered = r.patterns_ordered;
   within = r.within;
@@ -95,7 +97,9 @@ module _ (kind : MatchKind) (fold : Bool) (patterns : List (List ℕ)) (sorted :
     ascending = λ k h. absurd (omega arith);
     branches = λ b. ((λ has. absurd (omega (arith, has.1))), (λ some. absurd (some refl)));
     leads = λ k t e. absurd (cc);
+    small = λ k t e. absurd (cc);
     fails = refl;
+    unanchored = λ e. absurd (omega arith);
     back = λ h. absurd (omega arith);
     patterns_ordered = omega arith;
     within = omega arith;
@@ -278,6 +282,7 @@ module _ (texts : List (List ℕ)) {fold : Bool} {kind : MatchKind} {sorted : Li
         both = refl;
         states = h.meant;
         whole = omega (arith, counted);
+        few = omega (arith, h.grown.few);
         unreached = refl;
         start = refl;
         anchored_start = refl;

@@ -14,7 +14,7 @@ use Rattle.ac_util.specs.Sameness.{plain, plain_byte}
 use Rattle.ac_automaton.specs.declared.nfa.noncontiguous.growth.Growth.{Growth}
 use Rattle.ac_automaton.specs.declared.nfa.noncontiguous.growth.QueuedState.{QueuedState}
 use Rattle.ac_automaton.specs.declared.nfa.noncontiguous.state.State.{State}
-use Rattle.ac_automaton.specs.declared.nfa.noncontiguous.state.TheConstants.{DEAD, START, FIRST_INNER}
+use Rattle.ac_automaton.specs.declared.nfa.noncontiguous.state.TheConstants.{DEAD, START, ANCHORED_START, FIRST_INNER}
 use Rattle.ac_automaton.specs.declared.nfa.noncontiguous.state.Transition.{Transition}
 use Rattle.ac_automaton.specs.Builds.{too_many_states}
 use Rattle.ac_automaton.specs.Sorted.{AreSorted, Keyed, IsOrder, Sorted, byte_at, key_at, numbers}
@@ -79,6 +79,7 @@ module _ (kind : MatchKind) (patterns : List (List ℕ)) (sorted : List Keyed) w
     pub deep : p.depth ≤ length (key_at sorted p.from)
     pub range : IsRangeOf sorted (word sorted p) p.from p.to
     pub fails : slice_get (nodes_of sorted queue) p.fail ≡ Some (miss kind patterns (Some (word sorted p)))
+    pub unanchored : p.fail ≢ ANCHORED_START
     pub back : FIRST_INNER ≤ s → p.fail < s
     pub some : FIRST_INNER ≤ s → p.from < p.to
     pub inner : FIRST_INNER ≤ s → 0 < p.depth

@@ -6,5 +6,6 @@ pub mod Growths
 pub mod Iterators
 pub mod Overlaps
 pub mod Progress
+pub mod Readers
 pub mod Sorted
 pub mod Tries

@@ -1,9 +1,10 @@
 -- How the states of a trie with failure links stand for nodes.
-use Rattle.std.specs.Prelude.{◌≡◌, ◌≢◌, ◌↔◌, ℕ, zero, suc, ◌-◌, ◌<◌, ◌≤◌, ◌&&◌, Bool, List, [], ◌∷◌, ◌++◌, length, map, drop, slice_get, slice_range, slice_index_or, Contains, Option, None, Some, MatchOption, if◌then◌else◌}
+use Rattle.std.specs.Prelude.{◌≡◌, ◌≢◌, ◌↔◌, ℕ, zero, suc, ◌+◌, ◌-◌, ◌<◌, ◌≤◌, ◌&&◌, Bool, List, [], ◌∷◌, ◌++◌, length, map, drop, slice_get, slice_range, slice_index_or, Contains, Option, None, Some, MatchOption, if◌then◌else◌}
 use Rattle.std.specs.List.Sorted.{IsStrictlyIncreasing}
 use Rattle.std.proofs.Common.{sym, ◌∙◌, arith}
 use Rattle.std.proofs.lemmas.List.{append-nil}
 use Rattle.std.proofs.lemmas.Option.{slice_get_within}
+use Rattle.ac_util.specs.declared.primitives.TheConstants.{GREATEST}
 use Rattle.ac_util.specs.declared.search.Anchored.{Anchored}
 use Rattle.ac_util.specs.declared.search.Anchored.TheVariants.{No, Yes}
 use Rattle.ac_util.specs.declared.search.MatchKind.{MatchKind}
@@ -116,8 +117,9 @@ module _ (g : Meaning) where
     pub useful : link ≢ DEAD → all_matches linked ≢ []
 
   -- the state with this number stands for the node: its transitions are the node's own, in ascending order of
-  -- their bytes, its failure target is where an unanchored search goes on by any other byte, and its patterns
-  -- are the node's. The first four states stand for the dead node and the start
+  -- their bytes, its failure target is where an unanchored search goes on by any other byte, told by the start of
+  -- unanchored searches where that is the empty string, and its patterns are the node's. The first four states
+  -- stand for the dead node and the start
   pub record Represents (s : ℕ) (v : Node) (t : State) : Type 0 where
     pub ordered : t.transitions ≤ t.transitions_end
     pub listed : t.transitions_end ≤ length g.transitions
@@ -126,7 +128,10 @@ module _ (g : Meaning) where
         → Contains (transition_bytes (transitions_of g.transitions t)) b ↔ (own_target v b ≢ None)
     pub leads : (k : ℕ) (next : Transition) → slice_get (transitions_of g.transitions t) k ≡ Some next
         → slice_get g.nodes next.target ≡ Some (own_target v next.byte)
+    pub small : (k : ℕ) (next : Transition) → slice_get (transitions_of g.transitions t) k ≡ Some next
+        → next.byte < 256
     pub fails : slice_get g.nodes t.fail ≡ Some (miss g.kind g.patterns v)
+    pub unanchored : t.fail ≢ ANCHORED_START
     pub back : FIRST_INNER ≤ s → t.fail < s
     pub patterns_ordered : t.patterns ≤ t.patterns_end
     pub within : t.patterns_end ≤ length g.order
@@ -181,12 +186,13 @@ pub record NumbersNodes (kind : MatchKind) (patterns : List (List ℕ)) (nodes :
   pub each : (u : List ℕ) → Contains (inner_nodes kind patterns) u → (s : ℕ) × IsNumberOf nodes s u
   pub once : (s t : ℕ) (u : List ℕ) → IsNumberOf nodes s u → IsNumberOf nodes t u → s ≡ t
 
--- the states are those of an automaton that has both starts: the first four are the dead state, one that no
--- search reaches, and the two starts
+-- the states are those of an automaton that has both starts, and no more than there are numbers: the first four
+-- are the dead state, one that no search reaches, and the two starts
 pub record IsTable (trie : Trie) (nodes : List Node) : Type 0 where
   pub both : trie.built.start_kind ≡ Both
   pub states : AreStates (meaning_of trie nodes) trie.states
   pub whole : length trie.states ≡ length nodes
+  pub few : length nodes ≤ GREATEST + 1
   pub unreached : slice_get nodes FAIL ≡ Some None
   pub start : slice_get nodes START ≡ Some (Some [])
   pub anchored_start : slice_get nodes ANCHORED_START ≡ Some (Some [])

@@ -16,9 +16,7 @@ use ac_util::prefilter::Prefilter;
 use ac_util::primitives::{PatternID, StateID};
 use ac_util::search::{Anchored, MatchKind};
 use growth::TrieLists;
-use state::{
-    ANCHORED_START, DEAD, FIRST_INNER, START, State, Transition, follow, listed_len, take_listed,
-};
+use state::{State, Transition, follow, listed_len, take_listed};
 use std::alloc::{Allocator, Global};
 use std::marker::Model;
 use std::mem::size_of;
@@ -27,10 +25,12 @@ use std::rc::Rc;
 mod builder;
 pub(crate) mod growth;
 mod lengths;
+mod readers;
 pub(crate) mod sorted;
 pub(crate) mod state;
 
 pub use builder::Builder;
+pub use state::{ANCHORED_START, DEAD, FAIL, FIRST_INNER, START};
 
 /// An automaton that follows failure links.
 ///
@@ -118,14 +118,6 @@ impl<A: Allocator> NFA<A> {
     /// Returns the allocator of the automaton.
     pub fn allocator(&self) -> &A {
         self.lists.states.allocator()
-    }
-
-    /// Returns the patterns.
-    #[inline]
-    fn patterns(&self) -> &Patterns<A>
-        ensures { result.now ≡ self.now.built.patterns }
-    {
-        self.patterns.as_ref()
     }
 }
 

@@ -15,7 +15,7 @@ ghost use Rattle.ac_automaton.specs.Sorted.{IsOrder};
 ghost use Rattle.ac_automaton.specs.Tries.{AreStates, Links, Meaning, miss};
 
 use super::sorted::SortedPatterns;
-use super::state::{DEAD, FIRST_INNER, START, State, Transition, follow};
+use super::state::{ANCHORED_START, DEAD, FIRST_INNER, START, State, Transition, follow};
 use ac_util::error::BuildError;
 use ac_util::looks::Looks;
 use ac_util::patterns::Patterns;
@@ -247,10 +247,11 @@ impl<'p, A: Allocator> Growth<'p, A> {
     /// Returns the failure target of the child by a byte, whose patterns begin at a place.
     fn child_fail(&self, queued: &QueuedState, place: usize, byte: u8) -> StateID
         requires child { (patterns : List (List ℕ)) × HasChildIn patterns self.now queued.now place byte }
-        ensures { (patterns : List (List ℕ)) → HasChildIn patterns self.now queued.now place byte
+        ensures fails { (patterns : List (List ℕ)) → HasChildIn patterns self.now queued.now place byte
             → slice_get (nodes_of self.now.sorted.patterns self.now.queue.items) result
             ≡ Some (miss self.now.kind patterns
             (Some (word self.now.sorted.patterns queued.now ++ byte ∷ []))) }
+        ensures unanchored { result ≢ ANCHORED_START }
     {
         if self.kind.is_leftmost() && self.sorted.byte(place, queued.depth as usize + 1).is_none() {
             return StateID::must(DEAD);

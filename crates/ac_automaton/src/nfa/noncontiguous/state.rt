@@ -1,5 +1,5 @@
 //! The states of a trie with failure links, and the walks over them.
-ghost use Rattle.std.specs.Prelude.{◌≡◌, ℕ, ◌+◌, ◌-◌, ◌<◌, ◌≤◌, Some, length, slice_get};
+ghost use Rattle.std.specs.Prelude.{◌≡◌, ◌≢◌, ℕ, ◌+◌, ◌-◌, ◌<◌, ◌≤◌, [], Some, length, slice_get};
 ghost use Rattle.std.specs.List.Sorted.{IsStrictlyIncreasing};
 ghost use Rattle.ac_util.specs.Counts.{more_looks};
 ghost use Rattle.ac_util.specs.Looks.{looks as looks_of_node};
@@ -13,19 +13,19 @@ use ac_util::primitives::{PatternID, StateID};
 use ac_util::search::Anchored;
 
 /// The number of the dead state, from which nothing is found any more.
-pub(crate) const DEAD: usize = 0;
+pub const DEAD: usize = 0;
 
 /// The number of the state that no search reaches.
-pub(crate) const FAIL: usize = 1;
+pub const FAIL: usize = 1;
 
 /// The number of the state at which an unanchored search starts.
-pub(crate) const START: usize = 2;
+pub const START: usize = 2;
 
 /// The number of the state at which an anchored search starts.
-pub(crate) const ANCHORED_START: usize = 3;
+pub const ANCHORED_START: usize = 3;
 
 /// The number of the first of the other states, which follow breadth first.
-pub(crate) const FIRST_INNER: usize = 4;
+pub const FIRST_INNER: usize = 4;
 
 /// A byte that leads on from a state, and the state that it leads to.
 #[derive(Clone, Copy)]
@@ -142,6 +142,9 @@ pub(crate) fn follow(
         → HasState g states.now from u
         → looks.new
         ≡ more_looks (looks_of_node g.kind g.patterns anchored u (plain_byte g.fold byte)) looks.old }
+    ensures unanchored { (g : Meaning) (u : Node) → g.transitions ≡ transitions.now
+        → HasState g states.now from u → slice_get g.nodes ANCHORED_START ≡ Some (Some [])
+        → result ≢ ANCHORED_START }
 {
     let mut at = from;
     loop {

@@ -12,6 +12,7 @@ mod large;
 mod memory;
 mod overlap;
 mod queries;
+mod readers;
 mod rows;
 mod small;
 mod spans;

@@ -71,6 +71,7 @@ module _ (g : Over) (c : In-Some g) where
     some = c.run_end-end.ensures.later;
     high = c.run_end-end.ensures.within;
     byte = sym c.byte.ensures.value ∙ c.in-Some.is;
+    small = omega (arith, c.in-Some.ensures);
     same = c.run_end-end.ensures.same;
     other = c.run_end-end.ensures.other;
   }
@@ -117,7 +118,7 @@ module _ (g : Over) (c : After-child_fail-fail g) where
       c.child_fail-fail.result
       ≡ Some (miss c.loop-place.self.kind patterns
       (Some (word c.loop-place.self.sorted.patterns c.args.queued ++ c.in-Some.byte ∷ [])))
-  fails patterns ready = c.child_fail-fail.ensures patterns (child g in-some patterns ready)
+  fails patterns ready = c.child_fail-fail.ensures.fails patterns (child g in-some patterns ready)
 
 pub returns-in_err-push-clause-branched : goal.returns-in_err-push-clause-branched
 returns-in_err-push-clause-branched g c = λ patterns entry.
@@ -147,7 +148,8 @@ loop-place-preserved g c =
           (λ patterns ready ends. rw (pushed.leads, pushed.waits)
           (branching-goes_on (site g (at g s) patterns ready ends)
           (c.loop-place.invariant.branching patterns ready ends) (run g s patterns ready ends)
-          c.child_fail-fail.result (fails g f patterns ready) pushed.numbered));
+          c.child_fail-fail.result (fails g f patterns ready) c.child_fail-fail.ensures.unanchored
+          pushed.numbered));
     }
 
 pub sort_from-requires : goal.sort_from-requires

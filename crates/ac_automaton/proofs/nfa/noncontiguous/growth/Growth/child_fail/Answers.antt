@@ -1,4 +1,4 @@
-use Rattle.std.proofs.Common.{◌≢◌, sym, ◌∙◌, ap}
+use Rattle.std.proofs.Common.{◌≢◌, refl, sym, ◌∙◌, ap}
 use Rattle.std.specs.Prelude.{Some, slice_get}
 use Rattle.std.proofs.lemmas.Bool.{false≢true}
 use Rattle.ac_util.specs.declared.search.Anchored.TheVariants.{No}
@@ -10,15 +10,15 @@ use Rattle.ac_automaton.proofs.ChildFails.{fail-pattern, fail-start, fail-step, 
 use Rattle.ac_automaton.proofs.nfa.noncontiguous.growth.Growth.child_fail.Goals as goal
 use Rattle.ac_automaton.proofs.nfa.noncontiguous.growth.Growth.child_fail.Goals.{else-is_leftmost-via-then-is_leftmost+else-is_none, else-is_leftmost-via-else-is_leftmost}
 
-pub returns-then-is_none : goal.returns-then-is_none
-returns-then-is_none g c = λ patterns h.
+pub returns-then-is_none-clause-fails : goal.returns-then-is_none-clause-fails
+returns-then-is_none-clause-fails g c = λ patterns h.
     ap (slice_get (nodes_of c.args.self.now.sorted.patterns c.args.self.now.queue.items)) c.must.ensures.value
     ∙ (fail-pattern h
     (sym c.is_leftmost.ensures ∙ c.if-is_leftmost.true)
     (sym c.byte.ensures.value ∙ None-tested c.byte.result c.is_none.result c.is_none.ensures c.if-is_none.true))
 
-pub returns-then-queued-eq0 : goal.returns-then-queued-eq0
-returns-then-queued-eq0 g c = λ patterns h.
+pub returns-then-queued-eq0-clause-fails : goal.returns-then-queued-eq0-clause-fails
+returns-then-queued-eq0-clause-fails g c = λ patterns h.
     fail-start h
     (λ leftmost. elim c.else-is_leftmost.branch [
       | else-is_leftmost-via-then-is_leftmost+else-is_none w ↦
@@ -29,8 +29,21 @@ returns-then-queued-eq0 g c = λ patterns h.
     ])
     c.if-queued-eq0.true
 
-pub returns : goal.returns
-returns g c = λ patterns h.
+pub returns-then-queued-eq0-clause-unanchored : goal.returns-then-queued-eq0-clause-unanchored
+returns-then-queued-eq0-clause-unanchored g c = c.requires.child.1.waits.unanchored
+
+pub returns-clause-unanchored : goal.returns-clause-unanchored
+returns-clause-unanchored g c =
+    let patterns = c.requires.child.0 in
+    let h = c.requires.child.1 in
+    c.follow.ensures.unanchored
+    (grown_meaning c.args.self.now.kind c.args.self.now.sorted.fold patterns
+    c.args.self.now.sorted.patterns c.args.self.now.transitions.items c.args.self.now.queue.items)
+    (miss c.args.self.now.kind patterns (Some (word c.args.self.now.sorted.patterns c.args.queued.now)))
+    (sym c.deref-2.ensures.value) (rw c.deref.ensures.value (fail-state h c.if-queued-eq0.false)) refl
+
+pub returns-clause-fails : goal.returns-clause-fails
+returns-clause-fails g c = λ patterns h.
     let deep : c.args.queued.now.depth ≢ 0 = c.if-queued-eq0.false in
     c.follow.ensures.steps
     (grown_meaning c.args.self.now.kind c.args.self.now.sorted.fold patterns

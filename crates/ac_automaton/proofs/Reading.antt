@@ -1,0 +1,159 @@
+-- What the readers of a trie tell of a state that they have read.
+use Rattle.std.proofs.Common.{◌≡◌, ◌≢◌, ℕ, ◌+◌, ◌-◌, ◌<◌, ◌≤◌, Bool, true, List, length, length-drop, drop, filter, get_or, refl, ap, sym, ◌∙◌, subst, arith, Some, None}
+use Rattle.std.specs.Prelude.{slice_get, slice_range, option_map, Contains, ◌↔◌}
+use Rattle.std.specs.List.{range_with_len}
+use Rattle.std.specs.List.Sorted.{IsStrictlyIncreasing}
+use Rattle.std.proofs.lemmas.Bool.{false≢true}
+use Rattle.std.proofs.lemmas.List.{length-map, length-take-le}
+use Rattle.std.proofs.lemmas.List.Kept.{AllPairs-from_increasing}
+use Rattle.std.proofs.lemmas.Option.{slice_get-get_or, slice_get-map, slice_get_within}
+use Rattle.ac_util.specs.Node.{Node}
+use Rattle.ac_util.specs.Sameness.{plain_byte}
+use Rattle.ac_util.specs.Sizes.{state_count}
+use Rattle.ac_util.proofs.Lists.{Contains-from_IsIn, IsIn, IsIn-filter, IsIn-from_Contains, IsIn-from_filter, IsIn-from_map, IsIn-range, IsOrdered-filter, IsOrdered-range, IsOrdered-unique}
+use Rattle.ac_automaton.specs.declared.nfa.noncontiguous.state.State.{State}
+use Rattle.ac_automaton.specs.declared.nfa.noncontiguous.state.Transition.{Transition}
+use Rattle.ac_automaton.specs.Automata.{plain_of}
+use Rattle.ac_automaton.specs.Readers.{HasOwn, IsOwn, leads_on, own_bytes}
+use Rattle.ac_automaton.specs.Tries.{IsTable, Represents, Trie, meaning_of, own_target, transition_bytes, transitions_of}
+use Rattle.ac_automaton.proofs.Branched.{own_target-is, own_target-node}
+use Rattle.ac_automaton.proofs.Counting.{IsOrdered-from_AllPairs}
+use Rattle.ac_automaton.proofs.Follows.{leads-on, represented}
+use Rattle.ac_automaton.proofs.Places.{get-range, place-of}
+
+-- rising numbers below n that are exactly those that pass are all of those
+passing : (p : ℕ → Bool) (n : ℕ) (xs : List ℕ) → IsStrictlyIncreasing xs → ((b : ℕ) → IsIn b xs → b < n)
+    → ((b : ℕ) → Contains xs b ↔ (p b ≡ true)) → xs ≡ filter p (range_with_len 0 n)
+passing p n xs up below by =
+    IsOrdered-unique (λ x y. x < y) (λ x y l m. absurd (omega arith)) xs (filter p (range_with_len 0 n))
+    (λ b h. IsIn-filter p b (range_with_len 0 n) (IsIn-range b 0 n (omega arith) (omega (arith, below b h)))
+    ((by b).0 (Contains-from_IsIn b xs h)))
+    (λ b h. IsIn-from_Contains b xs ((by b).1 (IsIn-from_filter p b (range_with_len 0 n) h).1))
+    (IsOrdered-from_AllPairs (λ x y. x < y) xs (AllPairs-from_increasing xs up))
+    (IsOrdered-filter (λ x y. x < y) p (range_with_len 0 n) (IsOrdered-range 0 n))
+
+-- a part of a list is as long as its bounds say
+length-part : {X : Type 0} (xs : List X) (a b : ℕ) → b ≤ length xs → length (slice_range xs a b) ≡ b - a
+length-part xs a b within = length-take-le (b - a) (drop a xs) (omega (arith, length-drop a xs))
+
+-- the state stands for some node
+pub record IsRead (trie : Trie) (s : ℕ) (t : State) : Type 0 where
+  pub nodes : List Node
+  pub node : Node
+  pub represents : Represents (meaning_of trie nodes) s node t
+
+module _ (trie : Trie) (nodes : List Node) where
+  -- a byte leads on exactly if a state's own transitions go on by it
+  goes-on : (u : Node) (b : ℕ) → (own_target (meaning_of trie nodes) u b ≢ None) ↔ (leads_on trie.built u b ≡ true)
+  goes-on None b = ((λ some. absurd (some refl)), (λ e. absurd (false≢true e)))
+  goes-on (Some w) b = (
+    own_target-node trie.built.kind (plain_of trie.built) w (plain_byte trie.built.fold b),
+    (λ node none.
+        let is = own_target-is trie.built.kind (plain_of trie.built) w (plain_byte trie.built.fold b) node in
+        absurd (cc)),
+  )
+
+  -- a state that was read stands for the node of its number
+  pub reads : (table : IsTable trie nodes) (s : ℕ) (u : Node) → slice_get nodes s ≡ Some u → (t : State)
+      → t ≡ get_or trie.states s t → Represents (meaning_of trie nodes) s u t
+  reads table s u named t is =
+      let there = slice_get_within nodes s u named in
+      let whole = table.whole in
+      represented (meaning_of trie nodes) trie.states s u t
+      (record { meant = table.states; there = omega arith; named = named }) is
+
+  -- a state that was read by a number below the count stands for some node
+  pub is-read : (table : IsTable trie nodes) (s : ℕ) → s < state_count trie.built.kind (plain_of trie.built)
+      → (t : State) → t ≡ get_or trie.states s t → IsRead trie s t
+  is-read table s numbered t is =
+      let count = table.numbered.count in
+      record {
+        nodes = nodes;
+        node = get_or nodes s None;
+        represents = reads table s (get_or nodes s None) (slice_get-get_or nodes s None (omega arith)) t is;
+      }
+
+  -- what a state tells that stands for a node
+  module _ (s : ℕ) (u : Node) (t : State) (r : Represents (meaning_of trie nodes) s u t) where
+    -- its transitions are by the bytes that lead on
+    own-is : transition_bytes (transitions_of trie.transitions t) ≡ own_bytes trie.built u
+    unfolding own_bytes
+    own-is =
+        let own = transitions_of trie.transitions t in
+        passing (leads_on trie.built u) 256 (transition_bytes own) r.ascending
+        (λ b h.
+        let from = IsIn-from_map (λ (x : Transition). x.byte) b own h in
+        let at = place-of from.0 own from.1 in
+        subst (λ (x : ℕ). x < 256) from.2 (r.small at.place from.0 at.there))
+        (λ b. (
+          (λ has. (goes-on u b).0 ((r.branches b).0 has)),
+          (λ leads. (r.branches b).1 ((goes-on u b).1 leads)),
+        ))
+
+    -- so it has as many
+    pub own-length : t.transitions_end - t.transitions ≡ length (own_bytes trie.built u)
+    own-length =
+        let own = transitions_of trie.transitions t in
+        sym (length-part trie.transitions t.transitions t.transitions_end r.listed)
+        ∙ sym (length-map own (λ (x : Transition). x.byte))
+        ∙ ap (length {A = ℕ}) own-is
+
+  -- and each place below their count is that of an own one
+  pub has-own : (table : IsTable trie nodes) (s : ℕ) → s < state_count trie.built.kind (plain_of trie.built)
+      → (t : State) → t ≡ get_or trie.states s t
+      → (index : ℕ) → index < t.transitions_end - t.transitions → HasOwn trie s index
+  has-own table s numbered t is index within =
+      let count = table.numbered.count in
+      let named = slice_get-get_or nodes s None (omega arith) in
+      let u = get_or nodes s None in
+      let long = own-length s u t (reads table s u named t is) in
+      record {
+        nodes = nodes;
+        are_nodes = record {
+          table = table;
+          numbered = table.numbered;
+          dead = table.states.dead;
+          unreached = table.unreached;
+          start = table.start;
+          anchored_start = table.anchored_start;
+          stands = λ n v e. record { nodes = nodes; table = table; named = e };
+        };
+        node = u;
+        named = named;
+        within = omega arith;
+      }
+
+  -- the transition at a place is by the byte at the place, and leads to the longer node
+  pub own-read : (s : ℕ) (w : List ℕ) (t : State) → Represents (meaning_of trie nodes) s (Some w) t
+      → (index : ℕ) → index < t.transitions_end - t.transitions → (next : Transition)
+      → slice_get trie.transitions (t.transitions + index) ≡ Some next
+      → IsOwn trie nodes w index next.byte next.target
+  own-read s w t r index within next at =
+      let own = transitions_of trie.transitions t in
+      let there : slice_get own index ≡ Some next =
+      get-range trie.transitions t.transitions t.transitions_end index (omega arith) ∙ at in
+      let on =
+      leads-on (meaning_of trie nodes) trie.transitions refl s (Some w) t r next.byte index next.target there in
+      record {
+        place = ap (λ (bs : List ℕ). slice_get bs index) (sym (own-is s (Some w) t r))
+            ∙ slice_get-map (λ (x : Transition). x.byte) own index
+            ∙ ap (option_map (λ (x : Transition). x.byte)) there;
+        leads = r.leads index next there
+            ∙ ap (λ (v : Node). Some v)
+            (own_target-is trie.built.kind (plain_of trie.built) w (plain_byte trie.built.fold next.byte)
+            (own_target-node trie.built.kind (plain_of trie.built) w (plain_byte trie.built.fold next.byte) on));
+      }
+
+-- the place is one among the transitions of a state, and so among those of all states
+pub record IsPlace (trie : Trie) (t : State) (index : ℕ) : Type 0 where
+  pub among : index < t.transitions_end - t.transitions
+  pub listed : t.transitions + index < length trie.transitions
+
+-- a place among the bytes that lead on from a state is one
+pub own-place : (trie : Trie) (s index : ℕ) → HasOwn trie s index → (t : State) → t ≡ get_or trie.states s t
+    → IsPlace trie t index
+own-place trie s index own t is =
+    let r = reads trie own.nodes own.are_nodes.table s own.node own.named t is in
+    let count = own-length trie own.nodes s own.node t r in
+    let within = own.within in
+    record { among = omega arith; listed = omega (arith, r.listed) }

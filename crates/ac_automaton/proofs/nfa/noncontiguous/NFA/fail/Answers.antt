@@ -1,0 +1,34 @@
+use Rattle.std.proofs.Common.{◌∷◌, Some, ap, sym, ◌∙◌, arith}
+use Rattle.std.specs.Prelude.{slice_get}
+use Rattle.ac_automaton.specs.declared.nfa.noncontiguous.state.State.{State}
+use Rattle.ac_automaton.proofs.Reading.{IsRead, is-read, reads}
+use Rattle.ac_automaton.proofs.nfa.noncontiguous.NFA.fail.Given.{Over}
+use Rattle.ac_automaton.proofs.nfa.noncontiguous.NFA.fail.Goals as goal
+use Rattle.ac_automaton.proofs.nfa.noncontiguous.NFA.fail.Goals.{After-index-states-as_usize}
+
+pub returns-clause-target : goal.returns-clause-target
+returns-clause-target g c = λ nodes x u h named.
+    let t = c.index-states-as_usize.result in
+    ap (λ (r : State). slice_get nodes r.fail) (sym c.index-states-as_usize.is)
+    ∙ (reads c.args.self.now nodes h.table c.args.sid (Some (x ∷ u)) named t
+    (rw (c.as_usize.ensures.value, c.states.ensures.value) at c.index-states-as_usize.is)).fails
+
+-- the state that was read stands for some node
+read : (g : Over) (c : After-index-states-as_usize g)
+    → IsRead c.args.self.now c.args.sid c.index-states-as_usize.result
+read g c =
+    let table = c.states.ensures.table in
+    is-read c.args.self.now table.0 table.1 c.args.sid c.requires.numbered c.index-states-as_usize.result
+    (rw (c.as_usize.ensures.value, c.states.ensures.value) at c.index-states-as_usize.is)
+
+pub returns-clause-start : goal.returns-clause-start
+returns-clause-start g c = λ start.
+    (read g c).represents.unanchored (ap (λ (r : State). r.fail) c.index-states-as_usize.is ∙ start)
+
+pub returns-clause-back : goal.returns-clause-back
+returns-clause-back g c =
+    omega (
+      arith,
+      (read g c).represents.back c.requires.inner,
+      ap (λ (r : State). r.fail) c.index-states-as_usize.is,
+    )

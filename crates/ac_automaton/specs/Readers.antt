@@ -1,0 +1,41 @@
+-- What the readers of a trie with failure links tell: the node of each state number, and its own transitions.
+use Rattle.std.specs.Prelude.{◌≡◌, ℕ, ◌<◌, Bool, false, List, [], ◌∷◌, ◌++◌, length, filter, slice_get, None, Some}
+use Rattle.std.specs.List.{range_with_len}
+use Rattle.ac_util.specs.Built.{Built}
+use Rattle.ac_util.specs.Node.{Node, is_node}
+use Rattle.ac_util.specs.Sameness.{plain_byte}
+use Rattle.ac_automaton.specs.declared.nfa.noncontiguous.state.TheConstants.{DEAD, FAIL, START, ANCHORED_START}
+use Rattle.ac_automaton.specs.Automata.{plain_of}
+use Rattle.ac_automaton.specs.Tries.{IsTable, NumbersNodes, StandsFor, Trie}
+
+-- whether a byte leads on from a node to a longer one
+abbrev pub leads_on : Built → Node → ℕ → Bool
+leads_on built None b = false
+leads_on built (Some u) b = is_node built.kind (plain_of built) (u ++ plain_byte built.fold b ∷ [])
+
+-- the bytes that do, in ascending order
+unfoldable pub own_bytes : Built → Node → List ℕ
+own_bytes built u = filter (leads_on built u) (range_with_len 0 256)
+
+-- the nodes are those that the state numbers stand for. The table is for the proofs of the readers alone
+pub record AreNodes (trie : Trie) (nodes : List Node) : Type 0 where
+  pub table : IsTable trie nodes
+  pub numbered : NumbersNodes trie.built.kind (plain_of trie.built) nodes
+  pub dead : slice_get nodes DEAD ≡ Some None
+  pub unreached : slice_get nodes FAIL ≡ Some None
+  pub start : slice_get nodes START ≡ Some (Some [])
+  pub anchored_start : slice_get nodes ANCHORED_START ≡ Some (Some [])
+  pub stands : (s : ℕ) (u : Node) → slice_get nodes s ≡ Some u → StandsFor trie s u
+
+-- the node of a state number has an own transition at the place
+pub record HasOwn (trie : Trie) (s index : ℕ) : Type 0 where
+  pub nodes : List Node
+  pub are_nodes : AreNodes trie nodes
+  pub node : Node
+  pub named : slice_get nodes s ≡ Some node
+  pub within : index < length (own_bytes trie.built node)
+
+-- the byte stands at the place among those that lead on from the string, and leads to the state number
+pub record IsOwn (trie : Trie) (nodes : List Node) (w : List ℕ) (index byte target : ℕ) : Type 0 where
+  pub place : slice_get (own_bytes trie.built (Some w)) index ≡ Some byte
+  pub leads : slice_get nodes target ≡ Some (Some (w ++ plain_byte trie.built.fold byte ∷ []))

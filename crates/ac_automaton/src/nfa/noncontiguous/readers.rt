@@ -1,0 +1,97 @@
+//! What a trie tells of its states. The engines that are a table or packed words are built by these readers alone.
+ghost use Rattle.std.specs.Prelude.{◌≡◌, ◌≢◌, ℕ, ◌+◌, ◌<◌, ◌≤◌, List, ◌∷◌, Some, length, slice_get};
+ghost use Rattle.ac_util.specs.Node.{Node, depth, failure};
+ghost use Rattle.ac_util.specs.Sizes.{state_count};
+ghost use Rattle.ac_automaton.specs.Automata.{plain_of};
+ghost use Rattle.ac_automaton.specs.Readers.{AreNodes, HasOwn, IsOwn, own_bytes};
+
+use super::{ANCHORED_START, FIRST_INNER, NFA};
+use ac_util::patterns::Patterns;
+use ac_util::primitives::{GREATEST, StateID};
+use std::alloc::Allocator;
+use std::rc::Rc;
+
+impl<A: Allocator> NFA<A> {
+    /// Returns how many states there are: their numbers are those below this one.
+    #[inline]
+    pub fn states_len(&self) -> usize
+        ensures value { result ≡ state_count self.now.built.kind (plain_of self.now.built) }
+        ensures numbered { (nodes : List Node) × AreNodes self.now nodes }
+        ensures small { result ≤ GREATEST + 1 }
+    {
+        self.states().len()
+    }
+
+    /// Returns how many bytes lead from the start to a state. The number has to be that of a state.
+    #[inline]
+    pub fn depth(&self, sid: StateID) -> usize
+        requires numbered { sid < state_count self.now.built.kind (plain_of self.now.built) }
+        ensures { (nodes : List Node) (u : Node) → AreNodes self.now nodes → slice_get nodes sid ≡ Some u
+            → result ≡ depth u }
+    {
+        self.states()[sid.as_usize()].depth as usize
+    }
+
+    /// Returns the failure target of a state: where an unanchored search goes on by a byte that doesn't lead on.
+    /// The number has to be that of a state behind the two starts.
+    ///
+    /// The target has a lesser number. The empty string is told as the start of unanchored searches.
+    #[inline]
+    pub fn fail(&self, sid: StateID) -> StateID
+        requires inner { FIRST_INNER ≤ sid }
+        requires numbered { sid < state_count self.now.built.kind (plain_of self.now.built) }
+        ensures target { (nodes : List Node) (x : ℕ) (u : List ℕ) → AreNodes self.now nodes
+            → slice_get nodes sid ≡ Some (Some (x ∷ u))
+            → slice_get nodes result
+            ≡ Some (failure self.now.built.kind (plain_of self.now.built) (x ∷ u)) }
+        ensures start { result ≢ ANCHORED_START }
+        ensures back { result < sid }
+    {
+        self.states()[sid.as_usize()].fail
+    }
+
+    /// Returns how many bytes lead on from a state. The number has to be that of a state.
+    #[inline]
+    pub fn own_len(&self, sid: StateID) -> usize
+        requires numbered { sid < state_count self.now.built.kind (plain_of self.now.built) }
+        ensures value { (nodes : List Node) (u : Node) → AreNodes self.now nodes → slice_get nodes sid ≡ Some u
+            → result ≡ length (own_bytes self.now.built u) }
+        ensures places { (index : ℕ) → index < result → HasOwn self.now sid index }
+    {
+        let state = &self.states()[sid.as_usize()];
+        (state.transitions_end - state.transitions) as usize
+    }
+
+    /// Returns one of the bytes that lead on from a state, in ascending order from 0 up to `own_len`, and the state
+    /// to which it leads.
+    ///
+    /// Where case is ignored a letter leads on in both cases, each at a place of its own.
+    #[inline]
+    pub fn own(&self, sid: StateID, index: usize) -> (u8, StateID)
+        requires numbered { sid < state_count self.now.built.kind (plain_of self.now.built) }
+        requires within { HasOwn self.now sid index }
+        ensures { (nodes : List Node) (w : List ℕ) → AreNodes self.now nodes
+            → slice_get nodes sid ≡ Some (Some w)
+            → IsOwn self.now nodes w index result.0 result.1 }
+    {
+        let state = &self.states()[sid.as_usize()];
+        let next = &self.transitions()[state.transitions as usize + index];
+        (next.byte, next.target)
+    }
+
+    /// Returns the patterns, which an engine that is built from this one shares.
+    #[inline]
+    pub fn patterns(&self) -> &Rc<Patterns<A>, A>
+        ensures { result.now.value ≡ self.now.built.patterns }
+    {
+        &self.patterns
+    }
+
+    /// Returns whether case is ignored.
+    #[inline]
+    pub fn fold(&self) -> bool
+        ensures { result ≡ self.now.built.fold }
+    {
+        self.fold
+    }
+}
