@@ -77,8 +77,8 @@ pub trait Automaton {
         ensures looks { (u : Node) → stands self.now anchored sid u
             → looks.new ≡ more_looks (looks_of LOOKS (built self.now) anchored u byte) looks.old };
 
-    /// Returns whether the state may be dead, a match state or a start. Where this is false a search reads on
-    /// without a further test.
+    /// Returns whether the state may be dead, a match state or a start. Where this is false nothing is found there, and
+    /// nothing begins or ends.
     fn is_special(&self, sid: StateID) -> bool
         requires state { (anchored : Anchored) × IsState (stands self.now anchored) sid }
         ensures { (anchored : Anchored) (u : Node) → stands self.now anchored sid u

@@ -239,3 +239,6 @@ fn target(entries: &[StateID], class: usize, sid: StateID) -> StateID
     let column = &entries[class..];
     column[sid.as_usize()]
 }
+
+#[cfg(test)]
+mod tests;

@@ -10,7 +10,7 @@ ghost use Rattle.ac_automaton.specs.Finds.{FitsIn, HasSearched, asked_of, found_
 ghost use Rattle.ac_automaton.specs.Progress.{search_of};
 
 use super::Automaton;
-use super::step::{Cursor, read_byte};
+use super::step::{Cursor, is_match_or_dead, read_byte};
 use ac_util::error::MatchError;
 use ac_util::looks::{Looks, Tape, open};
 use ac_util::primitives::StateID;
@@ -166,7 +166,7 @@ impl<'a, A: Automaton> Finder<'a, A> {
         }
         for at in start..end {
             state = read_byte(automaton, anchored, Cursor { state, at }, tape, looks);
-            if automaton.is_special(state) {
+            if is_match_or_dead(automaton, state) {
                 if automaton.is_dead(state) {
                     return last;
                 }

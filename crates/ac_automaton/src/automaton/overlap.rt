@@ -9,7 +9,7 @@ ghost use Rattle.ac_automaton.specs.Overlaps.{GivesNext, HasGiven, HasListed, Ha
 ghost use Rattle.ac_automaton.specs.Progress.{Beginning, Grows, HasCome, search_of};
 
 use super::Automaton;
-use super::step::{Cursor, read_byte};
+use super::step::{Cursor, is_match_or_dead, read_byte};
 use ac_util::error::MatchError;
 use ac_util::looks::{Looks, Tape, open};
 use ac_util::primitives::StateID;
@@ -222,7 +222,7 @@ impl<'a, A: Automaton> Lister<'a, A> {
         }
         for at in reached.at..end {
             state = read_byte(automaton, anchored, Cursor { state, at }, tape, looks);
-            if automaton.is_special(state) {
+            if is_match_or_dead(automaton, state) {
                 *reached = Reached::new(state, at + 1);
                 let found = self.give(reached);
                 if found.is_some() || automaton.is_dead(state) {

@@ -2,7 +2,10 @@
 //!
 //! A search adds to it what it answers, and nothing else: where the automaton stands, what was read and what was
 //! counted is kept here.
-ghost use Rattle.std.specs.Prelude.{◌≡◌, ◌≢◌, ℕ, ◌+◌, ◌<◌, ◌≤◌, None, length};
+ghost use Rattle.std.specs.Prelude.{◌≡◌, ◌≢◌, ◌⊎◌, ℕ, ◌+◌, ◌<◌, ◌≤◌, [], IsTrue, None, length};
+ghost use Rattle.ac_util.specs.declared.search.Anchored.{Anchored};
+ghost use Rattle.ac_util.specs.Node.{Node};
+ghost use Rattle.ac_automaton.specs.Automata.{IsState};
 ghost use Rattle.ac_automaton.specs.Progress.{Beginning, Grows, HasCome, Reaches, node_at, search_of, span_of};
 
 use super::Automaton;
@@ -46,4 +49,16 @@ pub(super) fn read_byte<A: Automaton>(
 {
     let byte = tape.read(cursor.at, looks);
     automaton.next_state(anchored, cursor.state, byte, looks)
+}
+
+/// Returns whether the state has matches or is dead. Where it is neither a search reads on without a further test.
+///
+/// A start is special too, but a search without a prefilter has nothing to do there.
+#[inline]
+pub(super) fn is_match_or_dead<A: Automaton>(automaton: &A, sid: StateID) -> bool
+    requires state { (anchored : Anchored) × IsState (A.stands automaton.now anchored) sid }
+    ensures { (anchored : Anchored) (u : Node) → A.stands automaton.now anchored sid u
+        → (u ≡ None) ⊎ (A.listed automaton.now sid ≢ []) → IsTrue result }
+{
+    automaton.is_match(sid) || automaton.is_dead(sid)
 }

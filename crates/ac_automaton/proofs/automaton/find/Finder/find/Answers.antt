@@ -17,7 +17,7 @@ use Rattle.ac_automaton.proofs.Heads.{nil-from_not, found-none}
 use Rattle.ac_automaton.proofs.ReadOn.{come-start, node-fits, node-start}
 use Rattle.ac_automaton.proofs.automaton.find.Finder.find.Given.{Over}
 use Rattle.ac_automaton.proofs.automaton.find.Finder.find.Goals.{After-match_at-last, After-read_byte-state}
-use Rattle.ac_automaton.proofs.automaton.find.Finder.find.Goals.{else-self-via-then-self+else-is_some, else-self-via-else-self, then-is_special+else-is_dead+in-Some+else-self-2, then-is_special+else-is_dead+in_default, else-is_special}
+use Rattle.ac_automaton.proofs.automaton.find.Finder.find.Goals.{else-self-via-then-self+else-is_some, else-self-via-else-self, then-is_match_or_dead+else-is_dead+in-Some+else-self-2, then-is_match_or_dead+else-is_dead+in_default, else-is_match_or_dead}
 use Rattle.ac_automaton.proofs.automaton.find.Finder.find.Goals as goal
 
 -- an option that isn't there is none
@@ -146,9 +146,9 @@ loop-at-init g c =
           ]);
     }
 
-pub is_special-requires : goal.is_special-requires
-is_special-requires g c =
-    let s = (goal.at.is_special-requires g c).After-read_byte-state in
+pub is_match_or_dead-requires : goal.is_match_or_dead-requires
+is_match_or_dead-requires g c =
+    let s = (goal.at.is_match_or_dead-requires g c).After-read_byte-state in
     record { state = (c.self.inside.anchored, (node g s, (come_on g s).reaches.there)) }
 
 pub is_dead-requires : goal.is_dead-requires
@@ -204,23 +204,23 @@ loop-at-preserved g c =
     let anchored = c.self.inside.anchored in
     record {
       come = on;
-      living = λ dead. elim c.if-is_special.branch [
-        | then-is_special+else-is_dead+in-Some+else-self-2 w ↦
+      living = λ dead. elim c.if-is_match_or_dead.branch [
+        | then-is_match_or_dead+else-is_dead+in-Some+else-self-2 w ↦
             false≢true (sym w.if-is_dead.false ∙ (w.is_dead.ensures anchored (node g s) on.reaches.there).1 dead)
-        | then-is_special+else-is_dead+in_default w ↦
+        | then-is_match_or_dead+else-is_dead+in_default w ↦
             false≢true (sym w.if-is_dead.false ∙ (w.is_dead.ensures anchored (node g s) on.reaches.there).1 dead)
-        | else-is_special w ↦
-            false≢true (sym w.if-is_special.false
-            ∙ c.is_special.ensures anchored (node g s) on.reaches.there (inl dead))
+        | else-is_match_or_dead w ↦
+            false≢true (sym w.if-is_match_or_dead.false
+            ∙ c.is_match_or_dead.ensures anchored (node g s) on.reaches.there (inl dead))
       ];
-      picked = elim c.if-is_special.branch [
-        | then-is_special+else-is_dead+in-Some+else-self-2 w ↦
+      picked = elim c.if-is_match_or_dead.branch [
+        | then-is_match_or_dead+else-is_dead+in-Some+else-self-2 w ↦
             w.last-is ∙ newly g s w.in-Some.found
             (sym (w.match_at.ensures (node g s) on.reaches.there (fits g s)) ∙ w.in-Some.is)
-        | then-is_special+else-is_dead+in_default w ↦
+        | then-is_match_or_dead+else-is_dead+in_default w ↦
             w.last-is ∙ still g s
             (sym (w.match_at.ensures (node g s) on.reaches.there (fits g s)) ∙ w.in_default.is)
-        | else-is_special w ↦
+        | else-is_match_or_dead w ↦
             w.last-is
             ∙ still g s
             (found-none (built_of g s)
@@ -230,17 +230,17 @@ loop-at-preserved g c =
             on.reaches.there)
             (nil-from_not (g.A.Automaton.listed c.self.inside.automaton.now c.read_byte-state.result)
             (λ some. false≢true
-            (sym w.if-is_special.false
-            ∙ c.is_special.ensures anchored (node g s) on.reaches.there (inr (inr some))))))
+            (sym w.if-is_match_or_dead.false
+            ∙ c.is_match_or_dead.ensures anchored (node g s) on.reaches.there (inr some)))))
       ];
-      goes_on = elim c.if-is_special.branch [
-        | then-is_special+else-is_dead+in-Some+else-self-2 w ↦
-            find.goes_on-by (built_of g s).kind c.self.inside.stops c.if-is_special.last
+      goes_on = elim c.if-is_match_or_dead.branch [
+        | then-is_match_or_dead+else-is_dead+in-Some+else-self-2 w ↦
+            find.goes_on-by (built_of g s).kind c.self.inside.stops c.if-is_match_or_dead.last
             c.self.invariant.leftmost (λ stops. absurd (false≢true (sym w.if-self-2.false ∙ stops)))
-        | then-is_special+else-is_dead+in_default w ↦
+        | then-is_match_or_dead+else-is_dead+in_default w ↦
             subst (GoesOn (built_of g s).kind
             (order (built_of g s) anchored c.self.inside.stops (began_at g s))) (sym w.last-is) inv.goes_on
-        | else-is_special w ↦
+        | else-is_match_or_dead w ↦
             subst (GoesOn (built_of g s).kind
             (order (built_of g s) anchored c.self.inside.stops (began_at g s))) (sym w.last-is) inv.goes_on
       ];

@@ -21,7 +21,7 @@ use Rattle.ac_automaton.proofs.ReadOn.{grows-trans}
 use Rattle.ac_automaton.proofs.automaton.overlap.Lister.next.Given.{Over}
 use Rattle.ac_automaton.proofs.automaton.overlap.Lister.next.Goals.{After-give, After-read_byte-state, Joined-reached-end}
 use Rattle.ac_automaton.proofs.automaton.overlap.Lister.next.Goals.{then-is_some-via-then-is_some, then-is_some-via-else-is_some+then-is_dead-2}
-use Rattle.ac_automaton.proofs.automaton.overlap.Lister.next.Goals.{then-is_special+else-is_some+else-is_dead-2, else-is_special, then-reached-end, else-reached-end}
+use Rattle.ac_automaton.proofs.automaton.overlap.Lister.next.Goals.{then-is_match_or_dead+else-is_some+else-is_dead-2, else-is_match_or_dead, then-reached-end, else-reached-end}
 use Rattle.ac_automaton.proofs.automaton.overlap.Lister.next.Goals as goal
 
 -- none isn't some
@@ -196,9 +196,9 @@ module _ (g : Over) (c : After-read_byte-state g) where
       ∙ ap (take_while (counts built_of c.args.self.now.anchored ((c.loop-at.at + 1) - c.args.self.now.span.start)))
       none
 
-pub is_special-requires : goal.is_special-requires
-is_special-requires g c =
-    let s = (goal.at.is_special-requires g c).After-read_byte-state in
+pub is_match_or_dead-requires : goal.is_match_or_dead-requires
+is_match_or_dead-requires g c =
+    let s = (goal.at.is_match_or_dead-requires g c).After-read_byte-state in
     record {
       state = (
         c.args.self.now.anchored,
@@ -273,27 +273,27 @@ loop-at-preserved g c =
     let onward = inv.onward in
     record {
       reaches = reaches_on g s;
-      living = λ u stands dead. elim c.if-is_special.branch [
-        | then-is_special+else-is_some+else-is_dead-2 w ↦
+      living = λ u stands dead. elim c.if-is_match_or_dead.branch [
+        | then-is_match_or_dead+else-is_some+else-is_dead-2 w ↦
             false≢true (sym w.if-is_dead-2.false ∙ (w.is_dead-else-is_some.ensures self.anchored u stands).1 dead)
-        | else-is_special w ↦
-            false≢true (sym w.if-is_special.false ∙ c.is_special.ensures self.anchored u stands (inl dead))
+        | else-is_match_or_dead w ↦
+            false≢true (sym w.if-is_match_or_dead.false ∙ c.is_match_or_dead.ensures self.anchored u stands (inl dead))
       ];
-      passed = elim c.if-is_special.branch [
-        | then-is_special+else-is_some+else-is_dead-2 w ↦
+      passed = elim c.if-is_match_or_dead.branch [
+        | then-is_match_or_dead+else-is_some+else-is_dead-2 w ↦
             let none = not-some w.give-found.result (sym w.is_some.ensures ∙ w.if-is_some.false) in
             subst (λ (r : Reached). Passed g s r) (sym w.reached-is)
             (passed_there g s w.give-found.result w.give-found.new.reached none
             (gave_there g s w.new.result w.give-found.result w.give-found.new.reached w.new.ensures
             w.give-found.ensures))
-        | else-is_special w ↦
+        | else-is_match_or_dead w ↦
             subst (λ (r : Reached). Passed g s r) (sym w.reached-is)
             (passed-on (built_of g s) self.anchored c.args.tape.now.bytes self.span.start self.span.end inv.passed
             c.read_byte-state.result (goes_on g s)
             (no_matches g s (nil-from_not (listed g s c.read_byte-state.result)
-            (λ some. false≢true (sym w.if-is_special.false
-            ∙ c.is_special.ensures self.anchored (node_at (built_of g s).kind (search g s) (c.loop-at.at + 1))
-            (reaches_on g s).there (inr (inr some)))))))
+            (λ some. false≢true (sym w.if-is_match_or_dead.false
+            ∙ c.is_match_or_dead.ensures self.anchored (node_at (built_of g s).kind (search g s) (c.loop-at.at + 1))
+            (reaches_on g s).there (inr some))))))
       ];
       bytes = ap (λ (t : Taped). t.bytes) c.read_byte-state.ensures.tape ∙ inv.bytes;
       onward = omega arith;

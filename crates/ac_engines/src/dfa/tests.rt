@@ -1,0 +1,197 @@
+use super::{Builder, DFA};
+use ac_automaton::automaton::Automaton;
+use ac_automaton::nfa::noncontiguous;
+use ac_util::error::{BuildError, MatchError};
+use ac_util::search::MatchKind::{LeftmostFirst, LeftmostLongest, Standard};
+use ac_util::search::{Anchored, Input, Match, MatchKind, StartKind};
+use std::alloc::Global;
+use std::test::Fail;
+
+mod rows;
+mod small;
+
+/// A pattern number, a start and an end.
+type Told = (usize, usize, usize);
+
+/// The match kinds that a build can be asked for.
+const EACH: &[MatchKind] = &[Standard, LeftmostFirst, LeftmostLongest];
+
+/// Tables that serve unanchored searches: which starts they have, and whether bytes share classes.
+const UNANCHORED: [(StartKind, bool); 4] = [
+    (StartKind::Unanchored, true),
+    (StartKind::Unanchored, false),
+    (StartKind::Both, true),
+    (StartKind::Both, false),
+];
+
+/// Tables that serve anchored searches.
+const ANCHORED: [(StartKind, bool); 4] = [
+    (StartKind::Anchored, true),
+    (StartKind::Anchored, false),
+    (StartKind::Both, true),
+    (StartKind::Both, false),
+];
+
+/// Returns a builder for a match kind, which starts there are, and whether bytes share classes.
+fn builder(kind: MatchKind, start_kind: StartKind, byte_classes: bool) -> Builder {
+    let mut builder = Builder::new();
+    builder
+        .match_kind(kind)
+        .start_kind(start_kind)
+        .byte_classes(byte_classes);
+    builder
+}
+
+/// Returns what a row says of a match.
+fn told(m: &Match) -> Told {
+    (m.pattern().as_usize(), m.start(), m.end())
+}
+
+/// Returns the walk of the automaton.
+fn walk_of(alloc: Global, dfa: &DFA, input: Input<'_>) -> Result<Vec<Match>, Fail> {
+    let mut matches = dfa.try_find_iter(input)?;
+    let mut walked = Vec::new(alloc);
+    for _ in 0..u64::MAX {
+        let Some(found) = matches.next() else {
+            break;
+        };
+        walked.push(found)?;
+    }
+    Ok(walked)
+}
+
+/// Returns the listing of the automaton.
+fn listing_of(alloc: Global, dfa: &DFA, input: Input<'_>) -> Result<Vec<Match>, Fail> {
+    let mut items = dfa.try_find_overlapping_iter(input)?;
+    let mut listed = Vec::new(alloc);
+    for _ in 0..u64::MAX {
+        let Some(found) = items.next() else {
+            break;
+        };
+        listed.push(found)?;
+    }
+    Ok(listed)
+}
+
+/// Which patterns, match kind and starts a table is for, and how many rows of how many entries it has.
+type Size = (&'static [&'static [u8]], MatchKind, StartKind, usize, usize);
+
+const SIZES: [Size; 9] = [
+    (&[], Standard, StartKind::Unanchored, 4, 1),
+    (&[], Standard, StartKind::Both, 4, 1),
+    (
+        &[b"b", b"abc", b"abcd"],
+        Standard,
+        StartKind::Unanchored,
+        9,
+        8,
+    ),
+    (
+        &[b"b", b"abc", b"abcd"],
+        Standard,
+        StartKind::Anchored,
+        9,
+        8,
+    ),
+    (&[b"b", b"abc", b"abcd"], Standard, StartKind::Both, 14, 8),
+    (
+        &[b"b", b"abc", b"abcd"],
+        LeftmostFirst,
+        StartKind::Unanchored,
+        8,
+        8,
+    ),
+    (
+        &[b"b", b"abc", b"abcd"],
+        LeftmostFirst,
+        StartKind::Both,
+        12,
+        8,
+    ),
+    (&[b"abcd"], Standard, StartKind::Unanchored, 8, 8),
+    (&[b"abcd"], Standard, StartKind::Both, 12, 8),
+];
+
+#[test]
+fn tables_have_their_size(rt: HostRuntime) -> Result<(), Fail> {
+    for (patterns, kind, start_kind, rows, stride) in SIZES {
+        let dfa = builder(kind, start_kind, true).build(rt.alloc(), patterns)?;
+        assert_eq!(rt; dfa.classes.stride(), stride, "{patterns:?}");
+        assert_eq!(rt; dfa.table.len(), rows * stride, "{patterns:?}");
+    }
+    let dfa = builder(Standard, StartKind::Both, false).build(rt.alloc(), &[b"abcd"])?;
+    assert_eq!(rt; dfa.table.len(), 12 * 256);
+    Ok(())
+}
+
+#[test]
+fn searches_need_their_start(rt: HostRuntime) -> Result<(), Fail> {
+    let dfa = Builder::new().build(rt.alloc(), &[b"abc"])?;
+    let input = Input::new(b"abc").range(4..3);
+    let refused = dfa.try_find(input.anchored(Anchored::Yes));
+    assert_eq!(rt; refused, Err(MatchError::InvalidInputAnchored));
+    assert_eq!(rt; dfa.try_find(input)?, None);
+    let dfa = builder(Standard, StartKind::Anchored, true).build(rt.alloc(), &[b"abc"])?;
+    assert_eq!(rt; dfa.try_find(input), Err(MatchError::InvalidInputUnanchored));
+    assert_eq!(rt; dfa.try_find(input.anchored(Anchored::Yes))?, None);
+    Ok(())
+}
+
+/// The match kind and the case are those of the automaton that it is built from.
+#[test]
+fn an_automaton_of_another_kind_gives_its_own(rt: HostRuntime) -> Result<(), Fail> {
+    let patterns: [&[u8]; 3] = [b"b", b"ABC", b"abcd"];
+    let mut first = noncontiguous::Builder::new();
+    first.match_kind(LeftmostFirst).ascii_case_insensitive(true);
+    let nfa = first.build(rt.alloc(), &patterns)?;
+    let longest = builder(LeftmostLongest, StartKind::Unanchored, true);
+    let dfa = longest.build_from_noncontiguous(rt.alloc(), &nfa)?;
+    assert_eq!(rt; dfa.match_kind(), LeftmostFirst);
+    let found = dfa.try_find(Input::new(b"abcd"))?.map(|m| told(&m));
+    assert_eq!(rt; found, Some((1, 0, 3)));
+    Ok(())
+}
+
+/// The byte `a` before each byte from 80 on, in a haystack of all of them.
+#[test]
+fn many_classes(rt: HostRuntime) -> Result<(), Fail> {
+    let mut haystack = Vec::new(rt.alloc());
+    for byte in 0x80..=0xFFu8 {
+        haystack.push(b'a')?;
+        haystack.push(byte)?;
+    }
+    for few in [254, 256] {
+        let text = &haystack[..few];
+        let patterns: Vec<&[u8]> = text.chunks(2).collect(rt.alloc())?;
+        for &kind in EACH {
+            let dfa = builder(kind, StartKind::Both, true).build(rt.alloc(), &patterns)?;
+            assert_eq!(rt; dfa.classes.stride(), 256);
+            let walked = walk_of(rt.alloc(), &dfa, Input::new(text))?;
+            assert_eq!(rt; walked.len(), few / 2);
+            for (number, found) in walked.iter().enumerate() {
+                let wanted = (number, 2 * number, 2 * number + 2);
+                assert_eq!(rt; told(found), wanted, "under {kind:?}");
+            }
+        }
+    }
+    Ok(())
+}
+
+/// With each allocation refused in turn: a refused build is told, and the next one builds.
+#[test]
+fn a_refused_build_is_told(rt: HostRuntime) -> Result<(), Fail> {
+    let patterns: [&[u8]; 4] = [b"he", b"she", b"his", b"hers"];
+    for (start_kind, byte_classes) in UNANCHORED {
+        let builder = builder(Standard, start_kind, byte_classes);
+        let dfa = match builder.build(rt.alloc(), &patterns) {
+            Ok(dfa) => dfa,
+            Err(refused) => {
+                assert_eq!(rt; refused, BuildError::Memory, "under {start_kind:?}");
+                builder.build(rt.alloc(), &patterns)?
+            }
+        };
+        let found = dfa.try_find(Input::new(b"ushers"))?.map(|m| told(&m));
+        assert_eq!(rt; found, Some((1, 1, 4)), "under {start_kind:?}");
+    }
+    Ok(())
+}
