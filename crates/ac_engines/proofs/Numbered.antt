@@ -66,9 +66,9 @@ module _ (f : Filling) (nodes : List Node) (size : ℕ) where
       → place_in nodes f.numbers w ≡ slice_index_or f.numbers s 0
   place-row s w h = elim h.place [
     | inl start ↦
-      let named = rw start at h.named in
-      let first = h.may.are_nodes.start in
-      let empty : w ≡ [] = cc in
-      rw (start, empty) (place-start f.trie nodes h.may.are_nodes f.numbers h.may.laid.count)
+        let named = rw start at h.named in
+        let first = h.may.are_nodes.start in
+        let empty : w ≡ [] = cc in
+        rw (start, empty) (place-start f.trie nodes h.may.are_nodes f.numbers h.may.laid.count)
     | inr inner ↦ place-inner f.trie nodes h.may.are_nodes f.numbers s w h.may.laid.count inner h.named
   ]

@@ -66,15 +66,15 @@ module _ (f : Filling) (nodes : List Node) (size s : ℕ) (w : List ℕ) (h : Ha
       let place = place-row f nodes size s w h in
       elim h.place [
         | inl start ↦
-          let first = h.may.laid.start in
-          let whole = h.may.laid.whole in
-          let at = rw start at place in
-          omega arith
+            let first = h.may.laid.start in
+            let whole = h.may.laid.whole in
+            let at = rw start at place in
+            omega arith
         | inr inner ↦
-          let within = slice_get_within nodes s (Some w) h.named in
-          let count = h.may.laid.count in
-          let room = h.may.laid.within s inner (omega arith) in
-          omega arith
+            let within = slice_get_within nodes s (Some w) h.named in
+            let count = h.may.laid.count in
+            let room = h.may.laid.within s inner (omega arith) in
+            omega arith
       ]
 
   module _ (index byte next : ℕ) (own : IsOwn f.trie nodes w index byte next) where

@@ -199,13 +199,14 @@ module _ (f : Filling) (nodes : List Node) (size s : ℕ) (w : List ℕ) (h : Ha
       outside : SameBeside p (row_at p No (Some w)) f.stride old copied
       outside k (inl before) = below k 0 (omega arith)
       outside k (inr behind) = above k 0 (let room = h.may.room in omega arith)
+
       copied-entry : (b : ℕ) → b < 256 → entry p.classes copied (row_at p No (Some w)) b
           ≡ entry p.classes old (row_at p No (failure p.built.kind (plain_of p.built) w)) b
       copied-entry b byte =
           let small = h.may.below b byte in
           let at = row_at p No (Some w) + class_at f.classes b in
           let place : from + (at - to)
-              ≡ row_at p No (failure p.built.kind (plain_of p.built) w) + class_at f.classes b = omega arith in
+          ≡ row_at p No (failure p.built.kind (plain_of p.built) w) + class_at f.classes b = omega arith in
           copies at 0 (omega arith) (omega arith)
           ∙ ap (λ k. slice_index_or old k 0) place
 
@@ -227,6 +228,7 @@ module _ (f : Filling) (nodes : List Node) (size s : ℕ) (w : List ℕ) (h : Ha
     where
       there : s < length f.numbers
       there = let within = slice_get_within nodes s (Some w) h.named in let count = h.may.laid.count in omega arith
+
       last : (t : ℕ) (u : Node) → t ≡ s → slice_get nodes t ≡ Some u → (anchored : Anchored)
           → IsFilled p anchored (Some w) new → IsFilled p anchored u new
       last t u same named anchored filled =
@@ -234,6 +236,7 @@ module _ (f : Filling) (nodes : List Node) (size s : ℕ) (w : List ℕ) (h : Ha
           let own = h.named in
           let node : u ≡ Some w = cc in
           rw node filled
+
       kept : (t : ℕ) (u : Node) → t < s → t ≢ 3 → slice_get nodes t ≡ Some u → (anchored : Anchored)
           → IsFilled p anchored u old → IsFilled p anchored u new
       kept t None earlier other named anchored filled =
@@ -252,6 +255,7 @@ module _ (f : Filling) (nodes : List Node) (size s : ℕ) (w : List ℕ) (h : Ha
             | inl before ↦ inl (omega arith)
             | inr behind ↦ inr (omega arith)
           ]) beside filled
+
       blank-still : (t k : ℕ) → s + 1 ≤ t → t ≢ 3 → t < length nodes → slice_index_or f.numbers t 0 ≤ k
           → k < slice_index_or f.numbers t 0 + width p → slice_index_or new k 0 ≡ 0
       blank-still t k later other within from to =

@@ -45,21 +45,21 @@ module _ (p : Sheet) (anchored : Anchored) (w : List ℕ) (narrow : (b : ℕ) �
   set-more bytes b v old now byte alone within e h =
       let at = row + class_at p.classes b in
       let apart : (a : ℕ) → a < 256 → (a ≡ b → ⊥) → row + class_at p.classes a ≢ at = λ a small other same.
-        other (alone a small (omega arith)) in
+      other (alone a small (omega arith)) in
       record {
-    same_length = length-set now at v ∙ h.same_length;
-    beside = λ k outside.
-        get_or-set_other now at k v 0 (let n = narrow b byte in λ same. omega arith) ∙ h.beside k outside;
-    own = λ a small has. elim (cases_eq a b) [
-      | inl same ↦ rw same (get_or-set_same now at v 0 within ∙ e)
-      | inr other ↦ elim (Contains-append_cases bytes (b ∷ []) a has) [
-        | inl before ↦ get_or-set_other now at (row + class_at p.classes a) v 0 (apart a small other)
-          ∙ h.own a small before
-        | inr last ↦ absurd (other (Contains-one a b last))
-      ]
-    ];
-    others = λ a small none.
-        get_or-set_other now at (row + class_at p.classes a) v 0
-        (apart a small (λ same. none (Contains-append_right bytes (b ∷ []) a (Contains-own a b same))))
-        ∙ h.others a small (λ before. none (Contains-append_left bytes (b ∷ []) a before));
-  }
+        same_length = length-set now at v ∙ h.same_length;
+        beside = λ k outside.
+            get_or-set_other now at k v 0 (let n = narrow b byte in λ same. omega arith) ∙ h.beside k outside;
+        own = λ a small has. elim (cases_eq a b) [
+          | inl same ↦ rw same (get_or-set_same now at v 0 within ∙ e)
+          | inr other ↦ elim (Contains-append_cases bytes (b ∷ []) a has) [
+            | inl before ↦ get_or-set_other now at (row + class_at p.classes a) v 0 (apart a small other)
+                ∙ h.own a small before
+            | inr last ↦ absurd (other (Contains-one a b last))
+          ]
+        ];
+        others = λ a small none.
+            get_or-set_other now at (row + class_at p.classes a) v 0
+            (apart a small (λ same. none (Contains-append_right bytes (b ∷ []) a (Contains-own a b same))))
+            ∙ h.others a small (λ before. none (Contains-append_left bytes (b ∷ []) a before));
+      }

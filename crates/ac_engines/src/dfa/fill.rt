@@ -86,7 +86,12 @@ impl<'a, A: Allocator> Filler<'a, A> {
     {
         let sid = StateID::must(START);
         let start = self.number(sid, Anchored::No);
-        lead_all(table, start, self.missing(start), self.classes.alphabet_len());
+        lead_all(
+            table,
+            start,
+            self.missing(start),
+            self.classes.alphabet_len(),
+        );
         self.set_own(table, sid, Anchored::No);
     }
 

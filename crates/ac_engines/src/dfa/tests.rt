@@ -132,7 +132,10 @@ fn searches_need_their_start(rt: HostRuntime) -> Result<(), Fail> {
     assert_eq!(rt; refused, Err(MatchError::InvalidInputAnchored));
     assert_eq!(rt; dfa.try_find(input)?, None);
     let dfa = builder(Standard, StartKind::Anchored, true).build(rt.alloc(), &[b"abc"])?;
-    assert_eq!(rt; dfa.try_find(input), Err(MatchError::InvalidInputUnanchored));
+    assert_eq!(rt;
+        dfa.try_find(input),
+        Err(MatchError::InvalidInputUnanchored)
+    );
     assert_eq!(rt; dfa.try_find(input.anchored(Anchored::Yes))?, None);
     Ok(())
 }

@@ -81,12 +81,7 @@ const WALKS: [Row; 16] = [
 ];
 
 const ANCHORED_WALKS: [Row; 7] = [
-    (
-        &[Standard],
-        &[b"b", b"abc", b"abcd"],
-        b"abcd",
-        &[(1, 0, 3)],
-    ),
+    (&[Standard], &[b"b", b"abc", b"abcd"], b"abcd", &[(1, 0, 3)]),
     (
         &[LeftmostLongest],
         &[b"b", b"abc", b"abcd"],
@@ -199,6 +194,9 @@ fn walks_without_case(rt: HostRuntime) -> Result<(), Fail> {
         }
     }
     let dfa = builder(Standard, StartKind::Both, true).build(rt.alloc(), &patterns)?;
-    assert_eq!(rt; walk_of(rt.alloc(), &dfa, Input::new(b"foo bar baz"))?.len(), 0);
+    assert_eq!(rt;
+        walk_of(rt.alloc(), &dfa, Input::new(b"foo bar baz"))?.len(),
+        0
+    );
     Ok(())
 }

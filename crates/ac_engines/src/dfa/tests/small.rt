@@ -12,7 +12,15 @@ const PATTERNS: [&[u8]; 11] = [
 
 /// Words in which they occur in many ways.
 const HAYSTACKS: [&[u8]; 9] = [
-    b"", b"a", b"ba", b"aba", b"abba", b"aabab", b"babbaa", b"bbabaab", b"xaxbaabx",
+    b"",
+    b"a",
+    b"ba",
+    b"aba",
+    b"abba",
+    b"aabab",
+    b"babbaa",
+    b"bbabaab",
+    b"xaxbaabx",
 ];
 
 /// Compares the tables of these patterns with the plain program.
@@ -58,9 +66,7 @@ fn compare_walks<'a>(
     if same {
         return Ok(());
     }
-    Err(Fail::new(format_args!(
-        "{anchored:?} under {kind:?}: {patterns:?} in {haystack:?}"
-    )))
+    Err(Fail::new(format_args!("{anchored:?} under {kind:?}: {patterns:?} in {haystack:?}")))
 }
 
 #[test]

@@ -27,9 +27,9 @@ loop-class-preserved c =
       ];
       beside = λ k outside. elim outside [
         | inl before ↦ get_or-set_other c.loop-class.table at k c.args.to 0 (λ same. omega arith)
-          ∙ led.beside k (inl before)
+            ∙ led.beside k (inl before)
         | inr behind ↦ get_or-set_other c.loop-class.table at k c.args.to 0 (λ same. omega arith)
-          ∙ led.beside k (inr (omega arith))
+            ∙ led.beside k (inr (omega arith))
       ];
     }
 

@@ -15,9 +15,12 @@ fill_state-requires g c =
     let f = c.args.self.now in
     let size = length c.args.table.now in
     let may = c.requires.may.1 in
-    let nodes = c.requires.may.0 in
-    (nodes, [], rw c.must.ensures.value (has-row f nodes size may 2 [] may.are_nodes.start second),
-    rw c.must.ensures.value (filled-none f nodes size may c.args.table.now refl c.requires.blank))
+    let nodes = c.requires.may.0 in (
+      nodes,
+      [],
+      rw c.must.ensures.value (has-row f nodes size may 2 [] may.are_nodes.start second),
+      rw c.must.ensures.value (filled-none f nodes size may c.args.table.now refl c.requires.blank),
+    )
 
 -- the rows of the first four states are filled
 pub loop-state-init : goal.loop-state-init
@@ -40,9 +43,12 @@ fill_state-requires-in-loop-state g c =
     ∙ ap (λ (f : Filling). state_count f.trie.built.kind (plain_of f.trie.built)) c.self.view_is in
     let count = may.are_nodes.numbered.count in
     let more = c.loop-state-test.true in
-    let row = row-at f nodes size may c.loop-state.state c.loop-state.auto.state (omega arith) in
-    (nodes, row.0, rw (up.long, c.must-in-loop-state.ensures.value) row.1,
-    rw (up.long, c.must-in-loop-state.ensures.value) up)
+    let row = row-at f nodes size may c.loop-state.state c.loop-state.auto.state (omega arith) in (
+      nodes,
+      row.0,
+      rw (up.long, c.must-in-loop-state.ensures.value) row.1,
+      rw (up.long, c.must-in-loop-state.ensures.value) up,
+    )
 
 -- those of one state more are
 pub loop-state-preserved : goal.loop-state-preserved

@@ -32,10 +32,10 @@ returns g c = λ nodes w some m.
     let size = length c.args.table.now in
     let trie = ap (λ (f : Filling). f.trie) c.self.view_is in
     let named : slice_get nodes c.fail.result ≡ Some (failure f.trie.built.kind (plain_of f.trie.built) w) =
-        failed-to f.trie.built.kind (plain_of f.trie.built) nodes c.args.sid c.fail.result w some
-        (λ x u at. subst (λ (t : Trie). slice_get nodes c.fail.result ≡ Some (failure t.built.kind (plain_of t.built) (x ∷ u)))
-        trie (c.fail.ensures.target nodes x u (subst (λ (t : Trie). AreNodes t nodes) (sym trie) m.row.may.are_nodes) at))
-        m.row.named in
+    failed-to f.trie.built.kind (plain_of f.trie.built) nodes c.args.sid c.fail.result w some
+    (λ x u at. subst (λ (t : Trie). slice_get nodes c.fail.result ≡ Some (failure t.built.kind (plain_of t.built) (x ∷ u)))
+    trie (c.fail.ensures.target nodes x u (subst (λ (t : Trie). AreNodes t nodes) (sym trie) m.row.may.are_nodes) at))
+    m.row.named in
     let target = failure f.trie.built.kind (plain_of f.trie.built) w in
     let from = c.first_row-from.ensures.value
     ∙ ap (λ (f : Filling). slice_index_or f.numbers c.fail.result 0) c.self.view_is

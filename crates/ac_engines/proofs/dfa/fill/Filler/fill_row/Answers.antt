@@ -17,10 +17,13 @@ not-empty f nodes size s w h other = elim h.place [
 
 pub fill_inner-requires : goal.fill_inner-requires
 fill_inner-requires g c =
-    let m = rw c.in-No.is at c.requires.2 in
-    (c.requires.0, c.requires.1,
-    not-empty c.args.self.now c.requires.0 (length c.args.table.now) c.args.sid c.requires.1 m.row
-    (λ start. c.if-as_usize-eq-START.false (c.as_usize.ensures.value ∙ start)), m)
+    let m = rw c.in-No.is at c.requires.2 in (
+      c.requires.0,
+      c.requires.1,
+      not-empty c.args.self.now c.requires.0 (length c.args.table.now) c.args.sid c.requires.1 m.row
+          (λ start. c.if-as_usize-eq-START.false (c.as_usize.ensures.value ∙ start)),
+      m,
+    )
 
 pub returns-in-Yes : goal.returns-in-Yes
 returns-in-Yes g c = λ nodes w m'.

@@ -8,21 +8,30 @@ use Rattle.ac_engines.proofs.dfa.fill.Filler.fill_state.Goals as goal
 
 pub fill_row-requires : goal.fill_row-requires
 fill_row-requires g c =
-    let kind = sym (ap (λ (f : Filling). f.start_kind) c.self.view_is) ∙ c.in-Unanchored.is in
-    (c.requires.0, c.requires.1, may-row c.args.self.now c.requires.0 (length c.args.table.now) c.args.sid c.requires.1
-    c.requires.2 No c.args.table.now (rw kind refl) c.requires.3)
+    let kind = sym (ap (λ (f : Filling). f.start_kind) c.self.view_is) ∙ c.in-Unanchored.is in (
+      c.requires.0,
+      c.requires.1,
+      may-row c.args.self.now c.requires.0 (length c.args.table.now) c.args.sid c.requires.1
+          c.requires.2 No c.args.table.now (rw kind refl) c.requires.3,
+    )
 
 pub fill_row-requires-in-Anchored : goal.fill_row-requires-in-Anchored
 fill_row-requires-in-Anchored g c =
-    let kind = sym (ap (λ (f : Filling). f.start_kind) c.self.view_is) ∙ c.in-Anchored.is in
-    (c.requires.0, c.requires.1, may-row c.args.self.now c.requires.0 (length c.args.table.now) c.args.sid c.requires.1
-    c.requires.2 Yes c.args.table.now (rw kind refl) c.requires.3)
+    let kind = sym (ap (λ (f : Filling). f.start_kind) c.self.view_is) ∙ c.in-Anchored.is in (
+      c.requires.0,
+      c.requires.1,
+      may-row c.args.self.now c.requires.0 (length c.args.table.now) c.args.sid c.requires.1
+          c.requires.2 Yes c.args.table.now (rw kind refl) c.requires.3,
+    )
 
 pub fill_row-requires-in-Both : goal.fill_row-requires-in-Both
 fill_row-requires-in-Both g c =
-    let kind = sym (ap (λ (f : Filling). f.start_kind) c.self.view_is) ∙ c.in-Both.is in
-    (c.requires.0, c.requires.1, may-row c.args.self.now c.requires.0 (length c.args.table.now) c.args.sid c.requires.1
-    c.requires.2 No c.args.table.now (rw kind refl) c.requires.3)
+    let kind = sym (ap (λ (f : Filling). f.start_kind) c.self.view_is) ∙ c.in-Both.is in (
+      c.requires.0,
+      c.requires.1,
+      may-row c.args.self.now c.requires.0 (length c.args.table.now) c.args.sid c.requires.1
+          c.requires.2 No c.args.table.now (rw kind refl) c.requires.3,
+    )
 
 pub fill_row-requires-in-Both-2 : goal.fill_row-requires-in-Both-2
 fill_row-requires-in-Both-2 g c =
@@ -33,9 +42,12 @@ fill_row-requires-in-Both-2 g c =
     c.requires.3 in
     let first = c.fill_row-in-Both.ensures c.requires.0 c.requires.1 may in
     let second = may-row f c.requires.0 size c.args.sid c.requires.1 c.requires.2 Yes c.args.table.now (rw kind refl)
-    c.requires.3 in
-    (c.requires.0, c.requires.1, rw first.same_length (second-row f c.requires.0 size c.args.sid c.requires.1
-    c.requires.2 c.args.table.now c.fill_row-in-Both.new.table kind second first))
+    c.requires.3 in (
+      c.requires.0,
+      c.requires.1,
+      rw first.same_length (second-row f c.requires.0 size c.args.sid c.requires.1
+          c.requires.2 c.args.table.now c.fill_row-in-Both.new.table kind second first),
+    )
 
 pub returns-in-Unanchored : goal.returns-in-Unanchored
 returns-in-Unanchored g c = λ nodes w row up.

@@ -26,10 +26,10 @@ returns-else-is_leftmost g c =
     let shortest = ap (λ (f : Filling). shortest_len f.trie.built.patterns) c.self.view_is in
     missing-start built.kind built.fold built.patterns c.args.start (elim c.else-is_leftmost.branch [
       | else-is_leftmost-via-then-is_leftmost+else-min_pattern_len-eq0 w ↦
-        inr (elim (cases_lt 0 (shortest_len built.patterns)) [
-          | inl some ↦ some
-          | inr none ↦ absurd (w.if-min_pattern_len-eq0.false (w.min_pattern_len.ensures ∙ shortest ∙ omega arith))
-        ])
+          inr (elim (cases_lt 0 (shortest_len built.patterns)) [
+            | inl some ↦ some
+            | inr none ↦ absurd (w.if-min_pattern_len-eq0.false (w.min_pattern_len.ensures ∙ shortest ∙ omega arith))
+          ])
       | else-is_leftmost-via-else-is_leftmost w ↦
-        inl (sym kind ∙ sym (ap is_leftmost c.match_kind.ensures) ∙ sym c.is_leftmost.ensures ∙ w.if-is_leftmost.false)
+          inl (sym kind ∙ sym (ap is_leftmost c.match_kind.ensures) ∙ sym c.is_leftmost.ensures ∙ w.if-is_leftmost.false)
     ])

@@ -30,10 +30,13 @@ number-requires-in-loop-index g c =
     let trie = ap (λ (f : Filling). f.trie) c.self.view_is in
     let own = subst (λ (t : Trie). IsOwn t c.requires.0 c.requires.1 c.loop-index.index c.own-byte.result.0 c.own-byte.result.1)
     trie (c.own-byte.ensures c.requires.0 c.requires.1
-    (subst (λ (t : Trie). AreNodes t c.requires.0) (sym trie) h.may.are_nodes) h.named) in
-    (c.requires.0, length c.args.table.now, c.requires.1 ++ plain_byte c.args.self.now.trie.built.fold c.own-byte.result.0 ∷ [],
-    next-row c.args.self.now c.requires.0 (length c.args.table.now) c.args.sid c.requires.1 h c.loop-index.index
-    c.own-byte.result.0 c.own-byte.result.1 own)
+    (subst (λ (t : Trie). AreNodes t c.requires.0) (sym trie) h.may.are_nodes) h.named) in (
+      c.requires.0,
+      length c.args.table.now,
+      c.requires.1 ++ plain_byte c.args.self.now.trie.built.fold c.own-byte.result.0 ∷ [],
+      next-row c.args.self.now c.requires.0 (length c.args.table.now) c.args.sid c.requires.1 h c.loop-index.index
+          c.own-byte.result.0 c.own-byte.result.1 own,
+    )
 
 -- the row lies in the table
 pub bounds-table-row : goal.bounds-table-row
