@@ -1,4 +1,5 @@
 pub mod Filled
+pub mod Laying
 pub mod Listing
 pub mod Numbered
 pub mod Numbers

@@ -1,5 +1,5 @@
 -- Where the rows of a table stand, and what they list.
-use Rattle.std.specs.Prelude.{◌≡◌, ◌⊎◌, ℕ, ◌+◌, ◌-◌, ◌*◌, ◌/◌, ◌<◌, ◌≤◌, List, [], ◌∷◌, slice_get, slice_index_or, Some, None}
+use Rattle.std.specs.Prelude.{◌≡◌, ◌⊎◌, ℕ, ◌+◌, ◌-◌, ◌*◌, ◌/◌, ◌<◌, ◌≤◌, List, [], ◌∷◌, ◌++◌, length, slice_get, slice_index_or, Some, None}
 use Rattle.ac_util.specs.declared.search.Anchored.{Anchored}
 use Rattle.ac_util.specs.declared.search.Anchored.TheVariants.{No, Yes}
 use Rattle.ac_util.specs.declared.search.StartKind.{StartKind}
@@ -38,6 +38,34 @@ abbrev pub row_lists : StartKind → Built → Node → List (List ℕ)
 row_lists Both built u = matches_of built No u ∷ matches_of built Yes u ∷ []
 row_lists Unanchored built u = matches_of built No u ∷ []
 row_lists AnchoredAlone built u = matches_of built Yes u ∷ []
+
+-- the lists of the first four rows: that of the dead node, that of no node, and those of the start, which for one
+-- start are one and an empty one
+abbrev pub first_lists : StartKind → Built → List (List ℕ)
+first_lists Both built = [] ∷ [] ∷ row_lists Both built (Some [])
+first_lists Unanchored built = [] ∷ [] ∷ row_lists Unanchored built (Some []) ++ [] ∷ []
+first_lists AnchoredAlone built = [] ∷ [] ∷ row_lists AnchoredAlone built (Some []) ++ [] ∷ []
+
+-- a node's rows are the first behind those that have lists, and their lists were added
+pub record IsInFront (start_kind : StartKind) (built : Built) (u : Node) (row : ℕ) (lists : List (List ℕ)) (back : ℕ)
+    (new_lists : List (List ℕ)) (new_back : ℕ) : Type 0 where
+  pub behind : row ≡ length lists
+  pub added : new_lists ≡ lists ++ row_lists start_kind built u
+  pub same : new_back ≡ back
+
+-- a node has no matches, and its rows are the last before those at the back
+pub record IsAtBack (start_kind : StartKind) (built : Built) (u : Node) (row : ℕ) (lists : List (List ℕ)) (back : ℕ)
+    (new_lists : List (List ℕ)) (new_back : ℕ) : Type 0 where
+  pub none : (anchored : Anchored) → matches_of built anchored u ≡ []
+  pub first : row ≡ new_back
+  pub same : new_lists ≡ lists
+  pub before : new_back + rows_each start_kind ≡ back
+
+-- a node was given its rows: at the one side or at the other
+abbrev pub HasPlaced : StartKind → Built → Node → ℕ → List (List ℕ) → ℕ → List (List ℕ) → ℕ → Type 0
+HasPlaced start_kind built u row lists back new_lists new_back =
+    IsInFront start_kind built u row lists back new_lists new_back
+    ⊎ IsAtBack start_kind built u row lists back new_lists new_back
 
 -- what a state lists, where each row has a list
 abbrev pub listed_at : List (List ℕ) → ℕ → ℕ → List ℕ
