@@ -2,8 +2,9 @@
 use Rattle.std.proofs.Common.{◌≡◌, ◌≢◌, ◌⊎◌, inl, inr, ℕ, zero, suc, ◌+◌, ◌-◌, ◌*◌, ◌/◌, ◌<◌, ◌≤◌, List, [], ◌∷◌, ◌++◌, length, slice_index_or, refl, ap, sym, subst, ◌∙◌, arith, Some, None, length-append}
 use Rattle.std.specs.Prelude.{slice_get}
 use Rattle.std.proofs.Math.Nat.{mul-div_cancel}
+use Rattle.std.proofs.Math.Seq.{get_or-append_seam}
 use Rattle.std.proofs.lemmas.Bool.{cases_eq, cases_lt}
-use Rattle.std.proofs.lemmas.List.{get_or_append_left, get_or-append-add, get_or_past}
+use Rattle.std.proofs.lemmas.List.{append_assoc, append-nil, get_or_append_left, get_or-append-add, get_or_past}
 use Rattle.std.proofs.lemmas.Nat.{div_below, le-div, mul-le}
 use Rattle.ac_util.specs.declared.search.Anchored.{Anchored}
 use Rattle.ac_util.specs.declared.search.Anchored.TheVariants.{No, Yes}
@@ -52,6 +53,13 @@ each-rows : (start_kind : StartKind) (row stride : ℕ)
 each-rows Both row stride = omega arith
 each-rows Unanchored row stride = omega arith
 each-rows AnchoredAlone row stride = omega arith
+
+-- what a state's rows take of the room that is left
+each-room : (start_kind : StartKind) (states s : ℕ) → s < states
+    → rows_each start_kind * (states - s) ≡ rows_each start_kind + rows_each start_kind * (states - (s + 1))
+each-room Both states s left = omega (arith, left)
+each-room Unanchored states s left = omega (arith, left)
+each-room AnchoredAlone states s left = omega (arith, left)
 
 -- the list at a number is that of its row
 listed-row : (lists : List (List ℕ)) (row stride : ℕ) → 0 < stride
@@ -123,3 +131,263 @@ module _ (built : Built) where
   first_lists-none AnchoredAlone none (suc (suc zero)) h = none Yes
   first_lists-none AnchoredAlone none (suc (suc (suc zero))) h = refl
   first_lists-none start_kind none (suc (suc (suc (suc k)))) h = absurd (omega arith)
+
+-- what is laid out: which starts the table has, what it is built from, which node each state stands for, and how many
+-- entries a row has
+pub record Plan : Type 0 where
+  pub start_kind : StartKind
+  pub built : Built
+  pub nodes : List Node
+  pub stride : ℕ
+
+module _ (p : Plan) where
+  -- how many rows a state has
+  abbrev pub each : ℕ
+  each = rows_each p.start_kind
+
+  -- a state's rows stand in front, with its lists
+  pub record StandsInFront (lists : List (List ℕ)) (s row : ℕ) : Type 0 where
+    pub inner : 4 ≤ row
+    pub within : row + each ≤ length lists
+    pub listed : (u : Node) (k : ℕ) → slice_get p.nodes s ≡ Some u → k < each
+        → slice_index_or lists (row + k) [] ≡ slice_index_or (row_lists p.start_kind p.built u) k []
+
+  -- a state without matches has its rows at the back
+  pub record StandsAtBack (back last s row : ℕ) : Type 0 where
+    pub behind : back ≤ row
+    pub within : row + each ≤ last
+    pub none : (u : Node) (anchored : Anchored) → slice_get p.nodes s ≡ Some u → matches_of p.built anchored u ≡ []
+
+  -- a state has its rows, in front or at the back
+  pub record HasRows (lists : List (List ℕ)) (back last s n : ℕ) : Type 0 where
+    pub row : ℕ
+    pub number : n ≡ row * p.stride
+    pub place : StandsInFront lists s row ⊎ StandsAtBack back last s row
+
+  -- two states' rows are apart
+  abbrev pub Apart : ℕ → ℕ → Type 0
+  Apart m n = (m + (p.stride + behind p.start_kind Yes p.stride) ≤ n) ⊎ (n + (p.stride + behind p.start_kind Yes p.stride) ≤ m)
+
+  -- the first so many states have their rows, and what is left between front and back is room for the others
+  pub record IsLaidUpTo (s : ℕ) (numbers : List ℕ) (lists : List (List ℕ)) (back last : ℕ) : Type 0 where
+    pub count : length numbers ≡ s
+    pub dead : slice_index_or numbers 0 0 ≡ 0
+    pub unreached : slice_index_or numbers 1 0 ≡ 0
+    pub start : slice_index_or numbers 2 0 ≡ 2 * p.stride
+    pub more : List (List ℕ)
+    pub first : lists ≡ first_lists p.start_kind p.built ++ more
+    pub room : back ≡ length lists + each * (length p.nodes - s)
+    pub within : back ≤ last
+    pub rows : (t : ℕ) → 4 ≤ t → t < s → HasRows lists back last t (slice_index_or numbers t 0)
+    pub apart : (t r : ℕ) → 4 ≤ t → t < r → r < s → Apart (slice_index_or numbers t 0) (slice_index_or numbers r 0)
+
+  -- a row that stands behind all rows of another begins behind it
+  row-order : (row next : ℕ) → row + each ≤ next
+      → row * p.stride + (p.stride + behind p.start_kind Yes p.stride) ≤ next * p.stride
+  row-order row next h =
+      let m = mul-le (row + each) p.stride next p.stride h (omega arith) in
+      let e = each-rows p.start_kind row p.stride in
+      omega (arith, m, e)
+
+  -- rows stay where they are when lists are added, and the back comes nearer
+  kept : (lists more : List (List ℕ)) (back new_back last s n : ℕ) → new_back ≤ back
+      → HasRows lists back last s n → HasRows (lists ++ more) new_back last s n
+  kept lists more back new_back last s n nearer h = record {
+    row = h.row;
+    number = h.number;
+    place = elim h.place [
+      | inl front ↦ inl (record {
+        inner = front.inner;
+        within = let w = front.within in let l = length-append lists more in omega (arith, w, l);
+        listed = λ u k named small. get_or_append_left lists more [] (h.row + k) (let w = front.within in omega (arith, w, small))
+            ∙ front.listed u k named small;
+      })
+      | inr at_back ↦ inr (record {
+        behind = let b = at_back.behind in omega (arith, b, nearer);
+        within = at_back.within;
+        none = at_back.none;
+      })
+    ];
+  }
+
+  -- nothing is laid but the first four
+  pub none-laid : (last : ℕ) → 4 ≤ length p.nodes → last ≡ 4 + each * (length p.nodes - 4)
+      → IsLaidUpTo 4 (0 ∷ 0 ∷ 2 * p.stride ∷ 3 * p.stride ∷ []) (first_lists p.start_kind p.built) last last
+  none-laid last enough e = record {
+    count = refl;
+    dead = refl;
+    unreached = refl;
+    start = refl;
+    more = [];
+    first = sym (append-nil (first_lists p.start_kind p.built));
+    room = e ∙ ap (λ n. n + each * (length p.nodes - 4)) (sym (length-first_lists p.built p.start_kind));
+    within = omega arith;
+    rows = λ t inner before. absurd (omega (arith, inner, before));
+    apart = λ t r inner after before. absurd (omega (arith, inner, after, before));
+  }
+
+  -- one state more has its rows, between front and back
+  record GoesOn (s row : ℕ) (lists : List (List ℕ)) (back : ℕ) (new_lists : List (List ℕ)) (new_back last : ℕ) : Type 0 where
+    added : List (List ℕ)
+    is : new_lists ≡ lists ++ added
+    nearer : new_back ≤ back
+    behind : length lists ≤ row
+    before : row + each ≤ back
+    room : new_back ≡ length new_lists + each * (length p.nodes - (s + 1))
+    own : HasRows new_lists new_back last s (row * p.stride)
+
+  module _ (s : ℕ) (numbers : List ℕ) (lists : List (List ℕ)) (back last : ℕ) (h : IsLaidUpTo s numbers lists back last) where
+    -- the first four rows have lists
+    long : 4 ≤ length lists
+    long =
+        let l = ap length h.first ∙ length-append (first_lists p.start_kind p.built) h.more in
+        let f = length-first_lists p.built p.start_kind in
+        omega (arith, l, f)
+
+    -- a state that is left has room for its rows
+    pub room-left : s < length p.nodes → each ≤ back
+    room-left left =
+        let e = each-room p.start_kind (length p.nodes) s left in
+        let r = h.room in
+        omega (arith, e, r)
+
+    module _ (u : Node) (row : ℕ) (new_lists : List (List ℕ)) (new_back : ℕ) (left : s < length p.nodes)
+        (named : slice_get p.nodes s ≡ Some u) where
+      in-front : IsInFront p.start_kind p.built u row lists back new_lists new_back
+          → GoesOn s row lists back new_lists new_back last
+      in-front front =
+          let e = each-room p.start_kind (length p.nodes) s left in
+          let r = h.room in
+          let b = front.behind in
+          let same = front.same in
+          let l = ap length front.added ∙ length-append lists (row_lists p.start_kind p.built u) in
+          let f = length-row_lists p.built u p.start_kind in
+          let four = long in
+          record {
+            added = row_lists p.start_kind p.built u;
+            is = front.added;
+            nearer = omega (arith, same);
+            behind = omega (arith, b);
+            before = omega (arith, b, e, r);
+            room = omega (arith, same, e, r, l, f);
+            own = record {
+              row = row;
+              number = refl;
+              place = inl (record {
+                inner = omega (arith, b, four);
+                within = omega (arith, b, l, f);
+                listed = λ v k also small.
+                    let one : v ≡ u = cc in
+                    rw (one, front.added, b) (get_or-append-add lists (row_lists p.start_kind p.built u) k []);
+              });
+            };
+          }
+
+      at-back : IsAtBack p.start_kind p.built u row lists back new_lists new_back
+          → GoesOn s row lists back new_lists new_back last
+      at-back side =
+          let e = each-room p.start_kind (length p.nodes) s left in
+          let r = h.room in
+          let w = h.within in
+          let first = side.first in
+          let before = side.before in
+          let l = ap length side.same in
+          record {
+            added = [];
+            is = side.same ∙ sym (append-nil lists);
+            nearer = omega (arith, before);
+            behind = omega (arith, first, before, e, r);
+            before = omega (arith, first, before);
+            room = omega (arith, before, e, r, l);
+            own = record {
+              row = row;
+              number = refl;
+              place = inr (record {
+                behind = omega (arith, first);
+                within = omega (arith, first, before, w);
+                none = λ v anchored also. let one : v ≡ u = cc in rw one (side.none anchored);
+              });
+            };
+          }
+
+      goes-on : HasPlaced p.start_kind p.built u row lists back new_lists new_back
+          → GoesOn s row lists back new_lists new_back last
+      goes-on placed = elim placed [ inl front ↦ in-front front | inr side ↦ at-back side ]
+
+      -- its rows end within the table
+      pub row-small : HasPlaced p.start_kind p.built u row lists back new_lists new_back → row + each ≤ last
+      row-small placed =
+          let before = (goes-on placed).before in
+          let w = h.within in
+          omega (arith, before, w)
+
+      -- and stand apart from those of the states before
+      apart-from : (t n : ℕ) → GoesOn s row lists back new_lists new_back last → HasRows lists back last t n
+          → Apart n (row * p.stride)
+      apart-from t n on rows = elim rows.place [
+        | inl front ↦
+          let w = front.within in
+          let b = on.behind in
+          rw rows.number (inl (row-order rows.row row (omega (arith, w, b))))
+        | inr side ↦
+          let b = side.behind in
+          let before = on.before in
+          rw rows.number (inr (row-order row rows.row (omega (arith, b, before))))
+      ]
+
+      -- the numbers before stay
+      old-number : (t : ℕ) → t < s
+          → slice_index_or (numbers ++ row * p.stride ∷ []) t 0 ≡ slice_index_or numbers t 0
+      old-number t before =
+          let c = h.count in get_or_append_left numbers (row * p.stride ∷ []) 0 t (omega (arith, c, before))
+
+      new-number : slice_index_or (numbers ++ row * p.stride ∷ []) s 0 ≡ row * p.stride
+      new-number =
+          subst (λ k. slice_index_or (numbers ++ row * p.stride ∷ []) k 0 ≡ row * p.stride) h.count
+          (get_or-append_seam numbers (row * p.stride) [] 0)
+
+      module _ (inner : 4 ≤ s) (placed : HasPlaced p.start_kind p.built u row lists back new_lists new_back) where
+        rows-now : (t : ℕ) → 4 ≤ t → t < s + 1
+            → HasRows new_lists new_back last t (slice_index_or (numbers ++ row * p.stride ∷ []) t 0)
+        rows-now t from before = elim (cases_eq t s) [
+          | inl same ↦ rw (same, new-number) (goes-on placed).own
+          | inr other ↦
+            let earlier : t < s = omega (arith, before, other) in
+            rw (old-number t earlier, (goes-on placed).is)
+            (kept lists (goes-on placed).added back new_back last t (slice_index_or numbers t 0) (goes-on placed).nearer
+            (h.rows t from earlier))
+        ]
+
+        apart-now : (t r : ℕ) → 4 ≤ t → t < r → r < s + 1
+            → Apart (slice_index_or (numbers ++ row * p.stride ∷ []) t 0)
+            (slice_index_or (numbers ++ row * p.stride ∷ []) r 0)
+        apart-now t r from after before = elim (cases_eq r s) [
+          | inl same ↦
+            let earlier : t < s = omega (arith, after, same) in
+            rw (same, new-number, old-number t earlier)
+            (apart-from t (slice_index_or numbers t 0) (goes-on placed) (h.rows t from earlier))
+          | inr other ↦
+            let earlier : r < s = omega (arith, before, other) in
+            let first : t < s = omega (arith, after, earlier) in
+            rw (old-number t first, old-number r earlier) (h.apart t r from after earlier)
+        ]
+
+        -- with them one state more is laid
+        pub one-more-laid : IsLaidUpTo (s + 1) (numbers ++ row * p.stride ∷ []) new_lists new_back last
+        one-more-laid =
+            let on = goes-on placed in
+            let w = h.within in
+            let nearer = on.nearer in
+            record {
+              count = let c = h.count in let l = length-append numbers (row * p.stride ∷ []) in omega (arith, c, l);
+              dead = old-number 0 (omega (arith, inner)) ∙ h.dead;
+              unreached = old-number 1 (omega (arith, inner)) ∙ h.unreached;
+              start = old-number 2 (omega (arith, inner)) ∙ h.start;
+              more = h.more ++ on.added;
+              first = on.is ∙ ap (λ ls. ls ++ on.added) h.first
+                  ∙ append_assoc (first_lists p.start_kind p.built) h.more on.added;
+              room = on.room;
+              within = omega (arith, w, nearer);
+              rows = rows-now;
+              apart = apart-now;
+            }
