@@ -58,7 +58,7 @@ impl<A: Allocator + Clone> Layout<A> {
         };
         for state in FIRST_INNER..states {
             let row = rows.place(nfa, StateID::must(state), start_kind)?;
-            numbers.push(StateID::must(number(row, stride2)))?;
+            numbers.push(state_id(row, stride2))?;
         }
         let first = if nfa.is_match(StateID::must(START)) {
             START
@@ -125,8 +125,8 @@ fn first_numbers<A: Allocator>(alloc: A, stride2: u32) -> Result<Vec<StateID, A>
     let mut numbers = Vec::new(alloc);
     numbers.push(StateID::must(0))?;
     numbers.push(StateID::must(0))?;
-    numbers.push(StateID::must(number(2, stride2)))?;
-    numbers.push(StateID::must(number(3, stride2)))?;
+    numbers.push(state_id(2, stride2))?;
+    numbers.push(state_id(3, stride2))?;
     Ok(numbers)
 }
 
@@ -177,7 +177,16 @@ fn table_rows(start_kind: StartKind, states: usize) -> usize
     }
 }
 
-/// Returns the number of a row's first entry.
+/// Returns the number of the state that has a row.
+fn state_id(row: usize, stride2: u32) -> StateID
+    requires narrow { stride2 ≤ 8 }
+    requires small { row * 2 ^ stride2 ≤ GREATEST }
+    ensures { result ≡ row * 2 ^ stride2 }
+{
+    StateID::must(number(row, stride2))
+}
+
+/// Returns where a row begins.
 fn number(row: usize, stride2: u32) -> usize
     requires narrow { stride2 ≤ 8 }
     requires small { row < 2 ^ 32 }
