@@ -1,5 +1,5 @@
 -- Laying out the rows of the states of a trie, one after another.
-use Rattle.std.proofs.Common.{◌≡◌, ◌≢◌, ◌⊎◌, inl, inr, ℕ, zero, suc, ◌+◌, ◌-◌, ◌*◌, ◌/◌, ◌^◌, ◌<◌, ◌≤◌, List, [], ◌∷◌, ◌++◌, length, slice_index_or, refl, ap, sym, subst, ◌∙◌, arith, Some, None, length-append}
+use Rattle.std.proofs.Common.{◌≡◌, ◌⊎◌, inl, inr, ℕ, zero, suc, ◌+◌, ◌-◌, ◌*◌, ◌/◌, ◌^◌, ◌<◌, ◌≤◌, List, [], ◌∷◌, ◌++◌, length, slice_index_or, refl, ap, sym, subst, ◌∙◌, arith, Some, None, length-append}
 use Rattle.std.specs.Prelude.{slice_get}
 use Rattle.std.proofs.Math.Nat.{mul-div_cancel}
 use Rattle.std.proofs.Math.Seq.{get_or-append_seam}
@@ -376,13 +376,13 @@ module _ (p : Plan) where
           → Apart n (row * p.stride)
       apart-from t n on rows = elim rows.place [
         | inl front ↦
-          let w = front.within in
-          let b = on.behind in
-          rw rows.number (inl (row-order rows.row row (omega (arith, w, b))))
+            let w = front.within in
+            let b = on.behind in
+            rw rows.number (inl (row-order rows.row row (omega (arith, w, b))))
         | inr side ↦
-          let b = side.behind in
-          let before = on.before in
-          rw rows.number (inr (row-order row rows.row (omega (arith, b, before))))
+            let b = side.behind in
+            let before = on.before in
+            rw rows.number (inr (row-order row rows.row (omega (arith, b, before))))
       ]
 
       -- the numbers before stay
@@ -402,10 +402,10 @@ module _ (p : Plan) where
         rows-now t from before = elim (cases_eq t s) [
           | inl same ↦ rw (same, new-number) (goes-on placed).own
           | inr other ↦
-            let earlier : t < s = omega (arith, before, other) in
-            rw (old-number t earlier, (goes-on placed).is)
-            (kept lists (goes-on placed).added back new_back last t (slice_index_or numbers t 0) (goes-on placed).nearer
-            (h.rows t from earlier))
+              let earlier : t < s = omega (arith, before, other) in
+              rw (old-number t earlier, (goes-on placed).is)
+              (kept lists (goes-on placed).added back new_back last t (slice_index_or numbers t 0) (goes-on placed).nearer
+              (h.rows t from earlier))
         ]
 
         apart-now : (t r : ℕ) → 4 ≤ t → t < r → r < s + 1
@@ -413,13 +413,13 @@ module _ (p : Plan) where
             (slice_index_or (numbers ++ row * p.stride ∷ []) r 0)
         apart-now t r from after before = elim (cases_eq r s) [
           | inl same ↦
-            let earlier : t < s = omega (arith, after, same) in
-            rw (same, new-number, old-number t earlier)
-            (apart-from t (slice_index_or numbers t 0) (goes-on placed) (h.rows t from earlier))
+              let earlier : t < s = omega (arith, after, same) in
+              rw (same, new-number, old-number t earlier)
+              (apart-from t (slice_index_or numbers t 0) (goes-on placed) (h.rows t from earlier))
           | inr other ↦
-            let earlier : r < s = omega (arith, before, other) in
-            let first : t < s = omega (arith, after, earlier) in
-            rw (old-number t first, old-number r earlier) (h.apart t r from after earlier)
+              let earlier : r < s = omega (arith, before, other) in
+              let first : t < s = omega (arith, after, earlier) in
+              rw (old-number t first, old-number r earlier) (h.apart t r from after earlier)
         ]
 
         -- with them one state more is laid
@@ -495,12 +495,12 @@ module _ (p : Plan) where
           ap (λ n. listed_at lists p.stride (n + behind p.start_kind anchored p.stride)) rows.number
           ∙ at-number rows.row anchored ∙ elim rows.place [
             | inl front ↦ front.listed (Some w) (behind p.start_kind anchored 1) named (behind-each p.start_kind anchored)
-              ∙ row_lists-at p.built (Some w) p.start_kind anchored supported
+                ∙ row_lists-at p.built (Some w) p.start_kind anchored supported
             | inr side ↦
-              let b = side.behind in
-              let f = full in
-              get_or_past lists (rows.row + behind p.start_kind anchored 1) [] (omega (arith, b, f))
-              ∙ sym (side.none (Some w) anchored named)
+                let b = side.behind in
+                let f = full in
+                get_or_past lists (rows.row + behind p.start_kind anchored 1) [] (omega (arith, b, f))
+                ∙ sym (side.none (Some w) anchored named)
           ]
 
     -- a state's rows stand behind those of the start
@@ -564,8 +564,8 @@ module _ (p : Plan) where
       laid = all-laid;
       rows = λ s w named place anchored supported. elim place [
         | inl second ↦
-          let none : w ≡ [] = let named_second = rw second at named in cc in
-          rw (second, none) (start-row anchored supported)
+            let none : w ≡ [] = let named_second = rw second at named in cc in
+            rw (second, none) (start-row anchored supported)
         | inr inner ↦ inner-row anchored supported s w inner named
       ];
       unlisted = ap (listed_at lists p.stride) (let none : 0 ≡ 0 * p.stride = omega arith in none)

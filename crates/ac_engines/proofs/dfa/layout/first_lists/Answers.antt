@@ -1,6 +1,6 @@
 use Rattle.std.proofs.Common.{◌≡◌, ◌∷◌, [], ◌++◌, List, ℕ, ap, ◌∙◌, Some}
 use Rattle.ac_util.specs.Pieces.{pieces}
-use Rattle.ac_engines.specs.Layouts.{first_lists, row_lists}
+use Rattle.ac_engines.specs.Layouts.{row_lists}
 use Rattle.ac_engines.proofs.Laying.{both-starts, one-start}
 use Rattle.ac_engines.proofs.dfa.layout.first_lists.Goals.{in-Both, in-Unanchored+in_ok-add_none-in-Unanchored}
 use Rattle.ac_engines.proofs.dfa.layout.first_lists.Goals as goal
@@ -20,10 +20,10 @@ returns-clause-lists g c =
     (c.in_ok-add_none-2.ensures.lists ∙ one ∙ none) in
     elim c.match-start_kind.branch [
       | in-Both w ↦
-        ap (λ m. pieces m.listed.items m.bounds.items) w.lists-is ∙ first ∙ both-starts start_kind built w.in-Both.is
+          ap (λ m. pieces m.listed.items m.bounds.items) w.lists-is ∙ first ∙ both-starts start_kind built w.in-Both.is
       | in-Unanchored+in_ok-add_none-in-Unanchored w ↦
-        ap (λ m. pieces m.listed.items m.bounds.items) w.lists-is
-        ∙ w.in_ok-add_none-in-Unanchored.ensures.lists
-        ∙ ap (λ (ls : List (List ℕ)). ls ++ [] ∷ []) first
-        ∙ one-start start_kind built w.in-Unanchored.is
+          ap (λ m. pieces m.listed.items m.bounds.items) w.lists-is
+          ∙ w.in_ok-add_none-in-Unanchored.ensures.lists
+          ∙ ap (λ (ls : List (List ℕ)). ls ++ [] ∷ []) first
+          ∙ one-start start_kind built w.in-Unanchored.is
     ]

@@ -1,17 +1,13 @@
-use Rattle.std.proofs.Common.{◌≡◌, ◌*◌, ◌+◌, ◌-◌, ◌^◌, ◌≤◌, ◌<◌, ℕ, List, Some, [], ap, sym, subst, ◌∙◌, arith, length}
-use Rattle.std.specs.Prelude.{slice_get}
+use Rattle.std.proofs.Common.{◌≡◌, ◌*◌, ◌+◌, ◌-◌, ◌^◌, ◌<◌, ℕ, Some, [], ap, sym, subst, ◌∙◌, arith, length}
 use Rattle.std.proofs.lemmas.Nat.{pow_pos}
 use Rattle.std.proofs.lemmas.Bool.{false≢true}
-use Rattle.ac_util.specs.declared.primitives.TheConstants.{GREATEST}
 use Rattle.ac_util.specs.declared.search.Anchored.TheVariants.{No}
-use Rattle.ac_util.specs.Node.{Node}
 use Rattle.ac_util.specs.Sizes.{state_count}
 use Rattle.ac_util.specs.Pieces.{pieces}
 use Rattle.ac_automaton.specs.Automata.{plain_of}
-use Rattle.ac_automaton.specs.Readers.{AreNodes}
 use Rattle.ac_automaton.proofs.Heads.{nil-from_not}
-use Rattle.ac_engines.specs.Layouts.{HasNode, HasPlaced, IsLayout, first_lists, rows_each, table_rows}
-use Rattle.ac_engines.proofs.Laying.{IsLaidUpTo, Plan, four-empty, laid-out, named-inner, none-laid, one-more-laid, plan_of, room-left, row-number, table_rows-each, two-empty, unmatched}
+use Rattle.ac_engines.specs.Layouts.{rows_each, table_rows}
+use Rattle.ac_engines.proofs.Laying.{IsLaidUpTo, four-empty, laid-out, named-inner, none-laid, one-more-laid, plan_of, row-number, table_rows-each, two-empty, unmatched}
 use Rattle.ac_engines.proofs.dfa.layout.Layout.of.Goals.{then-is_match, else-is_match}
 use Rattle.ac_engines.proofs.dfa.layout.Layout.of.Goals as goal
 
@@ -94,6 +90,6 @@ returns-clause-layout g c = λ nodes h.
     (laid-out plan numbers lists back last laid positive c.if-is_match.first h.start (elim c.if-is_match.branch [
       | then-is_match w ↦ rw w.first-is (two-empty plan numbers lists back last laid positive)
       | else-is_match w ↦ rw w.first-is (four-empty plan numbers lists back last laid positive
-        (unmatched c.args.nfa.now c.must-2.result (Some []) (rw c.must-2.ensures.value (h.stands 2 (Some []) h.start))
-        (nil-from_not _ (λ some. false≢true (sym w.if-is_match.false ∙ c.is_match.ensures.1 some)))))
+          (unmatched c.args.nfa.now c.must-2.result (Some []) (rw c.must-2.ensures.value (h.stands 2 (Some []) h.start))
+          (nil-from_not _ (λ some. false≢true (sym w.if-is_match.false ∙ c.is_match.ensures.1 some)))))
     ]))

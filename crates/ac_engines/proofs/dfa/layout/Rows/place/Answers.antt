@@ -1,4 +1,4 @@
-use Rattle.std.proofs.Common.{◌≡◌, ◌≢◌, ◌+◌, ◌-◌, ◌≤◌, ℕ, refl, sym, ◌∙◌, arith, inr}
+use Rattle.std.proofs.Common.{refl, sym, ◌∙◌, arith, inr}
 use Rattle.std.proofs.lemmas.Bool.{false≢true}
 use Rattle.ac_automaton.proofs.Heads.{nil-from_not}
 use Rattle.ac_engines.proofs.Laying.{unmatched}
