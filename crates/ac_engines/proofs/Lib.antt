@@ -1,4 +1,5 @@
 pub mod Filled
+pub mod LaidOut
 pub mod Laying
 pub mod Listing
 pub mod Numbered
@@ -6,4 +7,5 @@ pub mod Numbers
 pub mod Owning
 pub mod Places
 pub mod Ranges
+pub mod RowLists
 pub mod Setting

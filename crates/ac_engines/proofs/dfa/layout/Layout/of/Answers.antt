@@ -7,7 +7,9 @@ use Rattle.ac_util.specs.Pieces.{pieces}
 use Rattle.ac_automaton.specs.Automata.{plain_of}
 use Rattle.ac_automaton.proofs.Heads.{nil-from_not}
 use Rattle.ac_engines.specs.Layouts.{rows_each, table_rows}
-use Rattle.ac_engines.proofs.Laying.{IsLaidUpTo, four-empty, laid-out, named-inner, none-laid, one-more-laid, plan_of, row-number, table_rows-each, two-empty, unmatched}
+use Rattle.ac_engines.proofs.LaidOut.{four-empty, laid-out, two-empty}
+use Rattle.ac_engines.proofs.Laying.{IsLaidUpTo, named-inner, none-laid, one-more-laid, plan_of, row-number}
+use Rattle.ac_engines.proofs.RowLists.{table_rows-each, unmatched}
 use Rattle.ac_engines.proofs.dfa.layout.Layout.of.Goals.{then-is_match, else-is_match}
 use Rattle.ac_engines.proofs.dfa.layout.Layout.of.Goals as goal
 

@@ -1,7 +1,7 @@
 use Rattle.std.proofs.Common.{refl, sym, ◌∙◌, arith, inr}
 use Rattle.std.proofs.lemmas.Bool.{false≢true}
 use Rattle.ac_automaton.proofs.Heads.{nil-from_not}
-use Rattle.ac_engines.proofs.Laying.{unmatched}
+use Rattle.ac_engines.proofs.RowLists.{unmatched}
 use Rattle.ac_engines.proofs.dfa.layout.Rows.place.Goals as goal
 
 -- a state without matches stands at the back
