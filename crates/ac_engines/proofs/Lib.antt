@@ -1,9 +1,13 @@
 pub mod Filled
+pub mod LaidOut
+pub mod Laying
+pub mod Listing
 pub mod Numbered
 pub mod Numbers
 pub mod Owning
 pub mod Places
 pub mod Ranges
 pub mod RowByRow
+pub mod RowLists
 pub mod Setting
 pub mod Starts

@@ -1,15 +1,17 @@
 //! Where the rows of a table stand.
-ghost use Rattle.std.specs.Prelude.{◌≡◌, ℕ, ◌-◌, ◌*◌, ◌^◌, ◌≤◌, IfOk, List, length};
+ghost use Rattle.std.specs.Prelude.{◌≡◌, ◌∷◌, [], ℕ, ◌+◌, ◌-◌, ◌*◌, ◌^◌, ◌≤◌, ◌<◌, IfOk, List, Some, length, slice_get};
 ghost use Rattle.ac_util.specs.declared.primitives.TheConstants.{GREATEST};
 ghost use Rattle.ac_util.specs.Node.{Node};
 ghost use Rattle.ac_util.specs.Pieces.{AreBounds, pieces};
 ghost use Rattle.ac_util.specs.Sizes.{state_count};
+ghost use Rattle.ac_automaton.specs.declared.nfa.noncontiguous.state.TheConstants.{FIRST_INNER, START};
 ghost use Rattle.ac_automaton.specs.Automata.{plain_of};
 ghost use Rattle.ac_automaton.specs.Readers.{AreNodes};
-ghost use Rattle.ac_engines.specs.Layouts.{IsLayout, table_rows};
+ghost use Rattle.ac_engines.specs.Layouts.{HasNode, HasPlaced, IsLayout, first_lists, rows_each, table_rows};
 
 use super::lists::MatchLists;
-use ac_automaton::nfa::noncontiguous::NFA;
+use ac_automaton::automaton::Automaton;
+use ac_automaton::nfa::noncontiguous::{FIRST_INNER, NFA, START};
 use ac_util::primitives::StateID;
 use ac_util::search::StartKind;
 use std::alloc::{AllocError, Allocator};
@@ -48,6 +50,147 @@ impl<A: Allocator + Clone> Layout<A> {
             layout.numbers.items (pieces layout.lists.listed.items layout.lists.bounds.items)
             layout.first_match layout.match_end) }
     {
-        loop {}
+        let states = nfa.states_len();
+        let mut numbers = first_numbers(alloc.clone()?, stride2)?;
+        let mut rows = Rows {
+            lists: first_lists(alloc, nfa, start_kind)?,
+            back: table_rows(start_kind, states),
+        };
+        for state in FIRST_INNER..states {
+            let row = rows.place(nfa, StateID::must(state), start_kind)?;
+            numbers.push(state_id(row, stride2))?;
+        }
+        let first = if nfa.is_match(StateID::must(START)) {
+            START
+        } else {
+            FIRST_INNER
+        };
+        Ok(Layout {
+            numbers,
+            first_match: number(first, stride2),
+            match_end: number(rows.lists.len(), stride2),
+            lists: rows.lists,
+        })
     }
+}
+
+/// The rows that states have so far: in front those of the starts and of the states that have matches, which have
+/// lists, and from the back on those of the others.
+#[derive(Drop)]
+struct Rows<A: Allocator> {
+    lists: MatchLists<A>,
+    back: usize,
+}
+
+impl<A: Allocator> Rows<A> {
+    /// Gives a state its rows, behind those in front where it has matches and else before those at the back. Returns
+    /// the first of them.
+    ///
+    /// # Errors
+    /// `AllocError` where a request for memory is refused.
+    fn place(
+        &mut self,
+        nfa: &NFA<A>,
+        sid: StateID,
+        start_kind: StartKind,
+    ) -> Result<usize, AllocError>
+        requires state { HasNode nfa.now sid }
+        requires bounds { AreBounds self.old.lists.bounds.items (length self.old.lists.listed.items) }
+        requires room { rows_each start_kind ≤ self.old.back }
+        ensures bounds { IfOk result (λ _. AreBounds self.new.lists.bounds.items (length self.new.lists.listed.items)) }
+        ensures placed { (nodes : List Node) (u : Node) → AreNodes nfa.now nodes → slice_get nodes sid ≡ Some u
+            → IfOk result (λ row. HasPlaced start_kind nfa.now.built u row
+            (pieces self.old.lists.listed.items self.old.lists.bounds.items) self.old.back
+            (pieces self.new.lists.listed.items self.new.lists.bounds.items) self.new.back) }
+    {
+        if !nfa.is_match(sid) {
+            self.back -= rows_each(start_kind);
+            return Ok(self.back);
+        }
+        let row = self.lists.len();
+        self.lists.add_rows(nfa, sid, start_kind)?;
+        Ok(row)
+    }
+}
+
+/// Returns the numbers of the first four states of a trie: the dead one, the one that no search reaches, and the
+/// starts.
+///
+/// # Errors
+/// `AllocError` where a request for memory is refused.
+fn first_numbers<A: Allocator>(alloc: A, stride2: u32) -> Result<Vec<StateID, A>, AllocError>
+    requires narrow { stride2 ≤ 8 }
+    ensures { IfOk result (λ numbers. numbers.items ≡ 0 ∷ 0 ∷ 2 * 2 ^ stride2 ∷ 3 * 2 ^ stride2 ∷ []) }
+{
+    let mut numbers = Vec::new(alloc);
+    numbers.push(StateID::must(0))?;
+    numbers.push(StateID::must(0))?;
+    numbers.push(state_id(2, stride2))?;
+    numbers.push(state_id(3, stride2))?;
+    Ok(numbers)
+}
+
+/// Returns the lists of the first four rows: that of the dead state, that of no state, and those of the starts.
+///
+/// # Errors
+/// `AllocError` where a request for memory is refused.
+fn first_lists<A: Allocator + Clone>(
+    alloc: A,
+    nfa: &NFA<A>,
+    start_kind: StartKind,
+) -> Result<MatchLists<A>, AllocError>
+    requires state { HasNode nfa.now START }
+    ensures bounds { IfOk result (λ lists. AreBounds lists.bounds.items (length lists.listed.items)) }
+    ensures lists { IfOk result (λ lists. pieces lists.listed.items lists.bounds.items
+        ≡ first_lists start_kind nfa.now.built) }
+{
+    let mut lists = MatchLists::new(alloc)?;
+    lists.add_none()?;
+    lists.add_none()?;
+    lists.add_rows(nfa, StateID::must(START), start_kind)?;
+    match start_kind {
+        StartKind::Both => {}
+        StartKind::Unanchored | StartKind::Anchored => lists.add_none()?,
+    }
+    Ok(lists)
+}
+
+/// Returns how many rows a state has.
+fn rows_each(start_kind: StartKind) -> usize
+    ensures { result ≡ rows_each start_kind }
+{
+    match start_kind {
+        StartKind::Both => 2,
+        StartKind::Unanchored | StartKind::Anchored => 1,
+    }
+}
+
+/// Returns how many rows a table has for a trie of so many states.
+fn table_rows(start_kind: StartKind, states: usize) -> usize
+    requires first { FIRST_INNER ≤ states }
+    requires few { states ≤ GREATEST + 1 }
+    ensures { result ≡ table_rows start_kind states }
+{
+    match start_kind {
+        StartKind::Both => 2 * states - FIRST_INNER,
+        StartKind::Unanchored | StartKind::Anchored => states,
+    }
+}
+
+/// Returns the number of the state that has a row.
+fn state_id(row: usize, stride2: u32) -> StateID
+    requires narrow { stride2 ≤ 8 }
+    requires small { row * 2 ^ stride2 ≤ GREATEST }
+    ensures { result ≡ row * 2 ^ stride2 }
+{
+    StateID::must(number(row, stride2))
+}
+
+/// Returns where a row begins.
+fn number(row: usize, stride2: u32) -> usize
+    requires narrow { stride2 ≤ 8 }
+    requires small { row < 2 ^ 32 }
+    ensures { result ≡ row * 2 ^ stride2 }
+{
+    row << stride2
 }

@@ -1,6 +1,5 @@
-use Rattle.std.proofs.Common.{◌≡◌, ℕ, ◌+◌, ◌≤◌, List, [], length, sym, ap, ◌∙◌, arith}
+use Rattle.std.proofs.Common.{[], length, sym, arith}
 use Rattle.std.proofs.lemmas.List.{get_or_past}
-use Rattle.std.proofs.lemmas.Option.{get_or_from_slice_get}
 use Rattle.ac_util.specs.Pieces.{pieces}
 use Rattle.ac_util.proofs.PiecesLemmas.{length-pieces}
 use Rattle.ac_engines.proofs.dfa.lists.MatchLists.get.Goals as goal

@@ -1,0 +1,151 @@
+-- A table whose states all have their rows is laid out.
+use Rattle.std.proofs.Common.{◌≡◌, inl, inr, ℕ, ◌+◌, ◌*◌, ◌/◌, ◌<◌, ◌≤◌, List, [], length, slice_index_or, ap, sym, ◌∙◌, arith, Some, None}
+use Rattle.std.specs.Prelude.{slice_get}
+use Rattle.std.proofs.lemmas.List.{get_or_append_left, get_or_past}
+use Rattle.std.proofs.lemmas.Option.{slice_get_within}
+use Rattle.std.proofs.lemmas.Nat.{div_below, le-div, mul-le}
+use Rattle.ac_util.specs.declared.search.Anchored.{Anchored}
+use Rattle.ac_util.specs.declared.search.Anchored.TheVariants.{Yes}
+use Rattle.ac_util.specs.Refusal.{start_refusal}
+use Rattle.ac_automaton.specs.Automata.{matches_of}
+use Rattle.ac_engines.specs.Filling.{AreLaid}
+use Rattle.ac_engines.specs.Layouts.{IsLayout, first_lists, listed_at}
+use Rattle.ac_engines.specs.Rows.{behind}
+use Rattle.ac_engines.proofs.Numbers.{behind-small}
+use Rattle.ac_engines.proofs.Laying.{IsLaidUpTo, Plan, each, long, row-order}
+use Rattle.ac_engines.proofs.RowLists.{behind-each, behind-rows, first_lists-at, first_lists-empty, first_lists-none, length-first_lists, listed-row, none-left, row_lists-at}
+
+module _ (p : Plan) where
+  module _ (numbers : List ℕ) (lists : List (List ℕ)) (back last : ℕ)
+      (h : IsLaidUpTo p (length p.nodes) numbers lists back last) (positive : 0 < p.stride) where
+    -- all rows up to the back have lists
+    full : back ≡ length lists
+    full = let r = h.room in let n = none-left p.start_kind (length p.nodes) in omega (arith, r, n)
+
+    -- the first four are among them
+    four : 4 ≤ length lists
+    four = long p (length p.nodes) numbers lists back last h
+
+    -- the list that a node's row has, counted in rows
+    at-number : (row : ℕ) (anchored : Anchored)
+        → listed_at lists p.stride (row * p.stride + behind p.start_kind anchored p.stride)
+        ≡ slice_index_or lists (row + behind p.start_kind anchored 1) []
+    at-number row anchored =
+        ap (listed_at lists p.stride) (behind-rows p.start_kind anchored row p.stride)
+        ∙ listed-row lists (row + behind p.start_kind anchored 1) p.stride positive
+
+    -- the first four lists stay
+    first-at : (k : ℕ) → k < 4 → slice_index_or lists k [] ≡ slice_index_or (first_lists p.start_kind p.built) k []
+    first-at k small =
+        let l = length-first_lists p.built p.start_kind in
+        ap (λ ls. slice_index_or ls k []) h.first
+        ∙ get_or_append_left (first_lists p.start_kind p.built) h.more [] k (omega (arith, l, small))
+
+    -- no state before the start has matches
+    pub two-empty : (k : ℕ) → k < 2 → slice_index_or lists k [] ≡ []
+    two-empty k small =
+        first-at k (omega (arith, small)) ∙ first_lists-empty p.built p.start_kind k small
+
+    -- nor one before the inner ones, where the start has none
+    pub four-empty : ((anchored : Anchored) → matches_of p.built anchored (Some []) ≡ [])
+        → (k : ℕ) → k < 4 → slice_index_or lists k [] ≡ []
+    four-empty none k small = first-at k small ∙ first_lists-none p.built p.start_kind none k small
+
+    module _ (anchored : Anchored) (supported : start_refusal p.start_kind anchored ≡ None) where
+      -- the row of the start lists its matches
+      start-row : listed_at lists p.stride (slice_index_or numbers 2 0 + behind p.start_kind anchored p.stride)
+          ≡ matches_of p.built anchored (Some [])
+      start-row =
+          let small = behind-small p.start_kind anchored 1 in
+          ap (λ n. listed_at lists p.stride (n + behind p.start_kind anchored p.stride)) h.start
+          ∙ at-number 2 anchored ∙ first-at (2 + behind p.start_kind anchored 1) (omega (arith, small))
+          ∙ first_lists-at p.built p.start_kind anchored supported
+
+      -- so does that of an inner state
+      inner-row : (s : ℕ) (w : List ℕ) → 4 ≤ s → slice_get p.nodes s ≡ Some (Some w)
+          → listed_at lists p.stride (slice_index_or numbers s 0 + behind p.start_kind anchored p.stride)
+          ≡ matches_of p.built anchored (Some w)
+      inner-row s w inner named =
+          let rows = h.rows s inner (slice_get_within p.nodes s (Some w) named) in
+          ap (λ n. listed_at lists p.stride (n + behind p.start_kind anchored p.stride)) rows.number
+          ∙ at-number rows.row anchored ∙ elim rows.place [
+            | inl front ↦ front.listed (Some w) (behind p.start_kind anchored 1) named (behind-each p.start_kind anchored)
+                ∙ row_lists-at p.built (Some w) p.start_kind anchored supported
+            | inr side ↦
+                let b = side.behind in
+                let f = full in
+                get_or_past lists (rows.row + behind p.start_kind anchored 1) [] (omega (arith, b, f))
+                ∙ sym (side.none (Some w) anchored named)
+          ]
+
+    -- a state's rows stand behind those of the start
+    inner-number : (s : ℕ) → 4 ≤ s → s < length p.nodes → 4 * p.stride ≤ slice_index_or numbers s 0
+    inner-number s inner within =
+        let rows = h.rows s inner within in
+        let n = rows.number in
+        let f = full in
+        let l = four in
+        let behind_start : 4 ≤ rows.row = elim rows.place [
+          | inl front ↦ front.inner
+          | inr side ↦ let b = side.behind in omega (arith, b, f, l)
+        ] in
+        let m = mul-le 4 p.stride rows.row p.stride behind_start (omega arith) in
+        omega (arith, n, m)
+
+    -- and within the table
+    within-table : (s : ℕ) → 4 ≤ s → s < length p.nodes
+        → slice_index_or numbers s 0 + (p.stride + behind p.start_kind Yes p.stride) ≤ last * p.stride
+    within-table s inner within =
+        let rows = h.rows s inner within in
+        let w = h.within in
+        let f = full in
+        let ends : rows.row + each p ≤ last = elim rows.place [
+          | inl front ↦ let e = front.within in omega (arith, e, w, f)
+          | inr side ↦ side.within
+        ] in
+        rw rows.number (row-order p rows.row last ends)
+
+    -- all rows are laid
+    all-laid : (classes : List ℕ) → AreLaid (record {
+      built = record p.built { start_kind = p.start_kind };
+      classes = classes;
+      stride = p.stride;
+      nodes = p.nodes;
+      numbers = numbers;
+    }) (last * p.stride)
+    all-laid classes =
+        let c = h.count in
+        let w = h.within in
+        let f = full in
+        let l = four in
+        record {
+          count = h.count;
+          positive = positive;
+          dead = h.dead;
+          unreached = h.unreached;
+          start = h.start;
+          whole = mul-le 4 p.stride last p.stride (omega (arith, w, f, l)) (omega arith);
+          inner = λ s from before. inner-number s from (omega (arith, c, before));
+          within = λ s from before. within-table s from (omega (arith, c, before));
+          apart = λ s t from after before. h.apart s t from after (omega (arith, c, before));
+        }
+
+    -- where all states have their rows the table is laid out
+    pub laid-out : (first : ℕ) → slice_get p.nodes 2 ≡ Some (Some [])
+        → ((k : ℕ) → k < first → slice_index_or lists k [] ≡ [])
+        → IsLayout (record p.built { start_kind = p.start_kind }) p.stride (last * p.stride) p.nodes numbers lists
+        (first * p.stride) (length lists * p.stride)
+    laid-out first start empty = record {
+      laid = all-laid;
+      rows = λ s w named place anchored supported. elim place [
+        | inl second ↦
+            let none : w ≡ [] = let named_second = rw second at named in cc in
+            rw (second, none) (start-row anchored supported)
+        | inr inner ↦ inner-row anchored supported s w inner named
+      ];
+      unlisted = ap (listed_at lists p.stride) (let none : 0 ≡ 0 * p.stride = omega arith in none)
+          ∙ listed-row lists 0 p.stride positive ∙ two-empty 0 (omega arith);
+      early = λ s before. empty (s / p.stride) (div_below s p.stride first positive before);
+      late = λ s after. get_or_past lists (s / p.stride) [] (le-div (length lists) s p.stride positive after);
+      starts = mul-le 4 p.stride (length lists) p.stride four (omega arith);
+    }

@@ -1,0 +1,94 @@
+-- Listing the matches of a state that count, one after another.
+use Rattle.std.proofs.Common.{◌≡◌, ℕ, ◌-◌, ◌<◌, Bool, true, false, cond, List, [], ◌∷◌, ◌++◌, length, ap, sym, subst, ◌∙◌, arith}
+use Rattle.std.specs.Prelude.{All}
+use Rattle.std.specs.List.{take_while}
+use Rattle.std.proofs.lemmas.List.{append_assoc, append-nil}
+use Rattle.std.proofs.lemmas.List.Elements.{All-tail}
+use Rattle.std.proofs.lemmas.List.Sums.{take_while-cons}
+use Rattle.ac_util.specs.declared.search.Anchored.{Anchored}
+use Rattle.ac_util.specs.declared.search.Anchored.TheVariants.{No}
+use Rattle.ac_util.specs.Node.{Node, depth}
+use Rattle.ac_util.specs.Search.{pattern_of}
+use Rattle.ac_automaton.specs.declared.automaton.overlap.MatchRest.{MatchRest}
+use Rattle.ac_automaton.specs.Automata.{IsState, matches_of}
+use Rattle.ac_automaton.specs.Overlaps.{is_due, rest_in}
+use Rattle.ac_automaton.specs.Tries.{StandsFor, Trie, listed_within, stands-lists}
+use Rattle.ac_automaton.proofs.Due.{counts, listed-due, listed-numbered}
+
+module _ (trie : Trie) where
+  -- the matches in a rest of a state's match list
+  abbrev pub rest_of : MatchRest → List ℕ
+  rest_of rest = rest_in (λ s. listed_within trie.order trie.states s s) rest
+
+  -- a match list can be read on from a rest of it: its state stands for a node, and what it lists are patterns
+  pub record MayRead (rest : MatchRest) : Type 0 where
+    pub state : IsState (StandsFor trie) rest.state
+    pub numbered : All (λ n. n < length trie.built.patterns) (rest_of rest)
+
+  -- the first match in a rest is a pattern, and the rest after it can be read on
+  pub record HasFirst (pattern : ℕ) (after : MatchRest) : Type 0 where
+    pub numbered : pattern < length trie.built.patterns
+    pub may : MayRead after
+
+  pub has-first : (rest after : MatchRest) (pattern : ℕ) → MayRead rest → rest_of rest ≡ pattern ∷ rest_of after
+      → (MayRead rest → IsState (StandsFor trie) after.state) → HasFirst pattern after
+  has-first rest after pattern may taken state =
+      let all = subst (All (λ n. n < length trie.built.patterns)) taken may.numbered in
+      record {
+        numbered = all 0 pattern (omega arith);
+        may = record {
+          state = state may;
+          numbered = All-tail (λ n. n < length trie.built.patterns) pattern (rest_of after) all;
+        };
+      }
+
+  -- what was listed behind the old matches, and those in front of the rest that count, are the matches of the node
+  abbrev pub HasListed : Anchored → ℕ → Node → List ℕ → List ℕ → MatchRest → Type 0
+  HasListed anchored deep u old now rest =
+      now ++ take_while (counts trie.built anchored deep) (rest_of rest) ≡ old ++ matches_of trie.built anchored u
+
+  module _ (s : ℕ) (u : Node) (h : StandsFor trie s u) where
+    -- all of a state's list can be read
+    pub may-begin : MayRead (record { state = s; index = 0 })
+    may-begin = record {
+      state = (u, h);
+      numbered = listed-numbered trie.built (rest_of (record { state = s; index = 0 })) 0 0 No u (stands-lists trie No s u h);
+    }
+
+    -- nothing was listed at first
+    pub none-listed : (anchored : Anchored) (old : List ℕ)
+        → HasListed anchored (depth u) u old old (record { state = s; index = 0 })
+    none-listed anchored old =
+        ap (λ (n : ℕ). old ++ take_while (counts trie.built anchored n) (rest_of (record { state = s; index = 0 })))
+        (let e : depth u ≡ depth u - 0 = omega arith in e)
+        ∙ ap (λ (ns : List ℕ). old ++ ns)
+        (listed-due trie.built (rest_of (record { state = s; index = 0 })) 0 (depth u) anchored u
+        (stands-lists trie anchored s u h)
+        (record { ordered = omega arith; short = omega arith; whole = λ is some. omega arith }))
+
+  module _ (anchored : Anchored) (deep : ℕ) (u : Node) (old now : List ℕ) (rest : MatchRest)
+      (h : HasListed anchored deep u old now rest) where
+    -- all that count were listed where the rest is empty
+    pub all-listed : rest_of rest ≡ [] → now ≡ old ++ matches_of trie.built anchored u
+    all-listed none = sym (append-nil now) ∙ ap (λ ns. now ++ take_while (counts trie.built anchored deep) ns) (sym none) ∙ h
+
+    module _ (pattern : ℕ) (after : MatchRest) (taken : rest_of rest ≡ pattern ∷ rest_of after) where
+      -- what counts of the rest, where it is known whether its first match does
+      front : (t : Bool) → counts trie.built anchored deep pattern ≡ t
+          → now ++ cond t (pattern ∷ take_while (counts trie.built anchored deep) (rest_of after)) []
+          ≡ old ++ matches_of trie.built anchored u
+      front t counted =
+          ap (λ b. now ++ cond b (pattern ∷ take_while (counts trie.built anchored deep) (rest_of after)) []) (sym counted)
+          ∙ ap (λ ns. now ++ ns) (sym (take_while-cons (counts trie.built anchored deep) pattern (rest_of after)))
+          ∙ ap (λ ns. now ++ take_while (counts trie.built anchored deep) ns) (sym taken) ∙ h
+
+      -- or where its first match doesn't count
+      pub others-left : is_due anchored (length (pattern_of trie.built.patterns pattern)) deep ≡ false
+          → now ≡ old ++ matches_of trie.built anchored u
+      others-left not = sym (append-nil now) ∙ front false not
+
+      -- one that counts is listed
+      pub one-more : is_due anchored (length (pattern_of trie.built.patterns pattern)) deep ≡ true
+          → HasListed anchored deep u old (now ++ pattern ∷ []) after
+      one-more due =
+          append_assoc now (pattern ∷ []) (take_while (counts trie.built anchored deep) (rest_of after)) ∙ front true due

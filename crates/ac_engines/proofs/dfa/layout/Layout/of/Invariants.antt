@@ -1,0 +1,18 @@
+use Rattle.std.proofs.Common.{List, length}
+use Rattle.ac_util.specs.Node.{Node}
+use Rattle.ac_util.specs.Pieces.{AreBounds, pieces}
+use Rattle.ac_util.specs.Sizes.{state_count}
+use Rattle.ac_automaton.specs.Automata.{plain_of}
+use Rattle.ac_automaton.specs.Readers.{AreNodes}
+use Rattle.ac_engines.specs.Layouts.{table_rows}
+use Rattle.ac_engines.proofs.Laying.{IsLaidUpTo, plan_of}
+use Rattle.ac_engines.proofs.dfa.layout.Layout.of.Given as goal
+
+-- the states so far have their rows
+abbrev pub invariant-loop-state : goal.invariant-loop-state
+invariant-loop-state g l = record {
+  bounds : AreBounds l.rows.lists.bounds.items (length l.rows.lists.listed.items);
+  laid : (nodes : List Node) → AreNodes l.fn.nfa nodes → IsLaidUpTo (plan_of l.fn.nfa l.fn.start_kind l.fn.stride2 nodes)
+      l.state l.numbers.items (pieces l.rows.lists.listed.items l.rows.lists.bounds.items) l.rows.back
+      (table_rows l.fn.start_kind (state_count l.fn.nfa.built.kind (plain_of l.fn.nfa.built)));
+}

@@ -1,0 +1,79 @@
+use Rattle.std.proofs.Common.{refl, ◌≡◌, ◌++◌, ◌∷◌, [], List, length, Some, ℕ, ap, sym, ◌∙◌, arith}
+use Rattle.std.specs.Prelude.{slice_get}
+use Rattle.ac_util.specs.Node.{Node}
+use Rattle.ac_util.specs.Pieces.{AreBounds, pieces}
+use Rattle.ac_util.proofs.PiecesLemmas.{one_more_piece}
+use Rattle.ac_automaton.specs.Automata.{matches_of}
+use Rattle.ac_automaton.specs.Readers.{AreNodes}
+use Rattle.ac_automaton.specs.Overlaps.{is_due}
+use Rattle.ac_engines.proofs.Listing.{all-listed, has-first, may-begin, none-listed, one-more, others-left}
+use Rattle.ac_engines.proofs.dfa.lists.MatchLists.add.Given.{Over}
+use Rattle.ac_engines.proofs.dfa.lists.MatchLists.add.Goals.{In_ok-push-2, in-Some+then-not-is_due, in_default}
+use Rattle.ac_engines.proofs.dfa.lists.MatchLists.add.Goals as goal
+
+-- nothing is listed at first
+pub loop-pattern-init : goal.loop-pattern-init
+loop-pattern-init g c = record {
+  same = refl;
+  may = may-begin c.args.nfa.now c.args.sid c.requires.state.node
+      (c.requires.state.are_nodes.stands c.args.sid c.requires.state.node c.requires.state.named);
+  listed = λ nodes u h named.
+      rw (c.depth-depth.ensures nodes u h named)
+      (none-listed c.args.nfa.now c.args.sid u (h.stands c.args.sid u named) c.args.anchored c.args.self.now.listed.items);
+}
+
+-- a match is a pattern
+pub pattern_len-requires : goal.pattern_len-requires
+pattern_len-requires g c = record {
+  numbered = (has-first c.args.nfa.now c.loop-pattern.rest _ _ c.loop-pattern.invariant.may c.in-Some.ensures.taken
+      (λ may. c.in-Some.ensures.state c.args.anchored may.state)).numbered;
+}
+
+-- one that counts is listed
+pub loop-pattern-preserved : goal.loop-pattern-preserved
+loop-pattern-preserved g c =
+    let first = has-first c.args.nfa.now c.loop-pattern.rest _ _ c.loop-pattern.invariant.may c.in-Some.ensures.taken
+    (λ may. c.in-Some.ensures.state c.args.anchored may.state) in
+    record {
+      same = c.loop-pattern.invariant.same;
+      may = first.may;
+      listed = λ nodes u h named.
+          rw (c.in_ok-push.ensures.items)
+          (one-more c.args.nfa.now c.args.anchored c.depth-depth.result u c.args.self.now.listed.items
+          c.loop-pattern.self.listed.items c.loop-pattern.rest (c.loop-pattern.invariant.listed nodes u h named)
+          _ _ c.in-Some.ensures.taken (ap (λ (n : ℕ). is_due c.args.anchored n c.depth-depth.result) (sym c.pattern_len.ensures) ∙ sym c.is_due.ensures ∙ c.if-not-is_due.false));
+    }
+
+module _ (g : Over) (c : In_ok-push-2 g) where
+  -- the matches that count were listed
+  listed : (nodes : List Node) (u : Node) → AreNodes c.args.nfa.now nodes → slice_get nodes c.args.sid ≡ Some u
+      → c.loop-pattern.self.listed.items ≡ c.args.self.now.listed.items ++ matches_of c.args.nfa.now.built c.args.anchored u
+  listed nodes u h named =
+      let so_far = c.loop-pattern.invariant.listed nodes u h named in
+      elim c.match-take_match.branch [
+        | in-Some+then-not-is_due w ↦
+            others-left c.args.nfa.now c.args.anchored c.depth-depth.result u c.args.self.now.listed.items
+            c.loop-pattern.self.listed.items c.loop-pattern.rest so_far _ _ w.in-Some.ensures.taken (ap (λ (n : ℕ). is_due c.args.anchored n c.depth-depth.result) (sym w.pattern_len.ensures) ∙ sym w.is_due.ensures ∙ w.if-not-is_due.true)
+        | in_default w ↦
+            all-listed c.args.nfa.now c.args.anchored c.depth-depth.result u c.args.self.now.listed.items
+            c.loop-pattern.self.listed.items c.loop-pattern.rest so_far w.in_default.ensures.taken
+      ]
+
+  -- they are one list more
+  one_list : (nodes : List Node) (u : Node) → AreNodes c.args.nfa.now nodes → slice_get nodes c.args.sid ≡ Some u
+      → AreBounds c.push-2.new.self.items (length c.loop-pattern.self.listed.items)
+      × (pieces c.loop-pattern.self.listed.items c.push-2.new.self.items
+      ≡ pieces c.args.self.now.listed.items c.args.self.now.bounds.items
+      ++ matches_of c.args.nfa.now.built c.args.anchored u ∷ [])
+  one_list nodes u h named =
+      one_more_piece c.args.self.now.listed.items c.args.self.now.bounds.items
+      (matches_of c.args.nfa.now.built c.args.anchored u) c.loop-pattern.self.listed.items c.push-2.new.self.items
+      c.len.result c.requires.bounds (listed nodes u h named)
+      (omega (arith, c.len.ensures, c.loop-pattern.self.listed.ok)) (c.in_ok-push-2.ensures.items ∙ ap (λ (bounds : List ℕ). bounds ++ c.len.result ∷ []) c.loop-pattern.invariant.same)
+
+pub returns-clause-bounds : goal.returns-clause-bounds
+returns-clause-bounds g c =
+    (one_list g c c.requires.state.nodes c.requires.state.node c.requires.state.are_nodes c.requires.state.named).0
+
+pub returns-clause-lists : goal.returns-clause-lists
+returns-clause-lists g c = λ nodes u h named. (one_list g c nodes u h named).1
