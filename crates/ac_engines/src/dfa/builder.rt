@@ -143,7 +143,8 @@ impl Builder {
     {
         let mut nfa = noncontiguous::Builder::new();
         nfa.match_kind(self.kind).ascii_case_insensitive(self.fold);
-        let nfa = nfa.build(alloc.clone()?, patterns)?;
+        let nfa = nfa.build(alloc, patterns)?;
+        let alloc = nfa.allocator().clone()?;
         self.build_from_noncontiguous(alloc, &nfa)
     }
 
@@ -252,7 +253,8 @@ fn filled_table<A: Allocator>(
     len: usize,
 ) -> Result<Vec<StateID, A>, AllocError>
     requires may { (nodes : List Node) × MayFill filler.now nodes len }
-    ensures { IfOk result (λ table. (nodes : List Node) → MayFill filler.now nodes len
+    ensures long { IfOk result (λ table. length table.items ≡ len) }
+    ensures filled { IfOk result (λ table. (nodes : List Node) → MayFill filler.now nodes len
         → FilledUpTo filler.now nodes len (length nodes) table.items) }
 {
     let mut table = vec![in alloc; StateID::must(DEAD); len]?;
