@@ -1,3 +1,4 @@
+pub mod Assembled
 pub mod Filled
 pub mod LaidOut
 pub mod Laying

@@ -1,4 +1,5 @@
 -- What is seen of the engines that are built from a trie with failure links.
+pub mod Builds
 pub mod Filling
 pub mod Layouts
 pub mod Rows

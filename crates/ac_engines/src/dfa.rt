@@ -1,13 +1,15 @@
 //! A table of steps: one look for each byte.
-ghost use Rattle.std.specs.Prelude.{◌≡◌, ℕ, ◌+◌, ◌<◌, false, List, length, slice_index_or};
+ghost use Rattle.std.specs.Prelude.{◌≡◌, ℕ, ◌+◌, ◌<◌, false, List, length, MatchResult, slice_index_or};
 ghost use Rattle.std.proofs.Common.{inl, refl};
+ghost use Rattle.ac_util.specs.Borrowed.{bytes_of};
 ghost use Rattle.ac_util.specs.Node.{Node};
+ghost use Rattle.ac_engines.specs.Builds.{IsBuilt, Refuses, usual_settings};
 ghost use Rattle.ac_engines.specs.Rows.{HasMatchesAmong, IsTable, StandsFor, list_at};
 ghost use Rattle.ac_engines.specs.Rows.{stands-lists};
 
 use ac_automaton::automaton::{Automaton, MatchRest};
 use ac_util::alphabet::ByteClasses;
-use ac_util::error::MatchError;
+use ac_util::error::{BuildError, MatchError};
 use ac_util::looks::Looks;
 use ac_util::patterns::Patterns;
 use ac_util::prefilter::Prefilter;
@@ -20,9 +22,12 @@ use std::mem::size_of;
 use std::ops::Range;
 use std::rc::Rc;
 
+mod builder;
 mod fill;
 mod layout;
 mod lists;
+
+pub use builder::{Builder, table_len};
 
 /// The number of the dead state, from which nothing is found any more.
 const DEAD: usize = 0;
@@ -81,6 +86,30 @@ impl<A: Allocator> Model for DFA<A> {
       among : HasMatchesAmong (table_of d.patterns.value d.fold d.kind d.start_kind d.classes d.stride2 d.table.items
           d.lists.listed.items d.lists.bounds.items) d.first_match d.match_end;
     } };
+}
+
+impl<A: Allocator + Clone> DFA<A> {
+    /// Builds an automaton with the usual settings: `MatchKind::Standard`, case counts, unanchored searches alone, and
+    /// bytes that need not be told apart share a class.
+    ///
+    /// # Errors
+    /// As `Builder::build`.
+    pub fn new(alloc: A, patterns: &[&[u8]]) -> Result<DFA<A>, BuildError>
+        ensures { MatchResult result
+            (IsBuilt usual_settings (bytes_of patterns.now))
+            (Refuses usual_settings (bytes_of patterns.now)) }
+    {
+        Builder::new().build(alloc, patterns)
+    }
+}
+
+impl DFA {
+    /// Returns a builder with the usual settings.
+    pub fn builder() -> Builder
+        ensures { result ≡ usual_settings }
+    {
+        Builder::new()
+    }
 }
 
 impl<A: Allocator> DFA<A> {

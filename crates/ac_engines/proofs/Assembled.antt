@@ -1,0 +1,181 @@
+-- A table whose rows are laid out and filled.
+use Rattle.std.proofs.Common.{◌≡◌, ◌≢◌, ◌⊎◌, inl, inr, ℕ, zero, suc, ◌+◌, ◌-◌, ◌*◌, ◌^◌, ◌<◌, ◌≤◌, Bool, true, false, List, [], ◌∷◌, length, slice_index_or, refl, ap, sym, ◌∙◌, arith, Some, None}
+use Rattle.std.specs.Prelude.{slice_get}
+use Rattle.std.proofs.lemmas.Option.{slice_get_within}
+use Rattle.std.proofs.lemmas.Bool.{le-ltb}
+use Rattle.ac_util.specs.declared.primitives.TheConstants.{GREATEST}
+use Rattle.ac_util.specs.declared.search.StartKind.{StartKind}
+use Rattle.ac_util.specs.Built.{Built}
+use Rattle.ac_util.specs.Classes.{AreClasses, IsNode, SetsApart, alphabet_len, class_at, stride, stride2}
+use Rattle.ac_util.specs.Node.{Node}
+use Rattle.ac_util.specs.Sizes.{state_count}
+use Rattle.ac_util.proofs.ClassLists.{class_at-below, classes_of-AreClasses, classes_of-set_apart, singletons-AreClasses, singletons-set_apart}
+use Rattle.ac_util.proofs.NodeCount.{inner_nodes-has}
+use Rattle.ac_util.proofs.StrideLemmas.{stride-enough}
+use Rattle.ac_automaton.specs.Automata.{plain_of}
+use Rattle.ac_automaton.specs.Readers.{AreNodes}
+use Rattle.ac_automaton.specs.Tries.{Trie}
+use Rattle.ac_engines.specs.Builds.{classes_by, table_refusal}
+use Rattle.ac_engines.specs.Filling.{AreLaid, FilledUpTo, Filling, HasRow, MayFill, place_in, row_at, sheet_of}
+use Rattle.ac_engines.specs.Layouts.{IsLayout, table_rows}
+use Rattle.ac_engines.specs.Rows.{HasMatchesAmong, IsTable, Table}
+use Rattle.ac_engines.proofs.Numbered.{behind-starts, place-row, place-start}
+use Rattle.ac_engines.proofs.Owning.{row-room}
+
+-- the classes by which a table steps are those of all bytes
+pub classes_by-AreClasses : (byte_classes fold : Bool) (patterns : List (List ℕ))
+    → AreClasses (classes_by byte_classes fold patterns)
+classes_by-AreClasses true fold patterns = classes_of-AreClasses fold patterns
+classes_by-AreClasses false fold patterns = singletons-AreClasses
+
+-- and set each byte of a pattern apart
+pub classes_by-set_apart : (byte_classes fold : Bool) (patterns : List (List ℕ))
+    → SetsApart fold patterns (classes_by byte_classes fold patterns)
+classes_by-set_apart true fold patterns = classes_of-set_apart fold patterns
+classes_by-set_apart false fold patterns = singletons-set_apart fold patterns
+
+-- where the last row begins at a number that a state may have, there are few entries
+few-entries : (rows width : ℕ) → 1 ≤ rows → (rows - 1) * width ≤ GREATEST → rows * width ≤ GREATEST + width
+few-entries zero width some last = absurd (omega arith)
+few-entries (suc rows) width some last =
+    let e : suc rows - 1 ≡ rows = omega arith in let h = rw e at last in omega arith
+
+-- and the table is not refused
+pub no-refusal : (start_kind : StartKind) (classes : List ℕ) (states : ℕ)
+    → (table_rows start_kind states - 1) * stride classes ≤ GREATEST → table_refusal start_kind classes states ≡ None
+no-refusal start_kind classes states last =
+    rw (le-ltb GREATEST ((table_rows start_kind states - 1) * stride classes) last) refl
+
+-- the classes of a table have room in its rows, and set each byte of a pattern apart
+pub record HasClasses (built : Built) (classes : List ℕ) (exponent : ℕ) : Type 0 where
+  pub are : AreClasses classes
+  pub apart : SetsApart built.fold built.patterns classes
+  pub room : alphabet_len classes ≤ 2 ^ exponent
+
+-- those by which a table steps do
+has-classes : (built : Built) (byte_classes : Bool) (classes : List ℕ) (exponent : ℕ)
+    → classes ≡ classes_by byte_classes built.fold built.patterns → exponent ≡ stride2 classes
+    → HasClasses built classes exponent
+has-classes built byte_classes classes exponent e f =
+    let are = classes_by-AreClasses byte_classes built.fold built.patterns in
+    rw (f, e) (record {
+      are = are;
+      apart = classes_by-set_apart byte_classes built.fold built.patterns;
+      room = stride-enough (classes_by byte_classes built.fold built.patterns) are;
+    })
+
+-- what a build knows before it lays out rows: the classes, how long a row is, and how many entries there are
+pub record IsPlanned (trie : Trie) (start_kind : StartKind) (classes : List ℕ) (exponent width len : ℕ) : Type 0 where
+  pub has : HasClasses trie.built classes exponent
+  pub width_is : width ≡ 2 ^ exponent
+  pub len_is : len ≡ table_rows start_kind (state_count trie.built.kind (plain_of trie.built)) * 2 ^ exponent
+  pub few : table_rows start_kind (state_count trie.built.kind (plain_of trie.built)) * 2 ^ exponent ≤ GREATEST + 2 ^ exponent
+  pub allowed : table_refusal start_kind classes (state_count trie.built.kind (plain_of trie.built)) ≡ None
+
+-- the steps of a build tell this
+pub planned : (trie : Trie) (start_kind : StartKind) (byte_classes : Bool) (classes : List ℕ)
+    (exponent width states rows len : ℕ)
+    → classes ≡ classes_by byte_classes trie.built.fold trie.built.patterns → exponent ≡ stride2 classes
+    → width ≡ stride classes → states ≡ state_count trie.built.kind (plain_of trie.built)
+    → rows ≡ table_rows start_kind states → 1 ≤ rows → len ≡ rows * 2 ^ exponent
+    → (rows - 1) * 2 ^ exponent ≤ GREATEST → IsPlanned trie start_kind classes exponent width len
+planned trie start_kind byte_classes classes exponent width states rows len class two wide count height some long last =
+    let whole = height ∙ ap (table_rows start_kind) count in
+    let small = few-entries rows (2 ^ exponent) some last in
+    record {
+      has = has-classes trie.built byte_classes classes exponent class two;
+      width_is = wide ∙ ap (λ k. 2 ^ k) (sym two);
+      len_is = long ∙ ap (λ n. n * 2 ^ exponent) whole;
+      few = rw whole at small;
+      allowed = no-refusal start_kind classes (state_count trie.built.kind (plain_of trie.built)) (rw (whole, two) at last);
+    }
+
+module _ (trie : Trie) (start_kind : StartKind) (classes : List ℕ) (exponent : ℕ) (numbers : List ℕ)
+    (nodes : List Node) (size : ℕ) where
+  -- how the rows of the table are filled
+  abbrev pub filling : Filling
+  filling = record {
+    trie = trie;
+    classes = classes;
+    start_kind = start_kind;
+    stride = 2 ^ exponent;
+    numbers = numbers;
+  }
+
+  -- what the table is built from
+  abbrev pub built : Built
+  built = record trie.built { start_kind = start_kind }
+
+  -- rows that are laid out can be filled
+  pub may-fill : (lists : List (List ℕ)) (first end : ℕ) → HasClasses trie.built classes exponent → AreNodes trie nodes
+      → IsLayout built (2 ^ exponent) size nodes numbers lists first end → size ≤ GREATEST + 2 ^ exponent
+      → MayFill filling nodes size
+  may-fill lists first end has are_nodes layout small = record {
+    are_nodes = are_nodes;
+    below = class_at-below classes has.are;
+    room = has.room;
+    apart = has.apart;
+    laid = layout.laid classes;
+    small = small;
+  }
+
+  module _ (may : MayFill filling nodes size) where
+    -- each string that leads to a node has a state with rows
+    state-of : (w : List ℕ) → IsNode trie.built.kind (plain_of trie.built) (Some w)
+        → (s : ℕ) × HasRow filling nodes size s w
+    state-of [] node = (2, record { may = may; named = may.are_nodes.start; place = inl refl })
+    state-of (x ∷ w) node =
+        let state = may.are_nodes.numbered.each (x ∷ w)
+        (inner_nodes-has trie.built.kind (plain_of trie.built) (x ∷ w) node (λ e. absurd cc)) in
+        (state.0, record { may = may; named = state.1.named; place = inr state.1.inner })
+
+    module _ (entries : List ℕ) (lists : List (List ℕ)) (first end : ℕ)
+        (filled : FilledUpTo filling nodes size (length nodes) entries)
+        (layout : IsLayout built (2 ^ exponent) size nodes numbers lists first end) where
+      -- the table of these rows
+      abbrev pub table : Table
+      table = record {
+        built = built;
+        classes = classes;
+        stride2 = exponent;
+        entries = entries;
+        lists = lists;
+      }
+
+      -- rows that are laid out and filled stand for the nodes
+      pub are-table : IsTable table (place_in nodes numbers)
+      are-table = record {
+        narrow = narrow;
+        dead = λ b byte. filled.dead (0 + class_at classes b) (let below = narrow b byte in omega arith);
+        unlisted = layout.unlisted;
+        start = place-start trie nodes may.are_nodes numbers may.laid.count ∙ may.laid.start;
+        inner = λ w node some.
+            let state = state-of w node in
+            let inner = behind-starts trie nodes may.are_nodes state.0 w some state.1.named in
+            let within = slice_get_within nodes state.0 (Some w) state.1.named in
+            let count = may.laid.count in
+            let place = place-row filling nodes size state.0 w state.1 in
+            let row = may.laid.inner state.0 inner (omega arith) in
+            omega arith;
+        within = λ anchored w node.
+            let state = state-of w node in
+            let room = row-room filling nodes size state.0 w state.1 anchored in
+            let long = filled.long in
+            omega arith;
+        steps = λ anchored w b supported node byte.
+            let state = state-of w node in
+            filled.filled state.0 (Some w) (slice_get_within nodes state.0 (Some w) state.1.named)
+            (λ same. elim state.1.place [ | inl start ↦ omega arith | inr inner ↦ omega arith ])
+            state.1.named anchored supported b byte;
+        lists = λ anchored w supported node.
+            let state = state-of w node in
+            rw (place-row filling nodes size state.0 w state.1)
+            (layout.rows state.0 w state.1.named state.1.place anchored supported);
+      }
+        where
+          narrow : (b : ℕ) → b < 256 → class_at classes b < 2 ^ exponent
+          narrow b byte = let below = may.below b byte in let room = may.room in omega arith
+
+      -- and the layout tells which of them have matches
+      pub has-matches-among : HasMatchesAmong table first end
+      has-matches-among = record { early = layout.early; late = layout.late; starts = layout.starts }

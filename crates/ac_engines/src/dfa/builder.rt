@@ -1,0 +1,280 @@
+//! Builds of a table of steps.
+ghost use Rattle.std.specs.Prelude.{◌≡◌, ◌<◌, ◌≤◌, ◌+◌, ◌-◌, ◌*◌, ◌^◌, ℕ, IfOk, List, length, MatchResult, None};
+ghost use Rattle.ac_util.specs.declared.error.BuildError.TheVariants.{StateIdOverflow};
+ghost use Rattle.ac_util.specs.declared.primitives.TheConstants.{GREATEST};
+ghost use Rattle.ac_util.specs.declared.search.StartKind;
+ghost use Rattle.ac_util.specs.Borrowed.{bytes_of};
+ghost use Rattle.ac_util.specs.Classes.{alphabet_len, class_at};
+ghost use Rattle.ac_util.specs.Node.{Node};
+ghost use Rattle.ac_util.specs.Sizes.{state_count};
+ghost use Rattle.ac_automaton.specs.Automata.{plain_of};
+ghost use Rattle.ac_automaton.specs.Readers.{AreNodes};
+ghost use Rattle.ac_engines.specs.Builds.{IsBuilt, IsBuiltFrom, Refuses, RefusesFrom, classes_by, table_refusal_from, usual_settings};
+ghost use Rattle.ac_engines.specs.Filling.{Filling, FilledUpTo, MayFill};
+ghost use Rattle.ac_engines.specs.Layouts.{table_rows};
+ghost use Rattle.ac_engines.specs.Rows.{start_number};
+
+use super::fill::Filler;
+use super::layout::Layout;
+use super::{DEAD, DFA};
+use ac_automaton::automaton::Automaton;
+use ac_automaton::nfa::noncontiguous::{self, NFA};
+use ac_util::alphabet::ByteClasses;
+use ac_util::error::BuildError;
+use ac_util::primitives::StateID;
+use ac_util::search::{Anchored, MatchKind, StartKind};
+use std::alloc::{AllocError, Allocator};
+use std::marker::Model;
+
+/// The settings of a build. A build changes none of them, so after a refusal the builder can be used again.
+///
+/// This ports `dfa::Builder`.
+#[derive(Debug, Drop)]
+pub struct Builder {
+    kind: MatchKind,
+    fold: bool,
+    start_kind: StartKind,
+    byte_classes: bool,
+}
+
+impl Model for Builder {
+    ghost use Rattle.ac_engines.specs.Builds.{Settings};
+
+    ghost Value = { Settings };
+
+    ghost view = { λ b. record {
+      kind = b.kind;
+      fold = b.fold;
+      start_kind = b.start_kind;
+      byte_classes = b.byte_classes;
+    } };
+
+    ghost inverse = { λ v. record {
+      kind = v.kind;
+      fold = v.fold;
+      start_kind = v.start_kind;
+      byte_classes = v.byte_classes;
+    } };
+}
+
+impl Default for Builder {
+    ghost is_default = { λ b. b ≡ usual_settings };
+
+    fn default() -> Builder {
+        Builder::new()
+    }
+}
+
+impl Builder {
+    /// Returns a builder with the usual settings: `MatchKind::Standard`, case counts, unanchored searches alone, and
+    /// bytes that need not be told apart share a class.
+    pub fn new() -> Builder
+        ensures { result ≡ usual_settings }
+    {
+        Builder {
+            kind: MatchKind::Standard,
+            fold: false,
+            start_kind: StartKind::Unanchored,
+            byte_classes: true,
+        }
+    }
+
+    /// Returns a builder with the same settings, and takes no memory.
+    pub fn clone(&self) -> Builder
+        ensures { result ≡ self.now }
+    {
+        Builder { ..*self }
+    }
+
+    /// Sets which of the occurrences in a span a search answers. `Standard` unless set.
+    pub fn match_kind(&mut self, kind: MatchKind) -> &mut Builder
+        ensures value { result.now ≡ record self.old { kind = kind } }
+        ensures same { result.ghost_name ≡ self.entry.ghost_name }
+    {
+        self.kind = kind;
+        self
+    }
+
+    /// Sets whether the case of ASCII letters is ignored. It counts unless set.
+    pub fn ascii_case_insensitive(&mut self, yes: bool) -> &mut Builder
+        ensures value { result.now ≡ record self.old { fold = yes } }
+        ensures same { result.ghost_name ≡ self.entry.ghost_name }
+    {
+        self.fold = yes;
+        self
+    }
+
+    /// Sets which searches the automaton serves. `Unanchored` unless set.
+    ///
+    /// With `Both` the table has two rows for each state, and so takes about twice the memory.
+    pub fn start_kind(&mut self, kind: StartKind) -> &mut Builder
+        ensures value { result.now ≡ record self.old { start_kind = kind } }
+        ensures same { result.ghost_name ≡ self.entry.ghost_name }
+    {
+        self.start_kind = kind;
+        self
+    }
+
+    /// Sets whether bytes that need not be told apart share a class, so that rows are shorter. They do unless set.
+    ///
+    /// It changes no answer.
+    pub fn byte_classes(&mut self, yes: bool) -> &mut Builder
+        ensures value { result.now ≡ record self.old { byte_classes = yes } }
+        ensures same { result.ghost_name ≡ self.entry.ghost_name }
+    {
+        self.byte_classes = yes;
+        self
+    }
+
+    /// Builds an automaton over a list of patterns. An empty list is fine: nothing is then found.
+    ///
+    /// # Errors
+    /// `PatternIdOverflow` and `PatternTooLong` exactly where a limit is passed, whether there is memory or
+    /// not. Else `StateIdOverflow` only where there are more nodes than state numbers, or where the last row of the
+    /// table would begin at a number that no state may have, and `Memory` where a request for memory is refused.
+    pub fn build<A: Allocator + Clone>(
+        &self,
+        alloc: A,
+        patterns: &[&[u8]],
+    ) -> Result<DFA<A>, BuildError>
+        ensures { MatchResult result
+            (IsBuilt self.now (bytes_of patterns.now))
+            (Refuses self.now (bytes_of patterns.now)) }
+    {
+        let mut nfa = noncontiguous::Builder::new();
+        nfa.match_kind(self.kind).ascii_case_insensitive(self.fold);
+        let nfa = nfa.build(alloc, patterns)?;
+        let alloc = nfa.allocator().clone()?;
+        self.build_from_noncontiguous(alloc, &nfa)
+    }
+
+    /// Builds an automaton that answers as another one, whose patterns it shares. Of the settings only the start kind
+    /// and the byte classes count: the match kind and the case are those of the other automaton.
+    ///
+    /// # Errors
+    /// `StateIdOverflow` exactly where the last row of the table would begin at a number that no state may have,
+    /// whether there is memory or not; else `Memory` where a request for memory is refused.
+    pub fn build_from_noncontiguous<A: Allocator + Clone>(
+        &self,
+        alloc: A,
+        nfa: &NFA<A>,
+    ) -> Result<DFA<A>, BuildError>
+        ensures { MatchResult result
+            (λ dfa. IsBuiltFrom self.now.start_kind self.now.byte_classes nfa.now.built dfa
+            × (table_refusal_from self.now.start_kind self.now.byte_classes nfa.now.built ≡ None))
+            (RefusesFrom self.now.start_kind self.now.byte_classes nfa.now.built) }
+    {
+        let classes = classes_for(nfa, self.byte_classes);
+        let stride2 = classes.stride2();
+        let len = table_len(rows_len(nfa.states_len(), self.start_kind), stride2)?;
+        let layout = Layout::of(alloc.clone()?, nfa, self.start_kind, stride2)?;
+        let filler = Filler {
+            nfa,
+            classes: &classes,
+            start_kind: self.start_kind,
+            stride: classes.stride(),
+            numbers: &layout.numbers,
+        };
+        let table = filled_table(alloc, &filler, len as usize)?;
+        Ok(DFA {
+            patterns: nfa.patterns().clone()?,
+            kind: nfa.match_kind(),
+            fold: nfa.fold(),
+            start_kind: self.start_kind,
+            shortest: nfa.min_pattern_len(),
+            longest: nfa.max_pattern_len(),
+            classes,
+            stride2,
+            table,
+            lists: layout.lists,
+            start: start_of(self.start_kind, Anchored::No, stride2),
+            anchored_start: start_of(self.start_kind, Anchored::Yes, stride2),
+            first_match: layout.first_match,
+            match_end: layout.match_end,
+        })
+    }
+}
+
+/// Returns how many entries a table has with so many rows, each two to the power of `stride2` long.
+///
+/// The number of a state is that of the first entry of its row, so the limit is one on where the last row begins.
+///
+/// # Errors
+/// `StateIdOverflow` exactly where that number is above the greatest of a state.
+pub fn table_len(rows: u64, stride2: u32) -> Result<u64, BuildError>
+    requires some { 1 ≤ rows }
+    requires few { rows ≤ table_rows StartKind.Both (GREATEST + 1) }
+    requires narrow { stride2 ≤ 8 }
+    ensures { MatchResult result
+        (λ len. (len ≡ rows * 2 ^ stride2) × ((rows - 1) * 2 ^ stride2 ≤ GREATEST))
+        (λ e. (e ≡ StateIdOverflow GREATEST ((rows - 1) * 2 ^ stride2))
+        × (GREATEST < (rows - 1) * 2 ^ stride2)) }
+{
+    let stride = 1 << stride2;
+    let last = (rows - 1) * stride;
+    if last > StateID::MAX as u64 {
+        return Err(BuildError::StateIdOverflow {
+            max: StateID::MAX as u64,
+            requested: last,
+        });
+    }
+    Ok(last + stride)
+}
+
+/// Returns how many rows a table with these starts has for a trie of so many states.
+fn rows_len(states: usize, start_kind: StartKind) -> u64
+    requires some { 4 ≤ states }
+    requires few { states ≤ GREATEST + 1 }
+    ensures value { result ≡ table_rows start_kind states }
+    ensures some { 1 ≤ result }
+    ensures few { result ≤ table_rows StartKind.Both (GREATEST + 1) }
+{
+    match start_kind {
+        StartKind::Both => 2 * states as u64 - 4,
+        _ => states as u64,
+    }
+}
+
+/// Returns the classes by which a table steps that is built from an automaton.
+fn classes_for<A: Allocator>(nfa: &NFA<A>, byte_classes: bool) -> ByteClasses
+    ensures { result ≡ classes_by byte_classes nfa.now.built.fold nfa.now.built.patterns }
+{
+    if byte_classes {
+        ByteClasses::of(nfa.patterns(), nfa.fold())
+    } else {
+        ByteClasses::singletons()
+    }
+}
+
+/// Returns a table of this size whose rows are filled.
+fn filled_table<A: Allocator>(
+    alloc: A,
+    filler: &Filler<'_, A>,
+    len: usize,
+) -> Result<Vec<StateID, A>, AllocError>
+    requires may { (nodes : List Node) × MayFill filler.now nodes len }
+    ensures long { IfOk result (λ table. length table.items ≡ len) }
+    ensures filled { IfOk result (λ table. (nodes : List Node) → MayFill filler.now nodes len
+        → FilledUpTo filler.now nodes len (length nodes) table.items) }
+{
+    let mut table = vec![in alloc; StateID::must(DEAD); len]?;
+    filler.fill(&mut table);
+    Ok(table)
+}
+
+/// Returns the state at which a search with this anchoring begins, or the dead one where there is none.
+fn start_of(start_kind: StartKind, anchored: Anchored, stride2: u32) -> StateID
+    requires narrow { stride2 ≤ 8 }
+    ensures { result ≡ start_number start_kind anchored (2 ^ stride2) }
+{
+    let row = match (start_kind, anchored) {
+        (StartKind::Both, Anchored::Yes) => 3,
+        (StartKind::Both | StartKind::Unanchored, Anchored::No) => 2,
+        (StartKind::Anchored, Anchored::Yes) => 2,
+        _ => return StateID::must(DEAD),
+    };
+    StateID::must(row << stride2)
+}
+
+#[cfg(test)]
+mod tests;
