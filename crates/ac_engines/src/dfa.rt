@@ -179,7 +179,13 @@ impl<A: Allocator> Automaton for DFA<A> {
     }
 
     #[inline]
-    fn next_state(&self, _anchored: Anchored, sid: StateID, byte: u8, looks: &mut Looks) -> StateID {
+    fn next_state(
+        &self,
+        _anchored: Anchored,
+        sid: StateID,
+        byte: u8,
+        looks: &mut Looks,
+    ) -> StateID {
         looks.look();
         target(self.entries(), self.classes.get(byte) as usize, sid)
     }
