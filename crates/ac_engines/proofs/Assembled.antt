@@ -165,7 +165,7 @@ module _ (trie : Trie) (start_kind : StartKind) (classes : List ℕ) (exponent :
         steps = λ anchored w b supported node byte.
             let state = state-of w node in
             filled.filled state.0 (Some w) (slice_get_within nodes state.0 (Some w) state.1.named)
-            (λ same. elim state.1.place [ | inl start ↦ omega arith | inr inner ↦ omega arith ])
+            (λ same. elim state.1.place [ inl start ↦ omega arith | inr inner ↦ omega arith ])
             state.1.named anchored supported b byte;
         lists = λ anchored w supported node.
             let state = state-of w node in

@@ -73,54 +73,33 @@ fn listing_of(alloc: Global, dfa: &DFA, input: Input<'_>) -> Result<Vec<Match>, 
     Ok(listed)
 }
 
-/// Which patterns, match kind and starts a table is for, and how many rows of how many entries it has.
+/// Which patterns, match kind and starts a table is for, how many entries a row of it has, and how many all rows.
 type Size = (&'static [&'static [u8]], MatchKind, StartKind, usize, usize);
 
+/// Three patterns with a common prefix.
+const THREE: &[&[u8]] = &[b"b", b"abc", b"abcd"];
+
 const SIZES: [Size; 9] = [
-    (&[], Standard, StartKind::Unanchored, 4, 1),
-    (&[], Standard, StartKind::Both, 4, 1),
-    (
-        &[b"b", b"abc", b"abcd"],
-        Standard,
-        StartKind::Unanchored,
-        9,
-        8,
-    ),
-    (
-        &[b"b", b"abc", b"abcd"],
-        Standard,
-        StartKind::Anchored,
-        9,
-        8,
-    ),
-    (&[b"b", b"abc", b"abcd"], Standard, StartKind::Both, 14, 8),
-    (
-        &[b"b", b"abc", b"abcd"],
-        LeftmostFirst,
-        StartKind::Unanchored,
-        8,
-        8,
-    ),
-    (
-        &[b"b", b"abc", b"abcd"],
-        LeftmostFirst,
-        StartKind::Both,
-        12,
-        8,
-    ),
-    (&[b"abcd"], Standard, StartKind::Unanchored, 8, 8),
-    (&[b"abcd"], Standard, StartKind::Both, 12, 8),
+    (&[], Standard, StartKind::Unanchored, 1, 4),
+    (&[], Standard, StartKind::Both, 1, 4),
+    (THREE, Standard, StartKind::Unanchored, 8, 72),
+    (THREE, Standard, StartKind::Anchored, 8, 72),
+    (THREE, Standard, StartKind::Both, 8, 112),
+    (THREE, LeftmostFirst, StartKind::Unanchored, 8, 64),
+    (THREE, LeftmostFirst, StartKind::Both, 8, 96),
+    (&[b"abcd"], Standard, StartKind::Unanchored, 8, 64),
+    (&[b"abcd"], Standard, StartKind::Both, 8, 96),
 ];
 
 #[test]
 fn tables_have_their_size(rt: HostRuntime) -> Result<(), Fail> {
-    for (patterns, kind, start_kind, rows, stride) in SIZES {
+    for (patterns, kind, start_kind, stride, entries) in SIZES {
         let dfa = builder(kind, start_kind, true).build(rt.alloc(), patterns)?;
         assert_eq!(rt; dfa.classes.stride(), stride, "{patterns:?}");
-        assert_eq!(rt; dfa.table.len(), rows * stride, "{patterns:?}");
+        assert_eq!(rt; dfa.table.len(), entries, "{patterns:?}");
     }
     let dfa = builder(Standard, StartKind::Both, false).build(rt.alloc(), &[b"abcd"])?;
-    assert_eq!(rt; dfa.table.len(), 12 * 256);
+    assert_eq!(rt; dfa.table.len(), 3072);
     Ok(())
 }
 
@@ -164,7 +143,9 @@ fn many_classes(rt: HostRuntime) -> Result<(), Fail> {
         haystack.push(byte)?;
     }
     for few in [254, 256] {
-        let text = &haystack[..few];
+        let Some(text) = haystack.get(..few) else {
+            return Err(Fail::new("the haystack is shorter"));
+        };
         let patterns: Vec<&[u8]> = text.chunks(2).collect(rt.alloc())?;
         for &kind in EACH {
             let dfa = builder(kind, StartKind::Both, true).build(rt.alloc(), &patterns)?;
@@ -172,7 +153,8 @@ fn many_classes(rt: HostRuntime) -> Result<(), Fail> {
             let walked = walk_of(rt.alloc(), &dfa, Input::new(text))?;
             assert_eq!(rt; walked.len(), few / 2);
             for (number, found) in walked.iter().enumerate() {
-                let wanted = (number, 2 * number, 2 * number + 2);
+                let start = number.saturating_mul(2);
+                let wanted = (number, start, start.saturating_add(2));
                 assert_eq!(rt; told(found), wanted, "under {kind:?}");
             }
         }

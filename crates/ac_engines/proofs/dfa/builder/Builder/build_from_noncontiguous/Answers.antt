@@ -17,10 +17,13 @@ filled_table-requires g c =
     c.rows_len.ensures.value c.rows_len.ensures.some c.in_ok-len.ensures.0 c.in_ok-len.ensures.1 in
     let layout = c.in_ok-layout.layout in
     record {
-      may = (nodes.0, rw (plan.width_is, c.deref.ensures.value, plan.len_is) (may-fill c.args.nfa.now
-          c.self.inside.start_kind c.classes_for-classes.result c.stride2-stride2.result layout.numbers.items nodes.0 _
-          (pieces layout.lists.listed.items layout.lists.bounds.items) layout.first_match layout.match_end plan.has
-          nodes.1 (c.in_ok-layout.ensures.layout nodes.0 nodes.1) plan.few));
+      may = (
+        nodes.0,
+        rw (plan.width_is, c.deref.ensures.value, plan.len_is) (may-fill c.args.nfa.now
+            c.self.inside.start_kind c.classes_for-classes.result c.stride2-stride2.result layout.numbers.items nodes.0 _
+            (pieces layout.lists.listed.items layout.lists.bounds.items) layout.first_match layout.match_end plan.has
+            nodes.1 (c.in_ok-layout.ensures.layout nodes.0 nodes.1) plan.few),
+      );
     }
 
 -- the rows stand for the nodes
@@ -40,10 +43,13 @@ invariant_of-result g c =
     let patterns : c.in_ok-clone-2.field-0.value ≡ c.args.nfa.now.built.patterns =
     c.in_ok-clone-2.ensures.cases ∙ c.patterns.ensures in
     record {
-      table = (place_in nodes.0 layout.numbers.items, rw (patterns, c.fold.ensures, c.match_kind.ensures) (are-table
-          c.args.nfa.now c.self.inside.start_kind c.classes_for-classes.result c.stride2-stride2.result
-          layout.numbers.items nodes.0 _ may c.in_ok-table.table.items lists layout.first_match layout.match_end
-          (filled may) laid));
+      table = (
+        place_in nodes.0 layout.numbers.items,
+        rw (patterns, c.fold.ensures, c.match_kind.ensures) (are-table
+            c.args.nfa.now c.self.inside.start_kind c.classes_for-classes.result c.stride2-stride2.result
+            layout.numbers.items nodes.0 _ may c.in_ok-table.table.items lists layout.first_match layout.match_end
+            (filled may) laid),
+      );
       shortest = c.min_pattern_len.ensures ∙ ap shortest_len (sym patterns);
       longest = c.max_pattern_len.ensures ∙ ap longest_len (sym patterns);
       few = c.stride2-stride2.ensures.small;
