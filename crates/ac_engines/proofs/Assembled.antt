@@ -1,6 +1,5 @@
 -- A table whose rows are laid out and filled.
-use Rattle.std.proofs.Common.{◌≡◌, ◌≢◌, ◌⊎◌, inl, inr, ℕ, zero, suc, ◌+◌, ◌-◌, ◌*◌, ◌^◌, ◌<◌, ◌≤◌, Bool, true, false, List, [], ◌∷◌, length, slice_index_or, refl, ap, sym, ◌∙◌, arith, Some, None}
-use Rattle.std.specs.Prelude.{slice_get}
+use Rattle.std.proofs.Common.{◌≡◌, inl, inr, ℕ, zero, suc, ◌+◌, ◌-◌, ◌*◌, ◌^◌, ◌<◌, ◌≤◌, Bool, true, false, List, [], ◌∷◌, length, refl, ap, sym, ◌∙◌, arith, Some, None}
 use Rattle.std.proofs.lemmas.Option.{slice_get_within}
 use Rattle.std.proofs.lemmas.Bool.{le-ltb}
 use Rattle.ac_util.specs.declared.primitives.TheConstants.{GREATEST}
@@ -16,20 +15,20 @@ use Rattle.ac_automaton.specs.Automata.{plain_of}
 use Rattle.ac_automaton.specs.Readers.{AreNodes}
 use Rattle.ac_automaton.specs.Tries.{Trie}
 use Rattle.ac_engines.specs.Builds.{classes_by, table_refusal}
-use Rattle.ac_engines.specs.Filling.{AreLaid, FilledUpTo, Filling, HasRow, MayFill, place_in, row_at, sheet_of}
+use Rattle.ac_engines.specs.Filling.{FilledUpTo, Filling, HasRow, MayFill, place_in}
 use Rattle.ac_engines.specs.Layouts.{IsLayout, table_rows}
 use Rattle.ac_engines.specs.Rows.{HasMatchesAmong, IsTable, Table}
 use Rattle.ac_engines.proofs.Numbered.{behind-starts, place-row, place-start}
 use Rattle.ac_engines.proofs.Owning.{row-room}
 
 -- the classes by which a table steps are those of all bytes
-pub classes_by-AreClasses : (byte_classes fold : Bool) (patterns : List (List ℕ))
+classes_by-AreClasses : (byte_classes fold : Bool) (patterns : List (List ℕ))
     → AreClasses (classes_by byte_classes fold patterns)
 classes_by-AreClasses true fold patterns = classes_of-AreClasses fold patterns
 classes_by-AreClasses false fold patterns = singletons-AreClasses
 
 -- and set each byte of a pattern apart
-pub classes_by-set_apart : (byte_classes fold : Bool) (patterns : List (List ℕ))
+classes_by-set_apart : (byte_classes fold : Bool) (patterns : List (List ℕ))
     → SetsApart fold patterns (classes_by byte_classes fold patterns)
 classes_by-set_apart true fold patterns = classes_of-set_apart fold patterns
 classes_by-set_apart false fold patterns = singletons-set_apart fold patterns
@@ -41,7 +40,7 @@ few-entries (suc rows) width some last =
     let e : suc rows - 1 ≡ rows = omega arith in let h = rw e at last in omega arith
 
 -- and the table is not refused
-pub no-refusal : (start_kind : StartKind) (classes : List ℕ) (states : ℕ)
+no-refusal : (start_kind : StartKind) (classes : List ℕ) (states : ℕ)
     → (table_rows start_kind states - 1) * stride classes ≤ GREATEST → table_refusal start_kind classes states ≡ None
 no-refusal start_kind classes states last =
     rw (le-ltb GREATEST ((table_rows start_kind states - 1) * stride classes) last) refl

@@ -1,16 +1,12 @@
 //! Builds of a table of steps.
-ghost use Rattle.std.specs.Prelude.{◌≡◌, ◌<◌, ◌≤◌, ◌+◌, ◌-◌, ◌*◌, ◌^◌, ℕ, IfOk, List, length, MatchResult, None};
+ghost use Rattle.std.specs.Prelude.{◌≡◌, ◌<◌, ◌≤◌, ◌+◌, ◌-◌, ◌*◌, ◌^◌, IfOk, List, length, MatchResult, None};
 ghost use Rattle.ac_util.specs.declared.error.BuildError.TheVariants.{StateIdOverflow};
 ghost use Rattle.ac_util.specs.declared.primitives.TheConstants.{GREATEST};
 ghost use Rattle.ac_util.specs.declared.search.StartKind;
 ghost use Rattle.ac_util.specs.Borrowed.{bytes_of};
-ghost use Rattle.ac_util.specs.Classes.{alphabet_len, class_at};
 ghost use Rattle.ac_util.specs.Node.{Node};
-ghost use Rattle.ac_util.specs.Sizes.{state_count};
-ghost use Rattle.ac_automaton.specs.Automata.{plain_of};
-ghost use Rattle.ac_automaton.specs.Readers.{AreNodes};
 ghost use Rattle.ac_engines.specs.Builds.{IsBuilt, IsBuiltFrom, Refuses, RefusesFrom, classes_by, table_refusal_from, usual_settings};
-ghost use Rattle.ac_engines.specs.Filling.{Filling, FilledUpTo, MayFill};
+ghost use Rattle.ac_engines.specs.Filling.{FilledUpTo, MayFill};
 ghost use Rattle.ac_engines.specs.Layouts.{table_rows};
 ghost use Rattle.ac_engines.specs.Rows.{start_number};
 
@@ -198,6 +194,7 @@ impl Builder {
 /// Returns how many entries a table has with so many rows, each two to the power of `stride2` long.
 ///
 /// The number of a state is that of the first entry of its row, so the limit is one on where the last row begins.
+/// This ports the size and the limit of upstream's `Builder::build_from_noncontiguous`.
 ///
 /// # Errors
 /// `StateIdOverflow` exactly where that number is above the greatest of a state.

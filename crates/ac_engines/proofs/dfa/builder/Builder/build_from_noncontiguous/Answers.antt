@@ -1,8 +1,6 @@
-use Rattle.std.proofs.Common.{◌≡◌, ◌∙◌, ap, refl, sym, ◌^◌, ◌*◌}
-use Rattle.ac_util.specs.Classes.{stride}
+use Rattle.std.proofs.Common.{◌≡◌, ◌∙◌, ap, refl, sym}
 use Rattle.ac_util.specs.Pieces.{pieces}
 use Rattle.ac_util.specs.Sizes.{longest_len, shortest_len}
-use Rattle.ac_engines.specs.Builds.{table_refusal}
 use Rattle.ac_engines.specs.Filling.{place_in}
 use Rattle.ac_engines.proofs.Assembled.{are-table, has-matches-among, may-fill, planned}
 use Rattle.ac_engines.proofs.dfa.builder.Builder.build_from_noncontiguous.Goals as goal
@@ -64,7 +62,6 @@ invariant_of-result g c =
 -- the table is that of the automaton
 pub returns : goal.returns
 returns g c =
-    let nodes = c.states_len.ensures.numbered in
     let plan = planned c.args.nfa.now c.self.inside.start_kind c.self.inside.byte_classes c.classes_for-classes.result
     c.stride2-stride2.result c.stride.result c.states_len.result c.rows_len.result c.in_ok-len.len
     c.classes_for-classes.ensures c.stride2-stride2.ensures.value c.stride.ensures c.states_len.ensures.value
