@@ -1,6 +1,6 @@
 -- A replacement by a closure, match by match: from what was done so far, the steps that are left lead on to those of
 -- the whole.
-use Rattle.std.proofs.Common.{◌≡◌, ◌∙◌, ℕ, ◌-◌, ◌≤◌, Bool, true, false, List, [], ◌∷◌, ◌++◌, ap, arith, drop, length, inl, inr, refl, subst, sym, Option, None, Some, Result, Ok, Err}
+use Rattle.std.proofs.Common.{◌≡◌, ◌∙◌, ℕ, ◌-◌, Bool, true, false, List, [], ◌∷◌, ◌++◌, ap, arith, drop, length, inl, inr, refl, subst, sym, Option, None, Some, Result, Ok, Err}
 use Rattle.std.specs.Prelude.{IsErrAnd, slice_range}
 use Rattle.std.proofs.lemmas.List.{length-drop, take_all}
 use Rattle.std.specs.Borrow.{Bor, MutBor}
@@ -16,7 +16,7 @@ use Rattle.ac_util.specs.Asked.{Asked, asked_whole}
 use Rattle.ac_util.specs.Built.{Built, find_refusal, has_empty, replace_refusal}
 use Rattle.ac_util.specs.Occurrence.{Occurrence}
 use Rattle.ac_util.specs.Refusal.{Find, Replace, refusal}
-use Rattle.ac_util.specs.Replacement.{AppendsAll, Calls, ReplacementSteps, Replacing, Turn, asked_by}
+use Rattle.ac_util.specs.Replacement.{AppendsAll, Calls, ReplacementSteps, Turn, asked_by}
 use Rattle.ac_util.specs.Replacing.{MakesSteps, MatchReplaceError, StepsLead}
 
 -- a slice up to the end is what follows a place

@@ -1,7 +1,6 @@
 -- Where the rows of the states of a trie stand.
-use Rattle.std.proofs.Common.{◌≡◌, ◌≢◌, ◌⊎◌, inl, inr, ℕ, zero, suc, ◌+◌, ◌*◌, ◌<◌, ◌≤◌, true, List, [], ◌∷◌, length, slice_index_or, refl, ap, sym, ◌∙◌, arith, Some, None}
+use Rattle.std.proofs.Common.{◌≡◌, ◌≢◌, inl, inr, ℕ, zero, suc, ◌<◌, ◌≤◌, true, List, [], length, slice_index_or, arith, Some}
 use Rattle.std.specs.Prelude.{slice_get}
-use Rattle.std.proofs.lemmas.Bool.{cases_lt}
 use Rattle.ac_util.specs.Node.{Node, is_node}
 use Rattle.ac_util.proofs.NodeCount.{inner_nodes-only}
 use Rattle.ac_automaton.specs.Automata.{plain_of}

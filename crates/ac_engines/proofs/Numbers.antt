@@ -1,5 +1,5 @@
 -- What the number of a state tells of the node that it stands for.
-use Rattle.std.proofs.Common.{◌≡◌, ◌≢◌, ◌⊎◌, inl, inr, ℕ, ◌+◌, ◌*◌, ◌^◌, ◌/◌, ◌<◌, ◌≤◌, Bool, true, false, List, [], ◌∷◌, ◌++◌, refl, sym, ap, ◌∙◌, arith, length, slice_index_or, Some, None}
+use Rattle.std.proofs.Common.{◌≡◌, ◌≢◌, ◌⊎◌, inl, inr, ℕ, ◌+◌, ◌<◌, ◌≤◌, Bool, true, false, List, [], ◌∷◌, ◌++◌, refl, ap, ◌∙◌, arith, length, slice_index_or, Some, None}
 use Rattle.std.proofs.lemmas.Bool.{cases_lt}
 use Rattle.std.proofs.lemmas.Nat.{pow_pos}
 use Rattle.ac_util.specs.declared.search.Anchored.{Anchored}
@@ -11,7 +11,7 @@ use Rattle.ac_util.specs.Node.{Node, first_node, is_node, last_start, starting_b
 use Rattle.ac_util.specs.Classes.{IsNode, class_at}
 use Rattle.ac_util.specs.Sameness.{plain_byte}
 use Rattle.ac_automaton.specs.Automata.{plain_of, step_of}
-use Rattle.ac_engines.specs.Rows.{HasMatchesAmong, IsTable, StandsFor, Table, behind, list_at, stride_of}
+use Rattle.ac_engines.specs.Rows.{HasMatchesAmong, StandsFor, Table, behind, list_at, stride_of}
 
 -- the first of some strings that leads to a node is one
 first_node-cons : (kind : MatchKind) (patterns : List (List ℕ)) (w : List ℕ) (ws : List (List ℕ)) (t : Bool)

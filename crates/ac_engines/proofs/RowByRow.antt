@@ -1,8 +1,8 @@
 -- The rows of a table, filled one after another.
-use Rattle.std.proofs.Common.{◌≡◌, ◌≢◌, ◌⊎◌, inl, inr, ℕ, zero, suc, ◌+◌, ◌-◌, ◌*◌, ◌<◌, ◌≤◌, Bool, true, false, cond, List, [], ◌∷◌, ◌++◌, length, slice_index_or, refl, ap, sym, subst, ◌∙◌, arith, Some, None}
+use Rattle.std.proofs.Common.{◌≡◌, ◌≢◌, ◌⊎◌, inl, inr, ℕ, zero, suc, ◌+◌, ◌-◌, ◌*◌, ◌<◌, ◌≤◌, Bool, true, false, cond, List, [], ◌∷◌, length, slice_index_or, refl, ap, sym, ◌∙◌, arith, Some, None}
 use Rattle.std.specs.Prelude.{if◌then◌else◌, slice_get}
 use Rattle.std.specs.List.{CopiedTo, SameBelow, SameFrom}
-use Rattle.std.proofs.lemmas.Bool.{cases_eq, cases_lt, false≢true}
+use Rattle.std.proofs.lemmas.Bool.{cases_lt, false≢true}
 use Rattle.std.proofs.lemmas.Option.{slice_get_within}
 use Rattle.ac_util.specs.declared.search.Anchored.{Anchored}
 use Rattle.ac_util.specs.declared.search.Anchored.TheVariants.{No, Yes}
@@ -10,7 +10,7 @@ use Rattle.ac_util.specs.declared.search.StartKind.{StartKind}
 use Rattle.ac_util.specs.declared.search.StartKind.TheVariants.{Anchored as AnchoredAlone, Both, Unanchored}
 use Rattle.ac_util.specs.declared.search.MatchKind.{MatchKind}
 use Rattle.ac_util.specs.Classes.{alphabet_len, class_at}
-use Rattle.ac_util.specs.Node.{Node, begins_with_pattern, failure, is_leftmost}
+use Rattle.ac_util.specs.Node.{Node, failure}
 use Rattle.ac_util.specs.Refusal.{start_refusal}
 use Rattle.ac_util.specs.Sameness.{plain_byte}
 use Rattle.ac_util.proofs.Reached.{step-nil, stops}
@@ -21,7 +21,7 @@ use Rattle.ac_engines.specs.Rows.{behind, entry}
 use Rattle.ac_engines.proofs.Filled.{filled-anchored, filled-beside, filled-longer, own_bytes-has, own_bytes-only}
 use Rattle.ac_engines.proofs.Numbers.{behind-small}
 use Rattle.ac_engines.proofs.Numbered.{place-inner, place-row, place-start}
-use Rattle.ac_engines.proofs.Owning.{behind-most, own_bytes-starts, row-room}
+use Rattle.ac_engines.proofs.Owning.{behind-most, row-room}
 
 -- unanchored rows stand nowhere behind
 pub behind-none : (start_kind : StartKind) (stride : ℕ) → behind start_kind No stride ≡ 0

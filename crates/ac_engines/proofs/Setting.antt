@@ -1,5 +1,5 @@
 -- Setting own transitions in a row of a table, one after another.
-use Rattle.std.proofs.Common.{◌≡◌, ◌≢◌, ◌⊎◌, inl, inr, ℕ, ◌+◌, ◌<◌, ◌≤◌, List, [], ◌∷◌, ◌++◌, length, slice_index_or, slice_set, refl, ap, sym, ◌∙◌, arith, Some, None}
+use Rattle.std.proofs.Common.{◌≡◌, ◌≢◌, inl, inr, ℕ, ◌+◌, ◌<◌, List, [], ◌∷◌, ◌++◌, length, slice_set, refl, sym, ◌∙◌, arith, Some}
 use Rattle.std.specs.Prelude.{Contains}
 use Rattle.std.proofs.lemmas.Bool.{cases_eq}
 use Rattle.std.proofs.lemmas.List.{get_or-set_same, get_or-set_other, length-set}
@@ -9,7 +9,6 @@ use Rattle.ac_util.specs.Classes.{class_at}
 use Rattle.ac_util.specs.Sameness.{plain_byte}
 use Rattle.ac_util.proofs.Lists.{IsIn-from_Contains}
 use Rattle.ac_engines.specs.Filling.{HasSet, Sheet, row_at}
-use Rattle.ac_engines.specs.Rows.{entry}
 
 -- nothing is in an empty list, and one thing in a list of one
 Contains-none : (b : ℕ) → Contains [] b → ⊥

@@ -1,4 +1,4 @@
-use Rattle.std.proofs.Common.{ap, ◌∙◌, arith, length, slice_index_or, ◌+◌}
+use Rattle.std.proofs.Common.{ap, ◌∙◌, slice_index_or, ◌+◌}
 use Rattle.ac_util.specs.Classes.{class_at}
 use Rattle.ac_engines.specs.Rows.{Table}
 use Rattle.ac_engines.proofs.Numbers.{row-within, stands-step}

@@ -1,4 +1,4 @@
-use Rattle.std.proofs.Common.{ℕ, ◌+◌, inl, inr, refl, arith, ◌∙◌}
+use Rattle.std.proofs.Common.{◌+◌, inl, inr, refl, arith, ◌∙◌}
 use Rattle.std.proofs.lemmas.Bool.{cases_eq}
 use Rattle.std.proofs.lemmas.List.{get_or-set_same, get_or-set_other, length-set}
 use Rattle.ac_engines.proofs.dfa.fill.lead_all.Goals as goal

@@ -1,4 +1,4 @@
-use Rattle.std.proofs.Common.{◌≡◌, ℕ, ◌≤◌, List, length}
+use Rattle.std.proofs.Common.{List, length}
 use Rattle.ac_util.specs.Node.{Node}
 use Rattle.ac_engines.specs.Filling.{FilledUpTo, MayFill}
 use Rattle.ac_engines.proofs.dfa.fill.Filler.fill.Given as goal

@@ -1,6 +1,4 @@
-use Rattle.std.proofs.Common.{◌≡◌, ◌≢◌, ℕ, List, [], length, inl, inr, ap, sym, arith, ◌∙◌, Some}
-use Rattle.std.specs.Prelude.{slice_get}
-use Rattle.ac_automaton.specs.Readers.{AreNodes}
+use Rattle.std.proofs.Common.{◌≡◌, ◌≢◌, ℕ, List, [], length, inl, inr, ◌∙◌}
 use Rattle.ac_util.specs.Node.{Node}
 use Rattle.ac_engines.specs.Filling.{Filling, HasRow}
 use Rattle.ac_engines.proofs.Numbered.{inner-string}

@@ -1,10 +1,9 @@
-use Rattle.std.proofs.Common.{◌≡◌, ℕ, ◌+◌, Bool, true, false, cond, length, inl, inr, refl, ap, sym, subst, arith, ◌∙◌, [], Some, None}
-use Rattle.std.specs.Prelude.{if◌then◌else◌}
+use Rattle.std.proofs.Common.{length, refl, ap, arith, ◌∙◌, []}
 use Rattle.ac_util.specs.declared.search.Anchored.TheVariants.{No}
-use Rattle.ac_util.specs.Classes.{alphabet_len, class_at}
+use Rattle.ac_util.specs.Classes.{alphabet_len}
 use Rattle.ac_util.proofs.Reached.{stops}
 use Rattle.ac_automaton.specs.Automata.{plain_of}
-use Rattle.ac_engines.specs.Filling.{Filling, HasRow, row_at, sheet_of}
+use Rattle.ac_engines.specs.Filling.{Filling}
 use Rattle.ac_engines.proofs.Owning.{row-room}
 use Rattle.ac_engines.proofs.RowByRow.{start-led}
 use Rattle.ac_engines.proofs.dfa.fill.Filler.fill_start.Goals as goal

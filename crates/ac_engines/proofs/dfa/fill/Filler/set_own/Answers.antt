@@ -1,12 +1,11 @@
-use Rattle.std.proofs.Common.{◌≡◌, ℕ, List, ap, sym, subst, arith, length, take, ◌∙◌, ◌+◌, ◌++◌, ◌∷◌, [], Some, slice_set, take_all}
+use Rattle.std.proofs.Common.{ap, sym, subst, arith, length, ◌∙◌, ◌++◌, ◌∷◌, [], Some, take_all}
 use Rattle.ac_util.specs.Classes.{alphabet_len, class_at}
-use Rattle.ac_util.specs.Node.{Node}
 use Rattle.ac_util.specs.Sameness.{plain_byte}
 use Rattle.ac_util.specs.Sizes.{state_count}
 use Rattle.ac_automaton.specs.Automata.{plain_of}
 use Rattle.ac_automaton.specs.Readers.{AreNodes, IsOwn, own_bytes}
 use Rattle.ac_automaton.specs.Tries.{Trie}
-use Rattle.ac_engines.specs.Filling.{Filling, HasRow, HasSet, row_at, sheet_of}
+use Rattle.ac_engines.specs.Filling.{Filling, HasSet, sheet_of}
 use Rattle.ac_engines.proofs.Owning.{next-row, numbered-below, own-more, own_bytes-starts, row-room}
 use Rattle.ac_engines.proofs.Setting.{set-none}
 use Rattle.ac_engines.proofs.dfa.fill.Filler.set_own.Goals as goal
