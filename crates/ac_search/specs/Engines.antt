@@ -6,28 +6,32 @@ use Rattle.ac_util.specs.Built.{Built}
 use Rattle.ac_automaton.specs.Iterators.{Walking}
 use Rattle.ac_automaton.specs.Overlaps.{Overlapping}
 use Rattle.ac_search.specs.declared.ahocorasick.choice.AhoCorasickKind.{AhoCorasickKind}
-use Rattle.ac_search.specs.declared.ahocorasick.choice.AhoCorasickKind.TheVariants.{NoncontiguousNFA}
+use Rattle.ac_search.specs.declared.ahocorasick.choice.AhoCorasickKind.TheVariants.{DFA, NoncontiguousNFA}
 use Rattle.ac_search.specs.declared.ahocorasick.engine.Engine.{Engine}
-use Rattle.ac_search.specs.declared.ahocorasick.engine.Engine.TheVariants.{Noncontiguous}
+use Rattle.ac_search.specs.declared.ahocorasick.engine.Engine.TheVariants.{Dfa, Noncontiguous}
 use Rattle.ac_search.specs.declared.ahocorasick.engine.EngineFindIter.{EngineFindIter}
-use Rattle.ac_search.specs.declared.ahocorasick.engine.EngineFindIter.TheVariants.{Noncontiguous as ByNoncontiguous}
+use Rattle.ac_search.specs.declared.ahocorasick.engine.EngineFindIter.TheVariants.{Dfa as ByDfa, Noncontiguous as ByNoncontiguous}
 use Rattle.ac_search.specs.declared.ahocorasick.engine.EngineFindOverlappingIter.{EngineFindOverlappingIter}
-use Rattle.ac_search.specs.declared.ahocorasick.engine.EngineFindOverlappingIter.TheVariants.{Noncontiguous as ListedByNoncontiguous}
+use Rattle.ac_search.specs.declared.ahocorasick.engine.EngineFindOverlappingIter.TheVariants.{Dfa as ListedByDfa, Noncontiguous as ListedByNoncontiguous}
 use Rattle.ac_search.specs.Searchers.{Searcher}
-use Rattle.ac_search.specs.States.{States, Noncontiguous as OfTrie}
+use Rattle.ac_search.specs.States.{States, Dfa as OfTable, Noncontiguous as OfTrie}
 
 -- what an engine was built from, whether to have a prefilter, its name and its states
 abbrev pub built_of : {Z : Type 0} → Engine Z → Built
 built_of (Noncontiguous nfa) = nfa.value.built
+built_of (Dfa dfa) = dfa.value.built
 
 abbrev pub filters_of : {Z : Type 0} → Engine Z → Bool
 filters_of (Noncontiguous nfa) = false
+filters_of (Dfa dfa) = false
 
 abbrev pub name_of : {Z : Type 0} → Engine Z → AhoCorasickKind
 name_of (Noncontiguous nfa) = NoncontiguousNFA
+name_of (Dfa dfa) = DFA
 
 abbrev pub states_of : {Z : Type 0} → Engine Z → States
 states_of (Noncontiguous nfa) = OfTrie nfa.value
+states_of (Dfa dfa) = OfTable dfa.value
 
 -- an engine with the start kind of its searcher
 abbrev pub searcher_of : {Z : Type 0} → Engine Z → StartKind → Searcher
@@ -45,6 +49,8 @@ Supports engine start_kind =
 
 abbrev pub walking_in : {Z : Type 0} → EngineFindIter Z → Walking
 walking_in (ByNoncontiguous matches) = matches
+walking_in (ByDfa matches) = matches
 
 abbrev pub listing_in : {Z : Type 0} → EngineFindOverlappingIter Z → Overlapping
 listing_in (ListedByNoncontiguous items) = items
+listing_in (ListedByDfa items) = items

@@ -1,5 +1,6 @@
 -- What is seen of a searcher and of its engine; then the definitions of the crates below that contracts of this
--- crate cite, so that a user need not list those crates. Each keeps its name: `Built` here is `Built` of ac_util.
+-- crate cite, so that a user need not list those crates. Each keeps its name, as `Built` here is `Built` of ac_util; but
+-- where two crates have a `Builds`, that of tables is `TableBuilds` here.
 pub mod Engines
 pub mod Places
 pub mod Searchers
@@ -44,5 +45,10 @@ pub use Rattle.ac_util.specs.Counts
 pub use Rattle.ac_util.specs.Prefilters
 pub use Rattle.ac_automaton.specs.Automata
 pub use Rattle.ac_automaton.specs.Tries
+-- tables: their classes, rows and builds
+pub use Rattle.ac_util.specs.Classes
+pub use Rattle.ac_engines.specs.Rows
+pub use Rattle.ac_engines.specs.Layouts
+pub use Rattle.ac_engines.specs.Builds as TableBuilds
 -- readers and writers
 pub use Rattle.ac_util.specs.Device

@@ -1,14 +1,19 @@
 -- What is seen of a searcher: what it was built from, whether to have a prefilter, and the name and the states of
 -- its engine. No answer of a search hangs on the last three; an overlapping state is one for these states alone.
-use Rattle.std.specs.Prelude.{◌≡◌, ℕ, Bool, false, List, Option, None, unwrap_or}
+use Rattle.std.specs.Prelude.{◌≡◌, ℕ, nat_le, Bool, false, true, List, length, map, Option, None, Some, MatchOption}
+use Rattle.ac_util.specs.declared.error.BuildError.{BuildError}
 use Rattle.ac_util.specs.declared.search.MatchKind.{MatchKind}
 use Rattle.ac_util.specs.declared.search.MatchKind.TheVariants.{Standard}
 use Rattle.ac_util.specs.declared.search.StartKind.{StartKind}
-use Rattle.ac_util.specs.declared.search.StartKind.TheVariants.{Unanchored}
+use Rattle.ac_util.specs.declared.search.StartKind.TheVariants.{Anchored, Both, Unanchored}
 use Rattle.ac_util.specs.Built.{Built}
-use Rattle.ac_automaton.specs.Builds.{EngineRules, IsAllowed, noncontiguous_rules, EngineSettings}
+use Rattle.ac_util.specs.Limits.{limit_refusal}
+use Rattle.ac_util.specs.Sameness.{plain}
+use Rattle.ac_automaton.specs.Builds.{EngineSettings, IsRefused, too_many_states}
+use Rattle.ac_engines.specs.Builds.{refusal_or, table_refusal_from}
 use Rattle.ac_search.specs.declared.ahocorasick.choice.AhoCorasickKind.{AhoCorasickKind}
-use Rattle.ac_search.specs.declared.ahocorasick.choice.AhoCorasickKind.TheVariants.{NoncontiguousNFA}
+use Rattle.ac_search.specs.declared.ahocorasick.choice.AhoCorasickKind.TheVariants.{DFA, NoncontiguousNFA}
+use Rattle.ac_search.specs.declared.ahocorasick.choice.TheConstants.{MOST_FOR_TABLE}
 use Rattle.ac_search.specs.States.{States}
 
 pub record Searcher : Type 0 where
@@ -23,25 +28,18 @@ pub record Settings : Type 0 where
   pub start_kind : StartKind
   pub fold : Bool
   pub kind : Option AhoCorasickKind
+  pub byte_classes : Bool
 
 abbrev pub usual_settings : Settings
-usual_settings = record { match_kind = Standard; start_kind = Unanchored; fold = false; kind = None }
+usual_settings = record {
+  match_kind = Standard;
+  start_kind = Unanchored;
+  fold = false;
+  kind = None;
+  byte_classes = true;
+}
 
--- the engine that was named, or the one that there is
-abbrev pub chosen : Option AhoCorasickKind → AhoCorasickKind
-chosen kind = unwrap_or kind NoncontiguousNFA
-
--- how many looks at states an engine may take for each byte that it reads
-abbrev pub looks_allowed : AhoCorasickKind → ℕ
-looks_allowed NoncontiguousNFA = 2
-
--- what the engine brings to a build, and the settings that it is built by
-abbrev pub rules_of : AhoCorasickKind → EngineRules
-rules_of NoncontiguousNFA = noncontiguous_rules
-
-abbrev pub rules_for : Settings → EngineRules
-rules_for settings = rules_of (chosen settings.kind)
-
+-- what its automaton is built by
 abbrev pub engine_settings : Settings → EngineSettings
 engine_settings settings = record { kind = settings.match_kind; fold = settings.fold }
 
@@ -54,10 +52,58 @@ built_by settings patterns = record {
   start_kind = settings.start_kind;
 }
 
+-- the refusal of patterns that have more nodes than there are state numbers, or None
+abbrev pub node_refusal : Settings → List (List ℕ) → Option BuildError
+node_refusal settings patterns = too_many_states settings.match_kind (map (plain settings.fold) patterns)
+
+-- the refusal of a table over these patterns that is too large, or None
+abbrev pub size_refusal : Settings → List (List ℕ) → Option BuildError
+size_refusal settings patterns =
+    table_refusal_from settings.start_kind settings.byte_classes (built_by settings patterns)
+
+-- whether there are so few patterns, and one start, that a table is worth its size
+abbrev pub suits_table : StartKind → ℕ → Bool
+suits_table Both count = false
+suits_table Unanchored count = nat_le count MOST_FOR_TABLE
+suits_table Anchored count = nat_le count MOST_FOR_TABLE
+
+-- the engine that was named, or else a table where it suits and fits, and the automaton with failure links where not
+abbrev pub kind_for : Option AhoCorasickKind → Bool → Option BuildError → AhoCorasickKind
+kind_for (Some kind) suits refusal = kind
+kind_for None true None = DFA
+kind_for None suits refusal = NoncontiguousNFA
+
+abbrev pub chosen : Settings → List (List ℕ) → AhoCorasickKind
+chosen settings patterns =
+    kind_for settings.kind (suits_table settings.start_kind (length patterns)) (size_refusal settings patterns)
+
+-- how many looks at states an engine may take for each byte that it reads
+abbrev pub looks_allowed : AhoCorasickKind → ℕ
+looks_allowed NoncontiguousNFA = 2
+looks_allowed DFA = 1
+
+-- why an engine can't be built within the limits of the list, if it can't, but for want of memory
+abbrev pub refusal_of : AhoCorasickKind → Settings → List (List ℕ) → Option BuildError
+refusal_of NoncontiguousNFA settings patterns = node_refusal settings patterns
+refusal_of DFA settings patterns = refusal_or (node_refusal settings patterns) (size_refusal settings patterns)
+
+abbrev pub engine_refusal : Settings → List (List ℕ) → Option BuildError
+engine_refusal settings patterns = refusal_of (chosen settings patterns) settings patterns
+
+-- no limit refuses a searcher by these settings: neither the patterns' count, nor a length, nor its engine's size
+pub record IsBuildable (settings : Settings) (patterns : List (List ℕ)) : Type 0 where
+  pub within : limit_refusal patterns ≡ None
+  pub fits : engine_refusal settings patterns ≡ None
+
+-- why a searcher by these settings is refused: a limit of the list is told first, whether there is memory or not
+abbrev pub RefusesSearcher : Settings → List (List ℕ) → BuildError → Type 0
+RefusesSearcher settings patterns e =
+    MatchOption (limit_refusal patterns) (IsRefused (engine_refusal settings patterns) e) (λ refusal. e ≡ refusal)
+
 -- a build by these settings has succeeded: the searcher is over these patterns, and no limit refused it. No engine
 -- has a prefilter yet
 pub record IsBuilt (settings : Settings) (patterns : List (List ℕ)) (searcher : Searcher) : Type 0 where
   pub built : searcher.built ≡ built_by settings patterns
   pub filters : searcher.filters ≡ false
-  pub kind : searcher.kind ≡ chosen settings.kind
-  pub allowed : IsAllowed (rules_for settings) (engine_settings settings) patterns
+  pub kind : searcher.kind ≡ chosen settings patterns
+  pub allowed : IsBuildable settings patterns

@@ -9,12 +9,11 @@ ghost use Rattle.ac_util.specs.Occurrence.{Occurrence};
 ghost use Rattle.ac_util.specs.Refusal.{AnswersUnless, start_refusal};
 ghost use Rattle.ac_util.specs.Search.{Occurs};
 ghost use Rattle.ac_util.specs.Sizes.{longest_len, shortest_len};
-ghost use Rattle.ac_automaton.specs.Builds.{Refuses};
 ghost use Rattle.ac_automaton.specs.Iterators.{GoesOn, begun};
 ghost use Rattle.ac_automaton.specs.Overlaps.{ListsNext, listing_begun};
 ghost use Rattle.ac_search.specs.Engines.{Supports, searcher_of};
 ghost use Rattle.ac_search.specs.Places.{GivesItem, HasPlace, place_in};
-ghost use Rattle.ac_search.specs.Searchers.{IsBuilt, engine_settings, looks_allowed, rules_for, usual_settings};
+ghost use Rattle.ac_search.specs.Searchers.{IsBuilt, RefusesSearcher, looks_allowed, usual_settings};
 
 use ac_automaton::automaton::OverlappingState;
 use ac_util::error::{BuildError, MatchError};
@@ -73,14 +72,14 @@ impl<A: Allocator> Clone for AhoCorasick<A> {
 
 impl<A: Allocator + Clone> AhoCorasick<A> {
     /// Builds a searcher with the usual settings: `MatchKind::Standard`, unanchored searches alone, case
-    /// counts.
+    /// counts, and the engine is chosen.
     ///
     /// # Errors
     /// As `AhoCorasickBuilder::build`.
     pub fn new(alloc: A, patterns: &[&[u8]]) -> Result<AhoCorasick<A>, BuildError>
         ensures { MatchResult result
             (IsBuilt usual_settings (bytes_of patterns.now))
-            (Refuses (rules_for usual_settings) (engine_settings usual_settings) (bytes_of patterns.now)) }
+            (RefusesSearcher usual_settings (bytes_of patterns.now)) }
     {
         AhoCorasickBuilder::new().build(alloc, patterns)
     }

@@ -23,6 +23,8 @@ pub mod laws;
 
 pub use ac_automaton::automaton::{Automaton, MatchRest, OverlappingState, find_core};
 pub use ac_automaton::{automaton, nfa};
+pub use ac_engines::dfa;
+pub use ac_util::alphabet::ByteClasses;
 pub use ac_util::device::{Bytes, FromRead, IntoWrite, Sink, Source, Written};
 pub use ac_util::error::{BuildError, MatchError, ReplaceError};
 pub use ac_util::looks::{Looks, Tape, open};

@@ -7,8 +7,7 @@ use Rattle.ac_util.specs.Borrowed.{bytes_of}
 use Rattle.ac_util.specs.Built.{Built, exchanged}
 use Rattle.ac_util.specs.Device.{Reading, Writing}
 use Rattle.ac_util.specs.Replaced.{replaced}
-use Rattle.ac_automaton.specs.Builds.{IsAllowed}
-use Rattle.ac_search.specs.Searchers.{Searcher, IsBuilt, built_by, engine_settings, rules_for}
+use Rattle.ac_search.specs.Searchers.{Searcher, IsBuildable, IsBuilt, built_by}
 use Rattle.acs.specs.declared.fault.Fault.{Fault}
 use Rattle.acs.specs.declared.request.Mode.{Mode}
 use Rattle.acs.specs.declared.request.Mode.TheVariants.{Replace}
@@ -17,7 +16,7 @@ use Rattle.acs.specs.declared.run.Outcome.{Outcome}
 use Rattle.acs.specs.declared.run.Outcome.TheVariants.{Found}
 use Rattle.acs.specs.Lines.{output_of}
 use Rattle.acs.specs.Requests.{patterns_in, request_refusal, seconds, settings_of, texts_in}
-use Rattle.acs.specs.Runs.{FailsToWrite, HasFailed, HasRun, IsBuildable, ReadsAll, WritesAll, answer}
+use Rattle.acs.specs.Runs.{FailsToWrite, HasFailed, HasRun, IsServable, ReadsAll, WritesAll, answer}
 use Rattle.acs.proofs.Pairs.{length-seconds}
 
 -- the patterns and the texts of a request that replaces are gathered, and the searcher is built over the patterns
@@ -40,10 +39,9 @@ module _ {request : Request} {words : List (List ℕ)} {patterns texts : List (B
       ∙ ap (λ (b : Built). length b.patterns) (sym h.built.built)
 
   -- no limit refused the searcher
-  buildable : IsBuildable request words
+  buildable : IsServable request words
   buildable =
-      subst (λ (ps : List (List ℕ)). IsAllowed (rules_for (settings_of request))
-      (engine_settings (settings_of request)) ps) h.patterns_are h.built.allowed
+      subst (λ (ps : List (List ℕ)). IsBuildable (settings_of request) ps) h.patterns_are h.built.allowed
 
   module _ (haystack whole : List ℕ)
       (is : whole ≡ replaced haystack (bytes_of texts) (exchanged searcher.built haystack)) where

@@ -2,8 +2,7 @@
 use Rattle.std.specs.Prelude.{◌≡◌, ℕ, List, codes}
 use Rattle.ac_util.specs.declared.error.BuildError.{BuildError}
 use Rattle.ac_util.specs.declared.error.BuildError.TheVariants.{Memory as NoMemory, PatternIdOverflow, PatternTooLong as TooLongPattern, StateIdOverflow}
-use Rattle.ac_automaton.specs.Builds.{Refuses}
-use Rattle.ac_search.specs.Searchers.{Settings, engine_settings, rules_for}
+use Rattle.ac_search.specs.Searchers.{RefusesSearcher, Settings}
 use Rattle.acs.specs.declared.fault.Fault.{Fault}
 use Rattle.acs.specs.declared.fault.Fault.TheVariants.{Usage, Memory, TooManyPatterns, PatternTooLong, TooManyStates, OverlappingKind, Io, WriteZero}
 
@@ -28,4 +27,4 @@ fault_of (StateIdOverflow max requested) = TooManyStates
 -- the fault of a build over these patterns that was refused: a limit of the list is told before want of memory
 abbrev pub IsRefusal : Settings → List (List ℕ) → Fault → Type 0
 IsRefusal settings patterns fault =
-    (e : BuildError) × (fault ≡ fault_of e) × Refuses (rules_for settings) (engine_settings settings) patterns e
+    (e : BuildError) × (fault ≡ fault_of e) × RefusesSearcher settings patterns e

@@ -4,7 +4,7 @@ use Rattle.ac_util.specs.declared.search.MatchKind.{MatchKind}
 use Rattle.ac_util.specs.declared.search.MatchKind.TheVariants.{Standard, LeftmostFirst, LeftmostLongest}
 use Rattle.ac_util.specs.declared.search.StartKind.TheVariants.{Unanchored}
 use Rattle.ac_search.specs.declared.ahocorasick.choice.AhoCorasickKind.{AhoCorasickKind}
-use Rattle.ac_search.specs.declared.ahocorasick.choice.AhoCorasickKind.TheVariants.{NoncontiguousNFA}
+use Rattle.ac_search.specs.declared.ahocorasick.choice.AhoCorasickKind.TheVariants.{DFA, NoncontiguousNFA}
 use Rattle.ac_search.specs.Searchers.{Settings}
 use Rattle.acs.specs.declared.fault.Fault.{Fault}
 use Rattle.acs.specs.declared.fault.Fault.TheVariants.{OverlappingKind}
@@ -29,7 +29,10 @@ kind_of word =
     else None
 
 abbrev pub engine_of : List ℕ → Option AhoCorasickKind
-engine_of word = if bytes_eq word (codes "noncontiguous") then Some NoncontiguousNFA else None
+engine_of word =
+    if bytes_eq word (codes "noncontiguous") then Some NoncontiguousNFA
+    else if bytes_eq word (codes "dfa") then Some DFA
+    else None
 
 -- whether a mode allows so many words behind these three: for `replace` they stand in pairs
 abbrev pub allows_count : Mode → ℕ → Bool
@@ -87,4 +90,5 @@ settings_of request = record {
   start_kind = Unanchored;
   fold = false;
   kind = Some request.engine;
+  byte_classes = true;
 }

@@ -3,8 +3,7 @@ use Rattle.std.specs.Prelude.{◌≡◌, ◌⊎◌, ℕ, ◌+◌, ◌<◌, Bool,
 use Rattle.std.specs.Io.{StartsWith}
 use Rattle.std.specs.Io.KnownBytes.{Appends, Consumes, IsAtEnd}
 use Rattle.ac_util.specs.Device.{Reading, Writing}
-use Rattle.ac_automaton.specs.Builds.{IsAllowed}
-use Rattle.ac_search.specs.Searchers.{built_by, engine_settings, rules_for}
+use Rattle.ac_search.specs.Searchers.{IsBuildable, built_by}
 use Rattle.acs.specs.declared.fault.Fault.{Fault}
 use Rattle.acs.specs.declared.fault.Fault.TheVariants.{Io, Memory, WriteZero}
 use Rattle.acs.specs.declared.request.Mode.{Mode}
@@ -62,10 +61,8 @@ FailsToAnswer Replace old new bytes fault = FailsToWrite old new bytes fault ⊎
 FailsToAnswer mode old new bytes fault = FailsToPrint old new bytes fault
 
 -- no limit refuses the searcher for a request with these words
-abbrev pub IsBuildable : Request → List (List ℕ) → Type 0
-IsBuildable request words =
-    IsAllowed (rules_for (settings_of request)) (engine_settings (settings_of request))
-    (patterns_in request.mode words)
+abbrev pub IsServable : Request → List (List ℕ) → Type 0
+IsServable request words = IsBuildable (settings_of request) (patterns_in request.mode words)
 
 -- what a request with these words writes for a haystack, and how the run ends then
 abbrev pub answer : Request → List (List ℕ) → List ℕ → Output
@@ -79,7 +76,7 @@ module _ (ends : Bool) (request : Request) (words : List (List ℕ)) (reader new
   -- no limit refused the searcher, nor was the request refused; the run has written what is asked for over all
   -- that the reader gave, and ends as that does
   pub record HasRun (outcome : Outcome) : Type 0 where
-    pub allowed : IsBuildable request words
+    pub allowed : IsServable request words
     pub served : request_refusal request ≡ None
     pub haystack : List ℕ
     pub reads : ReadsAll ends reader new_reader haystack
@@ -91,7 +88,7 @@ module _ (ends : Bool) (request : Request) (words : List (List ℕ)) (reader new
   abbrev pub FailsAtFirst : Fault → Type 0
   FailsAtFirst fault =
       (IsRefusal (settings_of request) (patterns_in request.mode words) fault
-      ⊎ (IsBuildable request words
+      ⊎ (IsServable request words
       × (request_refusal request ≡ Some fault)))
       × (new_reader ≡ reader)
       × (new_writer ≡ writer)
@@ -100,7 +97,7 @@ module _ (ends : Bool) (request : Request) (words : List (List ℕ)) (reader new
   -- nothing written
   abbrev pub FailsReading : Fault → Type 0
   FailsReading fault =
-      IsBuildable request words
+      IsServable request words
       × (request_refusal request ≡ None)
       × FailsToRead reader new_reader fault
       × (new_writer ≡ writer)
@@ -108,7 +105,7 @@ module _ (ends : Bool) (request : Request) (words : List (List ℕ)) (reader new
   -- no limit refused the searcher, nor was the request refused; while the run wrote what is asked for over all that
   -- the reader gave it has ended with a fault
   pub record FailsPrinting (fault : Fault) : Type 0 where
-    pub allowed : IsBuildable request words
+    pub allowed : IsServable request words
     pub served : request_refusal request ≡ None
     pub haystack : List ℕ
     pub reads : ReadsAll ends reader new_reader haystack

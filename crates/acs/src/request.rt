@@ -77,6 +77,7 @@ fn engine_of(word: &str) -> Option<AhoCorasickKind>
 {
     match word {
         "noncontiguous" => Some(AhoCorasickKind::NoncontiguousNFA),
+        "dfa" => Some(AhoCorasickKind::DFA),
         _ => None,
     }
 }

@@ -1,13 +1,19 @@
 //! The settings of a searcher, and its build.
-ghost use Rattle.std.specs.Prelude.{◌≡◌, MatchResult};
+ghost use Rattle.std.specs.Prelude.{◌≡◌, MatchOption, MatchResult, None, length, true};
+ghost use Rattle.ac_util.specs.declared.error.BuildError.TheVariants.{Memory};
 ghost use Rattle.ac_util.specs.Borrowed.{bytes_of};
-ghost use Rattle.ac_automaton.specs.Builds.{Refuses};
-ghost use Rattle.ac_search.specs.Searchers.{IsBuilt, engine_settings, rules_for, usual_settings};
+ghost use Rattle.ac_automaton.specs.Builds.{IsEngineBuilt, IsRefused, noncontiguous_rules};
+ghost use Rattle.ac_engines.specs.Builds.{IsBuiltFrom, table_refusal_from};
+ghost use Rattle.ac_search.specs.declared.ahocorasick.choice.AhoCorasickKind.TheVariants.{NoncontiguousNFA};
+ghost use Rattle.ac_search.specs.Engines.{Supports, searcher_of};
+ghost use Rattle.ac_search.specs.Searchers.{IsBuilt, RefusesSearcher, engine_refusal, engine_settings, kind_for, suits_table, usual_settings};
 
 use super::AhoCorasick;
-use super::choice::{AhoCorasickKind, chosen};
+use super::choice::{AhoCorasickKind, suits_table};
 use super::engine::Engine;
+use ac_automaton::automaton::Automaton;
 use ac_automaton::nfa::noncontiguous;
+use ac_engines::dfa;
 use ac_util::error::BuildError;
 use ac_util::search::{MatchKind, StartKind};
 use std::alloc::Allocator;
@@ -23,6 +29,7 @@ pub struct AhoCorasickBuilder {
     start_kind: StartKind,
     fold: bool,
     kind: Option<AhoCorasickKind>,
+    byte_classes: bool,
 }
 
 impl Model for AhoCorasickBuilder {
@@ -35,6 +42,7 @@ impl Model for AhoCorasickBuilder {
       start_kind = b.start_kind;
       fold = b.fold;
       kind = b.kind;
+      byte_classes = b.byte_classes;
     } };
 
     ghost inverse = { λ v. record {
@@ -42,6 +50,7 @@ impl Model for AhoCorasickBuilder {
       start_kind = v.start_kind;
       fold = v.fold;
       kind = v.kind;
+      byte_classes = v.byte_classes;
     } };
 }
 
@@ -55,7 +64,7 @@ impl Default for AhoCorasickBuilder {
 
 impl AhoCorasickBuilder {
     /// Returns a builder with the usual settings: `MatchKind::Standard`, unanchored searches alone, case
-    /// counts, and the engine is chosen.
+    /// counts, the engine is chosen, and bytes that need not be told apart share a class.
     pub fn new() -> AhoCorasickBuilder
         ensures { result ≡ usual_settings }
     {
@@ -64,6 +73,7 @@ impl AhoCorasickBuilder {
             start_kind: StartKind::Unanchored,
             fold: false,
             kind: None,
+            byte_classes: true,
         }
     }
 
@@ -110,12 +120,27 @@ impl AhoCorasickBuilder {
         self
     }
 
+    /// Sets whether bytes that need not be told apart share a class, so that a table takes less memory. They do unless
+    /// set.
+    ///
+    /// It changes no answer, and nothing of an engine without classes.
+    pub fn byte_classes(&mut self, yes: bool) -> &mut AhoCorasickBuilder
+        ensures value { result.now ≡ record self.old { byte_classes = yes } }
+        ensures same { result.ghost_name ≡ self.entry.ghost_name }
+    {
+        self.byte_classes = yes;
+        self
+    }
+
     /// Builds a searcher over a list of patterns. An empty list is fine: nothing is then found.
+    ///
+    /// Where no engine was named it takes a table for at most 100 patterns and one start, unless the table would be too
+    /// large, and else the automaton with failure links.
     ///
     /// # Errors
     /// `PatternIdOverflow` and `PatternTooLong` exactly where a limit is passed, whether there is memory or
-    /// not. Else `StateIdOverflow` only where the engine would need more states than there are numbers, and
-    /// `Memory` where a request for memory is refused.
+    /// not. Else `StateIdOverflow` only where the automaton with failure links would need more states than there are
+    /// numbers, or where a table was named that would be too large, and `Memory` where a request for memory is refused.
     pub fn build<A: Allocator + Clone>(
         &self,
         alloc: A,
@@ -123,16 +148,82 @@ impl AhoCorasickBuilder {
     ) -> Result<AhoCorasick<A>, BuildError>
         ensures { MatchResult result
             (IsBuilt self.now (bytes_of patterns.now))
-            (Refuses (rules_for self.now) (engine_settings self.now) (bytes_of patterns.now)) }
+            (RefusesSearcher self.now (bytes_of patterns.now)) }
     {
         let mut builder = noncontiguous::Builder::new();
         builder.match_kind(self.match_kind);
         builder.ascii_case_insensitive(self.fold);
         let nfa = builder.build(alloc, patterns)?;
-        let alloc = nfa.allocator().clone()?;
-        let engine = match chosen(self.kind) {
-            AhoCorasickKind::NoncontiguousNFA => Engine::Noncontiguous(Rc::new(alloc, nfa)?),
-        };
+        let engine = self.engine_over(nfa)?;
         Ok(AhoCorasick::new_by(engine, self.start_kind))
+    }
+
+    /// Returns the engine that was named or is chosen, from an automaton that was built by these settings.
+    fn engine_over<A: Allocator + Clone>(
+        &self,
+        nfa: noncontiguous::NFA<A>,
+    ) -> Result<Engine<A>, BuildError>
+        requires built { IsEngineBuilt noncontiguous_rules (engine_settings self.now) nfa.built.patterns nfa.built }
+        ensures { MatchResult result
+            (λ engine. Supports engine self.now.start_kind
+            × IsBuilt self.now nfa.built.patterns (searcher_of engine self.now.start_kind))
+            (IsRefused (engine_refusal self.now nfa.built.patterns)) }
+    {
+        let table = match self.kind {
+            Some(AhoCorasickKind::NoncontiguousNFA) => None,
+            Some(AhoCorasickKind::DFA) => Some(self.table_over(&nfa)?),
+            None => self.chosen_table(&nfa)?,
+        };
+        let alloc = nfa.allocator().clone()?;
+        match table {
+            Some(dfa) => Ok(Engine::Dfa(Rc::new(alloc, dfa)?)),
+            None => Ok(Engine::Noncontiguous(Rc::new(alloc, nfa)?)),
+        }
+    }
+
+    /// Returns a table where it suits and fits, and else None.
+    ///
+    /// # Errors
+    /// `Memory` where a request for memory is refused.
+    fn chosen_table<A: Allocator + Clone>(
+        &self,
+        nfa: &noncontiguous::NFA<A>,
+    ) -> Result<Option<dfa::DFA<A>>, BuildError>
+        ensures { MatchResult result
+            (λ table. MatchOption table
+            (kind_for None (suits_table self.now.start_kind (length nfa.now.built.patterns))
+            (table_refusal_from self.now.start_kind self.now.byte_classes nfa.now.built) ≡ NoncontiguousNFA)
+            (λ dfa. IsBuiltFrom self.now.start_kind self.now.byte_classes nfa.now.built dfa
+            × (suits_table self.now.start_kind (length nfa.now.built.patterns) ≡ true)
+            × (table_refusal_from self.now.start_kind self.now.byte_classes nfa.now.built ≡ None)))
+            (λ e. e ≡ Memory) }
+    {
+        if !suits_table(self.start_kind, nfa.patterns_len()) {
+            return Ok(None);
+        }
+        match self.table_over(nfa) {
+            Ok(dfa) => Ok(Some(dfa)),
+            Err(BuildError::StateIdOverflow { .. }) => Ok(None),
+            Err(e) => Err(e),
+        }
+    }
+
+    /// Returns a table with these starts and classes.
+    ///
+    /// # Errors
+    /// `StateIdOverflow` only where it would be too large, and `Memory` where a request for memory is refused.
+    fn table_over<A: Allocator + Clone>(
+        &self,
+        nfa: &noncontiguous::NFA<A>,
+    ) -> Result<dfa::DFA<A>, BuildError>
+        ensures { MatchResult result
+            (λ dfa. IsBuiltFrom self.now.start_kind self.now.byte_classes nfa.now.built dfa
+            × (table_refusal_from self.now.start_kind self.now.byte_classes nfa.now.built ≡ None))
+            (IsRefused (table_refusal_from self.now.start_kind self.now.byte_classes nfa.now.built)) }
+    {
+        let mut builder = dfa::Builder::new();
+        builder.start_kind(self.start_kind);
+        builder.byte_classes(self.byte_classes);
+        builder.build_from_noncontiguous(nfa.allocator().clone()?, nfa)
     }
 }

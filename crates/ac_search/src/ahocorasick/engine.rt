@@ -16,6 +16,7 @@ ghost use Rattle.ac_search.specs.States.{listed_in, stands_in};
 use super::choice::AhoCorasickKind;
 use ac_automaton::automaton::{self, Automaton, OverlappingState};
 use ac_automaton::nfa::noncontiguous;
+use ac_engines::dfa;
 use ac_util::error::{MatchError, ReplaceError};
 use ac_util::search::{Input, Match, MatchKind};
 use std::alloc::{AllocError, Allocator};
@@ -25,6 +26,7 @@ use std::rc::Rc;
 #[derive(Drop)]
 pub(super) enum Engine<A: Allocator> {
     Noncontiguous(Rc<noncontiguous::NFA<A>, A>),
+    Dfa(Rc<dfa::DFA<A>, A>),
 }
 
 impl<A: Allocator> Engine<A> {
@@ -40,6 +42,7 @@ impl<A: Allocator> Engine<A> {
     {
         match self {
             Engine::Noncontiguous(nfa) => Ok(Engine::Noncontiguous(nfa.clone()?)),
+            Engine::Dfa(dfa) => Ok(Engine::Dfa(dfa.clone()?)),
         }
     }
 
@@ -49,6 +52,7 @@ impl<A: Allocator> Engine<A> {
     {
         match self {
             Engine::Noncontiguous(_) => AhoCorasickKind::NoncontiguousNFA,
+            Engine::Dfa(_) => AhoCorasickKind::DFA,
         }
     }
 
@@ -60,6 +64,7 @@ impl<A: Allocator> Engine<A> {
     {
         match self {
             Engine::Noncontiguous(nfa) => nfa.as_ref().try_find(input),
+            Engine::Dfa(dfa) => dfa.as_ref().try_find(input),
         }
     }
 
@@ -79,6 +84,10 @@ impl<A: Allocator> Engine<A> {
             Engine::Noncontiguous(nfa) => {
                 let matches = nfa.as_ref().try_find_iter(input)?;
                 Ok(EngineFindIter::Noncontiguous(matches))
+            }
+            Engine::Dfa(dfa) => {
+                let matches = dfa.as_ref().try_find_iter(input)?;
+                Ok(EngineFindIter::Dfa(matches))
             }
         }
     }
@@ -103,6 +112,7 @@ impl<A: Allocator> Engine<A> {
     {
         match self {
             Engine::Noncontiguous(nfa) => nfa.as_ref().try_find_overlapping(input, state),
+            Engine::Dfa(dfa) => dfa.as_ref().try_find_overlapping(input, state),
         }
     }
 
@@ -123,6 +133,10 @@ impl<A: Allocator> Engine<A> {
                 let items = nfa.as_ref().try_find_overlapping_iter(input)?;
                 Ok(EngineFindOverlappingIter::Noncontiguous(items))
             }
+            Engine::Dfa(dfa) => {
+                let items = dfa.as_ref().try_find_overlapping_iter(input)?;
+                Ok(EngineFindOverlappingIter::Dfa(items))
+            }
         }
     }
 
@@ -141,6 +155,7 @@ impl<A: Allocator> Engine<A> {
     {
         match self {
             Engine::Noncontiguous(nfa) => nfa.as_ref().try_replace_all(alloc, haystack, texts),
+            Engine::Dfa(dfa) => dfa.as_ref().try_replace_all(alloc, haystack, texts),
         }
     }
 
@@ -160,6 +175,7 @@ impl<A: Allocator> Engine<A> {
             Engine::Noncontiguous(nfa) => nfa
                 .as_ref()
                 .try_replace_all_bytes(alloc, haystack, texts),
+            Engine::Dfa(dfa) => dfa.as_ref().try_replace_all_bytes(alloc, haystack, texts),
         }
     }
 
@@ -180,6 +196,9 @@ impl<A: Allocator> Engine<A> {
     {
         match self {
             Engine::Noncontiguous(nfa) => nfa
+                .as_ref()
+                .try_replace_all_with(haystack, destination, exchange),
+            Engine::Dfa(dfa) => dfa
                 .as_ref()
                 .try_replace_all_with(haystack, destination, exchange),
         }
@@ -204,6 +223,9 @@ impl<A: Allocator> Engine<A> {
             Engine::Noncontiguous(nfa) => nfa
                 .as_ref()
                 .try_replace_all_with_bytes(haystack, destination, exchange),
+            Engine::Dfa(dfa) => dfa
+                .as_ref()
+                .try_replace_all_with_bytes(haystack, destination, exchange),
         }
     }
 
@@ -213,6 +235,7 @@ impl<A: Allocator> Engine<A> {
     {
         match self {
             Engine::Noncontiguous(nfa) => nfa.as_ref().match_kind(),
+            Engine::Dfa(dfa) => dfa.as_ref().match_kind(),
         }
     }
 
@@ -222,6 +245,7 @@ impl<A: Allocator> Engine<A> {
     {
         match self {
             Engine::Noncontiguous(nfa) => nfa.as_ref().min_pattern_len(),
+            Engine::Dfa(dfa) => dfa.as_ref().min_pattern_len(),
         }
     }
 
@@ -231,6 +255,7 @@ impl<A: Allocator> Engine<A> {
     {
         match self {
             Engine::Noncontiguous(nfa) => nfa.as_ref().max_pattern_len(),
+            Engine::Dfa(dfa) => dfa.as_ref().max_pattern_len(),
         }
     }
 
@@ -240,6 +265,7 @@ impl<A: Allocator> Engine<A> {
     {
         match self {
             Engine::Noncontiguous(nfa) => nfa.as_ref().patterns_len(),
+            Engine::Dfa(dfa) => dfa.as_ref().patterns_len(),
         }
     }
 
@@ -247,6 +273,7 @@ impl<A: Allocator> Engine<A> {
     pub(super) fn memory_usage(&self) -> usize {
         match self {
             Engine::Noncontiguous(nfa) => nfa.as_ref().memory_usage(),
+            Engine::Dfa(dfa) => dfa.as_ref().memory_usage(),
         }
     }
 }
@@ -255,6 +282,7 @@ impl<A: Allocator> Engine<A> {
 #[derive(Drop)]
 pub(super) enum EngineFindIter<'a, 'h, A: Allocator> {
     Noncontiguous(automaton::FindIter<'a, 'h, noncontiguous::NFA<A>>),
+    Dfa(automaton::FindIter<'a, 'h, dfa::DFA<A>>),
 }
 
 impl<'a, 'h, A: Allocator> EngineFindIter<'a, 'h, A> {
@@ -265,6 +293,7 @@ impl<'a, 'h, A: Allocator> EngineFindIter<'a, 'h, A> {
     {
         match self {
             EngineFindIter::Noncontiguous(matches) => matches.next(),
+            EngineFindIter::Dfa(matches) => matches.next(),
         }
     }
 }
@@ -273,6 +302,7 @@ impl<'a, 'h, A: Allocator> EngineFindIter<'a, 'h, A> {
 #[derive(Drop)]
 pub(super) enum EngineFindOverlappingIter<'a, 'h, A: Allocator> {
     Noncontiguous(automaton::FindOverlappingIter<'a, 'h, noncontiguous::NFA<A>>),
+    Dfa(automaton::FindOverlappingIter<'a, 'h, dfa::DFA<A>>),
 }
 
 impl<'a, 'h, A: Allocator> EngineFindOverlappingIter<'a, 'h, A> {
@@ -283,6 +313,7 @@ impl<'a, 'h, A: Allocator> EngineFindOverlappingIter<'a, 'h, A> {
     {
         match self {
             EngineFindOverlappingIter::Noncontiguous(items) => items.next(),
+            EngineFindOverlappingIter::Dfa(items) => items.next(),
         }
     }
 }
