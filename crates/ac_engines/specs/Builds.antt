@@ -13,7 +13,7 @@ use Rattle.ac_util.specs.Limits.{limit_refusal}
 use Rattle.ac_util.specs.Sameness.{plain}
 use Rattle.ac_util.specs.Sizes.{state_count}
 use Rattle.ac_automaton.specs.Automata.{plain_of}
-use Rattle.ac_automaton.specs.Builds.{IsRefused, engine_built_by, noncontiguous_rules, too_many_states}
+use Rattle.ac_automaton.specs.Builds.{IsRefused, engine_built_by, too_many_states}
 use Rattle.ac_engines.specs.Layouts.{table_rows}
 use Rattle.ac_engines.specs.Rows.{Table}
 
@@ -52,7 +52,7 @@ refusal_or (Some e) later = Some e
 -- the automaton from which these settings build a table
 abbrev pub trie_by : Settings → List (List ℕ) → Built
 trie_by settings patterns =
-    engine_built_by noncontiguous_rules (record { kind = settings.kind; fold = settings.fold }) patterns
+    engine_built_by (record { kind = settings.kind; fold = settings.fold }) patterns
 
 -- why a build by these settings is refused within the limits of the list, if it is, but for want of memory: the
 -- numbers of the automaton's states are tested before those of the table's

@@ -1,6 +1,6 @@
 -- What is seen of a searcher: what it was built from, whether to have a prefilter, and the name and the states of
 -- its engine. No answer of a search hangs on the last three; an overlapping state is one for these states alone.
-use Rattle.std.specs.Prelude.{◌≡◌, ℕ, nat_le, Bool, false, true, List, length, map, Option, None, Some, MatchOption}
+use Rattle.std.specs.Prelude.{◌≡◌, ℕ, nat_le, Bool, false, true, List, length, Option, None, Some, MatchOption}
 use Rattle.ac_util.specs.declared.error.BuildError.{BuildError}
 use Rattle.ac_util.specs.declared.search.MatchKind.{MatchKind}
 use Rattle.ac_util.specs.declared.search.MatchKind.TheVariants.{Standard}
@@ -8,8 +8,7 @@ use Rattle.ac_util.specs.declared.search.StartKind.{StartKind}
 use Rattle.ac_util.specs.declared.search.StartKind.TheVariants.{Anchored, Both, Unanchored}
 use Rattle.ac_util.specs.Built.{Built}
 use Rattle.ac_util.specs.Limits.{limit_refusal}
-use Rattle.ac_util.specs.Sameness.{plain}
-use Rattle.ac_automaton.specs.Builds.{EngineSettings, IsRefused, too_many_states}
+use Rattle.ac_automaton.specs.Builds.{EngineSettings, IsRefused, state_refusal}
 use Rattle.ac_engines.specs.Builds.{refusal_or, table_refusal_from}
 use Rattle.ac_search.specs.declared.ahocorasick.choice.AhoCorasickKind.{AhoCorasickKind}
 use Rattle.ac_search.specs.declared.ahocorasick.choice.AhoCorasickKind.TheVariants.{DFA, NoncontiguousNFA}
@@ -52,10 +51,6 @@ built_by settings patterns = record {
   start_kind = settings.start_kind;
 }
 
--- the refusal of patterns that have more nodes than there are state numbers, or None
-abbrev pub node_refusal : Settings → List (List ℕ) → Option BuildError
-node_refusal settings patterns = too_many_states settings.match_kind (map (plain settings.fold) patterns)
-
 -- the refusal of a table over these patterns that is too large, or None
 abbrev pub size_refusal : Settings → List (List ℕ) → Option BuildError
 size_refusal settings patterns =
@@ -84,8 +79,9 @@ looks_allowed DFA = 1
 
 -- why an engine can't be built within the limits of the list, if it can't, but for want of memory
 abbrev pub refusal_of : AhoCorasickKind → Settings → List (List ℕ) → Option BuildError
-refusal_of NoncontiguousNFA settings patterns = node_refusal settings patterns
-refusal_of DFA settings patterns = refusal_or (node_refusal settings patterns) (size_refusal settings patterns)
+refusal_of NoncontiguousNFA settings patterns = state_refusal (engine_settings settings) patterns
+refusal_of DFA settings patterns =
+    refusal_or (state_refusal (engine_settings settings) patterns) (size_refusal settings patterns)
 
 abbrev pub engine_refusal : Settings → List (List ℕ) → Option BuildError
 engine_refusal settings patterns = refusal_of (chosen settings patterns) settings patterns

@@ -13,6 +13,7 @@ use crate::{
 use std::alloc::{AllocError, Global};
 use std::test::Fail;
 
+mod engines;
 mod replace;
 
 /// A pattern number, a start and an end.
@@ -280,7 +281,7 @@ fn matches_of_texts_cut_no_character(rt: HostRuntime) -> Result<(), Fail> {
 #[test]
 fn a_new_searcher_tells_its_settings(rt: HostRuntime) -> Result<(), Fail> {
     let searcher = AhoCorasick::new(rt.alloc(), &[b"he", b"she", b"hers"])?;
-    assert_eq!(rt; searcher.kind(), AhoCorasickKind::NoncontiguousNFA);
+    assert_eq!(rt; searcher.kind(), AhoCorasickKind::DFA);
     assert_eq!(rt; searcher.start_kind(), StartKind::Unanchored);
     assert_eq!(rt; searcher.match_kind(), Standard);
     assert_eq!(rt; searcher.min_pattern_len(), 2);

@@ -4,7 +4,7 @@ ghost use Rattle.std.proofs.Common.{inr, refl};
 ghost use Rattle.ac_util.specs.Borrowed.{bytes_of};
 ghost use Rattle.ac_util.specs.Node.{Node};
 ghost use Rattle.ac_util.specs.Sizes.{longest_len, shortest_len};
-ghost use Rattle.ac_automaton.specs.Builds.{IsEngineBuilt, Refuses, noncontiguous_rules, usual_engine_settings};
+ghost use Rattle.ac_automaton.specs.Builds.{IsEngineBuilt, Refuses, usual_engine_settings};
 ghost use Rattle.ac_automaton.specs.Tries.{IsTable, StandsFor, listed_within, stands-lists};
 ghost use Rattle.ac_automaton.specs.declared.nfa.noncontiguous.state.State.{State};
 
@@ -73,8 +73,8 @@ impl<A: Allocator + Clone> NFA<A> {
     /// As `Builder::build`.
     pub fn new(alloc: A, patterns: &[&[u8]]) -> Result<NFA<A>, BuildError>
         ensures { MatchResult result
-            (λ nfa. IsEngineBuilt noncontiguous_rules usual_engine_settings (bytes_of patterns.now) nfa.built)
-            (Refuses noncontiguous_rules usual_engine_settings (bytes_of patterns.now)) }
+            (λ nfa. IsEngineBuilt usual_engine_settings (bytes_of patterns.now) nfa.built)
+            (Refuses usual_engine_settings (bytes_of patterns.now)) }
     {
         Builder::new().build(alloc, patterns)
     }

@@ -2,7 +2,7 @@
 ghost use Rattle.std.specs.Prelude.{◌≡◌, MatchOption, MatchResult, None, length, true};
 ghost use Rattle.ac_util.specs.declared.error.BuildError.TheVariants.{Memory};
 ghost use Rattle.ac_util.specs.Borrowed.{bytes_of};
-ghost use Rattle.ac_automaton.specs.Builds.{IsEngineBuilt, IsRefused, noncontiguous_rules};
+ghost use Rattle.ac_automaton.specs.Builds.{IsEngineBuilt, IsRefused};
 ghost use Rattle.ac_engines.specs.Builds.{IsBuiltFrom, table_refusal_from};
 ghost use Rattle.ac_search.specs.declared.ahocorasick.choice.AhoCorasickKind.TheVariants.{NoncontiguousNFA};
 ghost use Rattle.ac_search.specs.Engines.{Supports, searcher_of};
@@ -163,7 +163,7 @@ impl AhoCorasickBuilder {
         &self,
         nfa: noncontiguous::NFA<A>,
     ) -> Result<Engine<A>, BuildError>
-        requires built { IsEngineBuilt noncontiguous_rules (engine_settings self.now) nfa.built.patterns nfa.built }
+        requires built { IsEngineBuilt (engine_settings self.now) nfa.built.patterns nfa.built }
         ensures { MatchResult result
             (λ engine. Supports engine self.now.start_kind
             × IsBuilt self.now nfa.built.patterns (searcher_of engine self.now.start_kind))

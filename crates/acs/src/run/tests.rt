@@ -1,6 +1,7 @@
 use super::{Outcome, run, status};
 use crate::fault::Fault;
 use ac_search::{Bytes, FromRead, IntoWrite, Written};
+use std::alloc::{AllocError, Global};
 use std::io;
 use std::io::{ErrorKind, Read, Write};
 use std::test::Fail;
@@ -263,7 +264,7 @@ const RUNS: &[Row] = &[
     ),
     (
         "no such engine",
-        &["walk", "std", "dfa", "he"],
+        &["walk", "std", "DFA", "he"],
         "ushers",
         "",
         Err(Fault::Usage),
@@ -372,15 +373,31 @@ impl<'a> Write for Narrow<'a> {
     }
 }
 
+/// Returns the words with another engine.
+fn with_engine<'w>(
+    alloc: Global,
+    words: &[&'w str],
+    engine: &'w str,
+) -> Result<Vec<&'w str>, AllocError> {
+    let exchanged = words.iter().map(|&word| match word {
+        "noncontiguous" => engine,
+        _ => word,
+    });
+    exchanged.collect(alloc)
+}
+
 #[test]
 fn lines_are_written(rt: HostRuntime) -> Result<(), Fail> {
     for &(name, words, input, wanted, ending) in RUNS {
-        println!(rt; "run: {name}")?;
-        let mut reader = Bytes::new(input.as_bytes());
-        let mut writer = Written::new(rt.alloc());
-        let answer = run(rt.alloc(), words, &mut reader, &mut writer);
-        assert_eq!(rt; answer, ending, "{name}");
-        assert_eq!(rt; writer.bytes(), wanted.as_bytes(), "{name}");
+        for engine in ["noncontiguous", "dfa"] {
+            println!(rt; "run: {name}, by {engine}")?;
+            let words = with_engine(rt.alloc(), words, engine)?;
+            let mut reader = Bytes::new(input.as_bytes());
+            let mut writer = Written::new(rt.alloc());
+            let answer = run(rt.alloc(), &words, &mut reader, &mut writer);
+            assert_eq!(rt; answer, ending, "{name}");
+            assert_eq!(rt; writer.bytes(), wanted.as_bytes(), "{name}");
+        }
     }
     Ok(())
 }

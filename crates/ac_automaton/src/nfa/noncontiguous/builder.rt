@@ -1,7 +1,7 @@
 //! Builds of a trie with failure links.
 ghost use Rattle.std.specs.Prelude.{◌≡◌, MatchResult};
 ghost use Rattle.ac_util.specs.Borrowed.{bytes_of};
-ghost use Rattle.ac_automaton.specs.Builds.{IsEngineBuilt, Refuses, noncontiguous_rules, usual_engine_settings};
+ghost use Rattle.ac_automaton.specs.Builds.{IsEngineBuilt, Refuses, usual_engine_settings};
 
 use super::NFA;
 use super::growth::TrieLists;
@@ -90,8 +90,8 @@ impl Builder {
         patterns: &[&[u8]],
     ) -> Result<NFA<A>, BuildError>
         ensures { MatchResult result
-            (λ nfa. IsEngineBuilt noncontiguous_rules self.now (bytes_of patterns.now) nfa.built)
-            (Refuses noncontiguous_rules self.now (bytes_of patterns.now)) }
+            (λ nfa. IsEngineBuilt self.now (bytes_of patterns.now) nfa.built)
+            (Refuses self.now (bytes_of patterns.now)) }
     {
         let patterns = Patterns::new(alloc, patterns)?;
         let lists = TrieLists::of(&patterns, self.kind, self.fold)?;

@@ -1,0 +1,394 @@
+use super::{Told, told, walk_of};
+use crate::MatchKind::{LeftmostFirst, LeftmostLongest, Standard};
+use crate::{
+    AhoCorasick, AhoCorasickBuilder, AhoCorasickKind, Anchored, Input, MatchKind, OverlappingState,
+    StartKind,
+};
+use std::test::Fail;
+
+/// How a searcher is served: the engine, or None to let it choose, and whether bytes share classes.
+struct Engine {
+    kind: Option<AhoCorasickKind>,
+    byte_classes: bool,
+}
+
+const ENGINES: [Engine; 4] = [
+    Engine {
+        kind: None,
+        byte_classes: true,
+    },
+    Engine {
+        kind: Some(AhoCorasickKind::NoncontiguousNFA),
+        byte_classes: true,
+    },
+    Engine {
+        kind: Some(AhoCorasickKind::DFA),
+        byte_classes: true,
+    },
+    Engine {
+        kind: Some(AhoCorasickKind::DFA),
+        byte_classes: false,
+    },
+];
+
+const EACH: &[MatchKind] = &[Standard, LeftmostFirst, LeftmostLongest];
+
+/// What the walk of a haystack gives under each of some match kinds.
+struct Row {
+    kinds: &'static [MatchKind],
+    patterns: &'static [&'static [u8]],
+    haystack: &'static [u8],
+    walk: &'static [Told],
+}
+
+const WORDS: &[&[u8]] = &[b"append", b"appendage", b"app"];
+
+const SENTENCE: &[u8] = b"append the app to the appendage";
+
+const WALKS: [Row; 15] = [
+    Row {
+        kinds: EACH,
+        patterns: &[b"apple", b"maple", b"Snapple"],
+        haystack: b"Nobody likes maple in their apple flavored Snapple.",
+        walk: &[(1, 13, 18), (0, 28, 33), (2, 43, 50)],
+    },
+    Row {
+        kinds: &[Standard],
+        patterns: &[b"b", b"abc", b"abcd"],
+        haystack: b"abcd",
+        walk: &[(0, 1, 2)],
+    },
+    Row {
+        kinds: &[LeftmostFirst],
+        patterns: &[b"b", b"abc", b"abcd"],
+        haystack: b"abcd",
+        walk: &[(1, 0, 3)],
+    },
+    Row {
+        kinds: &[LeftmostLongest],
+        patterns: &[b"b", b"abc", b"abcd"],
+        haystack: b"abcd",
+        walk: &[(2, 0, 4)],
+    },
+    Row {
+        kinds: &[Standard],
+        patterns: WORDS,
+        haystack: SENTENCE,
+        walk: &[(2, 0, 3), (2, 11, 14), (2, 22, 25)],
+    },
+    Row {
+        kinds: &[LeftmostFirst],
+        patterns: WORDS,
+        haystack: SENTENCE,
+        walk: &[(0, 0, 6), (2, 11, 14), (0, 22, 28)],
+    },
+    Row {
+        kinds: &[LeftmostLongest],
+        patterns: WORDS,
+        haystack: SENTENCE,
+        walk: &[(0, 0, 6), (2, 11, 14), (1, 22, 31)],
+    },
+    Row {
+        kinds: &[Standard],
+        patterns: &[b"", b"a"],
+        haystack: b"a",
+        walk: &[(0, 0, 0), (0, 1, 1)],
+    },
+    Row {
+        kinds: &[LeftmostLongest],
+        patterns: &[b"", b"a"],
+        haystack: b"ba",
+        walk: &[(0, 0, 0), (1, 1, 2)],
+    },
+    Row {
+        kinds: &[LeftmostFirst],
+        patterns: &[b"a", b"abcdefghi", b"hz", b"abcdefgh"],
+        haystack: b"abcdefghz",
+        walk: &[(0, 0, 1), (2, 7, 9)],
+    },
+    Row {
+        kinds: &[LeftmostFirst, LeftmostLongest],
+        patterns: &[b"b", b"abcdefghi", b"hz", b"abcdefgh"],
+        haystack: b"abcdefghz",
+        walk: &[(3, 0, 8)],
+    },
+    Row {
+        kinds: &[LeftmostFirst],
+        patterns: &[b"abc", b"bd", b""],
+        haystack: b"abd",
+        walk: &[(2, 0, 0), (1, 1, 3)],
+    },
+    Row {
+        kinds: EACH,
+        patterns: &[b"ab", b"ab"],
+        haystack: b"abab",
+        walk: &[(0, 0, 2), (0, 2, 4)],
+    },
+    Row {
+        kinds: &[LeftmostFirst],
+        patterns: &[b"b", b"abc", b"abcd"],
+        haystack: b"foo abcd",
+        walk: &[(1, 4, 7)],
+    },
+    Row {
+        kinds: EACH,
+        patterns: &[],
+        haystack: b"abc",
+        walk: &[],
+    },
+];
+
+const ANCHORED_WALKS: [Row; 5] = [
+    Row {
+        kinds: EACH,
+        patterns: &[b"abc", b"bd"],
+        haystack: b"abd",
+        walk: &[],
+    },
+    Row {
+        kinds: &[LeftmostLongest],
+        patterns: &[b"", b"a"],
+        haystack: b"ba",
+        walk: &[(0, 0, 0), (1, 1, 2)],
+    },
+    Row {
+        kinds: &[LeftmostFirst],
+        patterns: &[b"b", b"abc", b"abcd"],
+        haystack: b"foo abcd",
+        walk: &[],
+    },
+    Row {
+        kinds: &[LeftmostFirst],
+        patterns: &[b"b", b"abc", b"abcd"],
+        haystack: b"abcd",
+        walk: &[(1, 0, 3)],
+    },
+    Row {
+        kinds: &[LeftmostFirst],
+        patterns: &[b"foo", b"bar", b"quux"],
+        haystack: b"fooquuxbar foo",
+        walk: &[(0, 0, 3), (2, 3, 7), (1, 7, 10)],
+    },
+];
+
+/// Returns a builder that takes this engine.
+fn builder_of(engine: &Engine, kind: MatchKind, start_kind: StartKind) -> AhoCorasickBuilder {
+    let mut builder = AhoCorasickBuilder::new();
+    builder.kind(engine.kind).byte_classes(engine.byte_classes);
+    builder.match_kind(kind).start_kind(start_kind);
+    builder
+}
+
+/// What a searcher answers.
+#[derive(Drop)]
+struct Answers {
+    walk: Vec<Told>,
+    find: Option<Told>,
+}
+
+/// Returns what a searcher by these settings answers for a row.
+fn answers_of(
+    rt: HostRuntime,
+    builder: &AhoCorasickBuilder,
+    row: &Row,
+    anchored: Anchored,
+) -> Result<Answers, Fail> {
+    let searcher = builder.build(rt.alloc(), row.patterns)?;
+    let input = Input::new(row.haystack).anchored(anchored);
+    Ok(Answers {
+        walk: walk_of(rt, &searcher, input)?,
+        find: searcher.try_find(input)?.map(|m| told(&m)),
+    })
+}
+
+#[test]
+fn each_engine_walks_alike(rt: HostRuntime) -> Result<(), Fail> {
+    for engine in &ENGINES {
+        for start_kind in [StartKind::Unanchored, StartKind::Both] {
+            for row in &WALKS {
+                for &kind in row.kinds {
+                    let builder = builder_of(engine, kind, start_kind);
+                    let answers = answers_of(rt, &builder, row, Anchored::No)?;
+                    assert_eq!(rt; answers.walk.as_slice(), row.walk, "{builder:?}");
+                    assert_eq!(rt; answers.find, row.walk.first().copied(), "{builder:?}");
+                }
+            }
+        }
+    }
+    Ok(())
+}
+
+#[test]
+fn each_engine_walks_alike_from_its_start(rt: HostRuntime) -> Result<(), Fail> {
+    for engine in &ENGINES {
+        for start_kind in [StartKind::Anchored, StartKind::Both] {
+            for row in &ANCHORED_WALKS {
+                for &kind in row.kinds {
+                    let builder = builder_of(engine, kind, start_kind);
+                    let answers = answers_of(rt, &builder, row, Anchored::Yes)?;
+                    assert_eq!(rt; answers.walk.as_slice(), row.walk, "{builder:?}");
+                    assert_eq!(rt; answers.find, row.walk.first().copied(), "{builder:?}");
+                }
+            }
+        }
+    }
+    Ok(())
+}
+
+#[test]
+fn each_engine_finds_the_earliest(rt: HostRuntime) -> Result<(), Fail> {
+    for engine in &ENGINES {
+        for &kind in EACH {
+            let builder = builder_of(engine, kind, StartKind::Unanchored);
+            let searcher = builder.build(rt.alloc(), &[b"b", b"abc", b"abcd"])?;
+            let input = Input::new(b"abcd").earliest(true);
+            let found = searcher.try_find(input)?.map(|m| told(&m));
+            assert_eq!(rt; found, Some((0, 1, 2)), "{kind:?}");
+            let input = Input::new(b"foo abcd").earliest(true);
+            let found = searcher.try_find(input)?.map(|m| told(&m));
+            assert_eq!(rt; found, Some((0, 5, 6)), "{kind:?}");
+        }
+    }
+    Ok(())
+}
+
+#[test]
+fn each_engine_ignores_case_alike(rt: HostRuntime) -> Result<(), Fail> {
+    let patterns: [&[u8]; 3] = [b"FOO", b"bAr", b"BaZ"];
+    let wanted = [(0, 0, 3), (1, 4, 7), (2, 8, 11)];
+    for engine in &ENGINES {
+        for &kind in EACH {
+            let mut builder = builder_of(engine, kind, StartKind::Unanchored);
+            let counts = builder.build(rt.alloc(), &patterns)?;
+            assert_eq!(rt; walk_of(rt, &counts, Input::new(b"foo bar baz"))?.len(), 0);
+            builder.ascii_case_insensitive(true);
+            let ignores = builder.build(rt.alloc(), &patterns)?;
+            let walked = walk_of(rt, &ignores, Input::new(b"foo bar baz"))?;
+            assert_eq!(rt; walked.as_slice(), wanted.as_slice(), "{kind:?}");
+        }
+    }
+    Ok(())
+}
+
+#[test]
+fn each_engine_lists_alike(rt: HostRuntime) -> Result<(), Fail> {
+    let wanted = [
+        (2, 0, 3),
+        (0, 0, 6),
+        (2, 11, 14),
+        (2, 22, 25),
+        (0, 22, 28),
+        (1, 22, 31),
+    ];
+    for engine in &ENGINES {
+        for start_kind in [StartKind::Unanchored, StartKind::Both] {
+            let searcher = builder_of(engine, Standard, start_kind).build(rt.alloc(), WORDS)?;
+            let mut listed = Vec::new(rt.alloc());
+            for m in searcher.try_find_overlapping_iter(Input::new(SENTENCE))? {
+                listed.push(told(&m))?;
+            }
+            assert_eq!(rt; listed.as_slice(), wanted.as_slice(), "{start_kind:?}");
+        }
+    }
+    Ok(())
+}
+
+#[test]
+fn each_engine_lists_alike_from_its_start(rt: HostRuntime) -> Result<(), Fail> {
+    let input = Input::new(SENTENCE).anchored(Anchored::Yes);
+    for engine in &ENGINES {
+        for start_kind in [StartKind::Anchored, StartKind::Both] {
+            let searcher = builder_of(engine, Standard, start_kind).build(rt.alloc(), WORDS)?;
+            let mut state = OverlappingState::start();
+            for wanted in [Some((2, 0, 3)), Some((0, 0, 6)), None, None] {
+                searcher.try_find_overlapping(input, &mut state)?;
+                let given = state.get_match().map(|m| told(&m));
+                assert_eq!(rt; given, wanted, "{start_kind:?}");
+            }
+        }
+    }
+    Ok(())
+}
+
+/// The byte `a` before each byte from 80 on, and these patterns one after the other.
+#[test]
+fn each_engine_tells_many_bytes_apart(rt: HostRuntime) -> Result<(), Fail> {
+    let mut haystack = Vec::new(rt.alloc());
+    for byte in 0x80..=0xFFu8 {
+        haystack.push(b'a')?;
+        haystack.push(byte)?;
+    }
+    let patterns: Vec<&[u8]> = haystack.chunks(2).collect(rt.alloc())?;
+    for engine in &ENGINES {
+        let builder = builder_of(engine, Standard, StartKind::Unanchored);
+        let searcher = builder.build(rt.alloc(), &patterns)?;
+        let walked = walk_of(rt, &searcher, Input::new(&haystack))?;
+        assert_eq!(rt; walked.len(), 128);
+        for (number, found) in walked.iter().enumerate() {
+            let start = number.saturating_mul(2);
+            assert_eq!(rt; *found, (number, start, start.saturating_add(2)));
+        }
+    }
+    Ok(())
+}
+
+/// A number of patterns, a start kind, the engine that is named, and the one that serves.
+type Choice = (usize, StartKind, Option<AhoCorasickKind>, AhoCorasickKind);
+
+const CHOICES: [Choice; 8] = [
+    (0, StartKind::Anchored, None, AhoCorasickKind::DFA),
+    (100, StartKind::Unanchored, None, AhoCorasickKind::DFA),
+    (
+        101,
+        StartKind::Unanchored,
+        None,
+        AhoCorasickKind::NoncontiguousNFA,
+    ),
+    (1, StartKind::Both, None, AhoCorasickKind::NoncontiguousNFA),
+    (
+        101,
+        StartKind::Both,
+        Some(AhoCorasickKind::DFA),
+        AhoCorasickKind::DFA,
+    ),
+    (
+        1,
+        StartKind::Unanchored,
+        Some(AhoCorasickKind::DFA),
+        AhoCorasickKind::DFA,
+    ),
+    (
+        1,
+        StartKind::Unanchored,
+        Some(AhoCorasickKind::NoncontiguousNFA),
+        AhoCorasickKind::NoncontiguousNFA,
+    ),
+    (
+        0,
+        StartKind::Both,
+        Some(AhoCorasickKind::NoncontiguousNFA),
+        AhoCorasickKind::NoncontiguousNFA,
+    ),
+];
+
+#[test]
+fn an_engine_is_chosen(rt: HostRuntime) -> Result<(), Fail> {
+    let searcher = AhoCorasick::new(rt.alloc(), &[b"foo", b"bar", b"quux", b"baz"])?;
+    assert_eq!(rt; searcher.kind(), AhoCorasickKind::DFA);
+    assert_eq!(rt; searcher.min_pattern_len(), 3);
+    assert_eq!(rt; searcher.max_pattern_len(), 4);
+    for (count, start_kind, named, wanted) in CHOICES {
+        let patterns: Vec<&[u8]> = (0..count).map(|_| b"ab".as_slice()).collect(rt.alloc())?;
+        let mut builder = AhoCorasickBuilder::new();
+        builder.start_kind(start_kind).kind(named);
+        let searcher = builder.build(rt.alloc(), &patterns)?;
+        assert_eq!(rt;
+            searcher.kind(),
+            wanted,
+            "{count}, {start_kind:?}, {named:?}"
+        );
+        assert_eq!(rt; searcher.clone()?.kind(), wanted);
+        assert_eq!(rt; searcher.patterns_len(), count);
+    }
+    Ok(())
+}
