@@ -20,7 +20,7 @@ loop-state-init g c = record {
   laid = λ nodes h.
       let count = h.numbered.count in
       let states = state_count c.args.nfa.now.built.kind (plain_of c.args.nfa.now.built) in
-      rw (c.in_ok-numbers.ensures, c.in_ok-first_lists.ensures.lists, c.table_rows.ensures, c.states_len-states.ensures.value)
+      rw (c.in_ok-numbers.ensures, c.in_ok-first_lists.ensures.lists, c.table_rows.ensures.value, c.states_len-states.ensures.value)
       (none-laid (plan_of c.args.nfa.now c.args.start_kind c.args.stride2 nodes) (table_rows c.args.start_kind states)
       (omega (arith, count))
       (table_rows-each c.args.start_kind states (omega arith) ∙ ap (λ n. 4 + rows_each c.args.start_kind * (n - 4)) (sym count)));
