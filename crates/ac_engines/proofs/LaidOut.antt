@@ -126,6 +126,7 @@ module _ (p : Plan) where
           start = h.start;
           whole = mul-le 4 p.stride last p.stride (omega (arith, w, f, l)) (omega arith);
           inner = λ s from before. inner-number s from (omega (arith, c, before));
+          rows = λ s from before. let rows = h.rows s from (omega (arith, c, before)) in (rows.row, rows.number);
           within = λ s from before. within-table s from (omega (arith, c, before));
           apart = λ s t from after before. h.apart s t from after (omega (arith, c, before));
         }

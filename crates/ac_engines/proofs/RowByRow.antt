@@ -16,9 +16,9 @@ use Rattle.ac_util.specs.Sameness.{plain_byte}
 use Rattle.ac_util.proofs.Reached.{step-nil, stops}
 use Rattle.ac_automaton.specs.Automata.{plain_of, step_of}
 use Rattle.ac_automaton.specs.Readers.{leads_on, own_bytes}
-use Rattle.ac_engines.specs.Filling.{FilledUpTo, Filling, HasFilled, HasRow, HasSet, IsFilled, MayFill, MayFillRow, SameBeside, Sheet, row_at, sheet_of, width}
+use Rattle.ac_engines.specs.Filling.{EndsDead, FilledUpTo, Filling, HasFilled, HasRow, HasSet, IsFilled, MayFill, MayFillRow, SameBeside, Sheet, row_at, sheet_of, width}
 use Rattle.ac_engines.specs.Rows.{behind, entry}
-use Rattle.ac_engines.proofs.Filled.{filled-anchored, filled-beside, filled-longer, own_bytes-has, own_bytes-only}
+use Rattle.ac_engines.proofs.Filled.{filled-anchored, filled-beside, filled-longer, own_bytes-has, own_bytes-only, past-set}
 use Rattle.ac_engines.proofs.Numbers.{behind-small}
 use Rattle.ac_engines.proofs.Numbered.{place-inner, place-row, place-start}
 use Rattle.ac_engines.proofs.Owning.{behind-most, row-room}
@@ -119,13 +119,19 @@ module _ (f : Filling) (nodes : List Node) (size s : ℕ) (w : List ℕ) (h : Ha
   narrow : (b : ℕ) → b < 256 → class_at f.classes b < f.stride
   narrow b byte = let below = h.may.below b byte in let room = h.may.room in omega arith
 
+  -- what was changed within the classes was changed within the row
+  beside-row : (row : ℕ) (old new : List ℕ) → SameBeside p row (alphabet_len f.classes) old new
+      → SameBeside p row f.stride old new
+  beside-row row old new same k (inl before) = same k (inl before)
+  beside-row row old new same k (inr behind) = same k (inr (let room = h.may.room in omega arith))
+
   -- an anchored row is filled once its own transitions are set
   pub anchored-filled : (old new : List ℕ) → MayFillRow f nodes size s w Yes old
       → HasSet p Yes w (own_bytes p.built (Some w)) old new → HasFilled p Yes w old new
   anchored-filled old new m set = record {
     same_length = set.same_length;
-    beside = set.beside;
-    filled = filled-anchored p w old new m.blank set;
+    beside = beside-row (row_at p Yes (Some w)) old new set.beside;
+    filled = filled-anchored p narrow w old new m.blank set;
   }
 
   -- where a byte leads from the start that leads on
@@ -136,15 +142,23 @@ module _ (f : Filling) (nodes : List Node) (size s : ℕ) (w : List ℕ) (h : Ha
   -- the start's row is filled where all classes led where a byte leads that doesn't lead on
   pub start-filled : (missing : Node) (old led new : List ℕ)
       → ((b : ℕ) → leads_on p.built (Some []) b ≡ false → step_of p.built No (Some []) b ≡ missing)
-      → length led ≡ length old → SameBeside p (row_at p No (Some [])) f.stride old led
+      → length led ≡ length old → EndsDead p No (Some []) old
+      → SameBeside p (row_at p No (Some [])) (alphabet_len f.classes) old led
       → ((b : ℕ) → b < 256 → entry f.classes led (row_at p No (Some [])) b ≡ row_at p No missing)
       → HasSet p No [] (own_bytes p.built (Some [])) led new → HasFilled p No [] old new
-  start-filled missing old led new misses long beside leads set = record {
+  start-filled missing old led new misses long past beside leads set = record {
     same_length = set.same_length ∙ long;
-    beside = beside-both p (row_at p No (Some [])) f.stride old led new beside set.beside;
-    filled = λ b byte. go b byte (leads_on p.built (Some []) b) refl;
+    beside = beside-row (row_at p No (Some [])) old new
+        (beside-both p (row_at p No (Some [])) (alphabet_len f.classes) old led new beside set.beside);
+    filled = record {
+      steps = λ b byte. go b byte (leads_on p.built (Some []) b) refl;
+      past = past-set p No [] (own_bytes p.built (Some [])) led new set past-led;
+    };
   }
     where
+      past-led : EndsDead p No (Some []) led
+      past-led k from to = beside (row_at p No (Some []) + k) (inr (omega arith)) ∙ past k from to
+
       go : (b : ℕ) → b < 256 → (t : Bool) → leads_on p.built (Some []) b ≡ t
           → entry p.classes new (row_at p No (Some [])) b ≡ row_at p No (step_of p.built No (Some []) b)
       go b byte true own =
@@ -169,15 +183,13 @@ module _ (f : Filling) (nodes : List Node) (size s : ℕ) (w : List ℕ) (h : Ha
   pub start-led : (t : Bool) (start to len : ℕ) (old led new : List ℕ) → w ≡ []
       → stops p.built.kind (plain_of p.built) [] ≡ t → start ≡ row_at p No (Some [])
       → to ≡ (if t then 0 else start) → len ≡ alphabet_len f.classes → length led ≡ length old
+      → EndsDead p No (Some []) old
       → ((k : ℕ) → start ≤ k → k < start + len → slice_index_or led k 0 ≡ to)
       → ((k : ℕ) → (k < start) ⊎ (start + len ≤ k) → slice_index_or led k 0 ≡ slice_index_or old k 0)
       → HasSet p No [] (own_bytes p.built (Some [])) led new → HasFilled p No [] old new
-  start-led t start to len old led new empty stopped row target classes long leads beside set =
-      start-filled (cond t None (Some [])) old led new (start-misses t stopped) long
-      (λ k outside. beside k (elim outside [
-        | inl before ↦ inl (omega arith)
-        | inr behind ↦ inr (let room = h.may.room in omega arith)
-      ]))
+  start-led t start to len old led new empty stopped row target classes long past leads beside set =
+      start-filled (cond t None (Some [])) old led new (start-misses t stopped) long past
+      (λ k outside. beside k (elim outside [ inl before ↦ inl (omega arith) | inr behind ↦ inr (omega arith) ]))
       (λ b byte. leads (row_at p No (Some []) + class_at f.classes b) (omega arith)
       (let below = h.may.below b byte in omega arith)
       ∙ target ∙ ap (λ n. if t then 0 else n) row ∙ missing-row t)
@@ -187,18 +199,22 @@ module _ (f : Filling) (nodes : List Node) (size s : ℕ) (w : List ℕ) (h : Ha
   pub inner-filled : (from to len : ℕ) (old copied new : List ℕ) → w ≢ []
       → IsFilled p No (failure f.trie.built.kind (plain_of f.trie.built) w) old
       → from ≡ row_at p No (failure f.trie.built.kind (plain_of f.trie.built) w) → to ≡ row_at p No (Some w)
-      → len ≡ alphabet_len f.classes → length copied ≡ length old
+      → len ≡ alphabet_len f.classes → length copied ≡ length old → EndsDead p No (Some w) old
       → CopiedTo old copied from to len → SameBelow old copied to → SameFrom old copied (to + len)
       → HasSet p No w (own_bytes p.built (Some w)) copied new → HasFilled p No w old new
-  inner-filled from to len old copied new some earlier target row classes long copies below above set = record {
+  inner-filled from to len old copied new some earlier target row classes long past copies below above set = record {
     same_length = set.same_length ∙ long;
-    beside = beside-both p (row_at p No (Some w)) f.stride old copied new outside set.beside;
-    filled = filled-longer p w old copied new some earlier copied-entry set;
+    beside = beside-row (row_at p No (Some w)) old new
+        (beside-both p (row_at p No (Some w)) (alphabet_len f.classes) old copied new outside set.beside);
+    filled = filled-longer p w old copied new some earlier copied-entry past-copied set;
   }
     where
-      outside : SameBeside p (row_at p No (Some w)) f.stride old copied
+      outside : SameBeside p (row_at p No (Some w)) (alphabet_len f.classes) old copied
       outside k (inl before) = below k 0 (omega arith)
-      outside k (inr behind) = above k 0 (let room = h.may.room in omega arith)
+      outside k (inr behind) = above k 0 (omega arith)
+
+      past-copied : EndsDead p No (Some w) copied
+      past-copied k from_class to_end = outside (row_at p No (Some w) + k) (inr (omega arith)) ∙ past k from_class to_end
 
       copied-entry : (b : ℕ) → b < 256 → entry p.classes copied (row_at p No (Some w)) b
           ≡ entry p.classes old (row_at p No (failure p.built.kind (plain_of p.built) w)) b
@@ -275,12 +291,11 @@ module _ (f : Filling) (nodes : List Node) (size s : ℕ) (w : List ℕ) (h : Ha
       → FilledUpTo f nodes size s old → MayFillRow f nodes size s w anchored old
   may-row anchored old supported up = record {
     row = h;
-    blank = λ b byte.
+    blank = λ k inside.
         let within = slice_get_within nodes s (Some w) h.named in
         let place = place-row f nodes size s w h in
         let most = behind-most f.start_kind anchored f.stride in
-        let class = narrow b byte in
-        up.blank s (row_at p anchored (Some w) + class_at f.classes b) (omega arith)
+        up.blank s (row_at p anchored (Some w) + k) (omega arith)
         (λ third. elim h.place [ inl start ↦ omega arith | inr inner ↦ omega arith ])
         within (omega arith) (omega arith);
     earlier = λ unanchored t u before other named.
@@ -315,9 +330,9 @@ module _ (f : Filling) (nodes : List Node) (size s : ℕ) (w : List ℕ) (h : Ha
       → HasFilled p No w old between → MayFillRow f nodes size s w Yes between
   second-row old between both m first = record {
     row = h;
-    blank = λ b byte.
+    blank = λ k inside.
         let rows = both-rows both in
-        first.beside (row_at p Yes (Some w) + class_at f.classes b) (inr (omega arith)) ∙ m.blank b byte;
+        first.beside (row_at p Yes (Some w) + k) (inr (omega arith)) ∙ m.blank k inside;
     earlier = λ other. absurd cc;
   }
 
@@ -357,12 +372,18 @@ module _ (f : Filling) (nodes : List Node) (size : ℕ) (may : MayFill f nodes s
     blank = λ t k later other within from to. blank k;
   }
     where
+      all-dead : (anchored : Anchored) → IsFilled (sheet_of f nodes) anchored None entries
+      all-dead anchored = record {
+        steps = λ b byte. blank (0 + class_at f.classes b);
+        past = λ k from to. blank (0 + k);
+      }
+
       first : (t : ℕ) (u : Node) → t < 2 → slice_get nodes t ≡ Some u → (anchored : Anchored)
           → IsFilled (sheet_of f nodes) anchored u entries
       first zero u before named anchored = let dead = may.are_nodes.dead in
-          let none : u ≡ None = cc in rw none (λ b byte. blank (0 + class_at f.classes b))
+          let none : u ≡ None = cc in rw none (all-dead anchored)
       first (suc zero) u before named anchored = let dead = may.are_nodes.unreached in
-          let none : u ≡ None = cc in rw none (λ b byte. blank (0 + class_at f.classes b))
+          let none : u ≡ None = cc in rw none (all-dead anchored)
       first (suc (suc t)) u before named anchored = absurd (omega arith)
 
   -- the start of anchored searches has no row of its own
