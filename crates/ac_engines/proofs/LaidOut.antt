@@ -12,7 +12,8 @@ use Rattle.ac_engines.specs.Filling.{AreLaid}
 use Rattle.ac_engines.specs.Layouts.{IsLayout, first_lists, listed_at}
 use Rattle.ac_engines.specs.Rows.{behind}
 use Rattle.ac_engines.proofs.Numbers.{behind-small}
-use Rattle.ac_engines.proofs.Laying.{IsLaidUpTo, Plan, each, long, row-order}
+use Rattle.ac_engines.proofs.LaidUpTo.{IsLaidUpTo, Plan, each, row-order}
+use Rattle.ac_engines.proofs.Laying.{long}
 use Rattle.ac_engines.proofs.RowLists.{behind-each, behind-rows, first_lists-at, first_lists-empty, first_lists-none, length-first_lists, listed-row, none-left, row_lists-at}
 
 module _ (p : Plan) where

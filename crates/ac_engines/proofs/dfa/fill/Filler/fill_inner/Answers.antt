@@ -8,7 +8,8 @@ use Rattle.ac_automaton.specs.Readers.{AreNodes}
 use Rattle.ac_automaton.specs.Tries.{Trie}
 use Rattle.ac_engines.specs.Filling.{Filling}
 use Rattle.ac_engines.proofs.Owning.{row-room}
-use Rattle.ac_engines.proofs.RowByRow.{failed-to, inner-filled, row-of}
+use Rattle.ac_engines.proofs.OneRow.{inner-filled}
+use Rattle.ac_engines.proofs.StateRows.{failed-to, row-of}
 use Rattle.ac_engines.proofs.dfa.fill.Filler.fill_inner.Goals as goal
 
 -- the row lies in the table

@@ -8,7 +8,8 @@ use Rattle.ac_automaton.specs.Automata.{plain_of}
 use Rattle.ac_automaton.proofs.Heads.{nil-from_not}
 use Rattle.ac_engines.specs.Layouts.{rows_each, table_rows}
 use Rattle.ac_engines.proofs.LaidOut.{four-empty, laid-out, two-empty}
-use Rattle.ac_engines.proofs.Laying.{IsLaidUpTo, named-inner, none-laid, one-more-laid, plan_of, row-number}
+use Rattle.ac_engines.proofs.LaidUpTo.{IsLaidUpTo, named-inner, none-laid, plan_of}
+use Rattle.ac_engines.proofs.Laying.{one-more-laid, row-number}
 use Rattle.ac_engines.proofs.RowLists.{table_rows-each, unmatched}
 use Rattle.ac_engines.proofs.dfa.layout.Layout.of.Goals.{then-is_match, else-is_match}
 use Rattle.ac_engines.proofs.dfa.layout.Layout.of.Goals as goal
