@@ -1,12 +1,14 @@
 -- A table whose rows are laid out and filled.
-use Rattle.std.proofs.Common.{◌≡◌, inl, inr, ℕ, zero, suc, ◌+◌, ◌-◌, ◌*◌, ◌^◌, ◌<◌, ◌≤◌, Bool, true, false, List, [], ◌∷◌, length, refl, ap, sym, ◌∙◌, arith, Some, None}
+use Rattle.std.proofs.Common.{◌≡◌, inl, inr, ℕ, zero, suc, ◌+◌, ◌-◌, ◌*◌, ◌^◌, ◌<◌, ◌≤◌, Bool, true, false, List, [], ◌∷◌, length, slice_index_or, refl, ap, sym, ◌∙◌, arith, Some, None}
 use Rattle.std.proofs.lemmas.Option.{slice_get_within}
 use Rattle.std.proofs.lemmas.Bool.{le-ltb}
 use Rattle.ac_util.specs.declared.primitives.TheConstants.{GREATEST}
+use Rattle.ac_util.specs.declared.search.Anchored.{Anchored}
 use Rattle.ac_util.specs.declared.search.StartKind.{StartKind}
 use Rattle.ac_util.specs.Built.{Built}
 use Rattle.ac_util.specs.Classes.{AreClasses, IsNode, SetsApart, alphabet_len, class_at, stride, stride2}
 use Rattle.ac_util.specs.Node.{Node}
+use Rattle.ac_util.specs.Refusal.{start_refusal}
 use Rattle.ac_util.specs.Sizes.{state_count}
 use Rattle.ac_util.proofs.ClassLists.{class_at-below, classes_of-AreClasses, classes_of-set_apart, singletons-AreClasses, singletons-set_apart}
 use Rattle.ac_util.proofs.NodeCount.{inner_nodes-has}
@@ -15,11 +17,12 @@ use Rattle.ac_automaton.specs.Automata.{plain_of}
 use Rattle.ac_automaton.specs.Readers.{AreNodes}
 use Rattle.ac_automaton.specs.Tries.{Trie}
 use Rattle.ac_engines.specs.Builds.{classes_by, table_refusal}
-use Rattle.ac_engines.specs.Filling.{FilledUpTo, Filling, HasRow, MayFill, place_in}
+use Rattle.ac_engines.specs.Filling.{FilledUpTo, Filling, HasRow, IsFilled, MayFill, place_in, sheet_of}
 use Rattle.ac_engines.specs.Layouts.{IsLayout, table_rows}
-use Rattle.ac_engines.specs.Rows.{HasMatchesAmong, IsTable, Table}
+use Rattle.ac_engines.specs.Rows.{HasMatchesAmong, IsTable, Table, behind}
 use Rattle.ac_engines.proofs.Numbered.{behind-starts, place-row, place-start}
 use Rattle.ac_engines.proofs.Owning.{row-room}
+use Rattle.ac_engines.proofs.RowLists.{behind-rows}
 
 -- the classes by which a table steps are those of all bytes
 classes_by-AreClasses : (byte_classes fold : Bool) (patterns : List (List ℕ))
@@ -128,6 +131,17 @@ module _ (trie : Trie) (start_kind : StartKind) (classes : List ℕ) (exponent :
         (inner_nodes-has trie.built.kind (plain_of trie.built) (x ∷ w) node (λ e. absurd cc)) in
         (state.0, record { may = may; named = state.1.named; place = inr state.1.inner })
 
+    -- its first row stands behind whole rows
+    first-row : (s : ℕ) (w : List ℕ) → HasRow filling nodes size s w
+        → (row : ℕ) × (slice_index_or numbers s 0 ≡ row * 2 ^ exponent)
+    first-row s w h = elim h.place [
+      | inl start ↦ (2, ap (λ k. slice_index_or numbers k 0) start ∙ may.laid.start)
+      | inr inner ↦
+          let within = slice_get_within nodes s (Some w) h.named in
+          let count = may.laid.count in
+          may.laid.rows s inner (omega arith)
+    ]
+
     module _ (entries : List ℕ) (lists : List (List ℕ)) (first end : ℕ)
         (filled : FilledUpTo filling nodes size (length nodes) entries)
         (layout : IsLayout built (2 ^ exponent) size nodes numbers lists first end) where
@@ -145,7 +159,7 @@ module _ (trie : Trie) (start_kind : StartKind) (classes : List ℕ) (exponent :
       pub are-table : IsTable table (place_in nodes numbers)
       are-table = record {
         narrow = narrow;
-        dead = λ b byte. filled.dead (0 + class_at classes b) (let below = narrow b byte in omega arith);
+        dead = filled.dead;
         unlisted = layout.unlisted;
         start = place-start trie nodes may.are_nodes numbers may.laid.count ∙ may.laid.start;
         inner = λ w node some.
@@ -156,6 +170,7 @@ module _ (trie : Trie) (start_kind : StartKind) (classes : List ℕ) (exponent :
             let place = place-row filling nodes size state.0 w state.1 in
             let row = may.laid.inner state.0 inner (omega arith) in
             omega arith;
+        rows = λ anchored w node. row-of w node anchored;
         within = λ anchored w node.
             let state = state-of w node in
             let room = row-room filling nodes size state.0 w state.1 anchored in
@@ -163,9 +178,9 @@ module _ (trie : Trie) (start_kind : StartKind) (classes : List ℕ) (exponent :
             omega arith;
         steps = λ anchored w b supported node byte.
             let state = state-of w node in
-            filled.filled state.0 (Some w) (slice_get_within nodes state.0 (Some w) state.1.named)
-            (λ same. elim state.1.place [ inl start ↦ omega arith | inr inner ↦ omega arith ])
-            state.1.named anchored supported b byte;
+            (filled-row w state anchored supported).steps b byte;
+        past = λ anchored w k supported node from to.
+            (filled-row w (state-of w node) anchored supported).past k from to;
         lists = λ anchored w supported node.
             let state = state-of w node in
             rw (place-row filling nodes size state.0 w state.1)
@@ -174,6 +189,24 @@ module _ (trie : Trie) (start_kind : StartKind) (classes : List ℕ) (exponent :
         where
           narrow : (b : ℕ) → b < 256 → class_at classes b < 2 ^ exponent
           narrow b byte = let below = may.below b byte in let room = may.room in omega arith
+
+          filled-row : (w : List ℕ) → (s : ℕ) × HasRow filling nodes size s w → (anchored : Anchored)
+              → start_refusal start_kind anchored ≡ None → IsFilled (sheet_of filling nodes) anchored (Some w) entries
+          filled-row w state anchored supported =
+              filled.filled state.0 (Some w) (slice_get_within nodes state.0 (Some w) state.1.named)
+              (λ same. elim state.1.place [ inl start ↦ omega arith | inr inner ↦ omega arith ])
+              state.1.named anchored supported
+
+          row-of : (w : List ℕ) → IsNode trie.built.kind (plain_of trie.built) (Some w) → (anchored : Anchored)
+              → (row : ℕ) × (place_in nodes numbers w + behind start_kind anchored (2 ^ exponent) ≡ row * 2 ^ exponent)
+          row-of w node anchored =
+              let state = state-of w node in
+              let first = first-row state.0 w state.1 in (
+                first.0 + behind start_kind anchored 1,
+                ap (λ n. n + behind start_kind anchored (2 ^ exponent))
+                    (place-row filling nodes size state.0 w state.1 ∙ first.1)
+                    ∙ behind-rows start_kind anchored first.0 (2 ^ exponent),
+              )
 
       -- and the layout tells which of them have matches
       pub has-matches-among : HasMatchesAmong table first end

@@ -1,5 +1,5 @@
 -- The row of a node once its own transitions are set.
-use Rattle.std.proofs.Common.{◌≡◌, ◌≢◌, ◌⊎◌, inl, inr, ℕ, ◌+◌, ◌<◌, ◌≤◌, Bool, true, false, List, [], ◌∷◌, refl, ap, sym, ◌∙◌, arith, Some}
+use Rattle.std.proofs.Common.{◌≡◌, ◌≢◌, ◌⊎◌, inl, inr, ℕ, ◌+◌, ◌<◌, ◌≤◌, Bool, true, false, List, [], ◌∷◌, slice_index_or, refl, ap, sym, ◌∙◌, arith, Some}
 use Rattle.std.specs.Prelude.{Contains}
 use Rattle.std.specs.List.{range_with_len}
 use Rattle.std.proofs.lemmas.Bool.{false≢true}
@@ -13,7 +13,7 @@ use Rattle.ac_util.proofs.Failures.{step-own, step-failure}
 use Rattle.ac_util.proofs.Lists.{Contains-from_IsIn, IsIn-filter, IsIn-from_Contains, IsIn-from_filter, IsIn-from_range, IsIn-range}
 use Rattle.ac_automaton.specs.Automata.{plain_of, step_of}
 use Rattle.ac_automaton.specs.Readers.{leads_on, own_bytes}
-use Rattle.ac_engines.specs.Filling.{HasSet, IsFilled, SameBeside, Sheet, row_at}
+use Rattle.ac_engines.specs.Filling.{EndsDead, HasSet, IsFilled, SameBeside, Sheet, row_at}
 use Rattle.ac_engines.specs.Rows.{entry}
 
 -- the bytes that lead on are those that the test tells
@@ -35,36 +35,60 @@ own_bytes-small built u b has =
     (IsIn-from_filter (leads_on built u) b (range_with_len 0 256) (IsIn-from_Contains b (own_bytes built u) has)).0).1
 
 module _ (p : Sheet) where
+  -- the entries of a row are none of a part of the table that stands apart from it
+  outside-row : (row first width k : ℕ) → (row + p.stride ≤ first) ⊎ (first + width ≤ row) → k < p.stride
+      → (row + k < first) ⊎ (first + width ≤ row + k)
+  outside-row row first width k (inl before) inside = inl (omega arith)
+  outside-row row first width k (inr behind) inside = inr (omega arith)
+
   -- what was filled stays so while entries elsewhere are set
   pub filled-beside : (narrow : (b : ℕ) → b < 256 → class_at p.classes b < p.stride) (anchored : Anchored) (u : Node)
       (first width : ℕ) (old new : List ℕ)
       → (row_at p anchored u + p.stride ≤ first) ⊎ (first + width ≤ row_at p anchored u)
       → SameBeside p first width old new → IsFilled p anchored u old → IsFilled p anchored u new
-  filled-beside narrow anchored u first width old new (inl before) same filled = λ b byte.
-      same (row_at p anchored u + class_at p.classes b) (inl (let n = narrow b byte in omega arith)) ∙ filled b byte
-  filled-beside narrow anchored u first width old new (inr behind) same filled = λ b byte.
-      same (row_at p anchored u + class_at p.classes b) (inr (omega arith)) ∙ filled b byte
+  filled-beside narrow anchored u first width old new apart same filled = record {
+    steps = λ b byte.
+        same (row_at p anchored u + class_at p.classes b)
+        (outside-row (row_at p anchored u) first width (class_at p.classes b) apart (narrow b byte))
+        ∙ filled.steps b byte;
+    past = λ k from to.
+        same (row_at p anchored u + k) (outside-row (row_at p anchored u) first width k apart to)
+        ∙ filled.past k from to;
+  }
+
+  -- entries past the classes stay dead while own transitions are set
+  pub past-set : (anchored : Anchored) (w bytes old new : List ℕ) → HasSet p anchored w bytes old new
+      → EndsDead p anchored (Some w) old → EndsDead p anchored (Some w) new
+  past-set anchored w bytes old new set past = λ k from to.
+      set.beside (row_at p anchored (Some w) + k) (inr (omega arith)) ∙ past k from to
 
   -- in an anchored row a byte that doesn't lead on leads to the dead state
-  pub filled-anchored : (w : List ℕ) (old new : List ℕ)
-      → ((b : ℕ) → b < 256 → entry p.classes old (row_at p Yes (Some w)) b ≡ 0)
+  pub filled-anchored : (narrow : (b : ℕ) → b < 256 → class_at p.classes b < p.stride) (w : List ℕ) (old new : List ℕ)
+      → ((k : ℕ) → k < p.stride → slice_index_or old (row_at p Yes (Some w) + k) 0 ≡ 0)
       → HasSet p Yes w (own_bytes p.built (Some w)) old new → IsFilled p Yes (Some w) new
-  filled-anchored w old new blank set = λ b byte. go b byte (leads_on p.built (Some w) b) refl
+  filled-anchored narrow w old new blank set = record {
+    steps = λ b byte. go b byte (leads_on p.built (Some w) b) refl;
+    past = past-set Yes w (own_bytes p.built (Some w)) old new set (λ k from to. blank k to);
+  }
     where
       go : (b : ℕ) → b < 256 → (t : Bool) → leads_on p.built (Some w) b ≡ t
           → entry p.classes new (row_at p Yes (Some w)) b ≡ row_at p Yes (step_of p.built Yes (Some w) b)
       go b byte true leads = set.own b byte (own_bytes-has p.built (Some w) b byte leads) ∙ rw leads refl
       go b byte false none =
-          set.others b byte (λ has. false≢true (sym none ∙ own_bytes-only p.built (Some w) b has)) ∙ blank b byte
-          ∙ rw none refl
+          set.others b byte (λ has. false≢true (sym none ∙ own_bytes-only p.built (Some w) b has))
+          ∙ blank (class_at p.classes b) (narrow b byte) ∙ rw none refl
 
   -- in an unanchored row one that doesn't lead on leads where it leads from the failure target
   pub filled-inner : (x : ℕ) (w : List ℕ) (old copied new : List ℕ)
       → IsFilled p No (failure p.built.kind (plain_of p.built) (x ∷ w)) old
       → ((b : ℕ) → b < 256 → entry p.classes copied (row_at p No (Some (x ∷ w))) b
       ≡ entry p.classes old (row_at p No (failure p.built.kind (plain_of p.built) (x ∷ w))) b)
+      → EndsDead p No (Some (x ∷ w)) copied
       → HasSet p No (x ∷ w) (own_bytes p.built (Some (x ∷ w))) copied new → IsFilled p No (Some (x ∷ w)) new
-  filled-inner x w old copied new target copies set = λ b byte. go b byte (leads_on p.built (Some (x ∷ w)) b) refl
+  filled-inner x w old copied new target copies past set = record {
+    steps = λ b byte. go b byte (leads_on p.built (Some (x ∷ w)) b) refl;
+    past = past-set No (x ∷ w) (own_bytes p.built (Some (x ∷ w))) copied new set past;
+  }
     where
       go : (b : ℕ) → b < 256 → (t : Bool) → leads_on p.built (Some (x ∷ w)) b ≡ t
           → entry p.classes new (row_at p No (Some (x ∷ w))) b ≡ row_at p No (step_of p.built No (Some (x ∷ w)) b)
@@ -73,7 +97,7 @@ module _ (p : Sheet) where
           ∙ ap (row_at p No) (sym (step-own p.built.kind (plain_of p.built) x w (plain_byte p.built.fold b) leads))
       go b byte false none =
           set.others b byte (λ has. false≢true (sym none ∙ own_bytes-only p.built (Some (x ∷ w)) b has))
-          ∙ copies b byte ∙ target b byte
+          ∙ copies b byte ∙ target.steps b byte
           ∙ ap (row_at p No) (sym (step-failure p.built.kind (plain_of p.built) x w (plain_byte p.built.fold b) none))
 
   -- the same of a string that isn't empty
@@ -81,6 +105,8 @@ module _ (p : Sheet) where
       → IsFilled p No (failure p.built.kind (plain_of p.built) w) old
       → ((b : ℕ) → b < 256 → entry p.classes copied (row_at p No (Some w)) b
       ≡ entry p.classes old (row_at p No (failure p.built.kind (plain_of p.built) w)) b)
+      → EndsDead p No (Some w) copied
       → HasSet p No w (own_bytes p.built (Some w)) copied new → IsFilled p No (Some w) new
-  filled-longer [] old copied new some target copies set = absurd (some refl)
-  filled-longer (x ∷ w) old copied new some target copies set = filled-inner x w old copied new target copies set
+  filled-longer [] old copied new some target copies past set = absurd (some refl)
+  filled-longer (x ∷ w) old copied new some target copies past set =
+      filled-inner x w old copied new target copies past set

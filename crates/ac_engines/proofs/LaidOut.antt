@@ -12,7 +12,8 @@ use Rattle.ac_engines.specs.Filling.{AreLaid}
 use Rattle.ac_engines.specs.Layouts.{IsLayout, first_lists, listed_at}
 use Rattle.ac_engines.specs.Rows.{behind}
 use Rattle.ac_engines.proofs.Numbers.{behind-small}
-use Rattle.ac_engines.proofs.Laying.{IsLaidUpTo, Plan, each, long, row-order}
+use Rattle.ac_engines.proofs.LaidUpTo.{IsLaidUpTo, Plan, each, row-order}
+use Rattle.ac_engines.proofs.Laying.{long}
 use Rattle.ac_engines.proofs.RowLists.{behind-each, behind-rows, first_lists-at, first_lists-empty, first_lists-none, length-first_lists, listed-row, none-left, row_lists-at}
 
 module _ (p : Plan) where
@@ -126,6 +127,7 @@ module _ (p : Plan) where
           start = h.start;
           whole = mul-le 4 p.stride last p.stride (omega (arith, w, f, l)) (omega arith);
           inner = λ s from before. inner-number s from (omega (arith, c, before));
+          rows = λ s from before. let rows = h.rows s from (omega (arith, c, before)) in (rows.row, rows.number);
           within = λ s from before. within-table s from (omega (arith, c, before));
           apart = λ s t from after before. h.apart s t from after (omega (arith, c, before));
         }

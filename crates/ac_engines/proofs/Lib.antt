@@ -1,10 +1,12 @@
 pub mod Assembled
 pub mod Filled
 pub mod LaidOut
+pub mod LaidUpTo
 pub mod Laying
 pub mod Listing
 pub mod Numbered
 pub mod Numbers
+pub mod OneRow
 pub mod Owning
 pub mod Places
 pub mod Ranges
@@ -12,3 +14,4 @@ pub mod RowByRow
 pub mod RowLists
 pub mod Setting
 pub mod Starts
+pub mod StateRows

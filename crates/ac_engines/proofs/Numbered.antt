@@ -1,7 +1,7 @@
 -- Where the rows of the states of a trie stand.
-use Rattle.std.proofs.Common.{◌≡◌, ◌≢◌, inl, inr, ℕ, zero, suc, ◌<◌, ◌≤◌, true, List, [], length, slice_index_or, arith, Some}
+use Rattle.std.proofs.Common.{◌≡◌, ◌≢◌, inl, inr, ℕ, zero, suc, ◌<◌, ◌≤◌, List, [], length, slice_index_or, arith, Some}
 use Rattle.std.specs.Prelude.{slice_get}
-use Rattle.ac_util.specs.Node.{Node, is_node}
+use Rattle.ac_util.specs.Node.{Node}
 use Rattle.ac_util.proofs.NodeCount.{inner_nodes-only}
 use Rattle.ac_automaton.specs.Automata.{plain_of}
 use Rattle.ac_automaton.specs.Readers.{AreNodes}
@@ -15,12 +15,6 @@ module _ (trie : Trie) (nodes : List Node) (h : AreNodes trie nodes) where
   inner-string s w inner named =
       (inner_nodes-only trie.built.kind (plain_of trie.built) w
       (h.numbered.only s w (record { inner = inner; named = named }))).1
-
-  pub inner-node : (s : ℕ) (w : List ℕ) → 4 ≤ s → slice_get nodes s ≡ Some (Some w)
-      → is_node trie.built.kind (plain_of trie.built) w ≡ true
-  inner-node s w inner named =
-      (inner_nodes-only trie.built.kind (plain_of trie.built) w
-      (h.numbered.only s w (record { inner = inner; named = named }))).0
 
   first-inner : (s : ℕ) (w : List ℕ) → 4 ≤ s → slice_get nodes s ≡ Some (Some w)
       → (t : ℕ) → t < s → slice_get nodes t ≢ Some (Some w)

@@ -68,7 +68,8 @@ module _ (t : Table) (anchored : Anchored) where
     table = h.table;
     supported = h.supported;
     node = tt;
-    number = e ∙ ap (λ n. slice_index_or t.entries (n + class_at t.classes b) 0) h.number ∙ h.table.dead b byte;
+    number = e ∙ ap (λ n. slice_index_or t.entries (n + class_at t.classes b) 0) h.number
+        ∙ h.table.dead (0 + class_at t.classes b) (let narrow = h.table.narrow b byte in omega arith);
   }
   stands-step s r (Some w) b h byte e = record {
     place = h.place;

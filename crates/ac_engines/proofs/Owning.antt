@@ -102,6 +102,6 @@ module _ (f : Filling) (nodes : List Node) (size s : ℕ) (w : List ℕ) (h : Ha
         let below = h.may.below byte small in
         let fits = h.may.room in
         rw (take-next (own_bytes f.trie.built (Some w)) index byte own.place)
-        (set-more (sheet_of f nodes) anchored w (λ b less. let b' = h.may.below b less in omega arith)
+        (set-more (sheet_of f nodes) anchored w h.may.below
         (take index (own_bytes f.trie.built (Some w))) byte v old now small
         (λ a less same. h.may.apart.own a byte less small stands same) (omega arith) e set)

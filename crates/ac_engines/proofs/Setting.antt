@@ -5,7 +5,7 @@ use Rattle.std.proofs.lemmas.Bool.{cases_eq}
 use Rattle.std.proofs.lemmas.List.{get_or-set_same, get_or-set_other, length-set}
 use Rattle.std.proofs.lemmas.List.Elements.{Contains-append_cases, Contains-append_left, Contains-append_right}
 use Rattle.ac_util.specs.declared.search.Anchored.{Anchored}
-use Rattle.ac_util.specs.Classes.{class_at}
+use Rattle.ac_util.specs.Classes.{alphabet_len, class_at}
 use Rattle.ac_util.specs.Sameness.{plain_byte}
 use Rattle.ac_util.proofs.Lists.{IsIn-from_Contains}
 use Rattle.ac_engines.specs.Filling.{HasSet, Sheet, row_at}
@@ -20,7 +20,8 @@ Contains-one a b h = elim (IsIn-from_Contains a (b ∷ []) h) [ inl same ↦ sym
 Contains-own : (a b : ℕ) → a ≡ b → Contains (b ∷ []) a
 Contains-own a b same = (0, omega arith, sym same)
 
-module _ (p : Sheet) (anchored : Anchored) (w : List ℕ) (narrow : (b : ℕ) → b < 256 → class_at p.classes b < p.stride) where
+module _ (p : Sheet) (anchored : Anchored) (w : List ℕ)
+    (below : (b : ℕ) → b < 256 → class_at p.classes b < alphabet_len p.classes) where
   -- nothing has been set at first
   pub set-none : (entries : List ℕ) → HasSet p anchored w [] entries entries
   set-none entries = record {
@@ -48,7 +49,7 @@ module _ (p : Sheet) (anchored : Anchored) (w : List ℕ) (narrow : (b : ℕ) �
       record {
         same_length = length-set now at v ∙ h.same_length;
         beside = λ k outside.
-            get_or-set_other now at k v 0 (let n = narrow b byte in λ same. omega arith) ∙ h.beside k outside;
+            get_or-set_other now at k v 0 (let n = below b byte in λ same. omega arith) ∙ h.beside k outside;
         own = λ a small has. elim (cases_eq a b) [
           | inl same ↦ rw same (get_or-set_same now at v 0 within ∙ e)
           | inr other ↦ elim (Contains-append_cases bytes (b ∷ []) a has) [

@@ -35,10 +35,16 @@ module _ (p : Sheet) where
   abbrev pub row_at : Anchored → Node → ℕ
   row_at anchored u = number_of (place_in p.nodes p.numbers) (behind p.built.start_kind anchored p.stride) u
 
+  -- in the row of a node the entries past the classes are dead
+  abbrev pub EndsDead : Anchored → Node → List ℕ → Type 0
+  EndsDead anchored u entries = (k : ℕ) → alphabet_len p.classes ≤ k → k < p.stride
+      → slice_index_or entries (row_at anchored u + k) 0 ≡ 0
+
   -- the row of a node is filled: from it each class of bytes leads to the row of the node after the step
-  abbrev pub IsFilled : Anchored → Node → List ℕ → Type 0
-  IsFilled anchored u entries = (b : ℕ) → b < 256
-      → entry p.classes entries (row_at anchored u) b ≡ row_at anchored (step_of p.built anchored u b)
+  pub record IsFilled (anchored : Anchored) (u : Node) (entries : List ℕ) : Type 0 where
+    pub steps : (b : ℕ) → b < 256
+        → entry p.classes entries (row_at anchored u) b ≡ row_at anchored (step_of p.built anchored u b)
+    pub past : EndsDead anchored u entries
 
   -- the entries beside a part of the table are the same
   abbrev pub SameBeside : ℕ → ℕ → List ℕ → List ℕ → Type 0
@@ -48,7 +54,7 @@ module _ (p : Sheet) where
   -- the own transitions of a string by these bytes have been set in its row, and nothing else
   pub record HasSet (anchored : Anchored) (w : List ℕ) (bytes : List ℕ) (old new : List ℕ) : Type 0 where
     pub same_length : length new ≡ length old
-    pub beside : SameBeside (row_at anchored (Some w)) p.stride old new
+    pub beside : SameBeside (row_at anchored (Some w)) (alphabet_len p.classes) old new
     pub own : (b : ℕ) → b < 256 → Contains bytes b
         → entry p.classes new (row_at anchored (Some w)) b
         ≡ row_at anchored (Some (w ++ plain_byte p.built.fold b ∷ []))
@@ -75,6 +81,7 @@ module _ (p : Sheet) where
     pub start : slice_index_or p.numbers 2 0 ≡ 2 * p.stride
     pub whole : 4 * p.stride ≤ size
     pub inner : (s : ℕ) → 4 ≤ s → s < length p.numbers → 4 * p.stride ≤ slice_index_or p.numbers s 0
+    pub rows : (s : ℕ) → 4 ≤ s → s < length p.numbers → (row : ℕ) × (slice_index_or p.numbers s 0 ≡ row * p.stride)
     pub within : (s : ℕ) → 4 ≤ s → s < length p.numbers → slice_index_or p.numbers s 0 + width ≤ size
     pub apart : (s t : ℕ) → 4 ≤ s → s < t → t < length p.numbers
         → (slice_index_or p.numbers s 0 + width ≤ slice_index_or p.numbers t 0)
@@ -129,6 +136,7 @@ module _ (f : Filling) (nodes : List Node) (size : ℕ) where
   -- filled
   pub record MayFillRow (s : ℕ) (w : List ℕ) (anchored : Anchored) (entries : List ℕ) : Type 0 where
     pub row : HasRow s w
-    pub blank : (b : ℕ) → b < 256 → entry f.classes entries (row_at (sheet_of f nodes) anchored (Some w)) b ≡ 0
+    pub blank : (k : ℕ) → k < f.stride
+        → slice_index_or entries (row_at (sheet_of f nodes) anchored (Some w) + k) 0 ≡ 0
     pub earlier : anchored ≡ No → (t : ℕ) (u : Node) → t < s → t ≢ 3 → slice_get nodes t ≡ Some u
         → IsFilled (sheet_of f nodes) No u entries

@@ -11,7 +11,7 @@ use Rattle.std.proofs.lemmas.List.{append-nil}
 use Rattle.ac_util.specs.Matches.{equal_to, matches}
 use Rattle.ac_util.proofs.Found.{matches-failure}
 use Rattle.ac_automaton.specs.Automata.{Lists}
-use Rattle.ac_util.specs.Classes.{IsNode, class_at}
+use Rattle.ac_util.specs.Classes.{IsNode, alphabet_len, class_at}
 use Rattle.ac_util.specs.Node.{Node, failure, last_start, starting_by}
 use Rattle.ac_util.specs.Pieces.{pieces}
 use Rattle.ac_util.specs.Refusal.{start_refusal}
@@ -51,21 +51,27 @@ abbrev pub number_of : (List ℕ → ℕ) → ℕ → Node → ℕ
 number_of place shift None = 0
 number_of place shift (Some w) = place w + shift
 
--- the rows stand for the nodes: each node has a row in front of which whole rows stand, and from it each class of
--- bytes leads to the row of the node after the step. Row 0 is the dead node's, the row after it is no node's, and
--- then come those of the start. Each row lists the matches of its node
+-- the rows of a table stand for nodes; `place` tells at which entry the first row of a string's node begins. Row 0 is
+-- the dead node's, row 1 is no node's, rows 2 and 3 are kept for the start, and those of all other nodes come after
+-- these. At the class of a byte a row has the state after that byte, and past the classes the dead state, which is 0.
+-- The match list of a row has the matches of its node
 pub record IsTable (t : Table) (place : List ℕ → ℕ) : Type 0 where
   pub narrow : (b : ℕ) → b < 256 → class_at t.classes b < stride_of t
-  pub dead : (b : ℕ) → b < 256 → entry t.classes t.entries 0 b ≡ 0
+  pub dead : (k : ℕ) → k < stride_of t → slice_index_or t.entries k 0 ≡ 0
   pub unlisted : list_at t 0 ≡ []
   pub start : place [] ≡ 2 * stride_of t
   pub inner : (w : List ℕ) → IsNode t.built.kind (plain_of t.built) (Some w) → w ≢ [] → 4 * stride_of t ≤ place w
+  pub rows : (anchored : Anchored) (w : List ℕ) → IsNode t.built.kind (plain_of t.built) (Some w)
+      → (row : ℕ) × (place w + behind t.built.start_kind anchored (stride_of t) ≡ row * stride_of t)
   pub within : (anchored : Anchored) (w : List ℕ) → IsNode t.built.kind (plain_of t.built) (Some w)
       → place w + behind t.built.start_kind anchored (stride_of t) + stride_of t ≤ length t.entries
   pub steps : (anchored : Anchored) (w : List ℕ) (b : ℕ) → start_refusal t.built.start_kind anchored ≡ None
       → IsNode t.built.kind (plain_of t.built) (Some w) → b < 256
       → entry t.classes t.entries (place w + behind t.built.start_kind anchored (stride_of t)) b
       ≡ number_of place (behind t.built.start_kind anchored (stride_of t)) (step_of t.built anchored (Some w) b)
+  pub past : (anchored : Anchored) (w : List ℕ) (k : ℕ) → start_refusal t.built.start_kind anchored ≡ None
+      → IsNode t.built.kind (plain_of t.built) (Some w) → alphabet_len t.classes ≤ k → k < stride_of t
+      → slice_index_or t.entries (place w + behind t.built.start_kind anchored (stride_of t) + k) 0 ≡ 0
   pub lists : (anchored : Anchored) (w : List ℕ) → start_refusal t.built.start_kind anchored ≡ None
       → IsNode t.built.kind (plain_of t.built) (Some w)
       → list_at t (place w + behind t.built.start_kind anchored (stride_of t)) ≡ matches_of t.built anchored (Some w)

@@ -11,7 +11,7 @@ ghost use Rattle.ac_engines.specs.Layouts.{table_rows};
 ghost use Rattle.ac_engines.specs.Rows.{start_number};
 
 use super::fill::Filler;
-use super::layout::Layout;
+use super::layout::{Layout, table_rows};
 use super::{DEAD, DFA};
 use ac_automaton::automaton::Automaton;
 use ac_automaton::nfa::noncontiguous::{self, NFA};
@@ -162,7 +162,8 @@ impl Builder {
     {
         let classes = classes_for(nfa, self.byte_classes);
         let stride2 = classes.stride2();
-        let len = table_len(rows_len(nfa.states_len(), self.start_kind), stride2)?;
+        let rows = table_rows(self.start_kind, nfa.states_len()) as u64;
+        let len = table_len(rows, stride2)?;
         let layout = Layout::of(alloc.clone()?, nfa, self.start_kind, stride2)?;
         let filler = Filler {
             nfa,
@@ -216,20 +217,6 @@ pub fn table_len(rows: u64, stride2: u32) -> Result<u64, BuildError>
         });
     }
     Ok(last + stride)
-}
-
-/// Returns how many rows a table with these starts has for a trie of so many states.
-fn rows_len(states: usize, start_kind: StartKind) -> u64
-    requires some { 4 ≤ states }
-    requires few { states ≤ GREATEST + 1 }
-    ensures value { result ≡ table_rows start_kind states }
-    ensures some { 1 ≤ result }
-    ensures few { result ≤ table_rows StartKind.Both (GREATEST + 1) }
-{
-    match start_kind {
-        StartKind::Both => 2 * states as u64 - 4,
-        _ => states as u64,
-    }
 }
 
 /// Returns the classes by which a table steps that is built from an automaton.

@@ -1,6 +1,7 @@
 //! Where the rows of a table stand.
 ghost use Rattle.std.specs.Prelude.{◌≡◌, ◌∷◌, [], ℕ, ◌+◌, ◌-◌, ◌*◌, ◌^◌, ◌≤◌, ◌<◌, IfOk, List, Some, length, slice_get};
 ghost use Rattle.ac_util.specs.declared.primitives.TheConstants.{GREATEST};
+ghost use Rattle.ac_util.specs.declared.search.StartKind;
 ghost use Rattle.ac_util.specs.Node.{Node};
 ghost use Rattle.ac_util.specs.Pieces.{AreBounds, pieces};
 ghost use Rattle.ac_util.specs.Sizes.{state_count};
@@ -165,11 +166,13 @@ fn rows_each(start_kind: StartKind) -> usize
     }
 }
 
-/// Returns how many rows a table has for a trie of so many states.
-fn table_rows(start_kind: StartKind, states: usize) -> usize
+/// Returns how many rows a table with these starts has for a trie of so many states.
+pub(super) fn table_rows(start_kind: StartKind, states: usize) -> usize
     requires first { FIRST_INNER ≤ states }
     requires few { states ≤ GREATEST + 1 }
-    ensures { result ≡ table_rows start_kind states }
+    ensures value { result ≡ table_rows start_kind states }
+    ensures some { 1 ≤ result }
+    ensures few { result ≤ table_rows StartKind.Both (GREATEST + 1) }
 {
     match start_kind {
         StartKind::Both => 2 * states - FIRST_INNER,

@@ -10,9 +10,9 @@ pub filled_table-requires : goal.filled_table-requires
 filled_table-requires g c =
     let nodes = c.states_len.ensures.numbered in
     let plan = planned c.args.nfa.now c.self.inside.start_kind c.self.inside.byte_classes c.classes_for-classes.result
-    c.stride2-stride2.result c.stride.result c.states_len.result c.rows_len.result c.in_ok-len.len
+    c.stride2-stride2.result c.stride.result c.states_len.result c.table_rows-rows.result c.in_ok-len.len
     c.classes_for-classes.ensures c.stride2-stride2.ensures.value c.stride.ensures c.states_len.ensures.value
-    c.rows_len.ensures.value c.rows_len.ensures.some c.in_ok-len.ensures.0 c.in_ok-len.ensures.1 in
+    c.table_rows-rows.ensures.value c.table_rows-rows.ensures.some c.in_ok-len.ensures.0 c.in_ok-len.ensures.1 in
     let layout = c.in_ok-layout.layout in
     record {
       may = (
@@ -29,9 +29,9 @@ pub invariant_of-result : goal.invariant_of-result
 invariant_of-result g c =
     let nodes = c.states_len.ensures.numbered in
     let plan = planned c.args.nfa.now c.self.inside.start_kind c.self.inside.byte_classes c.classes_for-classes.result
-    c.stride2-stride2.result c.stride.result c.states_len.result c.rows_len.result c.in_ok-len.len
+    c.stride2-stride2.result c.stride.result c.states_len.result c.table_rows-rows.result c.in_ok-len.len
     c.classes_for-classes.ensures c.stride2-stride2.ensures.value c.stride.ensures c.states_len.ensures.value
-    c.rows_len.ensures.value c.rows_len.ensures.some c.in_ok-len.ensures.0 c.in_ok-len.ensures.1 in
+    c.table_rows-rows.ensures.value c.table_rows-rows.ensures.some c.in_ok-len.ensures.0 c.in_ok-len.ensures.1 in
     let layout = c.in_ok-layout.layout in
     let lists = pieces layout.lists.listed.items layout.lists.bounds.items in
     let laid = c.in_ok-layout.ensures.layout nodes.0 nodes.1 in
@@ -63,9 +63,9 @@ invariant_of-result g c =
 pub returns : goal.returns
 returns g c =
     let plan = planned c.args.nfa.now c.self.inside.start_kind c.self.inside.byte_classes c.classes_for-classes.result
-    c.stride2-stride2.result c.stride.result c.states_len.result c.rows_len.result c.in_ok-len.len
+    c.stride2-stride2.result c.stride.result c.states_len.result c.table_rows-rows.result c.in_ok-len.len
     c.classes_for-classes.ensures c.stride2-stride2.ensures.value c.stride.ensures c.states_len.ensures.value
-    c.rows_len.ensures.value c.rows_len.ensures.some c.in_ok-len.ensures.0 c.in_ok-len.ensures.1 in
+    c.table_rows-rows.ensures.value c.table_rows-rows.ensures.some c.in_ok-len.ensures.0 c.in_ok-len.ensures.1 in
     let patterns : c.in_ok-clone-2.field-0.value ≡ c.args.nfa.now.built.patterns =
     c.in_ok-clone-2.ensures.cases ∙ c.patterns.ensures in
     let classes = c.classes_for-classes.ensures in

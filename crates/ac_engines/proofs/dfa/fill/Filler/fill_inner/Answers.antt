@@ -8,7 +8,8 @@ use Rattle.ac_automaton.specs.Readers.{AreNodes}
 use Rattle.ac_automaton.specs.Tries.{Trie}
 use Rattle.ac_engines.specs.Filling.{Filling}
 use Rattle.ac_engines.proofs.Owning.{row-room}
-use Rattle.ac_engines.proofs.RowByRow.{failed-to, inner-filled, row-of}
+use Rattle.ac_engines.proofs.OneRow.{inner-filled}
+use Rattle.ac_engines.proofs.StateRows.{failed-to, row-of}
 use Rattle.ac_engines.proofs.dfa.fill.Filler.fill_inner.Goals as goal
 
 -- the row lies in the table
@@ -48,4 +49,4 @@ returns g c = λ nodes w some m.
     inner-filled f nodes size c.args.sid w m.row c.first_row-from.result c.as_usize-to.result part c.args.table.now
     c.copy_within.new.self c.set_own.new.table some
     (m.earlier refl c.fail.result target c.fail.ensures.back c.fail.ensures.start named) from to (omega arith)
-    c.copy_within.ensures.len copies.0 copies.1 copies.2 set
+    c.copy_within.ensures.len (λ k from to. m.blank k to) copies.0 copies.1 copies.2 set

@@ -5,7 +5,7 @@ use Rattle.ac_util.proofs.Reached.{stops}
 use Rattle.ac_automaton.specs.Automata.{plain_of}
 use Rattle.ac_engines.specs.Filling.{Filling}
 use Rattle.ac_engines.proofs.Owning.{row-room}
-use Rattle.ac_engines.proofs.RowByRow.{start-led}
+use Rattle.ac_engines.proofs.OneRow.{start-led}
 use Rattle.ac_engines.proofs.dfa.fill.Filler.fill_start.Goals as goal
 
 pub lead_all-requires : goal.lead_all-requires
@@ -30,4 +30,4 @@ returns g c = λ nodes m.
     (rw (c.lead_all.ensures.same_length, c.must-sid.ensures.value) m.row) in
     start-led f nodes size 2 [] m.row (stops f.trie.built.kind (plain_of f.trie.built) []) c.number-start.result
     c.missing.result c.alphabet_len.result c.args.table.now c.lead_all.new.table c.set_own.new.table refl refl row
-    c.missing.ensures len c.lead_all.ensures.same_length c.lead_all.ensures.filled c.lead_all.ensures.beside set
+    c.missing.ensures len c.lead_all.ensures.same_length (λ k from to. m.blank k to) c.lead_all.ensures.filled c.lead_all.ensures.beside set

@@ -13,8 +13,7 @@ use Rattle.ac_engines.proofs.dfa.fill.Filler.set_own.Goals as goal
 -- nothing has been set at first
 pub loop-index-init : goal.loop-index-init
 loop-index-init g c = λ nodes w h.
-    set-none (sheet_of c.args.self.now nodes) c.args.anchored w
-    (λ b less. let below = h.may.below b less in let room = h.may.room in omega arith) c.args.table.now
+    set-none (sheet_of c.args.self.now nodes) c.args.anchored w h.may.below c.args.table.now
 
 pub own-byte-requires-clause-numbered : goal.own-byte-requires-clause-numbered
 own-byte-requires-clause-numbered g c =

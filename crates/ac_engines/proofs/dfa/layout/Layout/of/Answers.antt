@@ -8,7 +8,8 @@ use Rattle.ac_automaton.specs.Automata.{plain_of}
 use Rattle.ac_automaton.proofs.Heads.{nil-from_not}
 use Rattle.ac_engines.specs.Layouts.{rows_each, table_rows}
 use Rattle.ac_engines.proofs.LaidOut.{four-empty, laid-out, two-empty}
-use Rattle.ac_engines.proofs.Laying.{IsLaidUpTo, named-inner, none-laid, one-more-laid, plan_of, row-number}
+use Rattle.ac_engines.proofs.LaidUpTo.{IsLaidUpTo, named-inner, none-laid, plan_of}
+use Rattle.ac_engines.proofs.Laying.{one-more-laid, row-number}
 use Rattle.ac_engines.proofs.RowLists.{table_rows-each, unmatched}
 use Rattle.ac_engines.proofs.dfa.layout.Layout.of.Goals.{then-is_match, else-is_match}
 use Rattle.ac_engines.proofs.dfa.layout.Layout.of.Goals as goal
@@ -20,7 +21,7 @@ loop-state-init g c = record {
   laid = λ nodes h.
       let count = h.numbered.count in
       let states = state_count c.args.nfa.now.built.kind (plain_of c.args.nfa.now.built) in
-      rw (c.in_ok-numbers.ensures, c.in_ok-first_lists.ensures.lists, c.table_rows.ensures, c.states_len-states.ensures.value)
+      rw (c.in_ok-numbers.ensures, c.in_ok-first_lists.ensures.lists, c.table_rows.ensures.value, c.states_len-states.ensures.value)
       (none-laid (plan_of c.args.nfa.now c.args.start_kind c.args.stride2 nodes) (table_rows c.args.start_kind states)
       (omega (arith, count))
       (table_rows-each c.args.start_kind states (omega arith) ∙ ap (λ n. 4 + rows_each c.args.start_kind * (n - 4)) (sym count)));

@@ -5,7 +5,7 @@ use Rattle.ac_util.specs.Sizes.{state_count}
 use Rattle.ac_automaton.specs.Automata.{plain_of}
 use Rattle.ac_automaton.specs.Readers.{AreNodes}
 use Rattle.ac_engines.specs.Layouts.{table_rows}
-use Rattle.ac_engines.proofs.Laying.{IsLaidUpTo, plan_of}
+use Rattle.ac_engines.proofs.LaidUpTo.{IsLaidUpTo, plan_of}
 use Rattle.ac_engines.proofs.dfa.layout.Layout.of.Given as goal
 
 -- the states so far have their rows

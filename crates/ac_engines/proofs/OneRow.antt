@@ -1,0 +1,133 @@
+-- How one row of a table is filled.
+use Rattle.std.proofs.Common.{◌≡◌, ◌≢◌, ◌⊎◌, inl, inr, ℕ, ◌+◌, ◌-◌, ◌<◌, ◌≤◌, Bool, true, false, cond, List, [], ◌∷◌, length, slice_index_or, refl, ap, sym, ◌∙◌, arith, Some, None}
+use Rattle.std.specs.Prelude.{if◌then◌else◌}
+use Rattle.std.specs.List.{CopiedTo, SameBelow, SameFrom}
+use Rattle.std.proofs.lemmas.Bool.{false≢true}
+use Rattle.ac_util.specs.declared.search.Anchored.TheVariants.{No, Yes}
+use Rattle.ac_util.specs.Classes.{alphabet_len, class_at}
+use Rattle.ac_util.specs.Node.{Node, failure}
+use Rattle.ac_util.specs.Sameness.{plain_byte}
+use Rattle.ac_util.proofs.Reached.{step-nil, stops}
+use Rattle.ac_automaton.specs.Automata.{plain_of, step_of}
+use Rattle.ac_automaton.specs.Readers.{leads_on, own_bytes}
+use Rattle.ac_engines.specs.Filling.{EndsDead, Filling, HasFilled, HasRow, HasSet, IsFilled, MayFillRow, SameBeside, Sheet, row_at, sheet_of}
+use Rattle.ac_engines.specs.Rows.{behind, entry}
+use Rattle.ac_engines.proofs.Filled.{filled-anchored, filled-longer, own_bytes-has, own_bytes-only, past-set}
+use Rattle.ac_engines.proofs.StateRows.{narrow}
+
+-- what holds beside a part of the table that was changed twice
+pub beside-both : (p : Sheet) (first room : ℕ) (old between new : List ℕ) → SameBeside p first room old between
+    → SameBeside p first room between new → SameBeside p first room old new
+beside-both p first room old between new one two = λ k outside. two k outside ∙ one k outside
+
+module _ (f : Filling) (nodes : List Node) (size s : ℕ) (w : List ℕ) (h : HasRow f nodes size s w) where
+  -- the sheet of the table
+  abbrev p : Sheet
+  p = sheet_of f nodes
+
+  -- what was changed within the classes was changed within the row
+  beside-row : (row : ℕ) (old new : List ℕ) → SameBeside p row (alphabet_len f.classes) old new
+      → SameBeside p row f.stride old new
+  beside-row row old new same k (inl before) = same k (inl before)
+  beside-row row old new same k (inr behind) = same k (inr (let room = h.may.room in omega arith))
+
+  -- an anchored row is filled once its own transitions are set
+  pub anchored-filled : (old new : List ℕ) → MayFillRow f nodes size s w Yes old
+      → HasSet p Yes w (own_bytes p.built (Some w)) old new → HasFilled p Yes w old new
+  anchored-filled old new m set = record {
+    same_length = set.same_length;
+    beside = beside-row (row_at p Yes (Some w)) old new set.beside;
+    filled = filled-anchored p (narrow f nodes size h.may) w old new m.blank set;
+  }
+
+  -- where a byte leads from the start that leads on
+  start-own : (b : ℕ) → leads_on p.built (Some []) b ≡ true
+      → step_of p.built No (Some []) b ≡ Some (plain_byte p.built.fold b ∷ [])
+  start-own b own = step-nil p.built.kind (plain_of p.built) (plain_byte p.built.fold b) ∙ rw own refl
+
+  -- the start's row is filled where all classes led where a byte leads that doesn't lead on
+  pub start-filled : (missing : Node) (old led new : List ℕ)
+      → ((b : ℕ) → leads_on p.built (Some []) b ≡ false → step_of p.built No (Some []) b ≡ missing)
+      → length led ≡ length old → EndsDead p No (Some []) old
+      → SameBeside p (row_at p No (Some [])) (alphabet_len f.classes) old led
+      → ((b : ℕ) → b < 256 → entry f.classes led (row_at p No (Some [])) b ≡ row_at p No missing)
+      → HasSet p No [] (own_bytes p.built (Some [])) led new → HasFilled p No [] old new
+  start-filled missing old led new misses long past beside leads set = record {
+    same_length = set.same_length ∙ long;
+    beside = beside-row (row_at p No (Some [])) old new
+        (beside-both p (row_at p No (Some [])) (alphabet_len f.classes) old led new beside set.beside);
+    filled = record {
+      steps = λ b byte. go b byte (leads_on p.built (Some []) b) refl;
+      past = past-set p No [] (own_bytes p.built (Some [])) led new set past-led;
+    };
+  }
+    where
+      past-led : EndsDead p No (Some []) led
+      past-led k from to = beside (row_at p No (Some []) + k) (inr (omega arith)) ∙ past k from to
+
+      go : (b : ℕ) → b < 256 → (t : Bool) → leads_on p.built (Some []) b ≡ t
+          → entry p.classes new (row_at p No (Some [])) b ≡ row_at p No (step_of p.built No (Some []) b)
+      go b byte true own =
+          set.own b byte (own_bytes-has p.built (Some []) b byte own)
+          ∙ ap (row_at p No) (sym (start-own b own))
+      go b byte false none =
+          set.others b byte (λ has. false≢true (sym none ∙ own_bytes-only p.built (Some []) b has))
+          ∙ leads b byte ∙ ap (row_at p No) (sym (misses b none))
+
+  -- where a byte leads from the start that doesn't lead on
+  pub start-misses : (t : Bool) → stops p.built.kind (plain_of p.built) [] ≡ t → (b : ℕ)
+      → leads_on p.built (Some []) b ≡ false → step_of p.built No (Some []) b ≡ cond t None (Some [])
+  start-misses t stopped b none =
+      step-nil p.built.kind (plain_of p.built) (plain_byte p.built.fold b) ∙ rw (none, stopped) refl
+
+  -- the row of that node
+  pub missing-row : (t : Bool) → (if t then 0 else row_at p No (Some [])) ≡ row_at p No (cond t None (Some []))
+  missing-row true = refl
+  missing-row false = refl
+
+  -- the start's row, where all its classes first led to that node
+  pub start-led : (t : Bool) (start to len : ℕ) (old led new : List ℕ) → w ≡ []
+      → stops p.built.kind (plain_of p.built) [] ≡ t → start ≡ row_at p No (Some [])
+      → to ≡ (if t then 0 else start) → len ≡ alphabet_len f.classes → length led ≡ length old
+      → EndsDead p No (Some []) old
+      → ((k : ℕ) → start ≤ k → k < start + len → slice_index_or led k 0 ≡ to)
+      → ((k : ℕ) → (k < start) ⊎ (start + len ≤ k) → slice_index_or led k 0 ≡ slice_index_or old k 0)
+      → HasSet p No [] (own_bytes p.built (Some [])) led new → HasFilled p No [] old new
+  start-led t start to len old led new empty stopped row target classes long past leads beside set =
+      start-filled (cond t None (Some [])) old led new (start-misses t stopped) long past
+      (λ k outside. beside k (elim outside [ inl before ↦ inl (omega arith) | inr behind ↦ inr (omega arith) ]))
+      (λ b byte. leads (row_at p No (Some []) + class_at f.classes b) (omega arith)
+      (let below = h.may.below b byte in omega arith)
+      ∙ target ∙ ap (λ n. if t then 0 else n) row ∙ missing-row t)
+      set
+
+  -- an inner row is filled once that of the failure target was copied and its own transitions are set
+  pub inner-filled : (from to len : ℕ) (old copied new : List ℕ) → w ≢ []
+      → IsFilled p No (failure f.trie.built.kind (plain_of f.trie.built) w) old
+      → from ≡ row_at p No (failure f.trie.built.kind (plain_of f.trie.built) w) → to ≡ row_at p No (Some w)
+      → len ≡ alphabet_len f.classes → length copied ≡ length old → EndsDead p No (Some w) old
+      → CopiedTo old copied from to len → SameBelow old copied to → SameFrom old copied (to + len)
+      → HasSet p No w (own_bytes p.built (Some w)) copied new → HasFilled p No w old new
+  inner-filled from to len old copied new some earlier target row classes long past copies below above set = record {
+    same_length = set.same_length ∙ long;
+    beside = beside-row (row_at p No (Some w)) old new
+        (beside-both p (row_at p No (Some w)) (alphabet_len f.classes) old copied new outside set.beside);
+    filled = filled-longer p w old copied new some earlier copied-entry past-copied set;
+  }
+    where
+      outside : SameBeside p (row_at p No (Some w)) (alphabet_len f.classes) old copied
+      outside k (inl before) = below k 0 (omega arith)
+      outside k (inr behind) = above k 0 (omega arith)
+
+      past-copied : EndsDead p No (Some w) copied
+      past-copied k from_class to_end = outside (row_at p No (Some w) + k) (inr (omega arith)) ∙ past k from_class to_end
+
+      copied-entry : (b : ℕ) → b < 256 → entry p.classes copied (row_at p No (Some w)) b
+          ≡ entry p.classes old (row_at p No (failure p.built.kind (plain_of p.built) w)) b
+      copied-entry b byte =
+          let small = h.may.below b byte in
+          let at = row_at p No (Some w) + class_at f.classes b in
+          let place : from + (at - to)
+          ≡ row_at p No (failure p.built.kind (plain_of p.built) w) + class_at f.classes b = omega arith in
+          copies at 0 (omega arith) (omega arith)
+          ∙ ap (λ k. slice_index_or old k 0) place

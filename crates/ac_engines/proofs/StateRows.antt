@@ -1,0 +1,93 @@
+-- Which states of a trie have rows in a table, and that these stand apart.
+use Rattle.std.proofs.Common.{◌≡◌, ◌≢◌, ◌⊎◌, inl, inr, ℕ, zero, suc, ◌+◌, ◌*◌, ◌<◌, ◌≤◌, List, [], ◌∷◌, length, slice_index_or, refl, ap, arith, Some, None}
+use Rattle.std.specs.Prelude.{slice_get}
+use Rattle.std.proofs.lemmas.Option.{slice_get_within}
+use Rattle.ac_util.specs.declared.search.Anchored.TheVariants.{No, Yes}
+use Rattle.ac_util.specs.declared.search.StartKind.{StartKind}
+use Rattle.ac_util.specs.declared.search.StartKind.TheVariants.{Anchored as AnchoredAlone, Both, Unanchored}
+use Rattle.ac_util.specs.declared.search.MatchKind.{MatchKind}
+use Rattle.ac_util.specs.Classes.{class_at}
+use Rattle.ac_util.specs.Node.{Node, failure}
+use Rattle.ac_engines.specs.Filling.{Filling, HasRow, MayFill, row_at, sheet_of, width}
+use Rattle.ac_engines.specs.Rows.{behind}
+use Rattle.ac_engines.proofs.Numbers.{behind-small}
+use Rattle.ac_engines.proofs.Numbered.{place-inner, place-start}
+
+-- unanchored rows stand nowhere behind
+pub behind-none : (start_kind : StartKind) (stride : ℕ) → behind start_kind No stride ≡ 0
+behind-none Both stride = refl
+behind-none Unanchored stride = refl
+behind-none AnchoredAlone stride = refl
+
+module _ (f : Filling) (nodes : List Node) (size : ℕ) (may : MayFill f nodes size) where
+  -- a class stands in its row
+  pub narrow : (b : ℕ) → b < 256 → class_at f.classes b < f.stride
+  narrow b byte = let below = may.below b byte in let room = may.room in omega arith
+
+  -- the number of a state is where the unanchored row of its node begins
+  pub row-of : (t : ℕ) (u : Node) → slice_get nodes t ≡ Some u → t ≢ 3
+      → slice_index_or f.numbers t 0 ≡ row_at (sheet_of f nodes) No u
+  row-of zero None named other = may.laid.dead
+  row-of zero (Some w) named other = let dead = may.are_nodes.dead in absurd cc
+  row-of (suc zero) None named other = may.laid.unreached
+  row-of (suc zero) (Some w) named other = let dead = may.are_nodes.unreached in absurd cc
+  row-of (suc (suc zero)) None named other = let start = may.are_nodes.start in absurd cc
+  row-of (suc (suc zero)) (Some w) named other =
+      let start = may.are_nodes.start in
+      let empty : w ≡ [] = cc in
+      let place = place-start f.trie nodes may.are_nodes f.numbers may.laid.count in
+      let none = behind-none f.start_kind f.stride in
+      rw empty (omega arith)
+  row-of (suc (suc (suc zero))) u named other = absurd (other refl)
+  row-of (suc (suc (suc (suc t)))) None named other =
+      let within = slice_get_within nodes (suc (suc (suc (suc t)))) None named in
+      let node = (may.are_nodes.numbered.node (suc (suc (suc (suc t)))) (omega arith) within).1.named in
+      absurd cc
+  row-of (suc (suc (suc (suc t)))) (Some w) named other =
+      let place = place-inner f.trie nodes may.are_nodes f.numbers (suc (suc (suc (suc t)))) w may.laid.count
+      (omega arith) named in
+      let none = behind-none f.start_kind f.stride in
+      omega arith
+
+  -- a state that stands for a string has a row, but for the start of anchored searches
+  pub has-row : (t : ℕ) (w : List ℕ) → slice_get nodes t ≡ Some (Some w) → t ≢ 3 → HasRow f nodes size t w
+  has-row zero w named other = let dead = may.are_nodes.dead in absurd cc
+  has-row (suc zero) w named other = let dead = may.are_nodes.unreached in absurd cc
+  has-row (suc (suc zero)) w named other = record { may = may; named = named; place = inl refl }
+  has-row (suc (suc (suc zero))) w named other = absurd (other refl)
+  has-row (suc (suc (suc (suc t)))) w named other = record { may = may; named = named; place = inr (omega arith) }
+
+  -- each state behind the starts has a row
+  pub row-at : (s : ℕ) → 4 ≤ s → s < length nodes → (w : List ℕ) × HasRow f nodes size s w
+  row-at s inner within =
+      let node = may.are_nodes.numbered.node s inner within in
+      (node.0, record { may = may; named = node.1.named; place = inr inner })
+
+  -- the rows of two states stand apart
+  pub rows-apart : (s t : ℕ) → (s ≡ 2) ⊎ (4 ≤ s) → 4 ≤ t → s < t → t < length f.numbers
+      → (slice_index_or f.numbers s 0 + width (sheet_of f nodes) ≤ slice_index_or f.numbers t 0)
+      ⊎ (slice_index_or f.numbers t 0 + width (sheet_of f nodes) ≤ slice_index_or f.numbers s 0)
+  rows-apart s t (inl start) inner order there =
+      let first = may.laid.start in
+      let at = ap (λ k. slice_index_or f.numbers k 0) start in
+      let later = may.laid.inner t inner there in
+      let small = behind-small f.start_kind Yes f.stride in
+      inl (omega arith)
+  rows-apart s t (inr other) inner order there = may.laid.apart s t other order there
+
+  -- and behind that of the dead state
+  pub row-behind : (s : ℕ) → (s ≡ 2) ⊎ (4 ≤ s) → s < length f.numbers
+      → 2 * f.stride ≤ slice_index_or f.numbers s 0
+  row-behind s (inl start) there =
+      let first = may.laid.start in
+      let at = ap (λ k. slice_index_or f.numbers k 0) start in
+      omega arith
+  row-behind s (inr inner) there = let later = may.laid.inner s inner there in omega arith
+
+-- the failure target of a string that isn't empty
+pub failed-to : (kind : MatchKind) (patterns : List (List ℕ)) (nodes : List Node) (s t : ℕ) (w : List ℕ) → w ≢ []
+    → ((x : ℕ) (u : List ℕ) → slice_get nodes s ≡ Some (Some (x ∷ u))
+    → slice_get nodes t ≡ Some (failure kind patterns (x ∷ u)))
+    → slice_get nodes s ≡ Some (Some w) → slice_get nodes t ≡ Some (failure kind patterns w)
+failed-to kind patterns nodes s t [] some target named = absurd (some refl)
+failed-to kind patterns nodes s t (x ∷ w) some target named = target x w named
