@@ -1,5 +1,5 @@
 //! A table of steps: one look for each byte.
-ghost use Rattle.std.specs.Prelude.{◌≡◌, ℕ, ◌+◌, ◌<◌, false, List, length, MatchResult, slice_index_or};
+ghost use Rattle.std.specs.Prelude.{◌≡◌, ℕ, ◌+◌, ◌<◌, ◌≤◌, false, IsTrue, List, length, MatchResult, slice_index_or};
 ghost use Rattle.std.proofs.Common.{inl, refl};
 ghost use Rattle.ac_util.specs.Borrowed.{bytes_of};
 ghost use Rattle.ac_util.specs.Node.{Node};
@@ -202,7 +202,7 @@ impl<A: Allocator> Automaton for DFA<A> {
 
     #[inline]
     fn is_match(&self, sid: StateID) -> bool {
-        self.match_numbers().contains(&sid.as_usize()) && !self.list(sid).is_empty()
+        lies_in(self.match_numbers(), sid.as_usize()) && !self.list(sid).is_empty()
     }
 
     #[inline]
@@ -273,6 +273,15 @@ fn target(entries: &[StateID], class: usize, sid: StateID) -> StateID
 {
     let column = &entries[class..];
     column[sid.as_usize()]
+}
+
+/// Returns whether a number lies in a range, by one compare: a number before the range wraps, and so is too large. Where
+/// the range ends before it starts, nothing is promised.
+#[inline]
+fn lies_in(range: Range<usize>, number: usize) -> bool
+    ensures { range.start ≤ number → number < range.end → IsTrue result }
+{
+    number.wrapping_sub(range.start) < range.end.wrapping_sub(range.start)
 }
 
 #[cfg(test)]
