@@ -1,7 +1,7 @@
 -- A table whose rows are laid out and filled.
-use Rattle.std.proofs.Common.{◌≡◌, inl, inr, ℕ, zero, suc, ◌+◌, ◌-◌, ◌*◌, ◌^◌, ◌<◌, ◌≤◌, Bool, true, false, List, [], ◌∷◌, length, slice_index_or, refl, ap, sym, ◌∙◌, arith, Some, None}
+use Rattle.std.proofs.Common.{◌≡◌, ◌≢◌, ◌⊎◌, inl, inr, ℕ, zero, suc, ◌+◌, ◌-◌, ◌*◌, ◌^◌, ◌<◌, ◌≤◌, Bool, true, false, List, [], ◌∷◌, length, slice_index_or, refl, ap, sym, ◌∙◌, arith, Some, None}
 use Rattle.std.proofs.lemmas.Option.{slice_get_within}
-use Rattle.std.proofs.lemmas.Bool.{le-ltb}
+use Rattle.std.proofs.lemmas.Bool.{cases_lt, le-ltb}
 use Rattle.ac_util.specs.declared.primitives.TheConstants.{GREATEST}
 use Rattle.ac_util.specs.declared.search.Anchored.{Anchored}
 use Rattle.ac_util.specs.declared.search.StartKind.{StartKind}
@@ -17,12 +17,13 @@ use Rattle.ac_automaton.specs.Automata.{plain_of}
 use Rattle.ac_automaton.specs.Readers.{AreNodes}
 use Rattle.ac_automaton.specs.Tries.{Trie}
 use Rattle.ac_engines.specs.Builds.{classes_by, table_refusal}
-use Rattle.ac_engines.specs.Filling.{FilledUpTo, Filling, HasRow, IsFilled, MayFill, place_in, sheet_of}
+use Rattle.ac_engines.specs.Filling.{FilledUpTo, Filling, HasRow, IsFilled, MayFill, place_in, sheet_of, width}
 use Rattle.ac_engines.specs.Layouts.{IsLayout, table_rows}
 use Rattle.ac_engines.specs.Rows.{HasMatchesAmong, IsTable, Table, behind}
 use Rattle.ac_engines.proofs.Numbered.{behind-starts, place-row, place-start}
 use Rattle.ac_engines.proofs.Owning.{row-room}
 use Rattle.ac_engines.proofs.RowLists.{behind-rows}
+use Rattle.ac_engines.proofs.StateRows.{rows-apart}
 
 -- the classes by which a table steps are those of all bytes
 classes_by-AreClasses : (byte_classes fold : Bool) (patterns : List (List ℕ))
@@ -142,6 +143,36 @@ module _ (trie : Trie) (start_kind : StartKind) (classes : List ℕ) (exponent :
           may.laid.rows s inner (omega arith)
     ]
 
+    -- the rows of an earlier state and of a later one stand apart
+    ordered-apart : (s t : ℕ) (v w : List ℕ) → HasRow filling nodes size s v → HasRow filling nodes size t w → s < t
+        → (place_in nodes numbers v + width (sheet_of filling nodes) ≤ place_in nodes numbers w)
+        ⊎ (place_in nodes numbers w + width (sheet_of filling nodes) ≤ place_in nodes numbers v)
+    ordered-apart s t v w first later order =
+        let within = slice_get_within nodes t (Some w) later.named in
+        let count = may.laid.count in
+        let inner : 4 ≤ t = elim later.place [
+          | inl start ↦ elim first.place [ inl other ↦ absurd (omega arith) | inr other ↦ absurd (omega arith) ]
+          | inr inner ↦ inner
+        ] in
+        rw (place-row filling nodes size s v first, place-row filling nodes size t w later)
+        (rows-apart filling nodes size may s t first.place inner order (omega arith))
+
+    -- so do those of any two strings
+    strings-apart : (s t : ℕ) (v w : List ℕ) → HasRow filling nodes size s v → HasRow filling nodes size t w → v ≢ w
+        → (place_in nodes numbers v + width (sheet_of filling nodes) ≤ place_in nodes numbers w)
+        ⊎ (place_in nodes numbers w + width (sheet_of filling nodes) ≤ place_in nodes numbers v)
+    strings-apart s t v w one two other = elim (cases_lt s t) [
+      | inl before ↦ ordered-apart s t v w one two before
+      | inr behind ↦ elim (cases_lt t s) [
+        | inl after ↦ elim (ordered-apart t s w v two one after) [ inl x ↦ inr x | inr x ↦ inl x ]
+        | inr same ↦
+            let one_state : s ≡ t = omega arith in
+            let named = rw one_state at one.named in
+            let also = two.named in
+            absurd (other cc)
+      ]
+    ]
+
     module _ (entries : List ℕ) (lists : List (List ℕ)) (first end : ℕ)
         (filled : FilledUpTo filling nodes size (length nodes) entries)
         (layout : IsLayout built (2 ^ exponent) size nodes numbers lists first end) where
@@ -171,6 +202,13 @@ module _ (trie : Trie) (start_kind : StartKind) (classes : List ℕ) (exponent :
             let row = may.laid.inner state.0 inner (omega arith) in
             omega arith;
         rows = λ anchored w node. row-of w node anchored;
+        apart = λ v w first second other.
+            let one = state-of v first in
+            let two = state-of w second in
+            elim (strings-apart one.0 two.0 v w one.1 two.1 other) [
+              | inl before ↦ inl (omega arith)
+              | inr behind ↦ inr (omega arith)
+            ];
         within = λ anchored w node.
             let state = state-of w node in
             let room = row-room filling nodes size state.0 w state.1 anchored in

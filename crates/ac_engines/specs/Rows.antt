@@ -1,5 +1,5 @@
 -- How the rows of a table of steps stand for nodes.
-use Rattle.std.specs.Prelude.{◌≡◌, ◌≢◌, ℕ, zero, suc, ◌+◌, ◌*◌, ◌^◌, ◌/◌, ◌<◌, ◌≤◌, Bool, List, [], length, flat_map, slice_index_or, Option, Some, None}
+use Rattle.std.specs.Prelude.{◌≡◌, ◌≢◌, ◌⊎◌, ℕ, zero, suc, ◌+◌, ◌*◌, ◌^◌, ◌/◌, ◌<◌, ◌≤◌, Bool, List, [], length, flat_map, slice_index_or, Option, Some, None}
 use Rattle.ac_util.specs.declared.search.Anchored.{Anchored}
 use Rattle.ac_util.specs.declared.search.Anchored.TheVariants.{No, Yes}
 use Rattle.ac_util.specs.declared.search.StartKind.{StartKind}
@@ -53,8 +53,8 @@ number_of place shift (Some w) = place w + shift
 
 -- the rows of a table stand for nodes; `place` tells at which entry the first row of a string's node begins. Row 0 is
 -- the dead node's, row 1 is no node's, rows 2 and 3 are kept for the start, and those of all other nodes come after
--- these. At the class of a byte a row has the state after that byte, and past the classes the dead state, which is 0.
--- The match list of a row has the matches of its node
+-- these; no two nodes share a row. At the class of a byte a row has the state after that byte, and past the classes
+-- the dead state, which is 0. The match list of a row has the matches of its node
 pub record IsTable (t : Table) (place : List ℕ → ℕ) : Type 0 where
   pub narrow : (b : ℕ) → b < 256 → class_at t.classes b < stride_of t
   pub dead : (k : ℕ) → k < stride_of t → slice_index_or t.entries k 0 ≡ 0
@@ -65,6 +65,10 @@ pub record IsTable (t : Table) (place : List ℕ → ℕ) : Type 0 where
       → (row : ℕ) × (place w + behind t.built.start_kind anchored (stride_of t) ≡ row * stride_of t)
   pub within : (anchored : Anchored) (w : List ℕ) → IsNode t.built.kind (plain_of t.built) (Some w)
       → place w + behind t.built.start_kind anchored (stride_of t) + stride_of t ≤ length t.entries
+  pub apart : (v w : List ℕ) → IsNode t.built.kind (plain_of t.built) (Some v)
+      → IsNode t.built.kind (plain_of t.built) (Some w) → v ≢ w
+      → (place v + behind t.built.start_kind Yes (stride_of t) + stride_of t ≤ place w)
+      ⊎ (place w + behind t.built.start_kind Yes (stride_of t) + stride_of t ≤ place v)
   pub steps : (anchored : Anchored) (w : List ℕ) (b : ℕ) → start_refusal t.built.start_kind anchored ≡ None
       → IsNode t.built.kind (plain_of t.built) (Some w) → b < 256
       → entry t.classes t.entries (place w + behind t.built.start_kind anchored (stride_of t)) b
