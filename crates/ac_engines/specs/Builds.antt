@@ -1,5 +1,5 @@
 -- What a build of a table is asked for, what it answers, and why it may be refused.
-use Rattle.std.specs.Prelude.{◌≡◌, ℕ, ◌-◌, ◌*◌, nat_lt, Bool, true, false, List, length, map, Option, Some, None, MatchOption, if◌then◌else◌}
+use Rattle.std.specs.Prelude.{◌≡◌, ℕ, ◌-◌, ◌*◌, nat_lt, Bool, true, false, List, length, Option, Some, None, MatchOption, if◌then◌else◌}
 use Rattle.ac_util.specs.declared.error.BuildError.{BuildError}
 use Rattle.ac_util.specs.declared.error.BuildError.TheVariants.{Memory, StateIdOverflow}
 use Rattle.ac_util.specs.declared.primitives.TheConstants.{GREATEST}
@@ -10,23 +10,22 @@ use Rattle.ac_util.specs.declared.search.StartKind.TheVariants.{Unanchored}
 use Rattle.ac_util.specs.Built.{Built}
 use Rattle.ac_util.specs.Classes.{classes_of, singletons, stride, stride2}
 use Rattle.ac_util.specs.Limits.{limit_refusal}
-use Rattle.ac_util.specs.Sameness.{plain}
 use Rattle.ac_util.specs.Sizes.{state_count}
 use Rattle.ac_automaton.specs.Automata.{plain_of}
-use Rattle.ac_automaton.specs.Builds.{IsRefused, engine_built_by, too_many_states}
+use Rattle.ac_automaton.specs.Builds.{EngineSettings, IsRefused, engine_built_by, state_refusal}
 use Rattle.ac_engines.specs.Layouts.{table_rows}
 use Rattle.ac_engines.specs.Rows.{Table}
 
 -- the match kind, whether case is ignored, which starts there are, and whether bytes that need not be told apart
 -- share a class
-pub record Settings : Type 0 where
+pub record TableSettings : Type 0 where
   pub kind : MatchKind
   pub fold : Bool
   pub start_kind : StartKind
   pub byte_classes : Bool
 
-abbrev pub usual_settings : Settings
-usual_settings = record { kind = Standard; fold = false; start_kind = Unanchored; byte_classes = true }
+abbrev pub usual_table_settings : TableSettings
+usual_table_settings = record { kind = Standard; fold = false; start_kind = Unanchored; byte_classes = true }
 
 -- the classes by which a table over these patterns steps
 abbrev pub classes_by : Bool → Bool → List (List ℕ) → List ℕ
@@ -50,20 +49,22 @@ refusal_or None later = later
 refusal_or (Some e) later = Some e
 
 -- the automaton from which these settings build a table
-abbrev pub trie_by : Settings → List (List ℕ) → Built
-trie_by settings patterns =
-    engine_built_by (record { kind = settings.kind; fold = settings.fold }) patterns
+abbrev pub trie_settings : TableSettings → EngineSettings
+trie_settings settings = record { kind = settings.kind; fold = settings.fold }
+
+abbrev pub trie_by : TableSettings → List (List ℕ) → Built
+trie_by settings patterns = engine_built_by (trie_settings settings) patterns
 
 -- why a build by these settings is refused within the limits of the list, if it is, but for want of memory: the
 -- numbers of the automaton's states are tested before those of the table's
-abbrev pub refusal_of : Settings → List (List ℕ) → Option BuildError
-refusal_of settings patterns =
-    refusal_or (too_many_states settings.kind (map (plain settings.fold) patterns))
+abbrev pub table_refusal_by : TableSettings → List (List ℕ) → Option BuildError
+table_refusal_by settings patterns =
+    refusal_or (state_refusal (trie_settings settings) patterns)
     (table_refusal_from settings.start_kind settings.byte_classes (trie_by settings patterns))
 
 -- a table with these starts and classes has been built from an automaton: it answers as that one does where it has
 -- the start, and has no row too many
-pub record IsBuiltFrom (start_kind : StartKind) (byte_classes : Bool) (from : Built) (t : Table) : Type 0 where
+pub record IsTableFrom (start_kind : StartKind) (byte_classes : Bool) (from : Built) (t : Table) : Type 0 where
   pub built : t.built ≡ record from { start_kind = start_kind }
   pub classes : t.classes ≡ classes_by byte_classes from.fold from.patterns
   pub stride2 : t.stride2 ≡ stride2 t.classes
@@ -71,17 +72,17 @@ pub record IsBuiltFrom (start_kind : StartKind) (byte_classes : Bool) (from : Bu
 
 -- a build from an automaton is refused exactly where a state would have too great a number, and else for want of
 -- memory alone
-abbrev pub RefusesFrom : StartKind → Bool → Built → BuildError → Type 0
-RefusesFrom start_kind byte_classes from e =
+abbrev pub RefusesTableFrom : StartKind → Bool → Built → BuildError → Type 0
+RefusesTableFrom start_kind byte_classes from e =
     MatchOption (table_refusal_from start_kind byte_classes from) (e ≡ Memory) (λ refusal. e ≡ refusal)
 
 -- a build by these settings has succeeded
-pub record IsBuilt (settings : Settings) (patterns : List (List ℕ)) (t : Table) : Type 0 where
-  pub value : IsBuiltFrom settings.start_kind settings.byte_classes (trie_by settings patterns) t
+pub record IsTableBuilt (settings : TableSettings) (patterns : List (List ℕ)) (t : Table) : Type 0 where
+  pub value : IsTableFrom settings.start_kind settings.byte_classes (trie_by settings patterns) t
   pub within : limit_refusal patterns ≡ None
-  pub few : refusal_of settings patterns ≡ None
+  pub few : table_refusal_by settings patterns ≡ None
 
 -- why a build by these settings is refused: a limit of the list is told first, whether there is memory or not
-abbrev pub Refuses : Settings → List (List ℕ) → BuildError → Type 0
-Refuses settings patterns e =
-    MatchOption (limit_refusal patterns) (IsRefused (refusal_of settings patterns) e) (λ refusal. e ≡ refusal)
+abbrev pub RefusesTable : TableSettings → List (List ℕ) → BuildError → Type 0
+RefusesTable settings patterns e =
+    MatchOption (limit_refusal patterns) (IsRefused (table_refusal_by settings patterns) e) (λ refusal. e ≡ refusal)

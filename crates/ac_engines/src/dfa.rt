@@ -3,7 +3,7 @@ ghost use Rattle.std.specs.Prelude.{◌≡◌, ℕ, ◌+◌, ◌<◌, ◌≤◌,
 ghost use Rattle.std.proofs.Common.{inl, refl};
 ghost use Rattle.ac_util.specs.Borrowed.{bytes_of};
 ghost use Rattle.ac_util.specs.Node.{Node};
-ghost use Rattle.ac_engines.specs.Builds.{IsBuilt, Refuses, usual_settings};
+ghost use Rattle.ac_engines.specs.Builds.{IsTableBuilt, RefusesTable, usual_table_settings};
 ghost use Rattle.ac_engines.specs.Rows.{HasMatchesAmong, IsTable, StandsFor, list_at};
 ghost use Rattle.ac_engines.specs.Rows.{stands-lists};
 
@@ -96,8 +96,8 @@ impl<A: Allocator + Clone> DFA<A> {
     /// As `Builder::build`.
     pub fn new(alloc: A, patterns: &[&[u8]]) -> Result<DFA<A>, BuildError>
         ensures { MatchResult result
-            (IsBuilt usual_settings (bytes_of patterns.now))
-            (Refuses usual_settings (bytes_of patterns.now)) }
+            (IsTableBuilt usual_table_settings (bytes_of patterns.now))
+            (RefusesTable usual_table_settings (bytes_of patterns.now)) }
     {
         Builder::new().build(alloc, patterns)
     }
@@ -106,7 +106,7 @@ impl<A: Allocator + Clone> DFA<A> {
 impl DFA {
     /// Returns a builder with the usual settings.
     pub fn builder() -> Builder
-        ensures { result ≡ usual_settings }
+        ensures { result ≡ usual_table_settings }
     {
         Builder::new()
     }

@@ -5,7 +5,7 @@ ghost use Rattle.ac_util.specs.declared.primitives.TheConstants.{GREATEST};
 ghost use Rattle.ac_util.specs.declared.search.StartKind;
 ghost use Rattle.ac_util.specs.Borrowed.{bytes_of};
 ghost use Rattle.ac_util.specs.Node.{Node};
-ghost use Rattle.ac_engines.specs.Builds.{IsBuilt, IsBuiltFrom, Refuses, RefusesFrom, classes_by, table_refusal_from, usual_settings};
+ghost use Rattle.ac_engines.specs.Builds.{IsTableBuilt, IsTableFrom, RefusesTable, RefusesTableFrom, classes_by, table_refusal_from, usual_table_settings};
 ghost use Rattle.ac_engines.specs.Filling.{FilledUpTo, MayFill};
 ghost use Rattle.ac_engines.specs.Layouts.{table_rows};
 ghost use Rattle.ac_engines.specs.Rows.{start_number};
@@ -34,9 +34,9 @@ pub struct Builder {
 }
 
 impl Model for Builder {
-    ghost use Rattle.ac_engines.specs.Builds.{Settings};
+    ghost use Rattle.ac_engines.specs.Builds.{TableSettings};
 
-    ghost Value = { Settings };
+    ghost Value = { TableSettings };
 
     ghost view = { λ b. record {
       kind = b.kind;
@@ -54,7 +54,7 @@ impl Model for Builder {
 }
 
 impl Default for Builder {
-    ghost is_default = { λ b. b ≡ usual_settings };
+    ghost is_default = { λ b. b ≡ usual_table_settings };
 
     fn default() -> Builder {
         Builder::new()
@@ -65,7 +65,7 @@ impl Builder {
     /// Returns a builder with the usual settings: `MatchKind::Standard`, case counts, unanchored searches alone, and
     /// bytes that need not be told apart share a class.
     pub fn new() -> Builder
-        ensures { result ≡ usual_settings }
+        ensures { result ≡ usual_table_settings }
     {
         Builder {
             kind: MatchKind::Standard,
@@ -134,8 +134,8 @@ impl Builder {
         patterns: &[&[u8]],
     ) -> Result<DFA<A>, BuildError>
         ensures { MatchResult result
-            (IsBuilt self.now (bytes_of patterns.now))
-            (Refuses self.now (bytes_of patterns.now)) }
+            (IsTableBuilt self.now (bytes_of patterns.now))
+            (RefusesTable self.now (bytes_of patterns.now)) }
     {
         let mut nfa = noncontiguous::Builder::new();
         nfa.match_kind(self.kind).ascii_case_insensitive(self.fold);
@@ -156,9 +156,9 @@ impl Builder {
         nfa: &NFA<A>,
     ) -> Result<DFA<A>, BuildError>
         ensures { MatchResult result
-            (λ dfa. IsBuiltFrom self.now.start_kind self.now.byte_classes nfa.now.built dfa
+            (λ dfa. IsTableFrom self.now.start_kind self.now.byte_classes nfa.now.built dfa
             × (table_refusal_from self.now.start_kind self.now.byte_classes nfa.now.built ≡ None))
-            (RefusesFrom self.now.start_kind self.now.byte_classes nfa.now.built) }
+            (RefusesTableFrom self.now.start_kind self.now.byte_classes nfa.now.built) }
     {
         let classes = classes_for(nfa, self.byte_classes);
         let stride2 = classes.stride2();

@@ -3,7 +3,7 @@ ghost use Rattle.std.specs.Prelude.{◌≡◌, MatchOption, MatchResult, None, l
 ghost use Rattle.ac_util.specs.declared.error.BuildError.TheVariants.{Memory};
 ghost use Rattle.ac_util.specs.Borrowed.{bytes_of};
 ghost use Rattle.ac_automaton.specs.Builds.{IsEngineBuilt, IsRefused};
-ghost use Rattle.ac_engines.specs.Builds.{IsBuiltFrom, table_refusal_from};
+ghost use Rattle.ac_engines.specs.Builds.{IsTableFrom, table_refusal_from};
 ghost use Rattle.ac_search.specs.declared.ahocorasick.choice.AhoCorasickKind.TheVariants.{NoncontiguousNFA};
 ghost use Rattle.ac_search.specs.Engines.{Supports, searcher_of};
 ghost use Rattle.ac_search.specs.Searchers.{IsBuilt, RefusesSearcher, engine_refusal, engine_settings, kind_for, suits_table, usual_settings};
@@ -193,7 +193,7 @@ impl AhoCorasickBuilder {
             (λ table. MatchOption table
             (kind_for None (suits_table self.now.start_kind (length nfa.now.built.patterns))
             (table_refusal_from self.now.start_kind self.now.byte_classes nfa.now.built) ≡ NoncontiguousNFA)
-            (λ dfa. IsBuiltFrom self.now.start_kind self.now.byte_classes nfa.now.built dfa
+            (λ dfa. IsTableFrom self.now.start_kind self.now.byte_classes nfa.now.built dfa
             × (suits_table self.now.start_kind (length nfa.now.built.patterns) ≡ true)
             × (table_refusal_from self.now.start_kind self.now.byte_classes nfa.now.built ≡ None)))
             (λ e. e ≡ Memory) }
@@ -217,7 +217,7 @@ impl AhoCorasickBuilder {
         nfa: &noncontiguous::NFA<A>,
     ) -> Result<dfa::DFA<A>, BuildError>
         ensures { MatchResult result
-            (λ dfa. IsBuiltFrom self.now.start_kind self.now.byte_classes nfa.now.built dfa
+            (λ dfa. IsTableFrom self.now.start_kind self.now.byte_classes nfa.now.built dfa
             × (table_refusal_from self.now.start_kind self.now.byte_classes nfa.now.built ≡ None))
             (IsRefused (table_refusal_from self.now.start_kind self.now.byte_classes nfa.now.built)) }
     {
