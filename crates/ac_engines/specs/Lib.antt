@@ -1,5 +1,7 @@
 -- What is seen of the engines that are built from a trie with failure links.
 pub mod Builds
 pub mod Filling
+pub mod Formats
 pub mod Layouts
 pub mod Rows
+pub mod Words

@@ -1,0 +1,81 @@
+-- How the states of the contiguous engine are spelled in words of 32 bits.
+use Rattle.std.specs.Prelude.{◌≡◌, ℕ, ◌+◌, ◌*◌, ◌<◌, ◌≤◌, ◌==◌, List, [], ◌∷◌, ◌++◌, length, map, slice_index_or, if◌then◌else◌, ⊤}
+use Rattle.std.specs.List.{range_with_len}
+use Rattle.std.specs.List.Sorted.{IsStrictlyIncreasing}
+use Rattle.ac_util.specs.declared.primitives.TheConstants.{GREATEST}
+use Rattle.ac_engines.specs.declared.nfa.contiguous.format.Format.{Format}
+use Rattle.ac_engines.specs.declared.nfa.contiguous.format.Format.TheVariants.{Dense, One, Sparse}
+use Rattle.ac_engines.specs.declared.nfa.contiguous.format.TheConstants.{MOST_SPARSE}
+use Rattle.ac_engines.specs.declared.nfa.contiguous.state.Edge.{Edge}
+use Rattle.ac_engines.specs.declared.nfa.contiguous.state.TheConstants.{DENSE, FAIL, ONE, ONE_MATCH}
+
+-- what the words of a state spell: its failure target, where it leads by a class without a transition, its transitions
+-- in ascending order of their classes, and its matches
+pub record Spelling : Type 0 where
+  pub failure : ℕ
+  pub missing : ℕ
+  pub edges : List Edge
+  pub matches : List ℕ
+
+-- where a class leads
+pub target_by : ℕ → List Edge → ℕ → ℕ
+target_by missing [] class = missing
+target_by missing (e ∷ edges) class = if e.class == class then e.target else target_by missing edges class
+
+-- four classes in one word, the first in the low byte
+abbrev pub word_of : ℕ → ℕ → ℕ → ℕ → ℕ
+word_of a b c d = a + 256 * (b + 256 * (c + 256 * d))
+
+-- classes, four in a word; the last word is filled up with the last class again
+pub class_words : List ℕ → List ℕ
+class_words [] = []
+class_words (a ∷ []) = word_of a a a a ∷ []
+class_words (a ∷ b ∷ []) = word_of a b b b ∷ []
+class_words (a ∷ b ∷ c ∷ []) = word_of a b c c ∷ []
+class_words (a ∷ b ∷ c ∷ d ∷ classes) = word_of a b c d ∷ class_words classes
+
+-- no match has no word, a single one has its number with the top bit set, and several have their count and their
+-- numbers
+abbrev pub match_spelling : List ℕ → List ℕ
+match_spelling [] = []
+match_spelling (p ∷ []) = (ONE_MATCH + p) ∷ []
+match_spelling (p ∷ q ∷ ps) = length (p ∷ q ∷ ps) ∷ p ∷ q ∷ ps
+
+-- one transition, whose class stands beside the form
+abbrev pub one_spelling : ℕ → List Edge → List ℕ
+one_spelling failure [] = []
+one_spelling failure (e ∷ edges) = (ONE + 256 * e.class) ∷ failure ∷ e.target ∷ []
+
+-- the words of a state, where there are so many classes
+pub spelled : Format → ℕ → Spelling → List ℕ
+spelled Dense classes s =
+    DENSE ∷ s.failure ∷ map (target_by s.missing s.edges) (range_with_len 0 classes) ++ match_spelling s.matches
+spelled One classes s = one_spelling s.failure s.edges
+spelled Sparse classes s =
+    length s.edges ∷ s.failure ∷ class_words (map (λ e. e.class) s.edges)
+    ++ map (λ e. e.target) s.edges ++ match_spelling s.matches
+
+-- a form can spell these transitions and matches: a form that isn't dense leads nowhere where there is no transition
+abbrev pub Fits : Format → Spelling → Type 0
+Fits Dense s = ⊤
+Fits One s = (length s.edges ≡ 1) × (s.matches ≡ []) × (s.missing ≡ FAIL)
+Fits Sparse s = (length s.edges ≤ MOST_SPARSE) × (s.missing ≡ FAIL)
+
+-- the words begin with those of a state: its classes ascend, and its matches are fewer than the mark of a single one
+pub record BeginsWith (words : List ℕ) (format : Format) (classes : ℕ) (s : Spelling) : Type 0 where
+  pub rest : List ℕ
+  pub words_are : words ≡ spelled format classes s ++ rest
+  pub fits : Fits format s
+  pub few : classes ≤ 256
+  pub ascending : IsStrictlyIncreasing (map (λ e. e.class) s.edges)
+  pub few_matches : length s.matches < ONE_MATCH
+  pub numbers : (k : ℕ) → slice_index_or s.matches k 0 < ONE_MATCH
+
+-- which of four classes is this one first, or 4 where none is
+abbrev pub first_of : ℕ → ℕ → ℕ → ℕ → ℕ → ℕ
+first_of a b c d class =
+    if a == class then 0
+    else if b == class then 1
+    else if c == class then 2
+    else if d == class then 3
+    else 4

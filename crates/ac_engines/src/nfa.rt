@@ -1,0 +1,3 @@
+//! Automata that keep failure links.
+
+pub mod contiguous;

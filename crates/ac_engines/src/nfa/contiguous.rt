@@ -1,0 +1,6 @@
+//! An automaton in one list of packed words: small, and nearly as fast as a table.
+
+mod format;
+mod state;
+
+pub use format::{Format, check_words, format_of, state_words};

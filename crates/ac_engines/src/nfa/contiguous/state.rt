@@ -1,0 +1,114 @@
+//! Reading the words of a state.
+ghost use Rattle.std.specs.Prelude.{◌≡◌, ℕ, ◌+◌, ◌<◌, ◌≤◌, drop, length, slice_index};
+ghost use Rattle.ac_engines.specs.declared.nfa.contiguous.format.Format.{Format};
+ghost use Rattle.ac_engines.specs.Words.{BeginsWith, Spelling, first_of, target_by, word_of};
+
+/// The low byte of a dense state's first word.
+pub const DENSE: u8 = 0xFF;
+
+/// The low byte of the first word of a state with one transition and no match; its class stands in the byte behind it.
+pub const ONE: u8 = 0xFE;
+
+/// What stands where a class has no target. No state has this number.
+pub const FAIL: u32 = 1;
+
+/// What is added to the number of a match that is the only one.
+pub const ONE_MATCH: u32 = 1 << 31;
+
+/// A transition: the class of a byte, and the number of the state to which it leads.
+#[derive(Clone, Copy)]
+pub struct Edge {
+    pub(super) class: u8,
+    pub(super) target: u32,
+}
+
+/// How many words stand before a state's transitions: its form, and its failure target.
+const HEAD: usize = 2;
+
+/// How many classes stand in a word.
+const CLASSES_A_WORD: usize = 4;
+
+/// A state in the words of an automaton, from its first word on.
+#[derive(Clone, Copy)]
+pub(super) struct State<'a> {
+    words: &'a [u32],
+}
+
+impl<'a> State<'a> {
+    /// Returns the state whose first word stands at a place.
+    #[inline]
+    pub(super) fn at(words: &'a [u32], place: usize) -> State<'a>
+        requires { place ≤ length words.now }
+        ensures { result.words.now ≡ drop place words.now }
+    {
+        State {
+            words: &words[place..],
+        }
+    }
+
+    /// Returns the failure target.
+    #[inline]
+    pub(super) fn fail(self) -> u32
+        requires { (format : Format) × (classes : ℕ) × (s : Spelling)
+            × BeginsWith self.words.now format classes s }
+        ensures { (format : Format) (classes : ℕ) (s : Spelling) → BeginsWith self.entry.words.now format classes s
+            → result ≡ s.failure }
+    {
+        self.words[1]
+    }
+
+    /// Returns where a class leads, or `FAIL` where it leads nowhere.
+    #[inline]
+    pub(super) fn target(self, class: u8) -> u32
+        requires { (format : Format) × (classes : ℕ) × (s : Spelling)
+            × BeginsWith self.words.now format classes s × (class < classes) }
+        ensures { (format : Format) (classes : ℕ) (s : Spelling) → BeginsWith self.entry.words.now format classes s
+            → class < classes → result ≡ target_by s.missing s.edges class }
+    {
+        let [form, only, _, _] = self.words[0].to_le_bytes();
+        match form {
+            DENSE => self.words[HEAD + class as usize],
+            ONE if only == class => self.words[HEAD],
+            ONE => FAIL,
+            transitions => self.sparse_target(transitions as usize, class),
+        }
+    }
+
+    /// Returns where a class leads from a state that has so many transitions, four classes in a word.
+    #[inline]
+    fn sparse_target(self, transitions: usize, class: u8) -> u32
+        requires { (classes : ℕ) × (s : Spelling) × BeginsWith self.words.now Format.Sparse classes s
+            × (transitions ≡ length s.edges) }
+        ensures { (classes : ℕ) (s : Spelling) → BeginsWith self.entry.words.now Format.Sparse classes s
+            → transitions ≡ length s.edges → result ≡ target_by FAIL s.edges class }
+    {
+        let (classes, targets) = self.words[HEAD..].split_at(transitions.div_ceil(CLASSES_A_WORD));
+        for (index, word) in classes.iter().enumerate() {
+            let place = place_in(*word, class);
+            if place < CLASSES_A_WORD {
+                return targets[CLASSES_A_WORD * index + place];
+            }
+        }
+        FAIL
+    }
+}
+
+/// Returns at which of the four places of a word a class stands first, or 4 where it stands at none.
+#[inline]
+fn place_in(word: u32, class: u8) -> usize
+    ensures { (a b c d : ℕ) → a < 256 → b < 256 → c < 256 → d < 256 → word ≡ word_of a b c d
+        → result ≡ first_of a b c d class }
+{
+    let [a, b, c, d] = word.to_le_bytes();
+    if a == class {
+        0
+    } else if b == class {
+        1
+    } else if c == class {
+        2
+    } else if d == class {
+        3
+    } else {
+        CLASSES_A_WORD
+    }
+}
