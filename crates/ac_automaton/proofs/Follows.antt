@@ -24,12 +24,12 @@ none-from None h = refl
 none-from (Some w) h = absurd (h (λ e. cc))
 
 -- no more looks change nothing, and n and then m are n + m
-more_looks-none : (counts : Counts) → counts ≡ more_looks 0 counts
+pub more_looks-none : (counts : Counts) → counts ≡ more_looks 0 counts
 more_looks-none counts =
     ap (λ (n : ℕ). record counts { looks = n }) (let e : counts.looks ≡ counts.looks + 0 = omega arith in e)
 
 -- looks counted twice are counted together
-more_looks-twice : (n m : ℕ) (counts : Counts) → more_looks m (more_looks n counts) ≡ more_looks (n + m) counts
+pub more_looks-twice : (n m : ℕ) (counts : Counts) → more_looks m (more_looks n counts) ≡ more_looks (n + m) counts
 more_looks-twice n m counts =
     let e : (counts.looks + n) + m ≡ counts.looks + (n + m) = omega arith in
     ap (λ (k : ℕ). record counts { looks = k }) e

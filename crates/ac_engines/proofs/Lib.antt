@@ -1,5 +1,7 @@
 pub mod Assembled
+pub mod EdgeTargets
 pub mod Filled
+pub mod Follow
 pub mod LaidOut
 pub mod LaidUpTo
 pub mod Laying
@@ -8,6 +10,7 @@ pub mod Numbered
 pub mod Numbers
 pub mod OneRow
 pub mod Owning
+pub mod PackedSteps
 pub mod Places
 pub mod Ranges
 pub mod RowByRow

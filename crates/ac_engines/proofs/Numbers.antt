@@ -1,5 +1,5 @@
 -- What the number of a state tells of the node that it stands for.
-use Rattle.std.proofs.Common.{◌≡◌, ◌≢◌, ◌⊎◌, inl, inr, ℕ, ◌+◌, ◌<◌, ◌≤◌, Bool, true, false, List, [], ◌∷◌, ◌++◌, refl, ap, ◌∙◌, arith, length, slice_index_or, Some, None}
+use Rattle.std.proofs.Common.{◌≡◌, ◌≢◌, ◌⊎◌, inl, inr, ℕ, ◌+◌, ◌<◌, ◌≤◌, Bool, true, false, List, [], ◌∷◌, ◌++◌, drop, refl, ap, ◌∙◌, arith, length, slice_index_or, Some, None}
 use Rattle.std.proofs.lemmas.Bool.{cases_lt}
 use Rattle.std.proofs.lemmas.Nat.{pow_pos}
 use Rattle.ac_util.specs.declared.search.Anchored.{Anchored}
@@ -7,7 +7,7 @@ use Rattle.ac_util.specs.declared.search.StartKind.{StartKind}
 use Rattle.ac_util.specs.declared.search.StartKind.TheVariants.{Anchored as AnchoredAlone, Both, Unanchored}
 use Rattle.ac_util.specs.declared.search.Anchored.TheVariants.{No, Yes}
 use Rattle.ac_util.specs.declared.search.MatchKind.{MatchKind}
-use Rattle.ac_util.specs.Node.{Node, first_node, is_node, last_start, starting_by, step, suffixes}
+use Rattle.ac_util.specs.Node.{Node, failure, first_node, is_node, last_start, open_suffixes, starting_by, step, suffixes}
 use Rattle.ac_util.specs.Classes.{IsNode, class_at}
 use Rattle.ac_util.specs.Sameness.{plain_byte}
 use Rattle.ac_automaton.specs.Automata.{plain_of, step_of}
@@ -32,6 +32,11 @@ pub step-node : (kind : MatchKind) (patterns : List (List ℕ)) (anchored : Anch
 step-node kind patterns No w b =
     first_node-node kind patterns (starting_by (last_start kind patterns w) (suffixes (w ++ b ∷ [])))
 step-node kind patterns Yes w b = first_node-node kind patterns ((w ++ b ∷ []) ∷ [])
+
+-- and so does a failure target
+pub failure-node : (kind : MatchKind) (patterns : List (List ℕ)) (x : ℕ) (w : List ℕ)
+    → IsNode kind patterns (failure kind patterns (x ∷ w))
+failure-node kind patterns x w = first_node-node kind patterns (drop 1 (open_suffixes kind patterns (x ∷ w)))
 
 -- an anchored row stands at most one row behind
 pub behind-small : (start_kind : StartKind) (anchored : Anchored) (stride : ℕ)

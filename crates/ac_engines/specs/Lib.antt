@@ -3,5 +3,6 @@ pub mod Builds
 pub mod Filling
 pub mod Formats
 pub mod Layouts
+pub mod Packing
 pub mod Rows
 pub mod Words

@@ -2,5 +2,6 @@
 
 mod format;
 mod state;
+mod step;
 
 pub use format::{Format, check_words, format_of, state_words};

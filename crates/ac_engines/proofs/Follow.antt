@@ -1,0 +1,134 @@
+-- A walk along the failure targets of packed words: it keeps where the byte leads at last, and counts its looks.
+use Rattle.std.proofs.Common.{◌≡◌, ◌≢◌, ℕ, ◌+◌, ◌<◌, ◌≤◌, List, drop, refl, ap, subst, sym, ◌∙◌, arith, Some, None}
+use Rattle.ac_util.specs.declared.primitives.TheConstants.{GREATEST}
+use Rattle.ac_util.specs.declared.search.Anchored.{Anchored}
+use Rattle.ac_util.specs.declared.search.Anchored.TheVariants.{No, Yes}
+use Rattle.ac_util.specs.Classes.{IsNode, alphabet_len}
+use Rattle.ac_util.specs.Counts.{Counts, more_looks}
+use Rattle.ac_util.specs.Node.{Node, depth}
+use Rattle.ac_util.specs.Sameness.{plain_byte}
+use Rattle.ac_automaton.specs.Automata.{looks_of, plain_of, step_of}
+use Rattle.ac_automaton.specs.Tries.{miss}
+use Rattle.ac_automaton.proofs.Follows.{more_looks-none, more_looks-twice}
+use Rattle.ac_engines.specs.declared.nfa.contiguous.state.TheConstants.{FAIL}
+use Rattle.ac_engines.specs.Packing.{Packed, StandsAt, number_at}
+use Rattle.ac_engines.specs.Words.{BeginsWith}
+use Rattle.ac_engines.proofs.Numbers.{step-node}
+use Rattle.ac_engines.proofs.PackedSteps.{form_at, has-state, reads, spelling_at, target_of}
+
+-- a step from any node leads to one
+step-to-node : (p : Packed) (anchored : Anchored) (u : Node) (b : ℕ)
+    → IsNode p.built.kind (plain_of p.built) (step_of p.built anchored u b)
+step-to-node p No None b = tt
+step-to-node p Yes None b = tt
+step-to-node p anchored (Some w) b =
+    step-node p.built.kind (plain_of p.built) anchored w (plain_byte p.built.fold b)
+
+-- the state of a number's node stands there
+pub stands-begin : (p : Packed) (anchored : Anchored) (s : ℕ) (u : Node) (h : StandsAt p anchored s u)
+    → BeginsWith (drop s p.words) (form_at p h.at u) (alphabet_len p.classes) (spelling_at p h.at anchored u)
+stands-begin p anchored s u h =
+    subst (λ (n : ℕ). BeginsWith (drop n p.words) (form_at p h.at u) (alphabet_len p.classes) (spelling_at p h.at anchored u))
+    (sym h.number) (has-state p h.at h.packed anchored u h.node)
+
+-- on the way to where the byte leads from a node, the walk is at a state, and has counted what it took to come there
+pub record Onward (p : Packed) (anchored : Anchored) (b : ℕ) (u : Node) (old now : Counts) (s : ℕ) : Type 0 where
+  pub node : Node
+  pub stands : StandsAt p anchored s node
+  pub steps : step_of p.built anchored u b ≡ step_of p.built anchored node b
+  pub taken : ℕ
+  pub looks : looks_of 2 p.built anchored u b ≡ taken + looks_of 2 p.built anchored node b
+  pub short : depth node + taken ≤ GREATEST
+  pub counted : now ≡ more_looks taken old
+
+-- at its end it is where the byte leads, and has counted all looks
+pub record Ended (p : Packed) (anchored : Anchored) (b : ℕ) (u : Node) (old new : Counts) (next : ℕ) : Type 0 where
+  pub steps : StandsAt p anchored next (step_of p.built anchored u b)
+  pub looks : new ≡ more_looks (looks_of 2 p.built anchored u b) old
+
+module _ (p : Packed) (anchored : Anchored) (b : ℕ) (u : Node) (old : Counts) where
+  -- before the first look the walk is on the way
+  pub onward-start : (s : ℕ) → StandsAt p anchored s u → Onward p anchored b u old old s
+  onward-start s h = record {
+    node = u;
+    stands = h;
+    steps = refl;
+    taken = 0;
+    looks = omega arith;
+    short = short u h;
+    counted = more_looks-none old;
+  }
+    where
+      short : (v : Node) → StandsAt p anchored s v → depth v + 0 ≤ GREATEST
+      short None stands = omega arith
+      short (Some w) stands = let few = stands.packed.short w stands.node in omega arith
+
+  module _ (now new : Counts) (s : ℕ) (o : Onward p anchored b u old now s) (more : new ≡ more_looks 1 now) where
+    -- with one look more the walk has counted all
+    counted-last : looks_of 2 p.built anchored o.node b ≡ 1 → new ≡ more_looks (looks_of 2 p.built anchored u b) old
+    counted-last one =
+        more ∙ ap (more_looks 1) o.counted ∙ more_looks-twice o.taken 1 old
+        ∙ ap (λ (n : ℕ). more_looks n old) (omega (arith, o.looks))
+
+    -- it ends at a target
+    pub ends-target : (next : ℕ) → b < 256 → next ≡ target_of p o.stands.at anchored o.node b → next ≢ FAIL
+        → Ended p anchored b u old new next
+    ends-target next byte is some =
+        let leads = (reads p o.stands.at o.stands.packed anchored o.node b byte).leads (λ e. some (is ∙ e)) in
+        record {
+          steps = record {
+            at = o.stands.at;
+            packed = o.stands.packed;
+            node = step-to-node p anchored u b;
+            number = is ∙ leads.number ∙ ap (number_at o.stands.at anchored) (sym o.steps);
+          };
+          looks = counted-last leads.looks;
+        }
+
+    -- or at the dead state, if it is anchored
+    pub ends-anchored : b < 256 → target_of p o.stands.at anchored o.node b ≡ FAIL → anchored ≡ Yes
+        → Ended p anchored b u old new 0
+    ends-anchored byte fail is-yes =
+        let ends = (reads p o.stands.at o.stands.packed anchored o.node b byte).ends fail is-yes in
+        record {
+          steps = record {
+            at = o.stands.at;
+            packed = o.stands.packed;
+            node = step-to-node p anchored u b;
+            number = ap (number_at o.stands.at anchored) (sym (o.steps ∙ ends));
+          };
+          looks = counted-last (one-anchored anchored is-yes o.node);
+        }
+      where
+        one-anchored : (anchored : Anchored) → anchored ≡ Yes → (v : Node) → looks_of 2 p.built anchored v b ≡ 1
+        one-anchored Yes is v = refl
+        one-anchored No is v = absurd cc
+
+    -- else it goes on at the failure target
+    pub goes-on : (failure : ℕ) → b < 256 → target_of p o.stands.at anchored o.node b ≡ FAIL → anchored ≡ No
+        → failure ≡ (spelling_at p o.stands.at anchored o.node).failure → Onward p anchored b u old new failure
+    goes-on failure byte fail is-no is =
+        let on = (reads p o.stands.at o.stands.packed anchored o.node b byte).goes fail is-no in
+        record {
+          node = miss p.built.kind (plain_of p.built) o.node;
+          stands = record {
+            at = o.stands.at;
+            packed = o.stands.packed;
+            node = on.node;
+            number = is
+                ∙ ap (λ (a : Anchored). (spelling_at p o.stands.at a o.node).failure) is-no ∙ on.failure
+                ∙ ap (λ (a : Anchored). number_at o.stands.at a (miss p.built.kind (plain_of p.built) o.node)) (sym is-no);
+          };
+          steps = o.steps
+              ∙ ap (λ (a : Anchored). step_of p.built a o.node b) is-no ∙ on.steps
+              ∙ ap (λ (a : Anchored). step_of p.built a (miss p.built.kind (plain_of p.built) o.node) b) (sym is-no);
+          taken = o.taken + 1;
+          looks =
+              let here : looks_of 2 p.built anchored o.node b
+              ≡ 1 + looks_of 2 p.built anchored (miss p.built.kind (plain_of p.built) o.node) b =
+              ap (λ (a : Anchored). looks_of 2 p.built a o.node b) is-no ∙ on.looks
+              ∙ ap (λ (a : Anchored). 1 + looks_of 2 p.built a (miss p.built.kind (plain_of p.built) o.node) b) (sym is-no) in
+              omega (arith, o.looks);
+          short = let short = o.short in let shorter = on.shorter in omega arith;
+          counted = more ∙ ap (more_looks 1) o.counted ∙ more_looks-twice o.taken 1 old;
+        }

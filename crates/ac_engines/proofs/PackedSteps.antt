@@ -1,0 +1,218 @@
+-- Where a state of packed words leads, by the node that it stands for.
+use Rattle.std.proofs.Common.{◌≡◌, ◌≢◌, ℕ, ◌+◌, ◌<◌, ◌≤◌, Bool, true, false, List, [], ◌∷◌, ◌++◌, cond, ◌⊎◌, inl, inr, refl, ap, sym, ◌∙◌, arith, Some, None}
+use Rattle.std.specs.Prelude.{◌&&◌, if◌then◌else◌}
+use Rattle.std.proofs.lemmas.Bool.{cond-true, cond-false}
+use Rattle.ac_util.specs.declared.search.Anchored.{Anchored}
+use Rattle.ac_util.specs.declared.search.Anchored.TheVariants.{No, Yes}
+use Rattle.ac_util.specs.Classes.{IsNode, class_at}
+use Rattle.ac_util.specs.Node.{Node, begins_with_pattern, depth, is_leftmost, step}
+use Rattle.ac_util.specs.Sameness.{plain_byte}
+use Rattle.ac_util.proofs.Failures.{depth-failure}
+use Rattle.ac_automaton.specs.Automata.{plain_of, looks_of, step_of}
+use Rattle.ac_automaton.specs.Readers.{leads_on}
+use Rattle.ac_automaton.specs.Tries.{miss}
+use Rattle.ac_automaton.proofs.Steps.{looks-on, looks-own_target, looks-short, step-miss, step-on, step-own_target}
+use Rattle.ac_engines.specs.declared.nfa.contiguous.format.Format.{Format}
+use Rattle.ac_engines.specs.declared.nfa.contiguous.format.Format.TheVariants.{Dense}
+use Rattle.ac_engines.specs.declared.nfa.contiguous.state.TheConstants.{FAIL}
+use Rattle.ac_engines.specs.Packing.{IsPacked, HasState, Packed, Places, format_at, number_at, spelling_of, start_spelling}
+use Rattle.ac_engines.specs.Words.{Spelling, target_by}
+use Rattle.ac_engines.proofs.EdgeTargets.{no-target, own-target}
+use Rattle.ac_engines.proofs.Numbers.{failure-node}
+
+-- what the words of a node spell, and in which form
+abbrev pub spelling_at : Packed → Places → Anchored → Node → Spelling
+spelling_at p at anchored None = record { failure = 0; missing = 0; edges = []; matches = [] }
+spelling_at p at anchored (Some []) = start_spelling p at anchored
+spelling_at p at anchored (Some (x ∷ w)) = spelling_of p at (x ∷ w)
+
+abbrev pub form_at : Packed → Places → Node → Format
+form_at p at None = Dense
+form_at p at (Some []) = Dense
+form_at p at (Some (x ∷ w)) = format_at p at (x ∷ w)
+
+-- where a class leads from a node, or FAIL
+abbrev pub target_of : Packed → Places → Anchored → Node → ℕ → ℕ
+target_of p at anchored v b =
+    target_by (spelling_at p at anchored v).missing (spelling_at p at anchored v).edges (class_at p.classes b)
+
+module _ (p : Packed) (at : Places) (h : IsPacked p at) where
+  -- the words of a node stand at its number
+  pub has-state : (anchored : Anchored) (v : Node) → IsNode p.built.kind (plain_of p.built) v
+      → HasState p at (number_at at anchored v) (form_at p at v) (spelling_at p at anchored v)
+  has-state anchored None node = h.dead
+  has-state No (Some []) node = h.starts No
+  has-state Yes (Some []) node = h.starts Yes
+  has-state No (Some (x ∷ w)) node = h.inner (x ∷ w) node (λ e. absurd cc)
+  has-state Yes (Some (x ∷ w)) node = h.inner (x ∷ w) node (λ e. absurd cc)
+
+  -- a byte leads there in any search where it leads in an anchored one
+  abbrev own : Node → ℕ → Node
+  own v b = step p.built.kind (plain_of p.built) Yes v (plain_byte p.built.fold b)
+
+  own-is : (w : List ℕ) (b : ℕ) → leads_on p.built (Some w) b ≡ true
+      → own (Some w) b ≡ Some (w ++ plain_byte p.built.fold b ∷ [])
+  own-is w b leads = cond-true (leads_on p.built (Some w) b) (Some (w ++ plain_byte p.built.fold b ∷ [])) None leads
+
+  own-none : (w : List ℕ) (b : ℕ) → leads_on p.built (Some w) b ≡ false → own (Some w) b ≡ None
+  own-none w b none = cond-false (leads_on p.built (Some w) b) (Some (w ++ plain_byte p.built.fold b ∷ [])) None none
+
+  -- what a target tells that isn't FAIL
+  pub record Leads (anchored : Anchored) (v : Node) (b : ℕ) : Type 0 where
+    pub number : target_of p at anchored v b ≡ number_at at anchored (step_of p.built anchored v b)
+    pub looks : looks_of 2 p.built anchored v b ≡ 1
+
+  -- where an unanchored search goes on
+  abbrev onward : Node → Node
+  onward v = miss p.built.kind (plain_of p.built) v
+
+  -- it goes on at the failure target, which is shorter
+  pub record GoesOn (v : Node) (b : ℕ) : Type 0 where
+    pub failure : (spelling_at p at No v).failure ≡ number_at at No (onward v)
+    pub node : IsNode p.built.kind (plain_of p.built) (onward v)
+    pub steps : step_of p.built No v b ≡ step_of p.built No (onward v) b
+    pub looks : looks_of 2 p.built No v b ≡ 1 + looks_of 2 p.built No (onward v) b
+    pub shorter : depth (onward v) < depth v
+
+  -- what is read at a state: a target is the answer, and FAIL ends an anchored search, or another goes on
+  pub record Reads (anchored : Anchored) (v : Node) (b : ℕ) : Type 0 where
+    pub leads : target_of p at anchored v b ≢ FAIL → Leads anchored v b
+    pub ends : target_of p at anchored v b ≡ FAIL → anchored ≡ Yes → step_of p.built anchored v b ≡ None
+    pub goes : target_of p at anchored v b ≡ FAIL → anchored ≡ No → GoesOn v b
+
+  -- the string that is longer by a byte
+  abbrev longer : List ℕ → ℕ → List ℕ
+  longer w b = w ++ plain_byte p.built.fold b ∷ []
+
+  longer-number : (anchored : Anchored) (w : List ℕ) (c : ℕ)
+      → at.place (w ++ c ∷ []) ≡ number_at at anchored (Some (w ++ c ∷ []))
+  longer-number No [] c = refl
+  longer-number Yes [] c = refl
+  longer-number No (x ∷ w) c = refl
+  longer-number Yes (x ∷ w) c = refl
+
+  -- a byte that leads on leads to the longer string in any search
+  step-longer : (anchored : Anchored) (w : List ℕ) (b : ℕ) → leads_on p.built (Some w) b ≡ true
+      → step_of p.built anchored (Some w) b ≡ Some (longer w b)
+  step-longer Yes w b leads = own-is w b leads
+  step-longer No w b leads =
+      step-own_target p.built.kind (plain_of p.built) (Some w) (plain_byte p.built.fold b)
+      (λ none. let e : Some (longer w b) ≡ None = sym (own-is w b leads) ∙ none in absurd cc)
+      ∙ own-is w b leads
+
+  one-look : (anchored : Anchored) (w : List ℕ) (b : ℕ) → leads_on p.built (Some w) b ≡ true
+      → looks_of 2 p.built anchored (Some w) b ≡ 1
+  one-look Yes w b leads = refl
+  one-look No w b leads =
+      looks-own_target p.built.kind (plain_of p.built) (Some w) (plain_byte p.built.fold b)
+      (λ none. let e : Some (longer w b) ≡ None = sym (own-is w b leads) ∙ none in absurd cc)
+
+  -- by a byte that leads on a state has a target
+  target-longer : (anchored : Anchored) (w : List ℕ) (b : ℕ) → b < 256 → leads_on p.built (Some w) b ≡ true
+      → target_of p at anchored (Some w) b ≡ at.place (longer w b)
+  target-longer No [] b byte leads = own-target p at h.apart (number_at at No (onward (Some []))) [] b byte leads
+  target-longer Yes [] b byte leads = own-target p at h.apart FAIL [] b byte leads
+  target-longer No (x ∷ w) b byte leads = own-target p at h.apart FAIL (x ∷ w) b byte leads
+  target-longer Yes (x ∷ w) b byte leads = own-target p at h.apart FAIL (x ∷ w) b byte leads
+
+  -- no string's number is FAIL
+  behind-fail : (anchored : Anchored) (w : List ℕ) (c : ℕ)
+      → IsNode p.built.kind (plain_of p.built) (Some (w ++ c ∷ [])) → at.place (w ++ c ∷ []) ≢ FAIL
+  behind-fail anchored w c node e =
+      let behind = h.behind anchored (w ++ c ∷ []) node in
+      let same = longer-number anchored w c in
+      absurd (omega arith)
+
+  reads-on : (anchored : Anchored) (w : List ℕ) (b : ℕ) → b < 256 → leads_on p.built (Some w) b ≡ true
+      → Reads anchored (Some w) b
+  reads-on anchored w b byte leads =
+      let never : target_of p at anchored (Some w) b ≢ FAIL =
+      λ e. behind-fail anchored w (plain_byte p.built.fold b) leads (sym (target-longer anchored w b byte leads) ∙ e) in
+      record {
+        leads = λ some. record {
+          number = target-longer anchored w b byte leads ∙ longer-number anchored w (plain_byte p.built.fold b)
+              ∙ ap (number_at at anchored) (sym (step-longer anchored w b leads));
+          looks = one-look anchored w b leads;
+        };
+        ends = λ fail yes. absurd (never fail);
+        goes = λ fail no. absurd (never fail);
+      }
+
+  -- where the start goes on by a byte that doesn't lead on, it isn't FAIL
+  home-not-fail : (v : Node) → (v ≡ None) ⊎ (v ≡ Some []) → number_at at No v ≢ FAIL
+  home-not-fail None some e = absurd (omega arith)
+  home-not-fail (Some []) some e = let behind = h.behind No [] refl in absurd (omega arith)
+  home-not-fail (Some (x ∷ w)) (inl none) e = absurd cc
+  home-not-fail (Some (x ∷ w)) (inr none) e = absurd cc
+
+  abbrev home : Bool → Node
+  home t = if t then None else Some []
+
+  home-is : (t : Bool) → (home t ≡ None) ⊎ (home t ≡ Some [])
+  home-is true = inl refl
+  home-is false = inr refl
+
+  reads-start : (b : ℕ) → b < 256 → leads_on p.built (Some []) b ≡ false → Reads No (Some []) b
+  reads-start b byte none =
+      let target = no-target p at h.apart (number_at at No (onward (Some []))) [] b byte none in
+      record {
+        leads = λ some. record {
+          number = target
+              ∙ ap (number_at at No)
+              (sym (step-miss p.built.kind (plain_of p.built) (Some []) (plain_byte p.built.fold b) (own-none [] b none) refl));
+          looks = looks-short p.built.kind (plain_of p.built) (Some []) (plain_byte p.built.fold b) refl;
+        };
+        ends = λ fail yes. absurd cc;
+        goes = λ fail no. absurd (home-not-fail (onward (Some [])) (home-is (is_leftmost p.built.kind && begins_with_pattern (plain_of p.built) [])) (sym target ∙ fail));
+      }
+
+  reads-anchored : (w : List ℕ) (b : ℕ) → target_of p at Yes (Some w) b ≡ FAIL → leads_on p.built (Some w) b ≡ false
+      → Reads Yes (Some w) b
+  reads-anchored w b target none = record {
+    leads = λ some. absurd (some target);
+    ends = λ fail yes. own-none w b none;
+    goes = λ fail no. absurd cc;
+  }
+
+  reads-inner : (x : ℕ) (w : List ℕ) (b : ℕ) → b < 256 → leads_on p.built (Some (x ∷ w)) b ≡ false
+      → Reads No (Some (x ∷ w)) b
+  reads-inner x w b byte none =
+      let target = no-target p at h.apart FAIL (x ∷ w) b byte none in
+      let off = own-none (x ∷ w) b none in
+      let long : 0 < depth (Some (x ∷ w)) = omega arith in
+      let nearer = depth-failure p.built.kind (plain_of p.built) x w in
+      record {
+        leads = λ some. absurd (some target);
+        ends = λ fail yes. absurd cc;
+        goes = λ fail no. record {
+          failure = refl;
+          node = failure-node p.built.kind (plain_of p.built) x w;
+          steps = step-on p.built.kind (plain_of p.built) (Some (x ∷ w)) (plain_byte p.built.fold b) off long;
+          looks = looks-on p.built.kind (plain_of p.built) (Some (x ∷ w)) (plain_byte p.built.fold b) off long;
+          shorter = omega arith;
+        };
+      }
+
+  -- what is read at any state
+  pub reads : (anchored : Anchored) (v : Node) (b : ℕ) → b < 256 → Reads anchored v b
+  unfolding target_by
+  reads anchored None b byte = record {
+    leads = λ some. record { number = dead-number anchored; looks = dead-looks anchored };
+    ends = λ fail yes. refl;
+    goes = λ fail no. absurd (omega arith);
+  }
+    where
+      dead-number : (anchored : Anchored) → 0 ≡ number_at at anchored None
+      dead-number No = refl
+      dead-number Yes = refl
+      dead-looks : (anchored : Anchored) → looks_of 2 p.built anchored None b ≡ 1
+      dead-looks No = refl
+      dead-looks Yes = refl
+  reads anchored (Some w) b byte = go anchored w (leads_on p.built (Some w) b) refl
+    where
+      go : (anchored : Anchored) (w : List ℕ) (t : Bool) → leads_on p.built (Some w) b ≡ t → Reads anchored (Some w) b
+      go anchored w true leads = reads-on anchored w b byte leads
+      go No [] false none = reads-start b byte none
+      go Yes [] false none = reads-anchored [] b (no-target p at h.apart FAIL [] b byte none) none
+      go No (x ∷ w) false none = reads-inner x w b byte none
+      go Yes (x ∷ w) false none = reads-anchored (x ∷ w) b (no-target p at h.apart FAIL (x ∷ w) b byte none) none

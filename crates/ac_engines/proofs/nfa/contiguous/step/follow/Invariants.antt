@@ -1,0 +1,16 @@
+use Rattle.std.proofs.Common.{◌≡◌, ℕ, ◌<◌, ◌+◌, ◌-◌}
+use Rattle.ac_util.specs.declared.primitives.TheConstants.{GREATEST}
+use Rattle.ac_util.specs.Classes.{class_at}
+use Rattle.ac_util.specs.Node.{Node}
+use Rattle.ac_engines.specs.Packing.{Packed, StandsAt}
+use Rattle.ac_engines.proofs.Follow.{Onward}
+use Rattle.ac_engines.proofs.nfa.contiguous.step.follow.Given as goal
+
+-- whatever the words were packed from, the walk is on the way to where the byte leads
+abbrev pub invariant-loop-state : goal.invariant-loop-state
+invariant-loop-state l =
+    (p : Packed) (b : ℕ) (u : Node) → p.words ≡ l.words → b < 256 → l.class ≡ class_at p.classes b
+    → StandsAt p l.anchored l.fn.from u → Onward p l.anchored b u l.fn.looks l.looks l.at
+
+abbrev pub decreases-loop-state : goal.decreases-loop-state
+decreases-loop-state l = GREATEST + 2 + l.fn.looks.looks - l.looks.looks

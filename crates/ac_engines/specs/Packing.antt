@@ -1,0 +1,99 @@
+-- How the words of the contiguous engine stand for nodes.
+use Rattle.std.specs.Prelude.{◌≡◌, ◌≢◌, ℕ, ◌<◌, ◌≤◌, List, [], ◌∷◌, ◌++◌, drop, length, map, Some, None}
+use Rattle.ac_util.specs.declared.primitives.TheConstants.{GREATEST}
+use Rattle.ac_util.specs.declared.search.Anchored.{Anchored}
+use Rattle.ac_util.specs.declared.search.Anchored.TheVariants.{No, Yes}
+use Rattle.ac_util.specs.Built.{Built}
+use Rattle.ac_util.specs.Classes.{AreClasses, IsNode, SetsApart, alphabet_len, class_at}
+use Rattle.ac_util.specs.Node.{Node}
+use Rattle.ac_util.specs.Sameness.{plain_byte}
+use Rattle.ac_automaton.specs.Automata.{matches_of, plain_of}
+use Rattle.ac_automaton.specs.Readers.{own_bytes}
+use Rattle.ac_automaton.specs.Tries.{miss}
+use Rattle.ac_engines.specs.declared.nfa.contiguous.format.Format.{Format}
+use Rattle.ac_engines.specs.declared.nfa.contiguous.format.Format.TheVariants.{Dense}
+use Rattle.ac_engines.specs.declared.nfa.contiguous.state.Edge.{Edge}
+use Rattle.ac_engines.specs.declared.nfa.contiguous.state.TheConstants.{FAIL}
+use Rattle.ac_engines.specs.Formats.{format_of}
+use Rattle.ac_engines.specs.Words.{BeginsWith, Spelling}
+
+-- what the words were built from, below which length states are dense, the class of each byte, and the words
+pub record Packed : Type 0 where
+  pub built : Built
+  pub dense_depth : ℕ
+  pub classes : List ℕ
+  pub words : List ℕ
+
+-- where states begin: that of each string, and the anchored start
+pub record Places : Type 0 where
+  pub place : List ℕ → ℕ
+  pub anchored_start : ℕ
+
+-- the number of a node's state: the place of its first word. The dead node's is 0
+abbrev pub number_at : Places → Anchored → Node → ℕ
+number_at at anchored None = 0
+number_at at Yes (Some []) = at.anchored_start
+number_at at No (Some []) = at.place []
+number_at at anchored (Some (x ∷ w)) = at.place (x ∷ w)
+
+module _ (p : Packed) (at : Places) where
+  -- the transitions of a string: each byte that leads on, with the string that is longer by it
+  abbrev pub edges_of : List ℕ → List Edge
+  edges_of w =
+      map (λ b. record {
+        class = class_at p.classes b;
+        target = at.place (w ++ plain_byte p.built.fold b ∷ []);
+      }) (own_bytes p.built (Some w))
+
+  -- what the words of a string spell
+  abbrev pub spelling_of : List ℕ → Spelling
+  spelling_of w = record {
+    failure = number_at at No (miss p.built.kind (plain_of p.built) (Some w));
+    missing = FAIL;
+    edges = edges_of w;
+    matches = matches_of p.built No (Some w);
+  }
+
+  -- the starts lead somewhere by each class or by none, and have no failure target; an unanchored search goes on at
+  -- its start, unless an empty pattern has begun its match
+  abbrev pub start_spelling : Anchored → Spelling
+  start_spelling No = record (spelling_of []) {
+    failure = 0;
+    missing = number_at at No (miss p.built.kind (plain_of p.built) (Some []));
+  }
+  start_spelling Yes = record (spelling_of []) { failure = 0 }
+
+  -- in which form
+  abbrev pub format_at : List ℕ → Format
+  format_at w =
+      format_of (length w) p.dense_depth (length (own_bytes p.built (Some w)))
+      (length (matches_of p.built No (Some w)))
+
+  -- at a place the words begin with those of a state
+  abbrev pub HasState : ℕ → Format → Spelling → Type 0
+  HasState s format spelling = BeginsWith (drop s p.words) format (alphabet_len p.classes) spelling
+
+  -- the words stand for the nodes: those of the dead node come first, and every class leads from it to itself. Each
+  -- other node has words of its own
+  pub record IsPacked : Type 0 where
+    pub classes : AreClasses p.classes
+    pub apart : SetsApart p.built.fold p.built.patterns p.classes
+    pub small : length p.words ≤ GREATEST
+    pub short : (w : List ℕ) → IsNode p.built.kind (plain_of p.built) (Some w) → length w ≤ GREATEST
+    pub dead : HasState 0 Dense (record { failure = 0; missing = 0; edges = []; matches = [] })
+    pub starts : (anchored : Anchored) → HasState (number_at at anchored (Some [])) Dense (start_spelling anchored)
+    pub inner : (w : List ℕ) → IsNode p.built.kind (plain_of p.built) (Some w) → w ≢ []
+        → HasState (at.place w) (format_at w) (spelling_of w)
+    pub within : (anchored : Anchored) (w : List ℕ) → IsNode p.built.kind (plain_of p.built) (Some w)
+        → number_at at anchored (Some w) < length p.words
+    pub behind : (anchored : Anchored) (w : List ℕ) → IsNode p.built.kind (plain_of p.built) (Some w)
+        → FAIL < number_at at anchored (Some w)
+    pub longer : (anchored : Anchored) (w : List ℕ) → IsNode p.built.kind (plain_of p.built) (Some w) → w ≢ []
+        → at.place w ≢ number_at at anchored (Some [])
+
+-- the number stands for the node, in a search with this anchoring
+pub record StandsAt (p : Packed) (anchored : Anchored) (s : ℕ) (u : Node) : Type 0 where
+  pub at : Places
+  pub packed : IsPacked p at
+  pub node : IsNode p.built.kind (plain_of p.built) u
+  pub number : s ≡ number_at at anchored u

@@ -1,0 +1,47 @@
+//! The step from state to state along failure links.
+ghost use Rattle.std.specs.Prelude.{◌≡◌, ℕ, ◌<◌};
+ghost use Rattle.ac_util.specs.Classes.{class_at};
+ghost use Rattle.ac_util.specs.Counts.{more_looks};
+ghost use Rattle.ac_util.specs.Node.{Node};
+ghost use Rattle.ac_automaton.specs.Automata.{looks_of, step_of};
+ghost use Rattle.ac_engines.specs.Packing.{Packed, StandsAt};
+
+use super::state::{FAIL, State};
+use ac_automaton::nfa::noncontiguous::DEAD;
+use ac_util::looks::Looks;
+use ac_util::primitives::StateID;
+use ac_util::search::Anchored;
+
+/// Returns where a class leads from a state, and counts a look at each state on the way.
+///
+/// An unanchored search goes on along the failure targets as long as there is no transition by the class. Each
+/// target is a shorter string, so n bytes take at most 2n looks.
+#[inline]
+pub(super) fn follow(
+    words: &[u32],
+    class: u8,
+    anchored: Anchored,
+    from: StateID,
+    looks: &mut Looks,
+) -> StateID
+    requires state { (p : Packed) × (b : ℕ) × (u : Node) × (p.words ≡ words.now) × (b < 256)
+        × (class ≡ class_at p.classes b) × StandsAt p anchored from u }
+    ensures steps { (p : Packed) (b : ℕ) (u : Node) → p.words ≡ words.now → b < 256 → class ≡ class_at p.classes b
+        → StandsAt p anchored from u → StandsAt p anchored result (step_of p.built anchored u b) }
+    ensures looks { (p : Packed) (b : ℕ) (u : Node) → p.words ≡ words.now → b < 256 → class ≡ class_at p.classes b
+        → StandsAt p anchored from u → looks.new ≡ more_looks (looks_of 2 p.built anchored u b) looks.old }
+{
+    let mut at = from.as_usize();
+    loop {
+        looks.look();
+        let state = State::at(words, at);
+        let next = state.target(class);
+        if next != FAIL {
+            return StateID::must(next as usize);
+        }
+        if anchored.is_anchored() {
+            return StateID::must(DEAD);
+        }
+        at = state.fail() as usize;
+    }
+}
