@@ -1,4 +1,5 @@
 pub mod Assembled
+pub mod ClassWords
 pub mod Filled
 pub mod LaidOut
 pub mod LaidUpTo
@@ -14,4 +15,5 @@ pub mod RowByRow
 pub mod RowLists
 pub mod Setting
 pub mod Starts
+pub mod Spellings
 pub mod StateRows

@@ -1,7 +1,7 @@
 //! Reading the words of a state.
-ghost use Rattle.std.specs.Prelude.{◌≡◌, ℕ, ◌+◌, ◌<◌, ◌≤◌, drop, length, slice_index};
+ghost use Rattle.std.specs.Prelude.{◌≡◌, ◌≢◌, ℕ, ◌+◌, ◌<◌, ◌≤◌, ◌++◌, [], drop, length, slice_index};
 ghost use Rattle.ac_engines.specs.declared.nfa.contiguous.format.Format.{Format};
-ghost use Rattle.ac_engines.specs.Words.{BeginsWith, Spelling, first_of, target_by, word_of};
+ghost use Rattle.ac_engines.specs.Words.{BeginsWith, Spelling, first_of, match_spelling, target_by, word_of};
 
 /// The low byte of a dense state's first word.
 pub const DENSE: u8 = 0xFF;
@@ -90,6 +90,48 @@ impl<'a> State<'a> {
             }
         }
         FAIL
+    }
+
+    /// Returns how many matches the state has. It has to have some.
+    pub(super) fn match_len(self, classes: usize) -> usize
+        requires { (format : Format) × (s : Spelling)
+            × BeginsWith self.words.now format classes s × (s.matches ≢ []) }
+        ensures { (format : Format) (s : Spelling) → BeginsWith self.entry.words.now format classes s
+            → s.matches ≢ [] → result ≡ length s.matches }
+    {
+        let first = self.words[self.first_match(classes)];
+        if first >= ONE_MATCH { 1 } else { first as usize }
+    }
+
+    /// Returns one of its matches.
+    pub(super) fn match_pattern(self, classes: usize, index: usize) -> u32
+        requires { (format : Format) × (s : Spelling)
+            × BeginsWith self.words.now format classes s × (index < length s.matches) }
+        ensures { (format : Format) (s : Spelling) → BeginsWith self.entry.words.now format classes s
+            → index < length s.matches → result ≡ slice_index s.matches index }
+    {
+        let place = self.first_match(classes);
+        let first = self.words[place];
+        if first >= ONE_MATCH {
+            first - ONE_MATCH
+        } else {
+            self.words[place + 1 + index]
+        }
+    }
+
+    /// Returns the place of the first word of the state's matches. It has to have some, so it is dense or sparse.
+    fn first_match(self, classes: usize) -> usize
+        requires { (format : Format) × (s : Spelling)
+            × BeginsWith self.words.now format classes s × (s.matches ≢ []) }
+        ensures { (format : Format) (s : Spelling) (words : BeginsWith self.entry.words.now format classes s)
+            → s.matches ≢ [] → drop result self.entry.words.now ≡ match_spelling s.matches ++ words.rest }
+    {
+        let [form, _, _, _] = self.words[0].to_le_bytes();
+        if form == DENSE {
+            return HEAD + classes;
+        }
+        let transitions = form as usize;
+        HEAD + transitions.div_ceil(CLASSES_A_WORD) + transitions
     }
 }
 
