@@ -1,8 +1,8 @@
 -- Looking for a class in the class words of a sparse state.
-use Rattle.std.proofs.Common.{refl, ◌≡◌, ℕ, zero, suc, ◌+◌, ◌*◌, ◌<◌, ◌≤◌, Bool, true, false, cond, List, [], ◌∷◌, length, map, drop, ap, sym, ◌∙◌, arith}
+use Rattle.std.proofs.Common.{refl, ◌≡◌, ℕ, zero, suc, ◌+◌, ◌*◌, ◌<◌, ◌≤◌, Bool, true, false, cond, List, [], ◌∷◌, length, map, drop, ap, sym, subst, ◌∙◌, arith}
 use Rattle.std.specs.Prelude.{All, slice_index_or, ◌==◌}
 use Rattle.std.proofs.Math.Seq.{drop-cons, drop-nil}
-use Rattle.std.proofs.lemmas.List.{drop_all}
+use Rattle.std.proofs.lemmas.List.{drop_all, drop-drop, drop-map, get_or-drop, length-drop, length-map}
 use Rattle.std.proofs.lemmas.List.Elements.{All-drop}
 use Rattle.ac_engines.specs.declared.nfa.contiguous.state.Edge.{Edge}
 use Rattle.ac_engines.specs.declared.nfa.contiguous.state.TheConstants.{FAIL}
@@ -184,3 +184,50 @@ length-class_words (a ∷ b ∷ []) = (omega arith, omega arith)
 length-class_words (a ∷ b ∷ c ∷ []) = (omega arith, omega arith)
 length-class_words (a ∷ b ∷ c ∷ d ∷ classes) =
     let shorter = length-class_words classes in (omega (arith, shorter.0), omega (arith, shorter.1))
+
+module _ (es : List Edge) (front : List ℕ) (is : front ≡ class_words (classes_of es)) (class index : ℕ) where
+  -- behind the last class word there are no transitions
+  pub none-left : length front ≤ index → target_by FAIL (drop (4 * index) es) class ≡ FAIL
+  unfolding target_by
+  none-left past =
+      let enough = length-class_words (classes_of es) in
+      let same = length-map es (λ e. e.class) in
+      let counts = ap (λ (ns : List ℕ). length ns) is in
+      rw (drop_all (4 * index) es (omega (arith, enough.0, same, counts, past))) refl
+
+  module _ (place : ℕ) (small : All (λ e. e.class < 256) es) (within : index < length front)
+      (seen : (a b c d : ℕ) → a < 256 → b < 256 → c < 256 → d < 256
+      → slice_index_or front index 0 ≡ word_of a b c d → place ≡ first_of a b c d class) where
+    -- the place of a class in the class word at an index picks from the targets there
+    picks-at : Picks (targets_of (drop (4 * index) es)) place (target_by FAIL (drop (4 * index) es) class)
+        (target_by FAIL (drop 4 (drop (4 * index) es)) class)
+    picks-at =
+        let t = tells-at class es index small (subst (λ (ns : List ℕ). index < length ns) is within) in
+        let place_is = seen t.a t.b t.c t.d t.a_small t.b_small t.c_small t.d_small
+        (ap (λ (ns : List ℕ). slice_index_or ns index 0) is ∙ t.word_is) in
+        subst (λ (n : ℕ). Picks (targets_of (drop (4 * index) es)) n (target_by FAIL (drop (4 * index) es) class)
+        (target_by FAIL (drop 4 (drop (4 * index) es)) class)) (sym place_is) t.picks
+
+    -- a place below 4 is that of a transition
+    pub place-within : place < 4 → 4 * index + place < length (targets_of es)
+    place-within low =
+        let inside = picks-at.within low in
+        let left = ap (λ (ns : List ℕ). length ns) (drop-map (λ e. e.target) (4 * index) es) in
+        let dropped = length-drop (4 * index) (targets_of es) in
+        omega (arith, inside, left, dropped)
+
+    -- there the class leads
+    pub place-found : place < 4
+        → target_by FAIL (drop (4 * index) es) class ≡ slice_index_or (targets_of es) (4 * index + place) 0
+    place-found low =
+        picks-at.found low
+        ∙ ap (λ (ns : List ℕ). slice_index_or ns place 0) (sym (drop-map (λ e. e.target) (4 * index) es))
+        ∙ get_or-drop (4 * index) (targets_of es) place 0
+
+    -- or it leads where the transitions behind these lead it
+    pub place-missed : 4 ≤ place
+        → target_by FAIL (drop (4 * index) es) class ≡ target_by FAIL (drop (4 * (index + 1)) es) class
+    place-missed not =
+        picks-at.missed not
+        ∙ ap (λ (rest : List Edge). target_by FAIL rest class)
+        (drop-drop 4 (4 * index) es ∙ ap (λ (n : ℕ). drop n es) (let more : 4 * index + 4 ≡ 4 * (index + 1) = omega arith in more))

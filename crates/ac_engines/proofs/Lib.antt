@@ -5,6 +5,7 @@ pub mod LaidOut
 pub mod LaidUpTo
 pub mod Laying
 pub mod Listing
+pub mod MatchWords
 pub mod Numbered
 pub mod Numbers
 pub mod OneRow

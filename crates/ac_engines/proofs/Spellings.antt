@@ -1,15 +1,19 @@
 -- What stands where in the words of a state.
-use Rattle.std.proofs.Common.{refl, ◌≡◌, ℕ, ◌+◌, ◌*◌, ◌-◌, ◌/◌, ◌%◌, ◌<◌, ◌≤◌, List, [], ◌∷◌, ◌++◌, length, map, take, drop, ap, sym, subst, ◌∙◌, arith}
-use Rattle.std.specs.Prelude.{All, min, slice_index_or}
+use Rattle.std.proofs.Common.{refl, ◌≡◌, ◌≢◌, ℕ, ◌+◌, ◌*◌, ◌-◌, ◌/◌, ◌%◌, ◌<◌, ◌≤◌, List, [], ◌∷◌, ◌++◌, length, map, take, drop, ap, sym, subst, ◌∙◌, arith}
+use Rattle.std.specs.Prelude.{All, slice_index_or}
 use Rattle.std.specs.Int.{div_ceil}
+use Rattle.std.specs.List.{range_with_len}
+use Rattle.std.proofs.lemmas.Bool.{eq-eqb, ne_eqb}
 use Rattle.std.proofs.lemmas.Grind.{div_ceil_times}
 use Rattle.std.proofs.Math.Seq.{take-append_seam}
-use Rattle.std.proofs.lemmas.List.{append_assoc, drop-drop, drop_all, drop_at, drop-map, get_or-drop, get_or_append_left, length-append, length-drop, length-map, take_all}
+use Rattle.std.proofs.lemmas.List.{append_assoc, drop_at, get_or-drop, get_or_append_left, length-append, length-drop, length-map, take_all}
+use Rattle.std.proofs.lemmas.List.FromFn.{get_or-map-range_with_len, length-map-range_with_len}
+use Rattle.ac_engines.specs.declared.nfa.contiguous.format.Format.{Format}
 use Rattle.ac_engines.specs.declared.nfa.contiguous.format.Format.TheVariants.{Dense, One, Sparse}
 use Rattle.ac_engines.specs.declared.nfa.contiguous.state.Edge.{Edge}
-use Rattle.ac_engines.specs.declared.nfa.contiguous.state.TheConstants.{DENSE, FAIL, ONE, ONE_MATCH}
-use Rattle.ac_engines.specs.Words.{BeginsWith, Spelling, class_words, first_of, match_spelling, spelled, target_by, word_of}
-use Rattle.ac_engines.proofs.ClassWords.{Picks, Tells, classes_of, length-class_words, targets_of, tells-at}
+use Rattle.ac_engines.specs.declared.nfa.contiguous.state.TheConstants.{DENSE, FAIL, ONE}
+use Rattle.ac_engines.specs.Words.{BeginsWith, Spelling, class_words, match_spelling, one_spelling, spelled, target_by}
+use Rattle.ac_engines.proofs.ClassWords.{classes_of, length-class_words, targets_of}
 
 -- as many class words as the code counts hold the classes of the transitions
 counted : (es : List Edge) (transitions : ℕ) → transitions ≡ length es
@@ -50,9 +54,9 @@ module _ (words : List ℕ) (classes : ℕ) (s : Spelling) where
   splits-at transitions count h are counts =
       let more = match_spelling s.matches ++ h.rest in
       let tail : drop 2 words ≡ class_words (classes_of s.edges) ++ (targets_of s.edges ++ more) =
-          ap (λ (ns : List ℕ). drop 2 ns) (sparse-words h) in
+      ap (λ (ns : List ℕ). drop 2 ns) (sparse-words h) in
       let all : behind ≡ class_words (classes_of s.edges) ++ (targets_of s.edges ++ more) =
-          take_all (length words - 2) (drop 2 words) (rw (length-drop 2 words) (omega arith)) ∙ tail in
+      take_all (length words - 2) (drop 2 words) (rw (length-drop 2 words) (omega arith)) ∙ tail in
       let same : count ≡ length (class_words (classes_of s.edges)) = counts ∙ sym (counted s.edges transitions are) in
       record {
         long = rw (sparse-words h) (omega arith);
@@ -63,49 +67,174 @@ module _ (words : List ℕ) (classes : ℕ) (s : Spelling) where
         small = λ k d within. let low = h.below k d within in omega (arith, low, h.few);
       }
 
-module _ (es : List Edge) (front : List ℕ) (is : front ≡ class_words (classes_of es)) (class index : ℕ) where
-  -- behind the last class word there are no transitions
-  pub none-left : length front ≤ index → target_by FAIL (drop (4 * index) es) class ≡ FAIL
+  -- the words of a dense state, one part behind the other
+  pub dense-words : (h : BeginsWith words Dense classes s)
+      → words ≡ DENSE ∷ s.failure ∷ map (target_by s.missing s.edges) (range_with_len 0 classes)
+      ++ (match_spelling s.matches ++ h.rest)
+  unfolding spelled
+  dense-words h =
+      h.words_are
+      ∙ append_assoc (DENSE ∷ s.failure ∷ map (target_by s.missing s.edges) (range_with_len 0 classes))
+      (match_spelling s.matches) h.rest
+
+  -- the transition of a state that has one, and its words
+  pub record HasOne (rest : List ℕ) : Type 0 where
+    pub edge : Edge
+    pub only : s.edges ≡ edge ∷ []
+    pub words_are : words ≡ (ONE + 256 * edge.class) ∷ s.failure ∷ edge.target ∷ rest
+
+  has-one : (edges : List Edge) (rest : List ℕ) → s.edges ≡ edges → length edges ≡ 1
+      → words ≡ one_spelling s.failure edges ++ rest → HasOne rest
+  has-one [] rest are one h = absurd (omega (arith, one))
+  has-one (e ∷ []) rest are one h = record { edge = e; only = are; words_are = h }
+  has-one (e ∷ f ∷ edges) rest are one h = absurd (omega (arith, one))
+
+  pub one-words : (h : BeginsWith words One classes s) → HasOne h.rest
+  unfolding spelled
+  one-words h = has-one s.edges h.rest refl h.fits.0 h.words_are
+
+  -- a dense state leads by each class where the word of that class says
+  pub record LeadsAt (class : ℕ) : Type 0 where
+    pub within : 2 + class < length words
+    pub target : slice_index_or words (2 + class) 0 ≡ target_by s.missing s.edges class
+
+  pub leads-at : (class : ℕ) → BeginsWith words Dense classes s → class < classes → LeadsAt class
+  leads-at class h low =
+      let targets = map (target_by s.missing s.edges) (range_with_len 0 classes) in
+      let more = match_spelling s.matches ++ h.rest in
+      let tail : drop 2 words ≡ targets ++ more = ap (λ (ns : List ℕ). drop 2 ns) (dense-words h) in
+      let many = length-map-range_with_len (target_by s.missing s.edges) 0 classes in
+      let long = ap (λ (ns : List ℕ). length ns) tail ∙ length-append targets more in
+      let dropped = length-drop 2 words in
+      record {
+        within = omega (arith, low, many, long, dropped);
+        target = sym (get_or-drop 2 words class 0) ∙ ap (λ (ns : List ℕ). slice_index_or ns class 0) tail
+            ∙ get_or_append_left targets more 0 class (omega (arith, low, many))
+            ∙ get_or-map-range_with_len (target_by s.missing s.edges) 0 classes class class 0 low (omega arith);
+      }
+
+  -- where a state with one transition leads by a class, whose byte stands beside the form
+  pub record LeadsOne (class : ℕ) : Type 0 where
+    pub within : 2 < length words
+    pub hit : slice_index_or words 0 0 / 256 % 256 ≡ class
+        → slice_index_or words 2 0 ≡ target_by s.missing s.edges class
+    pub miss : slice_index_or words 0 0 / 256 % 256 ≢ class → FAIL ≡ target_by s.missing s.edges class
+
+  one-target : (e : Edge) (class : ℕ) → s.edges ≡ e ∷ [] → e.class ≡ class
+      → target_by s.missing s.edges class ≡ e.target
   unfolding target_by
-  none-left past =
-      let enough = length-class_words (classes_of es) in
-      let same = length-map es (λ e. e.class) in
-      let counts = ap (λ (ns : List ℕ). length ns) is in
-      rw (drop_all (4 * index) es (omega (arith, enough.0, same, counts, past))) refl
+  one-target e class only same = rw (only, eq-eqb e.class class same) refl
 
-  module _ (place : ℕ) (small : All (λ e. e.class < 256) es) (within : index < length front)
-      (seen : (a b c d : ℕ) → a < 256 → b < 256 → c < 256 → d < 256
-          → slice_index_or front index 0 ≡ word_of a b c d → place ≡ first_of a b c d class) where
-    -- the place of a class in the class word at an index picks from the targets there
-    picks-at : Picks (targets_of (drop (4 * index) es)) place (target_by FAIL (drop (4 * index) es) class)
-        (target_by FAIL (drop 4 (drop (4 * index) es)) class)
-    picks-at =
-        let t = tells-at class es index small (subst (λ (ns : List ℕ). index < length ns) is within) in
-        let place_is = seen t.a t.b t.c t.d t.a_small t.b_small t.c_small t.d_small
-        (ap (λ (ns : List ℕ). slice_index_or ns index 0) is ∙ t.word_is) in
-        subst (λ (n : ℕ). Picks (targets_of (drop (4 * index) es)) n (target_by FAIL (drop (4 * index) es) class)
-        (target_by FAIL (drop 4 (drop (4 * index) es)) class)) (sym place_is) t.picks
+  no-target : (e : Edge) (class : ℕ) → s.edges ≡ e ∷ [] → e.class ≢ class
+      → target_by s.missing s.edges class ≡ s.missing
+  unfolding target_by
+  no-target e class only other = rw (only, ne_eqb e.class class other) refl
 
-    -- a place below 4 is that of a transition
-    pub place-within : place < 4 → 4 * index + place < length (targets_of es)
-    place-within low =
-        let inside = picks-at.within low in
-        let left = ap (λ (ns : List ℕ). length ns) (drop-map (λ e. e.target) (4 * index) es) in
-        let dropped = length-drop (4 * index) (targets_of es) in
-        omega (arith, inside, left, dropped)
+  pub leads-one : (class : ℕ) → BeginsWith words One classes s → LeadsOne class
+  leads-one class h =
+      let one = one-words h in
+      let e = one.edge in
+      let first = ap (λ (ns : List ℕ). slice_index_or ns 0 0) one.words_are in
+      let below = subst (λ (es : List Edge). All (λ e. e.class < classes) es) one.only h.below 0 e (omega arith) in
+      let few = h.few in
+      let byte : slice_index_or words 0 0 / 256 % 256 ≡ e.class = omega (arith, first, below, few) in
+      record {
+        within = rw one.words_are (omega arith);
+        hit = λ same. ap (λ (ns : List ℕ). slice_index_or ns 2 0) one.words_are
+            ∙ sym (one-target e class one.only (sym byte ∙ same));
+        miss = λ other. sym (no-target e class one.only (λ same. other (byte ∙ same)) ∙ h.fits.2);
+      }
 
-    -- there the class leads
-    pub place-found : place < 4
-        → target_by FAIL (drop (4 * index) es) class ≡ slice_index_or (targets_of es) (4 * index + place) 0
-    place-found low =
-        picks-at.found low
-        ∙ ap (λ (ns : List ℕ). slice_index_or ns place 0) (sym (drop-map (λ e. e.target) (4 * index) es))
-        ∙ get_or-drop (4 * index) (targets_of es) place 0
+  -- the second word is the failure target
+  pub record HasFailure : Type 0 where
+    pub within : 1 < length words
+    pub failure : slice_index_or words 1 0 ≡ s.failure
 
-    -- or it leads where the transitions behind these lead it
-    pub place-missed : 4 ≤ place
-        → target_by FAIL (drop (4 * index) es) class ≡ target_by FAIL (drop (4 * (index + 1)) es) class
-    place-missed not =
-        picks-at.missed not
-        ∙ ap (λ (rest : List Edge). target_by FAIL rest class)
-        (drop-drop 4 (4 * index) es ∙ ap (λ (n : ℕ). drop n es) (let more : 4 * index + 4 ≡ 4 * (index + 1) = omega arith in more))
+  has-failure-words : (first : ℕ) (more : List ℕ) → words ≡ first ∷ s.failure ∷ more → HasFailure
+  has-failure-words first more are = record {
+    within = rw are (omega arith);
+    failure = ap (λ (ns : List ℕ). slice_index_or ns 1 0) are;
+  }
+
+  pub has-failure : (format : Format) → BeginsWith words format classes s → HasFailure
+  has-failure Dense h = has-failure-words _ _ (dense-words h)
+  has-failure One h = has-failure-words _ _ (one-words h).words_are
+  has-failure Sparse h = has-failure-words _ _ (sparse-words h)
+
+  -- the low byte of the first word tells the form
+  abbrev pub form : ℕ
+  form = slice_index_or words 0 0 % 256
+
+  form-dense : BeginsWith words Dense classes s → form ≡ 255
+  form-dense h = ap (λ (ns : List ℕ). slice_index_or ns 0 0 % 256) (dense-words h)
+
+  form-one : BeginsWith words One classes s → form ≡ 254
+  form-one h =
+      let one = one-words h in
+      let first = ap (λ (ns : List ℕ). slice_index_or ns 0 0) one.words_are in
+      omega (arith, first)
+
+  form-sparse : BeginsWith words Sparse classes s → (form ≡ length s.edges) × (length s.edges ≤ 127)
+  form-sparse h =
+      let first = ap (λ (ns : List ℕ). slice_index_or ns 0 0) (sparse-words h) in
+      let few = h.fits.0 in
+      (omega (arith, first, few), few)
+
+  pub is-dense : (format : Format) → BeginsWith words format classes s → form ≡ 255 → BeginsWith words Dense classes s
+  is-dense Dense h tells = h
+  is-dense One h tells = let one = form-one h in absurd (omega (arith, one, tells))
+  is-dense Sparse h tells = let sparse = form-sparse h in absurd (omega (arith, sparse.0, sparse.1, tells))
+
+  pub is-one : (format : Format) → BeginsWith words format classes s → form ≡ 254 → BeginsWith words One classes s
+  is-one Dense h tells = let dense = form-dense h in absurd (omega (arith, dense, tells))
+  is-one One h tells = h
+  is-one Sparse h tells = let sparse = form-sparse h in absurd (omega (arith, sparse.0, sparse.1, tells))
+
+  -- what is told of a sparse state: its low byte is the number of its transitions
+  pub record IsSparse : Type 0 where
+    pub begins : BeginsWith words Sparse classes s
+    pub counts : form ≡ length s.edges
+
+  pub is-sparse : (format : Format) → BeginsWith words format classes s → form ≢ 255 → form ≢ 254 → IsSparse
+  is-sparse Dense h dense one = absurd (dense (form-dense h))
+  is-sparse One h dense one = absurd (one (form-one h))
+  is-sparse Sparse h dense one = record { begins = h; counts = (form-sparse h).0 }
+
+  -- the matches of a state stand from a place on
+  pub record ListsFrom (place : ℕ) (rest : List ℕ) : Type 0 where
+    pub within : place ≤ length words
+    pub lists : take (length words - place) (drop place words) ≡ match_spelling s.matches ++ rest
+
+  lists-from : (place : ℕ) (front rest : List ℕ) → words ≡ front ++ (match_spelling s.matches ++ rest)
+      → length front ≡ place → ListsFrom place rest
+  lists-from place front rest are long =
+      let all = ap (λ (ns : List ℕ). length ns) are ∙ length-append front (match_spelling s.matches ++ rest) in
+      record {
+        within = omega (arith, all, long);
+        lists = take_all (length words - place) (drop place words) (rw (length-drop place words) (omega arith))
+            ∙ ap (λ (ns : List ℕ). drop place ns) are ∙ drop_at front (match_spelling s.matches ++ rest) place long;
+      }
+
+  pub dense-lists : (format : Format) (h : BeginsWith words format classes s) → form ≡ 255
+      → ListsFrom (2 + classes) h.rest
+  dense-lists Dense h tells =
+      let many = length-map-range_with_len (target_by s.missing s.edges) 0 classes in
+      lists-from (2 + classes) (DENSE ∷ s.failure ∷ map (target_by s.missing s.edges) (range_with_len 0 classes)) h.rest
+      (dense-words h) (omega (arith, many))
+  dense-lists One h tells = let one = form-one h in absurd (omega (arith, one, tells))
+  dense-lists Sparse h tells = let sparse = form-sparse h in absurd (omega (arith, sparse.0, sparse.1, tells))
+
+  pub sparse-lists : (format : Format) (h : BeginsWith words format classes s) (low count : ℕ) → low ≡ form
+      → low ≢ 255 → s.matches ≢ [] → count ≡ div_ceil low 4 → ListsFrom (2 + count + low) h.rest
+  sparse-lists Dense h low count is tells some counts = absurd (tells (is ∙ form-dense h))
+  sparse-lists One h low count is tells some counts = absurd (some h.fits.1)
+  sparse-lists Sparse h low count is tells some counts =
+      let transitions = is ∙ (form-sparse h).0 in
+      let same = counted s.edges low transitions in
+      let targets = length-map s.edges (λ e. e.target) in
+      let both = length-append (class_words (classes_of s.edges)) (targets_of s.edges) in
+      lists-from (2 + count + low)
+      (length s.edges ∷ s.failure ∷ (class_words (classes_of s.edges) ++ targets_of s.edges)) h.rest
+      (sparse-words h ∙ ap (λ (ns : List ℕ). length s.edges ∷ s.failure ∷ ns)
+      (sym (append_assoc (class_words (classes_of s.edges)) (targets_of s.edges) (match_spelling s.matches ++ h.rest))))
+      (omega (arith, transitions, same, targets, both, counts))

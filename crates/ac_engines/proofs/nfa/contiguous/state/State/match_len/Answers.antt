@@ -1,15 +1,20 @@
-use Rattle.std.proofs.Common.{refl, ◌≡◌, ◌≢◌, ℕ, ◌+◌, ◌*◌, ◌-◌, ◌<◌, ◌≤◌, ◌++◌, List, [], ◌∷◌, drop, length, map, ap, sym, ◌∙◌, arith}
-use Rattle.ac_engines.specs.Words.{BeginsWith, Spelling, target_by}
+use Rattle.std.proofs.Common.{sym}
+use Rattle.ac_engines.proofs.MatchWords.{reads}
 use Rattle.ac_engines.proofs.nfa.contiguous.state.State.match_len.Goals as goal
 
-pub offset_bounds-self-first_match : goal.offset_bounds-self-first_match
-offset_bounds-self-first_match c = ?
+pub bounds-match_words-0 : goal.bounds-match_words-0
+bounds-match_words-0 c =
+    let r = c.requires in
+    (reads r.1.matches r.2.rest c.match_words.result.now (c.match_words.ensures r.0 r.1 r.2 r.3) r.3 r.2.few_matches).some
 
-pub bounds-self-first_match : goal.bounds-self-first_match
-bounds-self-first_match c = ?
-
+-- the first word is the only match
 pub returns-then-first-ge-ONE_MATCH : goal.returns-then-first-ge-ONE_MATCH
-returns-then-first-ge-ONE_MATCH c = ?
+returns-then-first-ge-ONE_MATCH c = λ format s h some.
+    sym ((reads s.matches h.rest c.match_words.result.now (c.match_words.ensures format s h some) some h.few_matches).one
+    c.if-first-ge-ONE_MATCH.true)
 
+-- or the number of matches
 pub returns-else-first-ge-ONE_MATCH : goal.returns-else-first-ge-ONE_MATCH
-returns-else-first-ge-ONE_MATCH c = ?
+returns-else-first-ge-ONE_MATCH c = λ format s h some.
+    (reads s.matches h.rest c.match_words.result.now (c.match_words.ensures format s h some) some h.few_matches).several
+    c.if-first-ge-ONE_MATCH.false

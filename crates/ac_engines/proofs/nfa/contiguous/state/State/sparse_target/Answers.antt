@@ -1,8 +1,8 @@
 use Rattle.std.proofs.Common.{refl, ◌+◌, ◌*◌, List, ℕ, length, ap, sym, ◌∙◌, arith}
 use Rattle.std.specs.Prelude.{slice_index_or}
 use Rattle.std.proofs.lemmas.List.{get_or_append_left, length-append}
-use Rattle.ac_engines.proofs.ClassWords.{targets_of}
-use Rattle.ac_engines.proofs.Spellings.{none-left, place-found, place-missed, place-within, splits-at}
+use Rattle.ac_engines.proofs.ClassWords.{none-left, place-found, place-missed, place-within, targets_of}
+use Rattle.ac_engines.proofs.Spellings.{splits-at}
 use Rattle.ac_engines.proofs.nfa.contiguous.state.State.sparse_target.Goals as goal
 
 -- two words stand before the class words
