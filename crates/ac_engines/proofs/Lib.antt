@@ -1,4 +1,5 @@
 pub mod Assembled
+pub mod ClassWords
 pub mod EdgeTargets
 pub mod Filled
 pub mod Follow
@@ -6,6 +7,7 @@ pub mod LaidOut
 pub mod LaidUpTo
 pub mod Laying
 pub mod Listing
+pub mod MatchWords
 pub mod Numbered
 pub mod Numbers
 pub mod OneRow
@@ -16,5 +18,6 @@ pub mod Ranges
 pub mod RowByRow
 pub mod RowLists
 pub mod Setting
+pub mod Spellings
 pub mod Starts
 pub mod StateRows

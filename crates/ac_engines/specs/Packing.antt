@@ -1,5 +1,5 @@
 -- How the words of the contiguous engine stand for nodes.
-use Rattle.std.specs.Prelude.{◌≡◌, ◌≢◌, ℕ, ◌<◌, ◌≤◌, List, [], ◌∷◌, ◌++◌, drop, length, map, Some, None}
+use Rattle.std.specs.Prelude.{◌≡◌, ◌≢◌, ℕ, ◌<◌, ◌≤◌, ◌↔◌, List, [], ◌∷◌, ◌++◌, drop, length, map, Some, None}
 use Rattle.ac_util.specs.declared.primitives.TheConstants.{GREATEST}
 use Rattle.ac_util.specs.declared.search.Anchored.{Anchored}
 use Rattle.ac_util.specs.declared.search.Anchored.TheVariants.{No, Yes}
@@ -17,12 +17,14 @@ use Rattle.ac_engines.specs.declared.nfa.contiguous.state.TheConstants.{FAIL}
 use Rattle.ac_engines.specs.Formats.{format_of}
 use Rattle.ac_engines.specs.Words.{BeginsWith, Spelling}
 
--- what the words were built from, below which length states are dense, the class of each byte, and the words
+-- what the words were built from, below which length states are dense, the class of each byte, the words, and from
+-- which number on no state has matches
 pub record Packed : Type 0 where
   pub built : Built
   pub dense_depth : ℕ
   pub classes : List ℕ
   pub words : List ℕ
+  pub match_end : ℕ
 
 -- where states begin: that of each string, and the anchored start
 pub record Places : Type 0 where
@@ -90,6 +92,8 @@ module _ (p : Packed) (at : Places) where
         → FAIL < number_at at anchored (Some w)
     pub longer : (anchored : Anchored) (w : List ℕ) → IsNode p.built.kind (plain_of p.built) (Some w) → w ≢ []
         → at.place w ≢ number_at at anchored (Some [])
+    pub matched : (anchored : Anchored) (w : List ℕ) → IsNode p.built.kind (plain_of p.built) (Some w)
+        → number_at at anchored (Some w) < p.match_end ↔ matches_of p.built No (Some w) ≢ []
 
 -- the number stands for the node, in a search with this anchoring
 pub record StandsAt (p : Packed) (anchored : Anchored) (s : ℕ) (u : Node) : Type 0 where
@@ -97,3 +101,17 @@ pub record StandsAt (p : Packed) (anchored : Anchored) (s : ℕ) (u : Node) : Ty
   pub packed : IsPacked p at
   pub node : IsNode p.built.kind (plain_of p.built) u
   pub number : s ≡ number_at at anchored u
+
+-- words over these patterns
+abbrev pub packed_of : List (List ℕ) → Bool → MatchKind → ℕ → List ℕ → List ℕ → ℕ → Packed
+packed_of patterns fold kind dense_depth classes words match_end = record {
+  built = record { patterns = patterns; fold = fold; kind = kind; start_kind = Both };
+  dense_depth = dense_depth;
+  classes = classes;
+  words = words;
+  match_end = match_end;
+}
+
+-- the words behind a state's transitions, which tell its matches if it has some
+abbrev pub words_behind : Packed → ℕ → List ℕ
+words_behind p s = ?
