@@ -1,4 +1,5 @@
 pub mod Assembled
+pub mod ClassWords
 pub mod Filled
 pub mod LaidOut
 pub mod LaidUpTo
@@ -13,5 +14,7 @@ pub mod Ranges
 pub mod RowByRow
 pub mod RowLists
 pub mod Setting
+pub mod SettingTargets
+pub mod Spelled
 pub mod Starts
 pub mod StateRows

@@ -18,7 +18,7 @@ pub record Spelling : Type 0 where
   pub matches : List ℕ
 
 -- where a class leads
-pub target_by : ℕ → List Edge → ℕ → ℕ
+unfoldable pub target_by : ℕ → List Edge → ℕ → ℕ
 target_by missing [] class = missing
 target_by missing (e ∷ edges) class = if e.class == class then e.target else target_by missing edges class
 
@@ -27,7 +27,7 @@ abbrev pub word_of : ℕ → ℕ → ℕ → ℕ → ℕ
 word_of a b c d = a + 256 * (b + 256 * (c + 256 * d))
 
 -- classes, four in a word; the last word is filled up with the last class again
-pub class_words : List ℕ → List ℕ
+unfoldable pub class_words : List ℕ → List ℕ
 class_words [] = []
 class_words (a ∷ []) = word_of a a a a ∷ []
 class_words (a ∷ b ∷ []) = word_of a b b b ∷ []
@@ -47,7 +47,7 @@ one_spelling failure [] = []
 one_spelling failure (e ∷ edges) = (ONE + 256 * e.class) ∷ failure ∷ e.target ∷ []
 
 -- the words of a state, where there are so many classes
-pub spelled : Format → ℕ → Spelling → List ℕ
+unfoldable pub spelled : Format → ℕ → Spelling → List ℕ
 spelled Dense classes s =
     DENSE ∷ s.failure ∷ map (target_by s.missing s.edges) (range_with_len 0 classes) ++ match_spelling s.matches
 spelled One classes s = one_spelling s.failure s.edges
@@ -79,3 +79,9 @@ first_of a b c d class =
     else if c == class then 2
     else if d == class then 3
     else 4
+
+-- some targets are as the old ones, but for those of the transitions, which stand at their classes
+pub record HasTargets (old : List ℕ) (edges : List Edge) (now : List ℕ) : Type 0 where
+  pub same_length : length now ≡ length old
+  pub each : (class : ℕ) → class < length old
+      → slice_index_or now class 0 ≡ target_by (slice_index_or old class 0) edges class

@@ -1,5 +1,6 @@
 //! An automaton in one list of packed words: small, and nearly as fast as a table.
 
+mod draft;
 mod format;
 mod state;
 
