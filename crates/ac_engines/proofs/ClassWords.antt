@@ -3,13 +3,8 @@ use Rattle.std.proofs.Common.{◌≡◌, inl, inr, ℕ, ◌-◌, ◌<◌, ◌≤
 use Rattle.std.specs.Prelude.{slice_index, min}
 use Rattle.std.proofs.lemmas.Bool.{cases_lt}
 use Rattle.std.proofs.lemmas.List.{append-nil, append_assoc, drop-map, drop_at, length-append, nil_from_length, take-map, take_at}
-use Rattle.std.specs.Int.{from_le_bytes, w32}
 use Rattle.ac_engines.specs.declared.nfa.contiguous.state.Edge.{Edge}
 use Rattle.ac_engines.specs.Words.{class_words, word_of}
-
--- four bytes are one word
-pub word-from_bytes : (a b c d : ℕ) → from_le_bytes w32 (a ∷ b ∷ c ∷ d ∷ []) ≡ word_of a b c d
-word-from_bytes a b c d = omega arith
 
 -- up to four classes stand in one word, which is filled up with the last one
 pub class_words-one : (classes : List ℕ) → 0 < length classes → length classes ≤ 4
@@ -56,18 +51,20 @@ class_words-next edges four rest parts long =
           (drop-map class 4 edges ∙ ap (map class) others)
     ]
 
--- behind what was pushed, the word of the next classes and the words of those that are left are the words of all that
--- were left
-pub next-classes : (before : List ℕ) (edges four rest : List Edge) (word : ℕ) → edges ≡ four ++ rest
-    → length four ≡ min 4 (length edges) → class_words (map (λ e. e.class) four) ≡ word ∷ []
-    → (before ++ word ∷ []) ++ class_words (map (λ e. e.class) rest)
-    ≡ before ++ class_words (map (λ e. e.class) edges)
-next-classes before edges four rest word parts long one =
-    append_assoc before (word ∷ []) (class_words (map (λ (e : Edge). e.class) rest))
+-- where the word of the next classes is pushed, it stands with those of the classes that are left in place of the words
+-- of all that were left
+pub next-classes : (before now : List ℕ) (edges four rest : List Edge) (word : ℕ) → now ≡ before ++ word ∷ []
+    → class_words (map (λ e. e.class) four) ≡ word ∷ [] → edges ≡ four ++ rest
+    → length four ≡ min 4 (length edges)
+    → now ++ class_words (map (λ e. e.class) rest) ≡ before ++ class_words (map (λ e. e.class) edges)
+next-classes before now edges four rest word pushed one parts long =
+    let others = class_words (map (λ (e : Edge). e.class) rest) in
+    ap (λ words. words ++ others) pushed
+    ∙ append_assoc before (word ∷ []) others
     ∙ ap (λ words. before ++ words) (sym (class_words-next edges four rest parts long
-    ∙ ap (λ words. words ++ class_words (map (λ (e : Edge). e.class) rest)) one))
+    ∙ ap (λ words. words ++ others) one))
 
--- behind what was pushed, nothing is left
+-- where no classes are left, nothing is
 pub no-classes : (before : List ℕ) (edges : List Edge) → length edges ≡ 0
     → before ≡ before ++ class_words (map (λ e. e.class) edges)
 unfolding class_words

@@ -3,7 +3,7 @@ use Rattle.std.proofs.Common.{◌≡◌, ◌≢◌, inl, inr, ℕ, suc, ◌+◌,
 use Rattle.std.specs.Prelude.{◌==◌, if◌then◌else◌, replicate, slice_index_or, slice_set}
 use Rattle.std.specs.List.{All, range_with_len}
 use Rattle.std.specs.List.Sorted.{IsStrictlyIncreasing}
-use Rattle.std.proofs.lemmas.Bool.{cases_eq, eq-eqb, ne_eqb, eqb-true}
+use Rattle.std.proofs.lemmas.Bool.{cases_eq, eq-eqb, ne_eqb}
 use Rattle.std.proofs.lemmas.List.{drop_at, ext_get_or, get_or-map, get_or-replicate, get_or-set_other, get_or-set_same, get_or-take, length-append, length-map, length-replicate, length-set, length-take, length-take-le, take-append-le, take_all, take_at, take_more}
 use Rattle.std.proofs.lemmas.Slice.{take-put_mid}
 use borrow.Rule.Slice.PartMut.{put_mid}
@@ -35,7 +35,7 @@ none-before : (edges : List Edge) (i : ℕ) (d : Edge) → IsStrictlyIncreasing 
 none-before edges i d ascending within = λ k e before.
     let earlier : k < i = (let long = length-take-le i edges (omega arith) in omega arith) in
     let below = AllPairs-from_increasing (map (λ (e : Edge). e.class) edges) ascending k i 0 earlier
-        (rw (length-map edges (λ (e : Edge). e.class)) within) in
+    (rw (length-map edges (λ (e : Edge). e.class)) within) in
     let this = get_or-take i edges k e earlier in
     let at = get_or-map (λ (e : Edge). e.class) edges k e 0 (omega arith) in
     let next = get_or-map (λ (e : Edge). e.class) edges i d 0 within in
@@ -75,10 +75,10 @@ all-targets missing classes edges now h =
     ext_get_or 0 now (map (target_by missing edges) (range_with_len 0 classes))
     (long ∙ sym (length-map-range_with_len (target_by missing edges) 0 classes))
     (λ class within.
-        h.each class (rw (length-replicate classes missing) (omega (arith, long)))
-        ∙ ap (λ n. target_by n edges class) (get_or-replicate classes class missing 0 (omega (arith, long)))
-        ∙ sym (get_or-map-range_with_len (target_by missing edges) 0 classes class class 0 (omega (arith, long))
-        (omega arith)))
+    h.each class (rw (length-replicate classes missing) (omega (arith, long)))
+    ∙ ap (λ n. target_by n edges class) (get_or-replicate classes class missing 0 (omega (arith, long)))
+    ∙ sym (get_or-map-range_with_len (target_by missing edges) 0 classes class class 0 (omega (arith, long))
+    (omega arith)))
 
 -- words that are made longer by so many hold the same behind
 pub resized : (before : List ℕ) (start classes len missing : ℕ) → start ≡ length before → start ≡ len
@@ -101,7 +101,8 @@ written-behind before now targets start n missing classes start_is now_is n_is l
     let room = length-take n (put_mid start (length now - start) now targets) in
     take-append-le n (put_mid start (length now - start) now targets) behind (omega arith)
     ∙ part
-    ∙ ap (λ items. items ++ targets) (ap (take start) now_is ∙ take_at before (replicate classes missing) start (sym start_is))
+    ∙ ap (λ items. items ++ targets)
+    (ap (take start) now_is ∙ take_at before (replicate classes missing) start (sym start_is))
 
 -- the part to which the targets are written
 pub blank-behind : (before now : List ℕ) (start missing classes : ℕ) → start ≡ length before
@@ -109,5 +110,6 @@ pub blank-behind : (before now : List ℕ) (start missing classes : ℕ) → sta
 blank-behind before now start missing classes start_is now_is =
     let sum = ap length now_is ∙ length-append before (replicate classes missing) in
     let blank = length-replicate classes missing in
-    ap (take (length now - start)) (ap (drop start) now_is ∙ drop_at before (replicate classes missing) start (sym start_is))
+    ap (take (length now - start))
+    (ap (drop start) now_is ∙ drop_at before (replicate classes missing) start (sym start_is))
     ∙ take_all (length now - start) (replicate classes missing) (omega arith)

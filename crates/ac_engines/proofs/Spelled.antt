@@ -3,7 +3,7 @@ use Rattle.std.proofs.Common.{◌≡◌, ℕ, ◌+◌, ◌/◌, ◌<◌, ◌≤�
 use Rattle.std.specs.Prelude.{slice_index_or}
 use Rattle.std.specs.List.{range_with_len}
 use Rattle.std.specs.List.Sorted.{IsStrictlyIncreasing}
-use Rattle.std.proofs.lemmas.List.{append_assoc, drop_at, length-append, length-map}
+use Rattle.std.proofs.lemmas.List.{append-nil, append_assoc, drop-append-le, drop_at, length-append, length-map}
 use Rattle.std.proofs.lemmas.List.FromFn.{length-map-range_with_len}
 use Rattle.ac_engines.specs.declared.nfa.contiguous.format.Format.{Format}
 use Rattle.ac_engines.specs.declared.nfa.contiguous.format.Format.TheVariants.{Dense, One, Sparse}
@@ -65,19 +65,33 @@ length-spelled Sparse classes s fits =
     let last = length-match_spelling s.matches in
     omega arith
 
--- behind what stands before it, the words begin with the state
-pub begins-behind : (before rest words : List ℕ) (format : Format) (classes : ℕ) (s : Spelling)
-    → words ≡ before ++ spelled format classes s ++ rest → Fits format s → classes ≤ 256
-    → IsStrictlyIncreasing (map (λ e. e.class) s.edges) → length s.matches < ONE_MATCH
-    → ((k : ℕ) → slice_index_or s.matches k 0 < ONE_MATCH) → BeginsWith (drop (length before) words) format classes s
-begins-behind before rest words format classes s words_are fits few ascending few_matches numbers = record {
-  rest = rest;
-  words_are = ap (drop (length before)) words_are
-      ∙ ap (drop (length before)) (append_assoc before (spelled format classes s) rest)
-      ∙ drop_at before (spelled format classes s ++ rest) (length before) refl;
-  fits = fits;
-  few = few;
-  ascending = ascending;
-  few_matches = few_matches;
-  numbers = numbers;
-}
+module _ (format : Format) (classes : ℕ) (s : Spelling) where
+  -- where the words of a state are pushed, they begin behind what stood before
+  pub begins-behind : (before words : List ℕ) → words ≡ before ++ spelled format classes s → Fits format s
+      → classes ≤ 256 → IsStrictlyIncreasing (map (λ e. e.class) s.edges) → length s.matches < ONE_MATCH
+      → ((k : ℕ) → slice_index_or s.matches k 0 < ONE_MATCH)
+      → BeginsWith (drop (length before) words) format classes s
+  begins-behind before words words_are fits few ascending few_matches numbers = record {
+    rest = [];
+    words_are = ap (drop (length before)) words_are ∙ drop_at before (spelled format classes s) (length before) refl
+        ∙ sym (append-nil (spelled format classes s));
+    fits = fits;
+    few = few;
+    ascending = ascending;
+    few_matches = few_matches;
+    numbers = numbers;
+  }
+
+  -- and they do so still where more is pushed
+  pub begins-before : (words behind : List ℕ) (place : ℕ) → place ≤ length words
+      → BeginsWith (drop place words) format classes s → BeginsWith (drop place (words ++ behind)) format classes s
+  begins-before words behind place within h = record {
+    rest = h.rest ++ behind;
+    words_are = drop-append-le place words behind within ∙ ap (λ ws. ws ++ behind) h.words_are
+        ∙ append_assoc (spelled format classes s) h.rest behind;
+    fits = h.fits;
+    few = h.few;
+    ascending = h.ascending;
+    few_matches = h.few_matches;
+    numbers = h.numbers;
+  }

@@ -200,12 +200,17 @@ fn number(pattern: &PatternID) -> u32
 
 #[cfg(test)]
 mod tests {
-    use super::*;
     use super::super::state::FAIL;
+    use super::*;
     use std::alloc::Global;
 
     /// The words of a state in a form, where there are so many classes.
-    fn words_of(alloc: Global, format: Format, classes: usize, draft: Draft<'_>) -> Result<Vec<u32>, AllocError>
+    fn words_of(
+        alloc: Global,
+        format: Format,
+        classes: usize,
+        draft: Draft<'_>,
+    ) -> Result<Vec<u32>, AllocError>
         requires fits { Fits format draft }
         requires few { classes ≤ 256 }
         requires ascending { IsStrictlyIncreasing (map (λ e. e.class) draft.edges) }
@@ -220,42 +225,97 @@ mod tests {
     #[test]
     fn sparse_states_are_spelled(rt: HostRuntime) -> Result<(), AllocError> {
         let edges = [
-            Edge { class: 3, target: 100 },
-            Edge { class: 7, target: 110 },
-            Edge { class: 9, target: 120 },
-            Edge { class: 12, target: 130 },
-            Edge { class: 20, target: 140 },
+            Edge {
+                class: 3,
+                target: 100,
+            },
+            Edge {
+                class: 7,
+                target: 110,
+            },
+            Edge {
+                class: 9,
+                target: 120,
+            },
+            Edge {
+                class: 12,
+                target: 130,
+            },
+            Edge {
+                class: 20,
+                target: 140,
+            },
         ];
-        let draft = Draft { failure: 40, missing: FAIL, edges: &edges, matches: &[PatternID::must(6)] };
-        let wanted = [5, 40, 0x0C090703, 0x14141414, 100, 110, 120, 130, 140, 0x80000006];
-        assert_eq!(rt; words_of(rt.alloc(), Format::Sparse, 256, draft)?.as_slice(), wanted.as_slice());
+        let draft = Draft {
+            failure: 40,
+            missing: FAIL,
+            edges: &edges,
+            matches: &[PatternID::must(6)],
+        };
+        let wanted = [
+            5, 40, 0x0C090703, 0x14141414, 100, 110, 120, 130, 140, 0x80000006,
+        ];
+        assert_eq!(rt;
+            words_of(rt.alloc(), Format::Sparse, 256, draft)?.as_slice(),
+            wanted.as_slice()
+        );
         Ok(())
     }
 
     #[test]
     fn states_without_transitions_are_spelled(rt: HostRuntime) -> Result<(), AllocError> {
-        let draft = Draft { failure: 40, missing: FAIL, edges: &[], matches: &[PatternID::must(0)] };
+        let draft = Draft {
+            failure: 40,
+            missing: FAIL,
+            edges: &[],
+            matches: &[PatternID::must(0)],
+        };
         let wanted = [0, 40, 0x80000000];
-        assert_eq!(rt; words_of(rt.alloc(), Format::Sparse, 256, draft)?.as_slice(), wanted.as_slice());
+        assert_eq!(rt;
+            words_of(rt.alloc(), Format::Sparse, 256, draft)?.as_slice(),
+            wanted.as_slice()
+        );
         Ok(())
     }
 
     #[test]
     fn single_transitions_are_spelled(rt: HostRuntime) -> Result<(), AllocError> {
-        let edges = [Edge { class: 9, target: 100 }];
-        let draft = Draft { failure: 40, missing: FAIL, edges: &edges, matches: &[] };
+        let edges = [Edge {
+            class: 9,
+            target: 100,
+        }];
+        let draft = Draft {
+            failure: 40,
+            missing: FAIL,
+            edges: &edges,
+            matches: &[],
+        };
         let wanted = [0x000009FE, 40, 100];
-        assert_eq!(rt; words_of(rt.alloc(), Format::One, 256, draft)?.as_slice(), wanted.as_slice());
+        assert_eq!(rt;
+            words_of(rt.alloc(), Format::One, 256, draft)?.as_slice(),
+            wanted.as_slice()
+        );
         Ok(())
     }
 
     #[test]
     fn dense_states_are_spelled(rt: HostRuntime) -> Result<(), AllocError> {
-        let edges = [Edge { class: 1, target: 100 }];
+        let edges = [Edge {
+            class: 1,
+            target: 100,
+        }];
         let matches = [PatternID::must(6), PatternID::must(2), PatternID::must(9)];
-        let draft = Draft { failure: 40, missing: FAIL, edges: &edges, matches: &matches };
+        let draft = Draft {
+            failure: 40,
+            missing: FAIL,
+            edges: &edges,
+            matches: &matches,
+        };
         let wanted = [0xFF, 40, 1, 100, 1, 3, 6, 2, 9];
-        assert_eq!(rt; words_of(rt.alloc(), Format::Dense, 3, draft)?.as_slice(), wanted.as_slice());
+        assert_eq!(rt;
+            words_of(rt.alloc(), Format::Dense, 3, draft)?.as_slice(),
+            wanted.as_slice()
+        );
         Ok(())
     }
 }

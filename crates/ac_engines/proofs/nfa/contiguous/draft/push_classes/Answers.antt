@@ -1,4 +1,4 @@
-use Rattle.std.proofs.Common.{◌≡◌, ℕ, ◌++◌, ◌∷◌, [], length, map, take, drop, List, ap, ◌∙◌, sym, arith}
+use Rattle.std.proofs.Common.{◌++◌, map, ap, ◌∙◌}
 use Rattle.std.specs.Slice.Iter.{chunks_rest, chunks_size}
 use Rattle.ac_engines.specs.declared.nfa.contiguous.state.Edge.{Edge}
 use Rattle.ac_engines.specs.Words.{class_words}
@@ -22,9 +22,9 @@ loop-four-preserved g c =
     record {
       by_four = step.0 ∙ size;
       pushed =
-          ap (λ (items : List ℕ). items ++ class_words (map (λ (e : Edge). e.class) (chunks_rest c.next.new.self)))
-          c.in_ok-push.ensures.items
-          ∙ next-classes c.loop-four.words.items (chunks_rest c.loop-four.four-iterator) c.in-Some.four.now (chunks_rest c.next.new.self) c.class_word.result step.1.0 (rw size at step.1.1) c.class_word.ensures
+          next-classes c.loop-four.words.items c.push.new.self.items (chunks_rest c.loop-four.four-iterator)
+          c.in-Some.four.now (chunks_rest c.next.new.self) c.class_word.result c.in_ok-push.ensures.items
+          c.class_word.ensures step.1.0 (rw size at step.1.1)
           ∙ c.loop-four.invariant.pushed;
     }
 

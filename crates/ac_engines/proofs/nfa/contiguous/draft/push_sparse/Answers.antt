@@ -1,12 +1,13 @@
-use Rattle.std.proofs.Common.{rules, ◌≡◌, ◌∙◌, ℕ, ◌++◌, ◌∷◌, [], List, length, map, ap, refl, sym}
+use Rattle.std.proofs.Common.{rules, ◌∙◌, ◌++◌, ◌∷◌, [], length, map, ap, refl}
 use Rattle.std.specs.Slice.Iter.{iter_rest}
 use Rattle.std.proofs.lemmas.Iterator.{YieldsList-from_map, YieldsList-from_slice}
 use Rattle.std.proofs.lemmas.Iterator.Adapters.{items_from_extend}
 use Rattle.ac_engines.specs.declared.nfa.contiguous.state.Edge.{Edge}
-use Rattle.ac_engines.specs.Words.{Spelling, class_words}
+use Rattle.ac_engines.specs.Words.{class_words}
 use Rattle.ac_engines.proofs.Spelled.{two-pushed}
 use Rattle.ac_engines.proofs.nfa.contiguous.draft.push_sparse.Goals as goal
 
+-- the targets stand behind the classes
 pub returns : goal.returns
 returns g c =
     let listed = items_from_extend c.extend.result c.extend.ensures.ran

@@ -1,4 +1,4 @@
-use Rattle.std.proofs.Common.{List, length, take, take_all, subst}
+use Rattle.std.proofs.Common.{List, take_all, subst}
 use Rattle.ac_engines.specs.declared.nfa.contiguous.state.Edge.{Edge}
 use Rattle.ac_engines.specs.Words.{HasTargets}
 use Rattle.ac_engines.proofs.SettingTargets.{no-target, next-target}
