@@ -1,5 +1,4 @@
 pub mod Assembled
-pub mod ClassWords
 pub mod Filled
 pub mod LaidOut
 pub mod LaidUpTo
@@ -10,11 +9,12 @@ pub mod Numbers
 pub mod OneRow
 pub mod Owning
 pub mod Places
+pub mod PushedStates
+pub mod PushingClasses
 pub mod Ranges
 pub mod RowByRow
 pub mod RowLists
 pub mod Setting
 pub mod SettingTargets
-pub mod Spelled
 pub mod Starts
 pub mod StateRows

@@ -1,7 +1,7 @@
 use Rattle.std.proofs.Common.{◌∙◌, ◌∷◌, [], ℕ, ap, map, arith}
 use Rattle.std.proofs.lemmas.List.{length-map}
 use Rattle.ac_engines.specs.declared.nfa.contiguous.state.Edge.{Edge}
-use Rattle.ac_engines.proofs.ClassWords.{class_words-one}
+use Rattle.ac_engines.proofs.PushingClasses.{class_words-one}
 use Rattle.ac_engines.proofs.nfa.contiguous.draft.class_word.Goals as goal
 
 -- the word has the first class in its low byte

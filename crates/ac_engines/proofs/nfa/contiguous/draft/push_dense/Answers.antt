@@ -5,7 +5,7 @@ use Rattle.ac_engines.specs.declared.nfa.contiguous.state.TheConstants.{DENSE}
 use Rattle.ac_engines.specs.Words.{HasTargets, target_by}
 use Rattle.std.specs.List.{range_with_len}
 use Rattle.ac_engines.proofs.SettingTargets.{all-targets, blank-behind, resized, written-behind}
-use Rattle.ac_engines.proofs.Spelled.{two-pushed}
+use Rattle.ac_engines.proofs.PushedStates.{two-pushed}
 use Rattle.ac_engines.proofs.nfa.contiguous.draft.push_dense.Goals as goal
 
 -- the targets stand behind the head

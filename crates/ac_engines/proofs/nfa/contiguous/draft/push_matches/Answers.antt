@@ -3,7 +3,7 @@ use Rattle.std.specs.Slice.Iter.{iter_rest}
 use Rattle.std.proofs.lemmas.Iterator.{YieldsList-from_map, YieldsList-from_slice}
 use Rattle.std.proofs.lemmas.Iterator.Adapters.{items_from_extend}
 use Rattle.std.proofs.lemmas.List.{append_assoc, map-id}
-use Rattle.ac_engines.proofs.Spelled.{several-matches}
+use Rattle.ac_engines.proofs.PushedStates.{several-matches}
 use Rattle.ac_engines.proofs.nfa.contiguous.draft.push_matches.Goals as goal
 
 -- several stand behind their count

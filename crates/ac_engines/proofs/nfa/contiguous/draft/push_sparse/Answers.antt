@@ -4,7 +4,7 @@ use Rattle.std.proofs.lemmas.Iterator.{YieldsList-from_map, YieldsList-from_slic
 use Rattle.std.proofs.lemmas.Iterator.Adapters.{items_from_extend}
 use Rattle.ac_engines.specs.declared.nfa.contiguous.state.Edge.{Edge}
 use Rattle.ac_engines.specs.Words.{class_words}
-use Rattle.ac_engines.proofs.Spelled.{two-pushed}
+use Rattle.ac_engines.proofs.PushedStates.{two-pushed}
 use Rattle.ac_engines.proofs.nfa.contiguous.draft.push_sparse.Goals as goal
 
 -- the targets stand behind the classes
