@@ -1,9 +1,11 @@
 pub mod Assembled
+pub mod ClassWords
 pub mod Filled
 pub mod LaidOut
 pub mod LaidUpTo
 pub mod Laying
 pub mod Listing
+pub mod MatchWords
 pub mod Numbered
 pub mod Numbers
 pub mod OneRow
@@ -17,4 +19,5 @@ pub mod RowLists
 pub mod Setting
 pub mod SettingTargets
 pub mod Starts
+pub mod Spellings
 pub mod StateRows

@@ -1,5 +1,5 @@
 -- How the states of the contiguous engine are spelled in words of 32 bits.
-use Rattle.std.specs.Prelude.{◌≡◌, ℕ, ◌+◌, ◌*◌, ◌<◌, ◌≤◌, ◌==◌, List, [], ◌∷◌, ◌++◌, length, map, slice_index_or, if◌then◌else◌, ⊤}
+use Rattle.std.specs.Prelude.{◌≡◌, ℕ, ◌+◌, ◌*◌, ◌<◌, ◌≤◌, ◌==◌, List, [], ◌∷◌, ◌++◌, length, map, slice_index_or, All, if◌then◌else◌, ⊤}
 use Rattle.std.specs.List.{range_with_len}
 use Rattle.std.specs.List.Sorted.{IsStrictlyIncreasing}
 use Rattle.ac_util.specs.declared.primitives.TheConstants.{GREATEST}
@@ -61,12 +61,14 @@ Fits Dense s = ⊤
 Fits One s = (length s.edges ≡ 1) × (s.matches ≡ []) × (s.missing ≡ FAIL)
 Fits Sparse s = (length s.edges ≤ MOST_SPARSE) × (s.missing ≡ FAIL)
 
--- the words begin with those of a state: its classes ascend, and its matches are fewer than the mark of a single one
+-- the words begin with those of a state: its classes are below their number and ascend, and its matches are fewer than
+-- the mark of a single one
 pub record BeginsWith (words : List ℕ) (format : Format) (classes : ℕ) (s : Spelling) : Type 0 where
   pub rest : List ℕ
   pub words_are : words ≡ spelled format classes s ++ rest
   pub fits : Fits format s
   pub few : classes ≤ 256
+  pub below : All (λ e. e.class < classes) s.edges
   pub ascending : IsStrictlyIncreasing (map (λ e. e.class) s.edges)
   pub few_matches : length s.matches < ONE_MATCH
   pub numbers : (k : ℕ) → slice_index_or s.matches k 0 < ONE_MATCH
