@@ -1,7 +1,7 @@
 -- How many words a state takes, and where its words begin.
 use Rattle.std.proofs.Common.{◌≡◌, ℕ, ◌+◌, ◌/◌, ◌<◌, ◌≤◌, List, [], ◌∷◌, ◌++◌, length, map, drop, refl, sym, ap, ◌∙◌, arith}
 use Rattle.std.specs.Prelude.{slice_index_or}
-use Rattle.std.specs.List.{range_with_len}
+use Rattle.std.specs.List.{All, range_with_len}
 use Rattle.std.specs.List.Sorted.{IsStrictlyIncreasing}
 use Rattle.std.proofs.lemmas.List.{append-nil, append_assoc, drop-append-le, drop_at, length-append, length-map}
 use Rattle.std.proofs.lemmas.List.FromFn.{length-map-range_with_len}
@@ -68,15 +68,16 @@ length-spelled Sparse classes s fits =
 module _ (format : Format) (classes : ℕ) (s : Spelling) where
   -- where the words of a state are pushed, they begin behind what stood before
   pub begins-behind : (before words : List ℕ) → words ≡ before ++ spelled format classes s → Fits format s
-      → classes ≤ 256 → IsStrictlyIncreasing (map (λ e. e.class) s.edges) → length s.matches < ONE_MATCH
-      → ((k : ℕ) → slice_index_or s.matches k 0 < ONE_MATCH)
+      → classes ≤ 256 → All (λ e. e.class < classes) s.edges → IsStrictlyIncreasing (map (λ e. e.class) s.edges)
+      → length s.matches < ONE_MATCH → ((k : ℕ) → slice_index_or s.matches k 0 < ONE_MATCH)
       → BeginsWith (drop (length before) words) format classes s
-  begins-behind before words words_are fits few ascending few_matches numbers = record {
+  begins-behind before words words_are fits few below ascending few_matches numbers = record {
     rest = [];
     words_are = ap (drop (length before)) words_are ∙ drop_at before (spelled format classes s) (length before) refl
         ∙ sym (append-nil (spelled format classes s));
     fits = fits;
     few = few;
+    below = below;
     ascending = ascending;
     few_matches = few_matches;
     numbers = numbers;
@@ -91,6 +92,7 @@ module _ (format : Format) (classes : ℕ) (s : Spelling) where
         ∙ append_assoc (spelled format classes s) h.rest behind;
     fits = h.fits;
     few = h.few;
+    below = h.below;
     ascending = h.ascending;
     few_matches = h.few_matches;
     numbers = h.numbers;
