@@ -1,5 +1,5 @@
 -- A walk along the failure targets of packed words: it keeps where the byte leads at last, and counts its looks.
-use Rattle.std.proofs.Common.{◌≡◌, ◌≢◌, ℕ, ◌+◌, ◌<◌, ◌≤◌, List, drop, refl, ap, subst, sym, ◌∙◌, arith, Some, None}
+use Rattle.std.proofs.Common.{◌≡◌, ◌≢◌, ℕ, ◌+◌, ◌<◌, ◌≤◌, List, drop, length, refl, ap, subst, sym, ◌∙◌, arith, Some, None}
 use Rattle.ac_util.specs.declared.primitives.TheConstants.{GREATEST}
 use Rattle.ac_util.specs.declared.search.Anchored.{Anchored}
 use Rattle.ac_util.specs.declared.search.Anchored.TheVariants.{No, Yes}
@@ -30,6 +30,17 @@ pub stands-begin : (p : Packed) (anchored : Anchored) (s : ℕ) (u : Node) (h : 
 stands-begin p anchored s u h =
     subst (λ (n : ℕ). BeginsWith (drop n p.words) (form_at p h.at u) (alphabet_len p.classes) (spelling_at p h.at anchored u))
     (sym h.number) (has-state p h.at h.packed anchored u h.node)
+
+-- its number is in the words, and small
+pub stands-within : (p : Packed) (anchored : Anchored) (s : ℕ) (u : Node) → StandsAt p anchored s u → s ≤ length p.words
+stands-within p No s None h = let number = h.number in omega arith
+stands-within p Yes s None h = let number = h.number in omega arith
+stands-within p anchored s (Some w) h =
+    let number = h.number in let within = h.packed.within anchored w h.node in omega arith
+
+pub stands-small : (p : Packed) (anchored : Anchored) (s : ℕ) (u : Node) → StandsAt p anchored s u → s ≤ GREATEST
+stands-small p anchored s u h =
+    let small = h.packed.small in let within = stands-within p anchored s u h in omega arith
 
 -- on the way to where the byte leads from a node, the walk is at a state, and has counted what it took to come there
 pub record Onward (p : Packed) (anchored : Anchored) (b : ℕ) (u : Node) (old now : Counts) (s : ℕ) : Type 0 where

@@ -14,10 +14,13 @@ pub mod OneRow
 pub mod Owning
 pub mod PackedSteps
 pub mod Places
+pub mod PushedStates
+pub mod PushingClasses
 pub mod Ranges
 pub mod RowByRow
 pub mod RowLists
 pub mod Setting
+pub mod SettingTargets
 pub mod Spellings
 pub mod Starts
 pub mod StateRows

@@ -205,6 +205,7 @@ module _ (p : Packed) (at : Places) (h : IsPacked p at) where
       dead-number : (anchored : Anchored) → 0 ≡ number_at at anchored None
       dead-number No = refl
       dead-number Yes = refl
+
       dead-looks : (anchored : Anchored) → looks_of 2 p.built anchored None b ≡ 1
       dead-looks No = refl
       dead-looks Yes = refl

@@ -101,17 +101,3 @@ pub record StandsAt (p : Packed) (anchored : Anchored) (s : ℕ) (u : Node) : Ty
   pub packed : IsPacked p at
   pub node : IsNode p.built.kind (plain_of p.built) u
   pub number : s ≡ number_at at anchored u
-
--- words over these patterns
-abbrev pub packed_of : List (List ℕ) → Bool → MatchKind → ℕ → List ℕ → List ℕ → ℕ → Packed
-packed_of patterns fold kind dense_depth classes words match_end = record {
-  built = record { patterns = patterns; fold = fold; kind = kind; start_kind = Both };
-  dense_depth = dense_depth;
-  classes = classes;
-  words = words;
-  match_end = match_end;
-}
-
--- the words behind a state's transitions, which tell its matches if it has some
-abbrev pub words_behind : Packed → ℕ → List ℕ
-words_behind p s = ?

@@ -81,3 +81,9 @@ first_of a b c d class =
     else if c == class then 2
     else if d == class then 3
     else 4
+
+-- some targets are as the old ones, but for those of the transitions, which stand at their classes
+pub record HasTargets (old : List ℕ) (edges : List Edge) (now : List ℕ) : Type 0 where
+  pub same_length : length now ≡ length old
+  pub each : (class : ℕ) → class < length old
+      → slice_index_or now class 0 ≡ target_by (slice_index_or old class 0) edges class

@@ -1,0 +1,99 @@
+-- How many words a state takes, and where its words begin.
+use Rattle.std.proofs.Common.{◌≡◌, ℕ, ◌+◌, ◌/◌, ◌<◌, ◌≤◌, List, [], ◌∷◌, ◌++◌, length, map, drop, refl, sym, ap, ◌∙◌, arith}
+use Rattle.std.specs.Prelude.{slice_index_or}
+use Rattle.std.specs.List.{All, range_with_len}
+use Rattle.std.specs.List.Sorted.{IsStrictlyIncreasing}
+use Rattle.std.proofs.lemmas.List.{append-nil, append_assoc, drop-append-le, drop_at, length-append, length-map}
+use Rattle.std.proofs.lemmas.List.FromFn.{length-map-range_with_len}
+use Rattle.ac_engines.specs.declared.nfa.contiguous.format.Format.{Format}
+use Rattle.ac_engines.specs.declared.nfa.contiguous.format.Format.TheVariants.{Dense, One, Sparse}
+use Rattle.ac_engines.specs.declared.nfa.contiguous.state.Edge.{Edge}
+use Rattle.ac_engines.specs.declared.nfa.contiguous.state.TheConstants.{ONE_MATCH}
+use Rattle.ac_engines.specs.Formats.{match_words, words_of_state}
+use Rattle.ac_engines.specs.Words.{BeginsWith, Fits, Spelling, class_words, match_spelling, one_spelling, spelled, target_by}
+
+-- two words stand before what is pushed behind them
+pub two-pushed : (words behind : List ℕ) (a b : ℕ) → words ++ a ∷ [] ++ b ∷ [] ++ behind ≡ words ++ a ∷ b ∷ behind
+two-pushed words behind a b =
+    append_assoc (words ++ a ∷ []) (b ∷ []) behind ∙ append_assoc words (a ∷ []) (b ∷ behind)
+
+-- how many words the classes take
+pub length-class_words : (classes : List ℕ) → length (class_words classes) ≡ (length classes + 3) / 4
+unfolding class_words
+length-class_words [] = refl
+length-class_words (a ∷ []) = refl
+length-class_words (a ∷ b ∷ []) = refl
+length-class_words (a ∷ b ∷ c ∷ []) = refl
+length-class_words (a ∷ b ∷ c ∷ d ∷ classes) = let more = length-class_words classes in omega arith
+
+-- how many words the matches take
+pub length-match_spelling : (matches : List ℕ) → length (match_spelling matches) ≡ match_words (length matches)
+length-match_spelling [] = refl
+length-match_spelling (p ∷ []) = refl
+length-match_spelling (p ∷ q ∷ matches) = omega arith
+
+-- two matches or more stand behind their count
+pub several-matches : (matches : List ℕ) → 2 ≤ length matches → match_spelling matches ≡ length matches ∷ matches
+several-matches [] several = absurd (omega arith)
+several-matches (p ∷ []) several = absurd (omega arith)
+several-matches (p ∷ q ∷ matches) several = refl
+
+-- how many words a single transition takes
+length-one_spelling : (failure : ℕ) (edges : List Edge) → length edges ≡ 1 → length (one_spelling failure edges) ≡ 3
+length-one_spelling failure [] one = absurd (omega arith)
+length-one_spelling failure (e ∷ edges) one = refl
+
+-- a state takes as many words as its form says
+pub length-spelled : (format : Format) (classes : ℕ) (s : Spelling) → Fits format s
+    → length (spelled format classes s) ≡ words_of_state format classes (length s.edges) (length s.matches)
+unfolding spelled
+length-spelled Dense classes s fits =
+    let targets = map (target_by s.missing s.edges) (range_with_len 0 classes) in
+    let long = length-map-range_with_len (target_by s.missing s.edges) 0 classes in
+    let both = length-append targets (match_spelling s.matches) in
+    let last = length-match_spelling s.matches in
+    omega arith
+length-spelled One classes s fits = length-one_spelling s.failure s.edges fits.0
+length-spelled Sparse classes s fits =
+    let classes_of = map (λ (e : Edge). e.class) s.edges in
+    let targets = map (λ (e : Edge). e.target) s.edges in
+    let words = length-class_words classes_of in
+    let listed = length-map s.edges (λ (e : Edge). e.class) in
+    let leading = length-map s.edges (λ (e : Edge). e.target) in
+    let both = length-append (class_words classes_of) targets in
+    let all = length-append (class_words classes_of ++ targets) (match_spelling s.matches) in
+    let last = length-match_spelling s.matches in
+    omega arith
+
+module _ (format : Format) (classes : ℕ) (s : Spelling) where
+  -- where the words of a state are pushed, they begin behind what stood before
+  pub begins-behind : (before words : List ℕ) → words ≡ before ++ spelled format classes s → Fits format s
+      → classes ≤ 256 → All (λ e. e.class < classes) s.edges → IsStrictlyIncreasing (map (λ e. e.class) s.edges)
+      → length s.matches < ONE_MATCH → ((k : ℕ) → slice_index_or s.matches k 0 < ONE_MATCH)
+      → BeginsWith (drop (length before) words) format classes s
+  begins-behind before words words_are fits few below ascending few_matches numbers = record {
+    rest = [];
+    words_are = ap (drop (length before)) words_are ∙ drop_at before (spelled format classes s) (length before) refl
+        ∙ sym (append-nil (spelled format classes s));
+    fits = fits;
+    few = few;
+    below = below;
+    ascending = ascending;
+    few_matches = few_matches;
+    numbers = numbers;
+  }
+
+  -- and they do so still where more is pushed
+  pub begins-before : (words behind : List ℕ) (place : ℕ) → place ≤ length words
+      → BeginsWith (drop place words) format classes s → BeginsWith (drop place (words ++ behind)) format classes s
+  begins-before words behind place within h = record {
+    rest = h.rest ++ behind;
+    words_are = drop-append-le place words behind within ∙ ap (λ ws. ws ++ behind) h.words_are
+        ∙ append_assoc (spelled format classes s) h.rest behind;
+    fits = h.fits;
+    few = h.few;
+    below = h.below;
+    ascending = h.ascending;
+    few_matches = h.few_matches;
+    numbers = h.numbers;
+  }

@@ -1,0 +1,115 @@
+-- Setting the targets of transitions at their classes, one after another.
+use Rattle.std.proofs.Common.{◌≡◌, ◌≢◌, inl, inr, ℕ, suc, ◌+◌, ◌-◌, ◌<◌, List, [], ◌∷◌, ◌++◌, length, map, take, drop, refl, sym, ap, ◌∙◌, arith}
+use Rattle.std.specs.Prelude.{◌==◌, if◌then◌else◌, replicate, slice_index_or, slice_set}
+use Rattle.std.specs.List.{All, range_with_len}
+use Rattle.std.specs.List.Sorted.{IsStrictlyIncreasing}
+use Rattle.std.proofs.lemmas.Bool.{cases_eq, eq-eqb, ne_eqb}
+use Rattle.std.proofs.lemmas.List.{drop_at, ext_get_or, get_or-map, get_or-replicate, get_or-set_other, get_or-set_same, get_or-take, length-append, length-map, length-replicate, length-set, length-take, length-take-le, take-append-le, take_all, take_at, take_more}
+use Rattle.std.proofs.lemmas.Slice.{take-put_mid}
+use borrow.Rule.Slice.PartMut.{put_mid}
+use Rattle.std.proofs.lemmas.List.FromFn.{get_or-map-range_with_len, length-map-range_with_len}
+use Rattle.std.proofs.lemmas.List.Kept.{AllPairs-from_increasing}
+use Rattle.ac_engines.specs.declared.nfa.contiguous.state.Edge.{Edge}
+use Rattle.ac_engines.specs.Words.{HasTargets, target_by}
+
+-- one transition more, by a class of which none led so far, leads by its class
+target-same : (missing : ℕ) (edges : List Edge) (e : Edge) → All (λ f. f.class ≢ e.class) edges
+    → target_by missing (edges ++ e ∷ []) e.class ≡ e.target
+unfolding target_by
+target-same missing [] e none = rw (eq-eqb e.class e.class refl) refl
+target-same missing (f ∷ edges) e none =
+    rw (ne_eqb f.class e.class (none 0 e (omega arith)))
+    (target-same missing edges e (λ k d within. none (suc k) d (omega arith)))
+
+-- and by no other class
+target-other : (missing : ℕ) (edges : List Edge) (e : Edge) (class : ℕ) → e.class ≢ class
+    → target_by missing (edges ++ e ∷ []) class ≡ target_by missing edges class
+unfolding target_by
+target-other missing [] e class other = rw (ne_eqb e.class class other) refl
+target-other missing (f ∷ edges) e class other =
+    ap (λ n. if f.class == class then f.target else n) (target-other missing edges e class other)
+
+-- where the classes ascend, none of the transitions so far has the class of the next
+none-before : (edges : List Edge) (i : ℕ) (d : Edge) → IsStrictlyIncreasing (map (λ e. e.class) edges)
+    → i < length edges → All (λ f. f.class ≢ (slice_index_or edges i d).class) (take i edges)
+none-before edges i d ascending within = λ k e before.
+    let earlier : k < i = (let long = length-take-le i edges (omega arith) in omega arith) in
+    let below = AllPairs-from_increasing (map (λ (e : Edge). e.class) edges) ascending k i 0 earlier
+    (rw (length-map edges (λ (e : Edge). e.class)) within) in
+    let this = get_or-take i edges k e earlier in
+    let at = get_or-map (λ (e : Edge). e.class) edges k e 0 (omega arith) in
+    let next = get_or-map (λ (e : Edge). e.class) edges i d 0 within in
+    λ same. let same_class = ap (λ (e : Edge). e.class) this in omega arith
+
+-- nothing has been set at first
+pub no-target : (old : List ℕ) → HasTargets old [] old
+unfolding target_by
+no-target old = record { same_length = refl; each = λ class within. refl }
+
+-- the next target is set
+pub next-target : (old now : List ℕ) (edges : List Edge) (i : ℕ) (d : Edge)
+    → IsStrictlyIncreasing (map (λ e. e.class) edges) → i < length edges
+    → (slice_index_or edges i d).class < length old → HasTargets old (take i edges) now
+    → HasTargets old (take (i + 1) edges)
+    (slice_set now (slice_index_or edges i d).class (slice_index_or edges i d).target)
+next-target old now edges i d ascending more within h =
+    let e = slice_index_or edges i d in
+    rw (take_more edges i d more) (record {
+      same_length = length-set now e.class e.target ∙ h.same_length;
+      each = λ class small. elim (cases_eq e.class class) [
+        | inl same ↦
+            rw (sym same) (get_or-set_same now e.class e.target 0 (let long = h.same_length in omega arith)
+            ∙ sym (target-same (slice_index_or old e.class 0) (take i edges) e (none-before edges i d ascending more)))
+        | inr other ↦
+            get_or-set_other now e.class class e.target 0 (λ same. other (sym same)) ∙ h.each class small
+            ∙ sym (target-other (slice_index_or old class 0) (take i edges) e class other)
+      ];
+    })
+
+-- all targets, where before each class led to the same
+pub all-targets : (missing classes : ℕ) (edges : List Edge) (now : List ℕ)
+    → HasTargets (replicate classes missing) edges now
+    → now ≡ map (target_by missing edges) (range_with_len 0 classes)
+all-targets missing classes edges now h =
+    let long = h.same_length ∙ length-replicate classes missing in
+    ext_get_or 0 now (map (target_by missing edges) (range_with_len 0 classes))
+    (long ∙ sym (length-map-range_with_len (target_by missing edges) 0 classes))
+    (λ class within.
+    h.each class (rw (length-replicate classes missing) (omega (arith, long)))
+    ∙ ap (λ n. target_by n edges class) (get_or-replicate classes class missing 0 (omega (arith, long)))
+    ∙ sym (get_or-map-range_with_len (target_by missing edges) 0 classes class class 0 (omega (arith, long))
+    (omega arith)))
+
+-- words that are made longer by so many hold the same behind
+pub resized : (before : List ℕ) (start classes len missing : ℕ) → start ≡ length before → start ≡ len
+    → take (start + classes) before ++ replicate (start + classes - len) missing ≡ before ++ replicate classes missing
+resized before start classes len missing start_is len_is =
+    let more : start + classes - len ≡ classes = omega arith in
+    ap (λ items. items ++ replicate (start + classes - len) missing) (take_all (start + classes) before (omega arith))
+    ∙ ap (λ n. before ++ replicate n missing) more
+
+-- writing a part that reaches to the end leaves what stands before it
+pub written-behind : (before now targets : List ℕ) (start n missing classes : ℕ) → start ≡ length before
+    → now ≡ before ++ replicate classes missing → n ≡ length now → length targets ≡ classes
+    → (behind : List ℕ) → take n (put_mid start (length now - start) now targets ++ behind) ≡ before ++ targets
+written-behind before now targets start n missing classes start_is now_is n_is long behind =
+    let sum = ap length now_is ∙ length-append before (replicate classes missing) in
+    let blank = length-replicate classes missing in
+    let part = take-put_mid start (length now - start) now targets n (omega arith) (omega arith) in
+    let whole = ap length part ∙ length-append (take start now) targets in
+    let first = length-take-le start now (omega arith) in
+    let room = length-take n (put_mid start (length now - start) now targets) in
+    take-append-le n (put_mid start (length now - start) now targets) behind (omega arith)
+    ∙ part
+    ∙ ap (λ items. items ++ targets)
+    (ap (take start) now_is ∙ take_at before (replicate classes missing) start (sym start_is))
+
+-- the part to which the targets are written
+pub blank-behind : (before now : List ℕ) (start missing classes : ℕ) → start ≡ length before
+    → now ≡ before ++ replicate classes missing → take (length now - start) (drop start now) ≡ replicate classes missing
+blank-behind before now start missing classes start_is now_is =
+    let sum = ap length now_is ∙ length-append before (replicate classes missing) in
+    let blank = length-replicate classes missing in
+    ap (take (length now - start))
+    (ap (drop start) now_is ∙ drop_at before (replicate classes missing) start (sym start_is))
+    ∙ take_all (length now - start) (replicate classes missing) (omega arith)

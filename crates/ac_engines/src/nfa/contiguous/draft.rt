@@ -1,0 +1,321 @@
+//! Writing the words of a state.
+ghost use Rattle.std.specs.Prelude.{◌≡◌, ℕ, ◌-◌, ◌<◌, ◌≤◌, ◌++◌, ◌∷◌, IfOk, [], length, map, min, slice_index};
+ghost use Rattle.std.specs.List.{All, range_with_len};
+ghost use Rattle.std.specs.List.Sorted.{IsStrictlyIncreasing};
+ghost use Rattle.ac_engines.specs.Words.{Fits, HasTargets, class_words, match_spelling, one_spelling, spelled, target_by};
+
+use super::format::{Format, MOST_SPARSE};
+use super::state::{DENSE, Edge, ONE, ONE_MATCH};
+use ac_util::primitives::PatternID;
+use std::alloc::{AllocError, Allocator};
+use std::marker::Model;
+
+/// How many classes stand in a word.
+const CLASSES_A_WORD: usize = 4;
+
+/// What is to be spelled in a state's words.
+#[derive(Drop)]
+pub(super) struct Draft<'a> {
+    pub(super) failure: u32,
+    /// Where a class leads that has no transition.
+    pub(super) missing: u32,
+    /// The transitions, in ascending order of their classes.
+    pub(super) edges: &'a [Edge],
+    pub(super) matches: &'a [PatternID],
+}
+
+impl<'a> Model for Draft<'a> {
+    ghost use Rattle.ac_engines.specs.Words.{Spelling};
+
+    ghost Value = { Spelling };
+
+    ghost view = { λ d. record {
+      failure = d.failure;
+      missing = d.missing;
+      edges = d.edges.now;
+      matches = d.matches.now;
+    } };
+}
+
+/// Appends the words of a state in a form, where there are so many classes.
+///
+/// # Errors
+/// `AllocError` where a request for memory is refused.
+pub(super) fn push_state<A: Allocator>(
+    words: &mut Vec<u32, A>,
+    format: Format,
+    classes: usize,
+    draft: Draft<'_>,
+) -> Result<(), AllocError>
+    requires fits { Fits format draft }
+    requires few { classes ≤ 256 }
+    requires ascending { IsStrictlyIncreasing (map (λ e. e.class) draft.edges) }
+    requires within { All (λ e. e.class < classes) draft.edges }
+    requires few_matches { length draft.matches < ONE_MATCH }
+    ensures { IfOk result (λ _. words.new.items ≡ words.old.items ++ spelled format classes draft.entry) }
+{
+    match format {
+        Format::Dense => {
+            push_dense(words, classes, &draft)?;
+            push_matches(words, draft.matches)
+        }
+        Format::One => push_one(words, &draft),
+        Format::Sparse => {
+            push_sparse(words, &draft)?;
+            push_matches(words, draft.matches)
+        }
+    }
+}
+
+/// Appends the words of a state with a target for each of so many classes, up to its matches.
+///
+/// # Errors
+/// `AllocError` where a request for memory is refused.
+fn push_dense<A: Allocator>(
+    words: &mut Vec<u32, A>,
+    classes: usize,
+    draft: &Draft<'_>,
+) -> Result<(), AllocError>
+    requires few { classes ≤ 256 }
+    requires ascending { IsStrictlyIncreasing (map (λ e. e.class) draft.now.edges) }
+    requires within { All (λ e. e.class < classes) draft.now.edges }
+    ensures { IfOk result (λ _. words.new.items ≡ words.old.items ++ DENSE ∷ draft.now.failure
+        ∷ map (target_by draft.now.missing draft.now.edges) (range_with_len 0 classes)) }
+{
+    words.push(u32::from(DENSE))?;
+    words.push(draft.failure)?;
+    let start = words.len();
+    words.resize(start + classes, draft.missing)?;
+    set_targets(&mut words[start..], draft.edges);
+    Ok(())
+}
+
+/// Sets the target of each transition at its class.
+fn set_targets(targets: &mut [u32], edges: &[Edge])
+    requires ascending { IsStrictlyIncreasing (map (λ e. e.class) edges.now) }
+    requires within { All (λ e. e.class < length targets.old) edges.now }
+    ensures { HasTargets targets.old edges.now targets.new }
+{
+    for edge in edges {
+        targets[edge.class as usize] = edge.target;
+    }
+}
+
+/// Appends the words of a state with one transition and no match.
+///
+/// # Errors
+/// `AllocError` where a request for memory is refused.
+fn push_one<A: Allocator>(words: &mut Vec<u32, A>, draft: &Draft<'_>) -> Result<(), AllocError>
+    requires one { length draft.now.edges ≡ 1 }
+    ensures { IfOk result (λ _. words.new.items ≡ words.old.items ++ one_spelling draft.now.failure draft.now.edges) }
+{
+    let edge = draft.edges[0];
+    words.push(u32::from_le_bytes([ONE, edge.class, 0, 0]))?;
+    words.push(draft.failure)?;
+    words.push(edge.target)?;
+    Ok(())
+}
+
+/// Appends the words of a state with the classes of its transitions, four in a word, and then their targets, up to
+/// its matches.
+///
+/// # Errors
+/// `AllocError` where a request for memory is refused.
+fn push_sparse<A: Allocator>(words: &mut Vec<u32, A>, draft: &Draft<'_>) -> Result<(), AllocError>
+    requires few { length draft.now.edges ≤ MOST_SPARSE }
+    ensures { IfOk result (λ _. words.new.items ≡ words.old.items ++ length draft.now.edges ∷ draft.now.failure
+        ∷ class_words (map (λ e. e.class) draft.now.edges) ++ map (λ e. e.target) draft.now.edges) }
+{
+    words.push(draft.edges.len() as u32)?;
+    words.push(draft.failure)?;
+    push_classes(words, draft.edges)?;
+    words.extend(draft.edges.iter().map(|edge| edge.target))?;
+    Ok(())
+}
+
+/// Appends the classes of transitions, four in a word.
+///
+/// # Errors
+/// `AllocError` where a request for memory is refused.
+fn push_classes<A: Allocator>(words: &mut Vec<u32, A>, edges: &[Edge]) -> Result<(), AllocError>
+    ensures { IfOk result (λ _. words.new.items ≡ words.old.items ++ class_words (map (λ e. e.class) edges.now)) }
+{
+    for four in edges.chunks(CLASSES_A_WORD) {
+        words.push(class_word(four))?;
+    }
+    Ok(())
+}
+
+/// Returns the classes of up to four transitions in one word, which is filled up with the last one.
+fn class_word(edges: &[Edge]) -> u32
+    requires some { 0 < length edges.now }
+    requires few { length edges.now ≤ CLASSES_A_WORD }
+    ensures { class_words (map (λ e. e.class) edges.now) ≡ result ∷ [] }
+{
+    u32::from_le_bytes([
+        class_at(edges, 0),
+        class_at(edges, 1),
+        class_at(edges, 2),
+        class_at(edges, 3),
+    ])
+}
+
+/// Returns the class of the transition at a place, or of the last one where there are fewer.
+fn class_at(edges: &[Edge], place: usize) -> u8
+    requires some { 0 < length edges.now }
+    ensures { result ≡ slice_index (map (λ e. e.class) edges.now) (min place (length edges.now - 1)) }
+{
+    edges[place.min(edges.len() - 1)].class
+}
+
+/// Appends the words of a state's matches.
+///
+/// # Errors
+/// `AllocError` where a request for memory is refused.
+fn push_matches<A: Allocator>(
+    words: &mut Vec<u32, A>,
+    matches: &[PatternID],
+) -> Result<(), AllocError>
+    requires { length matches.now < ONE_MATCH }
+    ensures { IfOk result (λ _. words.new.items ≡ words.old.items ++ match_spelling matches.now) }
+{
+    match matches {
+        [] => {}
+        [only] => words.push(ONE_MATCH + number(only))?,
+        several => {
+            words.push(several.len() as u32)?;
+            words.extend(several.iter().map(number))?;
+        }
+    }
+    Ok(())
+}
+
+/// Returns the number of a pattern as a word.
+fn number(pattern: &PatternID) -> u32
+    ensures value { result ≡ pattern.now }
+    ensures small { result < ONE_MATCH }
+{
+    pattern.as_usize() as u32
+}
+
+#[cfg(test)]
+mod tests {
+    use super::super::state::FAIL;
+    use super::*;
+    use std::alloc::Global;
+
+    /// The words of a state in a form, where there are so many classes.
+    fn words_of(
+        alloc: Global,
+        format: Format,
+        classes: usize,
+        draft: Draft<'_>,
+    ) -> Result<Vec<u32>, AllocError>
+        requires fits { Fits format draft }
+        requires few { classes ≤ 256 }
+        requires ascending { IsStrictlyIncreasing (map (λ e. e.class) draft.edges) }
+        requires within { All (λ e. e.class < classes) draft.edges }
+        requires few_matches { length draft.matches < ONE_MATCH }
+    {
+        let mut words = Vec::new(alloc);
+        push_state(&mut words, format, classes, draft)?;
+        Ok(words)
+    }
+
+    #[test]
+    fn sparse_states_are_spelled(rt: HostRuntime) -> Result<(), AllocError> {
+        let edges = [
+            Edge {
+                class: 3,
+                target: 100,
+            },
+            Edge {
+                class: 7,
+                target: 110,
+            },
+            Edge {
+                class: 9,
+                target: 120,
+            },
+            Edge {
+                class: 12,
+                target: 130,
+            },
+            Edge {
+                class: 20,
+                target: 140,
+            },
+        ];
+        let draft = Draft {
+            failure: 40,
+            missing: FAIL,
+            edges: &edges,
+            matches: &[PatternID::must(6)],
+        };
+        let wanted = [
+            5, 40, 0x0C090703, 0x14141414, 100, 110, 120, 130, 140, 0x80000006,
+        ];
+        assert_eq!(rt;
+            words_of(rt.alloc(), Format::Sparse, 256, draft)?.as_slice(),
+            wanted.as_slice()
+        );
+        Ok(())
+    }
+
+    #[test]
+    fn states_without_transitions_are_spelled(rt: HostRuntime) -> Result<(), AllocError> {
+        let draft = Draft {
+            failure: 40,
+            missing: FAIL,
+            edges: &[],
+            matches: &[PatternID::must(0)],
+        };
+        let wanted = [0, 40, 0x80000000];
+        assert_eq!(rt;
+            words_of(rt.alloc(), Format::Sparse, 256, draft)?.as_slice(),
+            wanted.as_slice()
+        );
+        Ok(())
+    }
+
+    #[test]
+    fn single_transitions_are_spelled(rt: HostRuntime) -> Result<(), AllocError> {
+        let edges = [Edge {
+            class: 9,
+            target: 100,
+        }];
+        let draft = Draft {
+            failure: 40,
+            missing: FAIL,
+            edges: &edges,
+            matches: &[],
+        };
+        let wanted = [0x000009FE, 40, 100];
+        assert_eq!(rt;
+            words_of(rt.alloc(), Format::One, 256, draft)?.as_slice(),
+            wanted.as_slice()
+        );
+        Ok(())
+    }
+
+    #[test]
+    fn dense_states_are_spelled(rt: HostRuntime) -> Result<(), AllocError> {
+        let edges = [Edge {
+            class: 1,
+            target: 100,
+        }];
+        let matches = [PatternID::must(6), PatternID::must(2), PatternID::must(9)];
+        let draft = Draft {
+            failure: 40,
+            missing: FAIL,
+            edges: &edges,
+            matches: &matches,
+        };
+        let wanted = [0xFF, 40, 1, 100, 1, 3, 6, 2, 9];
+        assert_eq!(rt;
+            words_of(rt.alloc(), Format::Dense, 3, draft)?.as_slice(),
+            wanted.as_slice()
+        );
+        Ok(())
+    }
+}
