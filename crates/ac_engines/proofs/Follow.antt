@@ -25,11 +25,19 @@ step-to-node p anchored (Some w) b =
     step-node p.built.kind (plain_of p.built) anchored w (plain_byte p.built.fold b)
 
 -- the state of a number's node stands there
-pub stands-begin : (p : Packed) (anchored : Anchored) (s : ℕ) (u : Node) (h : StandsAt p anchored s u)
+stands-begin : (p : Packed) (anchored : Anchored) (s : ℕ) (u : Node) (h : StandsAt p anchored s u)
     → BeginsWith (drop s p.words) (form_at p h.at u) (alphabet_len p.classes) (spelling_at p h.at anchored u)
 stands-begin p anchored s u h =
     subst (λ (n : ℕ). BeginsWith (drop n p.words) (form_at p h.at u) (alphabet_len p.classes) (spelling_at p h.at anchored u))
     (sym h.number) (has-state p h.at h.packed anchored u h.node)
+
+-- and so do the words that were read there
+pub begins-at : (p : Packed) (anchored : Anchored) (s : ℕ) (u : Node) (h : StandsAt p anchored s u)
+    (words there : List ℕ) → p.words ≡ words → there ≡ drop s words
+    → BeginsWith there (form_at p h.at u) (alphabet_len p.classes) (spelling_at p h.at anchored u)
+begins-at p anchored s u h words there same is =
+    subst (λ (ws : List ℕ). BeginsWith ws (form_at p h.at u) (alphabet_len p.classes) (spelling_at p h.at anchored u))
+    (ap (drop s) same ∙ sym is) (stands-begin p anchored s u h)
 
 -- its number is in the words, and small
 pub stands-within : (p : Packed) (anchored : Anchored) (s : ℕ) (u : Node) → StandsAt p anchored s u → s ≤ length p.words
