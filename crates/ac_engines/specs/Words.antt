@@ -1,8 +1,7 @@
 -- How the states of the contiguous engine are spelled in words of 32 bits.
-use Rattle.std.specs.Prelude.{◌≡◌, ℕ, ◌+◌, ◌*◌, ◌<◌, ◌≤◌, ◌==◌, List, [], ◌∷◌, ◌++◌, length, map, slice_index_or, if◌then◌else◌, ⊤}
+use Rattle.std.specs.Prelude.{◌≡◌, ℕ, ◌+◌, ◌*◌, ◌<◌, ◌≤◌, ◌==◌, List, [], ◌∷◌, ◌++◌, length, map, slice_index_or, All, if◌then◌else◌, ⊤}
 use Rattle.std.specs.List.{range_with_len}
 use Rattle.std.specs.List.Sorted.{IsStrictlyIncreasing}
-use Rattle.ac_util.specs.declared.primitives.TheConstants.{GREATEST}
 use Rattle.ac_engines.specs.declared.nfa.contiguous.format.Format.{Format}
 use Rattle.ac_engines.specs.declared.nfa.contiguous.format.Format.TheVariants.{Dense, One, Sparse}
 use Rattle.ac_engines.specs.declared.nfa.contiguous.format.TheConstants.{MOST_SPARSE}
@@ -18,7 +17,7 @@ pub record Spelling : Type 0 where
   pub matches : List ℕ
 
 -- where a class leads
-pub target_by : ℕ → List Edge → ℕ → ℕ
+unfoldable pub target_by : ℕ → List Edge → ℕ → ℕ
 target_by missing [] class = missing
 target_by missing (e ∷ edges) class = if e.class == class then e.target else target_by missing edges class
 
@@ -27,7 +26,7 @@ abbrev pub word_of : ℕ → ℕ → ℕ → ℕ → ℕ
 word_of a b c d = a + 256 * (b + 256 * (c + 256 * d))
 
 -- classes, four in a word; the last word is filled up with the last class again
-pub class_words : List ℕ → List ℕ
+unfoldable pub class_words : List ℕ → List ℕ
 class_words [] = []
 class_words (a ∷ []) = word_of a a a a ∷ []
 class_words (a ∷ b ∷ []) = word_of a b b b ∷ []
@@ -47,7 +46,7 @@ one_spelling failure [] = []
 one_spelling failure (e ∷ edges) = (ONE + 256 * e.class) ∷ failure ∷ e.target ∷ []
 
 -- the words of a state, where there are so many classes
-pub spelled : Format → ℕ → Spelling → List ℕ
+unfoldable pub spelled : Format → ℕ → Spelling → List ℕ
 spelled Dense classes s =
     DENSE ∷ s.failure ∷ map (target_by s.missing s.edges) (range_with_len 0 classes) ++ match_spelling s.matches
 spelled One classes s = one_spelling s.failure s.edges
@@ -61,12 +60,14 @@ Fits Dense s = ⊤
 Fits One s = (length s.edges ≡ 1) × (s.matches ≡ []) × (s.missing ≡ FAIL)
 Fits Sparse s = (length s.edges ≤ MOST_SPARSE) × (s.missing ≡ FAIL)
 
--- the words begin with those of a state: its classes ascend, and its matches are fewer than the mark of a single one
+-- the words begin with those of a state: its classes are below their number and ascend, and its matches are fewer than
+-- the mark of a single one
 pub record BeginsWith (words : List ℕ) (format : Format) (classes : ℕ) (s : Spelling) : Type 0 where
   pub rest : List ℕ
   pub words_are : words ≡ spelled format classes s ++ rest
   pub fits : Fits format s
   pub few : classes ≤ 256
+  pub below : All (λ e. e.class < classes) s.edges
   pub ascending : IsStrictlyIncreasing (map (λ e. e.class) s.edges)
   pub few_matches : length s.matches < ONE_MATCH
   pub numbers : (k : ℕ) → slice_index_or s.matches k 0 < ONE_MATCH
