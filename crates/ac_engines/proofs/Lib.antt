@@ -1,9 +1,11 @@
 pub mod Assembled
+pub mod ClassWords
 pub mod Filled
 pub mod LaidOut
 pub mod LaidUpTo
 pub mod Laying
 pub mod Listing
+pub mod MatchWords
 pub mod Numbered
 pub mod Numbers
 pub mod OneRow
@@ -14,4 +16,6 @@ pub mod RowByRow
 pub mod RowLists
 pub mod Setting
 pub mod Starts
+pub mod Spellings
 pub mod StateRows
+pub mod Vectors

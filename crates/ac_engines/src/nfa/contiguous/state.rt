@@ -1,7 +1,7 @@
 //! Reading the words of a state.
-ghost use Rattle.std.specs.Prelude.{◌≡◌, ℕ, ◌+◌, ◌<◌, ◌≤◌, drop, length, slice_index};
+ghost use Rattle.std.specs.Prelude.{◌≡◌, ◌≢◌, ℕ, ◌+◌, ◌<◌, ◌≤◌, ◌++◌, [], drop, length, slice_index};
 ghost use Rattle.ac_engines.specs.declared.nfa.contiguous.format.Format.{Format};
-ghost use Rattle.ac_engines.specs.Words.{BeginsWith, Spelling, first_of, target_by, word_of};
+ghost use Rattle.ac_engines.specs.Words.{BeginsWith, Spelling, first_of, match_spelling, target_by, word_of};
 
 /// The low byte of a dense state's first word.
 pub const DENSE: u8 = 0xFF;
@@ -66,11 +66,16 @@ impl<'a> State<'a> {
             → class < classes → result ≡ target_by s.missing s.edges class }
     {
         let [form, only, _, _] = self.words[0].to_le_bytes();
-        match form {
-            DENSE => self.words[HEAD + class as usize],
-            ONE if only == class => self.words[HEAD],
-            ONE => FAIL,
-            transitions => self.sparse_target(transitions as usize, class),
+        if form == DENSE {
+            return self.words[HEAD + class as usize];
+        }
+        if form != ONE {
+            return self.sparse_target(form as usize, class);
+        }
+        if only == class {
+            self.words[HEAD]
+        } else {
+            FAIL
         }
     }
 
@@ -90,6 +95,54 @@ impl<'a> State<'a> {
             }
         }
         FAIL
+    }
+
+    /// Returns how many matches the state has. It has to have some.
+    #[inline]
+    pub(super) fn match_len(self, classes: usize) -> usize
+        requires { (format : Format) × (s : Spelling)
+            × BeginsWith self.words.now format classes s × (s.matches ≢ []) }
+        ensures { (format : Format) (s : Spelling) → BeginsWith self.entry.words.now format classes s
+            → s.matches ≢ [] → result ≡ length s.matches }
+    {
+        let first = self.match_words(classes)[0];
+        if first >= ONE_MATCH {
+            1
+        } else {
+            first as usize
+        }
+    }
+
+    /// Returns one of its matches.
+    #[inline]
+    pub(super) fn match_pattern(self, classes: usize, index: usize) -> u32
+        requires { (format : Format) × (s : Spelling)
+            × BeginsWith self.words.now format classes s × (index < length s.matches) }
+        ensures { (format : Format) (s : Spelling) → BeginsWith self.entry.words.now format classes s
+            → index < length s.matches → result ≡ slice_index s.matches index }
+    {
+        let words = self.match_words(classes);
+        if words[0] >= ONE_MATCH {
+            words[0] - ONE_MATCH
+        } else {
+            words[1 + index]
+        }
+    }
+
+    /// Returns the words from those of the state's matches on. It has to have some, so it is dense or sparse.
+    #[inline]
+    fn match_words(self, classes: usize) -> &'a [u32]
+        requires { (format : Format) × (s : Spelling)
+            × BeginsWith self.words.now format classes s × (s.matches ≢ []) }
+        ensures { (format : Format) (s : Spelling) (words : BeginsWith self.entry.words.now format classes s)
+            → s.matches ≢ [] → result.now ≡ match_spelling s.matches ++ words.rest }
+    {
+        let [form, _, _, _] = self.words[0].to_le_bytes();
+        if form == DENSE {
+            return &self.words[HEAD + classes..];
+        }
+        let transitions = form as usize;
+        &self.words[HEAD + transitions.div_ceil(CLASSES_A_WORD) + transitions..]
     }
 }
 
@@ -112,3 +165,6 @@ fn place_in(word: u32, class: u8) -> usize
         CLASSES_A_WORD
     }
 }
+
+#[cfg(test)]
+mod tests;

@@ -1,0 +1,233 @@
+-- Looking for a class in the class words of a sparse state.
+use Rattle.std.proofs.Common.{refl, ◌≡◌, ℕ, zero, suc, ◌+◌, ◌*◌, ◌<◌, ◌≤◌, Bool, true, false, cond, List, [], ◌∷◌, length, map, drop, ap, sym, subst, ◌∙◌, arith}
+use Rattle.std.specs.Prelude.{All, slice_index_or, ◌==◌}
+use Rattle.std.proofs.Math.Seq.{drop-cons, drop-nil}
+use Rattle.std.proofs.lemmas.List.{drop_all, drop-drop, drop-map, get_or-drop, length-drop, length-map}
+use Rattle.std.proofs.lemmas.List.Elements.{All-drop}
+use Rattle.ac_engines.specs.declared.nfa.contiguous.state.Edge.{Edge}
+use Rattle.ac_engines.specs.declared.nfa.contiguous.state.TheConstants.{FAIL}
+use Rattle.ac_engines.specs.Words.{class_words, first_of, target_by, word_of}
+
+-- the classes and the targets of transitions
+abbrev pub classes_of : List Edge → List ℕ
+classes_of es = map (λ e. e.class) es
+
+abbrev pub targets_of : List Edge → List ℕ
+targets_of es = map (λ e. e.target) es
+
+-- a place below 4 is that of the target among these, and any other says that the target is the missing one
+pub record Picks (targets : List ℕ) (place target missing : ℕ) : Type 0 where
+  pub within : place < 4 → place < length targets
+  pub found : place < 4 → target ≡ slice_index_or targets place 0
+  pub missed : 4 ≤ place → target ≡ missing
+
+hit : (targets : List ℕ) (place missing : ℕ) → place < 4 → place < length targets
+    → Picks targets place (slice_index_or targets place 0) missing
+hit targets place missing low within = record {
+  within = λ small. within;
+  found = λ small. refl;
+  missed = λ not. omega (arith, not, low);
+}
+
+miss : (targets : List ℕ) (missing : ℕ) → Picks targets 4 missing missing
+miss targets missing = record {
+  within = λ small. omega (arith, small);
+  found = λ small. omega (arith, small);
+  missed = λ not. refl;
+}
+
+-- the first of four tests that holds, or 4
+abbrev pub first_true : Bool → Bool → Bool → Bool → ℕ
+first_true t u v w = cond t 0 (cond u 1 (cond v 2 (cond w 3 4)))
+
+-- the first test that holds picks its target, of four and of fewer, where the last test stands in for those behind it
+picks-four : (t u v w : Bool) (a b c d : ℕ) (more : List ℕ) (missing : ℕ)
+    → Picks (a ∷ b ∷ c ∷ d ∷ more) (first_true t u v w)
+    (cond t a (cond u b (cond v c (cond w d missing)))) missing
+picks-four true u v w a b c d more missing = hit (a ∷ b ∷ c ∷ d ∷ more) 0 missing (omega arith) (omega arith)
+picks-four false true v w a b c d more missing = hit (a ∷ b ∷ c ∷ d ∷ more) 1 missing (omega arith) (omega arith)
+picks-four false false true w a b c d more missing = hit (a ∷ b ∷ c ∷ d ∷ more) 2 missing (omega arith) (omega arith)
+picks-four false false false true a b c d more missing = hit (a ∷ b ∷ c ∷ d ∷ more) 3 missing (omega arith) (omega arith)
+picks-four false false false false a b c d more missing = miss (a ∷ b ∷ c ∷ d ∷ more) missing
+
+picks-three : (t u v : Bool) (a b c missing : ℕ)
+    → Picks (a ∷ b ∷ c ∷ []) (first_true t u v v) (cond t a (cond u b (cond v c missing))) missing
+picks-three true u v a b c missing = hit (a ∷ b ∷ c ∷ []) 0 missing (omega arith) (omega arith)
+picks-three false true v a b c missing = hit (a ∷ b ∷ c ∷ []) 1 missing (omega arith) (omega arith)
+picks-three false false true a b c missing = hit (a ∷ b ∷ c ∷ []) 2 missing (omega arith) (omega arith)
+picks-three false false false a b c missing = miss (a ∷ b ∷ c ∷ []) missing
+
+picks-two : (t u : Bool) (a b missing : ℕ)
+    → Picks (a ∷ b ∷ []) (first_true t u u u) (cond t a (cond u b missing)) missing
+picks-two true u a b missing = hit (a ∷ b ∷ []) 0 missing (omega arith) (omega arith)
+picks-two false true a b missing = hit (a ∷ b ∷ []) 1 missing (omega arith) (omega arith)
+picks-two false false a b missing = miss (a ∷ b ∷ []) missing
+
+picks-one : (t : Bool) (a missing : ℕ) → Picks (a ∷ []) (first_true t t t t) (cond t a missing) missing
+picks-one true a missing = hit (a ∷ []) 0 missing (omega arith) (omega arith)
+picks-one false a missing = miss (a ∷ []) missing
+
+module _ (class : ℕ) where
+  -- what the first class word of transitions tells of where a class leads: its four classes are those of the first
+  -- transitions, and the words behind it are those of the other transitions
+  pub record Tells (es : List Edge) (word : ℕ) (words : List ℕ) : Type 0 where
+    pub a : ℕ
+    pub b : ℕ
+    pub c : ℕ
+    pub d : ℕ
+    pub a_small : a < 256
+    pub b_small : b < 256
+    pub c_small : c < 256
+    pub d_small : d < 256
+    pub word_is : word ≡ word_of a b c d
+    pub after : words ≡ class_words (classes_of (drop 4 es))
+    pub picks : Picks (targets_of es) (first_of a b c d class) (target_by FAIL es class)
+        (target_by FAIL (drop 4 es) class)
+
+  -- the first of a list of words, and the others
+  first : (v w : ℕ) (vs ws : List ℕ) → v ∷ vs ≡ w ∷ ws → w ≡ v
+  first v w vs ws same = sym (ap (λ (ns : List ℕ). slice_index_or ns 0 0) same)
+
+  others : (v w : ℕ) (vs ws : List ℕ) → v ∷ vs ≡ w ∷ ws → ws ≡ vs
+  others v w vs ws same = sym (ap (λ (ns : List ℕ). drop 1 ns) same)
+
+  pub tells : (es : List Edge) (word : ℕ) (words : List ℕ) → All (λ e. e.class < 256) es
+      → class_words (classes_of es) ≡ word ∷ words → Tells es word words
+  unfolding class_words target_by
+  tells [] word words small are = absurd (let none = ap (λ (ns : List ℕ). length ns) are in omega (arith, none))
+  tells (a ∷ []) word words small are = record {
+    a = a.class;
+    b = a.class;
+    c = a.class;
+    d = a.class;
+    a_small = small 0 a (omega arith);
+    b_small = small 0 a (omega arith);
+    c_small = small 0 a (omega arith);
+    d_small = small 0 a (omega arith);
+    word_is = first _ word [] words are;
+    after = others _ word [] words are;
+    picks = picks-one (a.class == class) a.target FAIL;
+  }
+  tells (a ∷ b ∷ []) word words small are = record {
+    a = a.class;
+    b = b.class;
+    c = b.class;
+    d = b.class;
+    a_small = small 0 a (omega arith);
+    b_small = small 1 a (omega arith);
+    c_small = small 1 a (omega arith);
+    d_small = small 1 a (omega arith);
+    word_is = first _ word [] words are;
+    after = others _ word [] words are;
+    picks = picks-two (a.class == class) (b.class == class) a.target b.target FAIL;
+  }
+  tells (a ∷ b ∷ c ∷ []) word words small are = record {
+    a = a.class;
+    b = b.class;
+    c = c.class;
+    d = c.class;
+    a_small = small 0 a (omega arith);
+    b_small = small 1 a (omega arith);
+    c_small = small 2 a (omega arith);
+    d_small = small 2 a (omega arith);
+    word_is = first _ word [] words are;
+    after = others _ word [] words are;
+    picks = picks-three (a.class == class) (b.class == class) (c.class == class) a.target b.target c.target FAIL;
+  }
+  tells (a ∷ b ∷ c ∷ d ∷ es) word words small are = record {
+    a = a.class;
+    b = b.class;
+    c = c.class;
+    d = d.class;
+    a_small = small 0 a (omega arith);
+    b_small = small 1 a (omega arith);
+    c_small = small 2 a (omega arith);
+    d_small = small 3 a (omega arith);
+    word_is = first _ word (class_words (classes_of es)) words are;
+    after = others _ word (class_words (classes_of es)) words are;
+    picks = picks-four (a.class == class) (b.class == class) (c.class == class) (d.class == class)
+        a.target b.target c.target d.target (targets_of es) (target_by FAIL es class);
+  }
+
+  -- four transitions on stand the others of one word on
+  drop-class_words : (es : List Edge) (index : ℕ)
+      → drop index (class_words (classes_of es)) ≡ class_words (classes_of (drop (4 * index) es))
+  unfolding class_words
+  drop-class_words es zero = refl
+  drop-class_words [] (suc index) = rw (drop-nil {A = Edge} (4 * suc index)) refl
+  drop-class_words (a ∷ []) (suc index) =
+      rw (drop_all (4 * suc index) (a ∷ []) (omega arith)) (drop-nil {A = ℕ} index)
+  drop-class_words (a ∷ b ∷ []) (suc index) =
+      rw (drop_all (4 * suc index) (a ∷ b ∷ []) (omega arith)) (drop-nil {A = ℕ} index)
+  drop-class_words (a ∷ b ∷ c ∷ []) (suc index) =
+      rw (drop_all (4 * suc index) (a ∷ b ∷ c ∷ []) (omega arith)) (drop-nil {A = ℕ} index)
+  drop-class_words (a ∷ b ∷ c ∷ d ∷ es) (suc index) =
+      let four : 4 * suc index ≡ suc (suc (suc (suc (4 * index)))) = omega arith in
+      rw four (drop-class_words es index)
+
+  -- each class word tells of the transitions that it stands for and of those behind
+  pub tells-at : (es : List Edge) (index : ℕ) → All (λ e. e.class < 256) es
+      → index < length (class_words (classes_of es))
+      → Tells (drop (4 * index) es) (slice_index_or (class_words (classes_of es)) index 0)
+      (drop (suc index) (class_words (classes_of es)))
+  tells-at es index small within =
+      tells (drop (4 * index) es) _ _ (All-drop (λ e. e.class < 256) (4 * index) es small)
+      (sym (drop-class_words es index) ∙ drop-cons (class_words (classes_of es)) index 0 within)
+
+-- there are as many class words as it takes to hold the classes
+pub length-class_words : (classes : List ℕ)
+    → (length classes ≤ 4 * length (class_words classes)) × (4 * length (class_words classes) < length classes + 4)
+unfolding class_words
+length-class_words [] = (omega arith, omega arith)
+length-class_words (a ∷ []) = (omega arith, omega arith)
+length-class_words (a ∷ b ∷ []) = (omega arith, omega arith)
+length-class_words (a ∷ b ∷ c ∷ []) = (omega arith, omega arith)
+length-class_words (a ∷ b ∷ c ∷ d ∷ classes) =
+    let shorter = length-class_words classes in (omega (arith, shorter.0), omega (arith, shorter.1))
+
+module _ (es : List Edge) (front : List ℕ) (is : front ≡ class_words (classes_of es)) (class index : ℕ) where
+  -- behind the last class word there are no transitions
+  pub none-left : length front ≤ index → target_by FAIL (drop (4 * index) es) class ≡ FAIL
+  unfolding target_by
+  none-left past =
+      let enough = length-class_words (classes_of es) in
+      let same = length-map es (λ e. e.class) in
+      let counts = ap (λ (ns : List ℕ). length ns) is in
+      rw (drop_all (4 * index) es (omega (arith, enough.0, same, counts, past))) refl
+
+  module _ (place : ℕ) (small : All (λ e. e.class < 256) es) (within : index < length front)
+      (seen : (a b c d : ℕ) → a < 256 → b < 256 → c < 256 → d < 256
+      → slice_index_or front index 0 ≡ word_of a b c d → place ≡ first_of a b c d class) where
+    -- the place of a class in the class word at an index picks from the targets there
+    picks-at : Picks (targets_of (drop (4 * index) es)) place (target_by FAIL (drop (4 * index) es) class)
+        (target_by FAIL (drop 4 (drop (4 * index) es)) class)
+    picks-at =
+        let t = tells-at class es index small (subst (λ (ns : List ℕ). index < length ns) is within) in
+        let place_is = seen t.a t.b t.c t.d t.a_small t.b_small t.c_small t.d_small
+        (ap (λ (ns : List ℕ). slice_index_or ns index 0) is ∙ t.word_is) in
+        subst (λ (n : ℕ). Picks (targets_of (drop (4 * index) es)) n (target_by FAIL (drop (4 * index) es) class)
+        (target_by FAIL (drop 4 (drop (4 * index) es)) class)) (sym place_is) t.picks
+
+    -- a place below 4 is that of a transition
+    pub place-within : place < 4 → 4 * index + place < length (targets_of es)
+    place-within low =
+        let inside = picks-at.within low in
+        let left = ap (λ (ns : List ℕ). length ns) (drop-map (λ e. e.target) (4 * index) es) in
+        let dropped = length-drop (4 * index) (targets_of es) in
+        omega (arith, inside, left, dropped)
+
+    -- there the class leads
+    pub place-found : place < 4
+        → target_by FAIL (drop (4 * index) es) class ≡ slice_index_or (targets_of es) (4 * index + place) 0
+    place-found low =
+        picks-at.found low
+        ∙ ap (λ (ns : List ℕ). slice_index_or ns place 0) (sym (drop-map (λ e. e.target) (4 * index) es))
+        ∙ get_or-drop (4 * index) (targets_of es) place 0
+
+    -- or it leads where the transitions behind these lead it
+    pub place-missed : 4 ≤ place
+        → target_by FAIL (drop (4 * index) es) class ≡ target_by FAIL (drop (4 * (index + 1)) es) class
+    place-missed not =
+        picks-at.missed not
+        ∙ ap (λ (rest : List Edge). target_by FAIL rest class)
+        (drop-drop 4 (4 * index) es ∙ ap (λ (n : ℕ). drop n es) (let more : 4 * index + 4 ≡ 4 * (index + 1) = omega arith in more))

@@ -1,0 +1,240 @@
+-- What stands where in the words of a state.
+use Rattle.std.proofs.Common.{refl, ◌≡◌, ◌≢◌, ℕ, ◌+◌, ◌*◌, ◌-◌, ◌/◌, ◌%◌, ◌<◌, ◌≤◌, List, [], ◌∷◌, ◌++◌, length, map, take, drop, ap, sym, subst, ◌∙◌, arith}
+use Rattle.std.specs.Prelude.{All, slice_index_or}
+use Rattle.std.specs.Int.{div_ceil}
+use Rattle.std.specs.List.{range_with_len}
+use Rattle.std.proofs.lemmas.Bool.{eq-eqb, ne_eqb}
+use Rattle.std.proofs.lemmas.Grind.{div_ceil_times}
+use Rattle.std.proofs.Math.Seq.{take-append_seam}
+use Rattle.std.proofs.lemmas.List.{append_assoc, drop_at, get_or-drop, get_or_append_left, length-append, length-drop, length-map, take_all}
+use Rattle.std.proofs.lemmas.List.FromFn.{get_or-map-range_with_len, length-map-range_with_len}
+use Rattle.ac_engines.specs.declared.nfa.contiguous.format.Format.{Format}
+use Rattle.ac_engines.specs.declared.nfa.contiguous.format.Format.TheVariants.{Dense, One, Sparse}
+use Rattle.ac_engines.specs.declared.nfa.contiguous.state.Edge.{Edge}
+use Rattle.ac_engines.specs.declared.nfa.contiguous.state.TheConstants.{DENSE, FAIL, ONE}
+use Rattle.ac_engines.specs.Words.{BeginsWith, Spelling, class_words, match_spelling, one_spelling, spelled, target_by}
+use Rattle.ac_engines.proofs.ClassWords.{classes_of, length-class_words, targets_of}
+
+-- as many class words as the code counts hold the classes of the transitions
+counted : (es : List Edge) (transitions : ℕ) → transitions ≡ length es
+    → length (class_words (classes_of es)) ≡ div_ceil transitions 4
+counted es transitions are =
+    let enough = length-class_words (classes_of es) in
+    let times = div_ceil_times transitions 4 (omega arith) in
+    let same = length-map es (λ e. e.class) in
+    omega (arith, enough.0, enough.1, times.0, times.1, same, are)
+
+module _ (words : List ℕ) (classes : ℕ) (s : Spelling) where
+  -- the words of a sparse state, one part behind the other
+  pub sparse-words : (h : BeginsWith words Sparse classes s)
+      → words ≡ length s.edges ∷ s.failure ∷ class_words (classes_of s.edges)
+      ++ (targets_of s.edges ++ (match_spelling s.matches ++ h.rest))
+  unfolding spelled
+  sparse-words h =
+      h.words_are
+      ∙ ap (λ (ns : List ℕ). length s.edges ∷ s.failure ∷ ns)
+      (append_assoc (class_words (classes_of s.edges) ++ targets_of s.edges) (match_spelling s.matches) h.rest
+      ∙ append_assoc (class_words (classes_of s.edges)) (targets_of s.edges) (match_spelling s.matches ++ h.rest))
+
+  -- all words behind the first two
+  abbrev behind : List ℕ
+  behind = take (length words - 2) (drop 2 words)
+
+  -- what the code splits the words of a sparse state into: its class words, and its targets with what stands behind
+  pub record SplitsAt (transitions count : ℕ) : Type 0 where
+    pub long : 2 ≤ length words
+    pub enough : count ≤ length behind
+    pub front : take count behind ≡ class_words (classes_of s.edges)
+    pub more : List ℕ
+    pub back : drop count behind ≡ targets_of s.edges ++ more
+    pub small : All (λ e. e.class < 256) s.edges
+
+  pub splits-at : (transitions count : ℕ) → BeginsWith words Sparse classes s → transitions ≡ length s.edges
+      → count ≡ div_ceil transitions 4 → SplitsAt transitions count
+  splits-at transitions count h are counts =
+      let more = match_spelling s.matches ++ h.rest in
+      let tail : drop 2 words ≡ class_words (classes_of s.edges) ++ (targets_of s.edges ++ more) =
+      ap (λ (ns : List ℕ). drop 2 ns) (sparse-words h) in
+      let all : behind ≡ class_words (classes_of s.edges) ++ (targets_of s.edges ++ more) =
+      take_all (length words - 2) (drop 2 words) (rw (length-drop 2 words) (omega arith)) ∙ tail in
+      let same : count ≡ length (class_words (classes_of s.edges)) = counts ∙ sym (counted s.edges transitions are) in
+      record {
+        long = rw (sparse-words h) (omega arith);
+        enough = rw (all, same, length-append (class_words (classes_of s.edges)) (targets_of s.edges ++ more)) (omega arith);
+        front = rw (all, same) (take-append_seam (class_words (classes_of s.edges)) (targets_of s.edges ++ more));
+        more = more;
+        back = rw all (drop_at (class_words (classes_of s.edges)) (targets_of s.edges ++ more) count (sym same));
+        small = λ k d within. let low = h.below k d within in omega (arith, low, h.few);
+      }
+
+  -- the words of a dense state, one part behind the other
+  pub dense-words : (h : BeginsWith words Dense classes s)
+      → words ≡ DENSE ∷ s.failure ∷ map (target_by s.missing s.edges) (range_with_len 0 classes)
+      ++ (match_spelling s.matches ++ h.rest)
+  unfolding spelled
+  dense-words h =
+      h.words_are
+      ∙ append_assoc (DENSE ∷ s.failure ∷ map (target_by s.missing s.edges) (range_with_len 0 classes))
+      (match_spelling s.matches) h.rest
+
+  -- the transition of a state that has one, and its words
+  pub record HasOne (rest : List ℕ) : Type 0 where
+    pub edge : Edge
+    pub only : s.edges ≡ edge ∷ []
+    pub words_are : words ≡ (ONE + 256 * edge.class) ∷ s.failure ∷ edge.target ∷ rest
+
+  has-one : (edges : List Edge) (rest : List ℕ) → s.edges ≡ edges → length edges ≡ 1
+      → words ≡ one_spelling s.failure edges ++ rest → HasOne rest
+  has-one [] rest are one h = absurd (omega (arith, one))
+  has-one (e ∷ []) rest are one h = record { edge = e; only = are; words_are = h }
+  has-one (e ∷ f ∷ edges) rest are one h = absurd (omega (arith, one))
+
+  pub one-words : (h : BeginsWith words One classes s) → HasOne h.rest
+  unfolding spelled
+  one-words h = has-one s.edges h.rest refl h.fits.0 h.words_are
+
+  -- a dense state leads by each class where the word of that class says
+  pub record LeadsAt (class : ℕ) : Type 0 where
+    pub within : 2 + class < length words
+    pub target : slice_index_or words (2 + class) 0 ≡ target_by s.missing s.edges class
+
+  pub leads-at : (class : ℕ) → BeginsWith words Dense classes s → class < classes → LeadsAt class
+  leads-at class h low =
+      let targets = map (target_by s.missing s.edges) (range_with_len 0 classes) in
+      let more = match_spelling s.matches ++ h.rest in
+      let tail : drop 2 words ≡ targets ++ more = ap (λ (ns : List ℕ). drop 2 ns) (dense-words h) in
+      let many = length-map-range_with_len (target_by s.missing s.edges) 0 classes in
+      let long = ap (λ (ns : List ℕ). length ns) tail ∙ length-append targets more in
+      let dropped = length-drop 2 words in
+      record {
+        within = omega (arith, low, many, long, dropped);
+        target = sym (get_or-drop 2 words class 0) ∙ ap (λ (ns : List ℕ). slice_index_or ns class 0) tail
+            ∙ get_or_append_left targets more 0 class (omega (arith, low, many))
+            ∙ get_or-map-range_with_len (target_by s.missing s.edges) 0 classes class class 0 low (omega arith);
+      }
+
+  -- where a state with one transition leads by a class, whose byte stands beside the form
+  pub record LeadsOne (class : ℕ) : Type 0 where
+    pub within : 2 < length words
+    pub hit : slice_index_or words 0 0 / 256 % 256 ≡ class
+        → slice_index_or words 2 0 ≡ target_by s.missing s.edges class
+    pub miss : slice_index_or words 0 0 / 256 % 256 ≢ class → FAIL ≡ target_by s.missing s.edges class
+
+  one-target : (e : Edge) (class : ℕ) → s.edges ≡ e ∷ [] → e.class ≡ class
+      → target_by s.missing s.edges class ≡ e.target
+  unfolding target_by
+  one-target e class only same = rw (only, eq-eqb e.class class same) refl
+
+  no-target : (e : Edge) (class : ℕ) → s.edges ≡ e ∷ [] → e.class ≢ class
+      → target_by s.missing s.edges class ≡ s.missing
+  unfolding target_by
+  no-target e class only other = rw (only, ne_eqb e.class class other) refl
+
+  pub leads-one : (class : ℕ) → BeginsWith words One classes s → LeadsOne class
+  leads-one class h =
+      let one = one-words h in
+      let e = one.edge in
+      let first = ap (λ (ns : List ℕ). slice_index_or ns 0 0) one.words_are in
+      let below = subst (λ (es : List Edge). All (λ e. e.class < classes) es) one.only h.below 0 e (omega arith) in
+      let few = h.few in
+      let byte : slice_index_or words 0 0 / 256 % 256 ≡ e.class = omega (arith, first, below, few) in
+      record {
+        within = rw one.words_are (omega arith);
+        hit = λ same. ap (λ (ns : List ℕ). slice_index_or ns 2 0) one.words_are
+            ∙ sym (one-target e class one.only (sym byte ∙ same));
+        miss = λ other. sym (no-target e class one.only (λ same. other (byte ∙ same)) ∙ h.fits.2);
+      }
+
+  -- the second word is the failure target
+  pub record HasFailure : Type 0 where
+    pub within : 1 < length words
+    pub failure : slice_index_or words 1 0 ≡ s.failure
+
+  has-failure-words : (first : ℕ) (more : List ℕ) → words ≡ first ∷ s.failure ∷ more → HasFailure
+  has-failure-words first more are = record {
+    within = rw are (omega arith);
+    failure = ap (λ (ns : List ℕ). slice_index_or ns 1 0) are;
+  }
+
+  pub has-failure : (format : Format) → BeginsWith words format classes s → HasFailure
+  has-failure Dense h = has-failure-words _ _ (dense-words h)
+  has-failure One h = has-failure-words _ _ (one-words h).words_are
+  has-failure Sparse h = has-failure-words _ _ (sparse-words h)
+
+  -- the low byte of the first word tells the form
+  abbrev pub form : ℕ
+  form = slice_index_or words 0 0 % 256
+
+  form-dense : BeginsWith words Dense classes s → form ≡ 255
+  form-dense h = ap (λ (ns : List ℕ). slice_index_or ns 0 0 % 256) (dense-words h)
+
+  form-one : BeginsWith words One classes s → form ≡ 254
+  form-one h =
+      let one = one-words h in
+      let first = ap (λ (ns : List ℕ). slice_index_or ns 0 0) one.words_are in
+      omega (arith, first)
+
+  form-sparse : BeginsWith words Sparse classes s → (form ≡ length s.edges) × (length s.edges ≤ 127)
+  form-sparse h =
+      let first = ap (λ (ns : List ℕ). slice_index_or ns 0 0) (sparse-words h) in
+      let few = h.fits.0 in
+      (omega (arith, first, few), few)
+
+  pub is-dense : (format : Format) → BeginsWith words format classes s → form ≡ 255 → BeginsWith words Dense classes s
+  is-dense Dense h tells = h
+  is-dense One h tells = let one = form-one h in absurd (omega (arith, one, tells))
+  is-dense Sparse h tells = let sparse = form-sparse h in absurd (omega (arith, sparse.0, sparse.1, tells))
+
+  pub is-one : (format : Format) → BeginsWith words format classes s → form ≡ 254 → BeginsWith words One classes s
+  is-one Dense h tells = let dense = form-dense h in absurd (omega (arith, dense, tells))
+  is-one One h tells = h
+  is-one Sparse h tells = let sparse = form-sparse h in absurd (omega (arith, sparse.0, sparse.1, tells))
+
+  -- what is told of a sparse state: its low byte is the number of its transitions
+  pub record IsSparse : Type 0 where
+    pub begins : BeginsWith words Sparse classes s
+    pub counts : form ≡ length s.edges
+
+  pub is-sparse : (format : Format) → BeginsWith words format classes s → form ≢ 255 → form ≢ 254 → IsSparse
+  is-sparse Dense h dense one = absurd (dense (form-dense h))
+  is-sparse One h dense one = absurd (one (form-one h))
+  is-sparse Sparse h dense one = record { begins = h; counts = (form-sparse h).0 }
+
+  -- the matches of a state stand from a place on
+  pub record ListsFrom (place : ℕ) (rest : List ℕ) : Type 0 where
+    pub within : place ≤ length words
+    pub lists : take (length words - place) (drop place words) ≡ match_spelling s.matches ++ rest
+
+  lists-from : (place : ℕ) (front rest : List ℕ) → words ≡ front ++ (match_spelling s.matches ++ rest)
+      → length front ≡ place → ListsFrom place rest
+  lists-from place front rest are long =
+      let all = ap (λ (ns : List ℕ). length ns) are ∙ length-append front (match_spelling s.matches ++ rest) in
+      record {
+        within = omega (arith, all, long);
+        lists = take_all (length words - place) (drop place words) (rw (length-drop place words) (omega arith))
+            ∙ ap (λ (ns : List ℕ). drop place ns) are ∙ drop_at front (match_spelling s.matches ++ rest) place long;
+      }
+
+  pub dense-lists : (format : Format) (h : BeginsWith words format classes s) → form ≡ 255
+      → ListsFrom (2 + classes) h.rest
+  dense-lists Dense h tells =
+      let many = length-map-range_with_len (target_by s.missing s.edges) 0 classes in
+      lists-from (2 + classes) (DENSE ∷ s.failure ∷ map (target_by s.missing s.edges) (range_with_len 0 classes)) h.rest
+      (dense-words h) (omega (arith, many))
+  dense-lists One h tells = let one = form-one h in absurd (omega (arith, one, tells))
+  dense-lists Sparse h tells = let sparse = form-sparse h in absurd (omega (arith, sparse.0, sparse.1, tells))
+
+  pub sparse-lists : (format : Format) (h : BeginsWith words format classes s) (low count : ℕ) → low ≡ form
+      → low ≢ 255 → s.matches ≢ [] → count ≡ div_ceil low 4 → ListsFrom (2 + count + low) h.rest
+  sparse-lists Dense h low count is tells some counts = absurd (tells (is ∙ form-dense h))
+  sparse-lists One h low count is tells some counts = absurd (some h.fits.1)
+  sparse-lists Sparse h low count is tells some counts =
+      let transitions = is ∙ (form-sparse h).0 in
+      let same = counted s.edges low transitions in
+      let targets = length-map s.edges (λ e. e.target) in
+      let both = length-append (class_words (classes_of s.edges)) (targets_of s.edges) in
+      lists-from (2 + count + low)
+      (length s.edges ∷ s.failure ∷ (class_words (classes_of s.edges) ++ targets_of s.edges)) h.rest
+      (sparse-words h ∙ ap (λ (ns : List ℕ). length s.edges ∷ s.failure ∷ ns)
+      (sym (append_assoc (class_words (classes_of s.edges)) (targets_of s.edges) (match_spelling s.matches ++ h.rest))))
+      (omega (arith, transitions, same, targets, both, counts))

@@ -1,0 +1,35 @@
+use Rattle.std.proofs.Common.{◌≡◌, ◌∙◌, ℕ, ap, arith}
+use Rattle.std.specs.Prelude.{slice_index_or}
+use Rattle.ac_engines.proofs.MatchWords.{has-some, reads}
+use Rattle.ac_engines.proofs.nfa.contiguous.state.State.match_pattern.Goals as goal
+
+pub bounds-words-0 : goal.bounds-words-0
+bounds-words-0 c =
+    let r = c.requires in
+    let some = has-some r.1.matches c.args.index r.3 in
+    (reads r.1.matches r.2.rest c.match_words-words.result.now (c.match_words-words.ensures r.0 r.1 r.2 some) some
+    r.2.few_matches).some
+
+-- several matches stand behind their number
+pub bounds-words-index : goal.bounds-words-index
+bounds-words-index c =
+    let r = c.requires in
+    let some = has-some r.1.matches c.args.index r.3 in
+    (reads r.1.matches r.2.rest c.match_words-words.result.now (c.match_words-words.ensures r.0 r.1 r.2 some) some
+    r.2.few_matches).within c.if-words-ge-ONE_MATCH.false c.args.index r.3
+
+pub returns-else-words-ge-ONE_MATCH : goal.returns-else-words-ge-ONE_MATCH
+returns-else-words-ge-ONE_MATCH c = λ format s h low.
+    let some = has-some s.matches c.args.index low in
+    (reads s.matches h.rest c.match_words-words.result.now (c.match_words-words.ensures format s h some) some
+    h.few_matches).each c.if-words-ge-ONE_MATCH.false c.args.index low
+
+-- a match that is the only one is the first word without its top bit
+pub returns-then-words-ge-ONE_MATCH : goal.returns-then-words-ge-ONE_MATCH
+returns-then-words-ge-ONE_MATCH c = λ format s h low.
+    let some = has-some s.matches c.args.index low in
+    let words = reads s.matches h.rest c.match_words-words.result.now (c.match_words-words.ensures format s h some) some
+    h.few_matches in
+    let one = words.one c.if-words-ge-ONE_MATCH.true in
+    words.first c.if-words-ge-ONE_MATCH.true
+    ∙ ap (λ (k : ℕ). slice_index_or s.matches k 0) (let zero : 0 ≡ c.args.index = omega (arith, one, low) in zero)

@@ -1,0 +1,49 @@
+use Rattle.std.proofs.Common.{◌∙◌, List, ℕ, ap, sym, arith}
+use Rattle.std.specs.Prelude.{slice_index_or}
+use Rattle.ac_engines.proofs.Spellings.{dense-lists, has-failure, sparse-lists}
+use Rattle.ac_engines.proofs.nfa.contiguous.state.State.match_words.Goals as goal
+
+pub bounds-self-0 : goal.bounds-self-0
+bounds-self-0 c =
+    let r = c.requires in
+    let long = (has-failure c.args.self.words.now c.args.classes r.1 r.0 r.2).within in
+    omega (arith, long)
+
+-- the matches of a dense state stand behind the targets of all classes
+pub slice_bounds-result-count : goal.slice_bounds-result-count
+slice_bounds-result-count c =
+    let r = c.requires in
+    let low_byte = ap (λ (ns : List ℕ). slice_index_or ns 0 0) c.to_le_bytes.ensures in
+    (dense-lists c.args.self.words.now c.args.classes r.1 r.0 r.2 (sym low_byte ∙ c.if-form.true)).within
+
+pub slice_bounds-result-start : goal.slice_bounds-result-start
+slice_bounds-result-start c =
+    let r = c.requires in
+    let low_byte = ap (λ (ns : List ℕ). slice_index_or ns 0 0) c.to_le_bytes.ensures in
+    (dense-lists c.args.self.words.now c.args.classes r.1 r.0 r.2 (sym low_byte ∙ c.if-form.true)).within
+
+pub returns-then-form : goal.returns-then-form
+returns-then-form c = λ format s h some.
+    let low_byte = ap (λ (ns : List ℕ). slice_index_or ns 0 0) c.to_le_bytes.ensures in
+    (dense-lists c.args.self.words.now c.args.classes s format h (sym low_byte ∙ c.if-form.true)).lists
+
+-- and those of a sparse one behind the targets of its transitions
+pub slice_bounds-result-count-2 : goal.slice_bounds-result-count-2
+slice_bounds-result-count-2 c =
+    let r = c.requires in
+    let low_byte = ap (λ (ns : List ℕ). slice_index_or ns 0 0) c.to_le_bytes.ensures in
+    (sparse-lists c.args.self.words.now c.args.classes r.1 r.0 r.2 (slice_index_or c.to_le_bytes.result 0 0)
+    c.div_ceil.result low_byte c.if-form.false r.3 c.div_ceil.ensures).within
+
+pub slice_bounds-result-start-2 : goal.slice_bounds-result-start-2
+slice_bounds-result-start-2 c =
+    let r = c.requires in
+    let low_byte = ap (λ (ns : List ℕ). slice_index_or ns 0 0) c.to_le_bytes.ensures in
+    (sparse-lists c.args.self.words.now c.args.classes r.1 r.0 r.2 (slice_index_or c.to_le_bytes.result 0 0)
+    c.div_ceil.result low_byte c.if-form.false r.3 c.div_ceil.ensures).within
+
+pub returns : goal.returns
+returns c = λ format s h some.
+    let low_byte = ap (λ (ns : List ℕ). slice_index_or ns 0 0) c.to_le_bytes.ensures in
+    (sparse-lists c.args.self.words.now c.args.classes s format h (slice_index_or c.to_le_bytes.result 0 0)
+    c.div_ceil.result low_byte c.if-form.false some c.div_ceil.ensures).lists

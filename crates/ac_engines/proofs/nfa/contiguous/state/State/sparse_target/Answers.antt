@@ -1,0 +1,62 @@
+use Rattle.std.proofs.Common.{refl, ◌+◌, ◌*◌, List, ℕ, ap, sym, ◌∙◌, arith}
+use Rattle.std.specs.Prelude.{slice_index_or}
+use Rattle.std.proofs.lemmas.List.{get_or_append_left, length-append}
+use Rattle.ac_engines.proofs.ClassWords.{none-left, place-found, place-missed, place-within, targets_of}
+use Rattle.ac_engines.proofs.Spellings.{splits-at}
+use Rattle.ac_engines.proofs.nfa.contiguous.state.State.sparse_target.Goals as goal
+
+-- two words stand before the class words
+pub slice_bounds-split_at-count : goal.slice_bounds-split_at-count
+slice_bounds-split_at-count c =
+    let r = c.requires in (splits-at c.args.self.words.now r.0 r.1 c.args.transitions _ r.2 r.3 refl).long
+
+pub slice_bounds-split_at-start : goal.slice_bounds-split_at-start
+slice_bounds-split_at-start c =
+    let r = c.requires in (splits-at c.args.self.words.now r.0 r.1 c.args.transitions _ r.2 r.3 refl).long
+
+-- the class words are there
+pub split_at-requires : goal.split_at-requires
+split_at-requires c =
+    let r = c.requires in
+    (splits-at c.args.self.words.now r.0 r.1 c.args.transitions c.div_ceil.result r.2 r.3 c.div_ceil.ensures).enough
+
+-- a class that is found has a target
+pub bounds-targets-index : goal.bounds-targets-index
+bounds-targets-index c =
+    let r = c.requires in
+    let split = splits-at c.args.self.words.now r.0 r.1 c.args.transitions c.div_ceil.result r.2 r.3 c.div_ceil.ensures in
+    let within = place-within r.1.edges c.split_at.result.0.now (c.split_at.ensures.front ∙ split.front) c.args.class
+    c.loop-index.index c.place_in-place.result split.small c.loop-index-test.true c.place_in-place.ensures
+    c.if-place-lt-CLASSES_A_WORD.true in
+    rw (c.split_at.ensures.back ∙ split.back, length-append (targets_of r.1.edges) split.more) (omega (arith, within))
+
+-- it leads there
+pub returns-then-place-lt-CLASSES_A_WORD : goal.returns-then-place-lt-CLASSES_A_WORD
+returns-then-place-lt-CLASSES_A_WORD c = λ classes s h are.
+    let split = splits-at c.args.self.words.now classes s c.args.transitions c.div_ceil.result h are c.div_ceil.ensures in
+    let front = c.split_at.ensures.front ∙ split.front in
+    let at = 4 * c.loop-index.index + c.place_in-place.result in
+    ap (λ (ns : List ℕ). slice_index_or ns at 0) (c.split_at.ensures.back ∙ split.back)
+    ∙ get_or_append_left (targets_of s.edges) split.more 0 at
+    (place-within s.edges c.split_at.result.0.now front c.args.class c.loop-index.index c.place_in-place.result
+    split.small c.loop-index-test.true c.place_in-place.ensures c.if-place-lt-CLASSES_A_WORD.true)
+    ∙ sym (c.loop-index.invariant classes s h are
+    ∙ place-found s.edges c.split_at.result.0.now front c.args.class c.loop-index.index c.place_in-place.result
+    split.small c.loop-index-test.true c.place_in-place.ensures c.if-place-lt-CLASSES_A_WORD.true)
+
+-- a class that isn't in a word is looked for in the next one
+pub loop-index-preserved : goal.loop-index-preserved
+loop-index-preserved c = λ classes s h are.
+    let split = splits-at c.args.self.words.now classes s c.args.transitions c.div_ceil.result h are c.div_ceil.ensures in
+    c.loop-index.invariant classes s h are
+    ∙ place-missed s.edges c.split_at.result.0.now (c.split_at.ensures.front ∙ split.front) c.args.class
+    c.loop-index.index c.place_in-place.result split.small c.loop-index-test.true c.place_in-place.ensures
+    c.if-place-lt-CLASSES_A_WORD.false
+
+-- one that is in no word has no transition
+pub returns : goal.returns
+returns c = λ classes s h are.
+    let split = splits-at c.args.self.words.now classes s c.args.transitions c.div_ceil.result h are c.div_ceil.ensures in
+    sym (c.loop-index.invariant classes s h are
+    ∙ none-left s.edges c.split_at.result.0.now (c.split_at.ensures.front ∙ split.front) c.args.class
+    c.loop-index.index c.loop-index-test.false)
