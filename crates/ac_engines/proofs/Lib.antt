@@ -24,3 +24,4 @@ pub mod SettingTargets
 pub mod Spellings
 pub mod Starts
 pub mod StateRows
+pub mod Vectors

@@ -96,7 +96,7 @@ pub returns-then-is_anchored-clause-steps : goal.returns-then-is_anchored-clause
 returns-then-is_anchored-clause-steps c = λ p b u same byte class h.
     let d = (goal.at.returns-then-is_anchored-clause-steps c).After-target-next in
     let fail : c.target-next.result ≡ FAIL = c.if-next-ne-FAIL.false in
-    let is-yes : c.args.anchored ≡ Yes = c.if-is_anchored.ensures in
+    let is-yes : c.args.anchored ≡ Yes = c.if-is_anchored.ensures.0 tt in
     let e = at-dead d p b u same byte class h fail is-yes in
     subst (λ (s : ℕ). StandsAt p c.args.anchored s (step_of p.built c.args.anchored u b))
     (sym c.must-then-is_anchored.ensures.value) e.steps
@@ -105,7 +105,7 @@ pub returns-then-is_anchored-clause-looks : goal.returns-then-is_anchored-clause
 returns-then-is_anchored-clause-looks c = λ p b u same byte class h.
     let d = (goal.at.returns-then-is_anchored-clause-looks c).After-target-next in
     let fail : c.target-next.result ≡ FAIL = c.if-next-ne-FAIL.false in
-    let is-yes : c.args.anchored ≡ Yes = c.if-is_anchored.ensures in
+    let is-yes : c.args.anchored ≡ Yes = c.if-is_anchored.ensures.0 tt in
     (at-dead d p b u same byte class h fail is-yes).looks
 
 pub fail-at-requires : goal.fail-at-requires
@@ -136,7 +136,7 @@ loop-state-preserved c = λ p b u same byte class h.
     let d = (goal.at.loop-state-preserved c).After-target-next in
     let o = here d p b u same byte class h in
     let fail : c.target-next.result ≡ FAIL = c.if-next-ne-FAIL.false in
-    let is-no = not-yes c.args.anchored c.if-is_anchored.ensures in
+    let is-no = not-yes c.args.anchored (λ is-yes. c.if-is_anchored.ensures.1 is-yes) in
     let failure =
     c.fail-at.ensures (form_at p o.stands.at o.node) (alphabet_len p.classes) (spelling_at p o.stands.at c.args.anchored o.node)
     (begins d p b u same byte class h) in

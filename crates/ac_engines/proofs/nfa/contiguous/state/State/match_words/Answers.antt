@@ -1,7 +1,6 @@
-use Rattle.std.proofs.Common.{◌≡◌, ◌≢◌, ◌%◌, ◌∙◌, List, ℕ, ap, sym, subst, arith}
+use Rattle.std.proofs.Common.{◌∙◌, List, ℕ, ap, sym, arith}
 use Rattle.std.specs.Prelude.{slice_index_or}
-use Rattle.std.specs.Int.{div_ceil}
-use Rattle.ac_engines.proofs.Spellings.{ListsFrom, dense-lists, has-failure, sparse-lists}
+use Rattle.ac_engines.proofs.Spellings.{dense-lists, has-failure, sparse-lists}
 use Rattle.ac_engines.proofs.nfa.contiguous.state.State.match_words.Goals as goal
 
 pub bounds-self-0 : goal.bounds-self-0

@@ -1,4 +1,4 @@
-use Rattle.std.proofs.Common.{◌≡◌, ◌≢◌, ◌%◌, ◌∙◌, List, ℕ, ap, sym, arith}
+use Rattle.std.proofs.Common.{◌∙◌, List, ℕ, ap, sym, arith}
 use Rattle.std.specs.Prelude.{slice_index_or}
 use Rattle.ac_engines.specs.Words.{target_by}
 use Rattle.ac_engines.proofs.Spellings.{has-failure, leads-at, leads-one, is-dense, is-one, is-sparse}
