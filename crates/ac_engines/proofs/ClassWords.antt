@@ -1,5 +1,5 @@
 -- Looking for a class in the class words of a sparse state.
-use Rattle.std.proofs.Common.{refl, ◌≡◌, ℕ, zero, suc, ◌+◌, ◌*◌, ◌<◌, ◌≤◌, Bool, true, false, cond, List, [], ◌∷◌, length, map, drop, ap, sym, subst, ◌∙◌, arith}
+use Rattle.std.proofs.Common.{refl, ◌≡◌, ℕ, zero, suc, ◌+◌, ◌*◌, ◌/◌, ◌<◌, ◌≤◌, Bool, true, false, cond, List, [], ◌∷◌, length, map, drop, ap, sym, subst, ◌∙◌, arith}
 use Rattle.std.specs.Prelude.{All, slice_index_or, ◌==◌}
 use Rattle.std.proofs.Math.Seq.{drop-cons, drop-nil}
 use Rattle.std.proofs.lemmas.List.{drop_all, drop-drop, drop-map, get_or-drop, length-drop, length-map}
@@ -175,15 +175,13 @@ module _ (class : ℕ) where
       (sym (drop-class_words es index) ∙ drop-cons (class_words (classes_of es)) index 0 within)
 
 -- there are as many class words as it takes to hold the classes
-pub length-class_words : (classes : List ℕ)
-    → (length classes ≤ 4 * length (class_words classes)) × (4 * length (class_words classes) < length classes + 4)
+pub length-class_words : (classes : List ℕ) → length (class_words classes) ≡ (length classes + 3) / 4
 unfolding class_words
-length-class_words [] = (omega arith, omega arith)
-length-class_words (a ∷ []) = (omega arith, omega arith)
-length-class_words (a ∷ b ∷ []) = (omega arith, omega arith)
-length-class_words (a ∷ b ∷ c ∷ []) = (omega arith, omega arith)
-length-class_words (a ∷ b ∷ c ∷ d ∷ classes) =
-    let shorter = length-class_words classes in (omega (arith, shorter.0), omega (arith, shorter.1))
+length-class_words [] = refl
+length-class_words (a ∷ []) = refl
+length-class_words (a ∷ b ∷ []) = refl
+length-class_words (a ∷ b ∷ c ∷ []) = refl
+length-class_words (a ∷ b ∷ c ∷ d ∷ classes) = let more = length-class_words classes in omega arith
 
 module _ (es : List Edge) (front : List ℕ) (is : front ≡ class_words (classes_of es)) (class index : ℕ) where
   -- behind the last class word there are no transitions
@@ -193,7 +191,7 @@ module _ (es : List Edge) (front : List ℕ) (is : front ≡ class_words (classe
       let enough = length-class_words (classes_of es) in
       let same = length-map es (λ e. e.class) in
       let counts = ap (λ (ns : List ℕ). length ns) is in
-      rw (drop_all (4 * index) es (omega (arith, enough.0, same, counts, past))) refl
+      rw (drop_all (4 * index) es (omega (arith, enough, same, counts, past))) refl
 
   module _ (place : ℕ) (small : All (λ e. e.class < 256) es) (within : index < length front)
       (seen : (a b c d : ℕ) → a < 256 → b < 256 → c < 256 → d < 256

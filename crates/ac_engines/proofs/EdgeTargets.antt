@@ -1,9 +1,8 @@
 -- Where a state's transitions lead by the class of a byte.
 use Rattle.std.proofs.Common.{◌≡◌, ◌≢◌, inl, inr, ℕ, ◌<◌, Bool, true, false, List, [], ◌∷◌, ◌++◌, map, refl, ap, sym, ◌∙◌, Some}
-use Rattle.std.specs.Prelude.{Contains, ◌==◌, nat_eq}
+use Rattle.std.specs.Prelude.{Contains, ◌==◌}
 use Rattle.std.proofs.lemmas.Bool.{false≢true, eqb-true, eq-eqb, cond-true, cond-false}
-use Rattle.ac_util.specs.Built.{Built}
-use Rattle.ac_util.specs.Classes.{SetsApart, class_at, stands_in}
+use Rattle.ac_util.specs.Classes.{SetsApart, class_at}
 use Rattle.ac_util.specs.Sameness.{plain_byte}
 use Rattle.ac_util.proofs.ClassLemmas.{stands-from_node}
 use Rattle.ac_util.proofs.Lists.{Contains-from_IsIn, IsIn, IsIn-from_Contains}

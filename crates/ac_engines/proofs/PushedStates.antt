@@ -1,5 +1,5 @@
 -- How many words a state takes, and where its words begin.
-use Rattle.std.proofs.Common.{◌≡◌, ℕ, ◌+◌, ◌/◌, ◌<◌, ◌≤◌, List, [], ◌∷◌, ◌++◌, length, map, drop, refl, sym, ap, ◌∙◌, arith}
+use Rattle.std.proofs.Common.{◌≡◌, ℕ, ◌<◌, ◌≤◌, List, [], ◌∷◌, ◌++◌, length, map, drop, refl, sym, ap, ◌∙◌, arith}
 use Rattle.std.specs.Prelude.{slice_index_or}
 use Rattle.std.specs.List.{All, range_with_len}
 use Rattle.std.specs.List.Sorted.{IsStrictlyIncreasing}
@@ -11,20 +11,12 @@ use Rattle.ac_engines.specs.declared.nfa.contiguous.state.Edge.{Edge}
 use Rattle.ac_engines.specs.declared.nfa.contiguous.state.TheConstants.{ONE_MATCH}
 use Rattle.ac_engines.specs.Formats.{match_words, words_of_state}
 use Rattle.ac_engines.specs.Words.{BeginsWith, Fits, Spelling, class_words, match_spelling, one_spelling, spelled, target_by}
+use Rattle.ac_engines.proofs.ClassWords.{length-class_words}
 
 -- two words stand before what is pushed behind them
 pub two-pushed : (words behind : List ℕ) (a b : ℕ) → words ++ a ∷ [] ++ b ∷ [] ++ behind ≡ words ++ a ∷ b ∷ behind
 two-pushed words behind a b =
     append_assoc (words ++ a ∷ []) (b ∷ []) behind ∙ append_assoc words (a ∷ []) (b ∷ behind)
-
--- how many words the classes take
-pub length-class_words : (classes : List ℕ) → length (class_words classes) ≡ (length classes + 3) / 4
-unfolding class_words
-length-class_words [] = refl
-length-class_words (a ∷ []) = refl
-length-class_words (a ∷ b ∷ []) = refl
-length-class_words (a ∷ b ∷ c ∷ []) = refl
-length-class_words (a ∷ b ∷ c ∷ d ∷ classes) = let more = length-class_words classes in omega arith
 
 -- how many words the matches take
 pub length-match_spelling : (matches : List ℕ) → length (match_spelling matches) ≡ match_words (length matches)

@@ -22,7 +22,7 @@ counted es transitions are =
     let enough = length-class_words (classes_of es) in
     let times = div_ceil_times transitions 4 (omega arith) in
     let same = length-map es (λ e. e.class) in
-    omega (arith, enough.0, enough.1, times.0, times.1, same, are)
+    omega (arith, enough, times.0, times.1, same, are)
 
 module _ (words : List ℕ) (classes : ℕ) (s : Spelling) where
   -- the words of a sparse state, one part behind the other

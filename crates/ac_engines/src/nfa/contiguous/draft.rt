@@ -4,14 +4,11 @@ ghost use Rattle.std.specs.List.{All, range_with_len};
 ghost use Rattle.std.specs.List.Sorted.{IsStrictlyIncreasing};
 ghost use Rattle.ac_engines.specs.Words.{Fits, HasTargets, class_words, match_spelling, one_spelling, spelled, target_by};
 
-use super::format::{Format, MOST_SPARSE};
+use super::format::{CLASSES_A_WORD, Format, MOST_SPARSE};
 use super::state::{DENSE, Edge, ONE, ONE_MATCH};
 use ac_util::primitives::PatternID;
 use std::alloc::{AllocError, Allocator};
 use std::marker::Model;
-
-/// How many classes stand in a word.
-const CLASSES_A_WORD: usize = 4;
 
 /// What is to be spelled in a state's words.
 #[derive(Drop)]

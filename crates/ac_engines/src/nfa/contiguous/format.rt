@@ -10,11 +10,11 @@ use ac_util::primitives::StateID;
 /// The most transitions of a state that is not dense.
 pub const MOST_SPARSE: usize = 127;
 
-/// How many words each state begins with: its form, and its failure target.
-const HEAD: u64 = 2;
+/// How many words stand before a state's transitions: its form, and its failure target.
+pub(super) const HEAD: usize = 2;
 
 /// How many classes stand in one word.
-const CLASSES_A_WORD: u64 = 4;
+pub(super) const CLASSES_A_WORD: usize = 4;
 
 /// In which form a state is packed.
 #[derive(Clone, Copy, PartialEq, Eq, Debug)]
@@ -30,7 +30,7 @@ pub enum Format {
 /// Returns the form of a state other than the dead one and the starts, which are dense. Its depth is the length of its
 /// string.
 ///
-/// A state above `dense_depth` is dense, and so is one with more than 127 transitions.
+/// A state of a depth below `dense_depth` is dense, and so is one with more than 127 transitions.
 pub fn format_of(depth: usize, dense_depth: usize, transitions: usize, matches: usize) -> Format
     ensures { result ≡ format_of depth dense_depth transitions matches }
 {
@@ -56,9 +56,11 @@ pub fn state_words(format: Format, classes: u64, transitions: u64, matches: u64)
         several => several + 1,
     };
     match format {
-        Format::Dense => HEAD + classes + listed,
-        Format::One => HEAD + 1,
-        Format::Sparse => HEAD + transitions.div_ceil(CLASSES_A_WORD) + transitions + listed,
+        Format::Dense => HEAD as u64 + classes + listed,
+        Format::One => HEAD as u64 + 1,
+        Format::Sparse => {
+            HEAD as u64 + transitions.div_ceil(CLASSES_A_WORD as u64) + transitions + listed
+        }
     }
 }
 

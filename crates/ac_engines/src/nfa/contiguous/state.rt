@@ -3,6 +3,8 @@ ghost use Rattle.std.specs.Prelude.{◌≡◌, ◌≢◌, ℕ, ◌+◌, ◌<◌,
 ghost use Rattle.ac_engines.specs.declared.nfa.contiguous.format.Format.{Format};
 ghost use Rattle.ac_engines.specs.Words.{BeginsWith, Spelling, first_of, match_spelling, target_by, word_of};
 
+use super::format::{CLASSES_A_WORD, HEAD};
+
 /// The low byte of a dense state's first word.
 pub const DENSE: u8 = 0xFF;
 
@@ -21,12 +23,6 @@ pub struct Edge {
     pub(super) class: u8,
     pub(super) target: u32,
 }
-
-/// How many words stand before a state's transitions: its form, and its failure target.
-const HEAD: usize = 2;
-
-/// How many classes stand in a word.
-const CLASSES_A_WORD: usize = 4;
 
 /// A state in the words of an automaton, from its first word on.
 #[derive(Clone, Copy)]

@@ -1,4 +1,5 @@
-use Rattle.std.proofs.Common.{◌≡◌, ◌≢◌, ℕ, ◌<◌, ◌≤◌, List, drop, length, refl, ap, sym, subst, ◌∙◌, arith}
+use Rattle.std.proofs.Common.{◌≡◌, ◌≢◌, ℕ, ◌<◌, List, length, refl, ap, sym, subst, ◌∙◌, arith}
+use Rattle.std.proofs.lemmas.Bool.{false≢true}
 use Rattle.ac_util.specs.declared.search.Anchored.{Anchored}
 use Rattle.ac_util.specs.declared.search.Anchored.TheVariants.{No, Yes}
 use Rattle.ac_util.specs.Classes.{alphabet_len, class_at}
@@ -35,11 +36,14 @@ below p anchored s b class u h byte is = let small = class_at-below p.classes h.
 pub target-next-requires : goal.target-next-requires
 target-next-requires c =
     let r = c.requires.state in
-    let o = c.loop-state.invariant r.0 r.1 r.2 r.3 r.4 r.5 r.6 in
-    (form_at r.0 o.stands.at o.node, alphabet_len r.0.classes, spelling_at r.0 o.stands.at c.args.anchored o.node,
-    begins-at r.0 c.args.anchored c.loop-state.at o.node o.stands c.args.words.now c.at-state.result.words.now r.3
-    c.at-state.ensures,
-    below r.0 c.args.anchored c.args.from r.1 c.args.class r.2 r.6 r.4 r.5)
+    let o = c.loop-state.invariant r.0 r.1 r.2 r.3 r.4 r.5 r.6 in (
+      form_at r.0 o.stands.at o.node,
+      alphabet_len r.0.classes,
+      spelling_at r.0 o.stands.at c.args.anchored o.node,
+      begins-at r.0 c.args.anchored c.loop-state.at o.node o.stands c.args.words.now c.at-state.result.words.now r.3
+          c.at-state.ensures,
+      below r.0 c.args.anchored c.args.from r.1 c.args.class r.2 r.6 r.4 r.5,
+    )
 
 module _ (c : After-target-next) (p : Packed) (b : ℕ) (u : Node) (same : p.words ≡ c.args.words.now) (byte : b < 256)
     (class : c.args.class ≡ class_at p.classes b) (h : StandsAt p c.args.anchored c.args.from u) where
@@ -96,7 +100,7 @@ pub returns-then-is_anchored-clause-steps : goal.returns-then-is_anchored-clause
 returns-then-is_anchored-clause-steps c = λ p b u same byte class h.
     let d = (goal.at.returns-then-is_anchored-clause-steps c).After-target-next in
     let fail : c.target-next.result ≡ FAIL = c.if-next-ne-FAIL.false in
-    let is-yes : c.args.anchored ≡ Yes = c.if-is_anchored.ensures.0 tt in
+    let is-yes : c.args.anchored ≡ Yes = c.if-is_anchored.ensures.0 refl in
     let e = at-dead d p b u same byte class h fail is-yes in
     subst (λ (s : ℕ). StandsAt p c.args.anchored s (step_of p.built c.args.anchored u b))
     (sym c.must-then-is_anchored.ensures.value) e.steps
@@ -105,16 +109,19 @@ pub returns-then-is_anchored-clause-looks : goal.returns-then-is_anchored-clause
 returns-then-is_anchored-clause-looks c = λ p b u same byte class h.
     let d = (goal.at.returns-then-is_anchored-clause-looks c).After-target-next in
     let fail : c.target-next.result ≡ FAIL = c.if-next-ne-FAIL.false in
-    let is-yes : c.args.anchored ≡ Yes = c.if-is_anchored.ensures.0 tt in
+    let is-yes : c.args.anchored ≡ Yes = c.if-is_anchored.ensures.0 refl in
     (at-dead d p b u same byte class h fail is-yes).looks
 
 pub fail-at-requires : goal.fail-at-requires
 fail-at-requires c =
     let r = c.requires.state in
     let d = (goal.at.fail-at-requires c).After-target-next in
-    let o = here d r.0 r.1 r.2 r.3 r.4 r.5 r.6 in
-    (form_at r.0 o.stands.at o.node, alphabet_len r.0.classes, spelling_at r.0 o.stands.at c.args.anchored o.node,
-    begins d r.0 r.1 r.2 r.3 r.4 r.5 r.6)
+    let o = here d r.0 r.1 r.2 r.3 r.4 r.5 r.6 in (
+      form_at r.0 o.stands.at o.node,
+      alphabet_len r.0.classes,
+      spelling_at r.0 o.stands.at c.args.anchored o.node,
+      begins d r.0 r.1 r.2 r.3 r.4 r.5 r.6,
+    )
 
 pub loop-state-smaller : goal.loop-state-smaller
 loop-state-smaller c =
@@ -136,7 +143,7 @@ loop-state-preserved c = λ p b u same byte class h.
     let d = (goal.at.loop-state-preserved c).After-target-next in
     let o = here d p b u same byte class h in
     let fail : c.target-next.result ≡ FAIL = c.if-next-ne-FAIL.false in
-    let is-no = not-yes c.args.anchored (λ is-yes. c.if-is_anchored.ensures.1 is-yes) in
+    let is-no = not-yes c.args.anchored (λ is-yes. false≢true (c.if-is_anchored.ensures.1 is-yes)) in
     let failure =
     c.fail-at.ensures (form_at p o.stands.at o.node) (alphabet_len p.classes) (spelling_at p o.stands.at c.args.anchored o.node)
     (begins d p b u same byte class h) in
