@@ -76,7 +76,7 @@ module _ (p : Packed) (at : Places) where
   HasState s format spelling = BeginsWith (drop s p.words) format (alphabet_len p.classes) spelling
 
   -- the words stand for the nodes: those of the dead node come first, and every class leads from it to itself. Each
-  -- other node has words of its own
+  -- other node has a state, behind FAIL, and no string but the empty one has the number of a start
   pub record IsPacked : Type 0 where
     pub classes : AreClasses p.classes
     pub apart : SetsApart p.built.fold p.built.patterns p.classes

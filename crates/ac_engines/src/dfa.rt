@@ -279,7 +279,8 @@ fn target(entries: &[StateID], class: usize, sid: StateID) -> StateID
 /// the range ends before it starts, nothing is promised.
 #[inline]
 fn lies_in(range: Range<usize>, number: usize) -> bool
-    ensures { range.start ≤ number → number < range.end → IsTrue result }
+    ensures finds { range.start ≤ number → number < range.end → IsTrue result }
+    ensures only { range.start ≤ range.end → IsTrue result → (range.start ≤ number) × (number < range.end) }
 {
     number.wrapping_sub(range.start) < range.end.wrapping_sub(range.start)
 }

@@ -123,7 +123,8 @@ impl AhoCorasickBuilder {
     /// Sets whether bytes that need not be told apart share a class, so that a table takes less memory. They do unless
     /// set.
     ///
-    /// It changes no answer, and nothing of an engine without classes.
+    /// It changes no answer of a search. Where no engine was named, a table may be too large without classes, and then
+    /// another engine serves.
     pub fn byte_classes(&mut self, yes: bool) -> &mut AhoCorasickBuilder
         ensures value { result.now ≡ record self.old { byte_classes = yes } }
         ensures same { result.ghost_name ≡ self.entry.ghost_name }
