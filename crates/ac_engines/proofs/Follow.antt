@@ -11,10 +11,12 @@ use Rattle.ac_automaton.specs.Automata.{looks_of, plain_of, step_of}
 use Rattle.ac_automaton.specs.Tries.{miss}
 use Rattle.ac_automaton.proofs.Follows.{more_looks-none, more_looks-twice}
 use Rattle.ac_engines.specs.declared.nfa.contiguous.state.TheConstants.{FAIL}
-use Rattle.ac_engines.specs.Packing.{Packed, StandsAt, number_at}
+use Rattle.ac_engines.specs.Packing.{Packed, StandsAt, number_at, spelling_at}
+use Rattle.ac_engines.specs.Sizes.{node_format}
 use Rattle.ac_engines.specs.Words.{BeginsWith}
+use Rattle.ac_engines.proofs.NodeLengths.{node-length}
 use Rattle.ac_engines.proofs.Numbers.{step-node}
-use Rattle.ac_engines.proofs.PackedSteps.{form_at, has-state, reads, spelling_at, target_of}
+use Rattle.ac_engines.proofs.PackedSteps.{reads, target_of}
 
 -- a step from any node leads to one
 step-to-node : (p : Packed) (anchored : Anchored) (u : Node) (b : ℕ)
@@ -26,17 +28,17 @@ step-to-node p anchored (Some w) b =
 
 -- the state of a number's node stands there
 stands-begin : (p : Packed) (anchored : Anchored) (s : ℕ) (u : Node) (h : StandsAt p anchored s u)
-    → BeginsWith (drop s p.words) (form_at p h.at u) (alphabet_len p.classes) (spelling_at p h.at anchored u)
+    → BeginsWith (drop s p.words) (node_format p.built p.dense_depth u) (alphabet_len p.classes) (spelling_at p h.at anchored u)
 stands-begin p anchored s u h =
-    subst (λ (n : ℕ). BeginsWith (drop n p.words) (form_at p h.at u) (alphabet_len p.classes) (spelling_at p h.at anchored u))
-    (sym h.number) (has-state p h.at h.packed anchored u h.node)
+    subst (λ (n : ℕ). BeginsWith (drop n p.words) (node_format p.built p.dense_depth u) (alphabet_len p.classes) (spelling_at p h.at anchored u))
+    (sym h.number) (h.packed.states anchored u h.node)
 
 -- and so do the words that were read there
 pub begins-at : (p : Packed) (anchored : Anchored) (s : ℕ) (u : Node) (h : StandsAt p anchored s u)
     (words there : List ℕ) → p.words ≡ words → there ≡ drop s words
-    → BeginsWith there (form_at p h.at u) (alphabet_len p.classes) (spelling_at p h.at anchored u)
+    → BeginsWith there (node_format p.built p.dense_depth u) (alphabet_len p.classes) (spelling_at p h.at anchored u)
 begins-at p anchored s u h words there same is =
-    subst (λ (ws : List ℕ). BeginsWith ws (form_at p h.at u) (alphabet_len p.classes) (spelling_at p h.at anchored u))
+    subst (λ (ws : List ℕ). BeginsWith ws (node_format p.built p.dense_depth u) (alphabet_len p.classes) (spelling_at p h.at anchored u))
     (ap (drop s) same ∙ sym is) (stands-begin p anchored s u h)
 
 -- its number is in the words, and small
@@ -57,7 +59,7 @@ pub record Onward (p : Packed) (anchored : Anchored) (b : ℕ) (u : Node) (old n
   pub steps : step_of p.built anchored u b ≡ step_of p.built anchored node b
   pub taken : ℕ
   pub looks : looks_of 2 p.built anchored u b ≡ taken + looks_of 2 p.built anchored node b
-  pub short : depth node + taken ≤ GREATEST
+  pub short : depth node + taken < 18446744073709551616
   pub counted : now ≡ more_looks taken old
 
 -- at its end it is where the byte leads, and has counted all looks
@@ -78,9 +80,12 @@ module _ (p : Packed) (anchored : Anchored) (b : ℕ) (u : Node) (old : Counts) 
     counted = more_looks-none old;
   }
     where
-      short : (v : Node) → StandsAt p anchored s v → depth v + 0 ≤ GREATEST
+      short : (v : Node) → StandsAt p anchored s v → depth v + 0 < 18446744073709551616
       short None stands = omega arith
-      short (Some w) stands = let few = stands.packed.short w stands.node in omega arith
+      short (Some w) stands =
+          let few = stands.packed.short in
+          let long = node-length p.built.kind p.built.fold p.built.patterns w stands.node in
+          omega arith
 
   module _ (now new : Counts) (s : ℕ) (o : Onward p anchored b u old now s) (more : new ≡ more_looks 1 now) where
     -- with one look more the walk has counted all

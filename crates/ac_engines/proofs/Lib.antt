@@ -7,7 +7,9 @@ pub mod LaidOut
 pub mod LaidUpTo
 pub mod Laying
 pub mod Listing
+pub mod MatchCounts
 pub mod MatchWords
+pub mod NodeLengths
 pub mod Numbered
 pub mod Numbers
 pub mod OneRow

@@ -12,24 +12,11 @@ use Rattle.ac_automaton.specs.Automata.{plain_of, looks_of, step_of}
 use Rattle.ac_automaton.specs.Readers.{leads_on}
 use Rattle.ac_automaton.specs.Tries.{miss}
 use Rattle.ac_automaton.proofs.Steps.{looks-on, looks-own_target, looks-short, step-miss, step-on, step-own_target}
-use Rattle.ac_engines.specs.declared.nfa.contiguous.format.Format.{Format}
-use Rattle.ac_engines.specs.declared.nfa.contiguous.format.Format.TheVariants.{Dense}
 use Rattle.ac_engines.specs.declared.nfa.contiguous.state.TheConstants.{FAIL}
-use Rattle.ac_engines.specs.Packing.{IsPacked, HasState, Packed, Places, format_at, number_at, spelling_of, start_spelling}
+use Rattle.ac_engines.specs.Packing.{IsPacked, Packed, Places, number_at, spelling_at, spelling_of, start_spelling}
 use Rattle.ac_engines.specs.Words.{Spelling, target_by}
 use Rattle.ac_engines.proofs.EdgeTargets.{no-target, own-target}
 use Rattle.ac_engines.proofs.Numbers.{failure-node}
-
--- what the words of a node spell, and in which form
-abbrev pub spelling_at : Packed → Places → Anchored → Node → Spelling
-spelling_at p at anchored None = record { failure = 0; missing = 0; edges = []; matches = [] }
-spelling_at p at anchored (Some []) = start_spelling p at anchored
-spelling_at p at anchored (Some (x ∷ w)) = spelling_of p at (x ∷ w)
-
-abbrev pub form_at : Packed → Places → Node → Format
-form_at p at None = Dense
-form_at p at (Some []) = Dense
-form_at p at (Some (x ∷ w)) = format_at p at (x ∷ w)
 
 -- where a class leads from a node, or FAIL
 abbrev pub target_of : Packed → Places → Anchored → Node → ℕ → ℕ
@@ -37,15 +24,6 @@ target_of p at anchored v b =
     target_by (spelling_at p at anchored v).missing (spelling_at p at anchored v).edges (class_at p.classes b)
 
 module _ (p : Packed) (at : Places) (h : IsPacked p at) where
-  -- the words of a node stand at its number
-  pub has-state : (anchored : Anchored) (v : Node) → IsNode p.built.kind (plain_of p.built) v
-      → HasState p at (number_at at anchored v) (form_at p at v) (spelling_at p at anchored v)
-  has-state anchored None node = h.dead
-  has-state No (Some []) node = h.starts No
-  has-state Yes (Some []) node = h.starts Yes
-  has-state No (Some (x ∷ w)) node = h.inner (x ∷ w) node (λ e. absurd cc)
-  has-state Yes (Some (x ∷ w)) node = h.inner (x ∷ w) node (λ e. absurd cc)
-
   -- a byte leads there in any search where it leads in an anchored one
   abbrev own : Node → ℕ → Node
   own v b = step p.built.kind (plain_of p.built) Yes v (plain_byte p.built.fold b)

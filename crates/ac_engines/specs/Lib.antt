@@ -3,6 +3,9 @@ pub mod Builds
 pub mod Filling
 pub mod Formats
 pub mod Layouts
+pub mod PackedPlaces
 pub mod Packing
+pub mod Packs
 pub mod Rows
+pub mod Sizes
 pub mod Words

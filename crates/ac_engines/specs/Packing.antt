@@ -7,23 +7,24 @@ use Rattle.ac_util.specs.Built.{Built}
 use Rattle.ac_util.specs.Classes.{AreClasses, IsNode, SetsApart, alphabet_len, class_at}
 use Rattle.ac_util.specs.Node.{Node}
 use Rattle.ac_util.specs.Sameness.{plain_byte}
+use Rattle.ac_util.specs.Sizes.{longest_len}
 use Rattle.ac_automaton.specs.Automata.{matches_of, plain_of}
 use Rattle.ac_automaton.specs.Readers.{own_bytes}
 use Rattle.ac_automaton.specs.Tries.{miss}
-use Rattle.ac_engines.specs.declared.nfa.contiguous.format.Format.{Format}
-use Rattle.ac_engines.specs.declared.nfa.contiguous.format.Format.TheVariants.{Dense}
 use Rattle.ac_engines.specs.declared.nfa.contiguous.state.Edge.{Edge}
 use Rattle.ac_engines.specs.declared.nfa.contiguous.state.TheConstants.{FAIL}
-use Rattle.ac_engines.specs.Formats.{format_of}
+use Rattle.ac_engines.specs.Sizes.{node_format}
 use Rattle.ac_engines.specs.Words.{BeginsWith, Spelling}
 
--- what the words were built from, below which length states are dense, the class of each byte, the words, and from
--- which number on no state has matches
+-- what the words were built from, below which length states are dense, the class of each byte, the words, the numbers
+-- of the starts, and from which number on no state has matches
 pub record Packed : Type 0 where
   pub built : Built
   pub dense_depth : ℕ
   pub classes : List ℕ
   pub words : List ℕ
+  pub start : ℕ
+  pub anchored_start : ℕ
   pub match_end : ℕ
 
 -- where states begin: that of each string, and the anchored start
@@ -65,27 +66,24 @@ module _ (p : Packed) (at : Places) where
   }
   start_spelling Yes = record (spelling_of []) { failure = 0 }
 
-  -- in which form
-  abbrev pub format_at : List ℕ → Format
-  format_at w =
-      format_of (length w) p.dense_depth (length (own_bytes p.built (Some w)))
-      (length (matches_of p.built No (Some w)))
+  -- what the state of a node spells: from the dead one every class leads to itself
+  abbrev pub spelling_at : Anchored → Node → Spelling
+  spelling_at anchored None = record { failure = 0; missing = 0; edges = []; matches = [] }
+  spelling_at anchored (Some []) = start_spelling anchored
+  spelling_at anchored (Some (x ∷ w)) = spelling_of (x ∷ w)
 
-  -- at a place the words begin with those of a state
-  abbrev pub HasState : ℕ → Format → Spelling → Type 0
-  HasState s format spelling = BeginsWith (drop s p.words) format (alphabet_len p.classes) spelling
-
-  -- the words stand for the nodes: those of the dead node come first, and every class leads from it to itself. Each
-  -- other node has a state, behind FAIL, and no string but the empty one has the number of a start
+  -- the words stand for the nodes: each has a state, behind FAIL but for the dead one, whose number is 0, and no string
+  -- but the empty one has the number of a start
   pub record IsPacked : Type 0 where
     pub classes : AreClasses p.classes
     pub apart : SetsApart p.built.fold p.built.patterns p.classes
     pub small : length p.words ≤ GREATEST
-    pub short : (w : List ℕ) → IsNode p.built.kind (plain_of p.built) (Some w) → length w ≤ GREATEST
-    pub dead : HasState 0 Dense (record { failure = 0; missing = 0; edges = []; matches = [] })
-    pub starts : (anchored : Anchored) → HasState (number_at at anchored (Some [])) Dense (start_spelling anchored)
-    pub inner : (w : List ℕ) → IsNode p.built.kind (plain_of p.built) (Some w) → w ≢ []
-        → HasState (at.place w) (format_at w) (spelling_of w)
+    pub short : longest_len p.built.patterns < 18446744073709551616
+    pub start : at.place [] ≡ p.start
+    pub anchored_start : at.anchored_start ≡ p.anchored_start
+    pub states : (anchored : Anchored) (u : Node) → IsNode p.built.kind (plain_of p.built) u
+        → BeginsWith (drop (number_at at anchored u) p.words) (node_format p.built p.dense_depth u)
+        (alphabet_len p.classes) (spelling_at anchored u)
     pub within : (anchored : Anchored) (w : List ℕ) → IsNode p.built.kind (plain_of p.built) (Some w)
         → number_at at anchored (Some w) < length p.words
     pub behind : (anchored : Anchored) (w : List ℕ) → IsNode p.built.kind (plain_of p.built) (Some w)

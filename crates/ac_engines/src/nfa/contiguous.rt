@@ -2,6 +2,8 @@
 
 mod draft;
 mod format;
+mod pack;
+mod plan;
 mod state;
 mod step;
 

@@ -8,10 +8,11 @@ use Rattle.ac_util.specs.Node.{Node}
 use Rattle.ac_automaton.specs.Automata.{step_of}
 use Rattle.ac_util.proofs.ClassLists.{class_at-below}
 use Rattle.ac_engines.specs.declared.nfa.contiguous.state.TheConstants.{FAIL}
-use Rattle.ac_engines.specs.Packing.{Packed, StandsAt}
+use Rattle.ac_engines.specs.Packing.{Packed, StandsAt, spelling_at}
+use Rattle.ac_engines.specs.Sizes.{node_format}
 use Rattle.ac_engines.specs.Words.{BeginsWith, target_by}
 use Rattle.ac_engines.proofs.Follow.{Ended, Onward, onward-start, ends-anchored, ends-target, begins-at, goes-on, stands-small, stands-within}
-use Rattle.ac_engines.proofs.PackedSteps.{form_at, spelling_at, target_of}
+use Rattle.ac_engines.proofs.PackedSteps.{target_of}
 use Rattle.ac_engines.proofs.nfa.contiguous.step.follow.Goals as goal
 use Rattle.ac_engines.proofs.nfa.contiguous.step.follow.Goals.{After-target-next}
 
@@ -37,7 +38,7 @@ pub target-next-requires : goal.target-next-requires
 target-next-requires c =
     let r = c.requires.state in
     let o = c.loop-state.invariant r.0 r.1 r.2 r.3 r.4 r.5 r.6 in (
-      form_at r.0 o.stands.at o.node,
+      node_format r.0.built r.0.dense_depth o.node,
       alphabet_len r.0.classes,
       spelling_at r.0 o.stands.at c.args.anchored o.node,
       begins-at r.0 c.args.anchored c.loop-state.at o.node o.stands c.args.words.now c.at-state.result.words.now r.3
@@ -51,7 +52,7 @@ module _ (c : After-target-next) (p : Packed) (b : ℕ) (u : Node) (same : p.wor
   here = c.loop-state.invariant p b u same byte class h
 
   -- the words that were read are those of the walk's state
-  abbrev begins : BeginsWith c.at-state.result.words.now (form_at p here.stands.at here.node) (alphabet_len p.classes)
+  abbrev begins : BeginsWith c.at-state.result.words.now (node_format p.built p.dense_depth here.node) (alphabet_len p.classes)
       (spelling_at p here.stands.at c.args.anchored here.node)
   begins =
       begins-at p c.args.anchored c.loop-state.at here.node here.stands c.args.words.now c.at-state.result.words.now same
@@ -60,7 +61,7 @@ module _ (c : After-target-next) (p : Packed) (b : ℕ) (u : Node) (same : p.wor
   -- what was read is where the class leads
   target-is : c.target-next.result ≡ target_of p here.stands.at c.args.anchored here.node b
   target-is =
-      c.target-next.ensures (form_at p here.stands.at here.node) (alphabet_len p.classes)
+      c.target-next.ensures (node_format p.built p.dense_depth here.node) (alphabet_len p.classes)
       (spelling_at p here.stands.at c.args.anchored here.node) begins
       (below p c.args.anchored c.args.from b c.args.class u h byte class)
       ∙ ap (target_by (spelling_at p here.stands.at c.args.anchored here.node).missing
@@ -117,7 +118,7 @@ fail-at-requires c =
     let r = c.requires.state in
     let d = (goal.at.fail-at-requires c).After-target-next in
     let o = here d r.0 r.1 r.2 r.3 r.4 r.5 r.6 in (
-      form_at r.0 o.stands.at o.node,
+      node_format r.0.built r.0.dense_depth o.node,
       alphabet_len r.0.classes,
       spelling_at r.0 o.stands.at c.args.anchored o.node,
       begins d r.0 r.1 r.2 r.3 r.4 r.5 r.6,
@@ -145,7 +146,7 @@ loop-state-preserved c = λ p b u same byte class h.
     let fail : c.target-next.result ≡ FAIL = c.if-next-ne-FAIL.false in
     let is-no = not-yes c.args.anchored (λ is-yes. false≢true (c.if-is_anchored.ensures.1 is-yes)) in
     let failure =
-    c.fail-at.ensures (form_at p o.stands.at o.node) (alphabet_len p.classes) (spelling_at p o.stands.at c.args.anchored o.node)
+    c.fail-at.ensures (node_format p.built p.dense_depth o.node) (alphabet_len p.classes) (spelling_at p o.stands.at c.args.anchored o.node)
     (begins d p b u same byte class h) in
     goes-on p c.args.anchored b u c.args.looks.now c.loop-state.looks c.look.new.self c.loop-state.at o c.look.ensures
     c.fail-at.result byte (sym (target-is d p b u same byte class h) ∙ fail) is-no failure

@@ -1,5 +1,4 @@
 use Rattle.std.proofs.Common.{◌≡◌, ℕ, ◌<◌, ◌+◌, ◌-◌}
-use Rattle.ac_util.specs.declared.primitives.TheConstants.{GREATEST}
 use Rattle.ac_util.specs.Classes.{class_at}
 use Rattle.ac_util.specs.Node.{Node}
 use Rattle.ac_engines.specs.Packing.{Packed, StandsAt}
@@ -13,4 +12,4 @@ invariant-loop-state l =
     → StandsAt p l.anchored l.fn.from u → Onward p l.anchored b u l.fn.looks l.looks l.at
 
 abbrev pub decreases-loop-state : goal.decreases-loop-state
-decreases-loop-state l = GREATEST + 2 + l.fn.looks.looks - l.looks.looks
+decreases-loop-state l = 18446744073709551617 + l.fn.looks.looks - l.looks.looks

@@ -1,0 +1,176 @@
+//! Which form the states of a trie take, and where each is placed.
+ghost use Rattle.std.specs.Prelude.{◌≡◌, ℕ, ◌+◌, ◌≤◌, ◌∷◌, IfOk, List, Some, [], length, slice_get};
+ghost use Rattle.ac_util.specs.declared.primitives.TheConstants.{GREATEST};
+ghost use Rattle.ac_util.specs.declared.search.Anchored.TheVariants.{No};
+ghost use Rattle.ac_util.specs.Classes.{alphabet_len};
+ghost use Rattle.ac_util.specs.Node.{Node};
+ghost use Rattle.ac_automaton.specs.Automata.{matches_of};
+ghost use Rattle.ac_engines.specs.PackedPlaces.{HasPlaces, HasWords, MayPack, front_end, has_matches};
+ghost use Rattle.ac_engines.specs.Sizes.{node_format, node_words, packed_words};
+
+use super::format::{Format, format_of, state_words};
+use ac_automaton::automaton::Automaton;
+use ac_automaton::nfa::noncontiguous::{DEAD, FIRST_INNER, NFA, START};
+use ac_util::alphabet::ByteClasses;
+use ac_util::primitives::StateID;
+use std::alloc::{AllocError, Allocator};
+use std::marker::Model;
+
+/// What states are packed from: a trie, the class of each byte, and the length below which states are dense.
+#[derive(Drop)]
+pub(super) struct Plan<'a, A: Allocator> {
+    pub(super) nfa: &'a NFA<A>,
+    pub(super) classes: &'a ByteClasses,
+    pub(super) dense_depth: usize,
+}
+
+impl<'a, A: Allocator> Model for Plan<'a, A> {
+    ghost use Rattle.ac_engines.specs.PackedPlaces.{PackPlan};
+
+    ghost Value = { PackPlan };
+
+    ghost view = { λ p. record {
+      trie = p.nfa.now;
+      classes = p.classes.now;
+      dense_depth = p.dense_depth;
+    } };
+}
+
+/// How many words all states take, and up to which place those stand that have matches.
+#[derive(Drop)]
+pub(super) struct Sizes {
+    pub(super) match_end: u64,
+    pub(super) all: u64,
+}
+
+impl<'a, A: Allocator> Plan<'a, A> {
+    /// Returns whether a state has matches.
+    pub(super) fn is_match(&self, sid: StateID) -> bool
+        requires state { HasWords self.now sid }
+        ensures { (nodes : List Node) (u : Node) → MayPack self.now nodes → slice_get nodes sid ≡ Some u
+            → result ≡ has_matches self.now nodes u }
+    {
+        self.nfa.is_match(sid)
+    }
+
+    /// Returns how many matches a state has.
+    fn match_len(&self, sid: StateID) -> usize
+        requires state { HasWords self.now sid }
+        ensures value { (nodes : List Node) (u : Node) → MayPack self.now nodes → slice_get nodes sid ≡ Some u
+            → result ≡ length (matches_of self.now.trie.built No u) }
+        ensures few { result ≤ GREATEST + 1 }
+    {
+        if self.nfa.is_match(sid) {
+            self.nfa.match_len(sid)
+        } else {
+            0
+        }
+    }
+
+    /// Returns the form of a state.
+    pub(super) fn format(&self, sid: StateID) -> Format
+        requires state { HasWords self.now sid }
+        ensures { (nodes : List Node) (u : Node) → MayPack self.now nodes → slice_get nodes sid ≡ Some u
+            → result ≡ node_format self.now.trie.built self.now.dense_depth u }
+    {
+        if sid.as_usize() < FIRST_INNER {
+            return Format::Dense;
+        }
+        format_of(
+            self.nfa.depth(sid),
+            self.dense_depth,
+            self.nfa.own_len(sid),
+            self.match_len(sid),
+        )
+    }
+
+    /// Returns how many words a state takes.
+    fn words(&self, sid: StateID) -> u64
+        requires state { HasWords self.now sid }
+        ensures value { (nodes : List Node) (u : Node) → MayPack self.now nodes → slice_get nodes sid ≡ Some u
+            → result ≡ node_words self.now.trie.built self.now.dense_depth (alphabet_len self.now.classes) u }
+        ensures small { result ≤ GREATEST + 260 }
+    {
+        state_words(
+            self.format(sid),
+            self.classes.alphabet_len() as u64,
+            self.nfa.own_len(sid) as u64,
+            self.match_len(sid) as u64,
+        )
+    }
+
+    /// Returns how many words the dead state takes.
+    fn dead_words(&self) -> u64
+        ensures value { result ≡ 2 + alphabet_len self.now.classes }
+        ensures small { result ≤ GREATEST + 260 }
+    {
+        state_words(Format::Dense, self.classes.alphabet_len() as u64, 0, 0)
+    }
+
+    /// Returns how many words all states take, and up to which place those stand that have matches.
+    pub(super) fn sizes(&self) -> Sizes
+        requires may { (nodes : List Node) × MayPack self.now nodes }
+        ensures match_end { (nodes : List Node) → MayPack self.now nodes
+            → result.match_end ≡ front_end self.now nodes }
+        ensures all { result.all
+            ≡ packed_words self.now.trie.built self.now.dense_depth (alphabet_len self.now.classes) }
+        ensures ordered { result.match_end ≤ result.all }
+    {
+        let dead = self.dead_words();
+        let mut sizes = Sizes {
+            match_end: dead,
+            all: dead,
+        };
+        for state in START..self.nfa.states_len() {
+            let sid = StateID::must(state);
+            let words = self.words(sid);
+            sizes.all += words;
+            if self.is_match(sid) {
+                sizes.match_end += words;
+            }
+        }
+        sizes
+    }
+
+    /// Returns the place of each state of the trie: that of its first word. Those that have matches stand in front,
+    /// up to a place that is handed in, and the others behind them.
+    ///
+    /// # Errors
+    /// `AllocError` where a request for memory is refused.
+    pub(super) fn numbers(&self, alloc: A, match_end: u64) -> Result<Vec<StateID, A>, AllocError>
+        requires may { (nodes : List Node) × MayPack self.now nodes }
+        requires front { (nodes : List Node) → MayPack self.now nodes → match_end ≡ front_end self.now nodes }
+        requires small { packed_words self.now.trie.built self.now.dense_depth (alphabet_len self.now.classes)
+            ≤ GREATEST }
+        ensures { IfOk result (λ numbers. (nodes : List Node) → MayPack self.now nodes
+            → HasPlaces self.now nodes numbers.items) }
+    {
+        let mut numbers = first_numbers(alloc, self.nfa.states_len())?;
+        let mut front = self.dead_words();
+        let mut back = match_end;
+        for state in START..self.nfa.states_len() {
+            let sid = StateID::must(state);
+            if self.is_match(sid) {
+                numbers.push(StateID::must(front as usize))?;
+                front += self.words(sid);
+            } else {
+                numbers.push(StateID::must(back as usize))?;
+                back += self.words(sid);
+            }
+        }
+        Ok(numbers)
+    }
+}
+
+/// Returns the places of the dead state and of the one that no search reaches, with room for those of all states.
+///
+/// # Errors
+/// `AllocError` where a request for memory is refused.
+fn first_numbers<A: Allocator>(alloc: A, states: usize) -> Result<Vec<StateID, A>, AllocError>
+    ensures { IfOk result (λ numbers. numbers.items ≡ 0 ∷ 0 ∷ []) }
+{
+    let mut numbers = Vec::with_capacity(alloc, states)?;
+    numbers.push(StateID::must(DEAD))?;
+    numbers.push(StateID::must(DEAD))?;
+    Ok(numbers)
+}
