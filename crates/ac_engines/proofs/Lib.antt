@@ -14,6 +14,7 @@ pub mod Numbered
 pub mod Numbers
 pub mod OneRow
 pub mod Owning
+pub mod PackedNumbers
 pub mod PackedSteps
 pub mod Places
 pub mod PushedStates

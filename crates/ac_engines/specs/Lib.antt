@@ -3,6 +3,7 @@ pub mod Builds
 pub mod Filling
 pub mod Formats
 pub mod Layouts
+pub mod PackedBuilds
 pub mod PackedPlaces
 pub mod Packing
 pub mod Packs

@@ -1,19 +1,24 @@
 -- How the words of the contiguous engine stand for nodes.
-use Rattle.std.specs.Prelude.{◌≡◌, ◌≢◌, ℕ, ◌<◌, ◌≤◌, ◌↔◌, List, [], ◌∷◌, ◌++◌, drop, length, map, Some, None}
+use Rattle.std.specs.Prelude.{◌≡◌, ◌≢◌, ℕ, ◌<◌, ◌≤◌, ◌↔◌, ◌+◌, ◌-◌, ◌/◌, ◌%◌, ◌==◌, ◌&&◌, nat_lt, if◌then◌else◌, Bool, List, [], ◌∷◌, ◌++◌, drop, length, map, slice_index_or, take, Some, None}
 use Rattle.ac_util.specs.declared.primitives.TheConstants.{GREATEST}
 use Rattle.ac_util.specs.declared.search.Anchored.{Anchored}
 use Rattle.ac_util.specs.declared.search.Anchored.TheVariants.{No, Yes}
+use Rattle.ac_util.specs.declared.search.MatchKind.{MatchKind}
+use Rattle.ac_util.specs.declared.search.StartKind.TheVariants.{Both}
 use Rattle.ac_util.specs.Built.{Built}
 use Rattle.ac_util.specs.Classes.{AreClasses, IsNode, SetsApart, alphabet_len, class_at}
 use Rattle.ac_util.specs.Node.{Node}
 use Rattle.ac_util.specs.Sameness.{plain_byte}
 use Rattle.ac_util.specs.Sizes.{longest_len}
-use Rattle.ac_automaton.specs.Automata.{matches_of, plain_of}
+use Rattle.ac_automaton.specs.Automata.{Lists, matches_of, plain_of}
 use Rattle.ac_automaton.specs.Readers.{own_bytes}
 use Rattle.ac_automaton.specs.Tries.{miss}
 use Rattle.ac_engines.specs.declared.nfa.contiguous.state.Edge.{Edge}
-use Rattle.ac_engines.specs.declared.nfa.contiguous.state.TheConstants.{FAIL}
+use Rattle.ac_engines.specs.declared.nfa.contiguous.state.TheConstants.{DENSE, FAIL, ONE_MATCH}
+use Rattle.ac_engines.specs.Rows.{equal-first}
 use Rattle.ac_engines.specs.Sizes.{node_format}
+use Rattle.std.proofs.Common.{ap, sym, ◌∙◌}
+use Rattle.std.proofs.lemmas.List.{append-nil}
 use Rattle.ac_engines.specs.Words.{BeginsWith, Spelling}
 
 -- what the words were built from, below which length states are dense, the class of each byte, the words, the numbers
@@ -27,6 +32,18 @@ pub record Packed : Type 0 where
   pub anchored_start : ℕ
   pub match_end : ℕ
 
+-- words that were packed from these patterns
+abbrev pub packed_from : List (List ℕ) → Bool → MatchKind → ℕ → List ℕ → List ℕ → ℕ → ℕ → ℕ → Packed
+packed_from patterns fold kind dense_depth classes words start anchored_start match_end = record {
+  built = record { patterns = patterns; fold = fold; kind = kind; start_kind = Both };
+  dense_depth = dense_depth;
+  classes = classes;
+  words = words;
+  start = start;
+  anchored_start = anchored_start;
+  match_end = match_end;
+}
+
 -- where states begin: that of each string, and the anchored start
 pub record Places : Type 0 where
   pub place : List ℕ → ℕ
@@ -38,6 +55,22 @@ number_at at anchored None = 0
 number_at at Yes (Some []) = at.anchored_start
 number_at at No (Some []) = at.place []
 number_at at anchored (Some (x ∷ w)) = at.place (x ∷ w)
+
+-- matches as they are spelled: a single one stands in a word with the top bit set, several stand behind their count
+abbrev pub matches_in : List ℕ → List ℕ
+matches_in [] = []
+matches_in (first ∷ words) = if nat_lt first ONE_MATCH then take first words else (first - ONE_MATCH) ∷ []
+
+-- how many words of a state stand before its matches, by its form and where there are so many classes
+abbrev pub words_before_matches : ℕ → ℕ → ℕ
+words_before_matches form classes = if form == DENSE then 2 + classes else 2 + (form + 3) / 4 + form
+
+-- what the state at a place lists
+abbrev pub listed_at : Packed → ℕ → List ℕ
+listed_at p s =
+    if nat_lt 0 s && nat_lt s p.match_end
+    then matches_in (drop (s + words_before_matches (slice_index_or p.words s 0 % 256) (alphabet_len p.classes)) p.words)
+    else []
 
 module _ (p : Packed) (at : Places) where
   -- the transitions of a string: each byte that leads on, with the string that is longer by it
@@ -78,6 +111,7 @@ module _ (p : Packed) (at : Places) where
     pub classes : AreClasses p.classes
     pub apart : SetsApart p.built.fold p.built.patterns p.classes
     pub small : length p.words ≤ GREATEST
+    pub few : length p.built.patterns ≤ GREATEST + 1
     pub short : longest_len p.built.patterns < 18446744073709551616
     pub start : at.place [] ≡ p.start
     pub anchored_start : at.anchored_start ≡ p.anchored_start
@@ -90,8 +124,11 @@ module _ (p : Packed) (at : Places) where
         → FAIL < number_at at anchored (Some w)
     pub longer : (anchored : Anchored) (w : List ℕ) → IsNode p.built.kind (plain_of p.built) (Some w) → w ≢ []
         → at.place w ≢ number_at at anchored (Some [])
+    pub ended : FAIL < p.match_end
     pub matched : (anchored : Anchored) (w : List ℕ) → IsNode p.built.kind (plain_of p.built) (Some w)
         → number_at at anchored (Some w) < p.match_end ↔ matches_of p.built No (Some w) ≢ []
+    pub lists : (anchored : Anchored) (w : List ℕ) → IsNode p.built.kind (plain_of p.built) (Some w)
+        → listed_at p (number_at at anchored (Some w)) ≡ matches_of p.built No (Some w)
 
 -- the number stands for the node, in a search with this anchoring
 pub record StandsAt (p : Packed) (anchored : Anchored) (s : ℕ) (u : Node) : Type 0 where
@@ -99,3 +136,21 @@ pub record StandsAt (p : Packed) (anchored : Anchored) (s : ℕ) (u : Node) : Ty
   pub packed : IsPacked p at
   pub node : IsNode p.built.kind (plain_of p.built) u
   pub number : s ≡ number_at at anchored u
+
+-- a state lists the matches of its node, all that an anchored search may want
+pub stands-lists : (p : Packed) (anchored : Anchored) (s : ℕ) (u : Node)
+    → StandsAt p anchored s u → Lists p.built anchored u (listed_at p s)
+stands-lists p No s None h = ap (listed_at p) h.number
+stands-lists p No s (Some w) h = ap (listed_at p) h.number ∙ h.packed.lists No w h.node
+stands-lists p Yes s None h =
+    let none = ap (listed_at p) h.number in
+    record { passed_over = []; first = none; left_out = []; front = sym (append-nil _ ∙ none) }
+stands-lists p Yes s (Some w) h =
+    let own = ap (listed_at p) h.number ∙ h.packed.lists Yes w h.node in
+    let all = equal-first p.built.kind (plain_of p.built) w in
+    record {
+      passed_over = all.others;
+      first = own ∙ all.first;
+      left_out = [];
+      front = sym own ∙ sym (append-nil _);
+    }

@@ -115,9 +115,9 @@ pub record StandsFor (t : Table) (anchored : Anchored) (s : ℕ) (u : Node) : Ty
   pub number : s ≡ number_of place (behind t.built.start_kind anchored (stride_of t)) u
 
 -- the matches of a node that count in an anchored search stand in front of all its matches
-record EqualFirst (kind : MatchKind) (patterns : List (List ℕ)) (w : List ℕ) : Type 0 where
-  others : List ℕ
-  first : matches kind patterns No (Some w) ≡ equal_to kind patterns w ++ others
+pub record EqualFirst (kind : MatchKind) (patterns : List (List ℕ)) (w : List ℕ) : Type 0 where
+  pub others : List ℕ
+  pub first : matches kind patterns No (Some w) ≡ equal_to kind patterns w ++ others
 
 -- the empty string alone begins where nothing was read
 only-empty : (f : List ℕ → List ℕ) (last : Option ℕ) → flat_map f (starting_by last ([] ∷ [])) ≡ f [] ++ []
@@ -125,7 +125,7 @@ only-empty f None = refl
 only-empty f (Some zero) = refl
 only-empty f (Some (suc c)) = refl
 
-equal-first : (kind : MatchKind) (patterns : List (List ℕ)) (w : List ℕ) → EqualFirst kind patterns w
+pub equal-first : (kind : MatchKind) (patterns : List (List ℕ)) (w : List ℕ) → EqualFirst kind patterns w
 equal-first kind patterns [] = record {
   others = [];
   first = only-empty (equal_to kind patterns) (last_start kind patterns []);

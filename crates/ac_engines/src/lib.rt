@@ -1,5 +1,6 @@
 //! The engines that are built from a trie with failure links.
 #![tactic(auto)]
 
+mod classes;
 pub mod dfa;
 pub mod nfa;

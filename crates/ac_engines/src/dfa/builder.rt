@@ -5,7 +5,7 @@ ghost use Rattle.ac_util.specs.declared.primitives.TheConstants.{GREATEST};
 ghost use Rattle.ac_util.specs.declared.search.StartKind;
 ghost use Rattle.ac_util.specs.Borrowed.{bytes_of};
 ghost use Rattle.ac_util.specs.Node.{Node};
-ghost use Rattle.ac_engines.specs.Builds.{IsTableBuilt, IsTableFrom, RefusesTable, RefusesTableFrom, classes_by, table_refusal_from, usual_table_settings};
+ghost use Rattle.ac_engines.specs.Builds.{IsTableBuilt, IsTableFrom, RefusesTable, RefusesTableFrom, table_refusal_from, usual_table_settings};
 ghost use Rattle.ac_engines.specs.Filling.{FilledUpTo, MayFill};
 ghost use Rattle.ac_engines.specs.Layouts.{table_rows};
 ghost use Rattle.ac_engines.specs.Rows.{start_number};
@@ -13,9 +13,9 @@ ghost use Rattle.ac_engines.specs.Rows.{start_number};
 use super::fill::Filler;
 use super::layout::{Layout, table_rows};
 use super::{DEAD, DFA};
+use crate::classes::classes_for;
 use ac_automaton::automaton::Automaton;
 use ac_automaton::nfa::noncontiguous::{self, NFA};
-use ac_util::alphabet::ByteClasses;
 use ac_util::error::BuildError;
 use ac_util::primitives::StateID;
 use ac_util::search::{Anchored, MatchKind, StartKind};
@@ -217,17 +217,6 @@ pub fn table_len(rows: u64, stride2: u32) -> Result<u64, BuildError>
         });
     }
     Ok(last + stride)
-}
-
-/// Returns the classes by which a table steps that is built from an automaton.
-fn classes_for<A: Allocator>(nfa: &NFA<A>, byte_classes: bool) -> ByteClasses
-    ensures { result ≡ classes_by byte_classes nfa.now.built.fold nfa.now.built.patterns }
-{
-    if byte_classes {
-        ByteClasses::of(nfa.patterns(), nfa.fold())
-    } else {
-        ByteClasses::singletons()
-    }
 }
 
 /// Returns a table of this size whose rows are filled.

@@ -1,5 +1,29 @@
 //! An automaton in one list of packed words: small, and nearly as fast as a table.
+ghost use Rattle.std.specs.Prelude.{◌≡◌, MatchResult, false, drop};
+ghost use Rattle.std.proofs.Common.{inr, refl};
+ghost use Rattle.ac_util.specs.declared.search.Anchored.{Anchored};
+ghost use Rattle.ac_util.specs.Borrowed.{bytes_of};
+ghost use Rattle.ac_automaton.specs.Automata.{IsState};
+ghost use Rattle.ac_engines.specs.PackedBuilds.{IsPackedBuilt, RefusesPacked, usual_packed_settings};
+ghost use Rattle.ac_engines.specs.Packing.{IsPacked, Places, StandsAt, listed_at, stands-lists};
 
+use ac_automaton::automaton::{Automaton, MatchRest};
+use ac_automaton::nfa::noncontiguous::DEAD;
+use ac_util::alphabet::ByteClasses;
+use ac_util::error::{BuildError, MatchError};
+use ac_util::looks::Looks;
+use ac_util::patterns::Patterns;
+use ac_util::prefilter::Prefilter;
+use ac_util::primitives::{PatternID, StateID};
+use ac_util::search::{Anchored, MatchKind, StartKind};
+use state::State;
+use std::alloc::{Allocator, Global};
+use std::marker::Model;
+use std::mem::size_of;
+use std::rc::Rc;
+use step::follow;
+
+mod builder;
 mod draft;
 mod format;
 mod pack;
@@ -7,4 +31,205 @@ mod plan;
 mod state;
 mod step;
 
+pub use builder::Builder;
 pub use format::{Format, check_words, format_of, state_words};
+
+/// An automaton that follows failure links, packed into one list of words.
+///
+/// It takes less memory than the other two, and a search looks at states at most twice for each byte that it reads. A
+/// state's number is the place of its first word. First stands the dead state, then those that have matches, then the
+/// others: so compares of the number tell what a search has to know of a state. It serves unanchored and anchored
+/// searches. This ports `nfa::contiguous::NFA`.
+#[derive(Drop)]
+pub struct NFA<A: Allocator = Global> {
+    patterns: Rc<Patterns<A>, A>,
+    kind: MatchKind,
+    fold: bool,
+    shortest: usize,
+    longest: usize,
+    classes: ByteClasses,
+    /// States of strings that are shorter are dense.
+    dense_depth: usize,
+    words: Vec<u32, A>,
+    start: StateID,
+    anchored_start: StateID,
+    /// No state has matches from this number on.
+    match_end: usize,
+}
+
+impl<A: Allocator> Model for NFA<A> {
+    ghost use Rattle.std.specs.Prelude.{◌≡◌, ◌<◌};
+    ghost use Rattle.ac_util.specs.declared.search.StartKind.TheVariants.{Both};
+    ghost use Rattle.ac_util.specs.Sizes.{longest_len, shortest_len};
+    ghost use Rattle.ac_engines.specs.Packing.{IsPacked, Packed, Places, packed_from};
+
+    ghost Value = { Packed };
+
+    ghost view = { λ n. packed_from n.patterns.value n.fold n.kind n.dense_depth n.classes n.words.items n.start
+        n.anchored_start n.match_end };
+
+    ghost invariant = { λ n. record {
+      packed : (at : Places) × IsPacked (packed_from n.patterns.value n.fold n.kind n.dense_depth n.classes
+          n.words.items n.start n.anchored_start n.match_end) at;
+      shortest : n.shortest ≡ shortest_len n.patterns.value;
+      longest : n.longest ≡ longest_len n.patterns.value;
+    } };
+}
+
+impl<A: Allocator + Clone> NFA<A> {
+    /// Builds an automaton with the usual settings: `MatchKind::Standard`, case counts, the states of no byte and of one
+    /// byte are dense, and bytes that need not be told apart share a class.
+    ///
+    /// # Errors
+    /// As `Builder::build`.
+    pub fn new(alloc: A, patterns: &[&[u8]]) -> Result<NFA<A>, BuildError>
+        ensures { MatchResult result
+            (IsPackedBuilt usual_packed_settings (bytes_of patterns.now))
+            (RefusesPacked usual_packed_settings (bytes_of patterns.now)) }
+    {
+        Builder::new().build(alloc, patterns)
+    }
+}
+
+impl NFA {
+    /// Returns a builder with the usual settings.
+    pub fn builder() -> Builder
+        ensures { result ≡ usual_packed_settings }
+    {
+        Builder::new()
+    }
+}
+
+impl<A: Allocator> NFA<A> {
+    /// Returns the words, which are those of packed states.
+    #[inline]
+    fn words(&self) -> &[u32]
+        ensures value { result.now ≡ self.now.words }
+        ensures packed { (at : Places) × IsPacked self.now at }
+    {
+        &self.words
+    }
+
+    /// Returns the patterns.
+    #[inline]
+    fn patterns(&self) -> &Patterns<A>
+        ensures { result.now ≡ self.now.built.patterns }
+    {
+        self.patterns.as_ref()
+    }
+
+    /// Returns the state of a number.
+    #[inline]
+    fn state(&self, sid: StateID) -> State<'_>
+        requires { (anchored : Anchored) × IsState (λ s u. StandsAt self.now anchored s u) sid }
+        ensures { result.words.now ≡ drop sid self.now.words }
+    {
+        State::at(self.words(), sid.as_usize())
+    }
+}
+
+impl<A: Allocator> Automaton for NFA<A> {
+    const LOOKS: usize = 2;
+
+    ghost LOOKS = { 2 };
+
+    ghost built = { λ n. n.built };
+
+    ghost stands = { λ n anchored s u. StandsAt n anchored s u };
+
+    ghost listed = { λ n s. listed_at n s };
+
+    ghost filters = { λ n. false };
+
+    ghost one_or_two = { inr refl };
+
+    ghost lists = { stands-lists };
+
+    fn start_state(&self, anchored: Anchored) -> Result<StateID, MatchError> {
+        // Contracts learn here which states are the starts.
+        let _words = self.words();
+        match anchored {
+            Anchored::No => Ok(self.start),
+            Anchored::Yes => Ok(self.anchored_start),
+        }
+    }
+
+    #[inline]
+    fn next_state(&self, anchored: Anchored, sid: StateID, byte: u8, looks: &mut Looks) -> StateID {
+        follow(self.words(), self.classes.get(byte), anchored, sid, looks)
+    }
+
+    #[inline]
+    fn is_special(&self, sid: StateID) -> bool {
+        sid.as_usize() < self.match_end || self.is_start(sid)
+    }
+
+    #[inline]
+    fn is_dead(&self, sid: StateID) -> bool {
+        sid.as_usize() == DEAD
+    }
+
+    #[inline]
+    fn is_match(&self, sid: StateID) -> bool {
+        DEAD < sid.as_usize() && sid.as_usize() < self.match_end
+    }
+
+    #[inline]
+    fn is_start(&self, sid: StateID) -> bool {
+        sid == self.start || sid == self.anchored_start
+    }
+
+    #[inline]
+    fn match_len(&self, sid: StateID) -> usize {
+        self.state(sid).match_len(self.classes.alphabet_len())
+    }
+
+    #[inline]
+    fn match_pattern(&self, sid: StateID, index: usize) -> PatternID {
+        let pattern = self.state(sid).match_pattern(self.classes.alphabet_len(), index);
+        PatternID::must(pattern as usize)
+    }
+
+    #[inline]
+    fn take_match(&self, rest: MatchRest) -> Option<(PatternID, MatchRest)> {
+        if !self.is_match(rest.state) || rest.index >= self.match_len(rest.state) {
+            return None;
+        }
+        let pattern = self.match_pattern(rest.state, rest.index);
+        let rest = MatchRest {
+            state: rest.state,
+            index: rest.index + 1,
+        };
+        Some((pattern, rest))
+    }
+
+    fn match_kind(&self) -> MatchKind {
+        self.kind
+    }
+
+    fn patterns_len(&self) -> usize {
+        self.patterns().len()
+    }
+
+    #[inline]
+    fn pattern_len(&self, pattern: PatternID) -> usize {
+        self.patterns().get(pattern.as_usize()).len()
+    }
+
+    fn min_pattern_len(&self) -> usize {
+        self.shortest
+    }
+
+    fn max_pattern_len(&self) -> usize {
+        self.longest
+    }
+
+    fn memory_usage(&self) -> usize {
+        let words = self.words.len().saturating_mul(size_of::<u32>());
+        words.saturating_add(self.patterns().memory_usage())
+    }
+
+    fn prefilter(&self) -> Option<&Prefilter> {
+        None
+    }
+}

@@ -212,7 +212,9 @@ impl<'a, A: Allocator + Clone> Packer<'a, A> {
         requires ready { (nodes : List Node) × AreReady self.now nodes }
         requires small { packed_words self.now.plan.trie.built self.now.plan.dense_depth
             (alphabet_len self.now.plan.classes) ≤ GREATEST }
-        ensures { IfOk result (λ words. (nodes : List Node) → AreReady self.now nodes
+        ensures long { IfOk result (λ words. length words.items
+            ≡ packed_words self.now.plan.trie.built self.now.plan.dense_depth (alphabet_len self.now.plan.classes)) }
+        ensures packed { IfOk result (λ words. (nodes : List Node) → AreReady self.now nodes
             → IsPacked (packed_of self.now.plan nodes self.now.numbers words.items)
             (places_of self.now.plan nodes self.now.numbers)) }
     {

@@ -2,7 +2,7 @@
 ghost use Rattle.std.specs.Prelude.{◌≡◌, ℕ, ◌+◌, ◌≤◌, ◌∷◌, IfOk, List, Some, [], length, slice_get};
 ghost use Rattle.ac_util.specs.declared.primitives.TheConstants.{GREATEST};
 ghost use Rattle.ac_util.specs.declared.search.Anchored.TheVariants.{No};
-ghost use Rattle.ac_util.specs.Classes.{alphabet_len};
+ghost use Rattle.ac_util.specs.Classes.{AreClasses, SetsApart, alphabet_len};
 ghost use Rattle.ac_util.specs.Node.{Node};
 ghost use Rattle.ac_automaton.specs.Automata.{matches_of};
 ghost use Rattle.ac_engines.specs.PackedPlaces.{HasPlaces, HasWords, MayPack, front_end, has_matches};
@@ -44,6 +44,24 @@ pub(super) struct Sizes {
 }
 
 impl<'a, A: Allocator> Plan<'a, A> {
+    /// Returns a plan.
+    pub(super) fn new(nfa: &'a NFA<A>, classes: &'a ByteClasses, dense_depth: usize) -> Plan<'a, A>
+        requires classes { AreClasses classes.now }
+        requires apart { SetsApart nfa.now.built.fold nfa.now.built.patterns classes.now }
+        ensures value { result ≡ record { trie = nfa.now; classes = classes.now; dense_depth = dense_depth } }
+        ensures may { (nodes : List Node) × MayPack result nodes }
+    {
+        // Contracts learn here which nodes there are, that patterns are few, and that none is too long.
+        let _states = nfa.states_len();
+        let _patterns = nfa.patterns().len();
+        let _longest = nfa.max_pattern_len();
+        Plan {
+            nfa,
+            classes,
+            dense_depth,
+        }
+    }
+
     /// Returns whether a state has matches.
     pub(super) fn is_match(&self, sid: StateID) -> bool
         requires state { HasWords self.now sid }

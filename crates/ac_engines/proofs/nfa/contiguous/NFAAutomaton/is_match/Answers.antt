@@ -1,0 +1,33 @@
+use Rattle.std.proofs.Common.{ℕ, ap, arith}
+use Rattle.std.proofs.lemmas.Bool.{lt-ltb, ltb-true}
+use Rattle.ac_engines.specs.Packing.{Packed}
+use Rattle.ac_engines.proofs.PackedNumbers.{match-number}
+use Rattle.ac_engines.proofs.nfa.contiguous.NFAAutomaton.is_match.Goals as goal
+
+-- a number behind 0 and before the end of the matches' is that of a match state
+pub returns-then-as_usize-gt-DEAD : goal.returns-then-as_usize-gt-DEAD
+returns-then-as_usize-gt-DEAD g c =
+    let r = c.requires.state in
+    let number = match-number c.args.self.now r.0 c.args.sid r.1.0 r.1.1 in
+    let end = ap (λ (p : Packed). p.match_end) c.self.view_is in
+    let value = c.as_usize.ensures.value in
+    let other = c.as_usize-then-as_usize-gt-DEAD.ensures.value in
+    let positive = c.if-as_usize-gt-DEAD.true in (
+      λ is-true.
+        let below = ltb-true c.as_usize-then-as_usize-gt-DEAD.result c.self.inside.match_end is-true in
+        number.1 (omega arith, λ zero. absurd (omega arith)),
+      λ some.
+        let within = number.0 some in
+        let below = within.0 in
+        lt-ltb c.as_usize-then-as_usize-gt-DEAD.result c.self.inside.match_end (omega arith),
+    )
+
+pub returns-else-as_usize-gt-DEAD : goal.returns-else-as_usize-gt-DEAD
+returns-else-as_usize-gt-DEAD g c =
+    let r = c.requires.state in
+    let number = match-number c.args.self.now r.0 c.args.sid r.1.0 r.1.1 in
+    let value = c.as_usize.ensures.value in
+    let none = c.if-as_usize-gt-DEAD.false in (
+      λ is-true. let positive = ltb-true 0 c.as_usize.result is-true in absurd (omega arith),
+      λ some. absurd ((number.0 some).1 (omega arith)),
+    )

@@ -1,0 +1,18 @@
+//! The classes of bytes that an engine is built with.
+ghost use Rattle.std.specs.Prelude.{◌≡◌};
+ghost use Rattle.ac_engines.specs.Builds.{classes_by};
+
+use ac_automaton::nfa::noncontiguous::NFA;
+use ac_util::alphabet::ByteClasses;
+use std::alloc::Allocator;
+
+/// Returns the classes by which an engine steps that is built from an automaton.
+pub(crate) fn classes_for<A: Allocator>(nfa: &NFA<A>, byte_classes: bool) -> ByteClasses
+    ensures { result ≡ classes_by byte_classes nfa.now.built.fold nfa.now.built.patterns }
+{
+    if byte_classes {
+        ByteClasses::of(nfa.patterns(), nfa.fold())
+    } else {
+        ByteClasses::singletons()
+    }
+}

@@ -1,0 +1,185 @@
+//! Builds of packed words.
+ghost use Rattle.std.specs.Prelude.{◌≡◌, MatchResult, None};
+ghost use Rattle.ac_util.specs.Borrowed.{bytes_of};
+ghost use Rattle.ac_engines.specs.PackedBuilds.{IsPackedBuilt, IsPackedFrom, RefusesPacked, RefusesPackedFrom, packed_refusal_from, usual_packed_settings};
+
+use super::NFA;
+use super::format::check_words;
+use super::pack::Packer;
+use super::plan::Plan;
+use crate::classes::classes_for;
+use ac_automaton::automaton::Automaton;
+use ac_automaton::nfa::noncontiguous::{self, ANCHORED_START, START};
+use ac_util::error::BuildError;
+use ac_util::search::MatchKind;
+use std::alloc::Allocator;
+use std::marker::Model;
+
+/// States of strings that are shorter are dense, unless it is set otherwise.
+const USUAL_DENSE_DEPTH: usize = 2;
+
+/// The settings of a build. A build changes none of them, so after a refusal the builder can be used again.
+///
+/// This ports `nfa::contiguous::Builder`.
+#[derive(Debug, Drop)]
+pub struct Builder {
+    kind: MatchKind,
+    fold: bool,
+    dense_depth: usize,
+    byte_classes: bool,
+}
+
+impl Model for Builder {
+    ghost use Rattle.ac_engines.specs.PackedBuilds.{PackedSettings};
+
+    ghost Value = { PackedSettings };
+
+    ghost view = { λ b. record {
+      kind = b.kind;
+      fold = b.fold;
+      dense_depth = b.dense_depth;
+      byte_classes = b.byte_classes;
+    } };
+
+    ghost inverse = { λ v. record {
+      kind = v.kind;
+      fold = v.fold;
+      dense_depth = v.dense_depth;
+      byte_classes = v.byte_classes;
+    } };
+}
+
+impl Default for Builder {
+    ghost is_default = { λ b. b ≡ usual_packed_settings };
+
+    fn default() -> Builder {
+        Builder::new()
+    }
+}
+
+impl Builder {
+    /// Returns a builder with the usual settings: `MatchKind::Standard`, case counts, the states of no byte and of one
+    /// byte are dense, and bytes that need not be told apart share a class.
+    pub fn new() -> Builder
+        ensures { result ≡ usual_packed_settings }
+    {
+        Builder {
+            kind: MatchKind::Standard,
+            fold: false,
+            dense_depth: USUAL_DENSE_DEPTH,
+            byte_classes: true,
+        }
+    }
+
+    /// Returns a builder with the same settings, and takes no memory.
+    pub fn clone(&self) -> Builder
+        ensures { result ≡ self.now }
+    {
+        Builder { ..*self }
+    }
+
+    /// Sets which of the occurrences in a span a search answers. `Standard` unless set.
+    pub fn match_kind(&mut self, kind: MatchKind) -> &mut Builder
+        ensures value { result.now ≡ record self.old { kind = kind } }
+        ensures same { result.ghost_name ≡ self.entry.ghost_name }
+    {
+        self.kind = kind;
+        self
+    }
+
+    /// Sets whether the case of ASCII letters is ignored. It counts unless set.
+    pub fn ascii_case_insensitive(&mut self, yes: bool) -> &mut Builder
+        ensures value { result.now ≡ record self.old { fold = yes } }
+        ensures same { result.ghost_name ≡ self.entry.ghost_name }
+    {
+        self.fold = yes;
+        self
+    }
+
+    /// Sets how many bytes a string has at least whose state has no target for each class of bytes, but only for those
+    /// that lead on. It is 2 unless set.
+    ///
+    /// States with a target for each class are faster, and larger. It changes no answer.
+    pub fn dense_depth(&mut self, depth: usize) -> &mut Builder
+        ensures value { result.now ≡ record self.old { dense_depth = depth } }
+        ensures same { result.ghost_name ≡ self.entry.ghost_name }
+    {
+        self.dense_depth = depth;
+        self
+    }
+
+    /// Sets whether bytes that need not be told apart share a class, so that dense states are smaller. They do unless
+    /// set.
+    ///
+    /// It changes no answer.
+    pub fn byte_classes(&mut self, yes: bool) -> &mut Builder
+        ensures value { result.now ≡ record self.old { byte_classes = yes } }
+        ensures same { result.ghost_name ≡ self.entry.ghost_name }
+    {
+        self.byte_classes = yes;
+        self
+    }
+
+    /// Builds an automaton over a list of patterns. An empty list is fine: nothing is then found.
+    ///
+    /// # Errors
+    /// `PatternIdOverflow` and `PatternTooLong` exactly where a limit is passed, whether there is memory or
+    /// not. Else `StateIdOverflow` only where there are more nodes than state numbers, or more words than the greatest
+    /// number of a state, and `Memory` where a request for memory is refused.
+    pub fn build<A: Allocator + Clone>(
+        &self,
+        alloc: A,
+        patterns: &[&[u8]],
+    ) -> Result<NFA<A>, BuildError>
+        ensures { MatchResult result
+            (IsPackedBuilt self.now (bytes_of patterns.now))
+            (RefusesPacked self.now (bytes_of patterns.now)) }
+    {
+        let mut nfa = noncontiguous::Builder::new();
+        nfa.match_kind(self.kind).ascii_case_insensitive(self.fold);
+        let nfa = nfa.build(alloc, patterns)?;
+        let alloc = nfa.allocator().clone()?;
+        self.build_from_noncontiguous(alloc, &nfa)
+    }
+
+    /// Builds an automaton that answers as another one, whose patterns it shares. Of the settings only `dense_depth`
+    /// and `byte_classes` count.
+    ///
+    /// # Errors
+    /// `StateIdOverflow` exactly where there would be more words than the greatest number of a state, whether there is
+    /// memory or not; else `Memory` where a request for memory is refused.
+    pub fn build_from_noncontiguous<A: Allocator + Clone>(
+        &self,
+        alloc: A,
+        nfa: &noncontiguous::NFA<A>,
+    ) -> Result<NFA<A>, BuildError>
+        ensures { MatchResult result
+            (λ packed. IsPackedFrom self.now.dense_depth self.now.byte_classes nfa.now.built packed
+            × (packed_refusal_from self.now.dense_depth self.now.byte_classes nfa.now.built ≡ None))
+            (RefusesPackedFrom self.now.dense_depth self.now.byte_classes nfa.now.built) }
+    {
+        let classes = classes_for(nfa, self.byte_classes);
+        let plan = Plan::new(nfa, &classes, self.dense_depth);
+        let sizes = plan.sizes();
+        let len = check_words(sizes.all)?;
+        let numbers = plan.numbers(alloc.clone()?, sizes.match_end)?;
+        let packer = Packer {
+            plan: &plan,
+            numbers: &numbers,
+        };
+        let words = packer.pack(alloc, len as usize)?;
+        Ok(NFA {
+            patterns: nfa.patterns().clone()?,
+            kind: nfa.match_kind(),
+            fold: nfa.fold(),
+            shortest: nfa.min_pattern_len(),
+            longest: nfa.max_pattern_len(),
+            classes,
+            dense_depth: self.dense_depth,
+            words,
+            start: numbers[START],
+            anchored_start: numbers[ANCHORED_START],
+            match_end: sizes.match_end as usize,
+        })
+    }
+}
