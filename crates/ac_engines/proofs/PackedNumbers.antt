@@ -46,18 +46,22 @@ module _ (p : Packed) (anchored : Anchored) (s : ℕ) where
       let start = h.packed.start in
       let anchored_start = h.packed.anchored_start in
       let number = h.number in
-      (λ either. elim either [ | inl e ↦ absurd (omega arith) | inr e ↦ absurd (omega arith) ], λ none. absurd cc)
-  start-number (Some []) h =
-      (λ either. refl, λ empty. subst (λ (n : ℕ). (n ≡ p.start) ⊎ (n ≡ p.anchored_start)) (sym h.number)
-          (start-of anchored h.at h.packed.start h.packed.anchored_start))
+      (λ either. elim either [ inl e ↦ absurd (omega arith) | inr e ↦ absurd (omega arith) ], λ none. absurd cc)
+  start-number (Some []) h = (
+    λ either. refl,
+    λ empty. subst (λ (n : ℕ). (n ≡ p.start) ⊎ (n ≡ p.anchored_start)) (sym h.number)
+        (start-of anchored h.at h.packed.start h.packed.anchored_start),
+  )
   start-number (Some (x ∷ w)) h =
       let first = h.packed.longer No (x ∷ w) h.node (λ e. absurd cc) in
       let other = h.packed.longer Yes (x ∷ w) h.node (λ e. absurd cc) in
-      let number : s ≡ h.at.place (x ∷ w) = h.number ∙ inner anchored h.at in
-      (λ either. elim either [
+      let number : s ≡ h.at.place (x ∷ w) = h.number ∙ inner anchored h.at in (
+        λ either. elim either [
           | inl e ↦ absurd (first (sym number ∙ e ∙ sym h.packed.start))
           | inr e ↦ absurd (other (sym number ∙ e ∙ sym h.packed.anchored_start))
-        ], λ empty. absurd cc)
+        ],
+        λ empty. absurd cc,
+      )
     where
       inner : (anchored : Anchored) (at : Places) → number_at at anchored (Some (x ∷ w)) ≡ at.place (x ∷ w)
       inner No at = refl
@@ -76,9 +80,10 @@ module _ (p : Packed) (anchored : Anchored) (s : ℕ) where
       let behind = h.packed.behind anchored w h.node in
       let number = h.number in
       let matched = h.packed.matched anchored w h.node in
-      let lists = ap (listed_at p) h.number ∙ h.packed.lists anchored w h.node in
-      (λ some. let below = matched.1 (λ none. some (lists ∙ none)) in (omega arith, λ zero. absurd (omega arith)),
-        λ within none. matched.0 (let low = within.0 in omega arith) (sym lists ∙ none))
+      let lists = ap (listed_at p) h.number ∙ h.packed.lists anchored w h.node in (
+        λ some. let below = matched.1 (λ none. some (lists ∙ none)) in (omega arith, λ zero. absurd (omega arith)),
+        λ within none. matched.0 (let low = within.0 in omega arith) (sym lists ∙ none),
+      )
 
   -- the words there begin with those of a state that spells what is listed
   pub record Begins (there : List ℕ) (classes : ℕ) : Type 0 where

@@ -4,3 +4,5 @@
 mod classes;
 pub mod dfa;
 pub mod nfa;
+#[cfg(test)]
+mod samples;

@@ -1,20 +1,14 @@
-use super::{Builder, DFA};
+use super::Builder;
+use crate::samples::{EACH, THREE, told, walk_of};
 use ac_automaton::automaton::Automaton;
 use ac_automaton::nfa::noncontiguous;
 use ac_util::error::{BuildError, MatchError};
 use ac_util::search::MatchKind::{LeftmostFirst, LeftmostLongest, Standard};
-use ac_util::search::{Anchored, Input, Match, MatchKind, StartKind};
-use std::alloc::Global;
+use ac_util::search::{Anchored, Input, MatchKind, StartKind};
 use std::test::Fail;
 
 mod rows;
 mod small;
-
-/// A pattern number, a start and an end.
-type Told = (usize, usize, usize);
-
-/// The match kinds that a build can be asked for.
-const EACH: &[MatchKind] = &[Standard, LeftmostFirst, LeftmostLongest];
 
 /// Tables that serve unanchored searches: which starts they have, and whether bytes share classes.
 const UNANCHORED: [(StartKind, bool); 4] = [
@@ -42,42 +36,8 @@ fn builder(kind: MatchKind, start_kind: StartKind, byte_classes: bool) -> Builde
     builder
 }
 
-/// Returns what a row says of a match.
-fn told(m: &Match) -> Told {
-    (m.pattern().as_usize(), m.start(), m.end())
-}
-
-/// Returns the walk of the automaton.
-fn walk_of(alloc: Global, dfa: &DFA, input: Input<'_>) -> Result<Vec<Match>, Fail> {
-    let mut matches = dfa.try_find_iter(input)?;
-    let mut walked = Vec::new(alloc);
-    for _ in 0..u64::MAX {
-        let Some(found) = matches.next() else {
-            break;
-        };
-        walked.push(found)?;
-    }
-    Ok(walked)
-}
-
-/// Returns the listing of the automaton.
-fn listing_of(alloc: Global, dfa: &DFA, input: Input<'_>) -> Result<Vec<Match>, Fail> {
-    let mut items = dfa.try_find_overlapping_iter(input)?;
-    let mut listed = Vec::new(alloc);
-    for _ in 0..u64::MAX {
-        let Some(found) = items.next() else {
-            break;
-        };
-        listed.push(found)?;
-    }
-    Ok(listed)
-}
-
 /// Which patterns, match kind and starts a table is for, how many entries a row of it has, and how many all rows.
 type Size = (&'static [&'static [u8]], MatchKind, StartKind, usize, usize);
-
-/// Three patterns with a common prefix.
-const THREE: &[&[u8]] = &[b"b", b"abc", b"abcd"];
 
 const SIZES: [Size; 9] = [
     (&[], Standard, StartKind::Unanchored, 1, 4),

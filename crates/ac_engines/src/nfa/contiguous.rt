@@ -186,7 +186,9 @@ impl<A: Allocator> Automaton for NFA<A> {
 
     #[inline]
     fn match_pattern(&self, sid: StateID, index: usize) -> PatternID {
-        let pattern = self.state(sid).match_pattern(self.classes.alphabet_len(), index);
+        let pattern = self
+            .state(sid)
+            .match_pattern(self.classes.alphabet_len(), index);
         PatternID::must(pattern as usize)
     }
 
@@ -233,3 +235,6 @@ impl<A: Allocator> Automaton for NFA<A> {
         None
     }
 }
+
+#[cfg(test)]
+mod tests;

@@ -78,11 +78,7 @@ impl<'a, A: Allocator> Packer<'a, A> {
     ///
     /// # Errors
     /// `AllocError` where a request for memory is refused.
-    fn list_matches(
-        &self,
-        matches: &mut Vec<PatternID, A>,
-        sid: StateID,
-    ) -> Result<(), AllocError>
+    fn list_matches(&self, matches: &mut Vec<PatternID, A>, sid: StateID) -> Result<(), AllocError>
         requires state { IsPlaced self.now sid }
         ensures { (nodes : List Node) (u : Node) → AreReady self.now nodes → slice_get nodes sid ≡ Some u
             → IfOk result (λ _. matches.new.items ≡ (state_spelling self.now nodes sid u).matches) }

@@ -14,12 +14,12 @@ returns-then-as_usize-gt-DEAD g c =
     let other = c.as_usize-then-as_usize-gt-DEAD.ensures.value in
     let positive = c.if-as_usize-gt-DEAD.true in (
       λ is-true.
-        let below = ltb-true c.as_usize-then-as_usize-gt-DEAD.result c.self.inside.match_end is-true in
-        number.1 (omega arith, λ zero. absurd (omega arith)),
+          let below = ltb-true c.as_usize-then-as_usize-gt-DEAD.result c.self.inside.match_end is-true in
+          number.1 (omega arith, λ zero. absurd (omega arith)),
       λ some.
-        let within = number.0 some in
-        let below = within.0 in
-        lt-ltb c.as_usize-then-as_usize-gt-DEAD.result c.self.inside.match_end (omega arith),
+          let within = number.0 some in
+          let below = within.0 in
+          lt-ltb c.as_usize-then-as_usize-gt-DEAD.result c.self.inside.match_end (omega arith),
     )
 
 pub returns-else-as_usize-gt-DEAD : goal.returns-else-as_usize-gt-DEAD

@@ -7,7 +7,6 @@ use Rattle.ac_engines.proofs.PackedNumbers.{Begins, begins}
 use Rattle.ac_engines.proofs.nfa.contiguous.NFAAutomaton.match_pattern.Goals as goal
 use Rattle.ac_engines.proofs.nfa.contiguous.NFAAutomaton.match_pattern.Goals.{After-alphabet_len}
 
-
 pub match_pattern-pattern-requires : goal.match_pattern-pattern-requires
 match_pattern-pattern-requires g c =
     let r = c.requires.state in
