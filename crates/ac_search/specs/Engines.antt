@@ -6,31 +6,35 @@ use Rattle.ac_util.specs.Built.{Built}
 use Rattle.ac_automaton.specs.Iterators.{Walking}
 use Rattle.ac_automaton.specs.Overlaps.{Overlapping}
 use Rattle.ac_search.specs.declared.ahocorasick.choice.AhoCorasickKind.{AhoCorasickKind}
-use Rattle.ac_search.specs.declared.ahocorasick.choice.AhoCorasickKind.TheVariants.{DFA, NoncontiguousNFA}
+use Rattle.ac_search.specs.declared.ahocorasick.choice.AhoCorasickKind.TheVariants.{ContiguousNFA, DFA, NoncontiguousNFA}
 use Rattle.ac_search.specs.declared.ahocorasick.engine.Engine.{Engine}
-use Rattle.ac_search.specs.declared.ahocorasick.engine.Engine.TheVariants.{Dfa, Noncontiguous}
+use Rattle.ac_search.specs.declared.ahocorasick.engine.Engine.TheVariants.{Contiguous, Dfa, Noncontiguous}
 use Rattle.ac_search.specs.declared.ahocorasick.engine.EngineFindIter.{EngineFindIter}
-use Rattle.ac_search.specs.declared.ahocorasick.engine.EngineFindIter.TheVariants.{Dfa as ByDfa, Noncontiguous as ByNoncontiguous}
+use Rattle.ac_search.specs.declared.ahocorasick.engine.EngineFindIter.TheVariants.{Contiguous as ByContiguous, Dfa as ByDfa, Noncontiguous as ByNoncontiguous}
 use Rattle.ac_search.specs.declared.ahocorasick.engine.EngineFindOverlappingIter.{EngineFindOverlappingIter}
-use Rattle.ac_search.specs.declared.ahocorasick.engine.EngineFindOverlappingIter.TheVariants.{Dfa as ListedByDfa, Noncontiguous as ListedByNoncontiguous}
-use Rattle.ac_search.specs.Searchers.{Searcher}
-use Rattle.ac_search.specs.States.{States, Dfa as OfTable, Noncontiguous as OfTrie}
+use Rattle.ac_search.specs.declared.ahocorasick.engine.EngineFindOverlappingIter.TheVariants.{Contiguous as ListedByContiguous, Dfa as ListedByDfa, Noncontiguous as ListedByNoncontiguous}
+use Rattle.ac_search.specs.Searchers.{Searcher, Settings}
+use Rattle.ac_search.specs.States.{States, Contiguous as OfWords, Dfa as OfTable, Noncontiguous as OfTrie}
 
 -- what an engine was built from, whether to have a prefilter, its name and its states
 abbrev pub built_of : {Z : Type 0} → Engine Z → Built
 built_of (Noncontiguous nfa) = nfa.value.built
+built_of (Contiguous nfa) = nfa.value.built
 built_of (Dfa dfa) = dfa.value.built
 
 abbrev pub filters_of : {Z : Type 0} → Engine Z → Bool
 filters_of (Noncontiguous nfa) = false
+filters_of (Contiguous nfa) = false
 filters_of (Dfa dfa) = false
 
 abbrev pub name_of : {Z : Type 0} → Engine Z → AhoCorasickKind
 name_of (Noncontiguous nfa) = NoncontiguousNFA
+name_of (Contiguous nfa) = ContiguousNFA
 name_of (Dfa dfa) = DFA
 
 abbrev pub states_of : {Z : Type 0} → Engine Z → States
 states_of (Noncontiguous nfa) = OfTrie nfa.value
+states_of (Contiguous nfa) = OfWords nfa.value
 states_of (Dfa dfa) = OfTable dfa.value
 
 -- an engine with the start kind of its searcher
@@ -47,10 +51,21 @@ abbrev pub Supports : {Z : Type 0} → Engine Z → StartKind → Type 0
 Supports engine start_kind =
     ((built_of engine).start_kind ≡ Both) ⊎ ((built_of engine).start_kind ≡ start_kind)
 
+-- an engine of this name was made from an automaton for a searcher by these settings
+pub record IsMadeFrom {Z : Type 0} (from : Built) (settings : Settings) (engine : Engine Z) (kind : AhoCorasickKind)
+    : Type 0 where
+  pub built : record (built_of engine) { start_kind = settings.start_kind }
+      ≡ record from { start_kind = settings.start_kind }
+  pub supports : Supports engine settings.start_kind
+  pub filters : filters_of engine ≡ false
+  pub name : name_of engine ≡ kind
+
 abbrev pub walking_in : {Z : Type 0} → EngineFindIter Z → Walking
 walking_in (ByNoncontiguous matches) = matches
+walking_in (ByContiguous matches) = matches
 walking_in (ByDfa matches) = matches
 
 abbrev pub listing_in : {Z : Type 0} → EngineFindOverlappingIter Z → Overlapping
 listing_in (ListedByNoncontiguous items) = items
+listing_in (ListedByContiguous items) = items
 listing_in (ListedByDfa items) = items

@@ -45,10 +45,15 @@ pub use Rattle.ac_util.specs.Counts
 pub use Rattle.ac_util.specs.Prefilters
 pub use Rattle.ac_automaton.specs.Automata
 pub use Rattle.ac_automaton.specs.Tries
--- tables: their classes, rows and builds
+-- tables and packed words: their classes, rows and words, and their builds
 pub use Rattle.ac_util.specs.Classes
 pub use Rattle.ac_engines.specs.Rows
 pub use Rattle.ac_engines.specs.Layouts
 pub use Rattle.ac_engines.specs.Builds as TableBuilds
+pub use Rattle.ac_engines.specs.Formats
+pub use Rattle.ac_engines.specs.PackedBuilds
+pub use Rattle.ac_engines.specs.Packing
+pub use Rattle.ac_engines.specs.Sizes as PackedSizes
+pub use Rattle.ac_engines.specs.Words
 -- readers and writers
 pub use Rattle.ac_util.specs.Device

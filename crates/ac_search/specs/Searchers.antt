@@ -1,6 +1,6 @@
 -- What is seen of a searcher: what it was built from, whether to have a prefilter, and the name and the states of
 -- its engine. No answer of a search hangs on the last three; an overlapping state is one for these states alone.
-use Rattle.std.specs.Prelude.{◌≡◌, ℕ, nat_le, Bool, false, true, List, length, Option, None, Some, MatchOption}
+use Rattle.std.specs.Prelude.{◌≡◌, ℕ, nat_le, Bool, false, true, List, length, Option, None, Some, MatchOption, ◌&&◌, if◌then◌else◌}
 use Rattle.ac_util.specs.declared.error.BuildError.{BuildError}
 use Rattle.ac_util.specs.declared.search.MatchKind.{MatchKind}
 use Rattle.ac_util.specs.declared.search.MatchKind.TheVariants.{Standard}
@@ -10,8 +10,9 @@ use Rattle.ac_util.specs.Built.{Built}
 use Rattle.ac_util.specs.Limits.{limit_refusal}
 use Rattle.ac_automaton.specs.Builds.{EngineSettings, IsRefused, state_refusal}
 use Rattle.ac_engines.specs.Builds.{refusal_or, table_refusal_from}
+use Rattle.ac_engines.specs.PackedBuilds.{packed_refusal_from}
 use Rattle.ac_search.specs.declared.ahocorasick.choice.AhoCorasickKind.{AhoCorasickKind}
-use Rattle.ac_search.specs.declared.ahocorasick.choice.AhoCorasickKind.TheVariants.{DFA, NoncontiguousNFA}
+use Rattle.ac_search.specs.declared.ahocorasick.choice.AhoCorasickKind.TheVariants.{ContiguousNFA, DFA, NoncontiguousNFA}
 use Rattle.ac_search.specs.declared.ahocorasick.choice.TheConstants.{MOST_FOR_TABLE}
 use Rattle.ac_search.specs.States.{States}
 
@@ -27,6 +28,7 @@ pub record Settings : Type 0 where
   pub start_kind : StartKind
   pub fold : Bool
   pub kind : Option AhoCorasickKind
+  pub dense_depth : ℕ
   pub byte_classes : Bool
 
 abbrev pub usual_settings : Settings
@@ -35,6 +37,7 @@ usual_settings = record {
   start_kind = Unanchored;
   fold = false;
   kind = None;
+  dense_depth = 2;
   byte_classes = true;
 }
 
@@ -52,9 +55,19 @@ built_by settings patterns = record {
 }
 
 -- the refusal of a table over these patterns that is too large, or None
-abbrev pub size_refusal : Settings → List (List ℕ) → Option BuildError
-size_refusal settings patterns =
+abbrev pub table_size_refusal : Settings → List (List ℕ) → Option BuildError
+table_size_refusal settings patterns =
     table_refusal_from settings.start_kind settings.byte_classes (built_by settings patterns)
+
+-- the same of packed words
+abbrev pub packed_size_refusal : Settings → List (List ℕ) → Option BuildError
+packed_size_refusal settings patterns =
+    packed_refusal_from settings.dense_depth settings.byte_classes (built_by settings patterns)
+
+-- whether nothing refuses an engine
+abbrev pub fits : Option BuildError → Bool
+fits None = true
+fits (Some e) = false
 
 -- whether there are so few patterns, and one start, that a table is worth its size
 abbrev pub suits_table : StartKind → ℕ → Bool
@@ -62,26 +75,38 @@ suits_table Both count = false
 suits_table Unanchored count = nat_le count MOST_FOR_TABLE
 suits_table Anchored count = nat_le count MOST_FOR_TABLE
 
--- the engine that was named, or else a table where it suits and fits, and the automaton with failure links where not
-abbrev pub kind_for : Option AhoCorasickKind → Bool → Option BuildError → AhoCorasickKind
-kind_for (Some kind) suits refusal = kind
-kind_for None true None = DFA
-kind_for None suits refusal = NoncontiguousNFA
+-- where no engine was named: a table where it suits and fits, else the contiguous automaton where it fits, else the
+-- noncontiguous one
+abbrev pub choose_kind : ℕ → StartKind → Bool → Bool → AhoCorasickKind
+choose_kind patterns_len start_kind dfa_fits contiguous_fits =
+    if suits_table start_kind patterns_len && dfa_fits then DFA
+    else if contiguous_fits then ContiguousNFA
+    else NoncontiguousNFA
+
+-- the engine that was named, or else the one that is chosen
+abbrev pub kind_for : Option AhoCorasickKind → AhoCorasickKind → AhoCorasickKind
+kind_for (Some kind) other = kind
+kind_for None other = other
 
 abbrev pub chosen : Settings → List (List ℕ) → AhoCorasickKind
 chosen settings patterns =
-    kind_for settings.kind (suits_table settings.start_kind (length patterns)) (size_refusal settings patterns)
+    kind_for settings.kind
+    (choose_kind (length patterns) settings.start_kind (fits (table_size_refusal settings patterns))
+    (fits (packed_size_refusal settings patterns)))
 
 -- how many looks at states an engine may take for each byte that it reads
 abbrev pub looks_allowed : AhoCorasickKind → ℕ
 looks_allowed NoncontiguousNFA = 2
+looks_allowed ContiguousNFA = 2
 looks_allowed DFA = 1
 
 -- why an engine can't be built within the limits of the list, if it can't, but for want of memory
 abbrev pub refusal_of : AhoCorasickKind → Settings → List (List ℕ) → Option BuildError
 refusal_of NoncontiguousNFA settings patterns = state_refusal (engine_settings settings) patterns
+refusal_of ContiguousNFA settings patterns =
+    refusal_or (state_refusal (engine_settings settings) patterns) (packed_size_refusal settings patterns)
 refusal_of DFA settings patterns =
-    refusal_or (state_refusal (engine_settings settings) patterns) (size_refusal settings patterns)
+    refusal_or (state_refusal (engine_settings settings) patterns) (table_size_refusal settings patterns)
 
 abbrev pub engine_refusal : Settings → List (List ℕ) → Option BuildError
 engine_refusal settings patterns = refusal_of (chosen settings patterns) settings patterns

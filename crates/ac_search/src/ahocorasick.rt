@@ -30,7 +30,7 @@ mod overlap;
 mod replace;
 
 pub use builder::AhoCorasickBuilder;
-pub use choice::AhoCorasickKind;
+pub use choice::{AhoCorasickKind, choose_kind};
 pub use find::FindIter;
 pub use overlap::FindOverlappingIter;
 

@@ -1,9 +1,9 @@
 //! Laws that users of a searcher may rest on, each as the contract of a function that does nothing. They speak
 //! of the definitions that the contracts of the searches are made of: nothing is called, nothing is assumed.
-ghost use Rattle.std.specs.Prelude.{◌≡◌, ◌≢◌, ◌+◌, ◌-◌, ◌≤◌, ◌↔◌, IfSome, IsTrue, None, true, length};
+ghost use Rattle.std.specs.Prelude.{◌≡◌, ◌≢◌, ◌+◌, ◌-◌, ◌≤◌, ◌↔◌, ℕ, IfSome, IsTrue, List, None, true, length};
 ghost use Rattle.std.specs.List.{AllByRecursion};
 ghost use Rattle.std.specs.Str.{IsUtf8};
-ghost use Rattle.ac_util.specs.Built.{Built, found, has_empty, search_in, walked};
+ghost use Rattle.ac_util.specs.Built.{Built, exchanged, exchanged_in_text, find_refusal, found, has_empty, overlapping_refusal, replace_refusal, search_in, walked};
 ghost use Rattle.ac_util.specs.Asked.{Asked};
 ghost use Rattle.ac_util.specs.Inputs.{asked};
 ghost use Rattle.ac_util.specs.Inside.{LiesIn};
@@ -12,6 +12,7 @@ ghost use Rattle.ac_util.specs.Occurrence.{Occurrence};
 ghost use Rattle.ac_util.specs.Search.{Occurs};
 ghost use Rattle.ac_util.specs.Sizes.{shortest_len};
 ghost use Rattle.ac_util.specs.Texts.{AreTexts, IsBetweenCharacters};
+ghost use Rattle.ac_search.specs.Searchers.{IsBuilt, Searcher, Settings};
 ghost use Rattle.ac_search.specs.declared.ahocorasick.choice.AhoCorasickKind.{AhoCorasickKind};
 
 use crate::ahocorasick::{AhoCorasick, AhoCorasickKind};
@@ -72,6 +73,35 @@ pub fn finds_if_something_occurs()
 /// The shortest pattern has no bytes exactly if some pattern is empty.
 pub fn shortest_is_empty()
     ensures { (built : Built) → (shortest_len built.patterns ≡ 0) ↔ IsTrue (has_empty built) }
+{}
+
+/// Two searchers over the same patterns, match kind, case setting and start kind answer every search equally, whatever
+/// their engines are, their dense depth and their classes of bytes: what one refuses, finds, walks over, lists or
+/// exchanges, the other does too.
+///
+/// Their values differ in what serves them, so this speaks of the parts that decide.
+pub fn engines_agree<A: Allocator, B: Allocator>(one: &AhoCorasick<A>, other: &AhoCorasick<B>)
+    requires patterns { one.now.built.patterns ≡ other.now.built.patterns }
+    requires kind { one.now.built.kind ≡ other.now.built.kind }
+    requires fold { one.now.built.fold ≡ other.now.built.fold }
+    requires start_kind { one.now.built.start_kind ≡ other.now.built.start_kind }
+    ensures built { one.now.built ≡ other.now.built }
+    ensures find { (asked : Asked) → (find_refusal one.now.built asked ≡ find_refusal other.now.built asked)
+        × (found one.now.built asked ≡ found other.now.built asked) }
+    ensures walk { (asked : Asked) → walked one.now.built asked ≡ walked other.now.built asked }
+    ensures listing { (asked : Asked) → (overlapping_refusal one.now.built asked ≡ overlapping_refusal other.now.built asked)
+        × (all (search_in one.now.built asked) ≡ all (search_in other.now.built asked)) }
+    ensures replacement { (haystack : List ℕ) → (replace_refusal one.now.built ≡ replace_refusal other.now.built)
+        × (exchanged one.now.built haystack ≡ exchanged other.now.built haystack)
+        × (exchanged_in_text one.now.built haystack ≡ exchanged_in_text other.now.built haystack) }
+{}
+
+/// Two builds over the same patterns, by settings with the same match kind, case setting and start kind, give searchers
+/// that `engines_agree` speaks of, whatever the settings are else.
+pub fn settings_change_no_answer()
+    ensures { (one other : Settings) (patterns : List (List ℕ)) (s t : Searcher) → IsBuilt one patterns s
+        → IsBuilt other patterns t → one.match_kind ≡ other.match_kind → one.fold ≡ other.fold
+        → one.start_kind ≡ other.start_kind → s.built ≡ t.built }
 {}
 
 /// The names of engines are equal where they are the same, and a clone of one is that name.

@@ -20,9 +20,10 @@
 
 pub mod ahocorasick;
 pub mod laws;
+pub mod nfa;
 
+pub use ac_automaton::automaton;
 pub use ac_automaton::automaton::{Automaton, MatchRest, OverlappingState, find_core};
-pub use ac_automaton::{automaton, nfa};
 pub use ac_engines::dfa;
 pub use ac_util::alphabet::ByteClasses;
 pub use ac_util::device::{Bytes, FromRead, IntoWrite, Sink, Source, Written};
@@ -34,7 +35,7 @@ pub use ac_util::prefilter::{Candidate, Prefilter};
 pub use ac_util::primitives::{GREATEST, PatternID, SmallIndex, StateID, TooLarge};
 pub use ac_util::search::{Anchored, Input, Match, MatchKind, Span, StartKind};
 pub use ahocorasick::{
-    AhoCorasick, AhoCorasickBuilder, AhoCorasickKind, FindIter, FindOverlappingIter,
+    AhoCorasick, AhoCorasickBuilder, AhoCorasickKind, FindIter, FindOverlappingIter, choose_kind,
 };
 
 #[cfg(test)]

@@ -4,7 +4,7 @@ use Rattle.ac_util.specs.declared.search.MatchKind.{MatchKind}
 use Rattle.ac_util.specs.declared.search.MatchKind.TheVariants.{Standard, LeftmostFirst, LeftmostLongest}
 use Rattle.ac_util.specs.declared.search.StartKind.TheVariants.{Unanchored}
 use Rattle.ac_search.specs.declared.ahocorasick.choice.AhoCorasickKind.{AhoCorasickKind}
-use Rattle.ac_search.specs.declared.ahocorasick.choice.AhoCorasickKind.TheVariants.{DFA, NoncontiguousNFA}
+use Rattle.ac_search.specs.declared.ahocorasick.choice.AhoCorasickKind.TheVariants.{ContiguousNFA, DFA, NoncontiguousNFA}
 use Rattle.ac_search.specs.Searchers.{Settings}
 use Rattle.acs.specs.declared.fault.Fault.{Fault}
 use Rattle.acs.specs.declared.fault.Fault.TheVariants.{OverlappingKind}
@@ -28,10 +28,13 @@ kind_of word =
     else if bytes_eq word (codes "longest") then Some LeftmostLongest
     else None
 
-abbrev pub engine_of : List ℕ → Option AhoCorasickKind
+-- by `auto` the searcher chooses
+abbrev pub engine_of : List ℕ → Option (Option AhoCorasickKind)
 engine_of word =
-    if bytes_eq word (codes "noncontiguous") then Some NoncontiguousNFA
-    else if bytes_eq word (codes "dfa") then Some DFA
+    if bytes_eq word (codes "auto") then Some None
+    else if bytes_eq word (codes "noncontiguous") then Some (Some NoncontiguousNFA)
+    else if bytes_eq word (codes "contiguous") then Some (Some ContiguousNFA)
+    else if bytes_eq word (codes "dfa") then Some (Some DFA)
     else None
 
 -- whether a mode allows so many words behind these three: for `replace` they stand in pairs
@@ -40,7 +43,7 @@ allows_count Replace count = count % 2 == 0
 allows_count mode count = true
 
 -- a mode, a kind and an engine, and so many words as the mode allows; anything else is no request
-abbrev pub request_with : Option Mode → Option MatchKind → Option AhoCorasickKind → ℕ → Option Request
+abbrev pub request_with : Option Mode → Option MatchKind → Option (Option AhoCorasickKind) → ℕ → Option Request
 request_with (Some mode) (Some kind) (Some engine) count =
     if allows_count mode count then Some (record { mode = mode; kind = kind; engine = engine })
     else None
@@ -89,6 +92,7 @@ settings_of request = record {
   match_kind = request.kind;
   start_kind = Unanchored;
   fold = false;
-  kind = Some request.engine;
+  kind = request.engine;
+  dense_depth = 2;
   byte_classes = true;
 }

@@ -27,7 +27,8 @@ pub(crate) enum Mode {
 pub(crate) struct Request {
     pub(crate) mode: Mode,
     pub(crate) kind: MatchKind,
-    pub(crate) engine: AhoCorasickKind,
+    /// The engine that is named; with none the searcher chooses.
+    pub(crate) engine: Option<AhoCorasickKind>,
 }
 
 /// Returns what the words ask for, or `None` where they ask for nothing that there is.
@@ -71,13 +72,15 @@ fn kind_of(word: &str) -> Option<MatchKind>
     }
 }
 
-/// Returns the engine of a name.
-fn engine_of(word: &str) -> Option<AhoCorasickKind>
+/// Returns the engine of a name; by `auto` the searcher chooses.
+fn engine_of(word: &str) -> Option<Option<AhoCorasickKind>>
     ensures { result ≡ engine_of word.now }
 {
     match word {
-        "noncontiguous" => Some(AhoCorasickKind::NoncontiguousNFA),
-        "dfa" => Some(AhoCorasickKind::DFA),
+        "auto" => Some(None),
+        "noncontiguous" => Some(Some(AhoCorasickKind::NoncontiguousNFA)),
+        "contiguous" => Some(Some(AhoCorasickKind::ContiguousNFA)),
+        "dfa" => Some(Some(AhoCorasickKind::DFA)),
         _ => None,
     }
 }

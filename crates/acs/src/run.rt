@@ -116,7 +116,7 @@ fn searcher_for<A: Allocator + Clone>(
 {
     let mut builder = AhoCorasickBuilder::new();
     builder.match_kind(request.kind);
-    builder.kind(Some(request.engine));
+    builder.kind(request.engine);
     Ok(builder.build(alloc, patterns)?)
 }
 

@@ -1,12 +1,13 @@
 //! The settings of a searcher, and its build.
-ghost use Rattle.std.specs.Prelude.{◌≡◌, MatchOption, MatchResult, None, length, true};
-ghost use Rattle.ac_util.specs.declared.error.BuildError.TheVariants.{Memory};
+ghost use Rattle.std.specs.Prelude.{◌≡◌, ℕ, MatchOption, MatchResult, Err, None, Ok, Some, length};
+ghost use Rattle.ac_util.specs.declared.error.BuildError.TheVariants.{Memory, StateIdOverflow};
 ghost use Rattle.ac_util.specs.Borrowed.{bytes_of};
 ghost use Rattle.ac_automaton.specs.Builds.{IsEngineBuilt, IsRefused};
-ghost use Rattle.ac_engines.specs.Builds.{IsTableFrom, table_refusal_from};
-ghost use Rattle.ac_search.specs.declared.ahocorasick.choice.AhoCorasickKind.TheVariants.{NoncontiguousNFA};
-ghost use Rattle.ac_search.specs.Engines.{Supports, searcher_of};
-ghost use Rattle.ac_search.specs.Searchers.{IsBuilt, RefusesSearcher, engine_refusal, engine_settings, kind_for, suits_table, usual_settings};
+ghost use Rattle.ac_engines.specs.Builds.{RefusesTableFrom, table_refusal_from};
+ghost use Rattle.ac_engines.specs.PackedBuilds.{RefusesPackedFrom, packed_refusal_from};
+ghost use Rattle.ac_search.specs.declared.ahocorasick.choice.AhoCorasickKind.TheVariants.{ContiguousNFA, DFA, NoncontiguousNFA};
+ghost use Rattle.ac_search.specs.Engines.{IsMadeFrom, Supports, searcher_of};
+ghost use Rattle.ac_search.specs.Searchers.{IsBuilt, RefusesSearcher, choose_kind, engine_refusal, engine_settings, fits, usual_settings};
 
 use super::AhoCorasick;
 use super::choice::{AhoCorasickKind, suits_table};
@@ -14,11 +15,15 @@ use super::engine::Engine;
 use ac_automaton::automaton::Automaton;
 use ac_automaton::nfa::noncontiguous;
 use ac_engines::dfa;
+use ac_engines::nfa::contiguous;
 use ac_util::error::BuildError;
 use ac_util::search::{MatchKind, StartKind};
 use std::alloc::Allocator;
 use std::marker::Model;
 use std::rc::Rc;
+
+/// States of strings that are shorter are dense in a contiguous automaton, unless it is set otherwise.
+const USUAL_DENSE_DEPTH: usize = 2;
 
 /// The settings of a build. A build changes none of them, so after a refusal the builder can be used again.
 ///
@@ -29,6 +34,7 @@ pub struct AhoCorasickBuilder {
     start_kind: StartKind,
     fold: bool,
     kind: Option<AhoCorasickKind>,
+    dense_depth: usize,
     byte_classes: bool,
 }
 
@@ -42,6 +48,7 @@ impl Model for AhoCorasickBuilder {
       start_kind = b.start_kind;
       fold = b.fold;
       kind = b.kind;
+      dense_depth = b.dense_depth;
       byte_classes = b.byte_classes;
     } };
 
@@ -50,6 +57,7 @@ impl Model for AhoCorasickBuilder {
       start_kind = v.start_kind;
       fold = v.fold;
       kind = v.kind;
+      dense_depth = v.dense_depth;
       byte_classes = v.byte_classes;
     } };
 }
@@ -64,7 +72,8 @@ impl Default for AhoCorasickBuilder {
 
 impl AhoCorasickBuilder {
     /// Returns a builder with the usual settings: `MatchKind::Standard`, unanchored searches alone, case
-    /// counts, the engine is chosen, and bytes that need not be told apart share a class.
+    /// counts, the engine is chosen, a contiguous automaton's states of fewer than two bytes are dense, and bytes that
+    /// need not be told apart share a class.
     pub fn new() -> AhoCorasickBuilder
         ensures { result ≡ usual_settings }
     {
@@ -73,6 +82,7 @@ impl AhoCorasickBuilder {
             start_kind: StartKind::Unanchored,
             fold: false,
             kind: None,
+            dense_depth: USUAL_DENSE_DEPTH,
             byte_classes: true,
         }
     }
@@ -120,11 +130,24 @@ impl AhoCorasickBuilder {
         self
     }
 
-    /// Sets whether bytes that need not be told apart share a class, so that a table takes less memory. They do unless
-    /// set.
+    /// Sets how many bytes a string has at least whose state in a contiguous automaton has targets only for the bytes
+    /// that lead on. It is 2 unless set. The other engines have no such states.
     ///
-    /// It changes no answer of a search. Where no engine was named, a table may be too large without classes, and then
-    /// another engine serves.
+    /// It changes no answer of a search. Where no engine was named, a contiguous automaton may be too large with more
+    /// such states, and then the noncontiguous one serves.
+    pub fn dense_depth(&mut self, depth: usize) -> &mut AhoCorasickBuilder
+        ensures value { result.now ≡ record self.old { dense_depth = depth } }
+        ensures same { result.ghost_name ≡ self.entry.ghost_name }
+    {
+        self.dense_depth = depth;
+        self
+    }
+
+    /// Sets whether bytes that need not be told apart share a class, so that a table or a contiguous automaton takes
+    /// less memory. They do unless set.
+    ///
+    /// It changes no answer of a search. Where no engine was named, an engine may be too large without classes, and then
+    /// another one serves.
     pub fn byte_classes(&mut self, yes: bool) -> &mut AhoCorasickBuilder
         ensures value { result.now ≡ record self.old { byte_classes = yes } }
         ensures same { result.ghost_name ≡ self.entry.ghost_name }
@@ -135,13 +158,14 @@ impl AhoCorasickBuilder {
 
     /// Builds a searcher over a list of patterns. An empty list is fine: nothing is then found.
     ///
-    /// Where no engine was named it takes a table for at most 100 patterns and one start, unless the table would be too
-    /// large, and else the automaton with failure links.
+    /// Where no engine was named it takes a table for at most 100 patterns and one start, else the contiguous automaton,
+    /// else the noncontiguous one: each of the first two unless it would be too large. `choose_kind` tells which.
     ///
     /// # Errors
     /// `PatternIdOverflow` and `PatternTooLong` exactly where a limit is passed, whether there is memory or
-    /// not. Else `StateIdOverflow` only where the automaton with failure links would need more states than there are
-    /// numbers, or where a table was named that would be too large, and `Memory` where a request for memory is refused.
+    /// not. Else `StateIdOverflow` only where the noncontiguous automaton would need more states than there are
+    /// numbers, or where another engine was named that would be too large, and `Memory` where a request for memory is
+    /// refused.
     pub fn build<A: Allocator + Clone>(
         &self,
         alloc: A,
@@ -170,61 +194,103 @@ impl AhoCorasickBuilder {
             × IsBuilt self.now nfa.built.patterns (searcher_of engine self.now.start_kind))
             (IsRefused (engine_refusal self.now nfa.built.patterns)) }
     {
-        let table = match self.kind {
+        let made = match self.kind {
             Some(AhoCorasickKind::NoncontiguousNFA) => None,
+            Some(AhoCorasickKind::ContiguousNFA) => Some(self.packed_over(&nfa)?),
             Some(AhoCorasickKind::DFA) => Some(self.table_over(&nfa)?),
-            None => self.chosen_table(&nfa)?,
+            None => self.chosen_over(&nfa)?,
         };
-        let alloc = nfa.allocator().clone()?;
-        match table {
-            Some(dfa) => Ok(Engine::Dfa(Rc::new(alloc, dfa)?)),
-            None => Ok(Engine::Noncontiguous(Rc::new(alloc, nfa)?)),
+        if let Some(engine) = made {
+            return Ok(engine);
         }
+        let alloc = nfa.allocator().clone()?;
+        Ok(Engine::Noncontiguous(Rc::new(alloc, nfa)?))
     }
 
-    /// Returns a table where it suits and fits, and else None.
+    /// Returns the engine that is chosen, or None where it is the automaton itself.
     ///
     /// # Errors
     /// `Memory` where a request for memory is refused.
-    fn chosen_table<A: Allocator + Clone>(
+    fn chosen_over<A: Allocator + Clone>(
         &self,
         nfa: &noncontiguous::NFA<A>,
-    ) -> Result<Option<dfa::DFA<A>>, BuildError>
+    ) -> Result<Option<Engine<A>>, BuildError>
         ensures { MatchResult result
-            (λ table. MatchOption table
-            (kind_for None (suits_table self.now.start_kind (length nfa.now.built.patterns))
-            (table_refusal_from self.now.start_kind self.now.byte_classes nfa.now.built) ≡ NoncontiguousNFA)
-            (λ dfa. IsTableFrom self.now.start_kind self.now.byte_classes nfa.now.built dfa
-            × (suits_table self.now.start_kind (length nfa.now.built.patterns) ≡ true)
-            × (table_refusal_from self.now.start_kind self.now.byte_classes nfa.now.built ≡ None)))
+            (λ made. MatchOption made
+            (choose_kind (length nfa.now.built.patterns) self.now.start_kind
+            (fits (table_refusal_from self.now.start_kind self.now.byte_classes nfa.now.built))
+            (fits (packed_refusal_from self.now.dense_depth self.now.byte_classes nfa.now.built)) ≡ NoncontiguousNFA)
+            (λ engine. IsMadeFrom nfa.now.built self.now engine
+            (choose_kind (length nfa.now.built.patterns) self.now.start_kind
+            (fits (table_refusal_from self.now.start_kind self.now.byte_classes nfa.now.built))
+            (fits (packed_refusal_from self.now.dense_depth self.now.byte_classes nfa.now.built)))))
             (λ e. e ≡ Memory) }
     {
-        if !suits_table(self.start_kind, nfa.patterns_len()) {
-            return Ok(None);
+        if suits_table(self.start_kind, nfa.patterns_len()) {
+            let made = unless_too_large(self.table_over(nfa))?;
+            if made.is_some() {
+                return Ok(made);
+            }
         }
-        match self.table_over(nfa) {
-            Ok(dfa) => Ok(Some(dfa)),
-            Err(BuildError::StateIdOverflow { .. }) => Ok(None),
-            Err(e) => Err(e),
-        }
+        unless_too_large(self.packed_over(nfa))
+    }
+
+    /// Returns a contiguous automaton with this dense depth and these classes.
+    ///
+    /// # Errors
+    /// `StateIdOverflow` exactly where it would be too large, and else `Memory` where a request for memory is refused.
+    fn packed_over<A: Allocator + Clone>(
+        &self,
+        nfa: &noncontiguous::NFA<A>,
+    ) -> Result<Engine<A>, BuildError>
+        ensures { MatchResult result
+            (λ engine. IsMadeFrom nfa.now.built self.now engine ContiguousNFA
+            × (packed_refusal_from self.now.dense_depth self.now.byte_classes nfa.now.built ≡ None))
+            (RefusesPackedFrom self.now.dense_depth self.now.byte_classes nfa.now.built) }
+    {
+        let mut settings = contiguous::Builder::new();
+        settings.dense_depth(self.dense_depth);
+        settings.byte_classes(self.byte_classes);
+        let alloc = nfa.allocator().clone()?;
+        let packed = settings.build_from_noncontiguous(alloc, nfa)?;
+        Ok(Engine::Contiguous(Rc::new(nfa.allocator().clone()?, packed)?))
     }
 
     /// Returns a table with these starts and classes.
     ///
     /// # Errors
-    /// `StateIdOverflow` only where it would be too large, and `Memory` where a request for memory is refused.
+    /// `StateIdOverflow` exactly where it would be too large, and else `Memory` where a request for memory is refused.
     fn table_over<A: Allocator + Clone>(
         &self,
         nfa: &noncontiguous::NFA<A>,
-    ) -> Result<dfa::DFA<A>, BuildError>
+    ) -> Result<Engine<A>, BuildError>
         ensures { MatchResult result
-            (λ dfa. IsTableFrom self.now.start_kind self.now.byte_classes nfa.now.built dfa
+            (λ engine. IsMadeFrom nfa.now.built self.now engine DFA
             × (table_refusal_from self.now.start_kind self.now.byte_classes nfa.now.built ≡ None))
-            (IsRefused (table_refusal_from self.now.start_kind self.now.byte_classes nfa.now.built)) }
+            (RefusesTableFrom self.now.start_kind self.now.byte_classes nfa.now.built) }
     {
         let mut builder = dfa::Builder::new();
         builder.start_kind(self.start_kind);
         builder.byte_classes(self.byte_classes);
-        builder.build_from_noncontiguous(nfa.allocator().clone()?, nfa)
+        let alloc = nfa.allocator().clone()?;
+        let table = builder.build_from_noncontiguous(alloc, nfa)?;
+        Ok(Engine::Dfa(Rc::new(nfa.allocator().clone()?, table)?))
+    }
+}
+
+/// Returns what was made, or None where it would have been too large.
+///
+/// # Errors
+/// Every other refusal.
+fn unless_too_large<T>(made: Result<T, BuildError>) -> Result<Option<T>, BuildError>
+    ensures { MatchResult made
+        (λ engine. result ≡ Ok (Some engine))
+        (λ e. (e ≡ Memory → result ≡ Err Memory)
+        × ((max requested : ℕ) → e ≡ StateIdOverflow max requested → result ≡ Ok None)) }
+{
+    match made {
+        Ok(engine) => Ok(Some(engine)),
+        Err(BuildError::StateIdOverflow { .. }) => Ok(None),
+        Err(e) => Err(e),
     }
 }

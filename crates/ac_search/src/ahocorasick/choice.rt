@@ -1,6 +1,6 @@
 //! Which engine serves a searcher.
 ghost use Rattle.std.specs.Prelude.{◌≡◌};
-ghost use Rattle.ac_search.specs.Searchers.{suits_table};
+ghost use Rattle.ac_search.specs.Searchers.{choose_kind, suits_table};
 
 use ac_util::search::StartKind;
 
@@ -12,8 +12,32 @@ pub const MOST_FOR_TABLE: usize = 100;
 pub enum AhoCorasickKind {
     /// `nfa::noncontiguous::NFA`.
     NoncontiguousNFA,
+    /// `nfa::contiguous::NFA`.
+    ContiguousNFA,
     /// `dfa::DFA`.
     DFA,
+}
+
+/// Returns the engine that a searcher over so many patterns takes where none was named, by whether a table would be
+/// within its limit, and the contiguous automaton within its own.
+///
+/// A table serves at most 100 patterns and one start, where it fits; else the contiguous automaton serves, where that
+/// fits; else the noncontiguous one.
+pub fn choose_kind(
+    patterns_len: usize,
+    start_kind: StartKind,
+    dfa_fits: bool,
+    contiguous_fits: bool,
+) -> AhoCorasickKind
+    ensures { result ≡ choose_kind patterns_len start_kind dfa_fits contiguous_fits }
+{
+    if suits_table(start_kind, patterns_len) && dfa_fits {
+        AhoCorasickKind::DFA
+    } else if contiguous_fits {
+        AhoCorasickKind::ContiguousNFA
+    } else {
+        AhoCorasickKind::NoncontiguousNFA
+    }
 }
 
 /// Returns whether a table over so many patterns is worth its size, where no engine was named.

@@ -17,6 +17,7 @@ use super::choice::AhoCorasickKind;
 use ac_automaton::automaton::{self, Automaton, OverlappingState};
 use ac_automaton::nfa::noncontiguous;
 use ac_engines::dfa;
+use ac_engines::nfa::contiguous;
 use ac_util::error::{MatchError, ReplaceError};
 use ac_util::search::{Input, Match, MatchKind};
 use std::alloc::{AllocError, Allocator};
@@ -26,6 +27,7 @@ use std::rc::Rc;
 #[derive(Drop)]
 pub(super) enum Engine<A: Allocator> {
     Noncontiguous(Rc<noncontiguous::NFA<A>, A>),
+    Contiguous(Rc<contiguous::NFA<A>, A>),
     Dfa(Rc<dfa::DFA<A>, A>),
 }
 
@@ -42,6 +44,7 @@ impl<A: Allocator> Engine<A> {
     {
         match self {
             Engine::Noncontiguous(nfa) => Ok(Engine::Noncontiguous(nfa.clone()?)),
+            Engine::Contiguous(nfa) => Ok(Engine::Contiguous(nfa.clone()?)),
             Engine::Dfa(dfa) => Ok(Engine::Dfa(dfa.clone()?)),
         }
     }
@@ -52,6 +55,7 @@ impl<A: Allocator> Engine<A> {
     {
         match self {
             Engine::Noncontiguous(_) => AhoCorasickKind::NoncontiguousNFA,
+            Engine::Contiguous(_) => AhoCorasickKind::ContiguousNFA,
             Engine::Dfa(_) => AhoCorasickKind::DFA,
         }
     }
@@ -64,6 +68,7 @@ impl<A: Allocator> Engine<A> {
     {
         match self {
             Engine::Noncontiguous(nfa) => nfa.as_ref().try_find(input),
+            Engine::Contiguous(nfa) => nfa.as_ref().try_find(input),
             Engine::Dfa(dfa) => dfa.as_ref().try_find(input),
         }
     }
@@ -84,6 +89,10 @@ impl<A: Allocator> Engine<A> {
             Engine::Noncontiguous(nfa) => {
                 let matches = nfa.as_ref().try_find_iter(input)?;
                 Ok(EngineFindIter::Noncontiguous(matches))
+            }
+            Engine::Contiguous(nfa) => {
+                let matches = nfa.as_ref().try_find_iter(input)?;
+                Ok(EngineFindIter::Contiguous(matches))
             }
             Engine::Dfa(dfa) => {
                 let matches = dfa.as_ref().try_find_iter(input)?;
@@ -112,6 +121,7 @@ impl<A: Allocator> Engine<A> {
     {
         match self {
             Engine::Noncontiguous(nfa) => nfa.as_ref().try_find_overlapping(input, state),
+            Engine::Contiguous(nfa) => nfa.as_ref().try_find_overlapping(input, state),
             Engine::Dfa(dfa) => dfa.as_ref().try_find_overlapping(input, state),
         }
     }
@@ -132,6 +142,10 @@ impl<A: Allocator> Engine<A> {
             Engine::Noncontiguous(nfa) => {
                 let items = nfa.as_ref().try_find_overlapping_iter(input)?;
                 Ok(EngineFindOverlappingIter::Noncontiguous(items))
+            }
+            Engine::Contiguous(nfa) => {
+                let items = nfa.as_ref().try_find_overlapping_iter(input)?;
+                Ok(EngineFindOverlappingIter::Contiguous(items))
             }
             Engine::Dfa(dfa) => {
                 let items = dfa.as_ref().try_find_overlapping_iter(input)?;
@@ -155,6 +169,7 @@ impl<A: Allocator> Engine<A> {
     {
         match self {
             Engine::Noncontiguous(nfa) => nfa.as_ref().try_replace_all(alloc, haystack, texts),
+            Engine::Contiguous(nfa) => nfa.as_ref().try_replace_all(alloc, haystack, texts),
             Engine::Dfa(dfa) => dfa.as_ref().try_replace_all(alloc, haystack, texts),
         }
     }
@@ -175,6 +190,7 @@ impl<A: Allocator> Engine<A> {
             Engine::Noncontiguous(nfa) => nfa
                 .as_ref()
                 .try_replace_all_bytes(alloc, haystack, texts),
+            Engine::Contiguous(nfa) => nfa.as_ref().try_replace_all_bytes(alloc, haystack, texts),
             Engine::Dfa(dfa) => dfa.as_ref().try_replace_all_bytes(alloc, haystack, texts),
         }
     }
@@ -196,6 +212,9 @@ impl<A: Allocator> Engine<A> {
     {
         match self {
             Engine::Noncontiguous(nfa) => nfa
+                .as_ref()
+                .try_replace_all_with(haystack, destination, exchange),
+            Engine::Contiguous(nfa) => nfa
                 .as_ref()
                 .try_replace_all_with(haystack, destination, exchange),
             Engine::Dfa(dfa) => dfa
@@ -223,6 +242,9 @@ impl<A: Allocator> Engine<A> {
             Engine::Noncontiguous(nfa) => nfa
                 .as_ref()
                 .try_replace_all_with_bytes(haystack, destination, exchange),
+            Engine::Contiguous(nfa) => nfa
+                .as_ref()
+                .try_replace_all_with_bytes(haystack, destination, exchange),
             Engine::Dfa(dfa) => dfa
                 .as_ref()
                 .try_replace_all_with_bytes(haystack, destination, exchange),
@@ -235,6 +257,7 @@ impl<A: Allocator> Engine<A> {
     {
         match self {
             Engine::Noncontiguous(nfa) => nfa.as_ref().match_kind(),
+            Engine::Contiguous(nfa) => nfa.as_ref().match_kind(),
             Engine::Dfa(dfa) => dfa.as_ref().match_kind(),
         }
     }
@@ -245,6 +268,7 @@ impl<A: Allocator> Engine<A> {
     {
         match self {
             Engine::Noncontiguous(nfa) => nfa.as_ref().min_pattern_len(),
+            Engine::Contiguous(nfa) => nfa.as_ref().min_pattern_len(),
             Engine::Dfa(dfa) => dfa.as_ref().min_pattern_len(),
         }
     }
@@ -255,6 +279,7 @@ impl<A: Allocator> Engine<A> {
     {
         match self {
             Engine::Noncontiguous(nfa) => nfa.as_ref().max_pattern_len(),
+            Engine::Contiguous(nfa) => nfa.as_ref().max_pattern_len(),
             Engine::Dfa(dfa) => dfa.as_ref().max_pattern_len(),
         }
     }
@@ -265,6 +290,7 @@ impl<A: Allocator> Engine<A> {
     {
         match self {
             Engine::Noncontiguous(nfa) => nfa.as_ref().patterns_len(),
+            Engine::Contiguous(nfa) => nfa.as_ref().patterns_len(),
             Engine::Dfa(dfa) => dfa.as_ref().patterns_len(),
         }
     }
@@ -273,6 +299,7 @@ impl<A: Allocator> Engine<A> {
     pub(super) fn memory_usage(&self) -> usize {
         match self {
             Engine::Noncontiguous(nfa) => nfa.as_ref().memory_usage(),
+            Engine::Contiguous(nfa) => nfa.as_ref().memory_usage(),
             Engine::Dfa(dfa) => dfa.as_ref().memory_usage(),
         }
     }
@@ -282,6 +309,7 @@ impl<A: Allocator> Engine<A> {
 #[derive(Drop)]
 pub(super) enum EngineFindIter<'a, 'h, A: Allocator> {
     Noncontiguous(automaton::FindIter<'a, 'h, noncontiguous::NFA<A>>),
+    Contiguous(automaton::FindIter<'a, 'h, contiguous::NFA<A>>),
     Dfa(automaton::FindIter<'a, 'h, dfa::DFA<A>>),
 }
 
@@ -293,6 +321,7 @@ impl<'a, 'h, A: Allocator> EngineFindIter<'a, 'h, A> {
     {
         match self {
             EngineFindIter::Noncontiguous(matches) => matches.next(),
+            EngineFindIter::Contiguous(matches) => matches.next(),
             EngineFindIter::Dfa(matches) => matches.next(),
         }
     }
@@ -302,6 +331,7 @@ impl<'a, 'h, A: Allocator> EngineFindIter<'a, 'h, A> {
 #[derive(Drop)]
 pub(super) enum EngineFindOverlappingIter<'a, 'h, A: Allocator> {
     Noncontiguous(automaton::FindOverlappingIter<'a, 'h, noncontiguous::NFA<A>>),
+    Contiguous(automaton::FindOverlappingIter<'a, 'h, contiguous::NFA<A>>),
     Dfa(automaton::FindOverlappingIter<'a, 'h, dfa::DFA<A>>),
 }
 
@@ -313,6 +343,7 @@ impl<'a, 'h, A: Allocator> EngineFindOverlappingIter<'a, 'h, A> {
     {
         match self {
             EngineFindOverlappingIter::Noncontiguous(items) => items.next(),
+            EngineFindOverlappingIter::Contiguous(items) => items.next(),
             EngineFindOverlappingIter::Dfa(items) => items.next(),
         }
     }

@@ -2,31 +2,56 @@ use super::{Told, told, walk_of};
 use crate::MatchKind::{LeftmostFirst, LeftmostLongest, Standard};
 use crate::{
     AhoCorasick, AhoCorasickBuilder, AhoCorasickKind, Anchored, Input, MatchKind, OverlappingState,
-    StartKind,
+    StartKind, choose_kind,
 };
 use std::test::Fail;
 
-/// How a searcher is served: the engine, or None to let it choose, and whether bytes share classes.
+/// How a searcher is served: the engine, or None to let it choose, the dense depth, and whether bytes share classes.
 struct Engine {
     kind: Option<AhoCorasickKind>,
+    dense_depth: usize,
     byte_classes: bool,
 }
 
-const ENGINES: [Engine; 4] = [
+const ENGINES: [Engine; 8] = [
     Engine {
         kind: None,
+        dense_depth: 2,
         byte_classes: true,
     },
     Engine {
         kind: Some(AhoCorasickKind::NoncontiguousNFA),
+        dense_depth: 2,
+        byte_classes: true,
+    },
+    Engine {
+        kind: Some(AhoCorasickKind::ContiguousNFA),
+        dense_depth: 2,
+        byte_classes: true,
+    },
+    Engine {
+        kind: Some(AhoCorasickKind::ContiguousNFA),
+        dense_depth: 0,
+        byte_classes: true,
+    },
+    Engine {
+        kind: Some(AhoCorasickKind::ContiguousNFA),
+        dense_depth: 1,
+        byte_classes: false,
+    },
+    Engine {
+        kind: Some(AhoCorasickKind::ContiguousNFA),
+        dense_depth: 6,
         byte_classes: true,
     },
     Engine {
         kind: Some(AhoCorasickKind::DFA),
+        dense_depth: 2,
         byte_classes: true,
     },
     Engine {
         kind: Some(AhoCorasickKind::DFA),
+        dense_depth: 0,
         byte_classes: false,
     },
 ];
@@ -175,6 +200,7 @@ const ANCHORED_WALKS: [Row; 5] = [
 fn builder_of(engine: &Engine, kind: MatchKind, start_kind: StartKind) -> AhoCorasickBuilder {
     let mut builder = AhoCorasickBuilder::new();
     builder.kind(engine.kind).byte_classes(engine.byte_classes);
+    builder.dense_depth(engine.dense_depth);
     builder.match_kind(kind).start_kind(start_kind);
     builder
 }
@@ -336,16 +362,16 @@ fn each_engine_tells_many_bytes_apart(rt: HostRuntime) -> Result<(), Fail> {
 /// A number of patterns, a start kind, the engine that is named, and the one that serves.
 type Choice = (usize, StartKind, Option<AhoCorasickKind>, AhoCorasickKind);
 
-const CHOICES: [Choice; 8] = [
+const CHOICES: [Choice; 9] = [
     (0, StartKind::Anchored, None, AhoCorasickKind::DFA),
     (100, StartKind::Unanchored, None, AhoCorasickKind::DFA),
     (
         101,
         StartKind::Unanchored,
         None,
-        AhoCorasickKind::NoncontiguousNFA,
+        AhoCorasickKind::ContiguousNFA,
     ),
-    (1, StartKind::Both, None, AhoCorasickKind::NoncontiguousNFA),
+    (1, StartKind::Both, None, AhoCorasickKind::ContiguousNFA),
     (
         101,
         StartKind::Both,
@@ -357,6 +383,12 @@ const CHOICES: [Choice; 8] = [
         StartKind::Unanchored,
         Some(AhoCorasickKind::DFA),
         AhoCorasickKind::DFA,
+    ),
+    (
+        1,
+        StartKind::Unanchored,
+        Some(AhoCorasickKind::ContiguousNFA),
+        AhoCorasickKind::ContiguousNFA,
     ),
     (
         1,
@@ -392,4 +424,48 @@ fn an_engine_is_chosen(rt: HostRuntime) -> Result<(), Fail> {
         assert_eq!(rt; searcher.patterns_len(), count);
     }
     Ok(())
+}
+
+/// A number of patterns, a start kind, and whether a table and a contiguous automaton fit, with the engine.
+type Fitting = (usize, StartKind, bool, bool, AhoCorasickKind);
+
+const FITTINGS: [Fitting; 6] = [
+    (100, StartKind::Unanchored, true, true, AhoCorasickKind::DFA),
+    (0, StartKind::Anchored, true, true, AhoCorasickKind::DFA),
+    (
+        100,
+        StartKind::Anchored,
+        false,
+        true,
+        AhoCorasickKind::ContiguousNFA,
+    ),
+    (
+        100,
+        StartKind::Anchored,
+        false,
+        false,
+        AhoCorasickKind::NoncontiguousNFA,
+    ),
+    (
+        101,
+        StartKind::Unanchored,
+        true,
+        true,
+        AhoCorasickKind::ContiguousNFA,
+    ),
+    (
+        1,
+        StartKind::Both,
+        true,
+        true,
+        AhoCorasickKind::ContiguousNFA,
+    ),
+];
+
+#[test]
+fn what_fits_is_chosen(rt: HostRuntime) {
+    for (patterns_len, start_kind, dfa_fits, contiguous_fits, wanted) in FITTINGS {
+        let kind = choose_kind(patterns_len, start_kind, dfa_fits, contiguous_fits);
+        assert_eq!(rt; kind, wanted, "{patterns_len}, {start_kind:?}");
+    }
 }

@@ -389,7 +389,7 @@ fn with_engine<'w>(
 #[test]
 fn lines_are_written(rt: HostRuntime) -> Result<(), Fail> {
     for &(name, words, input, wanted, ending) in RUNS {
-        for engine in ["noncontiguous", "dfa"] {
+        for engine in ["noncontiguous", "contiguous", "dfa", "auto"] {
             println!(rt; "run: {name}, by {engine}")?;
             let words = with_engine(rt.alloc(), words, engine)?;
             let mut reader = Bytes::new(input.as_bytes());
