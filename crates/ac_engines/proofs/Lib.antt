@@ -3,6 +3,7 @@ pub mod ClassWords
 pub mod EdgeTargets
 pub mod Filled
 pub mod Follow
+pub mod InnerStates
 pub mod LaidOut
 pub mod LaidUpTo
 pub mod Laying
@@ -14,6 +15,7 @@ pub mod Numbered
 pub mod Numbers
 pub mod OneRow
 pub mod Owning
+pub mod PackedSums
 pub mod PackedSteps
 pub mod Places
 pub mod PushedStates
@@ -27,3 +29,4 @@ pub mod Spellings
 pub mod Starts
 pub mod StateRows
 pub mod Vectors
+pub mod WordCounts
