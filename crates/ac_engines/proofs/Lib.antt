@@ -18,6 +18,7 @@ pub mod Owning
 pub mod PackedSums
 pub mod PackedSteps
 pub mod Places
+pub mod PlanSums
 pub mod PushedStates
 pub mod PushingClasses
 pub mod Ranges

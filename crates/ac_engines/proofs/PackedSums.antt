@@ -1,5 +1,5 @@
 -- Sums over the states of a plan, and over the strings that they stand for.
-use Rattle.std.proofs.Common.{◌≡◌, ◌≢◌, ℕ, zero, suc, ◌+◌, ◌*◌, ◌<◌, ◌≤◌, Bool, true, false, cond, List, [], ◌∷◌, length, map, inl, inr, Option, None, Some, refl, ap, sym, subst, ◌∙◌, add-one, arith}
+use Rattle.std.proofs.Common.{◌≡◌, ◌≢◌, ℕ, zero, suc, ◌+◌, ◌<◌, ◌≤◌, List, [], ◌∷◌, length, map, inl, inr, Option, None, Some, refl, ap, sym, subst, ◌∙◌, add-one, arith}
 use Rattle.std.specs.Prelude.{slice_get}
 use Rattle.std.specs.List.{range_with_len, sum_by}
 use Rattle.std.proofs.lemmas.List.FromFn.{length-map-range_with_len}
@@ -86,7 +86,7 @@ sum-same f (x ∷ xs) ys apart short into =
     omega (arith, sum_by-cons f x xs, cut.1.sum, rest)
 
 -- the string of a node
-string_of : Option (Option (List ℕ)) → List ℕ
+abbrev string_of : Option (Option (List ℕ)) → List ℕ
 string_of None = []
 string_of (Some None) = []
 string_of (Some (Some w)) = w

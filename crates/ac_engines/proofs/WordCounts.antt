@@ -2,7 +2,6 @@
 use Rattle.std.proofs.Common.{◌≡◌, ℕ, zero, suc, ◌+◌, ◌≤◌, Bool, true, false, cond, [], ◌∷◌, length, None, Some, refl, arith}
 use Rattle.std.specs.Prelude.{nat_lt}
 use Rattle.std.proofs.lemmas.Bool.{ltb-false}
-use Rattle.ac_util.specs.declared.primitives.TheConstants.{GREATEST}
 use Rattle.ac_util.specs.declared.search.Anchored.TheVariants.{No}
 use Rattle.ac_util.specs.Built.{Built}
 use Rattle.ac_util.specs.Node.{Node}
@@ -13,7 +12,6 @@ use Rattle.ac_engines.specs.declared.nfa.contiguous.format.Format.TheVariants.{D
 use Rattle.ac_engines.specs.declared.nfa.contiguous.format.TheConstants.{MOST_SPARSE}
 use Rattle.ac_engines.specs.Formats.{match_words, sparse_format, words_of_state}
 use Rattle.ac_engines.specs.Sizes.{node_format, node_words}
-use Rattle.ac_engines.proofs.MatchCounts.{own_bytes-few}
 
 -- beside the matches stands at most their number
 match_words-most : (matches : ℕ) → match_words matches ≤ matches + 1

@@ -1,5 +1,5 @@
-use Rattle.std.proofs.Common.{◌≡◌, ℕ, ◌≤◌, ◌∷◌, length, refl, ap, sym, subst, ◌∙◌, arith}
-use Rattle.ac_util.specs.Node.{Node, depth}
+use Rattle.std.proofs.Common.{◌≡◌, ◌≤◌, length, refl, ap, sym, subst, ◌∙◌, arith}
+use Rattle.ac_util.specs.Node.{depth}
 use Rattle.ac_automaton.specs.Readers.{AreNodes, own_bytes}
 use Rattle.ac_automaton.specs.Tries.{Trie}
 use Rattle.ac_engines.specs.Formats.{format_of}

@@ -1,4 +1,4 @@
-use Rattle.std.proofs.Common.{◌≡◌, ◌≤◌, length, ap, sym, subst, ◌∙◌, arith}
+use Rattle.std.proofs.Common.{length, ap, sym, subst, ◌∙◌, arith}
 use Rattle.ac_util.specs.Classes.{alphabet_len}
 use Rattle.ac_automaton.specs.Readers.{AreNodes, own_bytes}
 use Rattle.ac_automaton.specs.Tries.{Trie}
