@@ -116,7 +116,7 @@ module _ (trie : Trie) (nodes : List Node) (h : AreNodes trie nodes) where
         let second = string-named from.0 (omega (arith, later.0)) (omega (arith, later.1)) in
         let both : string_at a ≡ string_at from.0 = same ∙ sym from.2 in
         let once = h.numbered.once a from.0 (string_at a) (record { inner = behind; named = first })
-            (record { inner = omega (arith, later.0); named = second ∙ ap (λ v. Some (Some v)) (sym both) }) in
+        (record { inner = omega (arith, later.0); named = second ∙ ap (λ v. Some (Some v)) (sym both) }) in
         omega (arith, once, later.0)),
     strings-apart (a + 1) n (omega arith) (omega arith),
   )
@@ -138,9 +138,13 @@ module _ (trie : Trie) (nodes : List Node) (h : AreNodes trie nodes) where
     sum-strings a zero behind within = refl
     sum-strings a (suc n) behind within =
         let here = same a (string_at a) behind (string-named a behind (omega arith)) in
-        omega (arith, sum_by-cons f a (range_with_len (a + 1) n),
-        sum_by-cons g (string_at a) (map string_at (range_with_len (a + 1) n)), here,
-        sum-strings (a + 1) n (omega arith) (omega arith))
+        omega (
+          arith,
+          sum_by-cons f a (range_with_len (a + 1) n),
+          sum_by-cons g (string_at a) (map string_at (range_with_len (a + 1) n)),
+          here,
+          sum-strings (a + 1) n (omega arith) (omega arith),
+        )
 
     -- and so the sum over all is that over the first four and that over the strings that aren't empty
     pub total-inner : total f (length nodes) ≡ total f 4 + sum_by g inner

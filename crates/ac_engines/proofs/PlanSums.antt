@@ -1,7 +1,8 @@
 -- The places of a plan's states, by the sums of their sizes.
-use Rattle.std.proofs.Common.{◌≡◌, ℕ, ◌+◌, ◌*◌, ◌<◌, ◌≤◌, Bool, true, false, cond, List, [], length, get_or, None, Some, refl, ap, sym, ◌∙◌, arith}
-use Rattle.std.specs.Prelude.{nat_lt, slice_get}
-use Rattle.std.proofs.lemmas.Bool.{cond-false, le-ltb}
+use Rattle.std.proofs.Common.{◌≡◌, ℕ, zero, suc, ◌+◌, ◌-◌, ◌*◌, ◌<◌, ◌≤◌, Bool, true, false, cond, List, [], ◌∷◌, ◌++◌, inl, inr, length, get_or, None, Some, refl, ap, sym, ◌∙◌, arith}
+use Rattle.std.specs.Prelude.{nat_lt, slice_get, slice_index_or}
+use Rattle.std.proofs.lemmas.Bool.{cases_lt, cond-false, le-ltb}
+use Rattle.std.proofs.lemmas.List.{get_or-append_right, get_or_append_left}
 use Rattle.std.proofs.lemmas.Option.{slice_get-get_or}
 use Rattle.ac_util.specs.Classes.{alphabet_len}
 use Rattle.ac_util.specs.Node.{Node}
@@ -11,7 +12,7 @@ use Rattle.ac_automaton.specs.declared.nfa.noncontiguous.state.TheConstants.{STA
 use Rattle.ac_engines.specs.PackedPlaces.{HasWords, MayPack, PackPlan, front_end, has_matches, place_at, placed, size_at, size_of, sized, total}
 use Rattle.ac_engines.specs.Sizes.{packed_words}
 use Rattle.ac_engines.proofs.LaidUpTo.{IsNamed}
-use Rattle.ac_engines.proofs.PackedSums.{total-both, total-inner, total-more}
+use Rattle.ac_engines.proofs.PackedSums.{total-both, total-grows, total-inner, total-more}
 
 -- a trie has as many states as there are nodes
 pub plan-states : (p q : PackPlan) (nodes : List Node) (n : ℕ) → MayPack q nodes → p ≡ q
@@ -71,8 +72,11 @@ module _ (q : PackPlan) (nodes : List Node) where
     first-sizes : total (λ s. size_at q nodes true s + size_at q nodes false s) 4 ≡ 2 * size_of q nodes (Some [])
     unfolding total
     first-sizes =
-        omega (arith, size-both 2 (Some []) (omega arith) may.are_nodes.start,
-        size-both 3 (Some []) (omega arith) may.are_nodes.anchored_start)
+        omega (
+          arith,
+          size-both 2 (Some []) (omega arith) may.are_nodes.start,
+          size-both 3 (Some []) (omega arith) may.are_nodes.anchored_start,
+        )
 
     -- the sizes of all states are those of the plan
     pub sizes-whole : size_of q nodes None + before q nodes true (length nodes) + before q nodes false (length nodes)
@@ -80,7 +84,7 @@ module _ (q : PackPlan) (nodes : List Node) where
     sizes-whole =
         let both = total-both (size_at q nodes true) (size_at q nodes false) (length nodes) in
         let all = total-inner q.trie nodes may.are_nodes (λ s. size_at q nodes true s + size_at q nodes false s)
-            (λ w. size_of q nodes (Some w)) (λ s w behind named. size-both s (Some w) (omega (arith, behind)) named) in
+        (λ w. size_of q nodes (Some w)) (λ s w behind named. size-both s (Some w) (omega (arith, behind)) named) in
         omega (arith, both, all, first-sizes)
 
     -- numbers below that of the states stand for nodes
@@ -103,3 +107,32 @@ module _ (q : PackPlan) (nodes : List Node) where
           named = rw at own.named;
           reached = omega (arith, reached, at);
         }
+
+    -- what stands in front lies within the words of the plan
+    pub front-within : (s : ℕ) → s ≤ length nodes → size_of q nodes None + before q nodes true s
+        ≤ packed_words q.trie.built q.dense_depth (alphabet_len q.classes)
+    front-within s le = omega (arith, total-grows (size_at q nodes true) s (length nodes) le, sizes-whole)
+
+    -- and so does what stands behind it
+    pub back-within : (s : ℕ) → s ≤ length nodes → front_end q nodes + before q nodes false s
+        ≤ packed_words q.trie.built q.dense_depth (alphabet_len q.classes)
+    back-within s le = omega (arith, total-grows (size_at q nodes false) s (length nodes) le, sizes-whole)
+
+  -- the first two states stand at 0
+  pub places-first : (s : ℕ) → s < 2 → slice_index_or (0 ∷ 0 ∷ []) s 0 ≡ place_at q nodes s
+  places-first zero below = refl
+  places-first (suc zero) below = refl
+  places-first (suc (suc s)) below = absurd (omega arith)
+
+  -- one place more
+  pub places-more : (numbers : List ℕ) (s n : ℕ) → length numbers ≡ s
+      → ((t : ℕ) → t < s → slice_index_or numbers t 0 ≡ place_at q nodes t) → n ≡ place_at q nodes s
+      → (t : ℕ) → t < s + 1 → slice_index_or (numbers ++ n ∷ []) t 0 ≡ place_at q nodes t
+  places-more numbers s n count each next t below = elim (cases_lt t s) [
+    | inl earlier ↦ get_or_append_left numbers (n ∷ []) 0 t (omega (arith, count, earlier)) ∙ each t earlier
+    | inr past ↦
+        let last : t ≡ s = omega (arith, past, below) in
+        get_or-append_right numbers (n ∷ []) s t 0 count past
+        ∙ ap (λ k. slice_index_or (n ∷ []) k 0) (let none : t - s ≡ 0 = omega (arith, last) in none)
+        ∙ next ∙ ap (place_at q nodes) (sym last)
+  ]

@@ -8,6 +8,7 @@ use Rattle.ac_engines.specs.Sizes.{node_format}
 use Rattle.ac_engines.proofs.InnerStates.{inner-long}
 use Rattle.ac_engines.proofs.nfa.contiguous.plan.Plan.format.Goals as goal
 
+-- a state behind the starts stands for a string that isn't empty
 pub returns : goal.returns
 returns g c nodes u may named =
     let q = c.args.self.now in
@@ -18,8 +19,8 @@ returns g c nodes u may named =
     let long = inner-long q.trie nodes c.args.sid u may.are_nodes inner named in
     let deep = c.depth.ensures nodes u are named in
     let own = c.own_len.ensures.value nodes u are named
-        ∙ ap (λ (t : Trie). length (own_bytes t.built u)) trie in
+    ∙ ap (λ (t : Trie). length (own_bytes t.built u)) trie in
     let matches = c.match_len.ensures.value nodes u may named in
     let inner_is : format_of (depth u) q.dense_depth (length (own_bytes q.trie.built u)) _
-        ≡ node_format q.trie.built q.dense_depth u = rw long.node refl in
+    ≡ node_format q.trie.built q.dense_depth u = rw long.node refl in
     c.format_of.ensures ∙ (λ i. format_of (deep i) (dense i) (own i) (matches i)) ∙ inner_is

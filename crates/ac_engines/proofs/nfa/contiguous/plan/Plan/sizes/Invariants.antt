@@ -1,4 +1,5 @@
 use Rattle.std.proofs.Common.{◌≡◌, ◌+◌, ◌*◌, ◌≤◌, List, None, true, false}
+use Rattle.ac_util.specs.declared.primitives.TheConstants.{GREATEST}
 use Rattle.ac_util.specs.Node.{Node}
 use Rattle.ac_engines.specs.PackedPlaces.{MayPack, size_of}
 use Rattle.ac_engines.proofs.PlanSums.{before}
@@ -11,5 +12,5 @@ invariant-loop-state g l = record {
       → l.sizes.match_end ≡ size_of l.self nodes None + before l.self nodes true l.state;
   all : (nodes : List Node) → MayPack l.self nodes
       → l.sizes.all ≡ l.sizes.match_end + before l.self nodes false l.state;
-  room : l.sizes.all ≤ (l.state + 1) * 2147483906;
+  room : l.sizes.all ≤ (l.state + 1) * (GREATEST + 260);
 }
