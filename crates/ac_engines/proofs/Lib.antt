@@ -3,6 +3,7 @@ pub mod ClassWords
 pub mod EdgeTargets
 pub mod Filled
 pub mod Follow
+pub mod InnerStates
 pub mod LaidOut
 pub mod LaidUpTo
 pub mod Laying
@@ -16,7 +17,9 @@ pub mod OneRow
 pub mod Owning
 pub mod PackedNumbers
 pub mod PackedSteps
+pub mod PackedSums
 pub mod Places
+pub mod PlanSums
 pub mod PushedStates
 pub mod PushingClasses
 pub mod Ranges
@@ -28,3 +31,4 @@ pub mod Spellings
 pub mod Starts
 pub mod StateRows
 pub mod Vectors
+pub mod WordCounts

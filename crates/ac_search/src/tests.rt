@@ -373,7 +373,7 @@ fn a_clone_answers_equally(rt: HostRuntime) -> Result<(), Fail> {
     drop(searcher);
     let walked = walk_of(rt, &clone, Input::new(b"usHERS he"))?;
     assert_eq!(rt; walked.as_slice(), wanted.as_slice());
-    assert_eq!(rt; clone.kind(), AhoCorasickKind::NoncontiguousNFA);
+    assert_eq!(rt; clone.kind(), AhoCorasickKind::ContiguousNFA);
     assert_eq!(rt; clone.match_kind(), LeftmostLongest);
     assert_eq!(rt; clone.start_kind(), StartKind::Both);
     assert_eq!(rt; clone.patterns_len(), 3);
