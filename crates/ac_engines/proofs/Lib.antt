@@ -1,5 +1,6 @@
 pub mod Assembled
 pub mod ClassWords
+pub mod Decoding
 pub mod EdgeTargets
 pub mod Filled
 pub mod Follow
