@@ -26,4 +26,5 @@ pub mod SettingTargets
 pub mod Spellings
 pub mod Starts
 pub mod StateRows
+pub mod StateSpellings
 pub mod Vectors
