@@ -17,6 +17,7 @@ pub mod Owning
 pub mod PackedSteps
 pub mod Places
 pub mod PushedStates
+pub mod Pushing
 pub mod PushingClasses
 pub mod Ranges
 pub mod RowByRow

@@ -1,14 +1,10 @@
-use Rattle.std.proofs.Common.{◌≡◌, ℕ, ◌<◌, ◌≤◌, ◌++◌, IfOk, List, Some, [], length, slice_get, slice_index_or, ◌+◌, ◌-◌, ◌*◌}
-use Rattle.ac_util.specs.declared.primitives.TheConstants.{GREATEST}
-use Rattle.ac_util.specs.Classes.{alphabet_len}
+use Rattle.std.proofs.Common.{List}
 use Rattle.ac_util.specs.Node.{Node}
-use Rattle.ac_engines.specs.Packing.{IsPacked}
-use Rattle.ac_engines.specs.PackedPlaces.{packed_of, places_of}
-use Rattle.ac_engines.specs.Packs.{AreReady, HasPushed, IsPlaced, state_spelling, state_words}
-use Rattle.ac_engines.specs.Sizes.{packed_words}
-use Rattle.ac_engines.specs.Words.{spelled}
-use Rattle.ac_engines.specs.declared.nfa.contiguous.format.Format
+use Rattle.ac_engines.specs.Packs.{AreReady}
+use Rattle.ac_engines.proofs.Pushing.{HasPushedUpTo}
 use Rattle.ac_engines.proofs.nfa.contiguous.pack.Packer.push_where.Given as goal
 
+-- those of the states so far that are asked for were pushed
 abbrev pub invariant-loop-state : goal.invariant-loop-state
-invariant-loop-state g l = ?
+invariant-loop-state g l = (nodes : List Node) → AreReady l.fn.self nodes
+    → HasPushedUpTo l.fn.self nodes l.fn.front l.state l.fn.pages.words.items l.pages.words.items
