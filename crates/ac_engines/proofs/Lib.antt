@@ -3,6 +3,7 @@ pub mod ClassWords
 pub mod EdgeTargets
 pub mod Filled
 pub mod Follow
+pub mod InnerStates
 pub mod LaidOut
 pub mod LaidUpTo
 pub mod Laying
@@ -14,8 +15,10 @@ pub mod Numbered
 pub mod Numbers
 pub mod OneRow
 pub mod Owning
+pub mod PackedSums
 pub mod PackedSteps
 pub mod Places
+pub mod PlanSums
 pub mod PushedStates
 pub mod Pushing
 pub mod PushingClasses
@@ -29,3 +32,4 @@ pub mod Starts
 pub mod StateRows
 pub mod StateSpellings
 pub mod Vectors
+pub mod WordCounts

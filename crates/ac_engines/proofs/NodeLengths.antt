@@ -1,11 +1,31 @@
 -- How long the strings of nodes are.
-use Rattle.std.proofs.Common.{◌≡◌, ℕ, ◌≤◌, Bool, List, length, map, Some}
+use Rattle.std.proofs.Common.{◌≡◌, ℕ, zero, suc, ◌≤◌, Bool, List, [], ◌∷◌, length, map, get_or, Some, arith}
+use Rattle.std.specs.Prelude.{nat_eq}
+use Rattle.std.specs.List.{starts_with}
+use Rattle.std.proofs.lemmas.List.{length-map}
 use Rattle.ac_util.specs.declared.search.MatchKind.{MatchKind}
 use Rattle.ac_util.specs.Classes.{IsNode}
-use Rattle.ac_util.specs.Sameness.{plain}
+use Rattle.ac_util.specs.Node.{participants}
+use Rattle.ac_util.specs.Sameness.{plain, plain_byte}
+use Rattle.ac_util.specs.Search.{pattern_of}
 use Rattle.ac_util.specs.Sizes.{longest_len}
+use Rattle.ac_util.proofs.NodeCount.{any_passes}
+use Rattle.ac_util.proofs.Prefixes.{starts_with-length}
+
+-- no plain pattern is longer than the longest
+pattern-length : (fold : Bool) (patterns : List (List ℕ)) (n : ℕ)
+    → length (get_or (map (plain fold) patterns) n []) ≤ longest_len patterns
+pattern-length fold [] n = omega arith
+pattern-length fold (p ∷ ps) zero = omega (arith, length-map p (plain_byte fold))
+pattern-length fold (p ∷ ps) (suc n) = omega (arith, pattern-length fold ps n)
 
 -- a node is a prefix of a pattern, and so no longer than the longest
 pub node-length : (kind : MatchKind) (fold : Bool) (patterns : List (List ℕ)) (w : List ℕ)
     → IsNode kind (map (plain fold) patterns) (Some w) → length w ≤ longest_len patterns
-node-length kind fold patterns w node = ?
+node-length kind fold patterns [] node = omega arith
+node-length kind fold patterns (x ∷ w) node =
+    let plains = map (plain fold) patterns in
+    let one =
+    any_passes (λ n. starts_with nat_eq (pattern_of plains n) (x ∷ w)) (participants kind plains) node in
+    let short = starts_with-length (pattern_of plains one.0) (x ∷ w) one.2 in
+    omega (arith, short, pattern-length fold patterns one.0)

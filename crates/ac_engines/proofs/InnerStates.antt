@@ -1,0 +1,29 @@
+-- The states behind the starts, and the strings that they stand for.
+use Rattle.std.proofs.Common.{◌≡◌, ◌≢◌, ℕ, ◌≤◌, List, [], ◌∷◌, Some, refl, ◌∙◌}
+use Rattle.std.specs.Prelude.{slice_get}
+use Rattle.std.proofs.lemmas.Option.{slice_get_within}
+use Rattle.ac_util.specs.Node.{Node}
+use Rattle.ac_automaton.specs.Readers.{AreNodes}
+use Rattle.ac_automaton.specs.Tries.{Trie}
+use Rattle.ac_engines.proofs.Numbered.{inner-string}
+
+-- the node is a string that isn't empty
+pub record IsLong (u : Node) : Type 0 where
+  pub first : ℕ
+  pub rest : List ℕ
+  pub node : u ≡ Some (first ∷ rest)
+
+-- a string that isn't empty has a first byte
+long-string : (w : List ℕ) → w ≢ [] → IsLong (Some w)
+long-string [] some = absurd (some refl)
+long-string (x ∷ w) some = record { first = x; rest = w; node = refl }
+
+-- a state behind the starts stands for a string that isn't empty
+pub inner-long : (trie : Trie) (nodes : List Node) (s : ℕ) (u : Node) → AreNodes trie nodes → 4 ≤ s
+    → slice_get nodes s ≡ Some u → IsLong u
+inner-long trie nodes s u h inner named =
+    let at = h.numbered.node s inner (slice_get_within nodes s u named) in
+    let long = long-string at.0 (inner-string trie nodes h s at.0 inner at.1.named) in
+    let there = at.1.named in
+    let same : u ≡ Some at.0 = cc in
+    record { first = long.first; rest = long.rest; node = same ∙ long.node }

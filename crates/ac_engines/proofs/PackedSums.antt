@@ -1,0 +1,158 @@
+-- Sums over the states of a plan, and over the strings that they stand for.
+use Rattle.std.proofs.Common.{◌≡◌, ◌≢◌, ℕ, zero, suc, ◌+◌, ◌<◌, ◌≤◌, List, [], ◌∷◌, length, map, inl, inr, Option, None, Some, refl, ap, sym, subst, ◌∙◌, add-one, arith}
+use Rattle.std.specs.Prelude.{slice_get}
+use Rattle.std.specs.List.{range_with_len, sum_by}
+use Rattle.std.proofs.lemmas.List.FromFn.{length-map-range_with_len}
+use Rattle.std.proofs.lemmas.List.Sums.{sum_by-cons}
+use Rattle.std.proofs.lemmas.Bool.{cases_lt}
+use Rattle.ac_util.specs.Node.{Node}
+use Rattle.ac_util.specs.Sizes.{inner_nodes}
+use Rattle.ac_util.proofs.Lists.{IsIn, IsIn-from_Contains, IsIn-from_map, IsIn-from_range, IsOrdered}
+use Rattle.ac_automaton.specs.Automata.{plain_of}
+use Rattle.ac_automaton.specs.Readers.{AreNodes}
+use Rattle.ac_automaton.specs.Tries.{Trie}
+use Rattle.ac_engines.specs.PackedPlaces.{total}
+
+-- one number more is summed
+pub total-more : (f : ℕ → ℕ) (n : ℕ) → total f (n + 1) ≡ total f n + f n
+unfolding total
+total-more f n = rw add-one refl
+
+-- nothing is summed at first
+pub total-none : (f : ℕ → ℕ) → total f 0 ≡ 0
+unfolding total
+total-none f = refl
+
+-- a sum grows with the numbers that it is over
+pub total-grows : (f : ℕ → ℕ) (m n : ℕ) → m ≤ n → total f m ≤ total f n
+unfolding total
+total-grows f m zero le = let none : m ≡ zero = omega arith in rw none (omega arith)
+total-grows f m (suc n) le = elim (cases_lt m (suc n)) [
+  | inl below ↦ omega (arith, total-grows f m n (omega (arith, below)))
+  | inr past ↦ let all : m ≡ suc n = omega (arith, past, le) in rw all (omega arith)
+]
+
+-- the sums of two functions are the sum of both
+pub total-both : (f g : ℕ → ℕ) (n : ℕ) → total f n + total g n ≡ total (λ s. f s + g s) n
+unfolding total
+total-both f g zero = refl
+total-both f g (suc n) = omega (arith, total-both f g n)
+
+-- a sum over more numbers, of which the last ones are listed
+pub total-range : (f : ℕ → ℕ) (a n : ℕ) → total f (a + n) ≡ total f a + sum_by f (range_with_len a n)
+total-range f a zero = ap (total f) (let e : a + zero ≡ a = omega arith in e) ∙ omega arith
+total-range f a (suc n) =
+    ap (total f) (let e : a + suc n ≡ a + 1 + n = omega arith in e)
+    ∙ omega (arith, total-range f (a + 1) n, total-more f a, sum_by-cons f a (range_with_len (a + 1) n))
+
+-- rest is ys without one place at which x stands
+record IsWithout {X : Type 0} (f : X → ℕ) (x : X) (ys rest : List X) : Type 0 where
+  shorter : suc (length rest) ≡ length ys
+  others : (z : X) → x ≢ z → IsIn z ys → IsIn z rest
+  sum : sum_by f ys ≡ f x + sum_by f rest
+
+-- an element's place can be taken out
+without : {X : Type 0} (f : X → ℕ) (x : X) (ys : List X) → IsIn x ys → (rest : List X) × IsWithout f x ys rest
+without f x [] h = absurd h
+without f x (y ∷ ys) (inl e) = (
+  ys,
+  record {
+    shorter = refl;
+    others = λ z other h. elim h [ inl g ↦ absurd (other (sym e ∙ g)) | inr k ↦ k ];
+    sum = sum_by-cons f y ys ∙ ap (λ z. f z + sum_by f ys) e;
+  },
+)
+without f x (y ∷ ys) (inr h) =
+    let later = without f x ys h in
+    let shorter = later.1.shorter in (
+      y ∷ later.0,
+      record {
+        shorter = omega arith;
+        others = λ z other k. elim k [ inl g ↦ inl g | inr l ↦ inr (later.1.others z other l) ];
+        sum = omega (arith, sum_by-cons f y ys, sum_by-cons f y later.0, later.1.sum);
+      },
+    )
+
+-- two lists have one sum if one has distinct elements, and the other has all of these and no more elements
+sum-same : {X : Type 0} (f : X → ℕ) (xs ys : List X) → IsOrdered (λ x y. x ≢ y) xs → length ys ≤ length xs
+    → ((x : X) → IsIn x xs → IsIn x ys) → sum_by f xs ≡ sum_by f ys
+sum-same f [] [] apart short into = refl
+sum-same f [] (y ∷ ys) apart short into = absurd (omega arith)
+sum-same f (x ∷ xs) ys apart short into =
+    let cut = without f x ys (into x (inl refl)) in
+    let shorter = cut.1.shorter in
+    let rest = sum-same f xs cut.0 apart.1 (omega arith)
+    (λ z h. cut.1.others z (apart.0 z h) (into z (inr h))) in
+    omega (arith, sum_by-cons f x xs, cut.1.sum, rest)
+
+-- the string of a node
+abbrev string_of : Option (Option (List ℕ)) → List ℕ
+string_of None = []
+string_of (Some None) = []
+string_of (Some (Some w)) = w
+
+module _ (trie : Trie) (nodes : List Node) (h : AreNodes trie nodes) where
+  -- the string of a state
+  abbrev string_at : ℕ → List ℕ
+  string_at s = string_of (slice_get nodes s)
+
+  abbrev inner : List (List ℕ)
+  inner = inner_nodes trie.built.kind (plain_of trie.built)
+
+  -- a state behind the starts stands for its string
+  string-named : (s : ℕ) → 4 ≤ s → s < length nodes → slice_get nodes s ≡ Some (Some (string_at s))
+  string-named s behind within =
+      let named = (h.numbered.node s behind within).1.named in named ∙ ap (λ w. Some (Some (string_of w))) (sym named)
+
+  -- different states behind the starts stand for different strings
+  strings-apart : (a n : ℕ) → 4 ≤ a → a + n ≤ length nodes
+      → IsOrdered (λ (v w : List ℕ). v ≢ w) (map string_at (range_with_len a n))
+  strings-apart a zero behind within = tt
+  strings-apart a (suc n) behind within = (
+    (λ w has same.
+        let from = IsIn-from_map string_at w (range_with_len (a + 1) n) has in
+        let later = IsIn-from_range from.0 (a + 1) n from.1 in
+        let first = string-named a behind (omega arith) in
+        let second = string-named from.0 (omega (arith, later.0)) (omega (arith, later.1)) in
+        let both : string_at a ≡ string_at from.0 = same ∙ sym from.2 in
+        let once = h.numbered.once a from.0 (string_at a) (record { inner = behind; named = first })
+        (record { inner = omega (arith, later.0); named = second ∙ ap (λ v. Some (Some v)) (sym both) }) in
+        omega (arith, once, later.0)),
+    strings-apart (a + 1) n (omega arith) (omega arith),
+  )
+
+  -- all of them are counted
+  strings-inner : (n : ℕ) → 4 + n ≤ length nodes → (w : List ℕ) → IsIn w (map string_at (range_with_len 4 n)) → IsIn w inner
+  strings-inner n within w has =
+      let from = IsIn-from_map string_at w (range_with_len 4 n) has in
+      let at = IsIn-from_range from.0 4 n from.1 in
+      subst (λ v. IsIn v inner) from.2
+      (IsIn-from_Contains (string_at from.0) inner (h.numbered.only from.0 (string_at from.0)
+      (record { inner = at.0; named = string-named from.0 at.0 (omega (arith, at.1)) })))
+
+  module _ (f : ℕ → ℕ) (g : List ℕ → ℕ)
+      (same : (s : ℕ) (w : List ℕ) → 4 ≤ s → slice_get nodes s ≡ Some (Some w) → f s ≡ g w) where
+    -- a sum over states is one over their strings
+    sum-strings : (a n : ℕ) → 4 ≤ a → a + n ≤ length nodes
+        → sum_by f (range_with_len a n) ≡ sum_by g (map string_at (range_with_len a n))
+    sum-strings a zero behind within = refl
+    sum-strings a (suc n) behind within =
+        let here = same a (string_at a) behind (string-named a behind (omega arith)) in
+        omega (
+          arith,
+          sum_by-cons f a (range_with_len (a + 1) n),
+          sum_by-cons g (string_at a) (map string_at (range_with_len (a + 1) n)),
+          here,
+          sum-strings (a + 1) n (omega arith) (omega arith),
+        )
+
+    -- and so the sum over all is that over the first four and that over the strings that aren't empty
+    pub total-inner : total f (length nodes) ≡ total f 4 + sum_by g inner
+    total-inner =
+        let n = length inner in
+        let whole = h.numbered.count in
+        let within : 4 + n ≤ length nodes = omega (arith, whole) in
+        ap (total f) whole ∙ total-range f 4 n
+        ∙ ap (λ m. total f 4 + m) (sum-strings 4 n (omega arith) within
+        ∙ sum-same g (map string_at (range_with_len 4 n)) inner (strings-apart 4 n (omega arith) within)
+        (omega (arith, length-map-range_with_len string_at 4 n)) (strings-inner n within))

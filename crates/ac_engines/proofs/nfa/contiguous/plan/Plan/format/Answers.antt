@@ -1,0 +1,26 @@
+use Rattle.std.proofs.Common.{◌≡◌, ◌≤◌, length, refl, ap, sym, subst, ◌∙◌, arith}
+use Rattle.ac_util.specs.Node.{depth}
+use Rattle.ac_automaton.specs.Readers.{AreNodes, own_bytes}
+use Rattle.ac_automaton.specs.Tries.{Trie}
+use Rattle.ac_engines.specs.Formats.{format_of}
+use Rattle.ac_engines.specs.PackedPlaces.{PackPlan}
+use Rattle.ac_engines.specs.Sizes.{node_format}
+use Rattle.ac_engines.proofs.InnerStates.{inner-long}
+use Rattle.ac_engines.proofs.nfa.contiguous.plan.Plan.format.Goals as goal
+
+-- a state behind the starts stands for a string that isn't empty
+pub returns : goal.returns
+returns g c nodes u may named =
+    let q = c.args.self.now in
+    let trie = ap (λ (p : PackPlan). p.trie) c.self.view_is in
+    let dense = ap (λ (p : PackPlan). p.dense_depth) c.self.view_is in
+    let are = subst (λ (t : Trie). AreNodes t nodes) (sym trie) may.are_nodes in
+    let inner : 4 ≤ c.args.sid = omega (arith, c.if-as_usize-lt-FIRST_INNER.false, c.as_usize.ensures.value) in
+    let long = inner-long q.trie nodes c.args.sid u may.are_nodes inner named in
+    let deep = c.depth.ensures nodes u are named in
+    let own = c.own_len.ensures.value nodes u are named
+    ∙ ap (λ (t : Trie). length (own_bytes t.built u)) trie in
+    let matches = c.match_len.ensures.value nodes u may named in
+    let inner_is : format_of (depth u) q.dense_depth (length (own_bytes q.trie.built u)) _
+    ≡ node_format q.trie.built q.dense_depth u = rw long.node refl in
+    c.format_of.ensures ∙ (λ i. format_of (deep i) (dense i) (own i) (matches i)) ∙ inner_is
