@@ -14,42 +14,29 @@ use Rattle.ac_engines.specs.PackedPlaces.{PackPlan, has_matches, packed_of, plac
 use Rattle.ac_engines.specs.Packs.{AreReady, HasPushed, Packer, anchored_of, state_spelling, state_words}
 use Rattle.ac_engines.specs.Sizes.{node_format}
 use Rattle.ac_engines.specs.Words.{BeginsWith}
+use Rattle.ac_engines.proofs.PackedSums.{total-grows}
+use Rattle.ac_engines.proofs.PlanSums.{before, before-starts, takes}
 use Rattle.ac_engines.proofs.PushedStates.{begins-before, begins-behind, length-spelled}
 use Rattle.ac_engines.proofs.StateSpellings.{edges-count, matches-spelled, state-spells}
-
--- a sum over more numbers is no less
-pub total-grows : (g : ℕ → ℕ) (m n : ℕ) → m ≤ n → total g m ≤ total g n
-unfolding total
-total-grows g m zero less = let none : m ≡ 0 = omega arith in rw none (omega arith)
-total-grows g m (suc n) less = elim (cases_lt n m) [
-  | inl all ↦ let same : m ≡ suc n = omega arith in rw same (omega arith)
-  | inr fewer ↦ let rest = total-grows g m n fewer in omega arith
-]
-
--- with one number more it is greater by what this one has
-pub total-next : (g : ℕ → ℕ) (n : ℕ) → total g (n + 1) ≡ total g n + g n
-unfolding total
-total-next g n = ap (total g) (let e : n + 1 ≡ suc n = omega arith in e)
 
 module _ (f : Packer) (nodes : List Node) where
   -- the states before one that are asked for were pushed: each stands behind those before it
   pub record HasPushedUpTo (front : Bool) (state : ℕ) (old new : List ℕ) : Type 0 where
     pub pushed : List ℕ
     pub same : new ≡ old ++ pushed
-    pub long : length new ≡ length old + total (size_at f.plan nodes front) state
+    pub long : length new ≡ length old + before f.plan nodes front state
     pub each : (s : ℕ) (u : Node) → START ≤ s → s < state → slice_get nodes s ≡ Some u
         → has_matches f.plan nodes u ≡ front
-        → BeginsWith (drop (length old + total (size_at f.plan nodes front) s) new)
+        → BeginsWith (drop (length old + before f.plan nodes front s) new)
         (node_format f.plan.trie.built f.plan.dense_depth u) (alphabet_len f.plan.classes) (state_spelling f nodes s u)
 
   -- none was pushed at first
   pub pushed-none : (front : Bool) (words : List ℕ) → HasPushedUpTo front 2 words words
-  unfolding total
   pushed-none front words = record {
     pushed = [];
     same = sym (append-nil words);
-    long = omega arith;
-    each = λ s u reached before. absurd (omega (arith, reached, before));
+    long = let none = before-starts f.plan nodes front in omega arith;
+    each = λ s u reached less. absurd (omega (arith, reached, less));
   }
 
   -- all were pushed at last
@@ -61,27 +48,6 @@ module _ (f : Packer) (nodes : List Node) where
     long = h.long;
     each = λ s u reached named asked. h.each s u reached (slice_get_within nodes s u named) named asked;
   }
-
-  -- how many words a node takes that is asked for
-  sized-asked : (front : Bool) (u : Node) → has_matches f.plan nodes u ≡ front
-      → sized f.plan nodes front (Some u) ≡ size_of f.plan nodes u
-  sized-asked true u asked = rw asked refl
-  sized-asked false u asked = rw asked refl
-
-  -- and none, if it isn't
-  sized-other : (front : Bool) (u : Node) → has_matches f.plan nodes u ≢ front → sized f.plan nodes front (Some u) ≡ 0
-  sized-other front u other = go front (has_matches f.plan nodes u) refl other
-    where
-      go : (front t : Bool) → has_matches f.plan nodes u ≡ t → t ≢ front → sized f.plan nodes front (Some u) ≡ 0
-      go true true is other = absurd (other refl)
-      go true false is other = rw is refl
-      go false true is other = rw is refl
-      go false false is other = absurd (other refl)
-
-  -- a state from the starts on has its node's size
-  size-named : (front : Bool) (s : ℕ) (u : Node) → 2 ≤ s → slice_get nodes s ≡ Some u
-      → size_at f.plan nodes front s ≡ sized f.plan nodes front (Some u)
-  size-named front s u reached named = rw (le-ltb s START reached, named) refl
 
   module _ (ready : AreReady f nodes) (front : Bool) (s : ℕ) (u : Node) (reached : 2 ≤ s)
       (named : slice_get nodes s ≡ Some u) where
@@ -97,6 +63,22 @@ module _ (f : Packer) (nodes : List Node) where
         (alphabet_len f.plan.classes) (length (own_bytes f.plan.trie.built u)) (length ns))
         (matches-spelled (packed_of f.plan nodes f.numbers []) (places_of f.plan nodes f.numbers) (anchored_of s) u)
 
+    -- one that is asked for takes up its words
+    grows-asked : (wanted : Bool) → has_matches f.plan nodes u ≡ wanted
+        → before f.plan nodes wanted (s + 1) ≡ before f.plan nodes wanted s + size_of f.plan nodes u
+    grows-asked true asked = (takes f.plan nodes s u reached named true _ (sym asked) refl).front
+    grows-asked false asked = (takes f.plan nodes s u reached named false _ (sym asked) refl).back
+
+    -- and another one none
+    stays-other : (wanted t : Bool) → has_matches f.plan nodes u ≡ t → t ≢ wanted
+        → before f.plan nodes wanted (s + 1) ≡ before f.plan nodes wanted s
+    stays-other true true is other = absurd (other refl)
+    stays-other true false is other =
+        let none = (takes f.plan nodes s u reached named false _ (sym is) refl).front in omega arith
+    stays-other false true is other =
+        let none = (takes f.plan nodes s u reached named true _ (sym is) refl).back in omega arith
+    stays-other false false is other = absurd (other refl)
+
     module _ (old words : List ℕ) (h : HasPushedUpTo front s old words) where
       -- one that isn't asked for is passed over
       pub passed-over : has_matches f.plan nodes u ≢ front → HasPushedUpTo front (s + 1) old words
@@ -104,17 +86,16 @@ module _ (f : Packer) (nodes : List Node) where
         pushed = h.pushed;
         same = h.same;
         long =
-            let size = size-named front s u reached named ∙ sized-other front u other in
-            let next = total-next (size_at f.plan nodes front) s in
+            let next = stays-other front (has_matches f.plan nodes u) refl other in
             let long = h.long in
             omega arith;
-        each = λ t v from before is asked. h.each t v from (before-it t v before is asked) is asked;
+        each = λ t v from less is asked. h.each t v from (earlier t v less is asked) is asked;
       }
         where
-          before-it : (t : ℕ) (v : Node) → t < s + 1 → slice_get nodes t ≡ Some v → has_matches f.plan nodes v ≡ front
+          earlier : (t : ℕ) (v : Node) → t < s + 1 → slice_get nodes t ≡ Some v → has_matches f.plan nodes v ≡ front
               → t < s
-          before-it t v before is asked = elim (cases_lt t s) [
-            | inl less ↦ less
+          earlier t v less is asked = elim (cases_lt t s) [
+            | inl below ↦ below
             | inr more ↦
                 let at : t ≡ s = omega arith in
                 let same : u ≡ v = get-same nodes s u v named (subst (λ n. slice_get nodes n ≡ Some v) at is) in
@@ -129,19 +110,18 @@ module _ (f : Packer) (nodes : List Node) where
         same = now ∙ ap (λ (ws : List ℕ). ws ++ state_words f nodes s u) h.same
             ∙ append_assoc old h.pushed (state_words f nodes s u);
         long =
-            let size = size-named front s u reached named ∙ sized-asked front u asked in
-            let next = total-next (size_at f.plan nodes front) s in
+            let next = grows-asked front asked in
             let long = h.long in
             let both = ap (λ (ws : List ℕ). length ws) now ∙ length-append words (state_words f nodes s u) in
             let last = length-state_words in
             omega arith;
-        each = λ t v from before is has. elim (cases_lt t s) [
+        each = λ t v from within is has. elim (cases_lt t s) [
           | inl less ↦
               let most = total-grows (size_at f.plan nodes front) t s (omega arith) in
               let long = h.long in
               rw now (begins-before (node_format f.plan.trie.built f.plan.dense_depth v) (alphabet_len f.plan.classes)
               (state_spelling f nodes t v) words (state_words f nodes s u)
-              (length old + total (size_at f.plan nodes front) t) (omega arith) (h.each t v from less is has))
+              (length old + before f.plan nodes front t) (omega arith) (h.each t v from less is has))
           | inr more ↦
               let at : t ≡ s = omega arith in
               let same : u ≡ v = get-same nodes s u v named (subst (λ n. slice_get nodes n ≡ Some v) at is) in
