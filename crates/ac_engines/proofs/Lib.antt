@@ -22,6 +22,7 @@ pub mod PackedSums
 pub mod Places
 pub mod PlanSums
 pub mod PushedStates
+pub mod Pushing
 pub mod PushingClasses
 pub mod Ranges
 pub mod RowByRow
@@ -31,5 +32,6 @@ pub mod SettingTargets
 pub mod Spellings
 pub mod Starts
 pub mod StateRows
+pub mod StateSpellings
 pub mod Vectors
 pub mod WordCounts

@@ -53,7 +53,7 @@ IsIn-slice_get x xs k at =
     IsIn-at x x xs k (slice_get_within xs k x at) (get_or_from_slice_get xs k x x at)
 
 -- a string with one byte more isn't empty
-longer : (w : List ℕ) (b : ℕ) → w ++ b ∷ [] ≢ []
+pub longer : (w : List ℕ) (b : ℕ) → w ++ b ∷ [] ≢ []
 longer [] b e = absurd cc
 longer (x ∷ w) b e = absurd cc
 

@@ -1,0 +1,134 @@
+-- Pushing the words of one state after another.
+use Rattle.std.proofs.Common.{◌≡◌, ◌≢◌, ℕ, zero, suc, ◌+◌, ◌<◌, ◌≤◌, Bool, true, false, List, [], ◌++◌, drop, length, inl, inr, refl, ap, sym, subst, ◌∙◌, arith, Option, Some, None}
+use Rattle.std.specs.Prelude.{nat_lt, slice_get, if◌then◌else◌}
+use Rattle.std.proofs.lemmas.Bool.{cases_lt, le-ltb}
+use Rattle.std.proofs.lemmas.List.{append_assoc, append-nil, length-append}
+use Rattle.std.proofs.lemmas.Option.{slice_get_within}
+use Rattle.ac_util.specs.Classes.{alphabet_len}
+use Rattle.ac_util.specs.Node.{Node}
+use Rattle.ac_automaton.specs.declared.nfa.noncontiguous.state.TheConstants.{START}
+use Rattle.ac_automaton.specs.Readers.{own_bytes}
+use Rattle.ac_automaton.proofs.Places.{get-same}
+use Rattle.ac_engines.specs.Formats.{words_of_state}
+use Rattle.ac_engines.specs.PackedPlaces.{PackPlan, has_matches, packed_of, places_of, size_at, size_of, sized, total}
+use Rattle.ac_engines.specs.Packs.{AreReady, HasPushed, Packer, anchored_of, state_spelling, state_words}
+use Rattle.ac_engines.specs.Sizes.{node_format}
+use Rattle.ac_engines.specs.Words.{BeginsWith}
+use Rattle.ac_engines.proofs.PackedSums.{total-grows}
+use Rattle.ac_engines.proofs.PlanSums.{before, before-starts, takes}
+use Rattle.ac_engines.proofs.PushedStates.{begins-before, begins-behind, length-spelled}
+use Rattle.ac_engines.proofs.StateSpellings.{edges-count, matches-spelled, state-spells}
+
+module _ (f : Packer) (nodes : List Node) where
+  -- the states before one that are asked for were pushed: each stands behind those before it
+  pub record HasPushedUpTo (front : Bool) (state : ℕ) (old new : List ℕ) : Type 0 where
+    pub pushed : List ℕ
+    pub same : new ≡ old ++ pushed
+    pub long : length new ≡ length old + before f.plan nodes front state
+    pub each : (s : ℕ) (u : Node) → START ≤ s → s < state → slice_get nodes s ≡ Some u
+        → has_matches f.plan nodes u ≡ front
+        → BeginsWith (drop (length old + before f.plan nodes front s) new)
+        (node_format f.plan.trie.built f.plan.dense_depth u) (alphabet_len f.plan.classes) (state_spelling f nodes s u)
+
+  -- none was pushed at first
+  pub pushed-none : (front : Bool) (words : List ℕ) → HasPushedUpTo front 2 words words
+  pushed-none front words = record {
+    pushed = [];
+    same = sym (append-nil words);
+    long = let none = before-starts f.plan nodes front in omega arith;
+    each = λ s u reached less. absurd (omega (arith, reached, less));
+  }
+
+  -- all were pushed at last
+  pub pushed-all : (front : Bool) (old new : List ℕ) → HasPushedUpTo front (length nodes) old new
+      → HasPushed f nodes front old new
+  pushed-all front old new h = record {
+    pushed = h.pushed;
+    same = h.same;
+    long = h.long;
+    each = λ s u reached named asked. h.each s u reached (slice_get_within nodes s u named) named asked;
+  }
+
+  module _ (ready : AreReady f nodes) (front : Bool) (s : ℕ) (u : Node) (reached : 2 ≤ s)
+      (named : slice_get nodes s ≡ Some u) where
+    -- a state takes as many words as its node
+    length-state_words : length (state_words f nodes s u) ≡ size_of f.plan nodes u
+    length-state_words =
+        let spells = state-spells f nodes ready s u reached named in
+        length-spelled (node_format f.plan.trie.built f.plan.dense_depth u) (alphabet_len f.plan.classes)
+        (state_spelling f nodes s u) spells.fits
+        ∙ ap (λ n. words_of_state (node_format f.plan.trie.built f.plan.dense_depth u) (alphabet_len f.plan.classes) n
+        (length (state_spelling f nodes s u).matches)) (edges-count f nodes ready s u reached named)
+        ∙ ap (λ (ns : List ℕ). words_of_state (node_format f.plan.trie.built f.plan.dense_depth u)
+        (alphabet_len f.plan.classes) (length (own_bytes f.plan.trie.built u)) (length ns))
+        (matches-spelled (packed_of f.plan nodes f.numbers []) (places_of f.plan nodes f.numbers) (anchored_of s) u)
+
+    -- one that is asked for takes up its words
+    grows-asked : (wanted : Bool) → has_matches f.plan nodes u ≡ wanted
+        → before f.plan nodes wanted (s + 1) ≡ before f.plan nodes wanted s + size_of f.plan nodes u
+    grows-asked true asked = (takes f.plan nodes s u reached named true _ (sym asked) refl).front
+    grows-asked false asked = (takes f.plan nodes s u reached named false _ (sym asked) refl).back
+
+    -- and another one none
+    stays-other : (wanted t : Bool) → has_matches f.plan nodes u ≡ t → t ≢ wanted
+        → before f.plan nodes wanted (s + 1) ≡ before f.plan nodes wanted s
+    stays-other true true is other = absurd (other refl)
+    stays-other true false is other =
+        let none = (takes f.plan nodes s u reached named false _ (sym is) refl).front in omega arith
+    stays-other false true is other =
+        let none = (takes f.plan nodes s u reached named true _ (sym is) refl).back in omega arith
+    stays-other false false is other = absurd (other refl)
+
+    module _ (old words : List ℕ) (h : HasPushedUpTo front s old words) where
+      -- one that isn't asked for is passed over
+      pub passed-over : has_matches f.plan nodes u ≢ front → HasPushedUpTo front (s + 1) old words
+      passed-over other = record {
+        pushed = h.pushed;
+        same = h.same;
+        long =
+            let next = stays-other front (has_matches f.plan nodes u) refl other in
+            let long = h.long in
+            omega arith;
+        each = λ t v from less is asked. h.each t v from (earlier t v less is asked) is asked;
+      }
+        where
+          earlier : (t : ℕ) (v : Node) → t < s + 1 → slice_get nodes t ≡ Some v → has_matches f.plan nodes v ≡ front
+              → t < s
+          earlier t v less is asked = elim (cases_lt t s) [
+            | inl below ↦ below
+            | inr more ↦
+                let at : t ≡ s = omega arith in
+                let same : u ≡ v = get-same nodes s u v named (subst (λ n. slice_get nodes n ≡ Some v) at is) in
+                absurd (other (ap (has_matches f.plan nodes) same ∙ asked))
+          ]
+
+      -- one that is asked for is pushed
+      pub pushed-next : (new : List ℕ) → has_matches f.plan nodes u ≡ front → new ≡ words ++ state_words f nodes s u
+          → HasPushedUpTo front (s + 1) old new
+      pushed-next new asked now = record {
+        pushed = h.pushed ++ state_words f nodes s u;
+        same = now ∙ ap (λ (ws : List ℕ). ws ++ state_words f nodes s u) h.same
+            ∙ append_assoc old h.pushed (state_words f nodes s u);
+        long =
+            let next = grows-asked front asked in
+            let long = h.long in
+            let both = ap (λ (ws : List ℕ). length ws) now ∙ length-append words (state_words f nodes s u) in
+            let last = length-state_words in
+            omega arith;
+        each = λ t v from within is has. elim (cases_lt t s) [
+          | inl less ↦
+              let most = total-grows (size_at f.plan nodes front) t s (omega arith) in
+              let long = h.long in
+              rw now (begins-before (node_format f.plan.trie.built f.plan.dense_depth v) (alphabet_len f.plan.classes)
+              (state_spelling f nodes t v) words (state_words f nodes s u)
+              (length old + before f.plan nodes front t) (omega arith) (h.each t v from less is has))
+          | inr more ↦
+              let at : t ≡ s = omega arith in
+              let same : u ≡ v = get-same nodes s u v named (subst (λ n. slice_get nodes n ≡ Some v) at is) in
+              let spells = state-spells f nodes ready s u reached named in
+              rw (at, sym same, sym h.long)
+              (begins-behind (node_format f.plan.trie.built f.plan.dense_depth u) (alphabet_len f.plan.classes)
+              (state_spelling f nodes s u) words new now spells.fits spells.few spells.below spells.ascending
+              spells.few_matches spells.numbers)
+        ];
+      }

@@ -1,0 +1,355 @@
+-- What the states of a trie spell.
+use Rattle.std.proofs.Common.{◌≡◌, ◌≢◌, ◌⊎◌, inl, inr, ℕ, zero, suc, ◌+◌, ◌-◌, ◌<◌, ◌≤◌, Bool, true, false, List, [], ◌∷◌, ◌++◌, length, map, slice_index_or, take, refl, ap, sym, subst, ◌∙◌, arith, Some, None}
+use Rattle.std.specs.Prelude.{option_map, ◌&&◌, nat_lt, slice_get, if◌then◌else◌}
+use Rattle.std.specs.List.{All, range_with_len}
+use Rattle.std.specs.List.Sorted.{IsStrictlyIncreasing}
+use Rattle.std.proofs.lemmas.Bool.{cases_lt, ltb-false}
+use Rattle.std.proofs.lemmas.List.{get_or_past, length-map}
+use Rattle.std.proofs.lemmas.List.Elements.{All-map}
+use Rattle.std.proofs.lemmas.Option.{slice_get-map, slice_get_within}
+use Rattle.ac_util.specs.declared.search.Anchored.{Anchored}
+use Rattle.ac_util.specs.declared.search.Anchored.TheVariants.{No, Yes}
+use Rattle.ac_util.specs.Classes.{AreClasses, alphabet_len, class_at}
+use Rattle.ac_util.specs.Node.{Node, begins_with_pattern, failure, is_leftmost}
+use Rattle.ac_util.specs.Sameness.{plain_byte}
+use Rattle.ac_util.proofs.ClassLemmas.{stands-from_node}
+use Rattle.ac_util.proofs.ClassLists.{alphabet_len-few, class_at-below}
+use Rattle.ac_util.proofs.Lists.{AllPairs-from_IsOrdered, All-from_IsIn, Contains-from_IsIn, IsIn, IsOrdered, IsOrdered-filter, IsOrdered-map, IsOrdered-range}
+use Rattle.ac_automaton.specs.Automata.{matches_of, plain_of}
+use Rattle.ac_automaton.specs.Readers.{AreNodes, IsOwn, leads_on, own_bytes}
+use Rattle.ac_automaton.specs.Tries.{Trie, miss}
+use Rattle.ac_automaton.proofs.Places.{take-next}
+use Rattle.ac_engines.specs.declared.nfa.contiguous.state.Edge.{Edge}
+use Rattle.ac_engines.specs.declared.nfa.contiguous.state.TheConstants.{FAIL, ONE_MATCH}
+use Rattle.ac_engines.specs.declared.nfa.contiguous.format.Format.{Format}
+use Rattle.ac_engines.specs.declared.nfa.contiguous.format.Format.TheVariants.{Dense}
+use Rattle.ac_engines.specs.declared.nfa.contiguous.format.TheConstants.{MOST_SPARSE}
+use Rattle.ac_engines.specs.Formats.{format_of, sparse_format}
+use Rattle.ac_engines.specs.PackedPlaces.{MayPack, PackPlan, packed_of, places_of}
+use Rattle.ac_engines.specs.Packing.{Packed, Places, edges_of, number_at, spelling_at}
+use Rattle.ac_engines.specs.Packs.{AreReady, Packer, anchored_of, state_spelling}
+use Rattle.ac_engines.specs.Sizes.{node_format}
+use Rattle.ac_engines.specs.Words.{Fits, Spelling, spelled}
+use Rattle.ac_engines.proofs.Filled.{own_bytes-only, own_bytes-small}
+use Rattle.ac_engines.proofs.MatchCounts.{matches-few, matches-numbered}
+use Rattle.ac_engines.proofs.Owning.{longer}
+use Rattle.ac_engines.proofs.Numbered.{behind-starts, inner-string, place-inner, place-start}
+
+-- a node that is a string
+pub record IsString (u : Node) : Type 0 where
+  pub string : List ℕ
+  pub is : u ≡ Some string
+
+-- from the starts on each state stands for one
+pub string-of : (trie : Trie) (nodes : List Node) → AreNodes trie nodes → (s : ℕ) (u : Node) → 2 ≤ s
+    → slice_get nodes s ≡ Some u → IsString u
+string-of trie nodes h s (Some w) reached named = record { string = w; is = refl }
+string-of trie nodes h zero None reached named = absurd (omega arith)
+string-of trie nodes h (suc zero) None reached named = absurd (omega arith)
+string-of trie nodes h (suc (suc zero)) None reached named = let start = h.start in absurd cc
+string-of trie nodes h (suc (suc (suc zero))) None reached named = let start = h.anchored_start in absurd cc
+string-of trie nodes h (suc (suc (suc (suc s)))) None reached named =
+    let within = slice_get_within nodes (suc (suc (suc (suc s)))) None named in
+    let node = (h.numbered.node (suc (suc (suc (suc s)))) (omega arith) within).1.named in
+    absurd cc
+
+module _ (p : Packed) (at : Places) where
+  -- the transition of a string by a byte
+  abbrev pub edge_by : List ℕ → ℕ → Edge
+  edge_by w b = record { class = class_at p.classes b; target = at.place (w ++ plain_byte p.built.fold b ∷ []) }
+
+  -- the transitions of a string's state, whether it is a start or not
+  pub edges-spelled : (anchored : Anchored) (w : List ℕ) → (spelling_at p at anchored (Some w)).edges ≡ edges_of p at w
+  edges-spelled No [] = refl
+  edges-spelled Yes [] = refl
+  edges-spelled anchored (x ∷ w) = refl
+
+  -- and its matches
+  pub matches-spelled : (anchored : Anchored) (u : Node)
+      → (spelling_at p at anchored u).matches ≡ matches_of p.built No u
+  matches-spelled anchored None = refl
+  matches-spelled No (Some []) = refl
+  matches-spelled Yes (Some []) = refl
+  matches-spelled anchored (Some (x ∷ w)) = refl
+
+  -- a start has no failure target
+  pub failure-start : (anchored : Anchored) → (spelling_at p at anchored (Some [])).failure ≡ 0
+  failure-start No = refl
+  failure-start Yes = refl
+
+module _ (f : Packer) (nodes : List Node) (h : AreReady f nodes) where
+  -- where a state stands that is none of the starts for anchored searches
+  pub number-spelled : (t : ℕ) (v : Node) → slice_get nodes t ≡ Some v → t ≢ 3
+      → slice_index_or f.numbers t 0 ≡ number_at (places_of f.plan nodes f.numbers) No v
+  number-spelled zero None named other = h.places.each 0 (slice_get_within nodes 0 None named)
+  number-spelled zero (Some w) named other = let dead = h.may.are_nodes.dead in absurd cc
+  number-spelled (suc zero) None named other = h.places.each 1 (slice_get_within nodes 1 None named)
+  number-spelled (suc zero) (Some w) named other = let dead = h.may.are_nodes.unreached in absurd cc
+  number-spelled (suc (suc zero)) None named other = let start = h.may.are_nodes.start in absurd cc
+  number-spelled (suc (suc zero)) (Some []) named other =
+      sym (place-start f.plan.trie nodes h.may.are_nodes f.numbers h.places.count)
+  number-spelled (suc (suc zero)) (Some (x ∷ w)) named other = let start = h.may.are_nodes.start in absurd cc
+  number-spelled (suc (suc (suc zero))) v named other = absurd (other refl)
+  number-spelled (suc (suc (suc (suc t)))) None named other =
+      let within = slice_get_within nodes (suc (suc (suc (suc t)))) None named in
+      let node = (h.may.are_nodes.numbered.node (suc (suc (suc (suc t)))) (omega arith) within).1.named in
+      absurd cc
+  number-spelled (suc (suc (suc (suc t)))) (Some []) named other =
+      absurd (inner-string f.plan.trie nodes h.may.are_nodes (suc (suc (suc (suc t)))) [] (omega arith) named refl)
+  number-spelled (suc (suc (suc (suc t)))) (Some (x ∷ w)) named other =
+      sym (place-inner f.plan.trie nodes h.may.are_nodes f.numbers (suc (suc (suc (suc t)))) (x ∷ w) h.places.count
+      (omega arith) named)
+
+  -- the failure target of a state behind the starts is that of its string
+  pub failure-spelled : (s t : ℕ) (u : Node) → 4 ≤ s → slice_get nodes s ≡ Some u → t ≢ 3
+      → ((x : ℕ) (w : List ℕ) → slice_get nodes s ≡ Some (Some (x ∷ w))
+      → slice_get nodes t ≡ Some (failure f.plan.trie.built.kind (plain_of f.plan.trie.built) (x ∷ w)))
+      → slice_index_or f.numbers t 0 ≡ (state_spelling f nodes s u).failure
+  failure-spelled s t None inner named other target =
+      let string = (string-of f.plan.trie nodes h.may.are_nodes s None (omega arith) named).is in absurd cc
+  failure-spelled s t (Some []) inner named other target =
+      absurd (inner-string f.plan.trie nodes h.may.are_nodes s [] inner named refl)
+  failure-spelled s t (Some (x ∷ w)) inner named other target =
+      number-spelled t (failure f.plan.trie.built.kind (plain_of f.plan.trie.built) (x ∷ w)) (target x w named) other
+
+  -- the starts have none
+  pub failure-none : (s : ℕ) (u : Node) → 2 ≤ s → s < 4 → slice_get nodes s ≡ Some u
+      → 0 ≡ (state_spelling f nodes s u).failure
+  failure-none s None reached start named = refl
+  failure-none s (Some []) reached start named =
+      sym (failure-start (packed_of f.plan nodes f.numbers []) (places_of f.plan nodes f.numbers) (anchored_of s))
+  failure-none zero (Some (x ∷ w)) reached start named = absurd (omega arith)
+  failure-none (suc zero) (Some (x ∷ w)) reached start named = absurd (omega arith)
+  failure-none (suc (suc zero)) (Some (x ∷ w)) reached start named = let e = h.may.are_nodes.start in absurd cc
+  failure-none (suc (suc (suc zero))) (Some (x ∷ w)) reached start named =
+      let e = h.may.are_nodes.anchored_start in absurd cc
+  failure-none (suc (suc (suc (suc s)))) (Some (x ∷ w)) reached start named = absurd (omega arith)
+
+  -- by a byte that doesn't lead on no state but the unanchored start leads anywhere
+  pub missing-fails : (s : ℕ) (u : Node) → 2 ≤ s → s ≢ 2 → slice_get nodes s ≡ Some u
+      → FAIL ≡ (state_spelling f nodes s u).missing
+  missing-fails s None reached other named =
+      let string = (string-of f.plan.trie nodes h.may.are_nodes s None reached named).is in absurd cc
+  missing-fails zero (Some []) reached other named = absurd (omega arith)
+  missing-fails (suc zero) (Some []) reached other named = absurd (omega arith)
+  missing-fails (suc (suc zero)) (Some []) reached other named = absurd (other refl)
+  missing-fails (suc (suc (suc zero))) (Some []) reached other named = refl
+  missing-fails (suc (suc (suc (suc s)))) (Some []) reached other named =
+      absurd (inner-string f.plan.trie nodes h.may.are_nodes (suc (suc (suc (suc s)))) [] (omega arith) named refl)
+  missing-fails s (Some (x ∷ w)) reached other named = refl
+
+  -- the unanchored start leads back to itself, or to the dead state where it stops there
+  pub missing-unanchored : (s n : ℕ) (u : Node) → s ≡ 2 → slice_get nodes s ≡ Some u
+      → n ≡ (if is_leftmost f.plan.trie.built.kind && begins_with_pattern (plain_of f.plan.trie.built) [] then 0
+      else slice_index_or f.numbers s 0)
+      → n ≡ (state_spelling f nodes s u).missing
+  missing-unanchored s n None start named e =
+      let string = (string-of f.plan.trie nodes h.may.are_nodes s None (omega arith) named).is in absurd cc
+  missing-unanchored s n (Some []) start named e =
+      rw start (rw start at e ∙ sym (at-start (is_leftmost f.plan.trie.built.kind && begins_with_pattern (plain_of f.plan.trie.built) [])))
+    where
+      at-start : (t : Bool) → number_at (places_of f.plan nodes f.numbers) No (if t then None else Some [])
+          ≡ (if t then 0 else slice_index_or f.numbers 2 0)
+      at-start true = refl
+      at-start false = place-start f.plan.trie nodes h.may.are_nodes f.numbers h.places.count
+  missing-unanchored s n (Some (x ∷ w)) start named e =
+      let first = h.may.are_nodes.start in let at = rw start at named in absurd cc
+
+  -- an own transition leads to a state behind the starts
+  own-inner : (w : List ℕ) (index byte next : ℕ) → IsOwn f.plan.trie nodes w index byte next → 4 ≤ next
+  own-inner w index byte next own =
+      behind-starts f.plan.trie nodes h.may.are_nodes next (w ++ plain_byte f.plan.trie.built.fold byte ∷ [])
+      (longer w (plain_byte f.plan.trie.built.fold byte)) own.leads
+
+  -- and has a place
+  pub own-numbered : (w : List ℕ) (index byte next : ℕ) → IsOwn f.plan.trie nodes w index byte next
+      → next < length f.numbers
+  own-numbered w index byte next own =
+      let within = slice_get_within nodes next (Some (w ++ plain_byte f.plan.trie.built.fold byte ∷ [])) own.leads in
+      let count = h.places.count in
+      omega arith
+
+  -- how many transitions are spelled
+  pub edges-count : (s : ℕ) (u : Node) → 2 ≤ s → slice_get nodes s ≡ Some u
+      → length (state_spelling f nodes s u).edges ≡ length (own_bytes f.plan.trie.built u)
+  edges-count s None reached named =
+      let string = (string-of f.plan.trie nodes h.may.are_nodes s None reached named).is in absurd cc
+  edges-count s (Some w) reached named =
+      ap (λ (edges : List Edge). length edges)
+      (edges-spelled (packed_of f.plan nodes f.numbers []) (places_of f.plan nodes f.numbers) (anchored_of s) w)
+      ∙ length-map (own_bytes f.plan.trie.built (Some w))
+      (edge_by (packed_of f.plan nodes f.numbers []) (places_of f.plan nodes f.numbers) w)
+
+  -- the next own transition is the next of those that are spelled
+  pub edges-next : (s index byte next : ℕ) (u : Node) → 2 ≤ s → slice_get nodes s ≡ Some u
+      → ((w : List ℕ) → slice_get nodes s ≡ Some (Some w) → IsOwn f.plan.trie nodes w index byte next)
+      → take (index + 1) (state_spelling f nodes s u).edges ≡ take index (state_spelling f nodes s u).edges
+      ++ record { class = class_at f.plan.classes byte; target = slice_index_or f.numbers next 0 } ∷ []
+  edges-next s index byte next None reached named own =
+      let string = (string-of f.plan.trie nodes h.may.are_nodes s None reached named).is in absurd cc
+  edges-next s index byte next (Some w) reached named own =
+      let is = own w named in
+      let p = packed_of f.plan nodes f.numbers [] in
+      let at = places_of f.plan nodes f.numbers in
+      let place = place-inner f.plan.trie nodes h.may.are_nodes f.numbers next
+      (w ++ plain_byte f.plan.trie.built.fold byte ∷ []) h.places.count (own-inner w index byte next is) is.leads in
+      rw (edges-spelled p at (anchored_of s) w, sym place)
+      (take-next (edges_of p at w) index (edge_by p at w byte)
+      (slice_get-map (edge_by p at w) (own_bytes f.plan.trie.built (Some w)) index ∙ ap (option_map (edge_by p at w)) is.place))
+
+-- a list without elements
+none-from_length : {X : Type 0} (xs : List X) → length xs ≡ 0 → xs ≡ []
+none-from_length [] none = refl
+none-from_length (x ∷ xs) none = absurd (omega arith)
+
+module _ (s : Spelling) (missing : s.missing ≡ FAIL) where
+  -- a spelling fits the form of a state that isn't dense
+  sparse-fits : (transitions matches : ℕ) → length s.edges ≡ transitions → length s.matches ≡ matches
+      → transitions ≤ MOST_SPARSE → Fits (sparse_format transitions matches) s
+  sparse-fits zero matches edges listed few = (omega arith, missing)
+  sparse-fits (suc zero) zero edges listed few = (edges, none-from_length s.matches listed, missing)
+  sparse-fits (suc zero) (suc matches) edges listed few = (omega arith, missing)
+  sparse-fits (suc (suc transitions)) matches edges listed few = (omega arith, missing)
+
+  -- and that of any other
+  format-fits : (depth dense_depth transitions matches : ℕ) → length s.edges ≡ transitions
+      → length s.matches ≡ matches → Fits (format_of depth dense_depth transitions matches) s
+  format-fits depth dense_depth transitions matches edges listed = by_depth (nat_lt depth dense_depth)
+    where
+      by_count : (t : Bool) → nat_lt MOST_SPARSE transitions ≡ t
+          → Fits (if t then Dense else sparse_format transitions matches) s
+      by_count true many = tt
+      by_count false few = sparse-fits transitions matches edges listed (ltb-false MOST_SPARSE transitions few)
+
+      by_depth : (t : Bool)
+          → Fits (if t then Dense else if nat_lt MOST_SPARSE transitions then Dense
+          else sparse_format transitions matches) s
+      by_depth true = tt
+      by_depth false = by_count (nat_lt MOST_SPARSE transitions) refl
+
+-- of the classes of all bytes that of a byte so many places behind another is no less
+classes-rise : (classes : List ℕ) → AreClasses classes → (n a : ℕ) → a + n < 256
+    → class_at classes a ≤ class_at classes (a + n)
+classes-rise classes are zero a within = omega (arith, ap (class_at classes) (let e : a + 0 ≡ a = omega arith in e))
+classes-rise classes are (suc n) a within =
+    omega (
+      arith,
+      ap (class_at classes) (let e : a + suc n ≡ a + n + 1 = omega arith in e),
+      are.rises (a + n) (omega arith),
+      classes-rise classes are n a (omega arith),
+    )
+
+-- a function that rises along the elements of a list
+rises-through : (g : ℕ → ℕ) (xs : List ℕ) → ((a b : ℕ) → IsIn a xs → IsIn b xs → a < b → g a < g b)
+    → IsOrdered (λ a b. a < b) xs → IsOrdered (λ a b. g a < g b) xs
+rises-through g [] rises o = tt
+rises-through g (x ∷ xs) rises o =
+    ((λ y h. rises x y (inl refl) (inr h) (o.0 y h)), rises-through g xs (λ a b h k. rises a b (inr h) (inr k)) o.1)
+
+module _ (q : PackPlan) (nodes : List Node) (may : MayPack q nodes) where
+  -- of two own bytes the later one has the greater class
+  own-rises : (w : List ℕ) (a b : ℕ) → IsIn a (own_bytes q.trie.built (Some w)) → IsIn b (own_bytes q.trie.built (Some w))
+      → a < b → class_at q.classes a < class_at q.classes b
+  own-rises w a b first second before =
+      let built = q.trie.built in
+      let has = Contains-from_IsIn b (own_bytes built (Some w)) second in
+      let small = own_bytes-small built (Some w) b has in
+      let stands = stands-from_node built.fold built.patterns built.kind w b (own_bytes-only built (Some w) b has) in
+      let up = classes-rise q.classes may.classes (b - a) a (omega arith) in
+      let at : a + (b - a) ≡ b = omega arith in
+      elim (cases_lt (class_at q.classes a) (class_at q.classes b)) [
+        | inl less ↦ less
+        | inr more ↦ absurd (let same = may.apart.own a b (omega arith) small stands
+            (omega (arith, up, more, ap (class_at q.classes) at)) in omega arith)
+      ]
+
+  -- own bytes rise
+  own-ordered : (u : Node) → IsOrdered (λ a b. a < b) (own_bytes q.trie.built u)
+  unfolding own_bytes
+  own-ordered u = IsOrdered-filter (λ a b. a < b) (leads_on q.trie.built u) (range_with_len 0 256) (IsOrdered-range 0 256)
+
+  module _ (words numbers w : List ℕ) where
+    -- classes of own transitions rise
+    edges-ascend : IsStrictlyIncreasing (map (λ (e : Edge). e.class) (edges_of (packed_of q nodes numbers words) (places_of q nodes numbers) w))
+    edges-ascend =
+        let p = packed_of q nodes numbers words in
+        let at = places_of q nodes numbers in
+        let own = own_bytes q.trie.built (Some w) in
+        let bytes = rises-through (class_at q.classes) own (own-rises w) (own-ordered (Some w)) in
+        let edges = IsOrdered-map (λ a b. class_at q.classes a < class_at q.classes b) (λ (e g : Edge). e.class < g.class)
+        (edge_by p at w) own (λ a b h. h) bytes in
+        let classes = IsOrdered-map (λ (e g : Edge). e.class < g.class) (λ a b. a < b) (λ (e : Edge). e.class)
+        (edges_of p at w) (λ e g h. h) edges in
+        let pairs = AllPairs-from_IsOrdered (λ a b. a < b) (map (λ (e : Edge). e.class) (edges_of p at w)) classes in
+        λ k within. pairs k (k + 1) 0 (omega arith) within
+
+    -- and are below their number
+    edges-below : All (λ e. e.class < alphabet_len q.classes) (edges_of (packed_of q nodes numbers words) (places_of q nodes numbers) w)
+    edges-below =
+        All-map (λ (e : Edge). e.class < alphabet_len q.classes)
+        (edge_by (packed_of q nodes numbers words) (places_of q nodes numbers) w) (own_bytes q.trie.built (Some w))
+        (All-from_IsIn (λ b. class_at q.classes b < alphabet_len q.classes) (own_bytes q.trie.built (Some w))
+        (λ b has. class_at-below q.classes may.classes b
+        (own_bytes-small q.trie.built (Some w) b (Contains-from_IsIn b (own_bytes q.trie.built (Some w)) has))))
+
+  -- matches are numbers of patterns
+  matches-small : (u : Node) (k : ℕ) → slice_index_or (matches_of q.trie.built No u) k 0 < ONE_MATCH
+  matches-small u k = elim (cases_lt k (length (matches_of q.trie.built No u))) [
+    | inl within ↦
+        let few = may.few in
+        let numbered = matches-numbered q.trie.built u k 0 within in
+        omega arith
+    | inr past ↦ omega (arith, get_or_past (matches_of q.trie.built No u) k 0 past)
+  ]
+
+  -- and there are few of them
+  matches-below : (u : Node) → length (matches_of q.trie.built No u) < ONE_MATCH
+  matches-below u = let few = may.few in let numbered = matches-few q.trie.built u in omega arith
+
+-- what a state spells can be packed in its form
+pub record Spells (f : Packer) (nodes : List Node) (s : ℕ) (u : Node) : Type 0 where
+  pub fits : Fits (node_format f.plan.trie.built f.plan.dense_depth u) (state_spelling f nodes s u)
+  pub few : alphabet_len f.plan.classes ≤ 256
+  pub below : All (λ e. e.class < alphabet_len f.plan.classes) (state_spelling f nodes s u).edges
+  pub ascending : IsStrictlyIncreasing (map (λ e. e.class) (state_spelling f nodes s u).edges)
+  pub few_matches : length (state_spelling f nodes s u).matches < ONE_MATCH
+  pub numbers : (k : ℕ) → slice_index_or (state_spelling f nodes s u).matches k 0 < ONE_MATCH
+
+-- the form of a string fits what its state spells
+string-fits : (f : Packer) (nodes : List Node) (s : ℕ) (w : List ℕ)
+    → Fits (node_format f.plan.trie.built f.plan.dense_depth (Some w)) (state_spelling f nodes s (Some w))
+string-fits f nodes s [] = tt
+string-fits f nodes s (x ∷ w) =
+    format-fits (state_spelling f nodes s (Some (x ∷ w))) refl (length (x ∷ w)) f.plan.dense_depth
+    (length (own_bytes f.plan.trie.built (Some (x ∷ w)))) (length (matches_of f.plan.trie.built No (Some (x ∷ w))))
+    (length-map (own_bytes f.plan.trie.built (Some (x ∷ w)))
+    (edge_by (packed_of f.plan nodes f.numbers []) (places_of f.plan nodes f.numbers) (x ∷ w))) refl
+
+-- it can be so for each state from the starts on
+pub state-spells : (f : Packer) (nodes : List Node) → AreReady f nodes → (s : ℕ) (u : Node) → 2 ≤ s
+    → slice_get nodes s ≡ Some u → Spells f nodes s u
+state-spells f nodes h s None reached named =
+    let string = (string-of f.plan.trie nodes h.may.are_nodes s None reached named).is in absurd cc
+state-spells f nodes h s (Some w) reached named =
+    let p = packed_of f.plan nodes f.numbers [] in
+    let at = places_of f.plan nodes f.numbers in
+    let edges = edges-spelled p at (anchored_of s) w in
+    let matches = matches-spelled p at (anchored_of s) (Some w) in
+    record {
+      fits = string-fits f nodes s w;
+      few = alphabet_len-few f.plan.classes h.may.classes;
+      below = rw edges (edges-below f.plan nodes h.may [] f.numbers w);
+      ascending = rw edges (edges-ascend f.plan nodes h.may [] f.numbers w);
+      few_matches = rw matches (matches-below f.plan nodes h.may (Some w));
+      numbers = λ k. rw matches (matches-small f.plan nodes h.may (Some w) k);
+    }
+
+-- the words of a state are told by the parts of what it spells
+pub spelled-by_parts : (format new_format : Format) (classes new_classes : ℕ) (s t : Spelling) → format ≡ new_format
+    → classes ≡ new_classes → s.failure ≡ t.failure → s.missing ≡ t.missing → s.edges ≡ t.edges
+    → s.matches ≡ t.matches → spelled format classes s ≡ spelled new_format new_classes t
+spelled-by_parts format new_format classes new_classes s t same_format same_classes fails misses edges matches =
+    rw (same_format, same_classes) (ap (spelled new_format new_classes) same)
+  where
+    same : record { failure = s.failure; missing = s.missing; edges = s.edges; matches = s.matches } ≡ t
+    same = rw (fails, misses, edges, matches) refl

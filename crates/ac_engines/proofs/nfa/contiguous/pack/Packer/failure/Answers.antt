@@ -1,0 +1,29 @@
+use Rattle.std.proofs.Common.{◌≡◌, ap, sym, subst, arith, ◌∙◌, ◌∷◌, Some}
+use Rattle.std.specs.Prelude.{slice_get}
+use Rattle.ac_util.specs.Node.{failure}
+use Rattle.ac_automaton.specs.Automata.{plain_of}
+use Rattle.ac_automaton.specs.Readers.{AreNodes}
+use Rattle.ac_automaton.specs.Tries.{Trie}
+use Rattle.ac_engines.specs.PackedPlaces.{PackPlan}
+use Rattle.ac_engines.specs.Packs.{Packer}
+use Rattle.ac_engines.proofs.StateSpellings.{failure-none, failure-spelled}
+use Rattle.ac_engines.proofs.nfa.contiguous.pack.Packer.failure.Goals as goal
+
+-- the starts have none
+pub returns-then-as_usize-lt-FIRST_INNER : goal.returns-then-as_usize-lt-FIRST_INNER
+returns-then-as_usize-lt-FIRST_INNER g c = λ nodes u ready named.
+    let at = c.as_usize.ensures.value in
+    let outer = c.if-as_usize-lt-FIRST_INNER.true in
+    let reached = c.requires.state.reached in
+    failure-none c.args.self.now nodes ready c.args.sid u reached (omega arith) named
+
+-- behind them it is the place of the target
+pub returns : goal.returns
+returns g c = λ nodes u ready named.
+    let trie = ap (λ (p : PackPlan). p.trie) c.plan.view_is ∙ ap (λ (f : Packer). f.plan.trie) c.self.view_is in
+    let at = c.as_usize.ensures.value in
+    let inner = c.if-as_usize-lt-FIRST_INNER.false in
+    c.number.ensures
+    ∙ failure-spelled c.args.self.now nodes ready c.args.sid c.fail.result u (omega arith) named c.fail.ensures.start
+    (λ x w there. subst (λ (t : Trie). slice_get nodes c.fail.result ≡ Some (failure t.built.kind (plain_of t.built) (x ∷ w)))
+    trie (c.fail.ensures.target nodes x w (subst (λ (t : Trie). AreNodes t nodes) (sym trie) ready.may.are_nodes) there))

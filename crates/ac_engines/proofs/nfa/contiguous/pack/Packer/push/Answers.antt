@@ -1,0 +1,69 @@
+use Rattle.std.proofs.Common.{◌≡◌, ◌++◌, ap, sym, subst, ◌∙◌, List, length, map, Some}
+use Rattle.std.specs.Prelude.{IfOk, slice_get}
+use Rattle.std.specs.List.{All}
+use Rattle.std.specs.List.Sorted.{IsStrictlyIncreasing}
+use Rattle.ac_util.specs.Classes.{alphabet_len}
+use Rattle.ac_util.specs.Node.{Node}
+use Rattle.ac_engines.specs.declared.nfa.contiguous.state.TheConstants.{ONE_MATCH}
+use Rattle.ac_engines.specs.declared.nfa.contiguous.state.Edge.{Edge}
+use Rattle.ac_engines.specs.PackedPlaces.{MayPack, PackPlan}
+use Rattle.ac_engines.specs.Packs.{AreReady, Packer, state_spelling}
+use Rattle.ac_engines.specs.Sizes.{node_format}
+use Rattle.ac_engines.specs.Words.{Fits, Spelling}
+use Rattle.ac_engines.proofs.StateSpellings.{spelled-by_parts, state-spells}
+use Rattle.ac_engines.proofs.nfa.contiguous.pack.Packer.push.Given.{Over}
+use Rattle.ac_engines.proofs.nfa.contiguous.pack.Packer.push.Goals.{After-alphabet_len}
+use Rattle.ac_engines.proofs.nfa.contiguous.pack.Packer.push.Goals as goal
+
+module _ (g : Over) (c : After-alphabet_len g) (nodes : List Node) (u : Node) (ready : AreReady c.args.self.now nodes)
+    (named : slice_get nodes c.args.sid ≡ Some u) where
+  -- the transitions, the matches, the form and the number of classes
+  edges : c.deref.result.now ≡ (state_spelling c.args.self.now nodes c.args.sid u).edges
+  edges = c.deref.ensures.value ∙ c.in_ok-list_edges.ensures nodes u ready named
+
+  matches : c.deref-2.result.now ≡ (state_spelling c.args.self.now nodes c.args.sid u).matches
+  matches = c.deref-2.ensures.value ∙ c.in_ok-list_matches.ensures nodes u ready named
+
+  form : c.format.result ≡ node_format c.args.self.now.plan.trie.built c.args.self.now.plan.dense_depth u
+  form =
+      let plan = ap (λ (f : Packer). f.plan) c.self.view_is in
+      c.format.ensures nodes u (subst (λ (q : PackPlan). MayPack q nodes) (sym plan) ready.may) named
+      ∙ ap (λ (q : PackPlan). node_format q.trie.built q.dense_depth u) plan
+
+  classes : c.alphabet_len.result ≡ alphabet_len c.args.self.now.plan.classes
+  classes =
+      c.alphabet_len.ensures.value ∙ ap (λ (q : PackPlan). alphabet_len q.classes) c.plan.view_is
+      ∙ ap (λ (f : Packer). alphabet_len f.plan.classes) c.self.view_is
+
+pub push_state-requires-clause-fits : goal.push_state-requires-clause-fits
+push_state-requires-clause-fits g c =
+    let at = c.requires.state in
+    let spells = state-spells c.args.self.now at.nodes at.ready c.args.sid at.node at.reached at.named in
+    rw (form g c at.nodes at.node at.ready at.named, edges g c at.nodes at.node at.ready at.named, matches g c at.nodes at.node at.ready at.named,
+    c.failure.ensures at.nodes at.node at.ready at.named, c.missing.ensures at.nodes at.node at.ready at.named) spells.fits
+
+pub push_state-requires-clause-ascending : goal.push_state-requires-clause-ascending
+push_state-requires-clause-ascending g c =
+    let at = c.requires.state in
+    let spells = state-spells c.args.self.now at.nodes at.ready c.args.sid at.node at.reached at.named in
+    subst (λ (es : List Edge). IsStrictlyIncreasing (map (λ (e : Edge). e.class) es)) (sym (edges g c at.nodes at.node at.ready at.named)) spells.ascending
+
+pub push_state-requires-clause-within : goal.push_state-requires-clause-within
+push_state-requires-clause-within g c =
+    let at = c.requires.state in
+    let spells = state-spells c.args.self.now at.nodes at.ready c.args.sid at.node at.reached at.named in
+    rw (classes g c at.nodes at.node at.ready at.named, edges g c at.nodes at.node at.ready at.named) spells.below
+
+pub push_state-requires-clause-few_matches : goal.push_state-requires-clause-few_matches
+push_state-requires-clause-few_matches g c =
+    let at = c.requires.state in
+    let spells = state-spells c.args.self.now at.nodes at.ready c.args.sid at.node at.reached at.named in
+    rw (matches g c at.nodes at.node at.ready at.named) spells.few_matches
+
+pub returns : goal.returns
+returns g c = λ nodes u ready named.
+    subst (λ ws. IfOk c.push_state.result (λ _. c.push_state.new.words.items ≡ c.args.pages.now.words.items ++ ws))
+    (spelled-by_parts _ _ _ _ _ _ (form g c.before nodes u ready named) (classes g c.before nodes u ready named)
+    (c.failure.ensures nodes u ready named) (c.missing.ensures nodes u ready named)
+    (edges g c.before nodes u ready named) (matches g c.before nodes u ready named))
+    c.push_state.ensures

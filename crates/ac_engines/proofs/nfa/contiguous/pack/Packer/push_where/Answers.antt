@@ -1,0 +1,82 @@
+use Rattle.std.proofs.Common.{◌≡◌, ◌++◌, ap, sym, subst, ◌∙◌, arith, List, length, Some}
+use Rattle.std.specs.Prelude.{slice_get}
+use Rattle.std.specs.Cmp.{booleans_Decides}
+use Rattle.std.proofs.lemmas.Bool.{false≢true}
+use Rattle.ac_util.specs.Node.{Node}
+use Rattle.ac_engines.specs.PackedPlaces.{HasWords, MayPack, PackPlan, has_matches}
+use Rattle.ac_engines.specs.Packs.{Packer, state_words}
+use Rattle.ac_engines.proofs.LaidUpTo.{IsNamed}
+use Rattle.ac_engines.proofs.PlanSums.{has-words, named-below, plan-states}
+use Rattle.ac_engines.proofs.Pushing.{HasPushedUpTo, passed-over, pushed-all, pushed-next, pushed-none}
+use Rattle.ac_engines.proofs.nfa.contiguous.pack.Packer.push_where.Given.{Over}
+use Rattle.ac_engines.proofs.nfa.contiguous.pack.Packer.push_where.Goals.{After-must-sid, then-is_match-front+in_ok-push, else-is_match-front}
+use Rattle.ac_engines.proofs.nfa.contiguous.pack.Packer.push_where.Goals as goal
+
+-- nothing is pushed at first
+pub loop-state-init : goal.loop-state-init
+loop-state-init g c = λ nodes ready. pushed-none c.args.self.now nodes c.args.front c.args.pages.now.words.items
+
+-- each state has words
+pub is_match-requires : goal.is_match-requires
+is_match-requires g c =
+    let (nodes, ready) = c.requires.ready in
+    let plan = ap (λ (f : Packer). f.plan) c.self.view_is in
+    record {
+      state = subst (λ (q : PackPlan). HasWords q c.must-sid.result) (sym plan)
+          (has-words c.args.self.now.plan nodes ready.may _ _ c.loop-state.state c.must-sid.result (c.plan.view_is ∙ plan)
+          c.states_len-state-end.ensures.value c.loop-state.auto.state c.loop-state-test.true c.must-sid.ensures.value);
+    }
+
+-- and a place
+pub push-requires : goal.push-requires
+push-requires g c =
+    let (nodes, ready) = c.requires.ready in
+    let own = named-below c.args.self.now.plan nodes ready.may _ _ c.loop-state.state
+    (c.plan.view_is ∙ ap (λ (f : Packer). f.plan) c.self.view_is) c.states_len-state-end.ensures.value
+    c.loop-state-test.true in
+    record {
+      state = record {
+        nodes = nodes;
+        ready = ready;
+        node = own.node;
+        named = rw c.must-sid.ensures.value own.named;
+        reached = omega (arith, c.loop-state.auto.state, c.must-sid.ensures.value);
+      };
+    }
+
+-- one more is pushed, or passed over
+pub loop-state-preserved : goal.loop-state-preserved
+loop-state-preserved g c = λ nodes ready.
+    let f = c.args.self.now in
+    let old = c.args.pages.now.words.items in
+    let plan = ap (λ (f : Packer). f.plan) c.self.view_is in
+    let own = named-below f.plan nodes ready.may _ _ c.loop-state.state (c.plan.view_is ∙ plan)
+    c.states_len-state-end.ensures.value c.loop-state-test.true in
+    let named : slice_get nodes c.must-sid.result ≡ Some own.node = rw c.must-sid.ensures.value own.named in
+    let matched = c.is_match.ensures nodes own.node (subst (λ (q : PackPlan). MayPack q nodes) (sym plan) ready.may) named
+    ∙ ap (λ (q : PackPlan). has_matches q nodes own.node) plan in
+    elim c.if-is_match-front.branch [
+      | then-is_match-front+in_ok-push w ↦
+          rw w.pages-is (pushed-next f nodes ready c.args.front c.loop-state.state own.node c.loop-state.auto.state
+          own.named old c.loop-state.pages.words.items (c.loop-state.invariant nodes ready) _
+          (sym matched ∙ (booleans_Decides c.is_match.result c.args.front).0 w.if-is_match-front.true)
+          (subst (λ n. w.push.new.pages.words.items ≡ c.loop-state.pages.words.items ++ state_words f nodes n own.node)
+          c.must-sid.ensures.value (w.in_ok-push.ensures nodes own.node ready named)))
+      | else-is_match-front w ↦
+          rw w.pages-is (passed-over f nodes ready c.args.front c.loop-state.state own.node c.loop-state.auto.state
+          own.named old c.loop-state.pages.words.items (c.loop-state.invariant nodes ready)
+          (λ asked. false≢true (sym w.if-is_match-front.false
+          ∙ (booleans_Decides c.is_match.result c.args.front).1 (matched ∙ asked))))
+    ]
+
+-- all are pushed
+pub returns : goal.returns
+returns g c = λ nodes ready.
+    let f = c.args.self.now in
+    let states = plan-states _ f.plan nodes _ ready.may (c.plan.view_is ∙ ap (λ (f : Packer). f.plan) c.self.view_is)
+    c.states_len-state-end.ensures.value in
+    let all : c.loop-state.state ≡ length nodes =
+    omega (arith, states, c.loop-state-test.false, c.loop-state.auto.state-end, ready.may.are_nodes.numbered.count) in
+    pushed-all f nodes c.args.front c.args.pages.now.words.items c.loop-state.pages.words.items
+    (subst (λ n. HasPushedUpTo f nodes c.args.front n c.args.pages.now.words.items c.loop-state.pages.words.items) all
+    (c.loop-state.invariant nodes ready))

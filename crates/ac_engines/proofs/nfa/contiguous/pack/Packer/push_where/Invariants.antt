@@ -1,0 +1,10 @@
+use Rattle.std.proofs.Common.{List}
+use Rattle.ac_util.specs.Node.{Node}
+use Rattle.ac_engines.specs.Packs.{AreReady}
+use Rattle.ac_engines.proofs.Pushing.{HasPushedUpTo}
+use Rattle.ac_engines.proofs.nfa.contiguous.pack.Packer.push_where.Given as goal
+
+-- those of the states so far that are asked for were pushed
+abbrev pub invariant-loop-state : goal.invariant-loop-state
+invariant-loop-state g l = (nodes : List Node) → AreReady l.fn.self nodes
+    → HasPushedUpTo l.fn.self nodes l.fn.front l.state l.fn.pages.words.items l.pages.words.items
