@@ -2,9 +2,10 @@
 use Rattle.std.proofs.Common.{◌≡◌, ◌≢◌, ℕ, ◌+◌, ◌-◌, ◌/◌, ◌%◌, ◌<◌, ◌≤◌, ◌↔◌, ◌⊎◌, inl, inr, Bool, true, false, List, [], ◌∷◌, ◌++◌, length, take, drop, refl, ap, sym, ◌∙◌, arith}
 use Rattle.std.specs.Prelude.{◌==◌, ◌&&◌, nat_lt, slice_index_or, if◌then◌else◌}
 use Rattle.std.specs.Int.{div_ceil}
-use Rattle.std.proofs.lemmas.Bool.{and_from, cond-false, cond-true, eq-eqb, le-ltb, lt-ltb, ne_eqb}
+use Rattle.std.proofs.lemmas.Bool.{and_from, cond-false, cond-true, eqb-false, eqb-true, le-ltb, lt-ltb}
 use Rattle.std.proofs.lemmas.Grind.{div_ceil_times}
 use Rattle.std.proofs.lemmas.List.{drop-drop, get_or-drop, length-drop, take_all}
+use Rattle.std.proofs.Math.Bool.{and-false}
 use Rattle.std.proofs.Math.Seq.{take-append_seam}
 use Rattle.ac_util.specs.Classes.{alphabet_len}
 use Rattle.ac_engines.specs.declared.nfa.contiguous.format.Format.{Format}
@@ -45,8 +46,43 @@ module _ (words : List ℕ) (classes : ℕ) (s : Spelling) (format : Format) (h 
     where
       by : (t : Bool) → (form words classes s == DENSE) ≡ t
           → drop (words_before_matches (form words classes s) classes) words ≡ match_spelling s.matches ++ h.rest
-      by true dense = ?
-      by false other = ?
+      by true dense =
+          ap (λ (n : ℕ). drop n words)
+          (cond-true (form words classes s == DENSE) (2 + classes)
+          (2 + (form words classes s + 3) / 4 + form words classes s) dense)
+          ∙ from-place (2 + classes) h.rest (dense-lists words classes s format h (eqb-true (form words classes s) DENSE dense))
+      by false other =
+          let low = form words classes s in
+          ap (λ (n : ℕ). drop n words)
+          (cond-false (low == DENSE) (2 + classes) (2 + (low + 3) / 4 + low) other
+          ∙ ap (λ (n : ℕ). 2 + n + low) (counts low))
+          ∙ from-place (2 + div_ceil low 4 + low) h.rest
+          (sparse-lists words classes s format h low (div_ceil low 4) refl (eqb-false low DENSE other) some refl)
 
   pub spelled-listed : matches_in (drop (words_before_matches (form words classes s) classes) words) ≡ s.matches
   spelled-listed = ap matches_in behind-targets ∙ matches-read s.matches h.rest some h.few_matches
+
+module _ (p : Packed) (at : ℕ) (format : Format) (s : Spelling)
+    (h : BeginsWith (drop at p.words) format (alphabet_len p.classes) s) where
+  -- the form of the state that begins there
+  form-there : form (drop at p.words) (alphabet_len p.classes) s ≡ slice_index_or p.words at 0 % 256
+  form-there =
+      ap (λ (n : ℕ). n % 256) (get_or-drop at p.words 0 0 ∙ ap (λ (k : ℕ). slice_index_or p.words k 0) (omega arith))
+
+  -- a state lists what its words spell, if its number is that of a match state
+  pub listed-spelled : 0 < at → at < p.match_end → s.matches ≢ [] → listed_at p at ≡ s.matches
+  listed-spelled behind before some =
+      let skipped = words_before_matches (slice_index_or p.words at 0 % 256) (alphabet_len p.classes) in
+      cond-true (nat_lt 0 at && nat_lt at p.match_end) (matches_in (drop (at + skipped) p.words)) []
+      (and_from (nat_lt 0 at) (nat_lt at p.match_end) (lt-ltb 0 at behind) (lt-ltb at p.match_end before))
+      ∙ ap matches_in
+      (sym (drop-drop skipped at p.words)
+      ∙ ap (λ (n : ℕ). drop (words_before_matches n (alphabet_len p.classes)) (drop at p.words)) (sym form-there))
+      ∙ spelled-listed (drop at p.words) (alphabet_len p.classes) s format h some
+
+-- and else nothing
+pub listed-none : (p : Packed) (at : ℕ) → p.match_end ≤ at → listed_at p at ≡ []
+listed-none p at past =
+    let skipped = words_before_matches (slice_index_or p.words at 0 % 256) (alphabet_len p.classes) in
+    cond-false (nat_lt 0 at && nat_lt at p.match_end) (matches_in (drop (at + skipped) p.words)) []
+    (ap (λ (t : Bool). nat_lt 0 at && t) (le-ltb at p.match_end past) ∙ and-false (nat_lt 0 at))

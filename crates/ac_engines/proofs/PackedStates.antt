@@ -1,0 +1,376 @@
+-- Packed states, as they stand behind one another, mean what they should.
+use Rattle.std.proofs.Common.{◌≡◌, ◌≢◌, ℕ, zero, suc, ◌+◌, ◌*◌, ◌<◌, ◌≤◌, ◌↔◌, ◌⊎◌, inl, inr, Bool, true, false, cond, List, [], ◌∷◌, ◌++◌, length, drop, None, Some, refl, ap, subst, sym, ◌∙◌, arith}
+use Rattle.std.specs.Prelude.{nat_lt, slice_get, slice_index_or}
+use Rattle.std.proofs.lemmas.Bool.{cases_lt, ltb-false, ltb-true}
+use Rattle.std.proofs.lemmas.List.{append_assoc, nil_from_length}
+use Rattle.std.proofs.lemmas.Option.{slice_get_within}
+use Rattle.ac_util.specs.declared.primitives.TheConstants.{GREATEST}
+use Rattle.ac_util.specs.declared.search.Anchored.{Anchored}
+use Rattle.ac_util.specs.declared.search.Anchored.TheVariants.{No, Yes}
+use Rattle.ac_util.specs.Classes.{IsNode, alphabet_len}
+use Rattle.ac_util.specs.Node.{Node}
+use Rattle.ac_util.proofs.ClassLists.{alphabet_len-few}
+use Rattle.ac_util.proofs.NodeCount.{inner_nodes-has}
+use Rattle.ac_automaton.specs.Automata.{matches_of, plain_of}
+use Rattle.ac_automaton.specs.declared.nfa.noncontiguous.state.TheConstants.{START}
+use Rattle.ac_automaton.specs.Readers.{own_bytes}
+use Rattle.ac_engines.specs.declared.nfa.contiguous.format.Format.{Format}
+use Rattle.ac_engines.specs.declared.nfa.contiguous.format.Format.TheVariants.{Dense, One, Sparse}
+use Rattle.ac_engines.specs.declared.nfa.contiguous.state.TheConstants.{FAIL}
+use Rattle.ac_engines.specs.Formats.{words_of_state}
+use Rattle.ac_engines.specs.Packing.{IsPacked, Packed, Places, listed_at, number_at, spelling_at}
+use Rattle.ac_engines.specs.PackedPlaces.{front_end, has_matches, packed_of, place_at, places_of, size_at, size_of, total}
+use Rattle.ac_engines.specs.Packs.{AreReady, HasPushed, Packer, anchored_of, state_spelling}
+use Rattle.ac_engines.specs.Sizes.{node_format, packed_words}
+use Rattle.ac_engines.specs.Words.{BeginsWith, Spelling, spelled}
+use Rattle.ac_engines.proofs.Decoding.{listed-none, listed-spelled}
+use Rattle.ac_engines.proofs.Numbered.{place-inner, place-start}
+use Rattle.ac_engines.proofs.PackedSums.{total-grows}
+use Rattle.ac_engines.proofs.PlanSums.{back-within, before, before-starts, front-within, sizes-whole, takes}
+use Rattle.ac_engines.proofs.PushedStates.{begins-before, begins-behind, length-spelled}
+
+-- what the dead state spells
+abbrev pub dead_spelling : Spelling
+dead_spelling = record { failure = 0; missing = 0; edges = []; matches = [] }
+
+module _ (f : Packer) (nodes : List Node) (ready : AreReady f nodes) (words : List ℕ) where
+  -- what is packed, and where
+  abbrev packed : Packed
+  packed = packed_of f.plan nodes f.numbers words
+
+  abbrev places : Places
+  places = places_of f.plan nodes f.numbers
+
+  -- a string has a state of the trie, and its number is the place of that
+  pub record HasPlace (anchored : Anchored) (w : List ℕ) : Type 0 where
+    pub state : ℕ
+    pub reached : START ≤ state
+    pub named : slice_get nodes state ≡ Some (Some w)
+    pub number : number_at places anchored (Some w) ≡ place_at f.plan nodes state
+    pub spells : state_spelling f nodes state (Some w) ≡ spelling_at packed places anchored (Some w)
+
+  numbered : (s : ℕ) (u : Node) → slice_get nodes s ≡ Some u → slice_index_or f.numbers s 0 ≡ place_at f.plan nodes s
+  numbered s u named = ready.places.each s (slice_get_within nodes s u named)
+
+  pub has-place : (anchored : Anchored) (w : List ℕ)
+      → IsNode f.plan.trie.built.kind (plain_of f.plan.trie.built) (Some w) → HasPlace anchored w
+  has-place No [] node = record {
+    state = 2;
+    reached = omega arith;
+    named = ready.may.are_nodes.start;
+    number = place-start f.plan.trie nodes ready.may.are_nodes f.numbers ready.places.count
+        ∙ numbered 2 (Some []) ready.may.are_nodes.start;
+    spells = refl;
+  }
+  has-place Yes [] node = record {
+    state = 3;
+    reached = omega arith;
+    named = ready.may.are_nodes.anchored_start;
+    number = numbered 3 (Some []) ready.may.are_nodes.anchored_start;
+    spells = refl;
+  }
+  has-place anchored (x ∷ w) node =
+      let in_list = inner_nodes-has f.plan.trie.built.kind (plain_of f.plan.trie.built) (x ∷ w) node (λ e. absurd cc) in
+      let at = ready.may.are_nodes.numbered.each (x ∷ w) in_list in
+      record {
+        state = at.0;
+        reached = let inner = at.1.inner in omega arith;
+        named = at.1.named;
+        number = inner anchored
+            ∙ place-inner f.plan.trie nodes ready.may.are_nodes f.numbers at.0 (x ∷ w) ready.places.count at.1.inner at.1.named
+            ∙ numbered at.0 (Some (x ∷ w)) at.1.named;
+        spells = refl;
+      }
+    where
+      inner : (anchored : Anchored) → number_at places anchored (Some (x ∷ w)) ≡ places.place (x ∷ w)
+      inner No = refl
+      inner Yes = refl
+
+-- each form takes some words
+words-some : (format : Format) (classes transitions matches : ℕ) → 0 < words_of_state format classes transitions matches
+words-some Dense classes transitions matches = omega arith
+words-some One classes transitions matches = omega arith
+words-some Sparse classes transitions matches = omega arith
+
+module _ (f : Packer) (nodes : List Node) (ready : AreReady f nodes) where
+  -- where a state is placed: in front or behind, and no other state has a place before its words end
+  record IsPlacedAt (s : ℕ) (u : Node) (t : Bool) : Type 0 where
+    front : t ≡ true → place_at f.plan nodes s ≡ size_of f.plan nodes None + before f.plan nodes true s
+    front_ends : t ≡ true → place_at f.plan nodes s < size_of f.plan nodes None + before f.plan nodes true (s + 1)
+    front_within : t ≡ true → place_at f.plan nodes s < front_end f.plan nodes
+    back : t ≡ false → place_at f.plan nodes s ≡ front_end f.plan nodes + before f.plan nodes false s
+    back_ends : t ≡ false → place_at f.plan nodes s < front_end f.plan nodes + before f.plan nodes false (s + 1)
+
+  placed-at : (s : ℕ) (u : Node) → 2 ≤ s → slice_get nodes s ≡ Some u → (t : Bool) → t ≡ has_matches f.plan nodes u
+      → IsPlacedAt s u t
+  placed-at s u reached named true is =
+      let t = takes f.plan nodes s u reached named true (size_of f.plan nodes u) is refl in
+      let some = words-some (node_format f.plan.trie.built f.plan.dense_depth u) (alphabet_len f.plan.classes)
+      (length (own_bytes f.plan.trie.built u)) (length (matches_of f.plan.trie.built No u)) in
+      let grows = total-grows (size_at f.plan nodes true) (s + 1) (length nodes)
+      (let within = slice_get_within nodes s u named in omega arith) in
+      let place = t.place in
+      let more = t.front in
+      record {
+        front = λ e. place;
+        front_ends = λ e. omega arith;
+        front_within = λ e. omega arith;
+        back = λ e. absurd cc;
+        back_ends = λ e. absurd cc;
+      }
+  placed-at s u reached named false is =
+      let t = takes f.plan nodes s u reached named false (size_of f.plan nodes u) is refl in
+      let some = words-some (node_format f.plan.trie.built f.plan.dense_depth u) (alphabet_len f.plan.classes)
+      (length (own_bytes f.plan.trie.built u)) (length (matches_of f.plan.trie.built No u)) in
+      let place = t.place in
+      let more = t.back in
+      record {
+        front = λ e. absurd cc;
+        front_ends = λ e. absurd cc;
+        front_within = λ e. absurd cc;
+        back = λ e. place;
+        back_ends = λ e. omega arith;
+      }
+
+  -- two states have two places
+  places-apart : (s t : ℕ) (u v : Node) → 2 ≤ s → s < t → slice_get nodes s ≡ Some u → slice_get nodes t ≡ Some v
+      → place_at f.plan nodes s ≢ place_at f.plan nodes t
+  places-apart s t u v reached earlier named other e =
+      by (has_matches f.plan nodes u) (has_matches f.plan nodes v) refl refl
+    where
+      by : (a b : Bool) → a ≡ has_matches f.plan nodes u → b ≡ has_matches f.plan nodes v → ⊥
+      by true true is js =
+          let at = placed-at s u reached named true is in
+          let then = placed-at t v (omega arith) other true js in
+          let grows = total-grows (size_at f.plan nodes true) (s + 1) t (omega arith) in
+          let ends = at.front_ends refl in
+          let begins = then.front refl in
+          omega arith
+      by false false is js =
+          let at = placed-at s u reached named false is in
+          let then = placed-at t v (omega arith) other false js in
+          let grows = total-grows (size_at f.plan nodes false) (s + 1) t (omega arith) in
+          let ends = at.back_ends refl in
+          let begins = then.back refl in
+          omega arith
+      by true false is js =
+          let ends = (placed-at s u reached named true is).front_within refl in
+          let begins = (placed-at t v (omega arith) other false js).back refl in
+          omega arith
+      by false true is js =
+          let begins = (placed-at s u reached named false is).back refl in
+          let ends = (placed-at t v (omega arith) other true js).front_within refl in
+          omega arith
+
+  -- the words of the dead state, then those of the states that have matches, and then those of the others
+  module _ (dead front words : List ℕ) (first : dead ≡ spelled Dense (alphabet_len f.plan.classes) dead_spelling)
+      (in_front : HasPushed f nodes true dead front) (behind : HasPushed f nodes false front words) where
+    -- the state of the dead node
+    dead-begins : BeginsWith dead Dense (alphabet_len f.plan.classes) dead_spelling
+    dead-begins =
+        begins-behind Dense (alphabet_len f.plan.classes) dead_spelling [] dead first tt
+        (alphabet_len-few f.plan.classes ready.may.classes) (λ k d below. absurd (omega arith))
+        (λ k below. absurd (omega arith)) (omega arith)
+        (λ k. omega arith)
+
+    dead-long : length dead ≡ size_of f.plan nodes None
+    dead-long = ap (λ (ws : List ℕ). length ws) first ∙ length-spelled Dense (alphabet_len f.plan.classes) dead_spelling tt
+
+    front-long : length front ≡ front_end f.plan nodes
+    front-long = let long = in_front.long in let first_long = dead-long in omega arith
+
+    pub words-long : length words
+        ≡ packed_words f.plan.trie.built f.plan.dense_depth (alphabet_len f.plan.classes)
+    words-long =
+        let long = behind.long in
+        let first_long = front-long in
+        let whole = sizes-whole f.plan nodes ready.may in
+        omega arith
+
+    -- each state's words begin at its place
+    record Begins (s : ℕ) (u : Node) : Type 0 where
+      begins : BeginsWith (drop (place_at f.plan nodes s) words) (node_format f.plan.trie.built f.plan.dense_depth u)
+          (alphabet_len f.plan.classes) (state_spelling f nodes s u)
+      within : place_at f.plan nodes s < length words
+      late : FAIL < place_at f.plan nodes s
+      front_if : has_matches f.plan nodes u ≡ true → place_at f.plan nodes s < front_end f.plan nodes
+      back_if : has_matches f.plan nodes u ≡ false → front_end f.plan nodes ≤ place_at f.plan nodes s
+
+    state-begins : (s : ℕ) (u : Node) → 2 ≤ s → slice_get nodes s ≡ Some u → Begins s u
+    state-begins s u reached named = by (has_matches f.plan nodes u) refl
+      where
+        by : (t : Bool) → t ≡ has_matches f.plan nodes u → Begins s u
+        by true is =
+            let at = placed-at s u reached named true is in
+            let place = at.front refl in
+            let inside = at.front_within refl in
+            let long = front-long in
+            let dead_is = dead-long in
+            let all = behind.long in
+            record {
+              begins = rw behind.same (begins-before (node_format f.plan.trie.built f.plan.dense_depth u)
+                  (alphabet_len f.plan.classes) (state_spelling f nodes s u) front behind.pushed (place_at f.plan nodes s)
+                  (omega arith)
+                  (subst (λ (n : ℕ). BeginsWith (drop n front) (node_format f.plan.trie.built f.plan.dense_depth u)
+                      (alphabet_len f.plan.classes) (state_spelling f nodes s u))
+                  (let e : length dead + total (size_at f.plan nodes true) s ≡ place_at f.plan nodes s = omega arith in e)
+                  (in_front.each s u reached named (sym is))));
+              within = omega arith;
+              late = omega arith;
+              front_if = λ e. inside;
+              back_if = λ e. absurd cc;
+            }
+        by false is =
+            let at = placed-at s u reached named false is in
+            let place = at.back refl in
+            let ends = at.back_ends refl in
+            let long = front-long in
+            let all = behind.long in
+            let grows = total-grows (size_at f.plan nodes false) (s + 1) (length nodes)
+            (let below = slice_get_within nodes s u named in omega arith) in
+            record {
+              begins = subst (λ (n : ℕ). BeginsWith (drop n words) (node_format f.plan.trie.built f.plan.dense_depth u)
+                  (alphabet_len f.plan.classes) (state_spelling f nodes s u))
+              (let e : length front + total (size_at f.plan nodes false) s ≡ place_at f.plan nodes s = omega arith in e)
+              (behind.each s u reached named (sym is));
+              within = omega arith;
+              late = omega arith;
+              front_if = λ e. absurd cc;
+              back_if = λ e. omega arith;
+            }
+
+    -- what begins at the number of a node
+    node-begins : (anchored : Anchored) (u : Node) → IsNode f.plan.trie.built.kind (plain_of f.plan.trie.built) u
+        → BeginsWith (drop (number_at (places f nodes ready words) anchored u) words)
+        (node_format f.plan.trie.built f.plan.dense_depth u) (alphabet_len f.plan.classes)
+        (spelling_at (packed f nodes ready words) (places f nodes ready words) anchored u)
+    node-begins anchored None node =
+        let long = front-long in
+        let both : words ≡ dead ++ (in_front.pushed ++ behind.pushed) =
+        behind.same ∙ ap (λ (ws : List ℕ). ws ++ behind.pushed) in_front.same
+        ∙ append_assoc dead in_front.pushed behind.pushed in
+        none anchored (rw both (begins-before Dense (alphabet_len f.plan.classes) dead_spelling dead
+            (in_front.pushed ++ behind.pushed) 0 (omega arith) dead-begins))
+      where
+        none : (anchored : Anchored) → BeginsWith words Dense (alphabet_len f.plan.classes) dead_spelling
+            → BeginsWith (drop (number_at (places f nodes ready words) anchored None) words) Dense
+            (alphabet_len f.plan.classes) dead_spelling
+        none No h = h
+        none Yes h = h
+    node-begins anchored (Some w) node =
+        let at = has-place f nodes ready words anchored w node in
+        rw (at.number, sym at.spells) (state-begins at.state (Some w) at.reached at.named).begins
+
+    -- whether a string has matches
+    has-some : (w : List ℕ) → has_matches f.plan nodes (Some w) ≡ true
+        → matches_of f.plan.trie.built No (Some w) ≢ []
+    has-some w is none =
+        let some = ltb-true 0 (length (matches_of f.plan.trie.built No (Some w))) is in
+        let long = ap (λ (ms : List ℕ). length ms) none in
+        absurd (omega arith)
+
+    has-none : (w : List ℕ) → has_matches f.plan nodes (Some w) ≡ false
+        → matches_of f.plan.trie.built No (Some w) ≡ []
+    has-none w is =
+        nil_from_length (matches_of f.plan.trie.built No (Some w))
+        (let none = ltb-false 0 (length (matches_of f.plan.trie.built No (Some w))) is in omega arith)
+
+    -- what the spelling of a string lists
+    spelled-matches : (anchored : Anchored) (w : List ℕ)
+        → (spelling_at (packed f nodes ready words) (places f nodes ready words) anchored (Some w)).matches
+        ≡ matches_of f.plan.trie.built No (Some w)
+    spelled-matches No [] = refl
+    spelled-matches Yes [] = refl
+    spelled-matches anchored (x ∷ w) = refl
+
+    -- what stands at the number of a string
+    record Tells (anchored : Anchored) (w : List ℕ) : Type 0 where
+      within : number_at (places f nodes ready words) anchored (Some w) < length words
+      late : FAIL < number_at (places f nodes ready words) anchored (Some w)
+      matched : (number_at (places f nodes ready words) anchored (Some w) < front_end f.plan nodes)
+          ↔ (matches_of f.plan.trie.built No (Some w) ≢ [])
+      lists : listed_at (packed f nodes ready words) (number_at (places f nodes ready words) anchored (Some w))
+          ≡ matches_of f.plan.trie.built No (Some w)
+
+    tells : (anchored : Anchored) (w : List ℕ) → IsNode f.plan.trie.built.kind (plain_of f.plan.trie.built) (Some w)
+        → Tells anchored w
+    tells anchored w node = by (has_matches f.plan nodes (Some w)) refl
+      where
+        by : (t : Bool) → has_matches f.plan nodes (Some w) ≡ t → Tells anchored w
+        by true is =
+            let at = has-place f nodes ready words anchored w node in
+            let there = state-begins at.state (Some w) at.reached at.named in
+            let number = at.number in
+            let within = there.within in
+            let late = there.late in
+            let front = there.front_if is in
+            record {
+              within = omega arith;
+              late = omega arith;
+              matched = (λ below. has-some w is, λ some. omega arith);
+              lists = listed-spelled (packed f nodes ready words)
+                  (number_at (places f nodes ready words) anchored (Some w))
+                  (node_format f.plan.trie.built f.plan.dense_depth (Some w))
+                  (spelling_at (packed f nodes ready words) (places f nodes ready words) anchored (Some w))
+                  (node-begins anchored (Some w) node) (omega arith) (omega arith)
+                  (λ none. has-some w is (sym (spelled-matches anchored w) ∙ none))
+                  ∙ spelled-matches anchored w;
+            }
+        by false is =
+            let at = has-place f nodes ready words anchored w node in
+            let there = state-begins at.state (Some w) at.reached at.named in
+            let number = at.number in
+            let within = there.within in
+            let late = there.late in
+            let back = there.back_if is in
+            record {
+              within = omega arith;
+              late = omega arith;
+              matched = (λ below. absurd (omega arith), λ some. absurd (some (has-none w is)));
+              lists = listed-none (packed f nodes ready words)
+                  (number_at (places f nodes ready words) anchored (Some w)) (omega arith) ∙ sym (has-none w is);
+            }
+
+    -- two states of different nodes have two places
+    unlike : (s t : ℕ) (u v : Node) → 2 ≤ s → 2 ≤ t → slice_get nodes s ≡ Some u → slice_get nodes t ≡ Some v → u ≢ v
+        → place_at f.plan nodes s ≢ place_at f.plan nodes t
+    unlike s t u v reached other named there differ e = elim (cases_lt s t) [
+      | inl earlier ↦ places-apart s t u v reached earlier named there e
+      | inr past ↦ elim (cases_lt t s) [
+          | inl later ↦ places-apart t s v u other later there named (sym e)
+          | inr before ↦
+              let same : s ≡ t = omega arith in
+              let at : slice_get nodes s ≡ Some v = ap (slice_get nodes) same ∙ there in
+              absurd (differ cc)
+        ]
+    ]
+
+    -- so no string but the empty one has the number of a start
+    no-start : (anchored : Anchored) (w : List ℕ) → IsNode f.plan.trie.built.kind (plain_of f.plan.trie.built) (Some w)
+        → w ≢ [] → (places f nodes ready words).place w ≢ number_at (places f nodes ready words) anchored (Some [])
+    no-start anchored [] node some e = absurd (some refl)
+    no-start anchored (x ∷ w) node some e =
+        let at = has-place f nodes ready words No (x ∷ w) node in
+        let start = has-place f nodes ready words anchored [] refl in
+        absurd (unlike at.state start.state (Some (x ∷ w)) (Some []) at.reached start.reached at.named start.named
+            (λ same. absurd cc) (sym at.number ∙ e ∙ start.number))
+
+    -- the words mean what they should
+    pub are-packed : packed_words f.plan.trie.built f.plan.dense_depth (alphabet_len f.plan.classes) ≤ GREATEST
+        → IsPacked (packed f nodes ready words) (places f nodes ready words)
+    are-packed small = record {
+      classes = ready.may.classes;
+      apart = ready.may.apart;
+      small = let long = words-long in omega arith;
+      few = ready.may.few;
+      short = ready.may.short;
+      start = place-start f.plan.trie nodes ready.may.are_nodes f.numbers ready.places.count;
+      anchored_start = refl;
+      states = node-begins;
+      within = λ anchored w node. (tells anchored w node).within;
+      behind = λ anchored w node. (tells anchored w node).late;
+      longer = no-start;
+      ended = let long = dead-long in omega arith;
+      matched = λ anchored w node. (tells anchored w node).matched;
+      lists = λ anchored w node. (tells anchored w node).lists;
+    }
