@@ -32,7 +32,7 @@ classes_by-AreClasses true fold patterns = classes_of-AreClasses fold patterns
 classes_by-AreClasses false fold patterns = singletons-AreClasses
 
 -- and set each byte of a pattern apart
-classes_by-set_apart : (byte_classes fold : Bool) (patterns : List (List ℕ))
+pub classes_by-set_apart : (byte_classes fold : Bool) (patterns : List (List ℕ))
     → SetsApart fold patterns (classes_by byte_classes fold patterns)
 classes_by-set_apart true fold patterns = classes_of-set_apart fold patterns
 classes_by-set_apart false fold patterns = singletons-set_apart fold patterns

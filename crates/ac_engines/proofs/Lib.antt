@@ -16,6 +16,7 @@ pub mod Numbered
 pub mod Numbers
 pub mod OneRow
 pub mod Owning
+pub mod PackedBuilding
 pub mod PackedNumbers
 pub mod PackedStates
 pub mod PackedSteps

@@ -1,0 +1,45 @@
+-- What a build of packed words has made.
+use Rattle.std.proofs.Common.{◌≡◌, ℕ, ◌<◌, Bool, List, length, ap, arith, sym, ◌∙◌}
+use Rattle.std.specs.Prelude.{slice_index_or}
+use Rattle.std.proofs.lemmas.Grind.{get_or_default_zero}
+use Rattle.std.proofs.lemmas.Option.{slice_get_within}
+use Rattle.ac_util.specs.declared.search.MatchKind.{MatchKind}
+use Rattle.ac_util.specs.declared.search.StartKind.TheVariants.{Both}
+use Rattle.ac_util.specs.Node.{Node}
+use Rattle.ac_automaton.specs.declared.nfa.noncontiguous.state.TheConstants.{ANCHORED_START, START}
+use Rattle.ac_engines.specs.Packing.{packed_from}
+use Rattle.ac_engines.specs.PackedPlaces.{HasPlaces, MayPack, PackPlan, front_end, packed_of}
+
+-- words whose parts are those of a plan were packed by it
+pub packed-same : (q : PackPlan) (nodes : List Node) (numbers words : List ℕ) (patterns : List (List ℕ)) (fold : Bool)
+    (kind : MatchKind) (dense_depth : ℕ) (classes : List ℕ) (start anchored_start match_end : ℕ)
+    → patterns ≡ q.trie.built.patterns → fold ≡ q.trie.built.fold → kind ≡ q.trie.built.kind
+    → q.trie.built.start_kind ≡ Both → dense_depth ≡ q.dense_depth → classes ≡ q.classes
+    → start ≡ slice_index_or numbers START 0 → anchored_start ≡ slice_index_or numbers ANCHORED_START 0
+    → match_end ≡ front_end q nodes
+    → packed_from patterns fold kind dense_depth classes words start anchored_start match_end
+    ≡ packed_of q nodes numbers words
+packed-same q nodes numbers words patterns fold kind dense_depth classes start anchored_start match_end are folds kinds
+    both depth class starts anchored_starts ends = λ i. record {
+      built = record { patterns = are i; fold = folds i; kind = kinds i; start_kind = sym both i };
+      dense_depth = depth i;
+      classes = class i;
+      words = words;
+      start = starts i;
+      anchored_start = anchored_starts i;
+      match_end = ends i;
+    }
+
+-- the starts have places
+pub starts-placed : (q : PackPlan) (nodes : List Node) (numbers : List ℕ) → MayPack q nodes → HasPlaces q nodes numbers
+    → ANCHORED_START < length numbers
+starts-placed q nodes numbers may places =
+    let within = slice_get_within nodes ANCHORED_START _ may.are_nodes.anchored_start in
+    let count = places.count in
+    omega arith
+
+-- what was read at a place of the same list
+pub read-place : (xs ys : List ℕ) (k n : ℕ) → k < length xs → xs ≡ ys → n ≡ slice_index_or xs k n
+    → n ≡ slice_index_or ys k 0
+read-place xs ys k n within same read =
+    read ∙ get_or_default_zero xs k n within ∙ ap (λ (ns : List ℕ). slice_index_or ns k 0) same

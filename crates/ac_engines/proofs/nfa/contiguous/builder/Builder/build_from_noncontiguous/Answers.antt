@@ -1,0 +1,76 @@
+use Rattle.std.proofs.Common.{◌≡◌, ◌<◌, ◌∙◌, ap, refl, sym, subst, arith, length, ℕ, List}
+use Rattle.std.specs.Prelude.{slice_index_or}
+use Rattle.ac_util.specs.Built.{Built}
+use Rattle.ac_util.specs.Classes.{SetsApart}
+use Rattle.ac_util.specs.Sizes.{longest_len, shortest_len}
+use Rattle.ac_automaton.specs.declared.nfa.noncontiguous.state.TheConstants.{ANCHORED_START, START}
+use Rattle.ac_engines.specs.Packing.{IsPacked, Packed}
+use Rattle.ac_engines.specs.PackedPlaces.{PackPlan, places_of}
+use Rattle.ac_engines.proofs.Assembled.{classes_by-set_apart}
+use Rattle.ac_engines.proofs.PackedBuilding.{packed-same, read-place, starts-placed}
+use Rattle.ac_engines.proofs.nfa.contiguous.builder.Builder.build_from_noncontiguous.Goals as goal
+
+pub new-plan-requires-clause-apart : goal.new-plan-requires-clause-apart
+new-plan-requires-clause-apart g c =
+    let from = c.args.nfa.now.built in
+    subst (SetsApart from.fold from.patterns) (sym c.classes_for-classes.ensures)
+    (classes_by-set_apart c.self.inside.byte_classes from.fold from.patterns)
+
+-- each state has a place
+pub pack-requires-clause-ready : goal.pack-requires-clause-ready
+pack-requires-clause-ready g c =
+    let nodes = c.new-plan.ensures.may in (
+      nodes.0,
+      record { may = nodes.1; places = rw c.deref.ensures.value (c.in_ok-numbers.ensures nodes.0 nodes.1) },
+    )
+
+pub index-requires : goal.index-requires
+index-requires g c =
+    let nodes = c.new-plan.ensures.may in
+    let placed = starts-placed c.new-plan.result nodes.0 c.in_ok-numbers.numbers.items nodes.1
+    (c.in_ok-numbers.ensures nodes.0 nodes.1) in
+    let same = ap (λ (ns : List ℕ). length ns) c.deref.ensures.value in
+    let long = c.deref.ensures.len in
+    omega arith
+
+pub index-requires-2 : goal.index-requires-2
+index-requires-2 g c =
+    let nodes = c.new-plan.ensures.may in
+    let placed = starts-placed c.new-plan.result nodes.0 c.in_ok-numbers.numbers.items nodes.1
+    (c.in_ok-numbers.ensures nodes.0 nodes.1) in
+    let same = ap (λ (ns : List ℕ). length ns) c.deref.ensures.value in
+    let long = c.deref.ensures.len in
+    omega arith
+
+-- the words stand for the nodes
+pub invariant_of-result : goal.invariant_of-result
+invariant_of-result g c =
+    let nodes = c.new-plan.ensures.may in
+    let plan = c.new-plan.ensures.value in
+    let numbers = c.deref.ensures.value in
+    let placed = starts-placed c.new-plan.result nodes.0 c.in_ok-numbers.numbers.items nodes.1
+    (c.in_ok-numbers.ensures nodes.0 nodes.1) in
+    let trie = ap (λ (q : PackPlan). q.trie.built) plan in
+    let patterns : c.in_ok-clone-2.field-0.value ≡ c.args.nfa.now.built.patterns =
+    c.in_ok-clone-2.ensures.cases ∙ c.patterns.ensures in
+    record {
+      packed = (
+        places_of c.new-plan.result nodes.0 c.deref.result.now,
+        subst (λ (p : Packed). IsPacked p (places_of c.new-plan.result nodes.0 c.deref.result.now))
+        (sym (packed-same c.new-plan.result nodes.0 c.deref.result.now c.in_ok-words.words.items
+            c.in_ok-clone-2.field-0.value c.fold.result c.match_kind.result c.self.inside.dense_depth
+            c.classes_for-classes.result c.index.result.now c.index-2.result.now c.sizes-sizes.result.match_end
+            (patterns ∙ ap (λ (b : Built). b.patterns) (sym trie)) (c.fold.ensures ∙ ap (λ (b : Built). b.fold) (sym trie))
+            (c.match_kind.ensures ∙ ap (λ (b : Built). b.kind) (sym trie)) nodes.1.are_nodes.table.both
+            (ap (λ (q : PackPlan). q.dense_depth) (sym plan)) (ap (λ (q : PackPlan). q.classes) (sym plan))
+            (read-place c.in_ok-numbers.numbers.items c.deref.result.now START c.index.result.now
+            (omega (arith, placed)) (sym numbers) c.index.ensures)
+            (read-place c.in_ok-numbers.numbers.items c.deref.result.now ANCHORED_START c.index-2.result.now
+            placed (sym numbers) c.index-2.ensures)
+            (c.sizes-sizes.ensures.match_end nodes.0 nodes.1)))
+        (c.in_ok-words.ensures.packed nodes.0
+        (record { may = nodes.1; places = rw numbers (c.in_ok-numbers.ensures nodes.0 nodes.1) })),
+      );
+      shortest = c.min_pattern_len.ensures ∙ ap shortest_len (sym patterns);
+      longest = c.max_pattern_len.ensures ∙ ap longest_len (sym patterns);
+    }
