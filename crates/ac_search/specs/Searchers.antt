@@ -8,7 +8,7 @@ use Rattle.ac_util.specs.declared.search.StartKind.{StartKind}
 use Rattle.ac_util.specs.declared.search.StartKind.TheVariants.{Anchored, Both, Unanchored}
 use Rattle.ac_util.specs.Built.{Built}
 use Rattle.ac_util.specs.Limits.{limit_refusal}
-use Rattle.ac_automaton.specs.Builds.{EngineSettings, IsRefused, state_refusal}
+use Rattle.ac_automaton.specs.Builds.{EngineSettings, IsRefused, engine_built_by, state_refusal}
 use Rattle.ac_engines.specs.Builds.{refusal_or, table_refusal_from}
 use Rattle.ac_engines.specs.PackedBuilds.{packed_refusal_from}
 use Rattle.ac_search.specs.declared.ahocorasick.choice.AhoCorasickKind.{AhoCorasickKind}
@@ -57,12 +57,12 @@ built_by settings patterns = record {
 -- the refusal of a table over these patterns that is too large, or None
 abbrev pub table_size_refusal : Settings → List (List ℕ) → Option BuildError
 table_size_refusal settings patterns =
-    table_refusal_from settings.start_kind settings.byte_classes (built_by settings patterns)
+    table_refusal_from settings.start_kind settings.byte_classes (engine_built_by (engine_settings settings) patterns)
 
 -- the same of packed words
 abbrev pub packed_size_refusal : Settings → List (List ℕ) → Option BuildError
 packed_size_refusal settings patterns =
-    packed_refusal_from settings.dense_depth settings.byte_classes (built_by settings patterns)
+    packed_refusal_from settings.dense_depth settings.byte_classes (engine_built_by (engine_settings settings) patterns)
 
 -- whether nothing refuses an engine
 abbrev pub fits : Option BuildError → Bool

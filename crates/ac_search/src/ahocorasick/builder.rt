@@ -1,13 +1,13 @@
 //! The settings of a searcher, and its build.
-ghost use Rattle.std.specs.Prelude.{◌≡◌, ℕ, MatchOption, MatchResult, Err, None, Ok, Some, length};
+ghost use Rattle.std.specs.Prelude.{◌≡◌, ◌&&◌, ℕ, IfOk, MatchOption, MatchResult, Err, None, Ok, Some, false, length, true};
 ghost use Rattle.ac_util.specs.declared.error.BuildError.TheVariants.{Memory, StateIdOverflow};
 ghost use Rattle.ac_util.specs.Borrowed.{bytes_of};
 ghost use Rattle.ac_automaton.specs.Builds.{IsEngineBuilt, IsRefused};
-ghost use Rattle.ac_engines.specs.Builds.{RefusesTableFrom, table_refusal_from};
-ghost use Rattle.ac_engines.specs.PackedBuilds.{RefusesPackedFrom, packed_refusal_from};
+ghost use Rattle.ac_engines.specs.Builds.{table_refusal_from};
+ghost use Rattle.ac_engines.specs.PackedBuilds.{packed_refusal_from};
 ghost use Rattle.ac_search.specs.declared.ahocorasick.choice.AhoCorasickKind.TheVariants.{ContiguousNFA, DFA, NoncontiguousNFA};
-ghost use Rattle.ac_search.specs.Engines.{IsMadeFrom, Supports, searcher_of};
-ghost use Rattle.ac_search.specs.Searchers.{IsBuilt, RefusesSearcher, choose_kind, engine_refusal, engine_settings, fits, usual_settings};
+ghost use Rattle.ac_search.specs.Engines.{IsMadeFrom, Supports, built_of, filters_of, name_of, searcher_of};
+ghost use Rattle.ac_search.specs.Searchers.{IsBuilt, RefusesSearcher, choose_kind, engine_refusal, engine_settings, fits, suits_table, usual_settings};
 
 use super::AhoCorasick;
 use super::choice::{AhoCorasickKind, suits_table};
@@ -18,7 +18,7 @@ use ac_engines::dfa;
 use ac_engines::nfa::contiguous;
 use ac_util::error::BuildError;
 use ac_util::search::{MatchKind, StartKind};
-use std::alloc::Allocator;
+use std::alloc::{AllocError, Allocator};
 use std::marker::Model;
 use std::rc::Rc;
 
@@ -194,17 +194,15 @@ impl AhoCorasickBuilder {
             × IsBuilt self.now nfa.built.patterns (searcher_of engine self.now.start_kind))
             (IsRefused (engine_refusal self.now nfa.built.patterns)) }
     {
-        let made = match self.kind {
-            Some(AhoCorasickKind::NoncontiguousNFA) => None,
-            Some(AhoCorasickKind::ContiguousNFA) => Some(self.packed_over(&nfa)?),
-            Some(AhoCorasickKind::DFA) => Some(self.table_over(&nfa)?),
-            None => self.chosen_over(&nfa)?,
-        };
-        if let Some(engine) = made {
-            return Ok(engine);
+        match self.kind {
+            Some(AhoCorasickKind::NoncontiguousNFA) => Ok(engine_of(nfa)?),
+            Some(AhoCorasickKind::ContiguousNFA) => self.packed_over(&nfa),
+            Some(AhoCorasickKind::DFA) => self.table_over(&nfa),
+            None => match self.chosen_over(&nfa)? {
+                Some(engine) => Ok(engine),
+                None => Ok(engine_of(nfa)?),
+            },
         }
-        let alloc = nfa.allocator().clone()?;
-        Ok(Engine::Noncontiguous(Rc::new(alloc, nfa)?))
     }
 
     /// Returns the engine that is chosen, or None where it is the automaton itself.
@@ -226,19 +224,40 @@ impl AhoCorasickBuilder {
             (fits (packed_refusal_from self.now.dense_depth self.now.byte_classes nfa.now.built)))))
             (λ e. e ≡ Memory) }
     {
-        if suits_table(self.start_kind, nfa.patterns_len()) {
-            let made = unless_too_large(self.table_over(nfa))?;
-            if made.is_some() {
-                return Ok(made);
-            }
+        match self.chosen_table(nfa)? {
+            Some(engine) => Ok(Some(engine)),
+            None => unless_too_large(self.packed_over(nfa)),
         }
-        unless_too_large(self.packed_over(nfa))
+    }
+
+    /// Returns a table where it suits and fits, and else None.
+    ///
+    /// # Errors
+    /// `Memory` where a request for memory is refused.
+    fn chosen_table<A: Allocator + Clone>(
+        &self,
+        nfa: &noncontiguous::NFA<A>,
+    ) -> Result<Option<Engine<A>>, BuildError>
+        ensures { MatchResult result
+            (λ made. MatchOption made
+            (suits_table self.now.start_kind (length nfa.now.built.patterns)
+            && fits (table_refusal_from self.now.start_kind self.now.byte_classes nfa.now.built) ≡ false)
+            (λ engine. IsMadeFrom nfa.now.built self.now engine DFA
+            × (suits_table self.now.start_kind (length nfa.now.built.patterns)
+            && fits (table_refusal_from self.now.start_kind self.now.byte_classes nfa.now.built) ≡ true)))
+            (λ e. e ≡ Memory) }
+    {
+        if suits_table(self.start_kind, nfa.patterns_len()) {
+            unless_too_large(self.table_over(nfa))
+        } else {
+            Ok(None)
+        }
     }
 
     /// Returns a contiguous automaton with this dense depth and these classes.
     ///
     /// # Errors
-    /// `StateIdOverflow` exactly where it would be too large, and else `Memory` where a request for memory is refused.
+    /// `StateIdOverflow` only where it would be too large, and `Memory` where a request for memory is refused.
     fn packed_over<A: Allocator + Clone>(
         &self,
         nfa: &noncontiguous::NFA<A>,
@@ -246,7 +265,7 @@ impl AhoCorasickBuilder {
         ensures { MatchResult result
             (λ engine. IsMadeFrom nfa.now.built self.now engine ContiguousNFA
             × (packed_refusal_from self.now.dense_depth self.now.byte_classes nfa.now.built ≡ None))
-            (RefusesPackedFrom self.now.dense_depth self.now.byte_classes nfa.now.built) }
+            (IsRefused (packed_refusal_from self.now.dense_depth self.now.byte_classes nfa.now.built)) }
     {
         let mut settings = contiguous::Builder::new();
         settings.dense_depth(self.dense_depth);
@@ -259,7 +278,7 @@ impl AhoCorasickBuilder {
     /// Returns a table with these starts and classes.
     ///
     /// # Errors
-    /// `StateIdOverflow` exactly where it would be too large, and else `Memory` where a request for memory is refused.
+    /// `StateIdOverflow` only where it would be too large, and `Memory` where a request for memory is refused.
     fn table_over<A: Allocator + Clone>(
         &self,
         nfa: &noncontiguous::NFA<A>,
@@ -267,7 +286,7 @@ impl AhoCorasickBuilder {
         ensures { MatchResult result
             (λ engine. IsMadeFrom nfa.now.built self.now engine DFA
             × (table_refusal_from self.now.start_kind self.now.byte_classes nfa.now.built ≡ None))
-            (RefusesTableFrom self.now.start_kind self.now.byte_classes nfa.now.built) }
+            (IsRefused (table_refusal_from self.now.start_kind self.now.byte_classes nfa.now.built)) }
     {
         let mut builder = dfa::Builder::new();
         builder.start_kind(self.start_kind);
@@ -276,6 +295,19 @@ impl AhoCorasickBuilder {
         let table = builder.build_from_noncontiguous(alloc, nfa)?;
         Ok(Engine::Dfa(Rc::new(nfa.allocator().clone()?, table)?))
     }
+}
+
+/// Returns the noncontiguous automaton itself as an engine.
+///
+/// # Errors
+/// `AllocError` where a request for memory is refused.
+fn engine_of<A: Allocator + Clone>(nfa: noncontiguous::NFA<A>) -> Result<Engine<A>, AllocError>
+    ensures built { IfOk result (λ engine. built_of engine ≡ nfa.built) }
+    ensures filters { IfOk result (λ engine. filters_of engine ≡ false) }
+    ensures name { IfOk result (λ engine. name_of engine ≡ NoncontiguousNFA) }
+{
+    let alloc = nfa.allocator().clone()?;
+    Ok(Engine::Noncontiguous(Rc::new(alloc, nfa)?))
 }
 
 /// Returns what was made, or None where it would have been too large.
