@@ -16,7 +16,7 @@ use ac_util::prefilter::Prefilter;
 use ac_util::primitives::{PatternID, StateID};
 use ac_util::search::{Anchored, MatchKind, StartKind};
 use lists::MatchLists;
-use std::alloc::{Allocator, Global};
+use std::alloc::{AllocError, Allocator, Global};
 use std::marker::Model;
 use std::mem::size_of;
 use std::ops::Range;
@@ -86,6 +86,33 @@ impl<A: Allocator> Model for DFA<A> {
       among : HasMatchesAmong (table_of d.patterns.value d.fold d.kind d.start_kind d.classes d.stride2 d.table.items
           d.lists.listed.items d.lists.bounds.items) d.first_match d.match_end;
     } };
+}
+
+impl<A: Allocator + Clone> Clone for DFA<A> {
+    ghost is_clone = { λ s t. t ≡ s };
+
+    /// Returns a copy, which shares the patterns with this automaton, and answers equally.
+    ///
+    /// # Errors
+    /// `AllocError` where a request for memory is refused.
+    fn clone(&self) -> Result<DFA<A>, AllocError> {
+        Ok(DFA {
+            patterns: self.patterns.clone()?,
+            kind: self.kind,
+            fold: self.fold,
+            start_kind: self.start_kind,
+            shortest: self.shortest,
+            longest: self.longest,
+            classes: self.classes,
+            stride2: self.stride2,
+            table: self.table.clone()?,
+            lists: self.lists.clone()?,
+            start: self.start,
+            anchored_start: self.anchored_start,
+            first_match: self.first_match,
+            match_end: self.match_end,
+        })
+    }
 }
 
 impl<A: Allocator + Clone> DFA<A> {

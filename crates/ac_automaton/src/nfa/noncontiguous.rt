@@ -17,7 +17,7 @@ use ac_util::primitives::{PatternID, StateID};
 use ac_util::search::{Anchored, MatchKind};
 use growth::TrieLists;
 use state::{State, Transition, follow, listed_len, take_listed};
-use std::alloc::{Allocator, Global};
+use std::alloc::{AllocError, Allocator, Global};
 use std::marker::Model;
 use std::mem::size_of;
 use std::rc::Rc;
@@ -64,6 +64,25 @@ impl<A: Allocator> Model for NFA<A> {
       shortest : n.shortest ≡ shortest_len n.patterns.value;
       longest : n.longest ≡ longest_len n.patterns.value;
     } };
+}
+
+impl<A: Allocator + Clone> Clone for NFA<A> {
+    ghost is_clone = { λ s t. t ≡ s };
+
+    /// Returns a copy, which shares the patterns with this automaton, and answers equally.
+    ///
+    /// # Errors
+    /// `AllocError` where a request for memory is refused.
+    fn clone(&self) -> Result<NFA<A>, AllocError> {
+        Ok(NFA {
+            patterns: self.patterns.clone()?,
+            kind: self.kind,
+            fold: self.fold,
+            shortest: self.shortest,
+            longest: self.longest,
+            lists: self.lists.clone()?,
+        })
+    }
 }
 
 impl<A: Allocator + Clone> NFA<A> {

@@ -17,7 +17,7 @@ use ac_util::prefilter::Prefilter;
 use ac_util::primitives::{PatternID, StateID};
 use ac_util::search::{Anchored, MatchKind, StartKind};
 use state::State;
-use std::alloc::{Allocator, Global};
+use std::alloc::{AllocError, Allocator, Global};
 use std::marker::Model;
 use std::mem::size_of;
 use std::rc::Rc;
@@ -74,6 +74,30 @@ impl<A: Allocator> Model for NFA<A> {
       shortest : n.shortest ≡ shortest_len n.patterns.value;
       longest : n.longest ≡ longest_len n.patterns.value;
     } };
+}
+
+impl<A: Allocator + Clone> Clone for NFA<A> {
+    ghost is_clone = { λ s t. t ≡ s };
+
+    /// Returns a copy, which shares the patterns with this automaton, and answers equally.
+    ///
+    /// # Errors
+    /// `AllocError` where a request for memory is refused.
+    fn clone(&self) -> Result<NFA<A>, AllocError> {
+        Ok(NFA {
+            patterns: self.patterns.clone()?,
+            kind: self.kind,
+            fold: self.fold,
+            shortest: self.shortest,
+            longest: self.longest,
+            classes: self.classes,
+            dense_depth: self.dense_depth,
+            words: self.words.clone()?,
+            start: self.start,
+            anchored_start: self.anchored_start,
+            match_end: self.match_end,
+        })
+    }
 }
 
 impl<A: Allocator + Clone> NFA<A> {

@@ -76,6 +76,16 @@ impl Builder {
         self
     }
 
+    /// Has no effect, and is here since upstream's builder has it, so that its callers need no change. There it sets how
+    /// deep a state may be to get a row of its own for all bytes; states of this automaton have no such rows.
+    pub fn dense_depth(&mut self, depth: usize) -> &mut Builder
+        ensures value { result.now ≡ self.old }
+        ensures same { result.ghost_name ≡ self.entry.ghost_name }
+    {
+        let _ = depth;
+        self
+    }
+
     /// Builds an automaton over a list of patterns. An empty list is fine: nothing is then found.
     ///
     /// Time is linear in the bytes of the patterns but for the sort of the list, and so is memory.

@@ -38,7 +38,7 @@ struct QueuedState {
 
 /// The lists of an automaton: the numbers of the sorted patterns, the transitions of all states, and the
 /// states.
-#[derive(Drop)]
+#[derive(Clone, Drop)]
 pub(crate) struct TrieLists<A: Allocator> {
     pub(crate) order: Vec<PatternID, A>,
     pub(crate) transitions: Vec<Transition, A>,

@@ -19,6 +19,24 @@ fn walks(rt: HostRuntime) -> Result<(), Fail> {
     Ok(())
 }
 
+/// A copy outlives the automaton that it is made from.
+#[test]
+fn walks_of_copies(rt: HostRuntime) -> Result<(), Fail> {
+    for (kinds, patterns, haystack, wanted) in WALKS {
+        for &kind in kinds {
+            for (start_kind, byte_classes) in UNANCHORED {
+                let dfa = builder(kind, start_kind, byte_classes).build(rt.alloc(), patterns)?;
+                let copy = dfa.clone()?;
+                drop(dfa);
+                let matches = walk_of(rt.alloc(), &copy, Input::new(haystack))?;
+                let walked: Vec<Told> = matches.iter().map(told).collect(rt.alloc())?;
+                assert_eq!(rt; walked.as_slice(), wanted, "{patterns:?} under {kind:?}");
+            }
+        }
+    }
+    Ok(())
+}
+
 #[test]
 fn anchored_walks(rt: HostRuntime) -> Result<(), Fail> {
     for (kinds, patterns, haystack, wanted) in ANCHORED_WALKS {

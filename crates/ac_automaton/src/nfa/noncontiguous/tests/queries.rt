@@ -1,4 +1,4 @@
-use super::{EACH, builder};
+use super::{EACH, builder, told};
 use crate::automaton::Automaton;
 use ac_util::primitives::PatternID;
 use ac_util::search::Input;
@@ -58,6 +58,22 @@ fn settings(rt: HostRuntime) -> Result<(), Fail> {
         assert!(rt; nfa.try_find(Input::new(b"HE"))?.is_some());
         assert!(rt; nfa.memory_usage() > 0);
         assert!(rt; nfa.prefilter().is_none());
+    }
+    Ok(())
+}
+
+/// The setting that is here for callers of upstream's builder changes nothing.
+#[test]
+fn dense_depth_has_no_effect(rt: HostRuntime) -> Result<(), Fail> {
+    for &kind in EACH {
+        for depth in [0, 3, usize::MAX] {
+            let mut builder = builder(kind, true);
+            builder.dense_depth(depth);
+            let nfa = builder.build(rt.alloc(), &[b"he", b"she"])?;
+            assert_eq!(rt; nfa.match_kind(), kind);
+            let found = nfa.try_find(Input::new(b"uSHers"))?.map(|m| told(&m));
+            assert_eq!(rt; found, Some((1, 1, 4)), "under {kind:?}");
+        }
     }
     Ok(())
 }

@@ -56,3 +56,22 @@ fn walks(rt: HostRuntime) -> Result<(), Fail> {
     }
     Ok(())
 }
+
+/// A copy outlives the automaton that it is made from.
+#[test]
+fn walks_of_copies(rt: HostRuntime) -> Result<(), Fail> {
+    for (rows, fold, anchored, earliest) in WALK_TABLES {
+        for &(name, kinds, patterns, haystack, wanted) in rows {
+            for &kind in kinds {
+                let nfa = builder(kind, fold).build(rt.alloc(), patterns)?;
+                let copy = nfa.clone()?;
+                drop(nfa);
+                let input = Input::new(haystack).anchored(anchored).earliest(earliest);
+                let matches = walk_of(rt.alloc(), &copy, input)?;
+                let walked: Vec<Told> = matches.iter().map(told).collect(rt.alloc())?;
+                assert_eq!(rt; walked.as_slice(), wanted, "{name} under {kind:?}");
+            }
+        }
+    }
+    Ok(())
+}

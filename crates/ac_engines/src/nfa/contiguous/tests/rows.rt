@@ -19,6 +19,24 @@ fn walks(rt: HostRuntime) -> Result<(), Fail> {
     Ok(())
 }
 
+/// A copy outlives the automaton that it is made from.
+#[test]
+fn walks_of_copies(rt: HostRuntime) -> Result<(), Fail> {
+    for (kinds, patterns, haystack, wanted) in WALKS {
+        for &kind in kinds {
+            for (dense_depth, byte_classes) in LAYOUTS {
+                let nfa = builder(kind, dense_depth, byte_classes).build(rt.alloc(), patterns)?;
+                let copy = nfa.clone()?;
+                drop(nfa);
+                let matches = walk_of(rt.alloc(), &copy, Input::new(haystack))?;
+                let walked: Vec<Told> = matches.iter().map(told).collect(rt.alloc())?;
+                assert_eq!(rt; walked.as_slice(), wanted, "{patterns:?} under {kind:?}");
+            }
+        }
+    }
+    Ok(())
+}
+
 #[test]
 fn anchored_walks(rt: HostRuntime) -> Result<(), Fail> {
     for (kinds, patterns, haystack, wanted) in ANCHORED_WALKS {
