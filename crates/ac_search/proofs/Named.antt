@@ -1,44 +1,42 @@
--- A named contiguous automaton is what the searcher is built by.
-use Rattle.std.proofs.Common.{◌≡◌, refl, ap, sym, ◌∙◌, Option, Some, None, inl, inr}
-use Rattle.std.specs.Prelude.{MatchResult, Result, Ok, Err, List, length}
+-- An engine that was named is what the searcher is built by.
+use Rattle.std.proofs.Common.{◌≡◌, ap, sym, ◌∙◌, Option, Some, None, inl, inr}
+use Rattle.std.specs.Prelude.{MatchResult, Result, Ok, Err, length}
 use Rattle.ac_util.specs.declared.error.BuildError.{BuildError}
 use Rattle.ac_util.specs.Built.{Built}
-use Rattle.ac_automaton.specs.Builds.{IsEngineBuilt, IsRefused, engine_built_by}
+use Rattle.ac_automaton.specs.Builds.{IsEngineBuilt, IsRefused}
 use Rattle.ac_engines.specs.Builds.{refusal_or}
-use Rattle.ac_engines.specs.PackedBuilds.{packed_refusal_from}
 use Rattle.ac_search.specs.declared.ahocorasick.choice.AhoCorasickKind.{AhoCorasickKind}
-use Rattle.ac_search.specs.declared.ahocorasick.choice.AhoCorasickKind.TheVariants.{ContiguousNFA}
+use Rattle.ac_search.specs.declared.ahocorasick.choice.AhoCorasickKind.TheVariants.{ContiguousNFA, DFA}
 use Rattle.ac_search.specs.declared.ahocorasick.engine.Engine.{Engine}
 use Rattle.ac_search.specs.Engines.{IsMadeFrom, Supports, searcher_of}
-use Rattle.ac_search.specs.Searchers.{IsBuilt, Settings, choose_kind, chosen, engine_refusal, engine_settings, fits, kind_for, packed_size_refusal, refusal_of, table_size_refusal}
+use Rattle.ac_search.specs.Searchers.{IsBuilt, Settings, choose_kind, chosen, engine_refusal, engine_settings, fits, kind_for, made_from, refusal_of, size_refusal}
 
-module _ (settings : Settings) (from : Built)
-    (b : IsEngineBuilt (engine_settings settings) from.patterns from) (named : settings.kind ≡ Some ContiguousNFA) where
+module _ (settings : Settings) (from : Built) (kind : AhoCorasickKind)
+    (b : IsEngineBuilt (engine_settings settings) from.patterns from) (named : settings.kind ≡ Some kind) where
   -- it is the chosen one
-  is-chosen : chosen settings from.patterns ≡ ContiguousNFA
+  is-chosen : chosen settings from.patterns ≡ kind
   is-chosen =
       ap (λ (k : Option AhoCorasickKind). kind_for k
-          (choose_kind (length from.patterns) settings.start_kind (fits (table_size_refusal settings from.patterns))
-          (fits (packed_size_refusal settings from.patterns)))) named
+      (choose_kind (length from.patterns) settings.start_kind
+      (fits (size_refusal DFA settings (made_from settings from.patterns)))
+      (fits (size_refusal ContiguousNFA settings (made_from settings from.patterns))))) named
 
   -- and refused by its own size alone
-  own-refusal : engine_refusal settings from.patterns
-      ≡ packed_refusal_from settings.dense_depth settings.byte_classes from
+  own-refusal : engine_refusal settings from.patterns ≡ size_refusal kind settings from
   own-refusal =
       ap (λ (k : AhoCorasickKind). refusal_of k settings from.patterns) is-chosen
-      ∙ ap (λ (r : Option BuildError). refusal_or r (packed_size_refusal settings from.patterns)) b.allowed.few
-      ∙ ap (packed_refusal_from settings.dense_depth settings.byte_classes) (sym b.value)
+      ∙ ap (λ (r : Option BuildError). refusal_or r (size_refusal kind settings (made_from settings from.patterns))) b.allowed.few
+      ∙ ap (size_refusal kind settings) (sym b.value)
 
-  pub packed-built : {Z : Type 0} (r : Result (Engine Z) BuildError)
+  pub named-built : {Z : Type 0} (r : Result (Engine Z) BuildError)
       → MatchResult r
-      (λ engine. IsMadeFrom from settings engine ContiguousNFA
-      × (packed_refusal_from settings.dense_depth settings.byte_classes from ≡ None))
-      (IsRefused (packed_refusal_from settings.dense_depth settings.byte_classes from))
+      (λ engine. IsMadeFrom from settings engine kind × (size_refusal kind settings from ≡ None))
+      (IsRefused (size_refusal kind settings from))
       → MatchResult r
       (λ engine. Supports engine settings.start_kind
       × IsBuilt settings from.patterns (searcher_of engine settings.start_kind))
       (IsRefused (engine_refusal settings from.patterns))
-  packed-built (Ok engine) h = (
+  named-built (Ok engine) h = (
     h.0.supports,
     record {
       built = h.0.built ∙ ap (λ (built : Built). record built { start_kind = settings.start_kind }) b.value;
@@ -47,5 +45,5 @@ module _ (settings : Settings) (from : Built)
       allowed = record { within = b.allowed.within; fits = own-refusal ∙ h.1 };
     },
   )
-  packed-built (Err e) (inl memory) = inl memory
-  packed-built (Err e) (inr own) = inr (own-refusal ∙ own)
+  named-built (Err e) (inl memory) = inl memory
+  named-built (Err e) (inr own) = inr (own-refusal ∙ own)

@@ -54,15 +54,15 @@ built_by settings patterns = record {
   start_kind = settings.start_kind;
 }
 
--- the refusal of a table over these patterns that is too large, or None
-abbrev pub table_size_refusal : Settings → List (List ℕ) → Option BuildError
-table_size_refusal settings patterns =
-    table_refusal_from settings.start_kind settings.byte_classes (engine_built_by (engine_settings settings) patterns)
+-- the refusal of an engine that would be too large, made from an automaton with failure links, or None
+abbrev pub size_refusal : AhoCorasickKind → Settings → Built → Option BuildError
+size_refusal NoncontiguousNFA settings from = None
+size_refusal ContiguousNFA settings from = packed_refusal_from settings.dense_depth settings.byte_classes from
+size_refusal DFA settings from = table_refusal_from settings.start_kind settings.byte_classes from
 
--- the same of packed words
-abbrev pub packed_size_refusal : Settings → List (List ℕ) → Option BuildError
-packed_size_refusal settings patterns =
-    packed_refusal_from settings.dense_depth settings.byte_classes (engine_built_by (engine_settings settings) patterns)
+-- the automaton over these patterns
+abbrev pub made_from : Settings → List (List ℕ) → Built
+made_from settings patterns = engine_built_by (engine_settings settings) patterns
 
 -- whether nothing refuses an engine
 abbrev pub fits : Option BuildError → Bool
@@ -91,8 +91,8 @@ kind_for None other = other
 abbrev pub chosen : Settings → List (List ℕ) → AhoCorasickKind
 chosen settings patterns =
     kind_for settings.kind
-    (choose_kind (length patterns) settings.start_kind (fits (table_size_refusal settings patterns))
-    (fits (packed_size_refusal settings patterns)))
+    (choose_kind (length patterns) settings.start_kind (fits (size_refusal DFA settings (made_from settings patterns)))
+    (fits (size_refusal ContiguousNFA settings (made_from settings patterns))))
 
 -- how many looks at states an engine may take for each byte that it reads
 abbrev pub looks_allowed : AhoCorasickKind → ℕ
@@ -100,13 +100,12 @@ looks_allowed NoncontiguousNFA = 2
 looks_allowed ContiguousNFA = 2
 looks_allowed DFA = 1
 
--- why an engine can't be built within the limits of the list, if it can't, but for want of memory
+-- why an engine can't be built within the limits of the list, if it can't, but for want of memory: the automaton from
+-- which it is made is tested first
 abbrev pub refusal_of : AhoCorasickKind → Settings → List (List ℕ) → Option BuildError
-refusal_of NoncontiguousNFA settings patterns = state_refusal (engine_settings settings) patterns
-refusal_of ContiguousNFA settings patterns =
-    refusal_or (state_refusal (engine_settings settings) patterns) (packed_size_refusal settings patterns)
-refusal_of DFA settings patterns =
-    refusal_or (state_refusal (engine_settings settings) patterns) (table_size_refusal settings patterns)
+refusal_of kind settings patterns =
+    refusal_or (state_refusal (engine_settings settings) patterns)
+    (size_refusal kind settings (made_from settings patterns))
 
 abbrev pub engine_refusal : Settings → List (List ℕ) → Option BuildError
 engine_refusal settings patterns = refusal_of (chosen settings patterns) settings patterns

@@ -3,11 +3,9 @@ ghost use Rattle.std.specs.Prelude.{◌≡◌, ◌&&◌, ℕ, IfOk, MatchOption,
 ghost use Rattle.ac_util.specs.declared.error.BuildError.TheVariants.{Memory, StateIdOverflow};
 ghost use Rattle.ac_util.specs.Borrowed.{bytes_of};
 ghost use Rattle.ac_automaton.specs.Builds.{IsEngineBuilt, IsRefused};
-ghost use Rattle.ac_engines.specs.Builds.{table_refusal_from};
-ghost use Rattle.ac_engines.specs.PackedBuilds.{packed_refusal_from};
 ghost use Rattle.ac_search.specs.declared.ahocorasick.choice.AhoCorasickKind.TheVariants.{ContiguousNFA, DFA, NoncontiguousNFA};
 ghost use Rattle.ac_search.specs.Engines.{IsMadeFrom, Supports, built_of, filters_of, name_of, searcher_of};
-ghost use Rattle.ac_search.specs.Searchers.{IsBuilt, RefusesSearcher, choose_kind, engine_refusal, engine_settings, fits, suits_table, usual_settings};
+ghost use Rattle.ac_search.specs.Searchers.{IsBuilt, RefusesSearcher, choose_kind, engine_refusal, engine_settings, fits, size_refusal, suits_table, usual_settings};
 
 use super::AhoCorasick;
 use super::choice::{AhoCorasickKind, suits_table};
@@ -194,14 +192,30 @@ impl AhoCorasickBuilder {
             × IsBuilt self.now nfa.built.patterns (searcher_of engine self.now.start_kind))
             (IsRefused (engine_refusal self.now nfa.built.patterns)) }
     {
-        match self.kind {
-            Some(AhoCorasickKind::NoncontiguousNFA) => Ok(engine_of(nfa)?),
-            Some(AhoCorasickKind::ContiguousNFA) => self.packed_over(&nfa),
-            Some(AhoCorasickKind::DFA) => self.table_over(&nfa),
-            None => match self.chosen_over(&nfa)? {
-                Some(engine) => Ok(engine),
-                None => Ok(engine_of(nfa)?),
-            },
+        if let Some(kind) = self.kind {
+            return self.named_over(kind, nfa);
+        }
+        match self.chosen_over(&nfa)? {
+            Some(engine) => Ok(engine),
+            None => Ok(engine_of(nfa)?),
+        }
+    }
+
+    /// Returns the engine of this name.
+    fn named_over<A: Allocator + Clone>(
+        &self,
+        kind: AhoCorasickKind,
+        nfa: noncontiguous::NFA<A>,
+    ) -> Result<Engine<A>, BuildError>
+        requires built { IsEngineBuilt (engine_settings self.now) nfa.built.patterns nfa.built }
+        ensures { MatchResult result
+            (λ engine. IsMadeFrom nfa.built self.now engine kind × (size_refusal kind self.now nfa.built ≡ None))
+            (IsRefused (size_refusal kind self.now nfa.built)) }
+    {
+        match kind {
+            AhoCorasickKind::NoncontiguousNFA => Ok(engine_of(nfa)?),
+            AhoCorasickKind::ContiguousNFA => self.packed_over(&nfa),
+            AhoCorasickKind::DFA => self.table_over(&nfa),
         }
     }
 
@@ -216,12 +230,12 @@ impl AhoCorasickBuilder {
         ensures { MatchResult result
             (λ made. MatchOption made
             (choose_kind (length nfa.now.built.patterns) self.now.start_kind
-            (fits (table_refusal_from self.now.start_kind self.now.byte_classes nfa.now.built))
-            (fits (packed_refusal_from self.now.dense_depth self.now.byte_classes nfa.now.built)) ≡ NoncontiguousNFA)
+            (fits (size_refusal DFA self.now nfa.now.built))
+            (fits (size_refusal ContiguousNFA self.now nfa.now.built)) ≡ NoncontiguousNFA)
             (λ engine. IsMadeFrom nfa.now.built self.now engine
             (choose_kind (length nfa.now.built.patterns) self.now.start_kind
-            (fits (table_refusal_from self.now.start_kind self.now.byte_classes nfa.now.built))
-            (fits (packed_refusal_from self.now.dense_depth self.now.byte_classes nfa.now.built)))))
+            (fits (size_refusal DFA self.now nfa.now.built))
+            (fits (size_refusal ContiguousNFA self.now nfa.now.built)))))
             (λ e. e ≡ Memory) }
     {
         match self.chosen_table(nfa)? {
@@ -241,10 +255,10 @@ impl AhoCorasickBuilder {
         ensures { MatchResult result
             (λ made. MatchOption made
             (suits_table self.now.start_kind (length nfa.now.built.patterns)
-            && fits (table_refusal_from self.now.start_kind self.now.byte_classes nfa.now.built) ≡ false)
+            && fits (size_refusal DFA self.now nfa.now.built) ≡ false)
             (λ engine. IsMadeFrom nfa.now.built self.now engine DFA
             × (suits_table self.now.start_kind (length nfa.now.built.patterns)
-            && fits (table_refusal_from self.now.start_kind self.now.byte_classes nfa.now.built) ≡ true)))
+            && fits (size_refusal DFA self.now nfa.now.built) ≡ true)))
             (λ e. e ≡ Memory) }
     {
         if suits_table(self.start_kind, nfa.patterns_len()) {
@@ -264,8 +278,8 @@ impl AhoCorasickBuilder {
     ) -> Result<Engine<A>, BuildError>
         ensures { MatchResult result
             (λ engine. IsMadeFrom nfa.now.built self.now engine ContiguousNFA
-            × (packed_refusal_from self.now.dense_depth self.now.byte_classes nfa.now.built ≡ None))
-            (IsRefused (packed_refusal_from self.now.dense_depth self.now.byte_classes nfa.now.built)) }
+            × (size_refusal ContiguousNFA self.now nfa.now.built ≡ None))
+            (IsRefused (size_refusal ContiguousNFA self.now nfa.now.built)) }
     {
         let mut settings = contiguous::Builder::new();
         settings.dense_depth(self.dense_depth);
@@ -285,8 +299,8 @@ impl AhoCorasickBuilder {
     ) -> Result<Engine<A>, BuildError>
         ensures { MatchResult result
             (λ engine. IsMadeFrom nfa.now.built self.now engine DFA
-            × (table_refusal_from self.now.start_kind self.now.byte_classes nfa.now.built ≡ None))
-            (IsRefused (table_refusal_from self.now.start_kind self.now.byte_classes nfa.now.built)) }
+            × (size_refusal DFA self.now nfa.now.built ≡ None))
+            (IsRefused (size_refusal DFA self.now nfa.now.built)) }
     {
         let mut builder = dfa::Builder::new();
         builder.start_kind(self.start_kind);
