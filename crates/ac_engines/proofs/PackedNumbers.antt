@@ -1,5 +1,5 @@
 -- What the number of a packed state tells.
-use Rattle.std.proofs.Common.{◌≡◌, ◌≢◌, ℕ, ◌+◌, ◌<◌, ◌≤◌, ◌⊎◌, ◌↔◌, List, [], ◌∷◌, drop, inl, inr, length, nat_lt, refl, ap, subst, sym, ◌∙◌, arith, Bool, true, false, Some, None}
+use Rattle.std.proofs.Common.{◌≡◌, ◌≢◌, ℕ, ◌<◌, ◌≤◌, ◌⊎◌, ◌↔◌, List, [], ◌∷◌, drop, inl, inr, length, refl, ap, subst, sym, ◌∙◌, arith, Some, None}
 use Rattle.std.specs.Prelude.{slice_index_or}
 use Rattle.std.specs.List.{All}
 use Rattle.ac_util.specs.declared.primitives.TheConstants.{GREATEST}

@@ -1,6 +1,6 @@
 -- Packed states, as they stand behind one another, mean what they should.
-use Rattle.std.proofs.Common.{◌≡◌, ◌≢◌, ℕ, zero, suc, ◌+◌, ◌*◌, ◌<◌, ◌≤◌, ◌↔◌, ◌⊎◌, inl, inr, Bool, true, false, cond, List, [], ◌∷◌, ◌++◌, length, drop, None, Some, refl, ap, subst, sym, ◌∙◌, arith}
-use Rattle.std.specs.Prelude.{nat_lt, slice_get, slice_index_or}
+use Rattle.std.proofs.Common.{◌≡◌, ◌≢◌, ℕ, ◌+◌, ◌<◌, ◌≤◌, ◌↔◌, inl, inr, Bool, true, false, List, [], ◌∷◌, ◌++◌, length, drop, None, Some, refl, ap, subst, sym, ◌∙◌, arith}
+use Rattle.std.specs.Prelude.{slice_get, slice_index_or}
 use Rattle.std.proofs.lemmas.Bool.{cases_lt, ltb-false, ltb-true}
 use Rattle.std.proofs.lemmas.List.{append_assoc, nil_from_length}
 use Rattle.std.proofs.lemmas.Option.{slice_get_within}
@@ -20,13 +20,13 @@ use Rattle.ac_engines.specs.declared.nfa.contiguous.state.TheConstants.{FAIL}
 use Rattle.ac_engines.specs.Formats.{words_of_state}
 use Rattle.ac_engines.specs.Packing.{IsPacked, Packed, Places, listed_at, number_at, spelling_at}
 use Rattle.ac_engines.specs.PackedPlaces.{front_end, has_matches, packed_of, place_at, places_of, size_at, size_of, total}
-use Rattle.ac_engines.specs.Packs.{AreReady, HasPushed, Packer, anchored_of, state_spelling}
+use Rattle.ac_engines.specs.Packs.{AreReady, HasPushed, Packer, state_spelling}
 use Rattle.ac_engines.specs.Sizes.{node_format, packed_words}
 use Rattle.ac_engines.specs.Words.{BeginsWith, Spelling, spelled}
 use Rattle.ac_engines.proofs.Decoding.{listed-none, listed-spelled}
 use Rattle.ac_engines.proofs.Numbered.{place-inner, place-start}
 use Rattle.ac_engines.proofs.PackedSums.{total-grows}
-use Rattle.ac_engines.proofs.PlanSums.{back-within, before, before-starts, front-within, sizes-whole, takes}
+use Rattle.ac_engines.proofs.PlanSums.{before, sizes-whole, takes}
 use Rattle.ac_engines.proofs.PushedStates.{begins-before, begins-behind, length-spelled}
 
 -- what the dead state spells
@@ -212,7 +212,7 @@ module _ (f : Packer) (nodes : List Node) (ready : AreReady f nodes) where
                   (alphabet_len f.plan.classes) (state_spelling f nodes s u) front behind.pushed (place_at f.plan nodes s)
                   (omega arith)
                   (subst (λ (n : ℕ). BeginsWith (drop n front) (node_format f.plan.trie.built f.plan.dense_depth u)
-                      (alphabet_len f.plan.classes) (state_spelling f nodes s u))
+                  (alphabet_len f.plan.classes) (state_spelling f nodes s u))
                   (let e : length dead + total (size_at f.plan nodes true) s ≡ place_at f.plan nodes s = omega arith in e)
                   (in_front.each s u reached named (sym is))));
               within = omega arith;
@@ -231,8 +231,8 @@ module _ (f : Packer) (nodes : List Node) (ready : AreReady f nodes) where
             record {
               begins = subst (λ (n : ℕ). BeginsWith (drop n words) (node_format f.plan.trie.built f.plan.dense_depth u)
                   (alphabet_len f.plan.classes) (state_spelling f nodes s u))
-              (let e : length front + total (size_at f.plan nodes false) s ≡ place_at f.plan nodes s = omega arith in e)
-              (behind.each s u reached named (sym is));
+                  (let e : length front + total (size_at f.plan nodes false) s ≡ place_at f.plan nodes s = omega arith in e)
+                  (behind.each s u reached named (sym is));
               within = omega arith;
               late = omega arith;
               front_if = λ e. absurd cc;
@@ -250,7 +250,7 @@ module _ (f : Packer) (nodes : List Node) (ready : AreReady f nodes) where
         behind.same ∙ ap (λ (ws : List ℕ). ws ++ behind.pushed) in_front.same
         ∙ append_assoc dead in_front.pushed behind.pushed in
         none anchored (rw both (begins-before Dense (alphabet_len f.plan.classes) dead_spelling dead
-            (in_front.pushed ++ behind.pushed) 0 (omega arith) dead-begins))
+        (in_front.pushed ++ behind.pushed) 0 (omega arith) dead-begins))
       where
         none : (anchored : Anchored) → BeginsWith words Dense (alphabet_len f.plan.classes) dead_spelling
             → BeginsWith (drop (number_at (places f nodes ready words) anchored None) words) Dense
@@ -337,12 +337,12 @@ module _ (f : Packer) (nodes : List Node) (ready : AreReady f nodes) where
     unlike s t u v reached other named there differ e = elim (cases_lt s t) [
       | inl earlier ↦ places-apart s t u v reached earlier named there e
       | inr past ↦ elim (cases_lt t s) [
-          | inl later ↦ places-apart t s v u other later there named (sym e)
-          | inr before ↦
-              let same : s ≡ t = omega arith in
-              let at : slice_get nodes s ≡ Some v = ap (slice_get nodes) same ∙ there in
-              absurd (differ cc)
-        ]
+        | inl later ↦ places-apart t s v u other later there named (sym e)
+        | inr before ↦
+            let same : s ≡ t = omega arith in
+            let at : slice_get nodes s ≡ Some v = ap (slice_get nodes) same ∙ there in
+            absurd (differ cc)
+      ]
     ]
 
     -- so no string but the empty one has the number of a start
@@ -353,7 +353,7 @@ module _ (f : Packer) (nodes : List Node) (ready : AreReady f nodes) where
         let at = has-place f nodes ready words No (x ∷ w) node in
         let start = has-place f nodes ready words anchored [] refl in
         absurd (unlike at.state start.state (Some (x ∷ w)) (Some []) at.reached start.reached at.named start.named
-            (λ same. absurd cc) (sym at.number ∙ e ∙ start.number))
+        (λ same. absurd cc) (sym at.number ∙ e ∙ start.number))
 
     -- the words mean what they should
     pub are-packed : packed_words f.plan.trie.built f.plan.dense_depth (alphabet_len f.plan.classes) ≤ GREATEST

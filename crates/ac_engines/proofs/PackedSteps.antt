@@ -13,8 +13,8 @@ use Rattle.ac_automaton.specs.Readers.{leads_on}
 use Rattle.ac_automaton.specs.Tries.{miss}
 use Rattle.ac_automaton.proofs.Steps.{looks-on, looks-own_target, looks-short, step-miss, step-on, step-own_target}
 use Rattle.ac_engines.specs.declared.nfa.contiguous.state.TheConstants.{FAIL}
-use Rattle.ac_engines.specs.Packing.{IsPacked, Packed, Places, number_at, spelling_at, spelling_of, start_spelling}
-use Rattle.ac_engines.specs.Words.{Spelling, target_by}
+use Rattle.ac_engines.specs.Packing.{IsPacked, Packed, Places, number_at, spelling_at}
+use Rattle.ac_engines.specs.Words.{target_by}
 use Rattle.ac_engines.proofs.EdgeTargets.{no-target, own-target}
 use Rattle.ac_engines.proofs.Numbers.{failure-node}
 

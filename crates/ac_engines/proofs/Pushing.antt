@@ -1,7 +1,7 @@
 -- Pushing the words of one state after another.
-use Rattle.std.proofs.Common.{◌≡◌, ◌≢◌, ℕ, zero, suc, ◌+◌, ◌<◌, ◌≤◌, Bool, true, false, List, [], ◌++◌, drop, length, inl, inr, refl, ap, sym, subst, ◌∙◌, arith, Option, Some, None}
-use Rattle.std.specs.Prelude.{nat_lt, slice_get, if◌then◌else◌}
-use Rattle.std.proofs.lemmas.Bool.{cases_lt, le-ltb}
+use Rattle.std.proofs.Common.{◌≡◌, ◌≢◌, ℕ, ◌+◌, ◌<◌, ◌≤◌, Bool, true, false, List, [], ◌++◌, drop, length, inl, inr, refl, ap, sym, subst, ◌∙◌, arith, Some}
+use Rattle.std.specs.Prelude.{slice_get}
+use Rattle.std.proofs.lemmas.Bool.{cases_lt}
 use Rattle.std.proofs.lemmas.List.{append_assoc, append-nil, length-append}
 use Rattle.std.proofs.lemmas.Option.{slice_get_within}
 use Rattle.ac_util.specs.Classes.{alphabet_len}
@@ -10,7 +10,7 @@ use Rattle.ac_automaton.specs.declared.nfa.noncontiguous.state.TheConstants.{STA
 use Rattle.ac_automaton.specs.Readers.{own_bytes}
 use Rattle.ac_automaton.proofs.Places.{get-same}
 use Rattle.ac_engines.specs.Formats.{words_of_state}
-use Rattle.ac_engines.specs.PackedPlaces.{PackPlan, has_matches, packed_of, places_of, size_at, size_of, sized, total}
+use Rattle.ac_engines.specs.PackedPlaces.{has_matches, packed_of, places_of, size_at, size_of}
 use Rattle.ac_engines.specs.Packs.{AreReady, HasPushed, Packer, anchored_of, state_spelling, state_words}
 use Rattle.ac_engines.specs.Sizes.{node_format}
 use Rattle.ac_engines.specs.Words.{BeginsWith}

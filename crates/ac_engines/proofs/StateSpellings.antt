@@ -1,5 +1,5 @@
 -- What the states of a trie spell.
-use Rattle.std.proofs.Common.{◌≡◌, ◌≢◌, ◌⊎◌, inl, inr, ℕ, zero, suc, ◌+◌, ◌-◌, ◌<◌, ◌≤◌, Bool, true, false, List, [], ◌∷◌, ◌++◌, length, map, slice_index_or, take, refl, ap, sym, subst, ◌∙◌, arith, Some, None}
+use Rattle.std.proofs.Common.{◌≡◌, ◌≢◌, inl, inr, ℕ, zero, suc, ◌+◌, ◌-◌, ◌<◌, ◌≤◌, Bool, true, false, List, [], ◌∷◌, ◌++◌, length, map, slice_index_or, take, refl, ap, sym, ◌∙◌, arith, Some, None}
 use Rattle.std.specs.Prelude.{option_map, ◌&&◌, nat_lt, slice_get, if◌then◌else◌}
 use Rattle.std.specs.List.{All, range_with_len}
 use Rattle.std.specs.List.Sorted.{IsStrictlyIncreasing}
@@ -17,7 +17,7 @@ use Rattle.ac_util.proofs.ClassLists.{alphabet_len-few, class_at-below}
 use Rattle.ac_util.proofs.Lists.{AllPairs-from_IsOrdered, All-from_IsIn, Contains-from_IsIn, IsIn, IsOrdered, IsOrdered-filter, IsOrdered-map, IsOrdered-range}
 use Rattle.ac_automaton.specs.Automata.{matches_of, plain_of}
 use Rattle.ac_automaton.specs.Readers.{AreNodes, IsOwn, leads_on, own_bytes}
-use Rattle.ac_automaton.specs.Tries.{Trie, miss}
+use Rattle.ac_automaton.specs.Tries.{Trie}
 use Rattle.ac_automaton.proofs.Places.{take-next}
 use Rattle.ac_engines.specs.declared.nfa.contiguous.state.Edge.{Edge}
 use Rattle.ac_engines.specs.declared.nfa.contiguous.state.TheConstants.{FAIL, ONE_MATCH}

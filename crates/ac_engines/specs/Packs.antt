@@ -5,7 +5,7 @@ use Rattle.ac_util.specs.declared.search.Anchored.TheVariants.{No, Yes}
 use Rattle.ac_util.specs.Classes.{alphabet_len}
 use Rattle.ac_util.specs.Node.{Node}
 use Rattle.ac_automaton.specs.declared.nfa.noncontiguous.state.TheConstants.{ANCHORED_START, START}
-use Rattle.ac_engines.specs.Packing.{Packed, Places, spelling_at}
+use Rattle.ac_engines.specs.Packing.{spelling_at}
 use Rattle.ac_engines.specs.PackedPlaces.{HasPlaces, MayPack, PackPlan, has_matches, packed_of, places_of, size_at, total}
 use Rattle.ac_engines.specs.Sizes.{node_format}
 use Rattle.ac_engines.specs.Words.{BeginsWith, Spelling, spelled}

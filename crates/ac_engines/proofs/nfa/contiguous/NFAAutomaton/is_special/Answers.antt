@@ -1,4 +1,4 @@
-use Rattle.std.proofs.Common.{◌∙◌, sym, ap, inl, inr, arith}
+use Rattle.std.proofs.Common.{ap, inl, inr, arith}
 use Rattle.ac_engines.specs.Packing.{Packed}
 use Rattle.ac_engines.proofs.PackedNumbers.{dead-number, match-number}
 use Rattle.ac_engines.proofs.nfa.contiguous.NFAAutomaton.is_special.Goals as goal

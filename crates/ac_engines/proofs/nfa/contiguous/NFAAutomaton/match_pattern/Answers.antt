@@ -1,9 +1,9 @@
-use Rattle.std.proofs.Common.{◌≡◌, ap, sym, subst, ◌∙◌, ◌<◌, List, ℕ, length, arith, Some}
+use Rattle.std.proofs.Common.{ap, sym, subst, ◌∙◌, ◌<◌, List, ℕ, length, arith, Some}
 use Rattle.std.specs.Prelude.{slice_index_or}
 use Rattle.ac_util.specs.Classes.{alphabet_len}
 use Rattle.std.proofs.lemmas.Option.{slice_get-get_or}
 use Rattle.ac_engines.specs.Packing.{Packed, listed_at}
-use Rattle.ac_engines.proofs.PackedNumbers.{Begins, begins}
+use Rattle.ac_engines.proofs.PackedNumbers.{begins}
 use Rattle.ac_engines.proofs.nfa.contiguous.NFAAutomaton.match_pattern.Goals as goal
 use Rattle.ac_engines.proofs.nfa.contiguous.NFAAutomaton.match_pattern.Goals.{After-alphabet_len}
 

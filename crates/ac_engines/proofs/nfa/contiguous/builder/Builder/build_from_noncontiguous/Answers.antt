@@ -1,5 +1,4 @@
-use Rattle.std.proofs.Common.{◌≡◌, ◌<◌, ◌∙◌, ap, refl, sym, subst, arith, length, ℕ, List}
-use Rattle.std.specs.Prelude.{slice_index_or}
+use Rattle.std.proofs.Common.{◌≡◌, ◌∙◌, ap, sym, subst, arith, length, ℕ, List}
 use Rattle.ac_util.specs.Built.{Built}
 use Rattle.ac_util.specs.Classes.{SetsApart}
 use Rattle.ac_util.specs.Sizes.{longest_len, shortest_len}
@@ -57,7 +56,7 @@ invariant_of-result g c =
       packed = (
         places_of c.new-plan.result nodes.0 c.deref.result.now,
         subst (λ (p : Packed). IsPacked p (places_of c.new-plan.result nodes.0 c.deref.result.now))
-        (sym (packed-same c.new-plan.result nodes.0 c.deref.result.now c.in_ok-words.words.items
+            (sym (packed-same c.new-plan.result nodes.0 c.deref.result.now c.in_ok-words.words.items
             c.in_ok-clone-2.field-0.value c.fold.result c.match_kind.result c.self.inside.dense_depth
             c.classes_for-classes.result c.index.result.now c.index-2.result.now c.sizes-sizes.result.match_end
             (patterns ∙ ap (λ (b : Built). b.patterns) (sym trie)) (c.fold.ensures ∙ ap (λ (b : Built). b.fold) (sym trie))
@@ -68,8 +67,8 @@ invariant_of-result g c =
             (read-place c.in_ok-numbers.numbers.items c.deref.result.now ANCHORED_START c.index-2.result.now
             placed (sym numbers) c.index-2.ensures)
             (c.sizes-sizes.ensures.match_end nodes.0 nodes.1)))
-        (c.in_ok-words.ensures.packed nodes.0
-        (record { may = nodes.1; places = rw numbers (c.in_ok-numbers.ensures nodes.0 nodes.1) })),
+            (c.in_ok-words.ensures.packed nodes.0
+            (record { may = nodes.1; places = rw numbers (c.in_ok-numbers.ensures nodes.0 nodes.1) })),
       );
       shortest = c.min_pattern_len.ensures ∙ ap shortest_len (sym patterns);
       longest = c.max_pattern_len.ensures ∙ ap longest_len (sym patterns);

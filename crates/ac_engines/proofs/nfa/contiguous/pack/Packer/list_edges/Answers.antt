@@ -1,5 +1,4 @@
-use Rattle.std.proofs.Common.{◌≡◌, ◌++◌, ◌∷◌, [], ap, sym, subst, arith, slice_index_or, ◌∙◌, Some, take, take_all, length}
-use Rattle.std.specs.Prelude.{slice_get}
+use Rattle.std.proofs.Common.{ap, sym, subst, arith, ◌∙◌, Some, take_all, length}
 use Rattle.ac_util.specs.Classes.{class_at}
 use Rattle.ac_automaton.specs.Readers.{AreNodes, IsOwn, own_bytes}
 use Rattle.ac_automaton.specs.Tries.{Trie}

@@ -1,4 +1,4 @@
-use Rattle.std.proofs.Common.{◌≡◌, ℕ, List, take, Some}
+use Rattle.std.proofs.Common.{◌≡◌, List, take, Some}
 use Rattle.std.specs.Prelude.{slice_get}
 use Rattle.ac_util.specs.Node.{Node}
 use Rattle.ac_engines.specs.Packs.{AreReady, state_spelling}

@@ -1,4 +1,4 @@
-use Rattle.std.proofs.Common.{◌≡◌, ℕ, ◌++◌, ◌∷◌, [], List, length, ap, sym, subst, ◌∙◌, arith, Some}
+use Rattle.std.proofs.Common.{◌≡◌, ℕ, ◌++◌, ◌∷◌, [], List, length, ap, sym, subst, ◌∙◌, arith}
 use Rattle.std.proofs.lemmas.List.{append_assoc, append-nil}
 use Rattle.ac_util.specs.declared.search.Anchored.TheVariants.{No}
 use Rattle.ac_automaton.specs.declared.automaton.overlap.MatchRest.{MatchRest}
@@ -8,7 +8,6 @@ use Rattle.ac_engines.specs.PackedPlaces.{PackPlan, packed_of, places_of}
 use Rattle.ac_engines.specs.Packs.{Packer, anchored_of}
 use Rattle.ac_engines.proofs.Listing.{rest_of}
 use Rattle.ac_engines.proofs.StateSpellings.{matches-spelled}
-use Rattle.ac_engines.proofs.nfa.contiguous.pack.Packer.list_matches.Given.{Over}
 use Rattle.ac_engines.proofs.nfa.contiguous.pack.Packer.list_matches.Goals.{After-plan}
 use Rattle.ac_engines.proofs.nfa.contiguous.pack.Packer.list_matches.Goals as goal
 

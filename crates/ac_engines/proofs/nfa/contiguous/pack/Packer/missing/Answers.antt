@@ -1,4 +1,4 @@
-use Rattle.std.proofs.Common.{◌≡◌, ap, sym, inl, inr, arith, slice_index_or, ◌∙◌}
+use Rattle.std.proofs.Common.{ap, sym, inl, inr, arith, slice_index_or, ◌∙◌}
 use Rattle.std.proofs.lemmas.Bool.{cases_lt}
 use Rattle.ac_util.specs.Node.{is_leftmost}
 use Rattle.ac_util.specs.Sizes.{shortest_len}

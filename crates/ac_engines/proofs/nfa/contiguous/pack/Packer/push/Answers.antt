@@ -1,15 +1,12 @@
-use Rattle.std.proofs.Common.{◌≡◌, ◌++◌, ap, sym, subst, ◌∙◌, List, length, map, Some}
+use Rattle.std.proofs.Common.{◌≡◌, ◌++◌, ap, sym, subst, ◌∙◌, List, map, Some}
 use Rattle.std.specs.Prelude.{IfOk, slice_get}
-use Rattle.std.specs.List.{All}
 use Rattle.std.specs.List.Sorted.{IsStrictlyIncreasing}
 use Rattle.ac_util.specs.Classes.{alphabet_len}
 use Rattle.ac_util.specs.Node.{Node}
-use Rattle.ac_engines.specs.declared.nfa.contiguous.state.TheConstants.{ONE_MATCH}
 use Rattle.ac_engines.specs.declared.nfa.contiguous.state.Edge.{Edge}
 use Rattle.ac_engines.specs.PackedPlaces.{MayPack, PackPlan}
 use Rattle.ac_engines.specs.Packs.{AreReady, Packer, state_spelling}
 use Rattle.ac_engines.specs.Sizes.{node_format}
-use Rattle.ac_engines.specs.Words.{Fits, Spelling}
 use Rattle.ac_engines.proofs.StateSpellings.{spelled-by_parts, state-spells}
 use Rattle.ac_engines.proofs.nfa.contiguous.pack.Packer.push.Given.{Over}
 use Rattle.ac_engines.proofs.nfa.contiguous.pack.Packer.push.Goals.{After-alphabet_len}
@@ -39,8 +36,13 @@ pub push_state-requires-clause-fits : goal.push_state-requires-clause-fits
 push_state-requires-clause-fits g c =
     let at = c.requires.state in
     let spells = state-spells c.args.self.now at.nodes at.ready c.args.sid at.node at.reached at.named in
-    rw (form g c at.nodes at.node at.ready at.named, edges g c at.nodes at.node at.ready at.named, matches g c at.nodes at.node at.ready at.named,
-    c.failure.ensures at.nodes at.node at.ready at.named, c.missing.ensures at.nodes at.node at.ready at.named) spells.fits
+    rw (
+      form g c at.nodes at.node at.ready at.named,
+      edges g c at.nodes at.node at.ready at.named,
+      matches g c at.nodes at.node at.ready at.named,
+      c.failure.ensures at.nodes at.node at.ready at.named,
+      c.missing.ensures at.nodes at.node at.ready at.named,
+    ) spells.fits
 
 pub push_state-requires-clause-ascending : goal.push_state-requires-clause-ascending
 push_state-requires-clause-ascending g c =
