@@ -469,3 +469,51 @@ fn what_fits_is_chosen(rt: HostRuntime) {
         assert_eq!(rt; kind, wanted, "{patterns_len}, {start_kind:?}");
     }
 }
+
+/// Patterns, a haystack, the start and the end of a span, and what a find in it answers.
+type SpanRow = (
+    &'static [&'static [u8]],
+    &'static [u8],
+    usize,
+    usize,
+    Option<Told>,
+);
+
+const SPANS: &[SpanRow] = &[
+    (&[b"abc"], b"xabcx", 1, 4, Some((0, 1, 4))),
+    (&[b"abc"], b"xabcx", 1, 3, None),
+    (&[b"abc"], b"xabcx", 2, 5, None),
+    (&[b"abc"], b"xabcx", 5, 5, None),
+    (&[b""], b"", 0, 0, Some((0, 0, 0))),
+    (&[b""], b"abc", 4, 3, None),
+    (&[], b"abc", 0, 3, None),
+];
+
+#[test]
+fn each_engine_keeps_to_the_span(rt: HostRuntime) -> Result<(), Fail> {
+    for engine in &ENGINES {
+        for &(patterns, haystack, start, end, wanted) in SPANS {
+            assert!(rt; end <= haystack.len() && start.saturating_sub(end) <= 1);
+            for &kind in EACH {
+                let builder = builder_of(engine, kind, StartKind::Unanchored);
+                let searcher = builder.build(rt.alloc(), patterns)?;
+                let input = Input::new(haystack).range(start..end);
+                let found = searcher.try_find(input)?.map(|m| told(&m));
+                assert_eq!(rt; found, wanted, "{patterns:?}, {start}..{end}");
+            }
+        }
+    }
+    Ok(())
+}
+
+#[test]
+fn each_engine_tells_the_lengths_of_no_patterns(rt: HostRuntime) -> Result<(), Fail> {
+    for engine in &ENGINES {
+        let builder = builder_of(engine, Standard, StartKind::Unanchored);
+        let searcher = builder.build(rt.alloc(), &[])?;
+        assert_eq!(rt; searcher.min_pattern_len(), usize::MAX);
+        assert_eq!(rt; searcher.max_pattern_len(), 0);
+        assert_eq!(rt; searcher.patterns_len(), 0);
+    }
+    Ok(())
+}
