@@ -1,6 +1,7 @@
 -- What is seen of a searcher and of its engine; then the definitions of the crates below that contracts of this
 -- crate cite, so that a user need not list those crates. Each keeps its name, as `Built` here is `Built` of ac_util; but
--- where two crates have a `Builds`, that of tables is `TableBuilds` here.
+-- where two crates have a `Builds` or a `Sizes`, that of tables is `TableBuilds` here, and that of packed words
+-- `PackedSizes`.
 pub mod Engines
 pub mod Places
 pub mod Searchers

@@ -118,11 +118,8 @@ mod tests {
     #[test]
     fn states_take_words(rt: HostRuntime) {
         for (format, classes, transitions, matches, wanted) in WORDS {
-            if classes <= 256 && transitions <= 256 && matches <= 2147483647 {
-                assert_eq!(rt; state_words(format, classes, transitions, matches), wanted);
-            } else {
-                assert!(rt; false);
-            }
+            assert!(rt; classes <= 256 && transitions <= 256 && matches <= 2147483647);
+            assert_eq!(rt; state_words(format, classes, transitions, matches), wanted);
         }
     }
 
