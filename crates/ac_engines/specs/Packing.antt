@@ -106,7 +106,8 @@ module _ (p : Packed) (at : Places) where
   spelling_at anchored (Some (x ∷ w)) = spelling_of (x ∷ w)
 
   -- the words stand for the nodes: each has a state, behind FAIL but for the dead one, whose number is 0, and no string
-  -- but the empty one has the number of a start
+  -- but the empty one has the number of a start. The states of strings that have matches come before the others, and
+  -- list these. Patterns are few and short enough for their numbers and lengths
   pub record IsPacked : Type 0 where
     pub classes : AreClasses p.classes
     pub apart : SetsApart p.built.fold p.built.patterns p.classes
