@@ -17,9 +17,11 @@ pub mod OneLonger
 pub mod ListingLonger
 pub mod ListingBeginning
 pub mod SamenessLemmas
+pub mod Skips
 pub mod Characters
 pub mod PiecesLemmas
 pub mod LimitLemmas
+pub mod Marks
 pub mod NodeCount
 pub mod ClassLemmas
 pub mod ClassLists

@@ -42,7 +42,7 @@ occurring-number q start end n b h =
     (occurs-is q (occurrence n start end) b h)
 
 -- a range and the number after it
-range-more : (a n j : ℕ) → a + n ≡ j → range_with_len a (suc n) ≡ range_with_len a n ++ j ∷ []
+pub range-more : (a n j : ℕ) → a + n ≡ j → range_with_len a (suc n) ≡ range_with_len a n ++ j ∷ []
 range-more a zero j e = ap (λ k. k ∷ []) (omega arith)
 range-more a (suc n) j e = ap (λ ks. a ∷ ks) (range-more (a + 1) n j (omega arith))
 

@@ -15,6 +15,10 @@ no_counts = record { reads = 0; looks = 0; calls = 0 }
 abbrev pub one_more_read : Counts → Counts
 one_more_read counts = record counts { reads = counts.reads + 1 }
 
+-- a prefilter was called once more
+abbrev pub one_more_call : Counts → Counts
+one_more_call counts = record counts { calls = counts.calls + 1 }
+
 -- n states more were looked at
 abbrev pub more_looks : ℕ → Counts → Counts
 more_looks n counts = record counts { looks = counts.looks + n }

@@ -1,17 +1,22 @@
 -- How a search may skip ahead to where a match can start, and what it is told of what it skips.
-use Rattle.std.specs.Prelude.{◌≡◌, ℕ, ◌≤◌, Bool, false, ◌&&◌, nat_le, not, List, [], ◌∷◌, length, filter, Option, None, Some, if◌then◌else◌}
+use Rattle.std.specs.Prelude.{◌≡◌, ℕ, ◌≤◌, Bool, false, ◌&&◌, nat_le, not, ◌==◌, true, List, [], ◌∷◌, length, filter, slice_index_or, Option, None, Some, if◌then◌else◌}
 use Rattle.std.specs.List.{list_any, range_with_len}
 use Rattle.std.specs.Option.{is_some}
 use Rattle.ac_util.specs.declared.prefilter.Candidate.{Candidate}
 use Rattle.ac_util.specs.declared.prefilter.Candidate.TheVariants.{None as Nothing, Match as Found, PossibleStart}
+use Rattle.ac_util.specs.declared.prefilter.FirstBytes.{FirstBytes}
+use Rattle.ac_util.specs.declared.prefilter.FirstBytes.TheVariants.{One, Two, Three}
 use Rattle.ac_util.specs.declared.prefilter.Prefilter.{Prefilter}
+use Rattle.ac_util.specs.declared.prefilter.Prefilter.TheVariants.{Bytes as ByBytes, Needle as ByNeedle}
 use Rattle.ac_util.specs.declared.search.Anchored.{Anchored}
 use Rattle.ac_util.specs.declared.search.Anchored.TheVariants.{No, Yes}
 use Rattle.ac_util.specs.declared.search.MatchKind.{MatchKind}
+use Rattle.ac_util.specs.declared.search.MatchKind.TheVariants.{Standard}
+use Rattle.memchr.specs.Find.{IsFirst, Passes}
 use Rattle.ac_util.specs.Node.{is_empty}
 use Rattle.ac_util.specs.Occurrence.{Occurrence}
 use Rattle.ac_util.specs.Pick.{pick}
-use Rattle.ac_util.specs.Sameness.{same_byte}
+use Rattle.ac_util.specs.Sameness.{plain_byte, same_byte}
 use Rattle.ac_util.specs.Search.{Search, Occurs}
 
 -- a search skips to the first of some bytes, or to the first place of a needle
@@ -27,6 +32,10 @@ begins_with fold b (c ∷ p) = same_byte fold b c
 -- the bytes with which patterns begin, in ascending order
 unfoldable pub first_bytes : Bool → List (List ℕ) → List ℕ
 first_bytes fold patterns = filter (λ b. list_any (begins_with fold b) patterns) (range_with_len 0 256)
+
+-- whether the byte is one of these
+abbrev pub is_one_of : List ℕ → ℕ → Bool
+is_one_of bytes b = list_any (λ a. b == a) bytes
 
 -- how many patterns a search may have at most to skip by their first bytes
 abbrev pub MOST_PATTERNS : ℕ
@@ -63,9 +72,65 @@ may_skip on q = skips_in q.anchored (is_some (skip_for on q.fold q.patterns))
     skips_in No some = some
     skips_in Yes some = false
 
--- how a prefilter skips; there is no prefilter yet
-abbrev pub skip_of : Prefilter → Skip
-skip_of filter = elim filter [ ]
+-- the bytes by which a prefilter skips
+abbrev pub first_bytes_of : FirstBytes → List ℕ
+first_bytes_of (One a) = a ∷ []
+first_bytes_of (Two a b) = a ∷ b ∷ []
+first_bytes_of (Three a b c) = a ∷ b ∷ c ∷ []
+
+-- how a prefilter skips
+abbrev pub skip_of : {Z : Type 0} → Prefilter Z → Skip
+skip_of (ByBytes first) = FirstOf (first_bytes_of first)
+skip_of (ByNeedle needle) = Needle needle
+
+-- how many first bytes a search skips by; a needle is none
+abbrev pub byte_count : Skip → ℕ
+byte_count (FirstOf bytes) = length bytes
+byte_count (Needle needle) = 0
+
+-- the bytes whose plain byte is marked, in ascending order
+abbrev pub marked : Bool → List Bool → List ℕ
+marked fold marks = filter (λ b. slice_index_or marks (plain_byte fold b) false) (range_with_len 0 256)
+
+-- no pattern is empty, and each begins with one of the bytes
+pub record BeginWith (bytes : List ℕ) (fold : Bool) (patterns : List (List ℕ)) : Type 0 where
+  pub some : list_any is_empty patterns ≡ false
+  pub begins : (b : ℕ) → list_any (begins_with fold b) patterns ≡ true → is_one_of bytes b ≡ true
+
+-- a search for the patterns may skip so: they begin with these bytes, or the needle is the only one and case counts
+abbrev pub IsSkipFor : Skip → Bool → List (List ℕ) → Type 0
+IsSkipFor (FirstOf bytes) fold patterns = BeginWith bytes fold patterns
+IsSkipFor (Needle needle) fold patterns = (fold ≡ false) × (patterns ≡ needle ∷ [])
+
+-- the unanchored search for patterns in a span of the haystack
+abbrev pub search_over : Bool → List (List ℕ) → List ℕ → ℕ → ℕ → Search
+search_over fold patterns haystack low high = record {
+  patterns = patterns;
+  fold = fold;
+  haystack = haystack;
+  anchored = No;
+  low = low;
+  high = high;
+}
+
+-- what is told of a span in which a match may start here at first, or nowhere
+abbrev pub start_told : Option ℕ → Candidate
+start_told None = Nothing
+start_told (Some place) = PossibleStart place
+
+-- what is told of a span in which this match is picked, or none
+abbrev pub match_told : Option Occurrence → Candidate
+match_told None = Nothing
+match_told (Some m) = Found m
+
+-- what a skip tells of a span: the first place of it that holds one of the bytes; or the match that a search for
+-- the needle alone picks
+abbrev pub Tells : Skip → List ℕ → ℕ → ℕ → Candidate → Type 0
+Tells (FirstOf bytes) haystack low high candidate =
+    (place : Option ℕ) × IsFirst (Passes (is_one_of bytes) haystack) low high place
+    × (candidate ≡ start_told place)
+Tells (Needle needle) haystack low high candidate =
+    candidate ≡ match_told (pick Standard (search_over false (needle ∷ []) haystack low high))
 
 -- what a candidate says of a span: nothing occurs in it; the match is what is picked, by any kind; or nothing
 -- that occurs starts before the place

@@ -1,10 +1,13 @@
 //! What a search does: the bytes that it reads, and how often it looks at states.
-ghost use Rattle.std.specs.Prelude.{◌≡◌, ◌+◌, ◌<◌, ◌≤◌, length, slice_index};
-ghost use Rattle.ac_util.specs.Counts.{no_counts, one_more_read, more_looks};
+ghost use Rattle.std.specs.Prelude.{◌≡◌, ℕ, ◌+◌, ◌<◌, ◌≤◌, Bool, List, length, slice_index};
+ghost use Rattle.ac_util.specs.Counts.{no_counts, one_more_call, one_more_read, more_looks};
 ghost use Rattle.ac_util.specs.Inputs.{asked};
+ghost use Rattle.ac_util.specs.Prefilters.{IsSkipFor, Promises, Tells, search_over, skip_of};
 
-use crate::search::Input;
+use crate::prefilter::{Candidate, Prefilter};
+use crate::search::{Input, Span};
 use crate::tally::Tally;
+use std::alloc::Allocator;
 use std::marker::Model;
 use std::snapshot::Snapshot;
 
@@ -47,6 +50,14 @@ impl Looks {
         ensures { self.new ≡ more_looks 1 self.old }
     {
         self.looks = Tally::after(&self.looks);
+    }
+
+    /// Counts one call of a prefilter.
+    #[inline]
+    fn call(&mut self)
+        ensures { self.new ≡ one_more_call self.old }
+    {
+        self.calls = Tally::after(&self.calls);
     }
 
     /// Counts one byte read.
@@ -103,6 +114,32 @@ impl<'h> Tape<'h> {
         let _len = haystack.len();
         self.place = Snapshot::of(&(at + 1));
         haystack[at]
+    }
+}
+
+impl<'h> Tape<'h> {
+    /// Returns what a prefilter tells of the bytes from `at` up to `end`, and counts the call. The place of reading
+    /// stays.
+    ///
+    /// `at` has to be no later than `end`, and not before the place after the last read; `end` lies in the haystack.
+    #[inline]
+    pub fn scan<A: Allocator>(
+        &self,
+        prefilter: &Prefilter<A>,
+        at: usize,
+        end: usize,
+        looks: &mut Looks,
+    ) -> Candidate
+        requires onward { self.now.place ≤ at }
+        requires ordered { at ≤ end }
+        requires within { end ≤ length self.now.bytes }
+        ensures tells { Tells (skip_of prefilter.now) self.now.bytes at end result }
+        ensures promises { (fold : Bool) (patterns : List (List ℕ)) → IsSkipFor (skip_of prefilter.now) fold patterns
+            → Promises (search_over fold patterns self.now.bytes at end) result }
+        ensures counted { looks.new ≡ one_more_call looks.old }
+    {
+        looks.call();
+        prefilter.find_in(self.haystack, Span { start: at, end })
     }
 }
 

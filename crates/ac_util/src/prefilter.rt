@@ -1,8 +1,39 @@
 //! Prefilters, which skip to where a match may start.
-use crate::search::Match;
+//!
+//! Fast searches for one to three bytes, or for one needle, are those of `memchr`.
+ghost use Rattle.std.specs.Prelude.{◌≡◌, ℕ, ◌≤◌, ◌<◌, ◌⊎◌, Bool, List, [], false, true, length, IfOk, IfSome, MatchOption, MatchResult, option_map, slice_index_or};
+ghost use Rattle.std.specs.List.{list_any};
+ghost use Rattle.memchr.specs.Find.{IsFirstByte};
+ghost use Rattle.ac_util.specs.declared.error.BuildError.TheVariants.{Memory};
+ghost use Rattle.ac_util.specs.Node.{is_empty};
+ghost use Rattle.ac_util.specs.Prefilters.{IsSkipFor, Promises, Skip, Tells, begins_with, byte_count, first_bytes_of, is_one_of, marked, search_over, skip_for, skip_of};
+ghost use Rattle.ac_util.specs.Prefilters.Skip.{FirstOf};
+ghost use Rattle.ac_util.specs.Sameness.{plain_byte};
 
-/// A way to skip to where a match may start. There is none yet, so this type has no value.
-pub enum Prefilter {}
+use crate::error::BuildError;
+use crate::patterns::{Patterns, plain_byte};
+use crate::primitives::PatternID;
+use crate::search::{Match, Span};
+use memchr::{memchr, memchr2, memchr3, memmem};
+use std::alloc::{AllocError, Allocator, Global};
+use std::marker::Model;
+
+/// How many patterns there may be at most for a prefilter by their first bytes.
+const MOST_PATTERNS: usize = 100;
+
+/// How many first bytes they may have at most.
+const MOST_BYTES: usize = 3;
+
+/// A way to skip to where a match may start. It changes no answer of a search.
+///
+/// This ports upstream's `util::prefilter::Prefilter`, without its packed searchers and its rare bytes.
+#[derive(Drop)]
+pub enum Prefilter<A: Allocator = Global> {
+    /// Skips to the first of the bytes with which the patterns begin.
+    Bytes(FirstBytes),
+    /// Skips to the first place of the only pattern.
+    Needle(Needle<A>),
+}
 
 /// What a prefilter tells of a span.
 #[derive(Clone, Copy, PartialEq, Eq, Debug)]
@@ -14,3 +45,243 @@ pub enum Candidate {
     /// A place of it before which no match starts.
     PossibleStart(usize),
 }
+
+/// The bytes with which patterns begin.
+#[derive(Clone, Copy, PartialEq, Eq, Debug)]
+pub enum FirstBytes {
+    /// All begin with this byte.
+    One(u8),
+    /// Each begins with one of these.
+    Two(u8, u8),
+    /// Each begins with one of these.
+    Three(u8, u8, u8),
+}
+
+/// A pattern that is alone. Contracts see its bytes.
+#[derive(Drop)]
+pub struct Needle<A: Allocator = Global> {
+    bytes: Vec<u8, A>,
+}
+
+impl<A: Allocator> Model for Needle<A> {
+    ghost use Rattle.std.specs.Prelude.{List, ℕ};
+
+    ghost Value = { List ℕ };
+
+    ghost view = { λ n. n.bytes.items };
+}
+
+impl<A: Allocator + Clone> Clone for Needle<A> {
+    ghost is_clone = { λ s t. t ≡ s };
+
+    /// Returns a copy, which skips equally.
+    ///
+    /// # Errors
+    /// `AllocError` where a request for memory is refused.
+    fn clone(&self) -> Result<Needle<A>, AllocError> {
+        Ok(Needle {
+            bytes: self.bytes.clone()?,
+        })
+    }
+}
+
+impl<A: Allocator> Needle<A> {
+    /// Copies a pattern.
+    ///
+    /// # Errors
+    /// `AllocError` where a request for memory is refused.
+    fn of(alloc: A, pattern: &[u8]) -> Result<Needle<A>, AllocError>
+        ensures { IfOk result (λ needle. needle ≡ pattern.now) }
+    {
+        let mut bytes = Vec::new(alloc);
+        bytes.extend_from_slice(pattern)?;
+        Ok(Needle { bytes })
+    }
+
+    /// Returns the first match of the needle in a span, as the match of pattern 0.
+    #[inline]
+    fn find_in(&self, haystack: &[u8], span: Span) -> Candidate
+        requires ordered { span.start ≤ span.end }
+        requires within { span.end ≤ length haystack.now }
+        ensures { Tells (Skip.Needle self.now) haystack.now span.start span.end result }
+    {
+        let Some(skipped) = memmem::find(&haystack[span.start..span.end], &self.bytes) else {
+            return Candidate::None;
+        };
+        let start = span.start + skipped;
+        let end = start + self.bytes.len();
+        Candidate::Match(Match::new(PatternID::must(0), Span { start, end }))
+    }
+}
+
+impl FirstBytes {
+    /// Returns the bytes whose plain byte is marked, where these are one to three.
+    fn of(marks: &[bool; 256], fold: bool) -> Option<FirstBytes>
+        ensures { MatchOption result
+            ((marked fold marks.now ≡ []) ⊎ (3 < length (marked fold marks.now)))
+            (λ first. first_bytes_of first ≡ marked fold marks.now) }
+    {
+        let mut bytes = [0; MOST_BYTES];
+        let mut count = 0;
+        for byte in 0..256usize {
+            if marks[plain_byte(fold, byte as u8) as usize] {
+                if count == MOST_BYTES {
+                    return None;
+                }
+                bytes[count] = byte as u8;
+                count += 1;
+            }
+        }
+        match count {
+            1 => Some(FirstBytes::One(bytes[0])),
+            2 => Some(FirstBytes::Two(bytes[0], bytes[1])),
+            3 => Some(FirstBytes::Three(bytes[0], bytes[1], bytes[2])),
+            _ => None,
+        }
+    }
+
+    /// Returns how many bytes these are.
+    fn count(&self) -> usize
+        ensures { result ≡ length (first_bytes_of self.now) }
+    {
+        match self {
+            FirstBytes::One(_) => 1,
+            FirstBytes::Two(_, _) => 2,
+            FirstBytes::Three(_, _, _) => 3,
+        }
+    }
+
+    /// Returns the first place of the haystack that holds one of the bytes.
+    #[inline]
+    fn find(&self, haystack: &[u8]) -> Option<usize>
+        ensures { IsFirstByte (is_one_of (first_bytes_of self.now)) haystack.now result }
+    {
+        match *self {
+            FirstBytes::One(a) => memchr(a, haystack),
+            FirstBytes::Two(a, b) => memchr2(a, b, haystack),
+            FirstBytes::Three(a, b, c) => memchr3(a, b, c, haystack),
+        }
+    }
+
+    /// Returns the first place of a span that holds one of the bytes.
+    #[inline]
+    fn find_in(&self, haystack: &[u8], span: Span) -> Candidate
+        requires ordered { span.start ≤ span.end }
+        requires within { span.end ≤ length haystack.now }
+        ensures { Tells (FirstOf (first_bytes_of self.now)) haystack.now span.start span.end result }
+    {
+        match self.find(&haystack[span.start..span.end]) {
+            Some(skipped) => Candidate::PossibleStart(span.start + skipped),
+            None => Candidate::None,
+        }
+    }
+}
+
+impl<A: Allocator + Clone> Clone for Prefilter<A> {
+    ghost is_clone = { λ s t. t ≡ s };
+
+    /// Returns a copy, which skips equally.
+    ///
+    /// # Errors
+    /// `AllocError` where a request for memory is refused.
+    fn clone(&self) -> Result<Prefilter<A>, AllocError> {
+        Ok(match self {
+            Prefilter::Bytes(bytes) => Prefilter::Bytes(*bytes),
+            Prefilter::Needle(needle) => Prefilter::Needle(needle.clone()?),
+        })
+    }
+}
+
+impl<A: Allocator> Prefilter<A> {
+    /// Returns the prefilter of a search for some patterns, with `fold` without regard to the case of ASCII letters.
+    ///
+    /// None where a pattern is empty, since a match may then start anywhere, and where there are no patterns. A single
+    /// pattern is searched for itself, unless case is ignored. Else at most 100 patterns are searched for by their first
+    /// bytes, where these are at most three; letters count in both cases where case is ignored.
+    ///
+    /// # Errors
+    /// `BuildError::Memory` where a request for memory is refused.
+    pub fn of<Z: Allocator>(
+        alloc: A,
+        patterns: &Patterns<Z>,
+        fold: bool,
+    ) -> Result<Option<Prefilter<A>>, BuildError>
+        ensures { MatchResult result
+            (λ found. (option_map skip_of found ≡ skip_for true fold patterns.now)
+            × IfSome found (λ p. IsSkipFor (skip_of p) fold patterns.now))
+            (λ e. e ≡ Memory) }
+    {
+        if has_empty(patterns) || patterns.len() == 0 {
+            return Ok(None);
+        }
+        if patterns.len() == 1 && !fold {
+            let needle = Needle::of(alloc, patterns.get(0))?;
+            return Ok(Some(Prefilter::Needle(needle)));
+        }
+        if patterns.len() > MOST_PATTERNS {
+            return Ok(None);
+        }
+        let marks = first_marks(patterns, fold);
+        match FirstBytes::of(&marks, fold) {
+            Some(first) => Ok(Some(Prefilter::Bytes(first))),
+            None => Ok(None),
+        }
+    }
+
+    /// Returns how many first bytes it skips by, which are one to three, or 0 for one that skips by a needle.
+    pub fn byte_count(&self) -> usize
+        ensures { result ≡ byte_count (skip_of self.now) }
+    {
+        match self {
+            Prefilter::Bytes(bytes) => bytes.count(),
+            Prefilter::Needle(_) => 0,
+        }
+    }
+
+    /// Returns what is told of the bytes of a span: the first place of it that holds one of the first bytes, or the
+    /// first match of the needle.
+    ///
+    /// The span has to end within the haystack, and to start no later than it ends.
+    #[inline]
+    pub fn find_in(&self, haystack: &[u8], span: Span) -> Candidate
+        requires ordered { span.start ≤ span.end }
+        requires within { span.end ≤ length haystack.now }
+        ensures tells { Tells (skip_of self.now) haystack.now span.start span.end result }
+        ensures promises { (fold : Bool) (patterns : List (List ℕ)) → IsSkipFor (skip_of self.now) fold patterns
+            → Promises (search_over fold patterns haystack.now span.start span.end) result }
+    {
+        match self {
+            Prefilter::Bytes(bytes) => bytes.find_in(haystack, span),
+            Prefilter::Needle(needle) => needle.find_in(haystack, span),
+        }
+    }
+}
+
+/// Returns whether some pattern has no bytes.
+fn has_empty<A: Allocator>(patterns: &Patterns<A>) -> bool
+    ensures { result ≡ list_any is_empty patterns.now }
+{
+    for number in 0..patterns.len() {
+        if patterns.get(number).is_empty() {
+            return true;
+        }
+    }
+    false
+}
+
+/// Marks the plain bytes with which patterns begin.
+fn first_marks<A: Allocator>(patterns: &Patterns<A>, fold: bool) -> [bool; 256]
+    ensures { (b : ℕ) → slice_index_or result (plain_byte fold b) false
+        ≡ list_any (begins_with fold b) patterns.now }
+{
+    let mut marks = [false; 256];
+    for number in 0..patterns.len() {
+        if let Some(&byte) = patterns.get(number).first() {
+            marks[plain_byte(fold, byte) as usize] = true;
+        }
+    }
+    marks
+}
+
+#[cfg(test)]
+mod tests;

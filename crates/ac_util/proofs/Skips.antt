@@ -1,0 +1,243 @@
+-- What a prefilter tells of a span, and what that promises of a search of the span.
+use Rattle.std.proofs.Common.{◌≡◌, ℕ, zero, suc, ◌+◌, ◌-◌, ◌<◌, ◌≤◌, Bool, true, false, List, [], ◌∷◌, length, get_or, Option, Some, None, option_map, inl, inr, refl, ap, sym, ◌∙◌, subst, arith, length-take, length-drop, get_or-take, get_or-drop}
+use Rattle.std.specs.Prelude.{slice_range}
+use Rattle.std.specs.List.{list_any}
+use Rattle.std.proofs.lemmas.Bool.{eq-eqb, cases_lt, false_from_ne_true, false≢true}
+use Rattle.std.proofs.lemmas.List.Folds.{list_any_at}
+use Rattle.memchr.specs.Find.{IsFirst, IsFirstByte, FindsNeedle, OccursAt, Passes}
+use Rattle.ac_util.specs.declared.prefilter.Candidate.{Candidate}
+use Rattle.ac_util.specs.declared.search.MatchKind.{MatchKind}
+use Rattle.ac_util.specs.declared.search.MatchKind.TheVariants.{Standard, LeftmostFirst, LeftmostLongest}
+use Rattle.ac_util.specs.Node.{is_empty}
+use Rattle.ac_util.specs.Occurrence.{Occurrence, occurrence}
+use Rattle.ac_util.specs.Pick.{IsPick, pick}
+use Rattle.ac_util.specs.Pick as Order
+use Rattle.ac_util.specs.Prefilters.{BeginWith, IsSkipFor, Promises, Skip, Tells, begins_with, is_one_of, match_told, search_over, start_told}
+use Rattle.ac_util.specs.Prefilters.Skip.{FirstOf, Needle}
+use Rattle.ac_util.specs.Sameness.{plain_byte}
+use Rattle.ac_util.specs.Search.{Search, Occurs, pattern_of}
+use Rattle.ac_util.proofs.Picks.{pick-IsPick, pick-from_IsPick, same_occurrence}
+use Rattle.ac_util.proofs.SamenessLemmas.{IsSame-at, IsSame-from_places}
+
+-- a range within the list has its length
+length-range : (xs : List ℕ) (low high : ℕ) → low ≤ high → high ≤ length xs
+    → length (slice_range xs low high) ≡ high - low
+length-range xs low high ordered within = simp (length-take, length-drop) (omega arith)
+
+-- a byte of a range is one of the list
+range-at : (xs : List ℕ) (low high k : ℕ) → k < high - low
+    → get_or (slice_range xs low high) k 0 ≡ get_or xs (low + k) 0
+range-at xs low high k h = rw (get_or-take, get_or-drop)
+
+-- the first place by P is, that much further, the first by Q, where Q says there what P says here
+first_moved : (P Q : ℕ → Type 0) (low n high : ℕ) (r : Option ℕ) → low + n ≡ high
+    → ((k : ℕ) → k < n → P k → Q (low + k)) → ((k : ℕ) → k < n → Q (low + k) → P k)
+    → IsFirst P 0 n r → IsFirst Q low high (option_map (λ k. low + k) r)
+first_moved P Q low n high None e to fro none =
+    λ k l h q. none (k - low) (omega arith) (omega arith)
+    (fro (k - low) (omega arith) (subst Q (let s : k ≡ low + (k - low) = omega arith in s) q))
+first_moved P Q low n high (Some k) e to fro (b, p) = (
+  record {
+    low = omega arith;
+    high = let h = b.high in omega arith;
+    before = λ j l h q. b.before (j - low) (omega arith) (omega arith)
+        (fro (j - low) (let h' = b.high in omega arith) (subst Q (let s : j ≡ low + (j - low) = omega arith in s) q));
+  },
+  to k b.high p,
+)
+
+-- the first byte of a range that passes is the first of the list that passes in the range
+pub first_in_range : (test : ℕ → Bool) (hay : List ℕ) (low high : ℕ) (r : Option ℕ) → low ≤ high
+    → high ≤ length hay → IsFirstByte test (slice_range hay low high) r
+    → IsFirst (Passes test hay) low high (option_map (λ k. low + k) r)
+first_in_range test hay low high r ordered within h =
+    let long = length-range hay low high ordered within in
+    first_moved (Passes test (slice_range hay low high)) (Passes test hay) low (length (slice_range hay low high))
+    high r (omega arith)
+    (λ k l p. subst (λ (b : ℕ). test b ≡ true) (range-at hay low high k (omega arith)) p)
+    (λ k l p. subst (λ (b : ℕ). test b ≡ true) (sym (range-at hay low high k (omega arith))) p)
+    h
+
+-- no pattern is empty where the test finds none
+not_empty : (patterns : List (List ℕ)) (k : ℕ) → list_any is_empty patterns ≡ false → k < length patterns
+    → is_empty (pattern_of patterns k) ≡ false
+not_empty patterns k none h =
+    false_from_ne_true (is_empty (pattern_of patterns k))
+    (λ e. false≢true (sym none ∙ list_any_at is_empty patterns k [] h e))
+
+-- a pattern that isn't empty begins with each byte that is the same as its first one
+begins : (fold : Bool) (b : ℕ) (p : List ℕ) → is_empty p ≡ false
+    → plain_byte fold (get_or p 0 0) ≡ plain_byte fold b → begins_with fold b p ≡ true
+begins fold b [] e h = absurd (false≢true (sym e))
+begins fold b (c ∷ p) e h = eq-eqb (plain_byte fold b) (plain_byte fold c) (sym h)
+
+-- a string that isn't empty has a byte
+some_byte : (p : List ℕ) → is_empty p ≡ false → 0 < length p
+some_byte [] e = absurd (false≢true (sym e))
+some_byte (c ∷ p) e = omega arith
+
+-- a search for patterns that begin with some bytes
+module _ (bytes : List ℕ) (fold : Bool) (patterns : List (List ℕ)) (hay : List ℕ) (low high : ℕ)
+    (begin : BeginWith bytes fold patterns) where
+  -- what occurs isn't empty, and starts with one of the bytes
+  starts_so : (m : Occurrence) → Occurs (search_over fold patterns hay low high) m
+      → (m.start < m.end) × Passes (is_one_of bytes) hay m.start
+  starts_so m o =
+      let p = pattern_of patterns m.pattern in
+      let some = not_empty patterns m.pattern begin.some o.numbered in
+      let long = some_byte p some in
+      let behind : m.start < m.end = omega (arith, o.as_long) in
+      let first =
+      IsSame-at fold p (slice_range hay m.start m.end) o.reads 0 long
+      ∙ ap (plain_byte fold) (range-at hay m.start m.end 0 (omega arith)
+      ∙ ap (λ (k : ℕ). get_or hay k 0) (let e : m.start + 0 ≡ m.start = omega arith in e)) in (
+        behind,
+        begin.begins (get_or hay m.start 0)
+            (list_any_at (begins_with fold (get_or hay m.start 0)) patterns m.pattern [] o.numbered
+            (begins fold (get_or hay m.start 0) p some first)),
+      )
+
+  -- so nothing starts before the first place that holds one of the bytes
+  bytes_promise : (place : Option ℕ) → IsFirst (Passes (is_one_of bytes) hay) low high place
+      → Promises (search_over fold patterns hay low high) (start_told place)
+  bytes_promise None none = λ m o. let s = starts_so m o in none m.start o.from_low (omega (arith, s.0, o.to_high)) s.1
+  bytes_promise (Some k) (b, p) = (
+    b.low,
+    (let h = b.high in omega arith),
+    λ m o. elim (cases_lt m.start k) [
+      | inl l ↦ absurd (b.before m.start o.from_low l (starts_so m o).1)
+      | inr l ↦ l
+    ],
+  )
+
+-- the only pattern of a list is that of each number below its length
+only_pattern : (needle : List ℕ) (n : ℕ) → n < 1 → pattern_of (needle ∷ []) n ≡ needle
+only_pattern needle zero h = refl
+only_pattern needle (suc n) h = absurd (omega arith)
+
+-- a search for a needle alone where case counts
+module _ (needle : List ℕ) (hay : List ℕ) (low high : ℕ) where
+  abbrev alone : Search
+  alone = search_over false (needle ∷ []) hay low high
+
+  -- the needle from this place on
+  abbrev standing : ℕ → Occurrence
+  standing start = occurrence 0 start (start + length needle)
+
+  -- each occurrence is as long as the needle
+  ends : (m : Occurrence) → Occurs alone m → m.start + length needle ≡ m.end
+  ends m o =
+      ap (λ (p : List ℕ). m.start + length p) (sym (only_pattern needle m.pattern o.numbered)) ∙ o.as_long
+
+  -- the first by its end is the first in each order
+  first_by_all : (kind : MatchKind) (m o : Occurrence) → Occurs alone m → Occurs alone o
+      → Order.IsFirstByEnd m o → Order.IsFirst kind m o
+  first_by_all Standard m o x y h = h
+  first_by_all LeftmostFirst m o x y h =
+      let e = ends m x in let f = ends o y in
+      record { starts = omega (arith, h.ends); patterns = λ s. omega (arith, x.numbered) }
+  first_by_all LeftmostLongest m o x y h =
+      let e = ends m x in let f = ends o y in
+      record {
+        starts = omega (arith, h.ends);
+        ends = λ s. omega arith;
+        patterns = λ s t. omega (arith, x.numbered);
+      }
+
+  -- what Standard picks is picked by each kind
+  picked_by_all : (kind : MatchKind) (r : Option Occurrence) → IsPick Standard alone r → IsPick kind alone r
+  picked_by_all kind None h = h
+  picked_by_all kind (Some m) h = (h.0, λ o occurs. first_by_all kind m o h.0 occurs (h.1 o occurs))
+
+  -- so what is picked is promised
+  needle_promise : (r : Option Occurrence) → pick Standard alone ≡ r → Promises alone (match_told r)
+  needle_promise None e = subst (λ (w : Option Occurrence). IsPick Standard alone w) e (pick-IsPick Standard alone)
+  needle_promise (Some m) e =
+      λ kind. sym (pick-from_IsPick kind alone (pick Standard alone)
+      (picked_by_all kind (pick Standard alone) (pick-IsPick Standard alone))) ∙ e
+
+  -- each occurrence is the needle at its start
+  stands : (m : Occurrence) → Occurs alone m → m ≡ standing m.start
+  stands m o =
+      same_occurrence m (standing m.start) (let n = o.numbered in let e : m.pattern ≡ 0 = omega arith in e) refl
+      (sym (ends m o))
+
+  -- the first place at which the needle occurs is what Standard picks
+  first_stands : (r : Option ℕ) → IsFirst (λ k. Occurs alone (standing k)) low (high + 1) r
+      → IsPick Standard alone (option_map standing r)
+  first_stands None none =
+      λ m o. none m.start o.from_low (omega (arith, o.to_high, ends m o)) (subst (Occurs alone) (stands m o) o)
+  first_stands (Some k) (b, p) = (
+    p,
+    λ m o.
+        let later : k ≤ m.start = elim (cases_lt m.start k) [
+          | inl l ↦ absurd (b.before m.start o.from_low l (subst (Occurs alone) (stands m o) o))
+          | inr l ↦ l
+        ] in
+        record {
+          ends = omega (arith, ends m o);
+          starts = λ e. later;
+          patterns = λ e s. omega arith;
+        },
+  )
+
+  -- where the needle stands in the range it occurs
+  occurs_from_range : (k : ℕ) → low ≤ high → high ≤ length hay → OccursAt (slice_range hay low high) needle k
+      → Occurs alone (standing (low + k))
+  occurs_from_range k ordered within at =
+      let long = length-range hay low high ordered within in
+      let fits = at.fits in
+      let here = length-range hay (low + k) (low + k + length needle) (omega arith) (omega arith) in
+      record {
+        numbered = omega arith;
+        from_low = omega arith;
+        as_long = refl;
+        to_high = omega arith;
+        reads = IsSame-from_places false needle (slice_range hay (low + k) (low + k + length needle)) (omega arith)
+            (λ j h.
+            sym (at.reads j h)
+            ∙ range-at hay low high (k + j) (omega arith)
+            ∙ ap (λ (i : ℕ). get_or hay i 0) (let e : low + (k + j) ≡ low + k + j = omega arith in e)
+            ∙ sym (range-at hay (low + k) (low + k + length needle) j (omega arith)));
+        at_low = λ e. absurd (cc);
+      }
+
+  -- and back
+  range_from_occurs : (k : ℕ) → low ≤ high → high ≤ length hay → Occurs alone (standing (low + k))
+      → OccursAt (slice_range hay low high) needle k
+  range_from_occurs k ordered within o =
+      let long = length-range hay low high ordered within in
+      let to_high = o.to_high in
+      record {
+        fits = omega arith;
+        reads = λ j h.
+            range-at hay low high (k + j) (omega arith)
+            ∙ ap (λ (i : ℕ). get_or hay i 0) (let e : low + (k + j) ≡ low + k + j = omega arith in e)
+            ∙ sym (range-at hay (low + k) (low + k + length needle) j (omega arith))
+            ∙ sym (IsSame-at false needle (slice_range hay (low + k) (low + k + length needle)) o.reads j h);
+      }
+
+  -- the first place of the needle in the range is what Standard picks
+  pub needle_found : (r : Option ℕ) → low ≤ high → high ≤ length hay
+      → FindsNeedle (slice_range hay low high) needle 0 r
+      → option_map standing (option_map (λ k. low + k) r) ≡ pick Standard alone
+  needle_found r ordered within h =
+      let long = length-range hay low high ordered within in
+      pick-from_IsPick Standard alone (option_map standing (option_map (λ k. low + k) r))
+      (first_stands (option_map (λ k. low + k) r)
+      (first_moved (OccursAt (slice_range hay low high) needle) (λ k. Occurs alone (standing k)) low
+      (length (slice_range hay low high) + 1) (high + 1) r (omega arith)
+      (λ k l. occurs_from_range k ordered within) (λ k l. range_from_occurs k ordered within) h))
+
+-- what a skip tells is promised of each search that may skip so
+pub promised : (skip : Skip) (fold : Bool) (patterns : List (List ℕ)) (hay : List ℕ) (low high : ℕ)
+    (candidate : Candidate) → Tells skip hay low high candidate → IsSkipFor skip fold patterns
+    → Promises (search_over fold patterns hay low high) candidate
+promised (FirstOf bytes) fold patterns hay low high candidate (place, first, is) begin =
+    subst (λ (w : Candidate). Promises (search_over fold patterns hay low high) w) (sym is)
+    (bytes_promise bytes fold patterns hay low high begin place first)
+promised (Needle needle) fold patterns hay low high candidate is (counts, single) =
+    subst (λ (w : Bool). Promises (search_over w patterns hay low high) candidate) (sym counts)
+    (subst (λ (w : List (List ℕ)). Promises (search_over false w hay low high) candidate) (sym single)
+    (subst (λ (w : Candidate). Promises (search_over false (needle ∷ []) hay low high) w) (sym is)
+    (needle_promise needle hay low high (pick Standard (search_over false (needle ∷ []) hay low high)) refl)))

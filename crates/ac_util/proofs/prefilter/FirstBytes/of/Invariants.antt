@@ -1,0 +1,13 @@
+use Rattle.std.proofs.Common.{◌≡◌, ◌≤◌, length, take}
+use Rattle.std.specs.Prelude.{filter}
+use Rattle.std.specs.List.{range_with_len}
+use Rattle.ac_util.proofs.Marks.{is_marked}
+use Rattle.ac_util.proofs.prefilter.FirstBytes.of.Given as goal
+
+-- the marked ones of the bytes so far are noted, which are at most three
+abbrev pub invariant-loop-byte : goal.invariant-loop-byte
+invariant-loop-byte l = record {
+  whole : length l.bytes ≡ 3;
+  few : l.count ≤ 3;
+  noted : take l.count l.bytes ≡ filter (is_marked l.fold l.marks) (range_with_len 0 l.byte);
+}

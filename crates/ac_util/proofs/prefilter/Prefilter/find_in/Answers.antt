@@ -1,0 +1,20 @@
+use Rattle.std.proofs.Common.{sym, subst}
+use Rattle.ac_util.specs.Prefilters.{Tells, skip_of}
+use Rattle.ac_util.proofs.Skips.{promised}
+use Rattle.ac_util.proofs.prefilter.Prefilter.find_in.Goals as goal
+
+-- of what is told by first bytes
+pub returns-in-Bytes-clause-promises : goal.returns-in-Bytes-clause-promises
+returns-in-Bytes-clause-promises g c =
+    λ fold patterns ok. promised (skip_of c.args.self.now) fold patterns c.args.haystack.now c.args.span.start
+    c.args.span.end c.find_in.result
+    (subst (λ p. Tells (skip_of p) c.args.haystack.now c.args.span.start c.args.span.end c.find_in.result)
+    (sym c.in-Bytes.is) c.find_in.ensures) ok
+
+-- of what is told by a needle
+pub returns-in-Needle-clause-promises : goal.returns-in-Needle-clause-promises
+returns-in-Needle-clause-promises g c =
+    λ fold patterns ok. promised (skip_of c.args.self.now) fold patterns c.args.haystack.now c.args.span.start
+    c.args.span.end c.find_in-in-Needle.result
+    (subst (λ p. Tells (skip_of p) c.args.haystack.now c.args.span.start c.args.span.end c.find_in-in-Needle.result)
+    (sym c.in-Needle.is) c.find_in-in-Needle.ensures) ok

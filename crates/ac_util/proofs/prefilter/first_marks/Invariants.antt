@@ -1,0 +1,13 @@
+use Rattle.std.proofs.Common.{◌≡◌, ℕ, false, length, take, get_or}
+use Rattle.std.specs.List.{list_any}
+use Rattle.ac_util.specs.Prefilters.{begins_with}
+use Rattle.ac_util.specs.Sameness.{plain_byte}
+use Rattle.ac_util.proofs.prefilter.first_marks.Given as goal
+
+-- the first bytes of the patterns so far are marked
+abbrev pub invariant-loop-number : goal.invariant-loop-number
+invariant-loop-number g l = record {
+  whole : length l.marks ≡ 256;
+  marked : (b : ℕ) → get_or l.marks (plain_byte l.fold b) false
+      ≡ list_any (begins_with l.fold b) (take l.number l.patterns);
+}
