@@ -23,6 +23,7 @@ pub mod Prefixes
 pub mod Ranges
 pub mod ReadOn
 pub mod Reading
+pub mod Skipping
 pub mod Sorting
 pub mod Stacks
 pub mod Starting

@@ -21,6 +21,7 @@ use Rattle.ac_util.proofs.SearchLoop.{credit-nil, looks_by-once, step-paid}
 use Rattle.ac_automaton.specs.Automata.{plain_of, step_of, looks_of}
 use Rattle.ac_automaton.specs.Finds.{FitsIn}
 use Rattle.ac_automaton.specs.Progress.{Beginning, Grows, HasCome, HasRead, Reaches, StopsAtDead, most_looks, node_at, span_of}
+use Rattle.ac_automaton.specs.Skipping.{MayRead}
 
 -- a step's looks are paid by what was saved and what the byte brings; an anchored one saves nothing and looks
 -- once
@@ -101,7 +102,7 @@ module _ (built : Built) (anchored : Anchored) (began : Beginning) where
       ∙ reached-nil built.kind (plain_of built) anchored
 
   -- one byte more leads from the node reached to the next one
-  node-step : (at byte : ℕ) → began.start ≤ at → at < length bytes → byte ≡ slice_index bytes at
+  pub node-step : (at byte : ℕ) → began.start ≤ at → at < length bytes → byte ≡ slice_index bytes at
       → step_of built anchored (node_at built.kind q at) byte ≡ node_at built.kind q (at + 1)
   node-step at byte ordered room read =
       ap (step_of built anchored (node_at built.kind q at)) read
@@ -172,7 +173,7 @@ module _ (built : Built) (anchored : Anchored) (began : Beginning) where
       }
 
   module _ {stands : ℕ → Node → Type 0} {most : ℕ} {filters : Bool} {state at : ℕ} {tape : Taped} {counts : Counts}
-      (come : HasCome stands most filters built anchored began state at tape counts) where
+      (come : MayRead stands most filters built anchored began state at tape counts) where
     -- it comes one place further by reading a byte and following it
     pub come-next : {next byte : ℕ} {new_tape : Taped} {read new_counts : Counts} → (most ≡ 1) ⊎ (most ≡ 2)
         → byte ≡ slice_index tape.bytes at → at < length tape.bytes
@@ -220,6 +221,31 @@ module _ (built : Built) (anchored : Anchored) (began : Beginning) where
           whole = λ same. omega arith;
           counted = λ same. let grows = so_far.grows in let c = come.counted (omega arith) in omega arith;
           paid = paid_now;
+        }
+
+  module _ {stands : ℕ → Node → Type 0} {most : ℕ} {filters : Bool} {state at : ℕ} {tape : Taped} {counts : Counts}
+      (come : HasCome stands most filters built anchored began state at tape counts) where
+    -- where it has come it may read
+    pub may-read : MayRead stands most filters built anchored began state at tape counts
+    may-read =
+        let read = come.read in record {
+          reaches = come.reaches;
+          unread = come.unread;
+          unread_here = (let o = come.reaches.onward in let u = come.unread in let w = read.within in omega arith);
+          read = record {
+            bytes = read.bytes;
+            onward = read.onward;
+            within = omega arith;
+            grows = read.grows;
+            told = read.told;
+            whole = read.whole;
+            reads = read.reads;
+            looks = read.looks;
+            calls = omega arith;
+            quiet = read.quiet;
+          };
+          counted = come.counted;
+          paid = come.paid;
         }
 
     -- what a search has done that has come to a place of its span

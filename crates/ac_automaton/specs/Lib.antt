@@ -7,5 +7,6 @@ pub mod Iterators
 pub mod Overlaps
 pub mod Progress
 pub mod Readers
+pub mod Skipping
 pub mod Sorted
 pub mod Tries

@@ -7,7 +7,7 @@ ghost use Rattle.ac_util.specs.Built.{Built, exchanged, exchanged_in_text, find_
 ghost use Rattle.ac_util.specs.Inputs.{asked};
 ghost use Rattle.ac_util.specs.Counts.{more_looks};
 ghost use Rattle.ac_util.specs.Node.{Node};
-ghost use Rattle.ac_util.specs.Prefilters.{skip_for, skip_of};
+ghost use Rattle.ac_util.specs.Prefilters.{IsSkipFor, skip_for, skip_of};
 ghost use Rattle.ac_util.specs.Refusal.{AnswersUnless, start_refusal};
 ghost use Rattle.ac_util.specs.Replaced.{replaced};
 ghost use Rattle.ac_util.specs.Replacing.{AnswersWhole, MakesSteps, StepsLead};
@@ -27,6 +27,7 @@ use std::alloc::Allocator;
 mod find;
 mod overlap;
 mod replace;
+mod skip;
 mod step;
 mod walk;
 
@@ -41,6 +42,9 @@ pub use walk::FindIter;
 /// that are handed in have to stand for some node: `start_state` gives such a number, and `next_state` gives
 /// one where it was handed one, under the same anchoring.
 pub trait Automaton {
+    /// The allocator of the automaton's memory.
+    type Memory: Allocator;
+
     /// How many looks at states a search may take for each byte that it reads, on the whole: 2 where failed
     /// transitions are followed one after another, 1 in a table.
     const LOOKS: usize;
@@ -147,9 +151,11 @@ pub trait Automaton {
 
     /// Returns the prefilter of the automaton, where it was built with one and there is one for its patterns. An
     /// unanchored search may skip by it, and answers what it would without.
-    fn prefilter(&self) -> Option<&Prefilter>
-        ensures { option_map (λ p. skip_of p.now) result
-            ≡ skip_for (filters self.now) (built self.now).fold (built self.now).patterns };
+    fn prefilter(&self) -> Option<&Prefilter<Self::Memory>>
+        ensures skips { option_map (λ p. skip_of p.now) result
+            ≡ skip_for (filters self.now) (built self.now).fold (built self.now).patterns }
+        ensures serves { IfSome result
+            (λ p. IsSkipFor (skip_of p.now) (built self.now).fold (built self.now).patterns) };
 
     ghost one_or_two: { (LOOKS ≡ 1) ⊎ (LOOKS ≡ 2) };
 

@@ -176,6 +176,8 @@ impl<A: Allocator> DFA<A> {
 }
 
 impl<A: Allocator> Automaton for DFA<A> {
+    type Memory = A;
+
     const LOOKS: usize = 1;
 
     ghost LOOKS = { 1 };
@@ -285,7 +287,7 @@ impl<A: Allocator> Automaton for DFA<A> {
             .saturating_add(self.patterns().memory_usage())
     }
 
-    fn prefilter(&self) -> Option<&Prefilter> {
+    fn prefilter(&self) -> Option<&Prefilter<A>> {
         None
     }
 }

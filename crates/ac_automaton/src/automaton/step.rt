@@ -7,6 +7,7 @@ ghost use Rattle.ac_util.specs.declared.search.Anchored.{Anchored};
 ghost use Rattle.ac_util.specs.Node.{Node};
 ghost use Rattle.ac_automaton.specs.Automata.{IsState};
 ghost use Rattle.ac_automaton.specs.Progress.{Beginning, Grows, HasCome, Reaches, node_at, search_of, span_of};
+ghost use Rattle.ac_automaton.specs.Skipping.{MayRead};
 
 use super::Automaton;
 use ac_util::looks::{Looks, Tape};
@@ -41,7 +42,7 @@ pub(super) fn read_byte<A: Automaton>(
         (search_of (A.built automaton.now) anchored tape.old.bytes start end) result (cursor.at + 1) }
     ensures tape { tape.new ≡ record { bytes = tape.old.bytes; place = cursor.at + 1 } }
     ensures grows { Grows looks.old looks.new }
-    ensures come { (began : Beginning) → HasCome (A.stands automaton.now anchored) A.LOOKS
+    ensures come { (began : Beginning) → MayRead (A.stands automaton.now anchored) A.LOOKS
         (A.filters automaton.now) (A.built automaton.now) anchored began cursor.state cursor.at tape.old looks.old
         → node_at (A.built automaton.now).kind (span_of (A.built automaton.now) anchored began) cursor.at ≢ None
         → HasCome (A.stands automaton.now anchored) A.LOOKS

@@ -141,6 +141,8 @@ impl<A: Allocator> NFA<A> {
 }
 
 impl<A: Allocator> Automaton for NFA<A> {
+    type Memory = A;
+
     const LOOKS: usize = 2;
 
     ghost LOOKS = { 2 };
@@ -250,7 +252,7 @@ impl<A: Allocator> Automaton for NFA<A> {
             .saturating_add(self.patterns().memory_usage())
     }
 
-    fn prefilter(&self) -> Option<&Prefilter> {
+    fn prefilter(&self) -> Option<&Prefilter<A>> {
         None
     }
 }

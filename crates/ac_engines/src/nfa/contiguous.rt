@@ -36,7 +36,7 @@ pub use format::{Format, check_words, format_of, state_words};
 
 /// An automaton that follows failure links, packed into one list of words.
 ///
-/// It takes less memory than the other two, and a search looks at states at most twice for each byte that it reads. A
+/// It is made to take little memory, and a search looks at states at most twice for each byte that it reads. A
 /// state's number is the place of its first word. First stands the dead state, then those that have matches, then the
 /// others: so compares of the number tell what a search has to know of a state. It serves unanchored and anchored
 /// searches. This ports `nfa::contiguous::NFA`.
@@ -153,6 +153,8 @@ impl<A: Allocator> NFA<A> {
 }
 
 impl<A: Allocator> Automaton for NFA<A> {
+    type Memory = A;
+
     const LOOKS: usize = 2;
 
     ghost LOOKS = { 2 };
@@ -255,7 +257,7 @@ impl<A: Allocator> Automaton for NFA<A> {
         words.saturating_add(self.patterns().memory_usage())
     }
 
-    fn prefilter(&self) -> Option<&Prefilter> {
+    fn prefilter(&self) -> Option<&Prefilter<A>> {
         None
     }
 }

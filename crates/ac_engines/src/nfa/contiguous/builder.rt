@@ -96,8 +96,9 @@ impl Builder {
         self
     }
 
-    /// Sets how many bytes a string has at least whose state has no target for each class of bytes, but only for those
-    /// that lead on. It is 2 unless set.
+    /// Sets below how many bytes of its string a state has a target for each class of bytes, and not only for those
+    /// that lead on. It is 2 unless set. The dead state, the starts, and states with more than 127 transitions have one
+    /// for each class always.
     ///
     /// States with a target for each class are faster, and larger. It changes no answer.
     pub fn dense_depth(&mut self, depth: usize) -> &mut Builder

@@ -14,7 +14,7 @@ use Rattle.ac_automaton.specs.Progress.{Beginning, HasCome, search_of, span_of}
 use Rattle.ac_automaton.proofs.FindLoop.{up_to, node_at, order}
 use Rattle.ac_automaton.proofs.FindLoop as find
 use Rattle.ac_automaton.proofs.Heads.{nil-from_not, found-none}
-use Rattle.ac_automaton.proofs.ReadOn.{come-start, node-fits, node-start}
+use Rattle.ac_automaton.proofs.ReadOn.{come-start, may-read, node-fits, node-start}
 use Rattle.ac_automaton.proofs.automaton.find.Finder.find.Given.{Over}
 use Rattle.ac_automaton.proofs.automaton.find.Finder.find.Goals.{After-match_at-last, After-read_byte-state}
 use Rattle.ac_automaton.proofs.automaton.find.Finder.find.Goals.{else-self-via-then-self+else-is_some, else-self-via-else-self, then-is_match_or_dead+else-is_dead+in-Some+else-self-2, then-is_match_or_dead+else-is_dead+in_default, else-is_match_or_dead}
@@ -91,7 +91,9 @@ module _ (g : Over) (c : After-read_byte-state g) where
   come_on : HasCome (g.A.Automaton.stands c.self.inside.automaton.now anchored) g.A.Automaton.LOOKS
       (g.A.Automaton.filters c.self.inside.automaton.now) built_of anchored began_at c.read_byte-state.result (c.loop-at.at + 1) c.read_byte-state.new.tape
       c.read_byte-state.new.looks
-  come_on = c.read_byte-state.ensures.come began_at c.loop-at.invariant.come c.loop-at.invariant.living
+  come_on =
+      c.read_byte-state.ensures.come began_at (may-read built_of anchored began_at c.loop-at.invariant.come)
+      c.loop-at.invariant.living
 
   fits : FitsIn anchored node c.args.start (c.loop-at.at + 1)
   fits = node-fits built_of anchored began_at (c.loop-at.at + 1) come_on.reaches.onward come_on.reaches.inside

@@ -17,7 +17,7 @@ use Rattle.ac_automaton.specs.Progress.{HasCome, Reaches, node_at, search_of}
 use Rattle.ac_automaton.proofs.Due.{counts}
 use Rattle.ac_automaton.proofs.Heads.{nil-from_not}
 use Rattle.ac_automaton.proofs.ListLoop.{HasPassed, IsAtEnd, arrives, at_end-kept, at_end-read, due-arrived, given-arrived, has-moved, listing-next, matches_at, nothing-due, passed-here, passed-on, up_to}
-use Rattle.ac_automaton.proofs.ReadOn.{grows-trans}
+use Rattle.ac_automaton.proofs.ReadOn.{grows-trans, may-read}
 use Rattle.ac_automaton.proofs.automaton.overlap.Lister.next.Given.{Over}
 use Rattle.ac_automaton.proofs.automaton.overlap.Lister.next.Goals.{After-give, After-read_byte-state, Joined-reached-end}
 use Rattle.ac_automaton.proofs.automaton.overlap.Lister.next.Goals.{then-is_some-via-then-is_some, then-is_some-via-else-is_some+then-is_dead-2}
@@ -254,7 +254,7 @@ returns-then-is_some-clause-come g c = λ began come.
     let gave =
     gave_there g s c.new.result c.give-found.result c.give-found.new.reached c.new.ensures c.give-found.ensures in
     let before = c.loop-at.invariant.come began come in
-    let on = c.read_byte-state.ensures.come began before
+    let on = c.read_byte-state.ensures.come began (may-read (built_of g s) self.anchored began before)
     (c.loop-at.invariant.living _ before.reaches.there) in
     subst (λ (state : ℕ). HasCome (stands g s) g.A.Automaton.LOOKS (g.A.Automaton.filters self.automaton.now)
     (built_of g s) self.anchored began state c.give-found.new.reached.at c.read_byte-state.new.tape
@@ -299,7 +299,8 @@ loop-at-preserved g c =
       onward = omega arith;
       unread = omega arith;
       grows = grows-trans inv.grows c.read_byte-state.ensures.grows;
-      come = λ began come. c.read_byte-state.ensures.come began (inv.come began come)
+      come = λ began come. c.read_byte-state.ensures.come began
+          (may-read (built_of g s) c.args.self.now.anchored began (inv.come began come))
           (inv.living _ (inv.come began come).reaches.there);
     }
 
