@@ -1,5 +1,5 @@
 -- An engine that was named is what the searcher is built by.
-use Rattle.std.proofs.Common.{◌≡◌, ap, sym, ◌∙◌, Option, Some, None, inl, inr}
+use Rattle.std.proofs.Common.{◌≡◌, ap, sym, subst, ◌∙◌, Option, Some, None, inl, inr}
 use Rattle.std.specs.Prelude.{MatchResult, Result, Ok, Err, length}
 use Rattle.ac_util.specs.declared.error.BuildError.{BuildError}
 use Rattle.ac_util.specs.Built.{Built}
@@ -8,8 +8,8 @@ use Rattle.ac_engines.specs.Builds.{refusal_or}
 use Rattle.ac_search.specs.declared.ahocorasick.choice.AhoCorasickKind.{AhoCorasickKind}
 use Rattle.ac_search.specs.declared.ahocorasick.choice.AhoCorasickKind.TheVariants.{ContiguousNFA, DFA}
 use Rattle.ac_search.specs.declared.ahocorasick.engine.Engine.{Engine}
-use Rattle.ac_search.specs.Engines.{IsMadeFrom, Supports, searcher_of}
-use Rattle.ac_search.specs.Searchers.{IsBuilt, Settings, choose_kind, chosen, engine_refusal, engine_settings, fits, kind_for, made_from, refusal_of, size_refusal}
+use Rattle.ac_search.specs.Engines.{IsMadeFrom, Supports, searcher_of, states_of}
+use Rattle.ac_search.specs.Searchers.{AreLaidOut, IsBuilt, Settings, choose_kind, chosen, engine_refusal, engine_settings, fits, kind_for, made_from, refusal_of, size_refusal}
 
 module _ (settings : Settings) (from : Built) (kind : AhoCorasickKind)
     (b : IsEngineBuilt (engine_settings settings) from.patterns from) (named : settings.kind ≡ Some kind) where
@@ -42,6 +42,7 @@ module _ (settings : Settings) (from : Built) (kind : AhoCorasickKind)
       built = h.0.built ∙ ap (λ (built : Built). record built { start_kind = settings.start_kind }) b.value;
       filters = h.0.filters;
       kind = h.0.name ∙ sym is-chosen;
+      laid_out = subst (λ (built : Built). AreLaidOut settings built (states_of engine)) b.value h.0.laid_out;
       allowed = record { within = b.allowed.within; fits = own-refusal ∙ h.1 };
     },
   )

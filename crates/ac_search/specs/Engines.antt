@@ -13,7 +13,7 @@ use Rattle.ac_search.specs.declared.ahocorasick.engine.EngineFindIter.{EngineFin
 use Rattle.ac_search.specs.declared.ahocorasick.engine.EngineFindIter.TheVariants.{Contiguous as ByContiguous, Dfa as ByDfa, Noncontiguous as ByNoncontiguous}
 use Rattle.ac_search.specs.declared.ahocorasick.engine.EngineFindOverlappingIter.{EngineFindOverlappingIter}
 use Rattle.ac_search.specs.declared.ahocorasick.engine.EngineFindOverlappingIter.TheVariants.{Contiguous as ListedByContiguous, Dfa as ListedByDfa, Noncontiguous as ListedByNoncontiguous}
-use Rattle.ac_search.specs.Searchers.{Searcher, Settings}
+use Rattle.ac_search.specs.Searchers.{AreLaidOut, Searcher, Settings}
 use Rattle.ac_search.specs.States.{States, Contiguous as OfWords, Dfa as OfTable, Noncontiguous as OfTrie}
 
 -- what an engine was built from, whether to have a prefilter, its name and its states
@@ -58,6 +58,7 @@ pub record IsMadeFrom {Z : Type 0} (from : Built) (settings : Settings) (engine 
       ≡ record from { start_kind = settings.start_kind }
   pub supports : Supports engine settings.start_kind
   pub filters : filters_of engine ≡ false
+  pub laid_out : AreLaidOut settings from (states_of engine)
   pub name : name_of engine ≡ kind
 
 abbrev pub walking_in : {Z : Type 0} → EngineFindIter Z → Walking

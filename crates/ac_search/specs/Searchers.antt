@@ -1,6 +1,6 @@
 -- What is seen of a searcher: what it was built from, whether to have a prefilter, and the name and the states of
 -- its engine. No answer of a search hangs on the last three; an overlapping state is one for these states alone.
-use Rattle.std.specs.Prelude.{◌≡◌, ℕ, nat_le, Bool, false, true, List, length, Option, None, Some, MatchOption, ◌&&◌, if◌then◌else◌}
+use Rattle.std.specs.Prelude.{◌≡◌, ℕ, nat_le, Bool, false, true, List, length, Option, None, Some, MatchOption, ◌&&◌, if◌then◌else◌, ⊤}
 use Rattle.ac_util.specs.declared.error.BuildError.{BuildError}
 use Rattle.ac_util.specs.declared.search.MatchKind.{MatchKind}
 use Rattle.ac_util.specs.declared.search.MatchKind.TheVariants.{Standard}
@@ -9,12 +9,12 @@ use Rattle.ac_util.specs.declared.search.StartKind.TheVariants.{Anchored, Both, 
 use Rattle.ac_util.specs.Built.{Built}
 use Rattle.ac_util.specs.Limits.{limit_refusal}
 use Rattle.ac_automaton.specs.Builds.{EngineSettings, IsRefused, engine_built_by, state_refusal}
-use Rattle.ac_engines.specs.Builds.{refusal_or, table_refusal_from}
+use Rattle.ac_engines.specs.Builds.{classes_by, refusal_or, table_refusal_from}
 use Rattle.ac_engines.specs.PackedBuilds.{packed_refusal_from}
 use Rattle.ac_search.specs.declared.ahocorasick.choice.AhoCorasickKind.{AhoCorasickKind}
 use Rattle.ac_search.specs.declared.ahocorasick.choice.AhoCorasickKind.TheVariants.{ContiguousNFA, DFA, NoncontiguousNFA}
 use Rattle.ac_search.specs.declared.ahocorasick.choice.TheConstants.{MOST_FOR_TABLE}
-use Rattle.ac_search.specs.States.{States}
+use Rattle.ac_search.specs.States.{States, Contiguous, Dfa, Noncontiguous}
 
 pub record Searcher : Type 0 where
   pub built : Built
@@ -120,10 +120,20 @@ abbrev pub RefusesSearcher : Settings → List (List ℕ) → BuildError → Typ
 RefusesSearcher settings patterns e =
     MatchOption (limit_refusal patterns) (IsRefused (engine_refusal settings patterns) e) (λ refusal. e ≡ refusal)
 
--- a build by these settings has succeeded: the searcher is over these patterns, and no limit refused it. No engine
--- has a prefilter yet
+-- the states of an engine, made from this automaton, are laid out by these settings: with the dense depth that was
+-- set, and with classes of bytes or without
+abbrev pub AreLaidOut : Settings → Built → States → Type 0
+AreLaidOut settings from (Noncontiguous trie) = ⊤
+AreLaidOut settings from (Contiguous packed) =
+    (packed.dense_depth ≡ settings.dense_depth)
+    × (packed.classes ≡ classes_by settings.byte_classes from.fold from.patterns)
+AreLaidOut settings from (Dfa table) = table.classes ≡ classes_by settings.byte_classes from.fold from.patterns
+
+-- a build by these settings has succeeded: the searcher is over these patterns, laid out as was set, and no limit
+-- refused it. No engine has a prefilter yet
 pub record IsBuilt (settings : Settings) (patterns : List (List ℕ)) (searcher : Searcher) : Type 0 where
   pub built : searcher.built ≡ built_by settings patterns
   pub filters : searcher.filters ≡ false
   pub kind : searcher.kind ≡ chosen settings patterns
   pub allowed : IsBuildable settings patterns
+  pub laid_out : AreLaidOut settings (made_from settings patterns) searcher.states

@@ -35,7 +35,7 @@ pub enum Outcome {
 /// - `Usage` exactly where the words ask for nothing that there is, or the last pattern of the mode `replace` has no
 ///   text.
 /// - `TooManyPatterns` and `PatternTooLong` exactly where that limit of the list is passed.
-/// - `TooManyStates` only where the engine would need more states than there are numbers.
+/// - `TooManyStates` only where the engine that serves would be too large for the numbers of states.
 /// - `OverlappingKind` exactly where a leftmost kind is asked for in the mode `overlap`, and no limit or want of
 ///   memory refused the searcher.
 /// - `Io` where a read or a write failed, and `WriteZero` where a write took no byte.

@@ -128,8 +128,9 @@ impl AhoCorasickBuilder {
         self
     }
 
-    /// Sets how many bytes a string has at least whose state in a contiguous automaton has targets only for the bytes
-    /// that lead on. It is 2 unless set. The other engines have no such states.
+    /// Sets below how many bytes of its string a state of a contiguous automaton has a target for each class of bytes,
+    /// and not only for those that lead on. It is 2 unless set. The dead state, the starts, and states with more than 127
+    /// transitions have one for each class always. The other engines don't heed it.
     ///
     /// It changes no answer of a search. Where no engine was named, a contiguous automaton may be too large with more
     /// such states, and then the noncontiguous one serves.
