@@ -67,7 +67,7 @@ searched-nothing most filters kind order q tape counts past unread = record {
 
 module _ (built : Built) (anchored : Anchored) (earliest : Bool) (began : Beginning) where
   -- what is searched
-  abbrev q : Search
+  abbrev pub q : Search
   q = span_of built anchored began
 
   -- the search as far as a place, and the node that the automaton has reached there
@@ -154,21 +154,16 @@ module _ (built : Built) (anchored : Anchored) (earliest : Bool) (began : Beginn
           decided = decided;
         }
 
-  -- a find that stops at the first match has read enough where its start state has one
-  pub searched-first : {stands : ℕ → Node → Type 0} {most : ℕ} {filters : Bool} {state : ℕ}
-      → HasCome stands most filters built anchored began state began.start began.tape began.counts
-      → (r : Option Occurrence) → is_some r ≡ true → order ≡ Standard → began.start ≤ began.end
-      → r ≡ pick order (up_to began.start)
-      → HasSearched most filters built.kind order q r began.tape began.tape began.counts began.counts
-  searched-first come None some standard ordered picked = absurd (cc)
-  searched-first come (Some m) some standard ordered picked =
-      searched come (Some m) (picked-final began.start m ordered standard picked) ordered picked
-      (λ _. ends-at_start m picked) (λ _. inl (standard, (λ none. absurd (cc))))
-    where
-      ends-at_start : (m : Occurrence) → Some m ≡ pick order (up_to began.start) → m.end ≡ began.start
-      ends-at_start m e =
-          let span = pick-in_span order (up_to began.start) m (sym e) in
-          let l = span.from_low in let o = span.in_order in let h = span.to_high in omega arith
+  -- a find that stops at the first match has read enough where it finds one
+  pub searched-first : {stands : ℕ → Node → Type 0} {most : ℕ} {filters : Bool} {state at : ℕ} {tape : Taped}
+      {counts : Counts} → HasCome stands most filters built anchored began state at tape counts
+      → (r : Option Occurrence) → is_some r ≡ true → order ≡ Standard → at ≤ began.end
+      → r ≡ found_at built anchored (node_at at) at → r ≡ pick order (up_to at)
+      → HasSearched most filters built.kind order q r began.tape tape began.counts counts
+  searched-first come None some standard up is picked = absurd (cc)
+  searched-first {at = at} come (Some m) some standard up is picked =
+      searched come (Some m) (picked-final at m up standard picked) up picked
+      (λ _. found-end built anchored (node_at at) at m (sym is)) (λ _. inl (standard, (λ none. absurd (cc))))
 
   -- one more byte is read, after r was picked
   module _ (at : ℕ) (r : Option Occurrence) (ordered : began.start ≤ at) (room : at < length began.tape.bytes)

@@ -6,6 +6,7 @@ pub mod Counting
 pub mod Due
 pub mod Exchanging
 pub mod FindLoop
+pub mod FindSkipping
 pub mod Follows
 pub mod Grown
 pub mod Heads
@@ -14,6 +15,7 @@ mod Leading
 pub mod Lengths
 pub mod Linking
 pub mod ListLoop
+pub mod ListSkipping
 pub mod ListsOf
 pub mod Misses
 pub mod Orders

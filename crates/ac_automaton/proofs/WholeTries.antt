@@ -274,9 +274,9 @@ module _ (texts : List (List ℕ)) {fold : Bool} {kind : MatchKind} {sorted : Li
       fold h.settled states h.meant counted
 
   -- the states are those of an automaton
-  pub whole-table : IsTable (trie_of texts fold kind (numbers sorted) transitions states)
+  pub whole-table : (filters : Bool) → IsTable (trie_of texts fold kind filters (numbers sorted) transitions states)
       (nodes_of sorted queue)
-  whole-table =
+  whole-table filters =
       let named = length-map queue (λ (q : QueuedState). Some (word sorted q)) in
       record {
         both = refl;

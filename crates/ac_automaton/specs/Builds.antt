@@ -1,5 +1,5 @@
 -- What a build of an automaton is asked for, what it answers, and why it may be refused.
-use Rattle.std.specs.Prelude.{◌≡◌, ◌⊎◌, ℕ, ◌+◌, nat_lt, Bool, false, List, Option, map, Some, None, MatchOption, if◌then◌else◌}
+use Rattle.std.specs.Prelude.{◌≡◌, ◌⊎◌, ℕ, ◌+◌, nat_lt, Bool, false, true, List, Option, map, Some, None, MatchOption, if◌then◌else◌}
 use Rattle.ac_util.specs.declared.error.BuildError.{BuildError}
 use Rattle.ac_util.specs.declared.error.BuildError.TheVariants.{Memory, StateIdOverflow}
 use Rattle.ac_util.specs.declared.primitives.TheConstants.{GREATEST}
@@ -10,6 +10,7 @@ use Rattle.ac_util.specs.Built.{Built}
 use Rattle.ac_util.specs.Limits.{limit_refusal}
 use Rattle.ac_util.specs.Sameness.{plain}
 use Rattle.ac_util.specs.Sizes.{state_count}
+use Rattle.ac_automaton.specs.Tries.{Trie}
 
 -- the refusal of plain patterns that have more nodes than there are state numbers, or None
 abbrev pub too_many_states : MatchKind → List (List ℕ) → Option BuildError
@@ -17,13 +18,14 @@ too_many_states kind patterns =
     if nat_lt (GREATEST + 1) (state_count kind patterns) then Some (StateIdOverflow GREATEST (GREATEST + 1))
     else None
 
--- the match kind, and whether case is ignored
+-- the match kind, whether case is ignored, and whether to have a prefilter
 pub record EngineSettings : Type 0 where
   pub kind : MatchKind
   pub fold : Bool
+  pub prefilter : Bool
 
 abbrev pub usual_engine_settings : EngineSettings
-usual_engine_settings = record { kind = Standard; fold = false }
+usual_engine_settings = record { kind = Standard; fold = false; prefilter = true }
 
 -- a trie with failure links over these patterns, which has both starts
 abbrev pub engine_built_by : EngineSettings → List (List ℕ) → Built
@@ -44,8 +46,9 @@ pub record IsAllowed (settings : EngineSettings) (patterns : List (List ℕ)) : 
   pub few : state_refusal settings patterns ≡ None
 
 -- a build by these settings has succeeded
-pub record IsEngineBuilt (settings : EngineSettings) (patterns : List (List ℕ)) (built : Built) : Type 0 where
-  pub value : built ≡ engine_built_by settings patterns
+pub record IsEngineBuilt (settings : EngineSettings) (patterns : List (List ℕ)) (trie : Trie) : Type 0 where
+  pub value : trie.built ≡ engine_built_by settings patterns
+  pub filters : trie.filters ≡ settings.prefilter
   pub allowed : IsAllowed settings patterns
 
 -- why a build of any engine is refused within the limits of the list: for want of memory, or by a limit of its own

@@ -9,11 +9,11 @@ use Rattle.ac_util.specs.Counts.{Counts, Taped}
 use Rattle.ac_util.specs.Asked.{Asked}
 use Rattle.ac_util.specs.Node.{Node, depth}
 use Rattle.ac_util.specs.Occurrence.{Occurrence, occurrence}
-use Rattle.ac_util.specs.Pick.{pick}
+use Rattle.ac_util.specs.Pick.{order_of, pick}
 use Rattle.ac_util.specs.Prefilters.{may_skip}
 use Rattle.ac_util.specs.Search.{Search, pattern_of}
 use Rattle.ac_automaton.specs.Automata.{matches_of}
-use Rattle.ac_automaton.specs.Progress.{HasRead, StopsAtDead, most_looks, node_at}
+use Rattle.ac_automaton.specs.Progress.{Beginning, HasCome, HasRead, Reaches, StopsAtDead, most_looks, node_at, span_of}
 
 -- what a core is asked: a span of the bytes of a tape, and two options
 abbrev pub asked_of : List ℕ → ℕ → ℕ → Anchored → Bool → Asked
@@ -69,3 +69,20 @@ pub record FitsIn (anchored : Anchored) (u : Node) (start end : ℕ) : Type 0 wh
 -- what a state that stands for the node finds where the text read ends: the first of the matches that count
 abbrev pub found_at : Built → Anchored → Node → ℕ → Option Occurrence
 found_at built anchored u end = option_map (place_of built end) (slice_get (matches_of built anchored u) 0)
+
+-- a find may go on from a place: its automaton stands there at the node reached, alive, and of the span so far it
+-- picks what the node finds
+pub record IsReady (stands : ℕ → Node → Type 0) (built : Built) (anchored : Anchored) (stops : Bool) (q : Search)
+    (state at : ℕ) : Type 0 where
+  pub reaches : Reaches stands built.kind q state at
+  pub living : node_at built.kind q at ≢ None
+  pub picked : found_at built anchored (node_at built.kind q at) at
+      ≡ pick (order_of built.kind stops) (record q { high = at })
+
+-- a find that began in this way may read on from a place, with what it has read and counted so far
+pub record MayReadOn (stands : ℕ → Node → Type 0) (most : ℕ) (filters : Bool) (built : Built) (anchored : Anchored)
+    (stops : Bool) (began : Beginning) (state at : ℕ) (tape : Taped) (counts : Counts) : Type 0 where
+  pub ready : IsReady stands built anchored stops (span_of built anchored began) state at
+  pub come : HasCome stands most filters built anchored began state at tape counts
+  pub within : at ≤ began.end
+  pub unread : tape.place ≤ at

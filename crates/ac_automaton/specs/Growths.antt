@@ -207,5 +207,5 @@ pub record HasBegun {Z : Type 0} (fold : Bool) (texts : List (List ℕ)) (growth
 pub record IsWhole (texts : List (List ℕ)) (fold : Bool) (kind : MatchKind) (order : List ℕ)
     (transitions : List Transition) (states : List State) : Type 0 where
   pub nodes : List Node
-  pub table : IsTable (trie_of texts fold kind order transitions states) nodes
+  pub table : (filters : Bool) → IsTable (trie_of texts fold kind filters order transitions states) nodes
   pub few : too_many_states kind (map (plain fold) texts) ≡ None

@@ -67,6 +67,15 @@ pub record Beginning : Type 0 where
   pub tape : Taped
   pub counts : Counts
 
+-- a search of start..end that was handed a tape of these bytes, read up to a place
+abbrev pub began_at : ℕ → ℕ → List ℕ → ℕ → Counts → Beginning
+began_at start end bytes place counts = record {
+  start = start;
+  end = end;
+  tape = record { bytes = bytes; place = place };
+  counts = counts;
+}
+
 -- the search of an automaton that began in this way
 abbrev pub span_of : Built → Anchored → Beginning → Search
 span_of built anchored began = search_of built anchored began.tape.bytes began.start began.end

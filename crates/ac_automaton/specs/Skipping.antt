@@ -7,7 +7,7 @@ use Rattle.ac_util.specs.Counts.{Counts, Taped}
 use Rattle.ac_util.specs.Looks.{credit}
 use Rattle.ac_util.specs.Node.{Node}
 use Rattle.ac_util.specs.Prefilters.{IsSkipFor, Skip, may_skip, skip_for}
-use Rattle.ac_util.specs.Prefilters.Skip.{FirstOf}
+use Rattle.ac_util.specs.Prefilters.Skip.{FirstOf, Needle}
 use Rattle.ac_automaton.specs.Automata.{matches_of}
 use Rattle.ac_automaton.specs.Progress.{Beginning, HasRead, Reaches, most_looks, node_at, search_of, span_of}
 
@@ -20,6 +20,12 @@ pub record Skips (filters : Bool) (built : Built) (skip : Skip) : Type 0 where
 pub record SkipsByBytes (filters : Bool) (built : Built) (skip : Skip) : Type 0 where
   pub bytes : List ℕ
   pub by_bytes : skip ≡ FirstOf bytes
+  pub skips : Skips filters built skip
+
+-- and it skips by the only pattern itself
+pub record IsNeedle (filters : Bool) (built : Built) (skip : Skip) : Type 0 where
+  pub needle : List ℕ
+  pub by_needle : skip ≡ Needle needle
   pub skips : Skips filters built skip
 
 -- at no place after `from` and before `to` has the node reached a match

@@ -20,18 +20,20 @@ use Rattle.ac_automaton.specs.declared.nfa.noncontiguous.state.TheConstants.{DEA
 use Rattle.ac_automaton.specs.declared.nfa.noncontiguous.state.Transition.{Transition}
 use Rattle.ac_automaton.specs.Automata.{plain_of, Lists}
 
--- what an automaton was built from, the numbers of the patterns that take part in the sorted order, the
--- transitions of all states, and the states
+-- what an automaton was built from, and whether to have a prefilter; the numbers of the patterns that take part in
+-- the sorted order, the transitions of all states, and the states
 pub record Trie : Type 0 where
   pub built : Built
+  pub filters : Bool
   pub order : List ℕ
   pub transitions : List Transition
   pub states : List State
 
 -- a trie over these patterns, with both starts
-abbrev pub trie_of : List (List ℕ) → Bool → MatchKind → List ℕ → List Transition → List State → Trie
-trie_of patterns fold kind order transitions states = record {
+abbrev pub trie_of : List (List ℕ) → Bool → MatchKind → Bool → List ℕ → List Transition → List State → Trie
+trie_of patterns fold kind filters order transitions states = record {
   built = record { patterns = patterns; fold = fold; kind = kind; start_kind = Both };
+  filters = filters;
   order = order;
   transitions = transitions;
   states = states;

@@ -180,6 +180,7 @@ module _ (trie : Trie) (start_kind : StartKind) (classes : List ℕ) (exponent :
       abbrev pub table : Table
       table = record {
         built = built;
+        filters = trie.filters;
         classes = classes;
         stride2 = exponent;
         entries = entries;

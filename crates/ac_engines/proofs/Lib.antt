@@ -17,6 +17,7 @@ pub mod Numbers
 pub mod OneRow
 pub mod Owning
 pub mod PackedBuilding
+pub mod PackedBuilt
 pub mod PackedNumbers
 pub mod PackedStates
 pub mod PackedSteps

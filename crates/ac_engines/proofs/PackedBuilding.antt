@@ -12,16 +12,17 @@ use Rattle.ac_engines.specs.PackedPlaces.{HasPlaces, MayPack, PackPlan, front_en
 
 -- words whose parts are those of a plan were packed by it
 pub packed-same : (q : PackPlan) (nodes : List Node) (numbers words : List ℕ) (patterns : List (List ℕ)) (fold : Bool)
-    (kind : MatchKind) (dense_depth : ℕ) (classes : List ℕ) (start anchored_start match_end : ℕ)
+    (kind : MatchKind) (filters : Bool) (dense_depth : ℕ) (classes : List ℕ) (start anchored_start match_end : ℕ)
     → patterns ≡ q.trie.built.patterns → fold ≡ q.trie.built.fold → kind ≡ q.trie.built.kind
-    → q.trie.built.start_kind ≡ Both → dense_depth ≡ q.dense_depth → classes ≡ q.classes
+    → q.trie.built.start_kind ≡ Both → filters ≡ q.trie.filters → dense_depth ≡ q.dense_depth → classes ≡ q.classes
     → start ≡ slice_index_or numbers START 0 → anchored_start ≡ slice_index_or numbers ANCHORED_START 0
     → match_end ≡ front_end q nodes
-    → packed_from patterns fold kind dense_depth classes words start anchored_start match_end
+    → packed_from patterns fold kind filters dense_depth classes words start anchored_start match_end
     ≡ packed_of q nodes numbers words
-packed-same q nodes numbers words patterns fold kind dense_depth classes start anchored_start match_end are folds kinds
-    both depth class starts anchored_starts ends = λ i. record {
+packed-same q nodes numbers words patterns fold kind filters dense_depth classes start anchored_start match_end are
+    folds kinds both filter depth class starts anchored_starts ends = λ i. record {
       built = record { patterns = are i; fold = folds i; kind = kinds i; start_kind = sym both i };
+      filters = filter i;
       dense_depth = depth i;
       classes = class i;
       words = words;

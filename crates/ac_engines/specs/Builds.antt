@@ -16,16 +16,23 @@ use Rattle.ac_automaton.specs.Builds.{EngineSettings, IsRefused, engine_built_by
 use Rattle.ac_engines.specs.Layouts.{table_rows}
 use Rattle.ac_engines.specs.Rows.{Table}
 
--- the match kind, whether case is ignored, which starts there are, and whether bytes that need not be told apart
--- share a class
+-- the match kind, whether case is ignored, which starts there are, whether bytes that need not be told apart share a
+-- class, and whether to have a prefilter
 pub record TableSettings : Type 0 where
   pub kind : MatchKind
   pub fold : Bool
   pub start_kind : StartKind
   pub byte_classes : Bool
+  pub prefilter : Bool
 
 abbrev pub usual_table_settings : TableSettings
-usual_table_settings = record { kind = Standard; fold = false; start_kind = Unanchored; byte_classes = true }
+usual_table_settings = record {
+  kind = Standard;
+  fold = false;
+  start_kind = Unanchored;
+  byte_classes = true;
+  prefilter = true;
+}
 
 -- the classes by which a table over these patterns steps
 abbrev pub classes_by : Bool → Bool → List (List ℕ) → List ℕ
@@ -50,7 +57,7 @@ refusal_or (Some e) later = Some e
 
 -- the automaton from which these settings build a table
 abbrev pub trie_settings : TableSettings → EngineSettings
-trie_settings settings = record { kind = settings.kind; fold = settings.fold }
+trie_settings settings = record { kind = settings.kind; fold = settings.fold; prefilter = settings.prefilter }
 
 abbrev pub trie_by : TableSettings → List (List ℕ) → Built
 trie_by settings patterns = engine_built_by (trie_settings settings) patterns
@@ -62,10 +69,12 @@ table_refusal_by settings patterns =
     refusal_or (state_refusal (trie_settings settings) patterns)
     (table_refusal_from settings.start_kind settings.byte_classes (trie_by settings patterns))
 
--- a table with these starts and classes has been built from an automaton: it answers as that one does where it has
--- the start, and has no row too many
-pub record IsTableFrom (start_kind : StartKind) (byte_classes : Bool) (from : Built) (t : Table) : Type 0 where
+-- a table with these starts and classes has been built from an automaton, which was built to have a prefilter or not:
+-- it answers as that one does where it has the start, it is to have a prefilter as that one, and has no row too many
+pub record IsTableFrom (start_kind : StartKind) (byte_classes : Bool) (from : Built) (on : Bool) (t : Table)
+    : Type 0 where
   pub built : t.built ≡ record from { start_kind = start_kind }
+  pub filters : t.filters ≡ on
   pub classes : t.classes ≡ classes_by byte_classes from.fold from.patterns
   pub stride2 : t.stride2 ≡ stride2 t.classes
   pub rows : length t.entries ≡ table_rows start_kind (state_count from.kind (plain_of from)) * stride t.classes
@@ -78,7 +87,7 @@ RefusesTableFrom start_kind byte_classes from e =
 
 -- a build by these settings has succeeded
 pub record IsTableBuilt (settings : TableSettings) (patterns : List (List ℕ)) (t : Table) : Type 0 where
-  pub value : IsTableFrom settings.start_kind settings.byte_classes (trie_by settings patterns) t
+  pub value : IsTableFrom settings.start_kind settings.byte_classes (trie_by settings patterns) settings.prefilter t
   pub within : limit_refusal patterns ≡ None
   pub few : table_refusal_by settings patterns ≡ None
 

@@ -13,16 +13,23 @@ use Rattle.ac_engines.specs.Builds.{classes_by, refusal_or}
 use Rattle.ac_engines.specs.Packing.{Packed}
 use Rattle.ac_engines.specs.Sizes.{packed_words}
 
--- the match kind, whether case is ignored, the length below which the states of strings are dense, and whether bytes
--- that need not be told apart share a class
+-- the match kind, whether case is ignored, the length below which the states of strings are dense, whether bytes that
+-- need not be told apart share a class, and whether to have a prefilter
 pub record PackedSettings : Type 0 where
   pub kind : MatchKind
   pub fold : Bool
   pub dense_depth : ℕ
   pub byte_classes : Bool
+  pub prefilter : Bool
 
 abbrev pub usual_packed_settings : PackedSettings
-usual_packed_settings = record { kind = Standard; fold = false; dense_depth = 2; byte_classes = true }
+usual_packed_settings = record {
+  kind = Standard;
+  fold = false;
+  dense_depth = 2;
+  byte_classes = true;
+  prefilter = true;
+}
 
 -- how many words are packed from an automaton
 abbrev pub words_from : ℕ → Bool → Built → ℕ
@@ -38,7 +45,7 @@ packed_refusal_from dense_depth byte_classes from =
 
 -- the automaton from which these settings pack words
 abbrev pub unpacked_settings : PackedSettings → EngineSettings
-unpacked_settings settings = record { kind = settings.kind; fold = settings.fold }
+unpacked_settings settings = record { kind = settings.kind; fold = settings.fold; prefilter = settings.prefilter }
 
 abbrev pub unpacked_by : PackedSettings → List (List ℕ) → Built
 unpacked_by settings patterns = engine_built_by (unpacked_settings settings) patterns
@@ -50,9 +57,11 @@ packed_refusal_by settings patterns =
     refusal_or (state_refusal (unpacked_settings settings) patterns)
     (packed_refusal_from settings.dense_depth settings.byte_classes (unpacked_by settings patterns))
 
--- words with these classes and this dense depth were packed from an automaton, and no word too many
-pub record IsPackedFrom (dense_depth : ℕ) (byte_classes : Bool) (from : Built) (p : Packed) : Type 0 where
+-- words with these classes and this dense depth were packed from an automaton, which was built to have a prefilter or
+-- not: they are to have one as that automaton, and there is no word too many
+pub record IsPackedFrom (dense_depth : ℕ) (byte_classes : Bool) (from : Built) (on : Bool) (p : Packed) : Type 0 where
   pub built : p.built ≡ from
+  pub filters : p.filters ≡ on
   pub dense_depth_is : p.dense_depth ≡ dense_depth
   pub classes : p.classes ≡ classes_by byte_classes from.fold from.patterns
   pub size : length p.words ≡ words_from dense_depth byte_classes from
@@ -64,7 +73,7 @@ RefusesPackedFrom dense_depth byte_classes from e =
 
 -- a build by these settings has succeeded
 pub record IsPackedBuilt (settings : PackedSettings) (patterns : List (List ℕ)) (p : Packed) : Type 0 where
-  pub value : IsPackedFrom settings.dense_depth settings.byte_classes (unpacked_by settings patterns) p
+  pub value : IsPackedFrom settings.dense_depth settings.byte_classes (unpacked_by settings patterns) settings.prefilter p
   pub within : limit_refusal patterns ≡ None
   pub few : packed_refusal_by settings patterns ≡ None
 

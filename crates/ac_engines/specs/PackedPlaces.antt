@@ -73,6 +73,7 @@ module _ (q : PackPlan) (nodes : List Node) where
   abbrev pub packed_of : List ℕ → List ℕ → Packed
   packed_of numbers words = record {
     built = q.trie.built;
+    filters = q.trie.filters;
     dense_depth = q.dense_depth;
     classes = q.classes;
     words = words;

@@ -21,10 +21,11 @@ use Rattle.std.proofs.Common.{ap, sym, ◌∙◌}
 use Rattle.std.proofs.lemmas.List.{append-nil}
 use Rattle.ac_engines.specs.Words.{BeginsWith, Spelling}
 
--- what the words were built from, below which length states are dense, the class of each byte, the words, the numbers
--- of the starts, and from which number on no state has matches
+-- what the words were built from, and whether to have a prefilter; below which length states are dense, the class of
+-- each byte, the words, the numbers of the starts, and from which number on no state has matches
 pub record Packed : Type 0 where
   pub built : Built
+  pub filters : Bool
   pub dense_depth : ℕ
   pub classes : List ℕ
   pub words : List ℕ
@@ -33,9 +34,10 @@ pub record Packed : Type 0 where
   pub match_end : ℕ
 
 -- words that were packed from these patterns
-abbrev pub packed_from : List (List ℕ) → Bool → MatchKind → ℕ → List ℕ → List ℕ → ℕ → ℕ → ℕ → Packed
-packed_from patterns fold kind dense_depth classes words start anchored_start match_end = record {
+abbrev pub packed_from : List (List ℕ) → Bool → MatchKind → Bool → ℕ → List ℕ → List ℕ → ℕ → ℕ → ℕ → Packed
+packed_from patterns fold kind filters dense_depth classes words start anchored_start match_end = record {
   built = record { patterns = patterns; fold = fold; kind = kind; start_kind = Both };
+  filters = filters;
   dense_depth = dense_depth;
   classes = classes;
   words = words;

@@ -17,10 +17,11 @@ use Rattle.ac_util.specs.Pieces.{pieces}
 use Rattle.ac_util.specs.Refusal.{start_refusal}
 use Rattle.ac_automaton.specs.Automata.{matches_of, plain_of, step_of}
 
--- what a table was built from, the class of each byte, the exponent of the length of a row, the entries of all rows,
--- and the match list of each row up to the last that has one
+-- what a table was built from, and whether to have a prefilter; the class of each byte, the exponent of the length of
+-- a row, the entries of all rows, and the match list of each row up to the last that has one
 pub record Table : Type 0 where
   pub built : Built
+  pub filters : Bool
   pub classes : List ℕ
   pub stride2 : ℕ
   pub entries : List ℕ
@@ -88,9 +89,11 @@ pub record HasMatchesAmong (t : Table) (first end : ℕ) : Type 0 where
   pub starts : 4 * stride_of t ≤ end
 
 -- a table over these patterns
-abbrev pub table_of : List (List ℕ) → Bool → MatchKind → StartKind → List ℕ → ℕ → List ℕ → List ℕ → List ℕ → Table
-table_of patterns fold kind start_kind classes stride2 entries listed bounds = record {
+abbrev pub table_of : List (List ℕ) → Bool → MatchKind → StartKind → Bool → List ℕ → ℕ → List ℕ → List ℕ → List ℕ
+    → Table
+table_of patterns fold kind start_kind filters classes stride2 entries listed bounds = record {
   built = record { patterns = patterns; fold = fold; kind = kind; start_kind = start_kind };
+  filters = filters;
   classes = classes;
   stride2 = stride2;
   entries = entries;

@@ -1,5 +1,5 @@
 //! A table of steps: one look for each byte.
-ghost use Rattle.std.specs.Prelude.{◌≡◌, ℕ, ◌+◌, ◌<◌, ◌≤◌, false, IsTrue, List, length, MatchResult, slice_index_or};
+ghost use Rattle.std.specs.Prelude.{◌≡◌, ℕ, ◌+◌, ◌<◌, ◌≤◌, IsTrue, List, length, MatchResult, slice_index_or};
 ghost use Rattle.std.proofs.Common.{inl, refl};
 ghost use Rattle.ac_util.specs.Borrowed.{bytes_of};
 ghost use Rattle.ac_util.specs.Node.{Node};
@@ -7,6 +7,7 @@ ghost use Rattle.ac_engines.specs.Builds.{IsTableBuilt, RefusesTable, usual_tabl
 ghost use Rattle.ac_engines.specs.Rows.{HasMatchesAmong, IsTable, StandsFor, list_at};
 ghost use Rattle.ac_engines.specs.Rows.{stands-lists};
 
+use crate::prefilter::copy_of;
 use ac_automaton::automaton::{Automaton, MatchRest};
 use ac_util::alphabet::ByteClasses;
 use ac_util::error::{BuildError, MatchError};
@@ -60,31 +61,37 @@ pub struct DFA<A: Allocator = Global> {
     first_match: usize,
     /// Nor from this one on.
     match_end: usize,
+    /// Whether it was built to have a prefilter, where there is one for its patterns.
+    filters: bool,
+    prefilter: Option<Prefilter<A>>,
 }
 
 impl<A: Allocator> Model for DFA<A> {
-    ghost use Rattle.std.specs.Prelude.{◌≡◌, ◌≤◌, ◌^◌, List, ℕ, length};
+    ghost use Rattle.std.specs.Prelude.{◌≡◌, ◌≤◌, ◌^◌, List, ℕ, IfSome, length, option_map};
     ghost use Rattle.ac_util.specs.declared.search.Anchored.TheVariants.{No, Yes};
     ghost use Rattle.ac_util.specs.Pieces.{AreBounds};
+    ghost use Rattle.ac_util.specs.Prefilters.{IsSkipFor, skip_for, skip_of};
     ghost use Rattle.ac_util.specs.Sizes.{longest_len, shortest_len};
     ghost use Rattle.ac_engines.specs.Rows.{HasMatchesAmong, IsTable, Table, start_number, table_of};
 
     ghost Value = { Table };
 
-    ghost view = { λ d. table_of d.patterns.value d.fold d.kind d.start_kind d.classes d.stride2 d.table.items
-        d.lists.listed.items d.lists.bounds.items };
+    ghost view = { λ d. table_of d.patterns.value d.fold d.kind d.start_kind d.filters d.classes d.stride2
+        d.table.items d.lists.listed.items d.lists.bounds.items };
 
     ghost invariant = { λ d. record {
-      table : (place : List ℕ → ℕ) × IsTable (table_of d.patterns.value d.fold d.kind d.start_kind d.classes d.stride2
-          d.table.items d.lists.listed.items d.lists.bounds.items) place;
+      table : (place : List ℕ → ℕ) × IsTable (table_of d.patterns.value d.fold d.kind d.start_kind d.filters d.classes
+          d.stride2 d.table.items d.lists.listed.items d.lists.bounds.items) place;
       shortest : d.shortest ≡ shortest_len d.patterns.value;
       longest : d.longest ≡ longest_len d.patterns.value;
       few : d.stride2 ≤ 8;
       bounds : AreBounds d.lists.bounds.items (length d.lists.listed.items);
       start : d.start ≡ start_number d.start_kind No (2 ^ d.stride2);
       anchored_start : d.anchored_start ≡ start_number d.start_kind Yes (2 ^ d.stride2);
-      among : HasMatchesAmong (table_of d.patterns.value d.fold d.kind d.start_kind d.classes d.stride2 d.table.items
-          d.lists.listed.items d.lists.bounds.items) d.first_match d.match_end;
+      among : HasMatchesAmong (table_of d.patterns.value d.fold d.kind d.start_kind d.filters d.classes d.stride2
+          d.table.items d.lists.listed.items d.lists.bounds.items) d.first_match d.match_end;
+      skips : option_map skip_of d.prefilter ≡ skip_for d.filters d.fold d.patterns.value;
+      serves : IfSome d.prefilter (λ p. IsSkipFor (skip_of p) d.fold d.patterns.value);
     } };
 }
 
@@ -111,13 +118,15 @@ impl<A: Allocator + Clone> Clone for DFA<A> {
             anchored_start: self.anchored_start,
             first_match: self.first_match,
             match_end: self.match_end,
+            filters: self.filters,
+            prefilter: copy_of(&self.prefilter)?,
         })
     }
 }
 
 impl<A: Allocator + Clone> DFA<A> {
-    /// Builds an automaton with the usual settings: `MatchKind::Standard`, case counts, unanchored searches alone, and
-    /// bytes that need not be told apart share a class.
+    /// Builds an automaton with the usual settings: `MatchKind::Standard`, case counts, unanchored searches alone,
+    /// bytes that need not be told apart share a class, and a prefilter where there is one.
     ///
     /// # Errors
     /// As `Builder::build`.
@@ -188,7 +197,7 @@ impl<A: Allocator> Automaton for DFA<A> {
 
     ghost listed = { λ d s. list_at d s };
 
-    ghost filters = { λ d. false };
+    ghost filters = { λ d. d.filters };
 
     ghost one_or_two = { inl refl };
 
@@ -288,7 +297,7 @@ impl<A: Allocator> Automaton for DFA<A> {
     }
 
     fn prefilter(&self) -> Option<&Prefilter<A>> {
-        None
+        self.prefilter.as_ref()
     }
 }
 

@@ -4,5 +4,6 @@
 mod classes;
 pub mod dfa;
 pub mod nfa;
+mod prefilter;
 #[cfg(test)]
 mod samples;

@@ -1,8 +1,10 @@
 //! Searches that any engine is tried on.
 
 use ac_automaton::automaton::Automaton;
+use ac_util::patterns::Patterns;
+use ac_util::prefilter::{Candidate, Prefilter};
 use ac_util::search::MatchKind::{LeftmostFirst, LeftmostLongest, Standard};
-use ac_util::search::{Input, Match, MatchKind};
+use ac_util::search::{Input, Match, MatchKind, Span};
 use std::alloc::Global;
 use std::test::Fail;
 
@@ -149,6 +151,53 @@ pub(crate) const LISTINGS: [Row; 3] = [
         &[(0, 0, 2), (1, 0, 2), (0, 2, 4), (1, 2, 4)],
     ),
 ];
+
+/// Patterns, whether case is ignored, a haystack, and how many first bytes their prefilter skips by, if there is one.
+pub(crate) type Skipping = (&'static [&'static [u8]], bool, &'static [u8], Option<usize>);
+
+/// Prefilters of each kind, and lists of patterns that have none.
+pub(crate) const SKIPPING: [Skipping; 10] = [
+    (&[b"foo"], false, b"xxfoo", Some(0)),
+    (&[b"foo", b"bar"], false, b"xxbar", Some(2)),
+    (&[b"foo", b"bar", b"quux", b"baz"], false, b"zbx", Some(3)),
+    (
+        &[b"foo", b"bar", b"quux", b"baz", b"zip"],
+        false,
+        b"zbx",
+        None,
+    ),
+    (&[b"foo"], true, b"xFx", Some(2)),
+    (&[b"foo", b"bar"], true, b"xFx", None),
+    (&[b"1a", b"foo"], true, b"xF1", Some(3)),
+    (&[b"ab", b"ab"], false, b"xab", Some(1)),
+    (&[b"", b"a"], false, b"xa", None),
+    (&[], false, b"x", None),
+];
+
+/// What is seen of a prefilter: how many first bytes it skips by, and what it tells of a haystack.
+pub(crate) type Seen = Option<(usize, Candidate)>;
+
+/// Returns what is seen of a prefilter over a haystack.
+pub(crate) fn seen(prefilter: Option<&Prefilter>, haystack: &[u8]) -> Seen {
+    let prefilter = prefilter?;
+    let whole = Span {
+        start: 0,
+        end: haystack.len(),
+    };
+    Some((prefilter.byte_count(), prefilter.find_in(haystack, whole)))
+}
+
+/// Returns what is seen of the prefilter of patterns and their case.
+pub(crate) fn seen_of(
+    alloc: Global,
+    patterns: &[&[u8]],
+    fold: bool,
+    haystack: &[u8],
+) -> Result<Seen, Fail> {
+    let stored = Patterns::new(alloc, patterns)?;
+    let own = Prefilter::of(alloc, &stored, fold)?;
+    Ok(seen(own.as_ref(), haystack))
+}
 
 /// Returns what a row says of a match.
 pub(crate) fn told(m: &Match) -> Told {

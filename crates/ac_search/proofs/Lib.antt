@@ -1,3 +1,4 @@
+pub mod Fitting
 pub mod Named
 pub mod Served
 pub mod Shortest

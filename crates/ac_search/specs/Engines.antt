@@ -1,10 +1,11 @@
 -- What the engine of a searcher, and the iterators of an engine, are seen as.
-use Rattle.std.specs.Prelude.{◌≡◌, ◌⊎◌, Bool, false}
+use Rattle.std.specs.Prelude.{◌≡◌, ◌⊎◌, Bool}
 use Rattle.ac_util.specs.declared.search.StartKind.{StartKind}
 use Rattle.ac_util.specs.declared.search.StartKind.TheVariants.{Both}
 use Rattle.ac_util.specs.Built.{Built}
 use Rattle.ac_automaton.specs.Iterators.{Walking}
 use Rattle.ac_automaton.specs.Overlaps.{Overlapping}
+use Rattle.ac_automaton.specs.Tries.{Trie}
 use Rattle.ac_search.specs.declared.ahocorasick.choice.AhoCorasickKind.{AhoCorasickKind}
 use Rattle.ac_search.specs.declared.ahocorasick.choice.AhoCorasickKind.TheVariants.{ContiguousNFA, DFA, NoncontiguousNFA}
 use Rattle.ac_search.specs.declared.ahocorasick.engine.Engine.{Engine}
@@ -23,9 +24,9 @@ built_of (Contiguous nfa) = nfa.value.built
 built_of (Dfa dfa) = dfa.value.built
 
 abbrev pub filters_of : {Z : Type 0} → Engine Z → Bool
-filters_of (Noncontiguous nfa) = false
-filters_of (Contiguous nfa) = false
-filters_of (Dfa dfa) = false
+filters_of (Noncontiguous nfa) = nfa.value.filters
+filters_of (Contiguous nfa) = nfa.value.filters
+filters_of (Dfa dfa) = dfa.value.filters
 
 abbrev pub name_of : {Z : Type 0} → Engine Z → AhoCorasickKind
 name_of (Noncontiguous nfa) = NoncontiguousNFA
@@ -52,13 +53,13 @@ Supports engine start_kind =
     ((built_of engine).start_kind ≡ Both) ⊎ ((built_of engine).start_kind ≡ start_kind)
 
 -- an engine of this name was made from an automaton for a searcher by these settings
-pub record IsMadeFrom {Z : Type 0} (from : Built) (settings : Settings) (engine : Engine Z) (kind : AhoCorasickKind)
+pub record IsMadeFrom {Z : Type 0} (from : Trie) (settings : Settings) (engine : Engine Z) (kind : AhoCorasickKind)
     : Type 0 where
   pub built : record (built_of engine) { start_kind = settings.start_kind }
-      ≡ record from { start_kind = settings.start_kind }
+      ≡ record from.built { start_kind = settings.start_kind }
   pub supports : Supports engine settings.start_kind
-  pub filters : filters_of engine ≡ false
-  pub laid_out : AreLaidOut settings from (states_of engine)
+  pub filters : filters_of engine ≡ from.filters
+  pub laid_out : AreLaidOut settings from.built (states_of engine)
   pub name : name_of engine ≡ kind
 
 abbrev pub walking_in : {Z : Type 0} → EngineFindIter Z → Walking

@@ -1,6 +1,6 @@
 -- What is seen of a searcher: what it was built from, whether to have a prefilter, and the name and the states of
 -- its engine. No answer of a search hangs on the last three; an overlapping state is one for these states alone.
-use Rattle.std.specs.Prelude.{◌≡◌, ℕ, nat_le, Bool, false, true, List, length, Option, None, Some, MatchOption, ◌&&◌, if◌then◌else◌, ⊤}
+use Rattle.std.specs.Prelude.{◌≡◌, ℕ, nat_le, Bool, false, true, List, length, Option, None, Some, MatchOption, ⊤, ◌&&◌, if◌then◌else◌}
 use Rattle.ac_util.specs.declared.error.BuildError.{BuildError}
 use Rattle.ac_util.specs.declared.search.MatchKind.{MatchKind}
 use Rattle.ac_util.specs.declared.search.MatchKind.TheVariants.{Standard}
@@ -30,6 +30,7 @@ pub record Settings : Type 0 where
   pub kind : Option AhoCorasickKind
   pub dense_depth : ℕ
   pub byte_classes : Bool
+  pub prefilter : Bool
 
 abbrev pub usual_settings : Settings
 usual_settings = record {
@@ -39,11 +40,16 @@ usual_settings = record {
   kind = None;
   dense_depth = 2;
   byte_classes = true;
+  prefilter = true;
 }
 
 -- what its automaton is built by
 abbrev pub engine_settings : Settings → EngineSettings
-engine_settings settings = record { kind = settings.match_kind; fold = settings.fold }
+engine_settings settings = record {
+  kind = settings.match_kind;
+  fold = settings.fold;
+  prefilter = settings.prefilter;
+}
 
 -- what a searcher over these patterns is built from
 abbrev pub built_by : Settings → List (List ℕ) → Built
@@ -120,8 +126,8 @@ abbrev pub RefusesSearcher : Settings → List (List ℕ) → BuildError → Typ
 RefusesSearcher settings patterns e =
     MatchOption (limit_refusal patterns) (IsRefused (engine_refusal settings patterns) e) (λ refusal. e ≡ refusal)
 
--- the states of an engine, made from this automaton, are laid out by these settings: with the dense depth that was
--- set, and with classes of bytes or without
+-- states that were made from an automaton by these settings: packed words have the dense depth and the classes that
+-- were set, and a table the classes
 abbrev pub AreLaidOut : Settings → Built → States → Type 0
 AreLaidOut settings from (Noncontiguous trie) = ⊤
 AreLaidOut settings from (Contiguous packed) =
@@ -129,11 +135,11 @@ AreLaidOut settings from (Contiguous packed) =
     × (packed.classes ≡ classes_by settings.byte_classes from.fold from.patterns)
 AreLaidOut settings from (Dfa table) = table.classes ≡ classes_by settings.byte_classes from.fold from.patterns
 
--- a build by these settings has succeeded: the searcher is over these patterns, laid out as was set, and no limit
--- refused it. No engine has a prefilter yet
+-- a build by these settings has succeeded: the searcher is over these patterns, is to have a prefilter if that was set,
+-- is laid out as was set, and no limit refused it
 pub record IsBuilt (settings : Settings) (patterns : List (List ℕ)) (searcher : Searcher) : Type 0 where
   pub built : searcher.built ≡ built_by settings patterns
-  pub filters : searcher.filters ≡ false
+  pub filters : searcher.filters ≡ settings.prefilter
   pub kind : searcher.kind ≡ chosen settings patterns
-  pub allowed : IsBuildable settings patterns
   pub laid_out : AreLaidOut settings (made_from settings patterns) searcher.states
+  pub allowed : IsBuildable settings patterns

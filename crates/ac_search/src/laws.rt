@@ -76,8 +76,8 @@ pub fn shortest_is_empty()
 {}
 
 /// Two searchers over the same patterns, match kind, case setting and start kind answer every search equally, whatever
-/// their engines are, their dense depth and their classes of bytes: what one refuses, finds, walks over, lists or
-/// exchanges, the other does too.
+/// their engines are, their dense depth and their classes of bytes, and whether they have a prefilter: what one refuses,
+/// finds, walks over, lists or exchanges, the other does too.
 ///
 /// Their values differ in what serves them, so this speaks of the parts that decide.
 pub fn engines_agree<A: Allocator, B: Allocator>(one: &AhoCorasick<A>, other: &AhoCorasick<B>)

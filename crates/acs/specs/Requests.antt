@@ -95,4 +95,5 @@ settings_of request = record {
   kind = request.engine;
   dense_depth = 2;
   byte_classes = true;
+  prefilter = true;
 }

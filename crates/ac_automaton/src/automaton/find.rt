@@ -1,18 +1,24 @@
 //! The core of every find.
-ghost use Rattle.std.specs.Prelude.{◌≡◌, ◌+◌, ◌≤◌, ◌↔◌, IsTrue, length, None, MatchResult};
+ghost use Rattle.std.specs.Prelude.{◌≡◌, ℕ, MatchOption, ◌+◌, ◌<◌, ◌≤◌, ◌↔◌, [], false, true, IsTrue, length, None, Some, MatchResult};
+ghost use Rattle.ac_util.specs.declared.search.Anchored.TheVariants.{No};
 ghost use Rattle.ac_util.specs.declared.search.MatchKind.TheVariants.{Standard};
 ghost use Rattle.ac_util.specs.Built.{find_refusal, found, search_in};
+ghost use Rattle.ac_util.specs.Counts.{Counts};
 ghost use Rattle.ac_util.specs.Inputs.{asked};
-ghost use Rattle.ac_util.specs.Node.{Node};
+ghost use Rattle.ac_util.specs.Node.{Node, is_leftmost};
 ghost use Rattle.ac_util.specs.Pick.{order_of};
+ghost use Rattle.ac_util.specs.Prefilters.{skip_of};
 ghost use Rattle.ac_util.specs.Refusal.{AnswersUnless, start_refusal};
-ghost use Rattle.ac_automaton.specs.Finds.{FitsIn, HasSearched, asked_of, found_at};
-ghost use Rattle.ac_automaton.specs.Progress.{search_of};
+ghost use Rattle.ac_automaton.specs.Finds.{FitsIn, HasSearched, IsReady, MayReadOn, asked_of, found_at};
+ghost use Rattle.ac_automaton.specs.Progress.{HasCome, began_at, search_of};
+ghost use Rattle.ac_automaton.specs.Skipping.{IsNeedle, Skips, SkipsByBytes};
 
 use super::Automaton;
+use super::skip::{Credit, Skipper};
 use super::step::{Cursor, is_match_or_dead, read_byte};
 use ac_util::error::MatchError;
 use ac_util::looks::{Looks, Tape, open};
+use ac_util::prefilter::{Candidate, Prefilter};
 use ac_util::primitives::StateID;
 use ac_util::search::{Anchored, Input, Match, MatchKind, Span};
 use std::marker::Model;
@@ -21,12 +27,13 @@ use std::marker::Model;
 /// with `earliest` the one that `MatchKind::Standard` picks.
 ///
 /// The automaton has to support the anchoring; the span has to end within the haystack, to start no later than
-/// one past its end, and not before the tape's place of reading. Each byte is read at most once, and each byte
-/// as far as the end of the match is. For each byte read states are looked at once in an anchored search, and
+/// one past its end, and not before the tape's place of reading. Each byte is read at most once, and unless
+/// the prefilter was called each byte as far as the end of the match is. For each byte read states are looked at once in an anchored search, and
 /// else at least once and at most `LOOKS` times on the whole. No byte is read from the dead node on, where
 /// nothing more is found: there an anchored search stands once it has left all patterns, and a leftmost one once
 /// its match can't change. Under `MatchKind::Standard` or with `earliest` no byte past the end of the match is
-/// read, so the next find can go on with the same tape.
+/// read, so the next find can go on with the same tape. An unanchored search skips by the automaton's prefilter as long
+/// as that pays: it calls it at most once for each byte of the span, and the answer is the same without.
 #[inline]
 pub fn find_core<A: Automaton>(
     automaton: &A,
@@ -51,7 +58,7 @@ pub fn find_core<A: Automaton>(
     let Ok(finder) = Finder::new(automaton, anchored, earliest) else {
         unreachable!()
     };
-    finder.find(start, end, tape, looks)
+    finder.find(Span { start, end }, &mut Credit::new(), tape, looks)
 }
 
 /// Returns what `Automaton::try_find` does.
@@ -65,7 +72,11 @@ pub(super) fn try_find<A: Automaton>(
 {
     let finder = Finder::new(automaton, input.get_anchored(), input.get_earliest())?;
     let (mut tape, mut looks) = open(&input);
-    Ok(finder.find(input.start(), input.end(), &mut tape, &mut looks))
+    let span = Span {
+        start: input.start(),
+        end: input.end(),
+    };
+    Ok(finder.find(span, &mut Credit::new(), &mut tape, &mut looks))
 }
 
 /// A find that is ready to be made in any span: its start state is known.
@@ -76,14 +87,19 @@ pub(super) struct Finder<'a, A: Automaton> {
     /// Whether the first match found is the answer.
     stops: bool,
     start: StateID,
+    /// None in an anchored search, which skips nothing.
+    prefilter: Option<&'a Prefilter<A::Memory>>,
 }
 
 impl<'a, A: Automaton> Model for Finder<'a, A> {
-    ghost use Rattle.std.specs.Prelude.{◌≡◌, false, true, [], None, Some, if◌then◌else◌};
+    ghost use Rattle.std.specs.Prelude.{◌≡◌, false, true, [], None, Some, IfSome, if◌then◌else◌};
+    ghost use Rattle.ac_util.specs.declared.search.Anchored.TheVariants.{No};
     ghost use Rattle.ac_util.specs.declared.search.MatchKind.TheVariants.{Standard};
     ghost use Rattle.ac_util.specs.Node.{is_leftmost};
+    ghost use Rattle.ac_util.specs.Prefilters.{skip_of};
     ghost use Rattle.ac_util.specs.Refusal.{start_refusal};
     ghost use Rattle.ac_automaton.specs.Finders.{Finding};
+    ghost use Rattle.ac_automaton.specs.Skipping.{Skips};
 
     ghost Value = { Finding };
 
@@ -97,6 +113,8 @@ impl<'a, A: Automaton> Model for Finder<'a, A> {
     ghost invariant = { λ f. record {
       starts : A.stands f.automaton.now f.anchored f.start (Some []);
       leftmost : f.stops ≡ false → is_leftmost (A.built f.automaton.now).kind ≡ true;
+      skips : IfSome f.prefilter (λ p. (f.anchored ≡ No)
+          × Skips (A.filters f.automaton.now) (A.built f.automaton.now) (skip_of p.now));
     } };
 }
 
@@ -123,11 +141,16 @@ impl<'a, A: Automaton> Finder<'a, A> {
     {
         let start = automaton.start_state(anchored)?;
         let stops = earliest || matches!(automaton.match_kind(), MatchKind::Standard);
+        let prefilter = match anchored {
+            Anchored::No => automaton.prefilter(),
+            Anchored::Yes => None,
+        };
         Ok(Finder {
             automaton,
             anchored,
             stops,
             start,
+            prefilter,
         })
     }
 
@@ -139,39 +162,91 @@ impl<'a, A: Automaton> Finder<'a, A> {
         self.stops
     }
 
-    /// Returns the pick of a span, as `find_core` does.
+    /// Returns the pick of a span, as `find_core` does. It calls the prefilter as long as the credit allows.
     #[inline]
     pub(super) fn find(
         &self,
-        start: usize,
-        end: usize,
+        span: Span,
+        credit: &mut Credit,
         tape: &mut Tape<'_>,
         looks: &mut Looks,
     ) -> Option<Match>
-        requires end_within { end ≤ length tape.old.bytes }
-        requires start_within { start ≤ end + 1 }
-        requires unread { tape.old.place ≤ start }
+        requires end_within { span.end ≤ length tape.old.bytes }
+        requires start_within { span.start ≤ span.end + 1 }
+        requires unread { tape.old.place ≤ span.start }
         ensures { HasSearched A.LOOKS self.now.filters self.now.built.kind self.now.order
-            (search_of self.now.built self.now.anchored tape.old.bytes start end) result
+            (search_of self.now.built self.now.anchored tape.old.bytes span.start span.end) result
             tape.old tape.new looks.old looks.new }
     {
-        if start > end {
+        if span.start > span.end {
             return None;
         }
-        let (automaton, anchored) = (self.automaton, self.anchored);
-        let mut state = self.start;
-        let mut last = match_at(automaton, anchored, Cursor { state, at: start }, start);
+        let find = Find {
+            automaton: self.automaton,
+            anchored: self.anchored,
+            stops: self.stops,
+            span,
+        };
+        let cursor = match self.prefilter {
+            Some(prefilter) if span.start < span.end && credit.is_left() => match prefilter {
+                Prefilter::Bytes(_) => find.skip_on(prefilter, self.start, credit, tape, looks)?,
+                Prefilter::Needle(_) => return find.find_needle(prefilter, credit, tape, looks),
+            },
+            _ => Cursor {
+                state: self.start,
+                at: span.start,
+            },
+        };
+        find.read_on(cursor, tape, looks)
+    }
+}
+
+/// A find in one span.
+#[derive(Drop)]
+struct Find<'a, A: Automaton> {
+    automaton: &'a A,
+    anchored: Anchored,
+    /// Whether the first match found is the answer.
+    stops: bool,
+    span: Span,
+}
+
+impl<'a, A: Automaton> Find<'a, A> {
+    /// Returns the pick, by reading on from a state where nothing is picked but what it finds.
+    #[inline]
+    fn read_on(&self, cursor: Cursor, tape: &mut Tape<'_>, looks: &mut Looks) -> Option<Match>
+        requires leftmost { self.now.stops ≡ false → is_leftmost (A.built self.now.automaton.now).kind ≡ true }
+        requires end_within { self.now.span.end ≤ length tape.old.bytes }
+        requires within { cursor.at ≤ self.now.span.end }
+        requires unread { tape.old.place ≤ cursor.at }
+        requires ready { IsReady (A.stands self.now.automaton.now self.now.anchored)
+            (A.built self.now.automaton.now) self.now.anchored self.now.stops
+            (search_of (A.built self.now.automaton.now) self.now.anchored tape.old.bytes self.now.span.start
+            self.now.span.end) cursor.state cursor.at }
+        ensures { (place : ℕ) (counts : Counts)
+            → HasCome (A.stands self.now.automaton.now self.now.anchored) A.LOOKS (A.filters self.now.automaton.now)
+            (A.built self.now.automaton.now) self.now.anchored
+            (began_at self.now.span.start self.now.span.end tape.old.bytes place counts) cursor.state cursor.at
+            tape.old looks.old
+            → HasSearched A.LOOKS (A.filters self.now.automaton.now) (A.built self.now.automaton.now).kind
+            (order_of (A.built self.now.automaton.now).kind self.now.stops)
+            (search_of (A.built self.now.automaton.now) self.now.anchored tape.old.bytes self.now.span.start
+            self.now.span.end) result (record { bytes = tape.old.bytes; place = place }) tape.new counts looks.new }
+    {
+        let (automaton, anchored, span) = (self.automaton, self.anchored, self.span);
+        let (mut state, from) = (cursor.state, cursor.at);
+        let mut last = match_at(automaton, anchored, Cursor { state, at: from }, span.start);
         if self.stops && last.is_some() {
             return last;
         }
-        for at in start..end {
+        for at in from..span.end {
             state = read_byte(automaton, anchored, Cursor { state, at }, tape, looks);
             if is_match_or_dead(automaton, state) {
                 if automaton.is_dead(state) {
                     return last;
                 }
                 let here = Cursor { state, at: at + 1 };
-                if let Some(found) = match_at(automaton, anchored, here, start) {
+                if let Some(found) = match_at(automaton, anchored, here, span.start) {
                     if self.stops {
                         return Some(found);
                     }
@@ -180,6 +255,79 @@ impl<'a, A: Automaton> Finder<'a, A> {
             }
         }
         last
+    }
+
+    /// Skips to where patterns begin as long as none is found and skipping pays. Returns where to read on, or None
+    /// where the automaton is dead: then nothing is found.
+    #[inline(never)]
+    fn skip_on(
+        &self,
+        prefilter: &'a Prefilter<A::Memory>,
+        start: StateID,
+        credit: &mut Credit,
+        tape: &mut Tape<'_>,
+        looks: &mut Looks,
+    ) -> Option<Cursor>
+        requires leftmost { self.now.stops ≡ false → is_leftmost (A.built self.now.automaton.now).kind ≡ true }
+        requires skips { SkipsByBytes (A.filters self.now.automaton.now) (A.built self.now.automaton.now)
+            (skip_of prefilter.now) }
+        requires starts { A.stands self.now.automaton.now No start (Some []) }
+        requires end_within { self.now.span.end ≤ length tape.old.bytes }
+        requires ordered { self.now.span.start ≤ self.now.span.end }
+        requires unread { tape.old.place ≤ self.now.span.start }
+        ensures { MatchOption result
+            (HasSearched A.LOOKS (A.filters self.now.automaton.now) (A.built self.now.automaton.now).kind
+            (order_of (A.built self.now.automaton.now).kind self.now.stops)
+            (search_of (A.built self.now.automaton.now) No tape.old.bytes self.now.span.start self.now.span.end)
+            None tape.old tape.new looks.old looks.new)
+            (λ cursor. MayReadOn (A.stands self.now.automaton.now No) A.LOOKS (A.filters self.now.automaton.now)
+            (A.built self.now.automaton.now) No self.now.stops
+            (began_at self.now.span.start self.now.span.end tape.old.bytes tape.old.place looks.old) cursor.state
+            cursor.at tape.new looks.new) }
+    {
+        let (automaton, span) = (self.automaton, self.span);
+        let skipper = Skipper {
+            automaton,
+            prefilter,
+        };
+        let begin = Cursor {
+            state: start,
+            at: span.start,
+        };
+        let cursor = skipper.skip_on(begin, span.end, credit, tape, looks);
+        if automaton.is_dead(cursor.state) {
+            return None;
+        }
+        Some(cursor)
+    }
+
+    /// Returns the pick where there is a single pattern, as its prefilter finds it.
+    #[inline(never)]
+    fn find_needle(
+        &self,
+        prefilter: &Prefilter<A::Memory>,
+        credit: &mut Credit,
+        tape: &Tape<'_>,
+        looks: &mut Looks,
+    ) -> Option<Match>
+        requires needle { IsNeedle (A.filters self.now.automaton.now) (A.built self.now.automaton.now)
+            (skip_of prefilter.now) }
+        requires end_within { self.now.span.end ≤ length tape.now.bytes }
+        requires some_bytes { self.now.span.start < self.now.span.end }
+        requires unread { tape.now.place ≤ self.now.span.start }
+        ensures { HasSearched A.LOOKS (A.filters self.now.automaton.now) (A.built self.now.automaton.now).kind
+            (order_of (A.built self.now.automaton.now).kind self.now.stops)
+            (search_of (A.built self.now.automaton.now) No tape.now.bytes self.now.span.start self.now.span.end)
+            result tape.now tape.now looks.old looks.new }
+    {
+        let span = self.span;
+        match tape.scan(prefilter, span.start, span.end, looks) {
+            Candidate::Match(found) => {
+                credit.note(found.start().saturating_sub(span.start));
+                Some(found)
+            }
+            Candidate::None | Candidate::PossibleStart(_) => None,
+        }
     }
 }
 

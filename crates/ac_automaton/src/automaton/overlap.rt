@@ -1,17 +1,22 @@
 //! All occurrences, one after another: overlapping search by a state, and by an iterator.
 ghost use Rattle.std.specs.Prelude.{◌≡◌, ◌≢◌, ◌⊎◌, ℕ, ◌∷◌, ◌≤◌, List, [], None, Some, IfSome, MatchOption, MatchResult, length};
 ghost use Rattle.std.specs.Iterator.{item_count};
+ghost use Rattle.ac_util.specs.declared.search.Anchored.TheVariants.{No};
 ghost use Rattle.ac_util.specs.declared.search.MatchKind.TheVariants.{Standard};
 ghost use Rattle.ac_util.specs.Built.{overlapping_iter_refusal, overlapping_refusal, search_in};
 ghost use Rattle.ac_util.specs.Inputs.{asked};
+ghost use Rattle.ac_util.specs.Prefilters.{skip_of};
 ghost use Rattle.ac_util.specs.Refusal.{AnswersUnless, start_refusal};
 ghost use Rattle.ac_automaton.specs.Overlaps.{GivesNext, HasGiven, HasListed, HasMoved, IsPlaced, ListsNext, fresh, listing_begun};
 ghost use Rattle.ac_automaton.specs.Progress.{Beginning, Grows, HasCome, search_of};
+ghost use Rattle.ac_automaton.specs.Skipping.{SkipsByBytes};
 
 use super::Automaton;
+use super::skip::{Credit, Skipper};
 use super::step::{Cursor, is_match_or_dead, read_byte};
 use ac_util::error::MatchError;
 use ac_util::looks::{Looks, Tape, open};
+use ac_util::prefilter::Prefilter;
 use ac_util::primitives::StateID;
 use ac_util::search::{Anchored, Input, Match, MatchKind, Span};
 use std::marker::Model;
@@ -111,13 +116,14 @@ pub(super) fn try_find_overlapping<A: Automaton>(
         automaton,
         anchored: input.get_anchored(),
         span: input.get_span(),
+        prefilter: listing_prefilter(automaton, input.get_anchored()),
     };
     let mut reached = match state.reached {
         Some(reached) => reached,
         None => Reached::new(start, input.start()),
     };
     let (mut tape, mut looks) = open(&input);
-    let found = lister.next(&mut reached, &mut tape, &mut looks);
+    let found = lister.next(&mut reached, &mut Credit::new(), &mut tape, &mut looks);
     *state = OverlappingState {
         found,
         reached: Some(reached),
@@ -147,12 +153,34 @@ fn start_of<A: Automaton>(automaton: &A, anchored: Anchored) -> Result<StateID, 
     }
 }
 
+/// Returns the prefilter of a listing: one that skips by first bytes, in an unanchored search.
+///
+/// A needle is none: where it is found first the automaton need not have been at its start.
+#[inline]
+fn listing_prefilter<'a, A: Automaton>(
+    automaton: &'a A,
+    anchored: Anchored,
+) -> Option<&'a Prefilter<A::Memory>>
+    ensures { IfSome result (λ p. (anchored ≡ No)
+        × SkipsByBytes (A.filters automaton.now) (A.built automaton.now) (skip_of p.now)) }
+{
+    match (anchored, automaton.prefilter()) {
+        (Anchored::No, Some(prefilter)) => match prefilter {
+            Prefilter::Bytes(_) => Some(prefilter),
+            Prefilter::Needle(_) => None,
+        },
+        _ => None,
+    }
+}
+
 /// The listing of a span by an automaton.
 #[derive(Drop)]
 struct Lister<'a, A: Automaton> {
     automaton: &'a A,
     anchored: Anchored,
     span: Span,
+    /// That of `listing_prefilter`.
+    prefilter: Option<&'a Prefilter<A::Memory>>,
 }
 
 impl<'a, A: Automaton> Lister<'a, A> {
@@ -190,9 +218,102 @@ impl<'a, A: Automaton> Lister<'a, A> {
         Some(Match::new(pattern, span))
     }
 
-    /// Returns the next item of the listing, and moves on behind it.
+    /// Returns the next item of the listing, and moves on behind it. It calls the prefilter as long as the credit allows.
     #[inline]
-    fn next(&self, reached: &mut Reached, tape: &mut Tape<'_>, looks: &mut Looks) -> Option<Match>
+    fn next(
+        &self,
+        reached: &mut Reached,
+        credit: &mut Credit,
+        tape: &mut Tape<'_>,
+        looks: &mut Looks,
+    ) -> Option<Match>
+        requires skips { IfSome self.now.prefilter (λ p. (self.now.anchored ≡ No)
+            × SkipsByBytes (A.filters self.now.automaton.now) (A.built self.now.automaton.now) (skip_of p.now)) }
+        requires standard { (A.built self.now.automaton.now).kind ≡ Standard }
+        requires listed { HasListed (A.stands self.now.automaton.now self.now.anchored)
+            (A.listed self.now.automaton.now) (A.built self.now.automaton.now).kind
+            (search_of (A.built self.now.automaton.now) self.now.anchored tape.old.bytes self.now.span.start
+            self.now.span.end) reached.old }
+        requires end_within { self.now.span.end ≤ length tape.old.bytes }
+        requires unread { tape.old.place ≤ reached.old.at }
+        ensures moved { HasMoved (A.stands self.now.automaton.now self.now.anchored) (A.listed self.now.automaton.now)
+            (A.built self.now.automaton.now).kind
+            (search_of (A.built self.now.automaton.now) self.now.anchored tape.old.bytes self.now.span.start
+            self.now.span.end) reached.old result reached.new tape.old tape.new }
+        ensures grows { Grows looks.old looks.new }
+        ensures come { (began : Beginning) → HasCome (A.stands self.now.automaton.now self.now.anchored) A.LOOKS
+            (A.filters self.now.automaton.now) (A.built self.now.automaton.now) self.now.anchored began
+            reached.old.state reached.old.at tape.old looks.old
+            → HasCome (A.stands self.now.automaton.now self.now.anchored) A.LOOKS
+            (A.filters self.now.automaton.now) (A.built self.now.automaton.now) self.now.anchored began
+            reached.new.state reached.new.at tape.new looks.new }
+    {
+        match self.prefilter {
+            Some(prefilter) if credit.is_left() => {
+                self.skip(prefilter, reached, credit, tape, looks)
+            }
+            _ => self.next_on(reached, tape, looks),
+        }
+    }
+
+    /// Returns the next item of the listing, and moves on behind it, by skipping to where patterns begin.
+    #[inline(never)]
+    fn skip(
+        &self,
+        prefilter: &'a Prefilter<A::Memory>,
+        reached: &mut Reached,
+        credit: &mut Credit,
+        tape: &mut Tape<'_>,
+        looks: &mut Looks,
+    ) -> Option<Match>
+        requires unanchored { self.now.anchored ≡ No }
+        requires skips { SkipsByBytes (A.filters self.now.automaton.now) (A.built self.now.automaton.now)
+            (skip_of prefilter.now) }
+        requires standard { (A.built self.now.automaton.now).kind ≡ Standard }
+        requires listed { HasListed (A.stands self.now.automaton.now self.now.anchored)
+            (A.listed self.now.automaton.now) (A.built self.now.automaton.now).kind
+            (search_of (A.built self.now.automaton.now) self.now.anchored tape.old.bytes self.now.span.start
+            self.now.span.end) reached.old }
+        requires end_within { self.now.span.end ≤ length tape.old.bytes }
+        requires unread { tape.old.place ≤ reached.old.at }
+        ensures moved { HasMoved (A.stands self.now.automaton.now self.now.anchored) (A.listed self.now.automaton.now)
+            (A.built self.now.automaton.now).kind
+            (search_of (A.built self.now.automaton.now) self.now.anchored tape.old.bytes self.now.span.start
+            self.now.span.end) reached.old result reached.new tape.old tape.new }
+        ensures grows { Grows looks.old looks.new }
+        ensures come { (began : Beginning) → HasCome (A.stands self.now.automaton.now self.now.anchored) A.LOOKS
+            (A.filters self.now.automaton.now) (A.built self.now.automaton.now) self.now.anchored began
+            reached.old.state reached.old.at tape.old looks.old
+            → HasCome (A.stands self.now.automaton.now self.now.anchored) A.LOOKS
+            (A.filters self.now.automaton.now) (A.built self.now.automaton.now) self.now.anchored began
+            reached.new.state reached.new.at tape.new looks.new }
+    {
+        if let Some(found) = self.give(reached) {
+            return Some(found);
+        }
+        let skipper = Skipper {
+            automaton: self.automaton,
+            prefilter,
+        };
+        let here = Cursor {
+            state: reached.state,
+            at: reached.at,
+        };
+        let cursor = skipper.skip_on(here, self.span.end, credit, tape, looks);
+        if cursor.at > reached.at {
+            *reached = Reached::new(cursor.state, cursor.at);
+        }
+        self.next_on(reached, tape, looks)
+    }
+
+    /// Returns the next item of the listing, and moves on behind it, by reading on.
+    #[inline]
+    fn next_on(
+        &self,
+        reached: &mut Reached,
+        tape: &mut Tape<'_>,
+        looks: &mut Looks,
+    ) -> Option<Match>
         requires standard { (A.built self.now.automaton.now).kind ≡ Standard }
         requires listed { HasListed (A.stands self.now.automaton.now self.now.anchored)
             (A.listed self.now.automaton.now) (A.built self.now.automaton.now).kind
@@ -247,13 +368,19 @@ pub struct FindOverlappingIter<'a, 'h, A: Automaton> {
     lister: Lister<'a, A>,
     /// None where the span starts past its end.
     reached: Option<Reached>,
+    /// Kept from item to item, so that a listing calls no prefilter in vain for long.
+    credit: Credit,
     tape: Tape<'h>,
     looks: Looks,
 }
 
 impl<'a, 'h, A: Automaton> Model for FindOverlappingIter<'a, 'h, A> {
+    ghost use Rattle.std.specs.Prelude.{◌≡◌, IfSome};
+    ghost use Rattle.ac_util.specs.declared.search.Anchored.TheVariants.{No};
+    ghost use Rattle.ac_util.specs.Prefilters.{skip_of};
     ghost use Rattle.ac_automaton.specs.Overlaps.{IsListing, Overlapping, given_by, overlapping_of};
     ghost use Rattle.ac_automaton.specs.Progress.{search_of};
+    ghost use Rattle.ac_automaton.specs.Skipping.{SkipsByBytes};
 
     ghost Value = { Overlapping };
 
@@ -264,11 +391,15 @@ impl<'a, 'h, A: Automaton> Model for FindOverlappingIter<'a, 'h, A> {
         s.lister.anchored s.tape.bytes s.lister.span.start s.lister.span.end) s.reached)
         s.tape.place s.looks };
 
-    ghost invariant = { λ s. IsListing (A.stands s.lister.automaton.now s.lister.anchored)
-        (A.listed s.lister.automaton.now) A.LOOKS (A.filters s.lister.automaton.now)
-        (A.built s.lister.automaton.now)
-        (search_of (A.built s.lister.automaton.now) s.lister.anchored s.tape.bytes s.lister.span.start
-        s.lister.span.end) s.reached s.tape s.looks };
+    ghost invariant = { λ s. record {
+      listing : IsListing (A.stands s.lister.automaton.now s.lister.anchored)
+          (A.listed s.lister.automaton.now) A.LOOKS (A.filters s.lister.automaton.now)
+          (A.built s.lister.automaton.now)
+          (search_of (A.built s.lister.automaton.now) s.lister.anchored s.tape.bytes s.lister.span.start
+          s.lister.span.end) s.reached s.tape s.looks;
+      skips : IfSome s.lister.prefilter (λ p. (s.lister.anchored ≡ No)
+          × SkipsByBytes (A.filters s.lister.automaton.now) (A.built s.lister.automaton.now) (skip_of p.now));
+    } };
 }
 
 impl<'a, 'h, A: Automaton> FindOverlappingIter<'a, 'h, A> {
@@ -296,8 +427,10 @@ impl<'a, 'h, A: Automaton> FindOverlappingIter<'a, 'h, A> {
                 automaton,
                 anchored: input.get_anchored(),
                 span: input.get_span(),
+                prefilter: listing_prefilter(automaton, input.get_anchored()),
             },
             reached,
+            credit: Credit::new(),
             tape,
             looks,
         })
@@ -309,9 +442,12 @@ impl<'a, 'h, A: Automaton> FindOverlappingIter<'a, 'h, A> {
         ensures { ListsNext self.old result self.new }
     {
         let mut reached = self.reached?;
-        let found = self
-            .lister
-            .next(&mut reached, &mut self.tape, &mut self.looks);
+        let found = self.lister.next(
+            &mut reached,
+            &mut self.credit,
+            &mut self.tape,
+            &mut self.looks,
+        );
         self.reached = Some(reached);
         found
     }

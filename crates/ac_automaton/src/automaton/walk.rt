@@ -12,9 +12,10 @@ ghost use Rattle.ac_automaton.specs.Iterators.{Finds, GoesOn, after, begun, kept
 
 use super::Automaton;
 use super::find::Finder;
+use super::skip::Credit;
 use ac_util::error::MatchError;
 use ac_util::looks::{Looks, Tape, open};
-use ac_util::search::{Input, Match};
+use ac_util::search::{Input, Match, Span};
 use std::marker::Model;
 use std::snapshot::Snapshot;
 
@@ -32,6 +33,8 @@ pub struct FindIter<'a, 'h, A: Automaton> {
     input: Input<'h>,
     /// Where the match before this ended.
     last: Option<usize>,
+    /// Kept from find to find, so that a walk calls no prefilter in vain for long.
+    credit: Credit,
     tape: Tape<'h>,
     looks: Looks,
     /// Where the span began.
@@ -68,6 +71,7 @@ impl<'a, 'h, A: Automaton> FindIter<'a, 'h, A> {
             finder,
             input,
             last: None,
+            credit: Credit::new(),
             tape,
             looks,
             from: Snapshot::of(&input.start()),
@@ -83,6 +87,7 @@ impl<'a, 'h, A: Automaton> FindIter<'a, 'h, A> {
             &self.finder,
             &self.input,
             self.last,
+            &mut self.credit,
             &mut self.tape,
             &mut self.looks,
         );
@@ -100,6 +105,7 @@ fn next_left<'h, A: Automaton>(
     finder: &Finder<'_, A>,
     input: &Input<'h>,
     last: Option<usize>,
+    credit: &mut Credit,
     tape: &mut Tape<'h>,
     looks: &mut Looks,
 ) -> Option<Match>
@@ -112,12 +118,12 @@ fn next_left<'h, A: Automaton>(
     ensures finds { (start : ℕ) → Finds (walking_of A.LOOKS finder.now (asked input.now) last start
         tape.old.place looks.old) tape.new.place looks.new }
 {
-    let first = find_left(finder, input, tape, looks);
+    let first = find_left(finder, input, credit, tape, looks);
     if !repeats(&first, last) {
         return first;
     }
     let further = input.range(input.start() + 1..input.end());
-    find_left(finder, &further, tape, looks)
+    find_left(finder, &further, credit, tape, looks)
 }
 
 /// Moves the span on to the end of a match that was found in it, or past its own end where there is none.
@@ -149,6 +155,7 @@ fn repeats(found: &Option<Match>, last: Option<usize>) -> bool
 fn find_left<'h, A: Automaton>(
     finder: &Finder<'_, A>,
     input: &Input<'h>,
+    credit: &mut Credit,
     tape: &mut Tape<'h>,
     looks: &mut Looks,
 ) -> Option<Match>
@@ -166,7 +173,11 @@ fn find_left<'h, A: Automaton>(
         let (anew, _looks) = open(input);
         *tape = anew;
     }
-    finder.find(input.start(), input.end(), tape, looks)
+    let span = Span {
+        start: input.start(),
+        end: input.end(),
+    };
+    finder.find(span, credit, tape, looks)
 }
 
 impl<'a, 'h, A: Automaton> Iterator for FindIter<'a, 'h, A> {

@@ -1,5 +1,5 @@
 //! A trie with failure links: small, and quickly built.
-ghost use Rattle.std.specs.Prelude.{◌≡◌, false, List, MatchResult};
+ghost use Rattle.std.specs.Prelude.{◌≡◌, List, MatchResult};
 ghost use Rattle.std.proofs.Common.{inr, refl};
 ghost use Rattle.ac_util.specs.Borrowed.{bytes_of};
 ghost use Rattle.ac_util.specs.Node.{Node};
@@ -45,24 +45,30 @@ pub struct NFA<A: Allocator = Global> {
     shortest: usize,
     longest: usize,
     lists: TrieLists<A>,
+    /// Whether it was built to have a prefilter, where there is one for its patterns.
+    filters: bool,
+    prefilter: Option<Prefilter<A>>,
 }
 
 impl<A: Allocator> Model for NFA<A> {
-    ghost use Rattle.std.specs.Prelude.{◌≡◌, List};
+    ghost use Rattle.std.specs.Prelude.{◌≡◌, List, IfSome, option_map};
     ghost use Rattle.ac_util.specs.Node.{Node};
+    ghost use Rattle.ac_util.specs.Prefilters.{IsSkipFor, skip_for, skip_of};
     ghost use Rattle.ac_util.specs.Sizes.{longest_len, shortest_len};
     ghost use Rattle.ac_automaton.specs.Tries.{IsTable, Trie, trie_of};
 
     ghost Value = { Trie };
 
-    ghost view = { λ n. trie_of n.patterns.value n.fold n.kind
+    ghost view = { λ n. trie_of n.patterns.value n.fold n.kind n.filters
         n.lists.order.items n.lists.transitions.items n.lists.states.items };
 
     ghost invariant = { λ n. record {
-      table : (nodes : List Node) × IsTable (trie_of n.patterns.value n.fold n.kind
+      table : (nodes : List Node) × IsTable (trie_of n.patterns.value n.fold n.kind n.filters
           n.lists.order.items n.lists.transitions.items n.lists.states.items) nodes;
       shortest : n.shortest ≡ shortest_len n.patterns.value;
       longest : n.longest ≡ longest_len n.patterns.value;
+      skips : option_map skip_of n.prefilter ≡ skip_for n.filters n.fold n.patterns.value;
+      serves : IfSome n.prefilter (λ p. IsSkipFor (skip_of p) n.fold n.patterns.value);
     } };
 }
 
@@ -81,18 +87,21 @@ impl<A: Allocator + Clone> Clone for NFA<A> {
             shortest: self.shortest,
             longest: self.longest,
             lists: self.lists.clone()?,
+            filters: self.filters,
+            prefilter: self.prefilter.clone()?,
         })
     }
 }
 
 impl<A: Allocator + Clone> NFA<A> {
-    /// Builds an automaton with the usual settings: `MatchKind::Standard`, and case counts.
+    /// Builds an automaton with the usual settings: `MatchKind::Standard`, case counts, and a prefilter where there is
+    /// one.
     ///
     /// # Errors
     /// As `Builder::build`.
     pub fn new(alloc: A, patterns: &[&[u8]]) -> Result<NFA<A>, BuildError>
         ensures { MatchResult result
-            (λ nfa. IsEngineBuilt usual_engine_settings (bytes_of patterns.now) nfa.built)
+            (λ nfa. IsEngineBuilt usual_engine_settings (bytes_of patterns.now) nfa)
             (Refuses usual_engine_settings (bytes_of patterns.now)) }
     {
         Builder::new().build(alloc, patterns)
@@ -153,7 +162,7 @@ impl<A: Allocator> Automaton for NFA<A> {
 
     ghost listed = { λ n s. listed_within n.order n.states s s };
 
-    ghost filters = { λ n. false };
+    ghost filters = { λ n. n.filters };
 
     ghost one_or_two = { inr refl };
 
@@ -253,7 +262,7 @@ impl<A: Allocator> Automaton for NFA<A> {
     }
 
     fn prefilter(&self) -> Option<&Prefilter<A>> {
-        None
+        self.prefilter.as_ref()
     }
 }
 

@@ -14,6 +14,7 @@ use super::fill::Filler;
 use super::layout::{Layout, table_rows};
 use super::{DEAD, DFA};
 use crate::classes::classes_for;
+use crate::prefilter::prefilter_for;
 use ac_automaton::automaton::Automaton;
 use ac_automaton::nfa::noncontiguous::{self, NFA};
 use ac_util::error::BuildError;
@@ -31,6 +32,7 @@ pub struct Builder {
     fold: bool,
     start_kind: StartKind,
     byte_classes: bool,
+    prefilter: bool,
 }
 
 impl Model for Builder {
@@ -43,6 +45,7 @@ impl Model for Builder {
       fold = b.fold;
       start_kind = b.start_kind;
       byte_classes = b.byte_classes;
+      prefilter = b.prefilter;
     } };
 
     ghost inverse = { λ v. record {
@@ -50,6 +53,7 @@ impl Model for Builder {
       fold = v.fold;
       start_kind = v.start_kind;
       byte_classes = v.byte_classes;
+      prefilter = v.prefilter;
     } };
 }
 
@@ -62,8 +66,8 @@ impl Default for Builder {
 }
 
 impl Builder {
-    /// Returns a builder with the usual settings: `MatchKind::Standard`, case counts, unanchored searches alone, and
-    /// bytes that need not be told apart share a class.
+    /// Returns a builder with the usual settings: `MatchKind::Standard`, case counts, unanchored searches alone,
+    /// bytes that need not be told apart share a class, and a prefilter where there is one.
     pub fn new() -> Builder
         ensures { result ≡ usual_table_settings }
     {
@@ -72,6 +76,7 @@ impl Builder {
             fold: false,
             start_kind: StartKind::Unanchored,
             byte_classes: true,
+            prefilter: true,
         }
     }
 
@@ -122,6 +127,16 @@ impl Builder {
         self
     }
 
+    /// Sets whether a search may skip ahead by a prefilter, where there is one for the patterns. It changes no answer.
+    /// It may unless set.
+    pub fn prefilter(&mut self, yes: bool) -> &mut Builder
+        ensures value { result.now ≡ record self.old { prefilter = yes } }
+        ensures same { result.ghost_name ≡ self.entry.ghost_name }
+    {
+        self.prefilter = yes;
+        self
+    }
+
     /// Builds an automaton over a list of patterns. An empty list is fine: nothing is then found.
     ///
     /// # Errors
@@ -138,14 +153,16 @@ impl Builder {
             (RefusesTable self.now (bytes_of patterns.now)) }
     {
         let mut nfa = noncontiguous::Builder::new();
-        nfa.match_kind(self.kind).ascii_case_insensitive(self.fold);
+        nfa.match_kind(self.kind)
+            .ascii_case_insensitive(self.fold)
+            .prefilter(self.prefilter);
         let nfa = nfa.build(alloc, patterns)?;
         let alloc = nfa.allocator().clone()?;
         self.build_from_noncontiguous(alloc, &nfa)
     }
 
     /// Builds an automaton that answers as another one, whose patterns it shares. Of the settings only the start kind
-    /// and the byte classes count: the match kind and the case are those of the other automaton.
+    /// and the byte classes count: match kind, case and prefilter are those of the other automaton.
     ///
     /// # Errors
     /// `StateIdOverflow` exactly where the last row of the table would begin at a number that no state may have,
@@ -156,7 +173,7 @@ impl Builder {
         nfa: &NFA<A>,
     ) -> Result<DFA<A>, BuildError>
         ensures { MatchResult result
-            (λ dfa. IsTableFrom self.now.start_kind self.now.byte_classes nfa.now.built dfa
+            (λ dfa. IsTableFrom self.now.start_kind self.now.byte_classes nfa.now.built nfa.now.filters dfa
             × (table_refusal_from self.now.start_kind self.now.byte_classes nfa.now.built ≡ None))
             (RefusesTableFrom self.now.start_kind self.now.byte_classes nfa.now.built) }
     {
@@ -188,6 +205,8 @@ impl Builder {
             anchored_start: start_of(self.start_kind, Anchored::Yes, stride2),
             first_match: layout.first_match,
             match_end: layout.match_end,
+            filters: nfa.filters(),
+            prefilter: prefilter_for(nfa)?,
         })
     }
 }

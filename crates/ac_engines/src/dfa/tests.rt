@@ -1,5 +1,5 @@
 use super::Builder;
-use crate::samples::{EACH, THREE, told, walk_of};
+use crate::samples::{EACH, SKIPPING, THREE, seen, seen_of, told, walk_of};
 use ac_automaton::automaton::Automaton;
 use ac_automaton::nfa::noncontiguous;
 use ac_util::error::{BuildError, MatchError};
@@ -91,6 +91,61 @@ fn an_automaton_of_another_kind_gives_its_own(rt: HostRuntime) -> Result<(), Fai
     assert_eq!(rt; dfa.match_kind(), LeftmostFirst);
     let found = dfa.try_find(Input::new(b"abcd"))?.map(|m| told(&m));
     assert_eq!(rt; found, Some((1, 0, 3)));
+    Ok(())
+}
+
+/// The prefilter is that of the patterns and their case, and there is none where the setting is off.
+#[test]
+fn the_prefilter_is_that_of_the_patterns(rt: HostRuntime) -> Result<(), Fail> {
+    for (patterns, fold, haystack, count) in SKIPPING {
+        let wanted = seen_of(rt.alloc(), patterns, fold, haystack)?;
+        assert_eq!(rt; wanted.map(|(bytes, _)| bytes), count, "{patterns:?}");
+        for &kind in EACH {
+            let mut builder = builder(kind, StartKind::Unanchored, true);
+            builder.ascii_case_insensitive(fold);
+            let usual = builder.build(rt.alloc(), patterns)?;
+            assert_eq!(rt; seen(usual.prefilter(), haystack), wanted, "{patterns:?}");
+            builder.prefilter(false);
+            let off = builder.build(rt.alloc(), patterns)?;
+            assert_eq!(rt; seen(off.prefilter(), haystack), None, "{patterns:?}");
+            builder.prefilter(true);
+            let on = builder.build(rt.alloc(), patterns)?;
+            assert_eq!(rt; seen(on.prefilter(), haystack), wanted, "{patterns:?}");
+        }
+    }
+    Ok(())
+}
+
+/// There is a prefilter where the setting is on, and a copy has the same.
+#[test]
+fn prefilters(rt: HostRuntime) -> Result<(), Fail> {
+    for &kind in EACH {
+        for (yes, count) in [(true, Some(2)), (false, None)] {
+            let mut builder = builder(kind, StartKind::Unanchored, true);
+            let dfa = builder.prefilter(yes).build(rt.alloc(), &[b"he", b"she"])?;
+            assert_eq!(rt; dfa.filters, yes);
+            assert_eq!(rt; dfa.prefilter().map(|p| p.byte_count()), count);
+            let copy = dfa.clone()?;
+            assert_eq!(rt; copy.filters, yes);
+            assert_eq!(rt; copy.prefilter().map(|p| p.byte_count()), count);
+        }
+    }
+    Ok(())
+}
+
+/// The prefilter is that of the automaton from which it is built, whatever its own setting is.
+#[test]
+fn an_automaton_gives_its_prefilter(rt: HostRuntime) -> Result<(), Fail> {
+    for (yes, count) in [(true, Some(0)), (false, None)] {
+        let mut first = noncontiguous::Builder::new();
+        let nfa = first.prefilter(yes).build(rt.alloc(), &[b"she"])?;
+        let mut builder = builder(Standard, StartKind::Unanchored, true);
+        let dfa = builder
+            .prefilter(!yes)
+            .build_from_noncontiguous(rt.alloc(), &nfa)?;
+        assert_eq!(rt; dfa.filters, yes);
+        assert_eq!(rt; dfa.prefilter().map(|p| p.byte_count()), count);
+    }
     Ok(())
 }
 

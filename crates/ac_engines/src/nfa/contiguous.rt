@@ -1,5 +1,5 @@
 //! An automaton in one list of packed words: small, and nearly as fast as a table.
-ghost use Rattle.std.specs.Prelude.{◌≡◌, MatchResult, false, drop};
+ghost use Rattle.std.specs.Prelude.{◌≡◌, MatchResult, drop};
 ghost use Rattle.std.proofs.Common.{inr, refl};
 ghost use Rattle.ac_util.specs.declared.search.Anchored.{Anchored};
 ghost use Rattle.ac_util.specs.Borrowed.{bytes_of};
@@ -7,6 +7,7 @@ ghost use Rattle.ac_automaton.specs.Automata.{IsState};
 ghost use Rattle.ac_engines.specs.PackedBuilds.{IsPackedBuilt, RefusesPacked, usual_packed_settings};
 ghost use Rattle.ac_engines.specs.Packing.{IsPacked, Places, StandsAt, listed_at, stands-lists};
 
+use crate::prefilter::copy_of;
 use ac_automaton::automaton::{Automaton, MatchRest};
 use ac_automaton::nfa::noncontiguous::DEAD;
 use ac_util::alphabet::ByteClasses;
@@ -55,24 +56,30 @@ pub struct NFA<A: Allocator = Global> {
     anchored_start: StateID,
     /// No state has matches from this number on.
     match_end: usize,
+    /// Whether it was built to have a prefilter, where there is one for its patterns.
+    filters: bool,
+    prefilter: Option<Prefilter<A>>,
 }
 
 impl<A: Allocator> Model for NFA<A> {
-    ghost use Rattle.std.specs.Prelude.{◌≡◌, ◌<◌};
+    ghost use Rattle.std.specs.Prelude.{◌≡◌, ◌<◌, IfSome, option_map};
     ghost use Rattle.ac_util.specs.declared.search.StartKind.TheVariants.{Both};
+    ghost use Rattle.ac_util.specs.Prefilters.{IsSkipFor, skip_for, skip_of};
     ghost use Rattle.ac_util.specs.Sizes.{longest_len, shortest_len};
     ghost use Rattle.ac_engines.specs.Packing.{IsPacked, Packed, Places, packed_from};
 
     ghost Value = { Packed };
 
-    ghost view = { λ n. packed_from n.patterns.value n.fold n.kind n.dense_depth n.classes n.words.items n.start
-        n.anchored_start n.match_end };
+    ghost view = { λ n. packed_from n.patterns.value n.fold n.kind n.filters n.dense_depth n.classes n.words.items
+        n.start n.anchored_start n.match_end };
 
     ghost invariant = { λ n. record {
-      packed : (at : Places) × IsPacked (packed_from n.patterns.value n.fold n.kind n.dense_depth n.classes
+      packed : (at : Places) × IsPacked (packed_from n.patterns.value n.fold n.kind n.filters n.dense_depth n.classes
           n.words.items n.start n.anchored_start n.match_end) at;
       shortest : n.shortest ≡ shortest_len n.patterns.value;
       longest : n.longest ≡ longest_len n.patterns.value;
+      skips : option_map skip_of n.prefilter ≡ skip_for n.filters n.fold n.patterns.value;
+      serves : IfSome n.prefilter (λ p. IsSkipFor (skip_of p) n.fold n.patterns.value);
     } };
 }
 
@@ -96,13 +103,15 @@ impl<A: Allocator + Clone> Clone for NFA<A> {
             start: self.start,
             anchored_start: self.anchored_start,
             match_end: self.match_end,
+            filters: self.filters,
+            prefilter: copy_of(&self.prefilter)?,
         })
     }
 }
 
 impl<A: Allocator + Clone> NFA<A> {
     /// Builds an automaton with the usual settings: `MatchKind::Standard`, case counts, the states of no byte and of one
-    /// byte are dense, and bytes that need not be told apart share a class.
+    /// byte are dense, bytes that need not be told apart share a class, and a prefilter where there is one.
     ///
     /// # Errors
     /// As `Builder::build`.
@@ -165,7 +174,7 @@ impl<A: Allocator> Automaton for NFA<A> {
 
     ghost listed = { λ n s. listed_at n s };
 
-    ghost filters = { λ n. false };
+    ghost filters = { λ n. n.filters };
 
     ghost one_or_two = { inr refl };
 
@@ -258,7 +267,7 @@ impl<A: Allocator> Automaton for NFA<A> {
     }
 
     fn prefilter(&self) -> Option<&Prefilter<A>> {
-        None
+        self.prefilter.as_ref()
     }
 }
 

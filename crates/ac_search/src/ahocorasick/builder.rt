@@ -34,6 +34,7 @@ pub struct AhoCorasickBuilder {
     kind: Option<AhoCorasickKind>,
     dense_depth: usize,
     byte_classes: bool,
+    prefilter: bool,
 }
 
 impl Model for AhoCorasickBuilder {
@@ -48,6 +49,7 @@ impl Model for AhoCorasickBuilder {
       kind = b.kind;
       dense_depth = b.dense_depth;
       byte_classes = b.byte_classes;
+      prefilter = b.prefilter;
     } };
 
     ghost inverse = { λ v. record {
@@ -57,6 +59,7 @@ impl Model for AhoCorasickBuilder {
       kind = v.kind;
       dense_depth = v.dense_depth;
       byte_classes = v.byte_classes;
+      prefilter = v.prefilter;
     } };
 }
 
@@ -70,8 +73,8 @@ impl Default for AhoCorasickBuilder {
 
 impl AhoCorasickBuilder {
     /// Returns a builder with the usual settings: `MatchKind::Standard`, unanchored searches alone, case
-    /// counts, the engine is chosen, a contiguous automaton's states of fewer than two bytes are dense, and bytes that
-    /// need not be told apart share a class.
+    /// counts, the engine is chosen, a contiguous automaton's states of fewer than two bytes are dense, bytes that need
+    /// not be told apart share a class, and there is a prefilter where the patterns have one.
     pub fn new() -> AhoCorasickBuilder
         ensures { result ≡ usual_settings }
     {
@@ -82,6 +85,7 @@ impl AhoCorasickBuilder {
             kind: None,
             dense_depth: USUAL_DENSE_DEPTH,
             byte_classes: true,
+            prefilter: true,
         }
     }
 
@@ -128,12 +132,12 @@ impl AhoCorasickBuilder {
         self
     }
 
-    /// Sets below how many bytes of its string a state of a contiguous automaton has a target for each class of bytes,
-    /// and not only for those that lead on. It is 2 unless set. The dead state, the starts, and states with more than 127
-    /// transitions have one for each class always. The other engines don't heed it.
+    /// Sets which states of a contiguous automaton are dense, so that they have a target for each class of bytes: those
+    /// of strings shorter than this many bytes. States of more than 127 transitions, the dead state and the starts are
+    /// dense always. It is 2 unless set. The other engines have no use for it.
     ///
     /// It changes no answer of a search. Where no engine was named, a contiguous automaton may be too large with more
-    /// such states, and then the noncontiguous one serves.
+    /// dense states, and then the noncontiguous one serves.
     pub fn dense_depth(&mut self, depth: usize) -> &mut AhoCorasickBuilder
         ensures value { result.now ≡ record self.old { dense_depth = depth } }
         ensures same { result.ghost_name ≡ self.entry.ghost_name }
@@ -152,6 +156,17 @@ impl AhoCorasickBuilder {
         ensures same { result.ghost_name ≡ self.entry.ghost_name }
     {
         self.byte_classes = yes;
+        self
+    }
+
+    /// Sets whether a search may skip ahead by a prefilter, where there is one for the patterns. It may unless set.
+    ///
+    /// It changes no answer.
+    pub fn prefilter(&mut self, yes: bool) -> &mut AhoCorasickBuilder
+        ensures value { result.now ≡ record self.old { prefilter = yes } }
+        ensures same { result.ghost_name ≡ self.entry.ghost_name }
+    {
+        self.prefilter = yes;
         self
     }
 
@@ -177,6 +192,7 @@ impl AhoCorasickBuilder {
         let mut builder = noncontiguous::Builder::new();
         builder.match_kind(self.match_kind);
         builder.ascii_case_insensitive(self.fold);
+        builder.prefilter(self.prefilter);
         let nfa = builder.build(alloc, patterns)?;
         let engine = self.engine_over(nfa)?;
         Ok(AhoCorasick::new_by(engine, self.start_kind))
@@ -187,7 +203,7 @@ impl AhoCorasickBuilder {
         &self,
         nfa: noncontiguous::NFA<A>,
     ) -> Result<Engine<A>, BuildError>
-        requires built { IsEngineBuilt (engine_settings self.now) nfa.built.patterns nfa.built }
+        requires built { IsEngineBuilt (engine_settings self.now) nfa.built.patterns nfa }
         ensures { MatchResult result
             (λ engine. Supports engine self.now.start_kind
             × IsBuilt self.now nfa.built.patterns (searcher_of engine self.now.start_kind))
@@ -208,9 +224,9 @@ impl AhoCorasickBuilder {
         kind: AhoCorasickKind,
         nfa: noncontiguous::NFA<A>,
     ) -> Result<Engine<A>, BuildError>
-        requires built { IsEngineBuilt (engine_settings self.now) nfa.built.patterns nfa.built }
+        requires built { IsEngineBuilt (engine_settings self.now) nfa.built.patterns nfa }
         ensures { MatchResult result
-            (λ engine. IsMadeFrom nfa.built self.now engine kind × (size_refusal kind self.now nfa.built ≡ None))
+            (λ engine. IsMadeFrom nfa self.now engine kind × (size_refusal kind self.now nfa.built ≡ None))
             (IsRefused (size_refusal kind self.now nfa.built)) }
     {
         match kind {
@@ -233,7 +249,7 @@ impl AhoCorasickBuilder {
             (choose_kind (length nfa.now.built.patterns) self.now.start_kind
             (fits (size_refusal DFA self.now nfa.now.built))
             (fits (size_refusal ContiguousNFA self.now nfa.now.built)) ≡ NoncontiguousNFA)
-            (λ engine. IsMadeFrom nfa.now.built self.now engine
+            (λ engine. IsMadeFrom nfa.now self.now engine
             (choose_kind (length nfa.now.built.patterns) self.now.start_kind
             (fits (size_refusal DFA self.now nfa.now.built))
             (fits (size_refusal ContiguousNFA self.now nfa.now.built)))))
@@ -257,7 +273,7 @@ impl AhoCorasickBuilder {
             (λ made. MatchOption made
             (suits_table self.now.start_kind (length nfa.now.built.patterns)
             && fits (size_refusal DFA self.now nfa.now.built) ≡ false)
-            (λ engine. IsMadeFrom nfa.now.built self.now engine DFA
+            (λ engine. IsMadeFrom nfa.now self.now engine DFA
             × (suits_table self.now.start_kind (length nfa.now.built.patterns)
             && fits (size_refusal DFA self.now nfa.now.built) ≡ true)))
             (λ e. e ≡ Memory) }
@@ -278,7 +294,7 @@ impl AhoCorasickBuilder {
         nfa: &noncontiguous::NFA<A>,
     ) -> Result<Engine<A>, BuildError>
         ensures { MatchResult result
-            (λ engine. IsMadeFrom nfa.now.built self.now engine ContiguousNFA
+            (λ engine. IsMadeFrom nfa.now self.now engine ContiguousNFA
             × (size_refusal ContiguousNFA self.now nfa.now.built ≡ None))
             (IsRefused (size_refusal ContiguousNFA self.now nfa.now.built)) }
     {
@@ -299,7 +315,7 @@ impl AhoCorasickBuilder {
         nfa: &noncontiguous::NFA<A>,
     ) -> Result<Engine<A>, BuildError>
         ensures { MatchResult result
-            (λ engine. IsMadeFrom nfa.now.built self.now engine DFA
+            (λ engine. IsMadeFrom nfa.now self.now engine DFA
             × (size_refusal DFA self.now nfa.now.built ≡ None))
             (IsRefused (size_refusal DFA self.now nfa.now.built)) }
     {
@@ -318,7 +334,7 @@ impl AhoCorasickBuilder {
 /// `AllocError` where a request for memory is refused.
 fn engine_of<A: Allocator + Clone>(nfa: noncontiguous::NFA<A>) -> Result<Engine<A>, AllocError>
     ensures built { IfOk result (λ engine. built_of engine ≡ nfa.built) }
-    ensures filters { IfOk result (λ engine. filters_of engine ≡ false) }
+    ensures filters { IfOk result (λ engine. filters_of engine ≡ nfa.filters) }
     ensures name { IfOk result (λ engine. name_of engine ≡ NoncontiguousNFA) }
 {
     let alloc = nfa.allocator().clone()?;

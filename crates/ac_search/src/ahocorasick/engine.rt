@@ -348,3 +348,6 @@ impl<'a, 'h, A: Allocator> EngineFindOverlappingIter<'a, 'h, A> {
         }
     }
 }
+
+#[cfg(test)]
+mod tests;

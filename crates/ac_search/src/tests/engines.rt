@@ -1,4 +1,4 @@
-use super::{Told, told, walk_of};
+use super::{LISTINGS, Told, told, walk_of};
 use crate::MatchKind::{LeftmostFirst, LeftmostLongest, Standard};
 use crate::{
     AhoCorasick, AhoCorasickBuilder, AhoCorasickKind, Anchored, Input, MatchKind, OverlappingState,
@@ -6,53 +6,69 @@ use crate::{
 };
 use std::test::Fail;
 
-/// How a searcher is served: the engine, or None to let it choose, the dense depth, and whether bytes share classes.
+/// How a searcher is served: the engine, or None to let it choose, the dense depth, whether bytes share classes, and
+/// whether there may be a prefilter.
 struct Engine {
     kind: Option<AhoCorasickKind>,
     dense_depth: usize,
     byte_classes: bool,
+    prefilter: bool,
 }
 
-const ENGINES: [Engine; 8] = [
+const ENGINES: [Engine; 9] = [
     Engine {
         kind: None,
         dense_depth: 2,
         byte_classes: true,
+        prefilter: true,
     },
     Engine {
         kind: Some(AhoCorasickKind::NoncontiguousNFA),
         dense_depth: 2,
         byte_classes: true,
+        prefilter: true,
     },
     Engine {
         kind: Some(AhoCorasickKind::ContiguousNFA),
         dense_depth: 2,
         byte_classes: true,
+        prefilter: true,
     },
     Engine {
         kind: Some(AhoCorasickKind::ContiguousNFA),
         dense_depth: 0,
         byte_classes: true,
+        prefilter: false,
     },
     Engine {
         kind: Some(AhoCorasickKind::ContiguousNFA),
         dense_depth: 1,
         byte_classes: false,
+        prefilter: true,
     },
     Engine {
         kind: Some(AhoCorasickKind::ContiguousNFA),
         dense_depth: 6,
         byte_classes: true,
+        prefilter: false,
     },
     Engine {
         kind: Some(AhoCorasickKind::DFA),
         dense_depth: 2,
         byte_classes: true,
+        prefilter: true,
     },
     Engine {
         kind: Some(AhoCorasickKind::DFA),
         dense_depth: 0,
         byte_classes: false,
+        prefilter: false,
+    },
+    Engine {
+        kind: Some(AhoCorasickKind::NoncontiguousNFA),
+        dense_depth: 2,
+        byte_classes: true,
+        prefilter: false,
     },
 ];
 
@@ -70,7 +86,7 @@ const WORDS: &[&[u8]] = &[b"append", b"appendage", b"app"];
 
 const SENTENCE: &[u8] = b"append the app to the appendage";
 
-const WALKS: [Row; 15] = [
+const WALKS: [Row; 16] = [
     Row {
         kinds: EACH,
         patterns: &[b"apple", b"maple", b"Snapple"],
@@ -157,6 +173,12 @@ const WALKS: [Row; 15] = [
     },
     Row {
         kinds: EACH,
+        patterns: &[b"aba"],
+        haystack: b"ababa",
+        walk: &[(0, 0, 3)],
+    },
+    Row {
+        kinds: EACH,
         patterns: &[],
         haystack: b"abc",
         walk: &[],
@@ -200,7 +222,9 @@ const ANCHORED_WALKS: [Row; 5] = [
 fn builder_of(engine: &Engine, kind: MatchKind, start_kind: StartKind) -> AhoCorasickBuilder {
     let mut builder = AhoCorasickBuilder::new();
     builder.kind(engine.kind).byte_classes(engine.byte_classes);
-    builder.dense_depth(engine.dense_depth);
+    builder
+        .dense_depth(engine.dense_depth)
+        .prefilter(engine.prefilter);
     builder.match_kind(kind).start_kind(start_kind);
     builder
 }
@@ -298,22 +322,17 @@ fn each_engine_ignores_case_alike(rt: HostRuntime) -> Result<(), Fail> {
 
 #[test]
 fn each_engine_lists_alike(rt: HostRuntime) -> Result<(), Fail> {
-    let wanted = [
-        (2, 0, 3),
-        (0, 0, 6),
-        (2, 11, 14),
-        (2, 22, 25),
-        (0, 22, 28),
-        (1, 22, 31),
-    ];
     for engine in &ENGINES {
         for start_kind in [StartKind::Unanchored, StartKind::Both] {
-            let searcher = builder_of(engine, Standard, start_kind).build(rt.alloc(), WORDS)?;
-            let mut listed = Vec::new(rt.alloc());
-            for m in searcher.try_find_overlapping_iter(Input::new(SENTENCE))? {
-                listed.push(told(&m))?;
+            let builder = builder_of(engine, Standard, start_kind);
+            for &(patterns, haystack, wanted) in LISTINGS {
+                let searcher = builder.build(rt.alloc(), patterns)?;
+                let mut listed = Vec::new(rt.alloc());
+                for m in searcher.try_find_overlapping_iter(Input::new(haystack))? {
+                    listed.push(told(&m))?;
+                }
+                assert_eq!(rt; listed.as_slice(), wanted, "{builder:?}");
             }
-            assert_eq!(rt; listed.as_slice(), wanted.as_slice(), "{start_kind:?}");
         }
     }
     Ok(())

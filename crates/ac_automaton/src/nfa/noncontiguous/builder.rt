@@ -1,6 +1,8 @@
 //! Builds of a trie with failure links.
-ghost use Rattle.std.specs.Prelude.{◌≡◌, MatchResult};
+ghost use Rattle.std.specs.Prelude.{◌≡◌, IfSome, MatchResult, option_map};
+ghost use Rattle.ac_util.specs.declared.error.BuildError.TheVariants.{Memory};
 ghost use Rattle.ac_util.specs.Borrowed.{bytes_of};
+ghost use Rattle.ac_util.specs.Prefilters.{IsSkipFor, skip_for, skip_of};
 ghost use Rattle.ac_automaton.specs.Builds.{IsEngineBuilt, Refuses, usual_engine_settings};
 
 use super::NFA;
@@ -8,6 +10,7 @@ use super::growth::TrieLists;
 use super::lengths::{longest_of, shortest_of};
 use ac_util::error::BuildError;
 use ac_util::patterns::Patterns;
+use ac_util::prefilter::Prefilter;
 use ac_util::search::MatchKind;
 use std::alloc::Allocator;
 use std::marker::Model;
@@ -20,6 +23,7 @@ use std::rc::Rc;
 pub struct Builder {
     kind: MatchKind,
     fold: bool,
+    prefilter: bool,
 }
 
 impl Model for Builder {
@@ -27,9 +31,9 @@ impl Model for Builder {
 
     ghost Value = { EngineSettings };
 
-    ghost view = { λ b. record { kind = b.kind; fold = b.fold } };
+    ghost view = { λ b. record { kind = b.kind; fold = b.fold; prefilter = b.prefilter } };
 
-    ghost inverse = { λ v. record { kind = v.kind; fold = v.fold } };
+    ghost inverse = { λ v. record { kind = v.kind; fold = v.fold; prefilter = v.prefilter } };
 }
 
 impl Default for Builder {
@@ -41,13 +45,15 @@ impl Default for Builder {
 }
 
 impl Builder {
-    /// Returns a builder with the usual settings: `MatchKind::Standard`, and case counts.
+    /// Returns a builder with the usual settings: `MatchKind::Standard`, case counts, and a prefilter where there is
+    /// one.
     pub fn new() -> Builder
         ensures { result ≡ usual_engine_settings }
     {
         Builder {
             kind: MatchKind::Standard,
             fold: false,
+            prefilter: true,
         }
     }
 
@@ -76,6 +82,16 @@ impl Builder {
         self
     }
 
+    /// Sets whether a search may skip ahead by a prefilter, where there is one for the patterns. It changes no answer.
+    /// It may unless set.
+    pub fn prefilter(&mut self, yes: bool) -> &mut Builder
+        ensures value { result.now ≡ record self.old { prefilter = yes } }
+        ensures same { result.ghost_name ≡ self.entry.ghost_name }
+    {
+        self.prefilter = yes;
+        self
+    }
+
     /// Has no effect, and is here since upstream's builder has it, so that its callers need no change. There it sets how
     /// deep a state may be to get a row of its own for all bytes; states of this automaton have no such rows.
     pub fn dense_depth(&mut self, depth: usize) -> &mut Builder
@@ -100,11 +116,12 @@ impl Builder {
         patterns: &[&[u8]],
     ) -> Result<NFA<A>, BuildError>
         ensures { MatchResult result
-            (λ nfa. IsEngineBuilt self.now (bytes_of patterns.now) nfa.built)
+            (λ nfa. IsEngineBuilt self.now (bytes_of patterns.now) nfa)
             (Refuses self.now (bytes_of patterns.now)) }
     {
         let patterns = Patterns::new(alloc, patterns)?;
         let lists = TrieLists::of(&patterns, self.kind, self.fold)?;
+        let prefilter = self.prefilter_of(&patterns)?;
         let alloc = patterns.allocator().clone()?;
         Ok(NFA {
             shortest: shortest_of(&patterns),
@@ -113,6 +130,28 @@ impl Builder {
             kind: self.kind,
             fold: self.fold,
             lists,
+            filters: self.prefilter,
+            prefilter,
         })
+    }
+
+    /// Returns the prefilter of an automaton over these patterns, where the setting is on and there is one.
+    ///
+    /// # Errors
+    /// `Memory` where a request for memory is refused.
+    fn prefilter_of<A: Allocator + Clone>(
+        &self,
+        patterns: &Patterns<A>,
+    ) -> Result<Option<Prefilter<A>>, BuildError>
+        ensures { MatchResult result
+            (λ found. (option_map skip_of found ≡ skip_for self.now.prefilter self.now.fold patterns.now)
+            × IfSome found (λ p. IsSkipFor (skip_of p) self.now.fold patterns.now))
+            (λ e. e ≡ Memory) }
+    {
+        if !self.prefilter {
+            return Ok(None);
+        }
+        let alloc = patterns.allocator().clone()?;
+        Prefilter::of(alloc, patterns, self.fold)
     }
 }

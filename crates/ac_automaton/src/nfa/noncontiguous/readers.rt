@@ -94,4 +94,12 @@ impl<A: Allocator> NFA<A> {
     {
         self.fold
     }
+
+    /// Returns whether it was built to have a prefilter, where there is one for its patterns.
+    #[inline]
+    pub fn filters(&self) -> bool
+        ensures { result ≡ self.now.filters }
+    {
+        self.filters
+    }
 }

@@ -11,6 +11,7 @@ use std::test::Fail;
 mod large;
 mod memory;
 mod overlap;
+mod prefilters;
 mod queries;
 mod readers;
 mod rows;
@@ -34,9 +35,36 @@ struct Settings {
 }
 
 impl Settings {
-    /// Returns an automaton of these settings.
-    fn build(self, alloc: Global, patterns: &[&[u8]]) -> Result<NFA, BuildError> {
-        builder(self.kind, self.fold).build(alloc, patterns)
+    /// Returns automata of these settings.
+    fn build(self, alloc: Global, patterns: &[&[u8]]) -> Result<Pair, BuildError> {
+        let mut builder = builder(self.kind, self.fold);
+        Ok(Pair {
+            with: builder.build(alloc, patterns)?,
+            without: builder.prefilter(false).build(alloc, patterns)?,
+        })
+    }
+}
+
+/// Automata of the same patterns, with a prefilter where they have one, and without.
+#[derive(Drop)]
+struct Pair {
+    with: NFA,
+    without: NFA,
+}
+
+impl Pair {
+    /// Returns whether the walk of each gives these matches, and its find the first of them.
+    fn gives(&self, alloc: Global, input: Input<'_>, wanted: &[Match]) -> Result<bool, Fail> {
+        Ok(gives(alloc, &self.with, input, wanted)? && gives(alloc, &self.without, input, wanted)?)
+    }
+
+    /// Returns whether the listing of each for an input is the plain one.
+    fn lists(&self, alloc: Global, query: &Query<'_>, input: Input<'_>) -> Result<bool, Fail> {
+        let wanted = listing(alloc, query)?;
+        Ok(
+            lists(alloc, &self.with, &wanted, input)?
+                && lists(alloc, &self.without, &wanted, input)?,
+        )
     }
 }
 
@@ -92,26 +120,25 @@ fn listing_by_iterator(alloc: Global, nfa: &NFA, input: Input<'_>) -> Result<Vec
     Ok(listed)
 }
 
-/// Returns whether the listing for an input is the plain one, by a state and if it is unanchored by an iterator.
-fn lists(alloc: Global, nfa: &NFA, query: &Query<'_>, input: Input<'_>) -> Result<bool, Fail> {
-    let wanted = listing(alloc, query)?;
+/// Returns whether the listing for an input is this, by a state and if it is unanchored by an iterator.
+fn lists(alloc: Global, nfa: &NFA, wanted: &[Match], input: Input<'_>) -> Result<bool, Fail> {
     let by_state = listing_by_state(alloc, nfa, input)?;
-    if by_state.as_slice() != wanted.as_slice() {
+    if by_state.as_slice() != wanted {
         return Ok(false);
     }
     if input.get_anchored().is_anchored() {
         return Ok(true);
     }
     let by_iterator = listing_by_iterator(alloc, nfa, input)?;
-    Ok(by_iterator.as_slice() == wanted.as_slice())
+    Ok(by_iterator.as_slice() == wanted)
 }
 
-/// Compares the automaton with the plain program, in one span of a haystack, unanchored and anchored.
+/// Compares automata with the plain program, in one span of a haystack, unanchored and anchored.
 ///
-/// The automaton has to be that of the patterns. A difference is told as a failure.
+/// The automata have to be those of the patterns. A difference is told as a failure.
 fn compare<'a>(
     alloc: Global,
-    nfa: &NFA,
+    pair: &Pair,
     settings: Settings,
     patterns: &'a [&'a [u8]],
     haystack: &'a [u8],
@@ -124,7 +151,7 @@ fn compare<'a>(
     for anchored in [No, Yes] {
         let query = Query::new(patterns, settings.fold, haystack, anchored, span);
         let input = Input::new(haystack).range(start..end).anchored(anchored);
-        if !is_plain(alloc, nfa, settings, &query, input)? {
+        if !is_plain(alloc, pair, settings, &query, input)? {
             return Err(Fail::new(format_args!(
                 "{anchored:?}: {patterns:?} in {haystack:?} at {span:?}"
             )));
@@ -139,16 +166,16 @@ fn compare<'a>(
 /// searches for the earliest end are compared too.
 fn is_plain(
     alloc: Global,
-    nfa: &NFA,
+    pair: &Pair,
     settings: Settings,
     query: &Query<'_>,
     input: Input<'_>,
 ) -> Result<bool, Fail> {
     let wanted = walk(alloc, settings.kind, query)?;
-    if !gives(alloc, nfa, input, &wanted)? {
+    if !pair.gives(alloc, input, &wanted)? {
         return Ok(false);
     }
-    if matches!(settings.kind, Standard) && !lists(alloc, nfa, query, input)? {
+    if matches!(settings.kind, Standard) && !pair.lists(alloc, query, input)? {
         return Ok(false);
     }
     if !settings.earliest {
@@ -158,7 +185,7 @@ fn is_plain(
         return Ok(false);
     }
     let first_ends = walk(alloc, Standard, query)?;
-    gives(alloc, nfa, input.earliest(true), &first_ends)
+    pair.gives(alloc, input.earliest(true), &first_ends)
 }
 
 /// Returns whether the walk gives these matches, and the find the first of them.

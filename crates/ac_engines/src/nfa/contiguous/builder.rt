@@ -8,6 +8,7 @@ use super::format::check_words;
 use super::pack::Packer;
 use super::plan::Plan;
 use crate::classes::classes_for;
+use crate::prefilter::prefilter_for;
 use ac_automaton::automaton::Automaton;
 use ac_automaton::nfa::noncontiguous::{self, ANCHORED_START, START};
 use ac_util::error::BuildError;
@@ -27,6 +28,7 @@ pub struct Builder {
     fold: bool,
     dense_depth: usize,
     byte_classes: bool,
+    prefilter: bool,
 }
 
 impl Model for Builder {
@@ -39,6 +41,7 @@ impl Model for Builder {
       fold = b.fold;
       dense_depth = b.dense_depth;
       byte_classes = b.byte_classes;
+      prefilter = b.prefilter;
     } };
 
     ghost inverse = { λ v. record {
@@ -46,6 +49,7 @@ impl Model for Builder {
       fold = v.fold;
       dense_depth = v.dense_depth;
       byte_classes = v.byte_classes;
+      prefilter = v.prefilter;
     } };
 }
 
@@ -59,7 +63,7 @@ impl Default for Builder {
 
 impl Builder {
     /// Returns a builder with the usual settings: `MatchKind::Standard`, case counts, the states of no byte and of one
-    /// byte are dense, and bytes that need not be told apart share a class.
+    /// byte are dense, bytes that need not be told apart share a class, and a prefilter where there is one.
     pub fn new() -> Builder
         ensures { result ≡ usual_packed_settings }
     {
@@ -68,6 +72,7 @@ impl Builder {
             fold: false,
             dense_depth: USUAL_DENSE_DEPTH,
             byte_classes: true,
+            prefilter: true,
         }
     }
 
@@ -96,11 +101,11 @@ impl Builder {
         self
     }
 
-    /// Sets below how many bytes of its string a state has a target for each class of bytes, and not only for those
-    /// that lead on. It is 2 unless set. The dead state, the starts, and states with more than 127 transitions have one
-    /// for each class always.
+    /// Sets which states are dense, so that they have a target for each class of bytes: those of strings shorter than
+    /// this many bytes. States of more than 127 transitions, the dead state and the starts are dense always. It is 2
+    /// unless set.
     ///
-    /// States with a target for each class are faster, and larger. It changes no answer.
+    /// Dense states are faster, and larger. It changes no answer.
     pub fn dense_depth(&mut self, depth: usize) -> &mut Builder
         ensures value { result.now ≡ record self.old { dense_depth = depth } }
         ensures same { result.ghost_name ≡ self.entry.ghost_name }
@@ -121,6 +126,16 @@ impl Builder {
         self
     }
 
+    /// Sets whether a search may skip ahead by a prefilter, where there is one for the patterns. It changes no answer.
+    /// It may unless set.
+    pub fn prefilter(&mut self, yes: bool) -> &mut Builder
+        ensures value { result.now ≡ record self.old { prefilter = yes } }
+        ensures same { result.ghost_name ≡ self.entry.ghost_name }
+    {
+        self.prefilter = yes;
+        self
+    }
+
     /// Builds an automaton over a list of patterns. An empty list is fine: nothing is then found.
     ///
     /// # Errors
@@ -137,14 +152,16 @@ impl Builder {
             (RefusesPacked self.now (bytes_of patterns.now)) }
     {
         let mut nfa = noncontiguous::Builder::new();
-        nfa.match_kind(self.kind).ascii_case_insensitive(self.fold);
+        nfa.match_kind(self.kind)
+            .ascii_case_insensitive(self.fold)
+            .prefilter(self.prefilter);
         let nfa = nfa.build(alloc, patterns)?;
         let alloc = nfa.allocator().clone()?;
         self.build_from_noncontiguous(alloc, &nfa)
     }
 
     /// Builds an automaton that answers as another one, whose patterns it shares. Of the settings only `dense_depth`
-    /// and `byte_classes` count.
+    /// and `byte_classes` count: match kind, case and prefilter are those of the other automaton.
     ///
     /// # Errors
     /// `StateIdOverflow` exactly where there would be more words than the greatest number of a state, whether there is
@@ -155,7 +172,7 @@ impl Builder {
         nfa: &noncontiguous::NFA<A>,
     ) -> Result<NFA<A>, BuildError>
         ensures { MatchResult result
-            (λ packed. IsPackedFrom self.now.dense_depth self.now.byte_classes nfa.now.built packed
+            (λ packed. IsPackedFrom self.now.dense_depth self.now.byte_classes nfa.now.built nfa.now.filters packed
             × (packed_refusal_from self.now.dense_depth self.now.byte_classes nfa.now.built ≡ None))
             (RefusesPackedFrom self.now.dense_depth self.now.byte_classes nfa.now.built) }
     {
@@ -181,6 +198,8 @@ impl Builder {
             start: numbers[START],
             anchored_start: numbers[ANCHORED_START],
             match_end: sizes.match_end as usize,
+            filters: nfa.filters(),
+            prefilter: prefilter_for(nfa)?,
         })
     }
 }

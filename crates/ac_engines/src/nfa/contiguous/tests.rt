@@ -1,5 +1,5 @@
 use super::Builder;
-use crate::samples::{EACH, THREE, told, walk_of};
+use crate::samples::{EACH, SKIPPING, THREE, seen, seen_of, told, walk_of};
 use ac_automaton::automaton::Automaton;
 use ac_automaton::nfa::noncontiguous;
 use ac_util::error::BuildError;
@@ -83,16 +83,16 @@ fn many_transitions(rt: HostRuntime) -> Result<(), Fail> {
         haystack.push(b'a')?;
         haystack.push(byte)?;
     }
-    for (few, classes, state) in [(254, 131, 161), (256, 131, 133)] {
+    for (few, words) in [(254, 941), (256, 916)] {
         let Some(text) = haystack.get(..few) else {
             return Err(Fail::new("the haystack is shorter"));
         };
         let patterns: Vec<&[u8]> = text.chunks(2).collect(rt.alloc())?;
         for &kind in EACH {
             let nfa = builder(kind, 0, true).build(rt.alloc(), &patterns)?;
-            // The dead state and the starts have a word for each class, and each pattern's state a match besides.
-            let outer = (3 * (2 + classes)) + (few / 2) * 3;
-            assert_eq!(rt; nfa.words.len(), outer + state);
+            // The dead state and the starts have two words and one for each of 131 classes, and each pattern's state
+            // has three words.
+            assert_eq!(rt; nfa.words.len(), words);
             let walked = walk_of(rt.alloc(), &nfa, Input::new(text))?;
             assert_eq!(rt; walked.len(), few / 2);
             for (number, found) in walked.iter().enumerate() {
@@ -117,6 +117,61 @@ fn an_automaton_of_another_kind_gives_its_own(rt: HostRuntime) -> Result<(), Fai
     assert_eq!(rt; packed.match_kind(), LeftmostFirst);
     let found = packed.try_find(Input::new(b"abcd"))?.map(|m| told(&m));
     assert_eq!(rt; found, Some((1, 0, 3)));
+    Ok(())
+}
+
+/// The prefilter is that of the patterns and their case, and there is none where the setting is off.
+#[test]
+fn the_prefilter_is_that_of_the_patterns(rt: HostRuntime) -> Result<(), Fail> {
+    for (patterns, fold, haystack, count) in SKIPPING {
+        let wanted = seen_of(rt.alloc(), patterns, fold, haystack)?;
+        assert_eq!(rt; wanted.map(|(bytes, _)| bytes), count, "{patterns:?}");
+        for &kind in EACH {
+            let mut builder = builder(kind, 2, true);
+            builder.ascii_case_insensitive(fold);
+            let usual = builder.build(rt.alloc(), patterns)?;
+            assert_eq!(rt; seen(usual.prefilter(), haystack), wanted, "{patterns:?}");
+            builder.prefilter(false);
+            let off = builder.build(rt.alloc(), patterns)?;
+            assert_eq!(rt; seen(off.prefilter(), haystack), None, "{patterns:?}");
+            builder.prefilter(true);
+            let on = builder.build(rt.alloc(), patterns)?;
+            assert_eq!(rt; seen(on.prefilter(), haystack), wanted, "{patterns:?}");
+        }
+    }
+    Ok(())
+}
+
+/// There is a prefilter where the setting is on, and a copy has the same.
+#[test]
+fn prefilters(rt: HostRuntime) -> Result<(), Fail> {
+    for &kind in EACH {
+        for (yes, count) in [(true, Some(2)), (false, None)] {
+            let mut builder = builder(kind, 2, true);
+            let nfa = builder.prefilter(yes).build(rt.alloc(), &[b"he", b"she"])?;
+            assert_eq!(rt; nfa.filters, yes);
+            assert_eq!(rt; nfa.prefilter().map(|p| p.byte_count()), count);
+            let copy = nfa.clone()?;
+            assert_eq!(rt; copy.filters, yes);
+            assert_eq!(rt; copy.prefilter().map(|p| p.byte_count()), count);
+        }
+    }
+    Ok(())
+}
+
+/// The prefilter is that of the automaton from which it is built, whatever its own setting is.
+#[test]
+fn an_automaton_gives_its_prefilter(rt: HostRuntime) -> Result<(), Fail> {
+    for (yes, count) in [(true, Some(0)), (false, None)] {
+        let mut first = noncontiguous::Builder::new();
+        let nfa = first.prefilter(yes).build(rt.alloc(), &[b"she"])?;
+        let mut builder = builder(Standard, 2, true);
+        let packed = builder
+            .prefilter(!yes)
+            .build_from_noncontiguous(rt.alloc(), &nfa)?;
+        assert_eq!(rt; packed.filters, yes);
+        assert_eq!(rt; packed.prefilter().map(|p| p.byte_count()), count);
+    }
     Ok(())
 }
 

@@ -57,7 +57,6 @@ fn settings(rt: HostRuntime) -> Result<(), Fail> {
         assert_eq!(rt; nfa.match_kind(), kind);
         assert!(rt; nfa.try_find(Input::new(b"HE"))?.is_some());
         assert!(rt; nfa.memory_usage() > 0);
-        assert!(rt; nfa.prefilter().is_none());
     }
     Ok(())
 }

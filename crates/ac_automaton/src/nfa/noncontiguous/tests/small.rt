@@ -49,33 +49,33 @@ fn words(alloc: Global, letters: &[u8], count: usize) -> Result<Vec<Vec<u8>>, Al
     Ok(found)
 }
 
-/// Compares the automaton of these patterns with the plain program, over each haystack.
+/// Compares the automata of these patterns with the plain program, over each haystack.
 fn compare_each<'a>(
     alloc: Global,
     settings: Settings,
     patterns: &'a [&'a [u8]],
     haystacks: &'a [Vec<u8>],
 ) -> Result<(), Fail> {
-    let nfa = settings.build(alloc, patterns)?;
+    let pair = settings.build(alloc, patterns)?;
     for haystack in haystacks {
-        compare(alloc, &nfa, settings, patterns, haystack, whole(haystack))?;
+        compare(alloc, &pair, settings, patterns, haystack, whole(haystack))?;
     }
     Ok(())
 }
 
-/// Compares the automaton of these patterns with the plain program, over each span of haystacks.
+/// Compares the automata of these patterns with the plain program, over each span of haystacks.
 fn compare_spans<'a>(
     alloc: Global,
     settings: Settings,
     patterns: &'a [&'a [u8]],
     haystacks: &'a [Vec<u8>],
 ) -> Result<(), Fail> {
-    let nfa = settings.build(alloc, patterns)?;
+    let pair = settings.build(alloc, patterns)?;
     for haystack in haystacks {
         for end in 0..haystack.len().saturating_add(1) {
             for start in 0..end.saturating_add(2) {
                 let span = Span { start, end };
-                compare(alloc, &nfa, settings, patterns, haystack, span)?;
+                compare(alloc, &pair, settings, patterns, haystack, span)?;
             }
         }
     }

@@ -31,10 +31,18 @@ fn finds(rt: HostRuntime) -> Result<(), Fail> {
     for (rows, fold, anchored, earliest) in FIND_TABLES {
         for &(name, kinds, patterns, haystack, wanted) in rows {
             for &kind in kinds {
-                let nfa = builder(kind, fold).build(rt.alloc(), patterns)?;
-                let input = Input::new(haystack).anchored(anchored).earliest(earliest);
-                let found = nfa.try_find(input)?.map(|m| told(&m));
-                assert_eq!(rt; found, wanted.first().copied(), "{name} under {kind:?}");
+                for yes in [true, false] {
+                    let nfa = builder(kind, fold)
+                        .prefilter(yes)
+                        .build(rt.alloc(), patterns)?;
+                    let input = Input::new(haystack).anchored(anchored).earliest(earliest);
+                    let found = nfa.try_find(input)?.map(|m| told(&m));
+                    assert_eq!(rt;
+                        found,
+                        wanted.first().copied(),
+                        "{name} under {kind:?}, {yes}"
+                    );
+                }
             }
         }
     }
@@ -46,11 +54,15 @@ fn walks(rt: HostRuntime) -> Result<(), Fail> {
     for (rows, fold, anchored, earliest) in WALK_TABLES {
         for &(name, kinds, patterns, haystack, wanted) in rows {
             for &kind in kinds {
-                let nfa = builder(kind, fold).build(rt.alloc(), patterns)?;
-                let input = Input::new(haystack).anchored(anchored).earliest(earliest);
-                let matches = walk_of(rt.alloc(), &nfa, input)?;
-                let walked: Vec<Told> = matches.iter().map(told).collect(rt.alloc())?;
-                assert_eq!(rt; walked.as_slice(), wanted, "{name} under {kind:?}");
+                for yes in [true, false] {
+                    let nfa = builder(kind, fold)
+                        .prefilter(yes)
+                        .build(rt.alloc(), patterns)?;
+                    let input = Input::new(haystack).anchored(anchored).earliest(earliest);
+                    let matches = walk_of(rt.alloc(), &nfa, input)?;
+                    let walked: Vec<Told> = matches.iter().map(told).collect(rt.alloc())?;
+                    assert_eq!(rt; walked.as_slice(), wanted, "{name} under {kind:?}, {yes}");
+                }
             }
         }
     }

@@ -42,11 +42,11 @@ returns-in_err-reached g c =
     (sym c.from_residual.ensures)
     (subst (λ (r : Option Reached). Goes g s r → ListsNext (seen g s r) None (seen g s r)) (sym c.in_err-reached.was)
     (lists-past_end (built g s) inside.lister.anchored inside.tape.bytes inside.lister.span.start
-    inside.lister.span.end inside.tape inside.looks) c.self.invariant))
+    inside.lister.span.end inside.tape inside.looks) c.self.invariant.listing))
 
 -- it goes on from where it has come to
 way : (g : Over) (c : After-self g) (here : Reached) → c.self.inside.reached ≡ Some here → Goes g c (Some here)
-way g c here is = subst (Goes g c) is c.self.invariant
+way g c here is = subst (Goes g c) is c.self.invariant.listing
 
 pub invariant_of-self : goal.invariant_of-self
 invariant_of-self g c =
@@ -54,17 +54,20 @@ invariant_of-self g c =
     let inside = c.self.inside in
     let here = c.in_ok-reached.reached in
     let there = way g s here c.in_ok-reached.was in
-    subst (λ (bs : List ℕ). IsListing
-    (g.A.Automaton.stands inside.lister.automaton.now inside.lister.anchored)
-    (g.A.Automaton.listed inside.lister.automaton.now) g.A.Automaton.LOOKS
-    (g.A.Automaton.filters inside.lister.automaton.now) (built g s)
-    (search_of (built g s) inside.lister.anchored bs inside.lister.span.start inside.lister.span.end)
-    (Some c.next-found.new.reached) c.next-found.new.tape c.next-found.new.looks)
-    (sym c.next-found.ensures.moved.bytes)
-    (listing-goes_on (built g s) inside.lister.anchored inside.tape.bytes inside.lister.span.start
-    inside.lister.span.end here c.next-found.new.reached inside.tape c.next-found.new.tape inside.looks
-    c.next-found.new.looks c.next-found.result there c.next-found.ensures.moved c.next-found.ensures.grows
-    (c.next-found.ensures.come (beginning_of (q g s)) there.begun.1))
+    record {
+      listing = subst (λ (bs : List ℕ). IsListing
+          (g.A.Automaton.stands inside.lister.automaton.now inside.lister.anchored)
+          (g.A.Automaton.listed inside.lister.automaton.now) g.A.Automaton.LOOKS
+          (g.A.Automaton.filters inside.lister.automaton.now) (built g s)
+          (search_of (built g s) inside.lister.anchored bs inside.lister.span.start inside.lister.span.end)
+          (Some c.next-found.new.reached) c.next-found.new.tape c.next-found.new.looks)
+          (sym c.next-found.ensures.moved.bytes)
+          (listing-goes_on (built g s) inside.lister.anchored inside.tape.bytes inside.lister.span.start
+          inside.lister.span.end here c.next-found.new.reached inside.tape c.next-found.new.tape inside.looks
+          c.next-found.new.looks c.next-found.result there c.next-found.ensures.moved c.next-found.ensures.grows
+          (c.next-found.ensures.come (beginning_of (q g s)) there.begun.1));
+      skips = c.self.invariant.skips;
+    }
 
 pub returns : goal.returns
 returns g c =

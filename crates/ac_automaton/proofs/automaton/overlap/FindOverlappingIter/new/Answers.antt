@@ -1,5 +1,6 @@
 use Rattle.std.proofs.Common.{◌≡◌, ℕ, ◌≤◌, [], false, ap, refl, sym, subst, ◌∙◌, inl, inr, Option, Some, None}
 use Rattle.std.proofs.lemmas.Bool.{cases_lt, false≢true}
+use Rattle.std.specs.Prelude.{IfSome}
 use Rattle.ac_util.specs.declared.search.Anchored.{Anchored}
 use Rattle.ac_util.specs.declared.search.Anchored.TheVariants.{No, Yes}
 use Rattle.ac_util.specs.declared.search.MatchKind.TheVariants.{Standard}
@@ -7,10 +8,12 @@ use Rattle.ac_util.specs.Built.{Built, search_in}
 use Rattle.ac_util.specs.Counts.{no_counts}
 use Rattle.ac_util.specs.Inputs.{asked}
 use Rattle.ac_util.specs.Node.{Node}
+use Rattle.ac_util.specs.Prefilters.{skip_of}
 use Rattle.ac_util.specs.Refusal.{start_refusal}
 use Rattle.ac_automaton.specs.Automata.{Lists}
 use Rattle.ac_automaton.specs.declared.automaton.overlap.Reached.{Reached}
 use Rattle.ac_automaton.specs.Overlaps.{IsListing, given_by, overlapping_of}
+use Rattle.ac_automaton.specs.Skipping.{SkipsByBytes}
 use Rattle.ac_automaton.proofs.Overlapping.{at_start, goes_on-start, iterator-served, listing-starts}
 use Rattle.ac_automaton.proofs.automaton.overlap.FindOverlappingIter.new.Given.{Over}
 use Rattle.ac_automaton.proofs.automaton.overlap.FindOverlappingIter.new.Goals.{After-open-tape, then-is_done, else-is_done}
@@ -115,8 +118,13 @@ module _ (g : Over) (c : After-open-tape g) where
 pub invariant_of-result : goal.invariant_of-result
 invariant_of-result g c =
     let s = (goal.at.invariant_of-result g c).After-open-tape in
-    rw (c.get_anchored-3.ensures, c.open-tape.ensures.tape, c.open-tape.ensures.looks, c.get_span.ensures)
-    (begins g s)
+    record {
+      listing = rw (c.get_anchored-3.ensures, c.open-tape.ensures.tape, c.open-tape.ensures.looks, c.get_span.ensures)
+          (begins g s);
+      skips = subst (λ (a : Anchored). IfSome c.listing_prefilter.result (λ p. (a ≡ No)
+          × SkipsByBytes (g.A.Automaton.filters c.args.automaton.now) (built g s) (skip_of p.now)))
+          (c.get_anchored-4.ensures ∙ sym c.get_anchored-3.ensures) c.listing_prefilter.ensures;
+    }
 
 pub returns : goal.returns
 returns g c =

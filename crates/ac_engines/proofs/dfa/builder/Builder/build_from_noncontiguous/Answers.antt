@@ -43,7 +43,7 @@ invariant_of-result g c =
     record {
       table = (
         place_in nodes.0 layout.numbers.items,
-        rw (patterns, c.fold.ensures, c.match_kind.ensures) (are-table
+        rw (patterns, c.fold.ensures, c.match_kind.ensures, c.filters.ensures) (are-table
             c.args.nfa.now c.self.inside.start_kind c.classes_for-classes.result c.stride2-stride2.result
             layout.numbers.items nodes.0 _ may c.in_ok-table.table.items lists layout.first_match layout.match_end
             (filled may) laid),
@@ -54,9 +54,11 @@ invariant_of-result g c =
       bounds = c.in_ok-layout.ensures.bounds;
       start = c.start_of.ensures;
       anchored_start = c.start_of-2.ensures;
-      among = rw (patterns, c.fold.ensures, c.match_kind.ensures) (has-matches-among c.args.nfa.now
+      among = rw (patterns, c.fold.ensures, c.match_kind.ensures, c.filters.ensures) (has-matches-among c.args.nfa.now
           c.self.inside.start_kind c.classes_for-classes.result c.stride2-stride2.result layout.numbers.items nodes.0 _
           may c.in_ok-table.table.items lists layout.first_match layout.match_end (filled may) laid);
+      skips = rw (patterns, c.fold.ensures, c.filters.ensures) c.in_ok-prefilter_for.ensures.skips;
+      serves = rw (patterns, c.fold.ensures) c.in_ok-prefilter_for.ensures.serves;
     }
 
 -- the table is that of the automaton
@@ -72,6 +74,7 @@ returns g c =
     rw (sym c.self.view_is) (
       record {
         built = rw (patterns, c.fold.ensures, c.match_kind.ensures) refl;
+        filters = c.filters.ensures;
         classes = classes;
         stride2 = c.stride2-stride2.ensures.value;
         rows = c.in_ok-table.ensures.long ∙ plan.len_is ∙ rw c.stride2-stride2.ensures.value refl;

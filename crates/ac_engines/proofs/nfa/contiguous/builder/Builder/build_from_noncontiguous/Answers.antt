@@ -57,10 +57,11 @@ invariant_of-result g c =
         places_of c.new-plan.result nodes.0 c.deref.result.now,
         subst (λ (p : Packed). IsPacked p (places_of c.new-plan.result nodes.0 c.deref.result.now))
             (sym (packed-same c.new-plan.result nodes.0 c.deref.result.now c.in_ok-words.words.items
-            c.in_ok-clone-2.field-0.value c.fold.result c.match_kind.result c.self.inside.dense_depth
+            c.in_ok-clone-2.field-0.value c.fold.result c.match_kind.result c.filters.result c.self.inside.dense_depth
             c.classes_for-classes.result c.index.result.now c.index-2.result.now c.sizes-sizes.result.match_end
             (patterns ∙ ap (λ (b : Built). b.patterns) (sym trie)) (c.fold.ensures ∙ ap (λ (b : Built). b.fold) (sym trie))
             (c.match_kind.ensures ∙ ap (λ (b : Built). b.kind) (sym trie)) nodes.1.are_nodes.table.both
+            (c.filters.ensures ∙ ap (λ (q : PackPlan). q.trie.filters) (sym plan))
             (ap (λ (q : PackPlan). q.dense_depth) (sym plan)) (ap (λ (q : PackPlan). q.classes) (sym plan))
             (read-place c.in_ok-numbers.numbers.items c.deref.result.now START c.index.result.now
             (omega (arith, placed)) (sym numbers) c.index.ensures)
@@ -72,4 +73,6 @@ invariant_of-result g c =
       );
       shortest = c.min_pattern_len.ensures ∙ ap shortest_len (sym patterns);
       longest = c.max_pattern_len.ensures ∙ ap longest_len (sym patterns);
+      skips = rw (patterns, c.fold.ensures, c.filters.ensures) c.in_ok-prefilter_for.ensures.skips;
+      serves = rw (patterns, c.fold.ensures) c.in_ok-prefilter_for.ensures.serves;
     }

@@ -18,11 +18,11 @@ use Rattle.ac_automaton.proofs.Due.{counts}
 use Rattle.ac_automaton.proofs.Heads.{nil-from_not}
 use Rattle.ac_automaton.proofs.ListLoop.{HasPassed, IsAtEnd, arrives, at_end-kept, at_end-read, due-arrived, given-arrived, has-moved, listing-next, matches_at, nothing-due, passed-here, passed-on, up_to}
 use Rattle.ac_automaton.proofs.ReadOn.{grows-trans, may-read}
-use Rattle.ac_automaton.proofs.automaton.overlap.Lister.next.Given.{Over}
-use Rattle.ac_automaton.proofs.automaton.overlap.Lister.next.Goals.{After-give, After-read_byte-state, Joined-reached-end}
-use Rattle.ac_automaton.proofs.automaton.overlap.Lister.next.Goals.{then-is_some-via-then-is_some, then-is_some-via-else-is_some+then-is_dead-2}
-use Rattle.ac_automaton.proofs.automaton.overlap.Lister.next.Goals.{then-is_match_or_dead+else-is_some+else-is_dead-2, else-is_match_or_dead, then-reached-end, else-reached-end}
-use Rattle.ac_automaton.proofs.automaton.overlap.Lister.next.Goals as goal
+use Rattle.ac_automaton.proofs.automaton.overlap.Lister.next_on.Given.{Over}
+use Rattle.ac_automaton.proofs.automaton.overlap.Lister.next_on.Goals.{After-give, After-read_byte-state, Joined-reached-end}
+use Rattle.ac_automaton.proofs.automaton.overlap.Lister.next_on.Goals.{then-is_some-via-then-is_some, then-is_some-via-else-is_some+then-is_dead-2}
+use Rattle.ac_automaton.proofs.automaton.overlap.Lister.next_on.Goals.{then-is_match_or_dead+else-is_some+else-is_dead-2, else-is_match_or_dead, then-reached-end, else-reached-end}
+use Rattle.ac_automaton.proofs.automaton.overlap.Lister.next_on.Goals as goal
 
 -- none isn't some
 none-some : {T : Type 0} (r : Option T) → r ≡ None → is_some r ≡ true → ⊥

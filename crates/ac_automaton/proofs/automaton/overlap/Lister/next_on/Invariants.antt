@@ -2,7 +2,7 @@ use Rattle.std.proofs.Common.{◌≡◌, ◌≢◌, ◌≤◌, None}
 use Rattle.ac_util.specs.Node.{Node}
 use Rattle.ac_automaton.specs.Progress.{Beginning, Grows, HasCome, Reaches, search_of}
 use Rattle.ac_automaton.proofs.ListLoop.{HasPassed}
-use Rattle.ac_automaton.proofs.automaton.overlap.Lister.next.Given as goal
+use Rattle.ac_automaton.proofs.automaton.overlap.Lister.next_on.Given as goal
 
 -- the automaton stands at the place, alive, and all items that end up to there were given
 abbrev pub invariant-loop-at : goal.invariant-loop-at
