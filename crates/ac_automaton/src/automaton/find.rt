@@ -27,13 +27,14 @@ use std::marker::Model;
 /// with `earliest` the one that `MatchKind::Standard` picks.
 ///
 /// The automaton has to support the anchoring; the span has to end within the haystack, to start no later than
-/// one past its end, and not before the tape's place of reading. Each byte is read at most once, and unless
-/// the prefilter was called each byte as far as the end of the match is. For each byte read states are looked at once in an anchored search, and
-/// else at least once and at most `LOOKS` times on the whole. No byte is read from the dead node on, where
-/// nothing more is found: there an anchored search stands once it has left all patterns, and a leftmost one once
-/// its match can't change. Under `MatchKind::Standard` or with `earliest` no byte past the end of the match is
-/// read, so the next find can go on with the same tape. An unanchored search skips by the automaton's prefilter as long
-/// as that pays: it calls it at most once for each byte of the span, and the answer is the same without.
+/// one past its end, and not before the tape's place of reading. Each byte is read at most once, and unless the
+/// prefilter was called each byte as far as the end of the match is. For each byte read states are looked at
+/// once in an anchored search, and else at least once and at most `LOOKS` times on the whole. No byte is read
+/// from the dead node on, where nothing more is found: there an anchored search stands once it has left all
+/// patterns, and a leftmost one once its match can't change. Under `MatchKind::Standard` or with `earliest` no
+/// byte past the end of the match is read, so the next find can go on with the same tape. An unanchored search
+/// skips by the automaton's prefilter as long as that pays: it calls it at most once for each byte of the span,
+/// and the answer is the same without.
 #[inline]
 pub fn find_core<A: Automaton>(
     automaton: &A,
