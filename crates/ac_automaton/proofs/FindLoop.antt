@@ -197,12 +197,12 @@ module _ (built : Built) (anchored : Anchored) (earliest : Bool) (began : Beginn
             sym is ∙ found-by (at + 1) (i ∷ rest) e
             ∙ sym (pick-found built.kind order (up_to at) ordered room goes_on i rest e)
 
-    -- from the dead node on r stays picked to the end
-    pub picked-dead : at < began.end → began.end ≤ length began.tape.bytes → node_at (at + 1) ≡ None
-        → r ≡ pick order q
-    picked-dead up inside dead =
-        let still = picked-still (found-dead built anchored (node_at (at + 1)) (at + 1) dead) in
-        still
-        ∙ sym (pick-stays_dead built.kind order (up_to (at + 1)) (began.end - (at + 1)) (omega arith)
-        (omega arith) dead (subst (GoesOn built.kind order) still goes))
-        ∙ ap (λ (h : ℕ). pick order (record q { high = h })) (omega arith)
+  -- where it is dead what was picked stays picked to the end
+  pub dead-stays : (at : ℕ) (r : Option Occurrence) → began.start ≤ at → r ≡ pick order (up_to at)
+      → GoesOn built.kind order r → at ≤ began.end → began.end ≤ length began.tape.bytes → node_at at ≡ None
+      → r ≡ pick order q
+  dead-stays at r ordered picked goes up inside dead =
+      picked
+      ∙ sym (pick-stays_dead built.kind order (up_to at) (began.end - at) (omega arith) (omega arith) dead
+      (subst (GoesOn built.kind order) picked goes))
+      ∙ ap (λ (h : ℕ). pick order (record q { high = h })) (omega arith)

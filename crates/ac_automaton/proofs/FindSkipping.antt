@@ -20,9 +20,10 @@ use Rattle.ac_util.proofs.SearchLoop.{GoesOn}
 use Rattle.ac_util.proofs.Walks.{pick-Occurs}
 use Rattle.ac_automaton.specs.Automata.{matches_of}
 use Rattle.ac_automaton.specs.Finds.{HasSearched, ReadsTo, Tells, found_at, place_of}
-use Rattle.ac_automaton.specs.Progress.{Beginning, search_of}
-use Rattle.ac_automaton.specs.Skipping.{IsQuiet, Skips}
-use Rattle.ac_automaton.proofs.FindLoop.{goes_on-by, node_at, order, picked-dead, picked-newly, picked-start, picked-still, q, up_to}
+use Rattle.ac_automaton.specs.Progress.{Beginning, IsQuiet, search_of}
+use Rattle.ac_automaton.specs.Skipping.{Skips}
+use Rattle.ac_automaton.proofs.FindAhead.{found-nothing, picked-ahead, picked-there}
+use Rattle.ac_automaton.proofs.FindLoop.{dead-stays, found-dead, goes_on-by, node_at, order, picked-start, q, up_to}
 use Rattle.ac_automaton.proofs.ReadOn.{node-start}
 use Rattle.ac_automaton.proofs.Skipping.{grows-called, matches-start, skips-somehow}
 
@@ -125,21 +126,10 @@ module _ (built : Built) (start end : ℕ) (tape : Taped) {filters : Bool} {skip
         decided = λ same. absurd (omega (arith, c, same));
       }
 
--- a search that is dead has read on from its start
-pub past-start : (built : Built) (stops : Bool) (began : Beginning) (at : ℕ) → began.start ≤ at
-    → node_at built No stops began at ≡ None → began.start < at
-past-start built stops began at ordered dead = elim (cases_lt began.start at) [
-  | inl before ↦ before
-  | inr behind ↦
-      let e : at ≡ began.start = omega arith in
-      let no : None ≡ Some [] = sym dead ∙ ap (node_at built No stops began) e ∙ node-start built No began in
-      absurd (cc)
-]
-
 -- a find whose automaton has reached no match so far has picked none
 module _ (built : Built) (stops : Bool) (began : Beginning) (some : list_any is_empty built.patterns ≡ false)
     (leftmost : stops ≡ false → is_leftmost built.kind ≡ true) (at : ℕ) (inside : at ≤ length began.tape.bytes)
-    (quiet : IsQuiet built began.tape.bytes began.start began.start at) where
+    (quiet : IsQuiet built No began.tape.bytes began.start began.start at) where
   abbrev node : ℕ → Node
   node = node_at built No stops began
 
@@ -149,42 +139,25 @@ module _ (built : Built) (stops : Bool) (began : Beginning) (some : list_any is_
   goes : GoesOn built.kind (order built No stops began) None
   goes = goes_on-by built.kind stops None leftmost (λ _. refl)
 
-  -- a node without matches finds none
-  found-nothing : (k : ℕ) → matches_of built No (node k) ≡ [] → found_at built No (node k) k ≡ None
-  found-nothing k none = ap (λ (ms : List ℕ). option_map (place_of built k) (slice_get ms 0)) none
-
   none-at_start : began.start ≤ at → None ≡ picked_to began.start
   none-at_start ordered =
       sym (picked-start built No stops began (omega arith)
-      ∙ found-nothing began.start (ap (matches_of built No) (node-start built No began) ∙ matches-start built some))
-
-  none-for : (n : ℕ) → began.start + n < at → None ≡ picked_to (began.start + n)
-  none-for zero up =
-      let e : began.start ≡ began.start + 0 = omega arith in none-at_start (omega arith) ∙ ap picked_to e
-  none-for (suc n) up =
-      let e : began.start + n + 1 ≡ began.start + suc n = omega arith in
-      picked-still built No stops began (began.start + n) None (omega arith) (omega arith) (none-for n (omega arith)) goes
-      (found-nothing (began.start + n + 1) (quiet (began.start + n + 1) (omega arith) (omega arith))) ∙ ap picked_to e
-
-  pub none-picked : (k : ℕ) → began.start ≤ k → k < at → None ≡ picked_to k
-  none-picked k low up =
-      let e : began.start + (k - began.start) ≡ k = omega arith in none-for (k - began.start) (omega arith) ∙ ap picked_to e
+      ∙ found-nothing built No stops began began.start
+      (ap (matches_of built No) (node-start built No began) ∙ matches-start built some))
 
   -- so what its automaton finds there is what it picks
-  picked-next : (k : ℕ) → began.start ≤ k → k < at → found_at built No (node (k + 1)) (k + 1) ≡ picked_to (k + 1)
-  picked-next k low up = by (found_at built No (node (k + 1)) (k + 1)) refl
+  picked-next : began.start < at → found_at built No (node at) at ≡ picked_to at
+  picked-next before = by (found_at built No (node at) at) refl
     where
-      by : (r : Option Occurrence) → found_at built No (node (k + 1)) (k + 1) ≡ r → r ≡ picked_to (k + 1)
+      by : (r : Option Occurrence) → found_at built No (node at) at ≡ r → r ≡ picked_to at
       by None e =
-          picked-still built No stops began k None low (omega arith) (none-picked k low up) goes e
+          picked-ahead built No stops began (omega arith) inside None goes (none-at_start (omega arith)) quiet before e
       by (Some m) e =
-          picked-newly built No stops began k None low (omega arith) (none-picked k low up) goes m e
+          picked-there built No stops began (omega arith) inside None goes (none-at_start (omega arith)) quiet before m e
 
   pub picked-quiet : began.start ≤ at → found_at built No (node at) at ≡ picked_to at
   picked-quiet ordered = elim (cases_lt began.start at) [
-    | inl before ↦
-        let e : at - 1 + 1 ≡ at = omega arith in
-        subst (λ (k : ℕ). found_at built No (node k) k ≡ picked_to k) e (picked-next (at - 1) (omega arith) (omega arith))
+    | inl before ↦ picked-next before
     | inr behind ↦
         let e : began.start ≡ at = omega arith in
         subst (λ (k : ℕ). found_at built No (node k) k ≡ picked_to k) e (sym (picked-start built No stops began (omega arith)))
@@ -194,8 +167,5 @@ module _ (built : Built) (stops : Bool) (began : Beginning) (some : list_any is_
   pub dead-quiet : began.start ≤ at → at ≤ began.end → began.end ≤ length began.tape.bytes → node at ≡ None
       → None ≡ pick (order built No stops began) (q built No stops began)
   dead-quiet ordered up whole dead =
-      let before = past-start built stops began at ordered dead in
-      let e : at ≡ at - 1 + 1 = omega arith in
-      picked-dead built No stops began (at - 1) None (omega arith) (omega arith)
-      (none-picked (at - 1) (omega arith) (omega arith)) goes (omega arith) whole
-      (subst (λ (k : ℕ). node k ≡ None) e dead)
+      dead-stays built No stops began at None ordered
+      (sym (found-dead built No (node at) at dead) ∙ picked-quiet ordered) goes up whole dead

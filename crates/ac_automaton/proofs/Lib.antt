@@ -5,6 +5,7 @@ pub mod ChildFails
 pub mod Counting
 pub mod Due
 pub mod Exchanging
+pub mod FindAhead
 pub mod FindLoop
 pub mod FindSkipping
 pub mod Follows
@@ -23,6 +24,7 @@ pub mod Overlapping
 pub mod Places
 pub mod Prefixes
 pub mod Ranges
+pub mod ReadAhead
 pub mod ReadOn
 pub mod Reading
 pub mod Skipping

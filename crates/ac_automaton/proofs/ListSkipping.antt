@@ -16,8 +16,7 @@ use Rattle.ac_util.proofs.Reached.{reached-alive}
 use Rattle.ac_automaton.specs.declared.automaton.overlap.Reached.{Reached}
 use Rattle.ac_automaton.specs.Automata.{Lists, plain_of}
 use Rattle.ac_automaton.specs.Overlaps.{HasListed, HasMoved, due_in, given_in}
-use Rattle.ac_automaton.specs.Progress.{Beginning, HasCome, node_at, search_of, span_of}
-use Rattle.ac_automaton.specs.Skipping.{HasSkipped}
+use Rattle.ac_automaton.specs.Progress.{Beginning, HasCome, PassesNoMatch, node_at, search_of, span_of}
 use Rattle.ac_automaton.proofs.ListLoop.{arrives, given-all, given-arrived, listing-next, matches_at, up_to}
 
 -- an unanchored search by Standard is never dead
@@ -33,14 +32,14 @@ pub record HasComeOn (stands : ℕ → Node → Type 0) (listed : ℕ → List �
   pub leaves : HasListed stands listed kind q reached
   pub as_many : given_in listed q reached ≡ given_in listed q old
 
-module _ (built : Built) (bytes : List ℕ) (start end : ℕ) (listed : ℕ → List ℕ) (standard : built.kind ≡ Standard)
+module _ (built : Built) (anchored : Anchored) (bytes : List ℕ) (start end : ℕ) (listed : ℕ → List ℕ) (standard : built.kind ≡ Standard)
     (legal : end ≤ length bytes) {stands : ℕ → Node → Type 0} {reached : Reached}
-    (on : HasListed stands listed built.kind (search_of built No bytes start end) reached)
-    (none : due_in listed (search_of built No bytes start end) reached ≡ []) {state at : ℕ}
-    (skipped : HasSkipped stands built bytes start end reached.at state at) where
+    (on : HasListed stands listed built.kind (search_of built anchored bytes start end) reached)
+    (none : due_in listed (search_of built anchored bytes start end) reached ≡ []) {state at : ℕ}
+    (skipped : PassesNoMatch stands built anchored bytes start end reached.at state at) where
   -- all items that end up to a place
   abbrev all_to : ℕ → List Occurrence
-  all_to k = all (up_to built No bytes start end k)
+  all_to k = all (up_to built anchored bytes start end k)
 
   -- no item ends where no match was passed over
   all-quiet : (n : ℕ) → reached.at + n < at → all_to (reached.at + n) ≡ all_to reached.at
@@ -50,15 +49,15 @@ module _ (built : Built) (bytes : List ℕ) (start end : ℕ) (listed : ℕ → 
       let ordered = on.reaches.onward in
       let within = skipped.within in
       ap all_to e
-      ∙ listing-next built No bytes start end standard (reached.at + n) (omega arith) (omega arith)
-      ∙ ap (λ (ns : List ℕ). all_to (reached.at + n) ++ map (ending (up_to built No bytes start end (reached.at + n + 1))) ns)
+      ∙ listing-next built anchored bytes start end standard (reached.at + n) (omega arith) (omega arith)
+      ∙ ap (λ (ns : List ℕ). all_to (reached.at + n) ++ map (ending (up_to built anchored bytes start end (reached.at + n + 1))) ns)
       (skipped.quiet (reached.at + n + 1) (omega arith) (omega arith))
       ∙ append-nil (all_to (reached.at + n))
       ∙ all-quiet n (omega arith)
 
   -- so what is listed where it has come to are the matches there
-  pub come-on : reached.at < at → Lists built No (node_at built.kind (search_of built No bytes start end) at) (listed state)
-      → HasComeOn stands listed built.kind (search_of built No bytes start end) reached
+  pub come-on : reached.at < at → Lists built anchored (node_at built.kind (search_of built anchored bytes start end) at) (listed state)
+      → HasComeOn stands listed built.kind (search_of built anchored bytes start end) reached
       (record { state = state; at = at; rest = record { state = state; index = 0 } })
   come-on before lists =
       let ordered = on.reaches.onward in
@@ -68,14 +67,14 @@ module _ (built : Built) (bytes : List ℕ) (start end : ℕ) (listed : ℕ → 
       ap all_to (sym last) ∙ all-quiet (at - 1 - reached.at) (omega arith) in
       let next : at - 1 + 1 ≡ at = omega arith in
       let listing : all_to at ≡ all_to (at - 1)
-      ++ map (ending (up_to built No bytes start end at))
-      (matches_at built No bytes start end at) =
-      subst (λ (k : ℕ). all_to k ≡ all_to (at - 1) ++ map (ending (up_to built No bytes start end k)) (matches_at built No bytes start end k))
-      next (listing-next built No bytes start end standard (at - 1) (omega arith) (omega arith)) in
+      ++ map (ending (up_to built anchored bytes start end at))
+      (matches_at built anchored bytes start end at) =
+      subst (λ (k : ℕ). all_to k ≡ all_to (at - 1) ++ map (ending (up_to built anchored bytes start end k)) (matches_at built anchored bytes start end k))
+      next (listing-next built anchored bytes start end standard (at - 1) (omega arith) (omega arith)) in
       record {
-        leaves = arrives built No bytes start end listed state at skipped.reaches within lists (all_to (at - 1)) listing;
-        as_many = given-arrived built No bytes start end listed state at skipped.reaches lists (all_to (at - 1)) listing
-            ∙ ap length quiet ∙ sym (given-all built No bytes start end on none);
+        leaves = arrives built anchored bytes start end listed state at skipped.reaches within lists (all_to (at - 1)) listing;
+        as_many = given-arrived built anchored bytes start end listed state at skipped.reaches lists (all_to (at - 1)) listing
+            ∙ ap length quiet ∙ sym (given-all built anchored bytes start end on none);
       }
 
 -- what goes on from where a listing has come to goes on from where it was

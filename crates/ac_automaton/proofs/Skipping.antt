@@ -22,8 +22,9 @@ use Rattle.ac_util.proofs.NodeCount.{any_passes}
 use Rattle.ac_util.proofs.Participants.{equal_to-none_begins}
 use Rattle.ac_util.proofs.Reached.{step-nil}
 use Rattle.ac_automaton.specs.Automata.{matches_of, plain_of, step_of}
-use Rattle.ac_automaton.specs.Progress.{Beginning, Grows, HasCome, HasRead, Reaches, most_looks, node_at, search_of, span_of}
-use Rattle.ac_automaton.specs.Skipping.{HasStayed, IsQuiet, MayRead}
+use Rattle.ac_automaton.specs.Progress.{Beginning, Grows, HasCome, HasRead, IsQuiet, Reaches, most_looks, node_at, search_of, span_of}
+use Rattle.ac_automaton.specs.Skipping.{HasStayed, MayRead}
+use Rattle.ac_automaton.proofs.ReadAhead.{IsAlong}
 use Rattle.ac_automaton.proofs.ReadOn.{node-step}
 
 -- where a plain pattern begins with a plain byte, some pattern begins with the byte
@@ -226,29 +227,8 @@ module _ (built : Built) (began : Beginning) {stands : ℕ → Node → Type 0} 
     paid = paid;
   }
 
--- where an automaton stands doesn't depend on where the span ends
-pub reaches-as : (built : Built) {stands : ℕ → Node → Type 0} {state at start end other : ℕ} {bytes same : List ℕ}
-    → bytes ≡ same → Reaches stands built.kind (search_of built No bytes start end) state at
-    → Reaches stands built.kind (search_of built No same start other) state at
-reaches-as built {stands} {state} {at} {start} {end} {other} e reaches =
-    subst (λ (bs : List ℕ). Reaches stands built.kind (search_of built No bs start other) state at) e (record {
-      there = reaches.there;
-      onward = reaches.onward;
-      inside = reaches.inside;
-      alive = reaches.alive;
-    })
-
--- an automaton has come from one place of a span to another, where it isn't dead, and at none after the first
--- has it reached a match
-pub record IsAlong (stands : ℕ → Node → Type 0) (built : Built) (bytes : List ℕ) (start end from : ℕ)
-    (state at : ℕ) : Type 0 where
-  pub reaches : Reaches stands built.kind (search_of built No bytes start end) state at
-  pub onward : from ≤ at
-  pub quiet : IsQuiet built bytes start from (at + 1)
-  pub living : node_at built.kind (search_of built No bytes start end) at ≢ None
-
 module _ {stands : ℕ → Node → Type 0} (built : Built) (some : list_any is_empty built.patterns ≡ false) {bytes : List ℕ}
-    {start end from at state to : ℕ} (along : IsAlong stands built bytes start end from state at)
+    {start end from at state to : ℕ} (along : IsAlong stands built No bytes start end from state at)
     (stayed : HasStayed stands built bytes start end at state to) where
   -- once it has stayed at its start up to a place it is still alive
   pub living-on : node_at built.kind (search_of built No bytes start end) to ≢ None
@@ -266,12 +246,12 @@ module _ {stands : ℕ → Node → Type 0} (built : Built) (some : list_any is_
       ap (matches_of built No) (stayed.there k (omega arith) (omega arith)) ∙ matches-start built some
 
   -- and has reached no match
-  pub quiet-on : IsQuiet built bytes start from (to + 1)
+  pub quiet-on : IsQuiet built No bytes start from (to + 1)
   quiet-on k low high = quiet-at k low high (cases_lt k (at + 1))
 
   -- nor if no match is at the next place
   pub quiet-next : matches_of built No (node_at built.kind (search_of built No bytes start end) (to + 1)) ≡ []
-      → IsQuiet built bytes start from (to + 1 + 1)
+      → IsQuiet built No bytes start from (to + 1 + 1)
   quiet-next none k low high = elim (cases_lt k (to + 1)) [
     | inl before ↦ quiet-on k low before
     | inr behind ↦ subst (λ (n : ℕ). matches_of built No (node_at built.kind (search_of built No bytes start end) n) ≡ []) (omega arith) none

@@ -1,5 +1,5 @@
 -- What a find answers, and when it has read enough.
-use Rattle.std.specs.Prelude.{◌≡◌, ◌≢◌, ◌⊎◌, ℕ, ◌+◌, ◌-◌, ◌≤◌, Bool, List, Option, None, IfSome, option_map, slice_get, length, max}
+use Rattle.std.specs.Prelude.{◌≡◌, ◌≢◌, ◌⊎◌, ℕ, ◌+◌, ◌-◌, ◌≤◌, Bool, true, List, Option, None, IfSome, option_map, slice_get, length, max}
 use Rattle.ac_util.specs.declared.search.Anchored.{Anchored}
 use Rattle.ac_util.specs.declared.search.Anchored.TheVariants.{Yes}
 use Rattle.ac_util.specs.declared.search.MatchKind.{MatchKind}
@@ -86,3 +86,8 @@ pub record MayReadOn (stands : ℕ → Node → Type 0) (most : ℕ) (filters : 
   pub come : HasCome stands most filters built anchored began state at tape counts
   pub within : at ≤ began.end
   pub unread : tape.place ≤ at
+
+-- a find that has come to a node has its answer in the last match found: nothing is left to read, nothing more is
+-- found, or it stops at the first match and has one
+abbrev pub IsAnswered : Bool → ℕ → ℕ → Node → Option Occurrence → Type 0
+IsAnswered stops end at u last = (end ≤ at) ⊎ ((u ≡ None) ⊎ ((stops ≡ true) × (last ≢ None)))

@@ -1,6 +1,6 @@
 -- What a search that reads byte by byte has done: where its automaton stands, what it has read of its tape, and
 -- what it has counted.
-use Rattle.std.specs.Prelude.{◌≡◌, ◌≢◌, ℕ, ◌+◌, ◌-◌, ◌*◌, ◌<◌, ◌≤◌, Bool, false, List, None, length, max}
+use Rattle.std.specs.Prelude.{◌≡◌, ◌≢◌, ℕ, ◌+◌, ◌-◌, ◌*◌, ◌<◌, ◌≤◌, Bool, false, List, [], None, length, max}
 use Rattle.ac_util.specs.declared.search.Anchored.{Anchored}
 use Rattle.ac_util.specs.declared.search.Anchored.TheVariants.{No, Yes}
 use Rattle.ac_util.specs.declared.search.MatchKind.{MatchKind}
@@ -11,6 +11,7 @@ use Rattle.ac_util.specs.Node.{Node, reached}
 use Rattle.ac_util.specs.Prefilters.{may_skip}
 use Rattle.ac_util.specs.Search.{Search}
 use Rattle.ac_util.specs.Text.{plain_patterns, text}
+use Rattle.ac_automaton.specs.Automata.{matches_of}
 
 -- how many looks a search may take for each byte read, where an unanchored one may take `most`: an anchored one
 -- follows no failure link, so it looks once
@@ -102,3 +103,17 @@ pub record HasCome (stands : ℕ → Node → Type 0) (most : ℕ) (filters : Bo
   pub counted : counts.calls ≡ began.counts.calls → began.counts.reads + (at - began.start) ≤ counts.reads
   pub paid : counts.looks + credit (most_looks anchored most) (node_at built.kind (span_of built anchored began) at)
       ≤ began.counts.looks + most_looks anchored most * (counts.reads - began.counts.reads)
+
+-- at no place after `from` and before `to` has the node reached a match
+abbrev pub IsQuiet : Built → Anchored → List ℕ → ℕ → ℕ → ℕ → Type 0
+IsQuiet built anchored bytes start from to =
+    (k : ℕ) → from < k → k < to
+    → matches_of built anchored (node_at built.kind (search_of built anchored bytes start to) k) ≡ []
+
+-- an automaton has come from one place of a span to another, and has passed over no match between them
+pub record PassesNoMatch (stands : ℕ → Node → Type 0) (built : Built) (anchored : Anchored) (bytes : List ℕ)
+    (start end from : ℕ) (state at : ℕ) : Type 0 where
+  pub reaches : Reaches stands built.kind (search_of built anchored bytes start end) state at
+  pub onward : from ≤ at
+  pub within : at ≤ end
+  pub quiet : IsQuiet built anchored bytes start from at

@@ -8,7 +8,6 @@ use Rattle.ac_util.specs.Looks.{credit}
 use Rattle.ac_util.specs.Node.{Node}
 use Rattle.ac_util.specs.Prefilters.{IsSkipFor, Skip, may_skip, skip_for}
 use Rattle.ac_util.specs.Prefilters.Skip.{FirstOf, Needle}
-use Rattle.ac_automaton.specs.Automata.{matches_of}
 use Rattle.ac_automaton.specs.Progress.{Beginning, HasRead, Reaches, most_looks, node_at, search_of, span_of}
 
 -- an unanchored search of an automaton that was built to have a prefilter, or not, may skip so
@@ -27,20 +26,6 @@ pub record IsNeedle (filters : Bool) (built : Built) (skip : Skip) : Type 0 wher
   pub needle : List ℕ
   pub by_needle : skip ≡ Needle needle
   pub skips : Skips filters built skip
-
--- at no place after `from` and before `to` has the node reached a match
-abbrev pub IsQuiet : Built → List ℕ → ℕ → ℕ → ℕ → Type 0
-IsQuiet built bytes start from to =
-    (k : ℕ) → from < k → k < to
-    → matches_of built No (node_at built.kind (search_of built No bytes start to) k) ≡ []
-
--- an automaton has come from one place of a span to another, and has passed over no match between them
-pub record HasSkipped (stands : ℕ → Node → Type 0) (built : Built) (bytes : List ℕ) (start end from : ℕ)
-    (state at : ℕ) : Type 0 where
-  pub reaches : Reaches stands built.kind (search_of built No bytes start end) state at
-  pub onward : from ≤ at
-  pub within : at ≤ end
-  pub quiet : IsQuiet built bytes start from at
 
 -- an automaton stands, at each place after the first, at its start
 pub record HasStayed (stands : ℕ → Node → Type 0) (built : Built) (bytes : List ℕ) (start end from : ℕ)

@@ -9,13 +9,14 @@ ghost use Rattle.ac_util.specs.Node.{Node, is_leftmost};
 ghost use Rattle.ac_util.specs.Pick.{order_of};
 ghost use Rattle.ac_util.specs.Prefilters.{skip_of};
 ghost use Rattle.ac_util.specs.Refusal.{AnswersUnless, start_refusal};
-ghost use Rattle.ac_automaton.specs.Finds.{FitsIn, HasSearched, IsReady, MayReadOn, asked_of, found_at};
+ghost use Rattle.ac_automaton.specs.Automata.{IsState};
+ghost use Rattle.ac_automaton.specs.Finds.{FitsIn, HasSearched, IsAnswered, IsReady, MayReadOn, asked_of, found_at};
 ghost use Rattle.ac_automaton.specs.Progress.{HasCome, began_at, search_of};
 ghost use Rattle.ac_automaton.specs.Skipping.{IsNeedle, Skips, SkipsByBytes};
 
 use super::Automaton;
 use super::skip::{Credit, Skipper};
-use super::step::{Cursor, is_match_or_dead, read_byte};
+use super::step::{Cursor, Reader};
 use ac_util::error::MatchError;
 use ac_util::looks::{Looks, Tape, open};
 use ac_util::prefilter::{Candidate, Prefilter};
@@ -235,27 +236,35 @@ impl<'a, A: Automaton> Find<'a, A> {
             self.now.span.end) result (record { bytes = tape.old.bytes; place = place }) tape.new counts looks.new }
     {
         let (automaton, anchored, span) = (self.automaton, self.anchored, self.span);
-        let (mut state, from) = (cursor.state, cursor.at);
-        let mut last = match_at(automaton, anchored, Cursor { state, at: from }, span.start);
-        if self.stops && last.is_some() {
-            return last;
-        }
-        for at in from..span.end {
-            state = read_byte(automaton, anchored, Cursor { state, at }, tape, looks);
-            if is_match_or_dead(automaton, state) {
-                if automaton.is_dead(state) {
-                    return last;
-                }
-                let here = Cursor { state, at: at + 1 };
-                if let Some(found) = match_at(automaton, anchored, here, span.start) {
-                    if self.stops {
-                        return Some(found);
-                    }
-                    last = Some(found);
-                }
+        let (mut state, mut at) = (cursor.state, cursor.at);
+        let reader = Reader {
+            automaton,
+            anchored,
+            end: span.end,
+        };
+        let mut last = match_at(automaton, anchored, Cursor { state, at }, span.start);
+        while !self.is_decided(Cursor { state, at }, &last) {
+            let ahead = reader.read_ahead(Cursor { state, at }, tape, looks);
+            (state, at) = (ahead.state, ahead.at);
+            let found = match_at(automaton, anchored, Cursor { state, at }, span.start);
+            if found.is_some() {
+                last = found;
             }
         }
         last
+    }
+
+    /// Returns whether the last match found is the answer: nothing is left to read, nothing more is found, or the
+    /// first match counts.
+    #[inline]
+    fn is_decided(&self, cursor: Cursor, last: &Option<Match>) -> bool
+        requires state { IsState (A.stands self.now.automaton.now self.now.anchored) cursor.state }
+        ensures { (u : Node) → A.stands self.now.automaton.now self.now.anchored cursor.state u
+            → IsTrue result ↔ IsAnswered self.now.stops self.now.span.end cursor.at u last.now }
+    {
+        cursor.at >= self.span.end
+            || self.automaton.is_dead(cursor.state)
+            || (self.stops && last.is_some())
     }
 
     /// Skips to where patterns begin as long as none is found and skipping pays. Returns where to read on, or None

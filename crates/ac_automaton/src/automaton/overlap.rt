@@ -13,7 +13,7 @@ ghost use Rattle.ac_automaton.specs.Skipping.{SkipsByBytes};
 
 use super::Automaton;
 use super::skip::{Credit, Skipper};
-use super::step::{Cursor, is_match_or_dead, read_byte};
+use super::step::{Cursor, Reader};
 use ac_util::error::MatchError;
 use ac_util::looks::{Looks, Tape, open};
 use ac_util::prefilter::Prefilter;
@@ -334,27 +334,25 @@ impl<'a, A: Automaton> Lister<'a, A> {
             reached.new.state reached.new.at tape.new looks.new }
     {
         let (automaton, anchored, end) = (self.automaton, self.anchored, self.span.end);
-        if let Some(found) = self.give(reached) {
-            return Some(found);
-        }
-        let mut state = reached.state;
-        if automaton.is_dead(state) {
-            return None;
-        }
-        for at in reached.at..end {
-            state = read_byte(automaton, anchored, Cursor { state, at }, tape, looks);
-            if is_match_or_dead(automaton, state) {
-                *reached = Reached::new(state, at + 1);
-                let found = self.give(reached);
-                if found.is_some() || automaton.is_dead(state) {
-                    return found;
-                }
+        let reader = Reader {
+            automaton,
+            anchored,
+            end,
+        };
+        loop {
+            if let Some(found) = self.give(reached) {
+                return Some(found);
             }
+            let here = Cursor {
+                state: reached.state,
+                at: reached.at,
+            };
+            if here.at >= end || automaton.is_dead(here.state) {
+                return None;
+            }
+            let ahead = reader.read_ahead(here, tape, looks);
+            *reached = Reached::new(ahead.state, ahead.at);
         }
-        if reached.at < end {
-            *reached = Reached::new(state, end);
-        }
-        None
     }
 }
 

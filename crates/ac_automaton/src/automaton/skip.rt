@@ -6,8 +6,8 @@ ghost use Rattle.std.specs.Prelude.{◌≡◌, ◌≢◌, ℕ, ◌≤◌, ◌<�
 ghost use Rattle.ac_util.specs.declared.search.Anchored.TheVariants.{No};
 ghost use Rattle.ac_util.specs.Counts.{Counts};
 ghost use Rattle.ac_util.specs.Prefilters.{skip_of};
-ghost use Rattle.ac_automaton.specs.Progress.{Beginning, Grows, HasCome, Reaches, node_at, search_of};
-ghost use Rattle.ac_automaton.specs.Skipping.{HasPassed, HasSkipped, MayRead, SkipsByBytes};
+ghost use Rattle.ac_automaton.specs.Progress.{Beginning, Grows, HasCome, PassesNoMatch, Reaches, node_at, search_of};
+ghost use Rattle.ac_automaton.specs.Skipping.{HasPassed, MayRead, SkipsByBytes};
 
 use super::Automaton;
 use super::step::{Cursor, is_match_or_dead, read_byte};
@@ -90,8 +90,8 @@ impl<'a, A: Automaton> Skipper<'a, A> {
             (search_of (A.built self.now.automaton.now) No tape.old.bytes start end) cursor.state cursor.at
             → node_at (A.built self.now.automaton.now).kind
             (search_of (A.built self.now.automaton.now) No tape.old.bytes start end) cursor.at ≢ None
-            → HasSkipped (A.stands self.now.automaton.now No) (A.built self.now.automaton.now) tape.old.bytes start
-            end cursor.at result.state result.at }
+            → PassesNoMatch (A.stands self.now.automaton.now No) (A.built self.now.automaton.now) No tape.old.bytes
+            start end cursor.at result.state result.at }
         ensures bytes { tape.new.bytes ≡ tape.old.bytes }
         ensures onward { tape.old.place ≤ tape.new.place }
         ensures unread { tape.new.place ≤ result.at }

@@ -6,7 +6,7 @@ ghost use Rattle.std.specs.Prelude.{◌≡◌, ◌≢◌, ◌⊎◌, ℕ, ◌+�
 ghost use Rattle.ac_util.specs.declared.search.Anchored.{Anchored};
 ghost use Rattle.ac_util.specs.Node.{Node};
 ghost use Rattle.ac_automaton.specs.Automata.{IsState};
-ghost use Rattle.ac_automaton.specs.Progress.{Beginning, Grows, HasCome, Reaches, node_at, search_of, span_of};
+ghost use Rattle.ac_automaton.specs.Progress.{Beginning, Grows, HasCome, PassesNoMatch, Reaches, node_at, search_of, span_of};
 ghost use Rattle.ac_automaton.specs.Skipping.{MayRead};
 
 use super::Automaton;
@@ -62,4 +62,57 @@ pub(super) fn is_match_or_dead<A: Automaton>(automaton: &A, sid: StateID) -> boo
         → (u ≡ None) ⊎ (A.listed automaton.now sid ≢ []) → IsTrue result }
 {
     automaton.is_match(sid) || automaton.is_dead(sid)
+}
+
+/// A reader of a span: it reads on from match to match, for every search alike.
+#[derive(Drop)]
+pub(super) struct Reader<'a, A: Automaton> {
+    pub(super) automaton: &'a A,
+    pub(super) anchored: Anchored,
+    pub(super) end: usize,
+}
+
+impl<'a, A: Automaton> Reader<'a, A> {
+    /// Reads on up to a state that has matches or is dead, or up to the end. Returns how far it has come.
+    #[inline]
+    pub(super) fn read_ahead(&self, cursor: Cursor, tape: &mut Tape<'_>, looks: &mut Looks) -> Cursor
+        requires reaches { (start : ℕ) × Reaches (A.stands self.now.automaton.now self.now.anchored)
+            (A.built self.now.automaton.now).kind (search_of (A.built self.now.automaton.now) self.now.anchored
+            tape.old.bytes start self.now.end) cursor.state cursor.at
+            × (node_at (A.built self.now.automaton.now).kind (search_of (A.built self.now.automaton.now)
+            self.now.anchored tape.old.bytes start self.now.end) cursor.at ≢ None) }
+        requires within { cursor.at ≤ self.now.end }
+        requires inside { self.now.end ≤ length tape.old.bytes }
+        requires unread { tape.old.place ≤ cursor.at }
+        ensures passed { (start : ℕ) → Reaches (A.stands self.now.automaton.now self.now.anchored)
+            (A.built self.now.automaton.now).kind (search_of (A.built self.now.automaton.now) self.now.anchored
+            tape.old.bytes start self.now.end) cursor.state cursor.at
+            → node_at (A.built self.now.automaton.now).kind (search_of (A.built self.now.automaton.now)
+            self.now.anchored tape.old.bytes start self.now.end) cursor.at ≢ None
+            → PassesNoMatch (A.stands self.now.automaton.now self.now.anchored) (A.built self.now.automaton.now)
+            self.now.anchored tape.old.bytes start self.now.end cursor.at result.state result.at }
+        ensures moved { cursor.at < self.now.end → cursor.at < result.at }
+        ensures bytes { tape.new.bytes ≡ tape.old.bytes }
+        ensures onward { tape.old.place ≤ tape.new.place }
+        ensures unread { tape.new.place ≤ result.at }
+        ensures grows { Grows looks.old looks.new }
+        ensures come { (began : Beginning) → HasCome (A.stands self.now.automaton.now self.now.anchored) A.LOOKS
+            (A.filters self.now.automaton.now) (A.built self.now.automaton.now) self.now.anchored began cursor.state
+            cursor.at tape.old looks.old
+            → node_at (A.built self.now.automaton.now).kind
+            (search_of (A.built self.now.automaton.now) self.now.anchored tape.old.bytes began.start self.now.end)
+            cursor.at ≢ None
+            → HasCome (A.stands self.now.automaton.now self.now.anchored) A.LOOKS (A.filters self.now.automaton.now)
+            (A.built self.now.automaton.now) self.now.anchored began result.state result.at tape.new looks.new }
+    {
+        let (automaton, anchored, end) = (self.automaton, self.anchored, self.end);
+        let mut state = cursor.state;
+        for at in cursor.at..end {
+            state = read_byte(automaton, anchored, Cursor { state, at }, tape, looks);
+            if is_match_or_dead(automaton, state) {
+                return Cursor { state, at: at + 1 };
+            }
+        }
+        Cursor { state, at: end }
+    }
 }

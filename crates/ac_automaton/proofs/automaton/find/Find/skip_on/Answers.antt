@@ -4,10 +4,10 @@ use Rattle.std.proofs.lemmas.Bool.{false≢true}
 use Rattle.ac_util.specs.declared.search.Anchored.TheVariants.{No}
 use Rattle.ac_util.specs.Built.{Built}
 use Rattle.ac_util.specs.Node.{Node, is_empty}
-use Rattle.ac_automaton.specs.Progress.{Beginning, HasCome, began_at, node_at, search_of}
-use Rattle.ac_automaton.specs.Skipping.{HasSkipped}
+use Rattle.ac_automaton.specs.Progress.{Beginning, HasCome, PassesNoMatch, began_at, node_at, search_of}
+use Rattle.ac_automaton.proofs.FindAhead.{past-start}
 use Rattle.ac_automaton.proofs.FindLoop as find
-use Rattle.ac_automaton.proofs.FindSkipping.{dead-quiet, past-start, picked-quiet, skip-some}
+use Rattle.ac_automaton.proofs.FindSkipping.{dead-quiet, picked-quiet, skip-some}
 use Rattle.ac_automaton.proofs.ReadOn.{come-start, node-start, reaches-start}
 use Rattle.ac_automaton.proofs.automaton.find.Find.skip_on.Given.{Over}
 use Rattle.ac_automaton.proofs.automaton.find.Find.skip_on.Goals.{After-skip_on-cursor}
@@ -59,7 +59,7 @@ module _ (g : Over) (c : After-skip_on-cursor g) where
   living : node_at built.kind (search_of built No bytes start end) start ≢ None
   living = λ dead. let there = node-start built No began in absurd (cc)
 
-  skipped : HasSkipped Stands built bytes start end start c.skip_on-cursor.result.state c.skip_on-cursor.result.at
+  skipped : PassesNoMatch Stands built No bytes start end start c.skip_on-cursor.result.state c.skip_on-cursor.result.at
   skipped = c.skip_on-cursor.ensures.skipped start (reaches-start built No began c.requires.starts inside) living
 
   come : HasCome Stands g.A.Automaton.LOOKS (g.A.Automaton.filters c.args.self.now.automaton.now) built No began
@@ -91,7 +91,7 @@ returns-then-is_dead g c =
     skipped.quiet skipped.onward)
     (λ _. tt)
     (λ same. let w = come.whole same in let p = come.read.within in let u = c.requires.unread in
-    let b = past-start (built g s) (stops g s) (began g s) c.skip_on-cursor.result.at skipped.onward dead in
+    let b = past-start (built g s) No (stops g s) (began g s) c.skip_on-cursor.result.at skipped.onward dead in
     let e : c.skip_on-cursor.result.at ≡ c.skip_on-cursor.new.tape.place = omega arith in
     inr (inr (subst (λ (n : ℕ). find.node_at (built g s) No (stops g s) (began g s) n ≡ None) e dead)))
 

@@ -110,7 +110,7 @@ module _ (g : Over) (c : Joined-cursor-reached g) where
         | then-cursor-reached w ↦
             subst (HasComeOn (stands_of No) listed_of built_of.kind search c.give.new.reached)
             (sym (w.reached-is ∙ w.new.ensures))
-            (come-on built_of c.args.tape.now.bytes c.args.self.now.span.start c.args.self.now.span.end listed_of
+            (come-on built_of No c.args.tape.now.bytes c.args.self.now.span.start c.args.self.now.span.end listed_of
             c.requires.standard c.requires.end_within on none skipped w.if-cursor-reached.true
             (g.met.A.Automaton.lists c.args.self.now.automaton.now No cursor.state _ skipped.reaches.there))
         | else-cursor-reached w ↦

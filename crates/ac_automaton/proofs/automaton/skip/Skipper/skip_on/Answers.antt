@@ -12,7 +12,8 @@ use Rattle.ac_automaton.specs.Progress.{Beginning, HasCome, Reaches, node_at, se
 use Rattle.ac_automaton.specs.Skipping.{HasPassed, HasStayed, MayRead}
 use Rattle.ac_automaton.proofs.Heads.{nil-from_not}
 use Rattle.ac_automaton.proofs.ReadOn.{grows-trans}
-use Rattle.ac_automaton.proofs.Skipping.{IsAlong, living-on, quiet-next, quiet-on, reaches-as}
+use Rattle.ac_automaton.proofs.ReadAhead.{IsAlong, reaches-as}
+use Rattle.ac_automaton.proofs.Skipping.{living-on, quiet-next, quiet-on}
 use Rattle.ac_automaton.proofs.automaton.skip.Skipper.skip_on.Given.{Over}
 use Rattle.ac_automaton.proofs.automaton.skip.Skipper.skip_on.Goals.{After-read_byte-state, After-skip}
 use Rattle.ac_automaton.proofs.automaton.skip.Skipper.skip_on.Goals as goal
@@ -39,7 +40,7 @@ module _ (g : Over) (c : After-skip g) where
       × (node_at built.kind (search_of built No bytes start c.args.end) c.args.cursor.at ≢ None)
 
   along : (start : ℕ) → Begins start
-      → IsAlong Stands built bytes start c.args.end c.args.cursor.at c.loop-at.state c.loop-at.at
+      → IsAlong Stands built No bytes start c.args.end c.args.cursor.at c.loop-at.state c.loop-at.at
   along start h = c.loop-at.invariant.along start h.0 h.1
 
   passed : (start : ℕ) → Begins start
@@ -47,7 +48,7 @@ module _ (g : Over) (c : After-skip g) where
   passed start h =
       let same = c.loop-at.invariant.bytes in
       subst (λ (bs : List ℕ). HasPassed Stands built bs start c.args.end c.loop-at.at c.loop-at.state c.skip.result) same
-      (c.skip.ensures.skipped start (reaches-as built (sym same) (along start h).reaches))
+      (c.skip.ensures.skipped start (reaches-as built No (sym same) (along start h).reaches))
 
   -- so did one that has come there
   begins : (began : Beginning)
@@ -55,7 +56,7 @@ module _ (g : Over) (c : After-skip g) where
       c.args.cursor.state c.args.cursor.at c.args.tape.now c.args.looks.now
       → node_at built.kind (search_of built No bytes began.start c.args.end) c.args.cursor.at ≢ None
       → Begins began.start
-  begins began come living = (reaches-as built (sym come.read.bytes) come.reaches, living)
+  begins began come living = (reaches-as built No (sym come.read.bytes) come.reaches, living)
 
   stays : (start place : ℕ) → c.skip.result ≡ Some place → Begins start
       → (place < c.args.end)
@@ -127,7 +128,7 @@ is_match_or_dead-requires g c =
     let stayed = (stays g s r.0 c.in-Some.place c.in-Some.is h).1 in
     let same = c.loop-at.invariant.bytes in
     let on =
-    c.read_byte-state.ensures.reaches r.0 c.args.end (reaches-as (built g s) (sym same) stayed.reaches)
+    c.read_byte-state.ensures.reaches r.0 c.args.end (reaches-as (built g s) No (sym same) stayed.reaches)
     (living-there g s r.0 c.in-Some.place c.in-Some.is h) in
     record { state = (No, (_, on.there)) }
 
@@ -140,10 +141,10 @@ returns-then-is_match_or_dead-clause-skipped g c =
     let along = along g s start h in
     let same = c.loop-at.invariant.bytes in
     let on =
-    c.read_byte-state.ensures.reaches start c.args.end (reaches-as (built g s) (sym same) stays.1.reaches)
+    c.read_byte-state.ensures.reaches start c.args.end (reaches-as (built g s) No (sym same) stays.1.reaches)
     (living-there g s start c.in-Some.place c.in-Some.is h) in
     record {
-      reaches = reaches-as (built g s) same on;
+      reaches = reaches-as (built g s) No same on;
       onward = (let a = along.onward in let b = stays.1.onward in omega arith);
       within = (let b = stays.0 in omega arith);
       quiet = quiet-on (built g s) (some g s) along stays.1;
@@ -180,13 +181,13 @@ loop-at-preserved g c =
           let stays = stays g s start c.in-Some.place c.in-Some.is h in
           let along = along g s start h in
           let on =
-          c.read_byte-state.ensures.reaches start c.args.end (reaches-as (built g s) (sym inv.bytes) stays.1.reaches)
+          c.read_byte-state.ensures.reaches start c.args.end (reaches-as (built g s) No (sym inv.bytes) stays.1.reaches)
           (living-there g s start c.in-Some.place c.in-Some.is h) in
           let none = nil-from_not (g.A.Automaton.listed c.args.self.now.automaton.now c.read_byte-state.result)
           (λ some. false≢true (sym c.if-is_match_or_dead.false
           ∙ c.is_match_or_dead.ensures No _ on.there (inr some))) in
           record {
-            reaches = reaches-as (built g s) inv.bytes on;
+            reaches = reaches-as (built g s) No inv.bytes on;
             onward = (let a = along.onward in let b = stays.1.onward in omega arith);
             quiet = quiet-next (built g s) (some g s) along stays.1
                 (subst (λ (bs : List ℕ). matches_of (built g s) No

@@ -1,7 +1,7 @@
 use Rattle.std.proofs.Common.{◌≡◌, ◌≢◌, ℕ, ◌-◌, ◌≤◌, None}
 use Rattle.ac_util.specs.declared.search.Anchored.TheVariants.{No}
 use Rattle.ac_automaton.specs.Progress.{Beginning, Grows, HasCome, Reaches, node_at, search_of}
-use Rattle.ac_automaton.proofs.Skipping.{IsAlong}
+use Rattle.ac_automaton.proofs.ReadAhead.{IsAlong}
 use Rattle.ac_automaton.proofs.automaton.skip.Skipper.skip_on.Given as goal
 
 -- the automaton has come on, alive, and has passed over no match and stands at none
@@ -18,7 +18,7 @@ invariant-loop-at g l =
           → Reaches (A.stands l.automaton No) built.kind (search_of built No l.fn.tape.bytes start l.end)
           l.fn.cursor.state l.fn.cursor.at
           → node_at built.kind (search_of built No l.fn.tape.bytes start l.end) l.fn.cursor.at ≢ None
-          → IsAlong (A.stands l.automaton No) built l.fn.tape.bytes start l.end l.fn.cursor.at l.state l.at;
+          → IsAlong (A.stands l.automaton No) built No l.fn.tape.bytes start l.end l.fn.cursor.at l.state l.at;
       come : (began : Beginning)
           → HasCome (A.stands l.automaton No) A.LOOKS (A.filters l.automaton) built No began l.fn.cursor.state
           l.fn.cursor.at l.fn.tape l.fn.looks
