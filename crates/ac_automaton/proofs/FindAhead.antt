@@ -89,31 +89,31 @@ module _ (built : Built) (anchored : Anchored) (stops : Bool) (began : Beginning
   -- where a find has its answer
   module _ (at : ℕ) (ordered : began.start ≤ at) (up : at ≤ began.end) (inside : began.end ≤ length began.tape.bytes)
       (r : Option Occurrence) (picked : r ≡ picked_to at) (leftmost : stops ≡ false → is_leftmost built.kind ≡ true)
-      where
-    kept : order built anchored stops began ≡ Standard → (s : Option Occurrence) → s ≡ r → s ≢ None
-        → r ≡ pick (order built anchored stops began) (q built anchored stops began)
-    kept standard None is some = absurd (some refl)
-    kept standard (Some m) is some = sym is ∙ picked-final built anchored stops began at m up standard (is ∙ picked)
+    where
+      kept : order built anchored stops began ≡ Standard → (s : Option Occurrence) → s ≡ r → s ≢ None
+          → r ≡ pick (order built anchored stops began) (q built anchored stops began)
+      kept standard None is some = absurd (some refl)
+      kept standard (Some m) is some = sym is ∙ picked-final built anchored stops began at m up standard (is ∙ picked)
 
-    -- what is picked so far is the pick
-    pub answer-there : IsAnswered stops began.end at (node at) r
-        → r ≡ pick (order built anchored stops began) (q built anchored stops began)
-    answer-there (inl over) = let e : at ≡ began.end = omega arith in picked ∙ ap picked_to e
-    answer-there (inr (inl dead)) = elim (kept-or-goes built.kind stops r leftmost) [
-      | inl first ↦ kept first.0 r refl (λ none. let some = first.1.1 in absurd (cc))
-      | inr goes ↦ dead-stays built anchored stops began at r ordered picked goes up inside dead
-    ]
-    answer-there (inr (inr first)) = kept (ap (order_of built.kind) first.0) r refl first.1
+      -- what is picked so far is the pick
+      pub answer-there : IsAnswered stops began.end at (node at) r
+          → r ≡ pick (order built anchored stops began) (q built anchored stops began)
+      answer-there (inl over) = let e : at ≡ began.end = omega arith in picked ∙ ap picked_to e
+      answer-there (inr (inl dead)) = elim (kept-or-goes built.kind stops r leftmost) [
+        | inl first ↦ kept first.0 r refl (λ none. let some = first.1.1 in absurd (cc))
+        | inr goes ↦ dead-stays built anchored stops began at r ordered picked goes up inside dead
+      ]
+      answer-there (inr (inr first)) = kept (ap (order_of built.kind) first.0) r refl first.1
 
-    -- and it has read enough
-    pub decided-there : {place : ℕ} → IsAnswered stops began.end at (node at) r → at ≤ max began.start place → place ≤ at
-        → IsDecided built.kind (order built anchored stops began) (q built anchored stops began) r place
-    decided-there (inl over) whole unread = inr (inl (omega arith))
-    decided-there {place = place} (inr (inl dead)) whole unread =
-        let past = past-start at ordered dead in
-        let e : at ≡ place = omega arith in
-        inr (inr (subst (λ (n : ℕ). node n ≡ None) e dead))
-    decided-there (inr (inr first)) whole unread = inl (ap (order_of built.kind) first.0, first.1)
+      -- and it has read enough
+      pub decided-there : {place : ℕ} → IsAnswered stops began.end at (node at) r → at ≤ max began.start place → place ≤ at
+          → IsDecided built.kind (order built anchored stops began) (q built anchored stops began) r place
+      decided-there (inl over) whole unread = inr (inl (omega arith))
+      decided-there {place = place} (inr (inl dead)) whole unread =
+          let past = past-start at ordered dead in
+          let e : at ≡ place = omega arith in
+          inr (inr (subst (λ (n : ℕ). node n ≡ None) e dead))
+      decided-there (inr (inr first)) whole unread = inl (ap (order_of built.kind) first.0, first.1)
 
 -- what is found at a place ends there
 pub ends-there : (built : Built) (a : Anchored) (u : Node) (at : ℕ) (r : Option Occurrence) → r ≡ found_at built a u at

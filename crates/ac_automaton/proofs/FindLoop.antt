@@ -1,7 +1,6 @@
 -- A find that reads byte by byte: where the automaton stands, and what is picked so far.
 use Rattle.std.proofs.Common.{◌≡◌, ℕ, ◌+◌, ◌-◌, ◌<◌, ◌≤◌, Bool, true, false, cond, List, [], ◌∷◌, length, inl, inr, refl, ap, sym, ◌∙◌, subst, arith, Option, Some, None}
 use Rattle.std.specs.Prelude.{option_map, slice_get, IfSome}
-use Rattle.std.specs.Option.{is_some}
 use Rattle.std.proofs.lemmas.Bool.{false≢true}
 use Rattle.ac_util.specs.declared.search.MatchKind.{MatchKind}
 use Rattle.ac_util.specs.declared.search.MatchKind.TheVariants.{Standard}
@@ -153,17 +152,6 @@ module _ (built : Built) (anchored : Anchored) (earliest : Bool) (began : Beginn
           dead = dead-come built anchored began come;
           decided = decided;
         }
-
-  -- a find that stops at the first match has read enough where it finds one
-  pub searched-first : {stands : ℕ → Node → Type 0} {most : ℕ} {filters : Bool} {state at : ℕ} {tape : Taped}
-      {counts : Counts} → HasCome stands most filters built anchored began state at tape counts
-      → (r : Option Occurrence) → is_some r ≡ true → order ≡ Standard → at ≤ began.end
-      → r ≡ found_at built anchored (node_at at) at → r ≡ pick order (up_to at)
-      → HasSearched most filters built.kind order q r began.tape tape began.counts counts
-  searched-first come None some standard up is picked = absurd (cc)
-  searched-first {at = at} come (Some m) some standard up is picked =
-      searched come (Some m) (picked-final at m up standard picked) up picked
-      (λ _. found-end built anchored (node_at at) at m (sym is)) (λ _. inl (standard, (λ none. absurd (cc))))
 
   -- one more byte is read, after r was picked
   module _ (at : ℕ) (r : Option Occurrence) (ordered : began.start ≤ at) (room : at < length began.tape.bytes)

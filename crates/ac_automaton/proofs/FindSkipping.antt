@@ -1,6 +1,6 @@
 -- A find that skips: it picks what its prefilter tells, or has passed over no match where it reads on.
-use Rattle.std.proofs.Common.{◌≡◌, ◌⊎◌, ℕ, zero, suc, ◌+◌, ◌-◌, ◌<◌, ◌≤◌, Bool, true, false, ◌&&◌, List, [], ◌∷◌, length, refl, ap, sym, ◌∙◌, subst, inl, inr, arith, Option, Some, None}
-use Rattle.std.specs.Prelude.{not, if◌then◌else◌, option_map, slice_get, IfSome}
+use Rattle.std.proofs.Common.{◌≡◌, ◌⊎◌, ℕ, zero, suc, ◌+◌, ◌<◌, ◌≤◌, Bool, true, false, ◌&&◌, List, [], ◌∷◌, length, refl, ap, sym, ◌∙◌, subst, inl, inr, arith, Option, Some, None}
+use Rattle.std.specs.Prelude.{not, if◌then◌else◌, IfSome}
 use Rattle.std.specs.List.{list_any}
 use Rattle.std.proofs.lemmas.Bool.{false≢true, cases_lt}
 use Rattle.ac_util.specs.declared.prefilter.Candidate.{Candidate}
@@ -19,7 +19,7 @@ use Rattle.ac_util.specs.Search.{Occurs, Search, pattern_of}
 use Rattle.ac_util.proofs.SearchLoop.{GoesOn}
 use Rattle.ac_util.proofs.Walks.{pick-Occurs}
 use Rattle.ac_automaton.specs.Automata.{matches_of}
-use Rattle.ac_automaton.specs.Finds.{HasSearched, ReadsTo, Tells, found_at, place_of}
+use Rattle.ac_automaton.specs.Finds.{HasSearched, ReadsTo, Tells, found_at}
 use Rattle.ac_automaton.specs.Progress.{Beginning, IsQuiet, search_of}
 use Rattle.ac_automaton.specs.Skipping.{Skips}
 use Rattle.ac_automaton.proofs.FindAhead.{found-nothing, picked-ahead, picked-there}

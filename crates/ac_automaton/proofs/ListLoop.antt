@@ -3,7 +3,7 @@
 use Rattle.std.proofs.Common.{◌≡◌, ◌⊎◌, ℕ, suc, ◌+◌, ◌-◌, ◌<◌, ◌≤◌, Bool, true, false, cond, List, [], ◌∷◌, ◌++◌, map, length, length-append, inl, inr, refl, ap, sym, subst, ◌∙◌, arith, Option, Some, None}
 use Rattle.std.specs.Prelude.{All, slice_get}
 use Rattle.std.specs.List.{take_while}
-use Rattle.std.proofs.lemmas.List.{append_assoc, append-nil, length-map}
+use Rattle.std.proofs.lemmas.List.{append_assoc, length-map}
 use Rattle.std.proofs.lemmas.List.Sums.{take_while-cons}
 use Rattle.std.proofs.lemmas.Option.{slice_get_past}
 use Rattle.ac_util.specs.declared.search.MatchKind.{MatchKind}
@@ -87,7 +87,7 @@ module _ (built : Built) (anchored : Anchored) (bytes : List ℕ) (start end : �
 
   module _ {stands : ℕ → Node → Type 0} (listed : ℕ → List ℕ) where
     -- all matches are due where a state was just come to
-    pub due-arrived : (state at : ℕ) → Reaches stands built.kind q state at
+    due-arrived : (state at : ℕ) → Reaches stands built.kind q state at
         → Lists built anchored (node_at built.kind q at) (listed state)
         → due_in listed q (record { state = state; at = at; rest = record { state = state; index = 0 } })
         ≡ matches_at at
@@ -198,7 +198,7 @@ module _ (built : Built) (anchored : Anchored) (bytes : List ℕ) (start end : �
         }
 
     -- else nothing is
-    pub nothing-due : due_in listed q reached ≡ [] → HasGiven stands listed built.kind q reached None reached
+    nothing-due : due_in listed q reached ≡ [] → HasGiven stands listed built.kind q reached None reached
     nothing-due none = record { state = refl; at = refl; due = (none, refl); ending = tt; leaves = on }
 
     pub gives-none : rest_in listed reached.rest ≡ [] → HasGiven stands listed built.kind q reached None reached

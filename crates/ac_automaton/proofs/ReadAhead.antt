@@ -1,5 +1,5 @@
 -- Reading on up to a match: where the automaton stands, and that it has passed over none.
-use Rattle.std.proofs.Common.{◌≡◌, ◌≢◌, ℕ, ◌+◌, ◌<◌, ◌≤◌, List, [], length, inl, inr, subst, sym, refl, ◌++◌, ◌∷◌, ◌∙◌, arith, None}
+use Rattle.std.proofs.Common.{◌≡◌, ◌≢◌, ℕ, ◌+◌, ◌≤◌, List, [], inl, inr, subst, sym, refl, ◌++◌, ◌∷◌, ◌∙◌, arith, None}
 use Rattle.std.proofs.lemmas.Bool.{cases_lt}
 use Rattle.ac_util.specs.declared.search.Anchored.{Anchored}
 use Rattle.ac_util.specs.declared.search.Anchored.TheVariants.{No, Yes}

@@ -75,7 +75,12 @@ pub(super) struct Reader<'a, A: Automaton> {
 impl<'a, A: Automaton> Reader<'a, A> {
     /// Reads on up to a state that has matches or is dead, or up to the end. Returns how far it has come.
     #[inline]
-    pub(super) fn read_ahead(&self, cursor: Cursor, tape: &mut Tape<'_>, looks: &mut Looks) -> Cursor
+    pub(super) fn read_ahead(
+        &self,
+        cursor: Cursor,
+        tape: &mut Tape<'_>,
+        looks: &mut Looks,
+    ) -> Cursor
         requires reaches { (start : ℕ) × Reaches (A.stands self.now.automaton.now self.now.anchored)
             (A.built self.now.automaton.now).kind (search_of (A.built self.now.automaton.now) self.now.anchored
             tape.old.bytes start self.now.end) cursor.state cursor.at

@@ -1,16 +1,14 @@
-use Rattle.std.proofs.Common.{◌≡◌, ◌≢◌, ◌<◌, ℕ, Bool, true, false, List, refl, ap, sym, subst, ◌∙◌, arith, Option, None}
+use Rattle.std.proofs.Common.{◌≡◌, ◌≢◌, ◌<◌, ℕ, Bool, true, List, refl, sym, subst, ◌∙◌, None}
 use Rattle.ac_util.specs.declared.search.Anchored.{Anchored}
 use Rattle.ac_util.specs.Built.{Built}
 use Rattle.ac_util.specs.Counts.{Counts}
 use Rattle.ac_util.specs.Node.{Node}
-use Rattle.ac_util.specs.Occurrence.{Occurrence}
-use Rattle.ac_util.specs.Pick.{pick}
 use Rattle.ac_util.proofs.SearchLoop.{GoesOn}
-use Rattle.ac_automaton.specs.Finds.{FitsIn, IsAnswered, found_at}
-use Rattle.ac_automaton.specs.Progress.{Beginning, HasCome, PassesNoMatch, Reaches, began_at}
+use Rattle.ac_automaton.specs.Finds.{FitsIn, found_at}
+use Rattle.ac_automaton.specs.Progress.{Beginning, HasCome, PassesNoMatch, began_at}
 use Rattle.ac_automaton.specs.Progress.{node_at as node_of, search_of}
 use Rattle.ac_automaton.proofs.FindAhead.{IsUnanswered, answer-there, decided-there, ends-there, unanswered-unless, picked-none, picked-some}
-use Rattle.ac_automaton.proofs.FindLoop.{goes_on-by, goes_on-none, node_at, order, q, searched, up_to}
+use Rattle.ac_automaton.proofs.FindLoop.{goes_on-by, goes_on-none, node_at, order, searched}
 use Rattle.ac_automaton.proofs.ReadAhead.{reaches-as}
 use Rattle.ac_automaton.proofs.ReadOn.{node-fits}
 use Rattle.ac_automaton.proofs.automaton.find.Find.read_on.Given.{Over}

@@ -1,4 +1,4 @@
-use Rattle.std.proofs.Common.{◌≡◌, ◌≢◌, ◌⊎◌, ◌<◌, ◌-◌, ℕ, List, [], ap, refl, sym, subst, ◌∙◌, inl, inr, arith, Option, None}
+use Rattle.std.proofs.Common.{◌≡◌, ◌≢◌, ◌⊎◌, ℕ, List, [], ap, sym, subst, ◌∙◌, inl, inr, arith, Option, None}
 use Rattle.std.proofs.lemmas.Bool.{false≢true}
 use Rattle.ac_util.specs.declared.search.Anchored.{Anchored}
 use Rattle.ac_util.specs.Built.{Built}
@@ -6,7 +6,7 @@ use Rattle.ac_util.specs.Node.{Node}
 use Rattle.ac_util.specs.Occurrence.{Occurrence}
 use Rattle.ac_util.specs.Search.{Search}
 use Rattle.ac_automaton.specs.declared.automaton.overlap.Reached.{Reached}
-use Rattle.ac_automaton.specs.Overlaps.{HasGiven, HasMoved, due_in, given_in}
+use Rattle.ac_automaton.specs.Overlaps.{HasGiven, HasMoved, due_in}
 use Rattle.ac_automaton.specs.Progress.{Beginning, HasCome, PassesNoMatch, Reaches, node_at, search_of}
 use Rattle.ac_automaton.proofs.ListLoop.{has-moved}
 use Rattle.ac_automaton.proofs.ListSkipping.{HasComeOn, come-on}

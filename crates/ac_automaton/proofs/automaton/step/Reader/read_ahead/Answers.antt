@@ -1,10 +1,10 @@
-use Rattle.std.proofs.Common.{◌≡◌, ◌≢◌, ◌+◌, ◌<◌, ℕ, List, [], ap, sym, subst, ◌∙◌, inl, inr, arith, None}
+use Rattle.std.proofs.Common.{◌≢◌, ◌+◌, ℕ, List, ap, sym, subst, ◌∙◌, inl, inr, arith, None}
 use Rattle.std.proofs.lemmas.Bool.{false≢true}
 use Rattle.ac_util.specs.declared.search.Anchored.{Anchored}
 use Rattle.ac_util.specs.Built.{Built}
 use Rattle.ac_util.specs.Counts.{Taped}
 use Rattle.ac_util.specs.Node.{Node}
-use Rattle.ac_automaton.specs.Progress.{Beginning, HasCome, Reaches, node_at, search_of, span_of}
+use Rattle.ac_automaton.specs.Progress.{Beginning, HasCome, Reaches, node_at, search_of}
 use Rattle.ac_automaton.proofs.Heads.{nil-from_not}
 use Rattle.ac_automaton.proofs.ReadAhead.{IsAlong, nothing-listed, quiet-longer, reaches-as}
 use Rattle.ac_automaton.proofs.ReadOn.{grows-trans, may-read}
