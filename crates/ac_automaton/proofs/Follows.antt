@@ -12,9 +12,9 @@ use Rattle.ac_util.specs.Looks.{looks}
 use Rattle.ac_util.specs.Sameness.{plain_byte}
 use Rattle.ac_util.proofs.Lists.{Contains-from_IsIn, IsIn-map}
 use Rattle.ac_automaton.specs.declared.nfa.noncontiguous.state.State.{State}
-use Rattle.ac_automaton.specs.declared.nfa.noncontiguous.state.TheConstants.{DEAD, ANCHORED_START, FIRST_INNER}
+use Rattle.ac_automaton.specs.declared.nfa.noncontiguous.state.TheConstants.{DEAD, START, ANCHORED_START, FIRST_INNER}
 use Rattle.ac_automaton.specs.declared.nfa.noncontiguous.state.Transition.{Transition}
-use Rattle.ac_automaton.specs.Tries.{Meaning, HasState, Represents, transition_bytes, own_target, transitions_of, miss}
+use Rattle.ac_automaton.specs.Tries.{Meaning, HasState, Represents, RootTells, transition_bytes, own_target, transitions_of, miss}
 use Rattle.ac_automaton.proofs.Places.{IsIn-place, get-same}
 use Rattle.ac_automaton.proofs.Steps.{step-own_target, step-miss, step-on, looks-own_target, looks-short, looks-on}
 
@@ -146,6 +146,23 @@ module _ (g : Meaning) (states : List State) (b : ℕ) (u : Node) (old : Counts)
       → looks g.kind g.patterns anchored v (plain_byte g.fold b) ≡ 1
   looks-leads No v on = looks-own_target g.kind g.patterns v (plain_byte g.fold b) on
   looks-leads Yes v on = refl
+
+  -- at the start an unanchored walk ends with one look where a root table tells
+  pub ends-root : (transitions : List Transition) → g.transitions ≡ transitions → (now new : Counts)
+      → new ≡ more_looks 1 now → (s next : ℕ) (anchored : Anchored) → anchored ≡ No → s ≡ START
+      → RootTells transitions states b next
+      → Onward g states anchored b u old now s → Ended g anchored b u old new next
+  ends-root transitions same now new more s next Yes is_no at_start told o = absurd (cc)
+  ends-root transitions same now new more s next No is_no at_start told o =
+      let r = o.state.meant.each s o.node o.state.there o.state.named in
+      let small : s < FIRST_INNER = omega (arith, at_start) in
+      record {
+        steps =
+            told.leads g o.node same (subst (λ (n : ℕ). HasState g states n o.node) at_start o.state)
+            ∙ ap (λ (v : Node). Some v) (sym o.steps);
+        looks = counted-last No now new s o
+            (looks-short g.kind g.patterns o.node (plain_byte g.fold b) (r.outer small)) more;
+      }
 
   -- what holds after a look at the state t of the number s
   module _ (transitions : List Transition) (same : g.transitions ≡ transitions) (now new : Counts)

@@ -27,6 +27,7 @@ pub mod Ranges
 pub mod ReadAhead
 pub mod ReadOn
 pub mod Reading
+pub mod Roots
 pub mod Skipping
 pub mod Sorting
 pub mod Stacks

@@ -9,7 +9,7 @@ use Rattle.ac_automaton.specs.declared.nfa.noncontiguous.state.TheConstants.{DEA
 use Rattle.ac_automaton.specs.declared.automaton.overlap.MatchRest.{MatchRest}
 use Rattle.ac_automaton.specs.Automata.{IsState}
 use Rattle.ac_automaton.specs.Overlaps.{Takes}
-use Rattle.ac_automaton.specs.Tries.{HasState, Meaning, Represents, StandsFor, TakesFrom, Trie, all_matches, listed_within, meaning_of}
+use Rattle.ac_automaton.specs.Tries.{HasState, IsTable, Meaning, Represents, StandsFor, TakesFrom, Trie, all_matches, listed_within, meaning_of}
 use Rattle.ac_automaton.proofs.Follows.{represented}
 use Rattle.ac_automaton.proofs.ListsOf.{length-listed, none-linked}
 
@@ -121,3 +121,10 @@ module _ (trie : Trie) where
   takes-state rest u h None none = tt
   takes-state rest u h (Some first) taken =
       (taken.0, record { nodes = h.nodes; table = h.table; named = taken.1.named })
+
+-- one of the states of a table is the start, which stands for the empty string
+pub start-state : (trie : Trie) (nodes : List Node) → IsTable trie nodes
+    → (g : Meaning) × (u : Node) × (g.transitions ≡ trie.transitions) × HasState g trie.states START u
+start-state trie nodes table =
+    let h : StandsFor trie START (Some []) = record { nodes = nodes; table = table; named = table.start } in
+    (meaning trie START (Some []) h, Some [], refl, has-state trie START (Some []) h)

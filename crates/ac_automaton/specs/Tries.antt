@@ -1,5 +1,5 @@
 -- How the states of a trie with failure links stand for nodes.
-use Rattle.std.specs.Prelude.{◌≡◌, ◌≢◌, ◌↔◌, ℕ, zero, suc, ◌+◌, ◌-◌, ◌<◌, ◌≤◌, ◌&&◌, Bool, List, [], ◌∷◌, ◌++◌, length, map, drop, slice_get, slice_range, slice_index_or, Contains, Option, None, Some, MatchOption, if◌then◌else◌}
+use Rattle.std.specs.Prelude.{◌≡◌, ◌≢◌, ◌↔◌, ℕ, zero, suc, ◌+◌, ◌-◌, ◌<◌, ◌≤◌, ◌&&◌, Bool, List, [], ◌∷◌, ◌++◌, length, map, drop, slice_get, slice_index, slice_range, slice_index_or, Contains, Option, None, Some, MatchOption, if◌then◌else◌}
 use Rattle.std.specs.List.Sorted.{IsStrictlyIncreasing}
 use Rattle.std.proofs.Common.{sym, ◌∙◌, arith}
 use Rattle.std.proofs.lemmas.List.{append-nil}
@@ -155,6 +155,19 @@ module _ (g : Meaning) where
     pub meant : AreStates states
     pub there : s < length states
     pub named : slice_get g.nodes s ≡ Some u
+
+-- where a search that is at its start goes on by a byte, as the entry of a root table tells it; it is never the start
+-- of anchored searches
+pub record RootTells (transitions : List Transition) (states : List State) (b next : ℕ) : Type 0 where
+  pub leads : (g : Meaning) (v : Node) → g.transitions ≡ transitions → HasState g states START v
+      → slice_get g.nodes next ≡ Some (step g.kind g.patterns No v (plain_byte g.fold b))
+  pub inner : (g : Meaning) (v : Node) → g.transitions ≡ transitions → HasState g states START v
+      → slice_get g.nodes ANCHORED_START ≡ Some (Some []) → next ≢ ANCHORED_START
+
+-- a root table has an entry for each byte
+pub record IsRoot (transitions : List Transition) (states : List State) (root : List ℕ) : Type 0 where
+  pub whole : length root ≡ 256
+  pub told : (b : ℕ) → b < 256 → RootTells transitions states b (slice_index root b)
 
 -- r is one of a node's matches, that behind so many, and where the matches after it stand in the list of a state;
 -- or None where there are no more

@@ -99,6 +99,17 @@ pub trait Automaton {
         requires state { (anchored : Anchored) × IsState (stands self.now anchored) sid }
         ensures { IsTrue result ↔ (listed self.now sid ≢ []) };
 
+    /// Returns whether the state has matches or is dead. A search without a prefilter reads on from any other state, a
+    /// start too, without a further test.
+    #[inline]
+    fn is_match_or_dead(&self, sid: StateID) -> bool
+        requires state { (anchored : Anchored) × IsState (stands self.now anchored) sid }
+        ensures { (anchored : Anchored) (u : Node) → stands self.now anchored sid u
+            → IsTrue result ↔ ((u ≡ None) ⊎ (listed self.now sid ≢ [])) }
+    {
+        self.is_match(sid) || self.is_dead(sid)
+    }
+
     /// Returns whether the state is one at which a search begins.
     fn is_start(&self, sid: StateID) -> bool
         requires state { (anchored : Anchored) × IsState (stands self.now anchored) sid }

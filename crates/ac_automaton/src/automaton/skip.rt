@@ -10,7 +10,7 @@ ghost use Rattle.ac_automaton.specs.Progress.{Beginning, Grows, HasCome, PassesN
 ghost use Rattle.ac_automaton.specs.Skipping.{HasPassed, MayRead, SkipsByBytes};
 
 use super::Automaton;
-use super::step::{Cursor, is_match_or_dead, read_byte};
+use super::step::{Cursor, read_byte};
 use ac_util::looks::{Looks, Tape};
 use ac_util::prefilter::{Candidate, Prefilter};
 use ac_util::search::Anchored;
@@ -113,7 +113,7 @@ impl<'a, A: Automaton> Skipper<'a, A> {
             let here = Cursor { state, at: place };
             state = read_byte(automaton, Anchored::No, here, tape, looks);
             at = place + 1;
-            if is_match_or_dead(automaton, state) {
+            if automaton.is_match_or_dead(state) {
                 return Cursor { state, at };
             }
         }

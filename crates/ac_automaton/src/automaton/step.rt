@@ -52,18 +52,6 @@ pub(super) fn read_byte<A: Automaton>(
     automaton.next_state(anchored, cursor.state, byte, looks)
 }
 
-/// Returns whether the state has matches or is dead. Where it is neither a search reads on without a further test.
-///
-/// A start is special too, but a search without a prefilter has nothing to do there.
-#[inline]
-pub(super) fn is_match_or_dead<A: Automaton>(automaton: &A, sid: StateID) -> bool
-    requires state { (anchored : Anchored) × IsState (A.stands automaton.now anchored) sid }
-    ensures { (anchored : Anchored) (u : Node) → A.stands automaton.now anchored sid u
-        → (u ≡ None) ⊎ (A.listed automaton.now sid ≢ []) → IsTrue result }
-{
-    automaton.is_match(sid) || automaton.is_dead(sid)
-}
-
 /// A reader of a span: it reads on from match to match, for every search alike.
 #[derive(Drop)]
 pub(super) struct Reader<'a, A: Automaton> {
@@ -114,7 +102,7 @@ impl<'a, A: Automaton> Reader<'a, A> {
         let mut state = cursor.state;
         for at in cursor.at..end {
             state = read_byte(automaton, anchored, Cursor { state, at }, tape, looks);
-            if is_match_or_dead(automaton, state) {
+            if automaton.is_match_or_dead(state) {
                 return Cursor { state, at: at + 1 };
             }
         }

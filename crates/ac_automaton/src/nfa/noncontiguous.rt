@@ -1,11 +1,11 @@
 //! A trie with failure links: small, and quickly built.
-ghost use Rattle.std.specs.Prelude.{◌≡◌, List, MatchResult};
+ghost use Rattle.std.specs.Prelude.{◌≡◌, IfSome, List, MatchResult};
 ghost use Rattle.std.proofs.Common.{inr, refl};
 ghost use Rattle.ac_util.specs.Borrowed.{bytes_of};
 ghost use Rattle.ac_util.specs.Node.{Node};
 ghost use Rattle.ac_util.specs.Sizes.{longest_len, shortest_len};
 ghost use Rattle.ac_automaton.specs.Builds.{IsEngineBuilt, Refuses, usual_engine_settings};
-ghost use Rattle.ac_automaton.specs.Tries.{IsTable, StandsFor, listed_within, stands-lists};
+ghost use Rattle.ac_automaton.specs.Tries.{IsRoot, IsTable, StandsFor, listed_within, stands-lists};
 ghost use Rattle.ac_automaton.specs.declared.nfa.noncontiguous.state.State.{State};
 
 use crate::automaton::{Automaton, MatchRest};
@@ -16,7 +16,7 @@ use ac_util::prefilter::Prefilter;
 use ac_util::primitives::{PatternID, StateID};
 use ac_util::search::{Anchored, MatchKind};
 use growth::TrieLists;
-use state::{State, Transition, follow, listed_len, take_listed};
+use state::{State, Transition, TrieSlices, follow, listed_len, take_listed};
 use std::alloc::{AllocError, Allocator, Global};
 use std::marker::Model;
 use std::mem::size_of;
@@ -26,6 +26,7 @@ mod builder;
 pub(crate) mod growth;
 mod lengths;
 mod readers;
+mod root;
 pub(crate) mod sorted;
 pub(crate) mod state;
 
@@ -45,6 +46,8 @@ pub struct NFA<A: Allocator = Global> {
     shortest: usize,
     longest: usize,
     lists: TrieLists<A>,
+    /// Where an unanchored search goes on from the start, for each byte.
+    root: Vec<StateID, A>,
     /// Whether it was built to have a prefilter, where there is one for its patterns.
     filters: bool,
     prefilter: Option<Prefilter<A>>,
@@ -55,7 +58,7 @@ impl<A: Allocator> Model for NFA<A> {
     ghost use Rattle.ac_util.specs.Node.{Node};
     ghost use Rattle.ac_util.specs.Prefilters.{IsSkipFor, skip_for, skip_of};
     ghost use Rattle.ac_util.specs.Sizes.{longest_len, shortest_len};
-    ghost use Rattle.ac_automaton.specs.Tries.{IsTable, Trie, trie_of};
+    ghost use Rattle.ac_automaton.specs.Tries.{IsRoot, IsTable, Trie, trie_of};
 
     ghost Value = { Trie };
 
@@ -67,6 +70,7 @@ impl<A: Allocator> Model for NFA<A> {
           n.lists.order.items n.lists.transitions.items n.lists.states.items) nodes;
       shortest : n.shortest ≡ shortest_len n.patterns.value;
       longest : n.longest ≡ longest_len n.patterns.value;
+      rooted : IsRoot n.lists.transitions.items n.lists.states.items n.root.items;
       skips : option_map skip_of n.prefilter ≡ skip_for n.filters n.fold n.patterns.value;
       serves : IfSome n.prefilter (λ p. IsSkipFor (skip_of p) n.fold n.patterns.value);
     } };
@@ -87,6 +91,7 @@ impl<A: Allocator + Clone> Clone for NFA<A> {
             shortest: self.shortest,
             longest: self.longest,
             lists: self.lists.clone()?,
+            root: self.root.clone()?,
             filters: self.filters,
             prefilter: self.prefilter.clone()?,
         })
@@ -125,6 +130,20 @@ impl<A: Allocator> NFA<A> {
         ensures table { (nodes : List Node) × IsTable self.now nodes }
     {
         &self.lists.states
+    }
+
+    /// Returns what a search follows.
+    #[inline]
+    fn slices(&self) -> TrieSlices<'_>
+        ensures states { result.states.now ≡ self.now.states }
+        ensures transitions { result.transitions.now ≡ self.now.transitions }
+        ensures rooted { IfSome result.root (λ root. IsRoot self.now.transitions self.now.states root.now) }
+    {
+        TrieSlices {
+            states: &self.lists.states,
+            transitions: &self.lists.transitions,
+            root: Some(&self.root),
+        }
     }
 
     /// Returns the transitions of all states.
@@ -179,14 +198,7 @@ impl<A: Allocator> Automaton for NFA<A> {
 
     #[inline]
     fn next_state(&self, anchored: Anchored, sid: StateID, byte: u8, looks: &mut Looks) -> StateID {
-        follow(
-            self.states(),
-            self.transitions(),
-            anchored,
-            sid,
-            byte,
-            looks,
-        )
+        follow(self.slices(), anchored, sid, byte, looks)
     }
 
     #[inline]
@@ -255,9 +267,11 @@ impl<A: Allocator> Automaton for NFA<A> {
             .len()
             .saturating_mul(size_of::<Transition>());
         let order = lists.order.len().saturating_mul(size_of::<PatternID>());
+        let root = self.root.len().saturating_mul(size_of::<StateID>());
         states
             .saturating_add(transitions)
             .saturating_add(order)
+            .saturating_add(root)
             .saturating_add(self.patterns().memory_usage())
     }
 

@@ -210,6 +210,11 @@ impl<A: Allocator> Automaton for NFA<A> {
     }
 
     #[inline]
+    fn is_match_or_dead(&self, sid: StateID) -> bool {
+        sid.as_usize() < self.match_end
+    }
+
+    #[inline]
     fn is_start(&self, sid: StateID) -> bool {
         sid == self.start || sid == self.anchored_start
     }

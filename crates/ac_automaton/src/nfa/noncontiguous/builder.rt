@@ -8,6 +8,7 @@ ghost use Rattle.ac_automaton.specs.Builds.{IsEngineBuilt, Refuses, usual_engine
 use super::NFA;
 use super::growth::TrieLists;
 use super::lengths::{longest_of, shortest_of};
+use super::root::root_of;
 use ac_util::error::BuildError;
 use ac_util::patterns::Patterns;
 use ac_util::prefilter::Prefilter;
@@ -122,6 +123,7 @@ impl Builder {
         let patterns = Patterns::new(alloc, patterns)?;
         let lists = TrieLists::of(&patterns, self.kind, self.fold)?;
         let prefilter = self.prefilter_of(&patterns)?;
+        let root = root_of(patterns.allocator().clone()?, lists.slices())?;
         let alloc = patterns.allocator().clone()?;
         Ok(NFA {
             shortest: shortest_of(&patterns),
@@ -130,6 +132,7 @@ impl Builder {
             kind: self.kind,
             fold: self.fold,
             lists,
+            root,
             filters: self.prefilter,
             prefilter,
         })

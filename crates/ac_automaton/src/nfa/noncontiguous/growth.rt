@@ -15,7 +15,9 @@ ghost use Rattle.ac_automaton.specs.Sorted.{IsOrder};
 ghost use Rattle.ac_automaton.specs.Tries.{AreStates, Links, Meaning, miss};
 
 use super::sorted::SortedPatterns;
-use super::state::{ANCHORED_START, DEAD, FIRST_INNER, START, State, Transition, follow};
+use super::state::{
+    ANCHORED_START, DEAD, FIRST_INNER, START, State, Transition, TrieSlices, follow,
+};
 use ac_util::error::BuildError;
 use ac_util::looks::Looks;
 use ac_util::patterns::Patterns;
@@ -62,6 +64,21 @@ impl<A: Allocator + Clone> TrieLists<A> {
             (IsRefused (too_many_states kind (map (plain fold) patterns.now))) }
     {
         Growth::new(patterns, kind, fold)?.grow()
+    }
+}
+
+impl<A: Allocator> TrieLists<A> {
+    /// Returns what a search follows, without a root table.
+    pub(crate) fn slices(&self) -> TrieSlices<'_>
+        ensures states { result.states.now ≡ self.now.states.items }
+        ensures transitions { result.transitions.now ≡ self.now.transitions.items }
+        ensures root { result.root ≡ None }
+    {
+        TrieSlices {
+            states: &self.states,
+            transitions: &self.transitions,
+            root: None,
+        }
     }
 }
 
@@ -259,14 +276,12 @@ impl<'p, A: Allocator> Growth<'p, A> {
         if queued.depth == 0 {
             return queued.fail;
         }
-        follow(
-            &self.states,
-            &self.transitions,
-            Anchored::No,
-            queued.fail,
-            byte,
-            &mut Looks::new(),
-        )
+        let trie = TrieSlices {
+            states: &self.states,
+            transitions: &self.transitions,
+            root: None,
+        };
+        follow(trie, Anchored::No, queued.fail, byte, &mut Looks::new())
     }
 
     /// Returns the output link of a state with this failure target: the target where it has patterns, else the

@@ -1,11 +1,11 @@
 //! The states of a trie with failure links, and the walks over them.
-ghost use Rattle.std.specs.Prelude.{◌≡◌, ◌≢◌, ℕ, ◌+◌, ◌-◌, ◌<◌, ◌≤◌, [], Some, length, slice_get};
+ghost use Rattle.std.specs.Prelude.{◌≡◌, ◌≢◌, ℕ, ◌+◌, ◌-◌, ◌<◌, ◌≤◌, [], IfSome, Some, length, slice_get};
 ghost use Rattle.std.specs.List.Sorted.{IsStrictlyIncreasing};
 ghost use Rattle.ac_util.specs.Counts.{more_looks};
 ghost use Rattle.ac_util.specs.Looks.{looks as looks_of_node};
 ghost use Rattle.ac_util.specs.Node.{Node, step};
 ghost use Rattle.ac_util.specs.Sameness.{plain_byte};
-ghost use Rattle.ac_automaton.specs.Tries.{HasState, IsTarget, Meaning, TakesFrom, all_matches, transition_bytes, dead_state, transitions_of};
+ghost use Rattle.ac_automaton.specs.Tries.{HasState, IsRoot, IsTarget, Meaning, TakesFrom, all_matches, transition_bytes, dead_state, transitions_of};
 
 use crate::automaton::MatchRest;
 use ac_util::looks::Looks;
@@ -119,36 +119,52 @@ fn target(state: &State, transitions: &[Transition], byte: u8) -> Option<StateID
     }
 }
 
+/// What a search follows: the states, the transitions of them all, and where there is one a root table, which has
+/// for each byte where an unanchored search goes on from the start.
+#[derive(Clone, Copy)]
+pub(crate) struct TrieSlices<'a> {
+    pub(crate) states: &'a [State],
+    pub(crate) transitions: &'a [Transition],
+    pub(crate) root: Option<&'a [StateID]>,
+}
+
 /// Returns where a byte leads from a state, and counts a look at each state on the way.
 ///
 /// An unanchored search goes on along the failure targets as long as there is no transition by the byte. Each
-/// target is a shorter string, so n bytes take at most 2n looks.
+/// target is a shorter string, so n bytes take at most 2n looks. At the start a root table tells where it goes on.
 #[inline]
 pub(crate) fn follow(
-    states: &[State],
-    transitions: &[Transition],
+    trie: TrieSlices<'_>,
     anchored: Anchored,
     from: StateID,
     byte: u8,
     looks: &mut Looks,
 ) -> StateID
-    requires state { (g : Meaning) × (u : Node) × (g.transitions ≡ transitions.now)
-        × HasState g states.now from u }
-    ensures steps { (g : Meaning) (u : Node) → g.transitions ≡ transitions.now
-        → HasState g states.now from u
+    requires state { (g : Meaning) × (u : Node) × (g.transitions ≡ trie.transitions.now)
+        × HasState g trie.states.now from u }
+    requires rooted { IfSome trie.root (λ root. IsRoot trie.transitions.now trie.states.now root.now) }
+    ensures steps { (g : Meaning) (u : Node) → g.transitions ≡ trie.entry.transitions.now
+        → HasState g trie.entry.states.now from u
         → slice_get g.nodes result
         ≡ Some (step g.kind g.patterns anchored u (plain_byte g.fold byte)) }
-    ensures looks { (g : Meaning) (u : Node) → g.transitions ≡ transitions.now
-        → HasState g states.now from u
+    ensures looks { (g : Meaning) (u : Node) → g.transitions ≡ trie.entry.transitions.now
+        → HasState g trie.entry.states.now from u
         → looks.new
         ≡ more_looks (looks_of_node g.kind g.patterns anchored u (plain_byte g.fold byte)) looks.old }
-    ensures unanchored { (g : Meaning) (u : Node) → g.transitions ≡ transitions.now
-        → HasState g states.now from u → slice_get g.nodes ANCHORED_START ≡ Some (Some [])
+    ensures unanchored { (g : Meaning) (u : Node) → g.transitions ≡ trie.entry.transitions.now
+        → HasState g trie.entry.states.now from u → slice_get g.nodes ANCHORED_START ≡ Some (Some [])
         → result ≢ ANCHORED_START }
 {
+    let (states, transitions) = (trie.states, trie.transitions);
     let mut at = from;
     loop {
         looks.look();
+        if at.as_usize() == START
+            && matches!(anchored, Anchored::No)
+            && let Some(root) = trie.root
+        {
+            return root[byte as usize];
+        }
         let state = &states[at.as_usize()];
         if let Some(next) = target(state, transitions, byte) {
             return next;

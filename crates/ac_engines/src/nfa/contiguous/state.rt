@@ -4,7 +4,6 @@ ghost use Rattle.ac_engines.specs.declared.nfa.contiguous.format.Format.{Format}
 ghost use Rattle.ac_engines.specs.Words.{BeginsWith, Spelling, first_of, match_spelling, target_by, word_of};
 
 use super::format::{CLASSES_A_WORD, HEAD};
-use std::simd::prelude::*;
 
 /// The low byte of a dense state's first word.
 pub const DENSE: u8 = 0xFF;
@@ -149,12 +148,17 @@ fn place_in(word: u32, class: u8) -> usize
     ensures { (a b c d : ℕ) → a < 256 → b < 256 → c < 256 → d < 256 → word ≡ word_of a b c d
         → result ≡ first_of a b c d class }
 {
-    let classes = u8x4::from_array(word.to_le_bytes());
-    let equal = classes.simd_eq(u8x4::splat(class)).to_bitmask();
-    if equal == 0 {
-        CLASSES_A_WORD
+    let [first, second, third, fourth] = word.to_le_bytes();
+    if first == class {
+        0
+    } else if second == class {
+        1
+    } else if third == class {
+        2
+    } else if fourth == class {
+        3
     } else {
-        equal.trailing_zeros() as usize
+        CLASSES_A_WORD
     }
 }
 

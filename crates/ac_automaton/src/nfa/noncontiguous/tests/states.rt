@@ -18,6 +18,7 @@ struct Traits {
     dead: bool,
     start: bool,
     matches: bool,
+    matches_or_dead: bool,
 }
 
 const START: Traits = Traits {
@@ -25,6 +26,7 @@ const START: Traits = Traits {
     dead: false,
     start: true,
     matches: false,
+    matches_or_dead: false,
 };
 
 const DEAD: Traits = Traits {
@@ -32,6 +34,7 @@ const DEAD: Traits = Traits {
     dead: true,
     start: false,
     matches: false,
+    matches_or_dead: true,
 };
 
 const INNER: Traits = Traits {
@@ -39,6 +42,7 @@ const INNER: Traits = Traits {
     dead: false,
     start: false,
     matches: false,
+    matches_or_dead: false,
 };
 
 const MATCH: Traits = Traits {
@@ -46,6 +50,7 @@ const MATCH: Traits = Traits {
     dead: false,
     start: false,
     matches: true,
+    matches_or_dead: true,
 };
 
 /// Returns what an automaton says of a state.
@@ -57,6 +62,7 @@ fn traits_of<A: Automaton>(automaton: &A, sid: StateID) -> Traits
         dead: automaton.is_dead(sid),
         start: automaton.is_start(sid),
         matches: automaton.is_match(sid),
+        matches_or_dead: automaton.is_match_or_dead(sid),
     }
 }
 

@@ -185,7 +185,7 @@ loop-at-preserved g c =
           (living-there g s start c.in-Some.place c.in-Some.is h) in
           let none = nil-from_not (g.A.Automaton.listed c.args.self.now.automaton.now c.read_byte-state.result)
           (λ some. false≢true (sym c.if-is_match_or_dead.false
-          ∙ c.is_match_or_dead.ensures No _ on.there (inr some))) in
+          ∙ (c.is_match_or_dead.ensures No _ on.there).1 (inr some))) in
           record {
             reaches = reaches-as (built g s) No inv.bytes on;
             onward = (let a = along.onward in let b = stays.1.onward in omega arith);
@@ -194,7 +194,7 @@ loop-at-preserved g c =
                 (node_at (built g s).kind (search_of (built g s) No bs start c.args.end) (c.in-Some.place + 1)) ≡ []) inv.bytes
                 (sym (g.met.A.Automaton.lists c.args.self.now.automaton.now No c.read_byte-state.result _ on.there) ∙ none));
             living = λ dead. false≢true (sym c.if-is_match_or_dead.false
-                ∙ c.is_match_or_dead.ensures No _ on.there (inl (subst (λ (bs : List ℕ).
+                ∙ (c.is_match_or_dead.ensures No _ on.there).1 (inl (subst (λ (bs : List ℕ).
                 node_at (built g s).kind (search_of (built g s) No bs start c.args.end) (c.in-Some.place + 1) ≡ None)
                 (sym inv.bytes) dead)));
           };

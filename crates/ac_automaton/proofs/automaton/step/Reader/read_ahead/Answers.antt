@@ -102,7 +102,7 @@ loop-at-preserved g c =
           let on = on g s start (reaches, living) in
           let none = nil-from_not (g.A.Automaton.listed c.args.self.now.automaton.now c.read_byte-state.result)
           (λ some. false≢true (sym c.if-is_match_or_dead.false
-          ∙ c.is_match_or_dead.ensures c.args.self.now.anchored _ on.there (inr some))) in
+          ∙ (c.is_match_or_dead.ensures c.args.self.now.anchored _ on.there).1 (inr some))) in
           record {
             reaches = on;
             onward = (let a = along.onward in omega arith);
@@ -112,7 +112,7 @@ loop-at-preserved g c =
                 (g.met.A.Automaton.lists c.args.self.now.automaton.now c.args.self.now.anchored c.read_byte-state.result
                 _ on.there) none);
             living = λ dead. false≢true (sym c.if-is_match_or_dead.false
-                ∙ c.is_match_or_dead.ensures c.args.self.now.anchored _ on.there (inl dead));
+                ∙ (c.is_match_or_dead.ensures c.args.self.now.anchored _ on.there).1 (inl dead));
           };
       come = λ began come living. come_on g s began come living;
     }

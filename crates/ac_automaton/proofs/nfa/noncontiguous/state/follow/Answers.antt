@@ -1,35 +1,39 @@
-use Rattle.std.proofs.Common.{◌≡◌, arith}
+use Rattle.std.proofs.Common.{◌≡◌, ℕ, arith, subst, sym, ◌∙◌}
+use Rattle.std.proofs.lemmas.List.{get_or_read}
+use Rattle.std.specs.Prelude.{IfSome}
+use Rattle.ac_automaton.specs.Tries.{IsRoot, RootTells}
 use Rattle.ac_util.specs.Node.{Node}
 use Rattle.ac_util.specs.declared.search.Anchored.TheVariants.{No, Yes}
+use Rattle.ac_automaton.specs.declared.nfa.noncontiguous.state.TheConstants.{START}
 use Rattle.ac_automaton.specs.Tries.{HasState, Meaning, Represents}
-use Rattle.ac_automaton.proofs.Follows.{Ended, onward-start, represented, ends-target, ends-anchored, ends-outer, goes-on, leads-inner}
+use Rattle.ac_automaton.proofs.Follows.{Ended, onward-start, represented, ends-root, ends-target, ends-anchored, ends-outer, goes-on, leads-inner}
 use Rattle.ac_automaton.proofs.nfa.noncontiguous.state.follow.Goals as goal
-use Rattle.ac_automaton.proofs.nfa.noncontiguous.state.follow.Goals.{in-Yes, in_default-matches, After-index-states-as_usize, After-must, Then-as_usize-lt-FIRST_INNER}
+use Rattle.ac_automaton.proofs.nfa.noncontiguous.state.follow.Goals.{in-Yes, in-No, in_default, in_default-matches, After-index-states-as_usize, After-index-root-byte, After-must, In-Some-target, Then-as_usize-lt-FIRST_INNER}
 
-pub loop-next-init : goal.loop-next-init
-loop-next-init c =
-    λ g u same h. onward-start g c.args.states.now c.args.byte u c.args.looks.now c.args.anchored c.args.from h
+pub loop-states-init : goal.loop-states-init
+loop-states-init c =
+    λ g u same h. onward-start g c.args.trie.states.now c.args.byte u c.args.looks.now c.args.anchored c.args.from h
 
 pub bounds-states-as_usize : goal.bounds-states-as_usize
 bounds-states-as_usize c =
     let r = c.requires.state in
-    omega (arith, (c.loop-next.invariant r.0 r.1 r.2 r.3).state.there)
+    omega (arith, (c.loop-states.invariant r.0 r.1 r.2 r.3).state.there)
 
 -- what the state that was read tells, by any of the meanings
-known_by : (c : After-index-states-as_usize) (g : Meaning) (u : Node) (same : g.transitions ≡ c.args.transitions.now)
-    (h : HasState g c.args.states.now c.args.from u)
-    → Represents g c.loop-next.at (c.loop-next.invariant g u same h).node c.index-states-as_usize.result
+known_by : (c : After-index-states-as_usize) (g : Meaning) (u : Node) (same : g.transitions ≡ c.args.trie.transitions.now)
+    (h : HasState g c.args.trie.states.now c.args.from u)
+    → Represents g c.loop-states.at (c.loop-states.invariant g u same h).node c.index-states-as_usize.result
 known_by c g u same h =
-    let o = c.loop-next.invariant g u same h in
-    represented g c.args.states.now c.loop-next.at o.node c.index-states-as_usize.result o.state
-    (rw c.as_usize.ensures.value at c.index-states-as_usize.is)
+    let o = c.loop-states.invariant g u same h in
+    represented g c.args.trie.states.now c.loop-states.at o.node c.index-states-as_usize.result o.state
+    (rw c.as_usize-in-loop-states.ensures.value at c.index-states-as_usize.is)
 
 -- what the state that was read tells, by one of the meanings that there are
 abbrev known_node : After-index-states-as_usize → Node
-known_node c = let r = c.requires.state in (c.loop-next.invariant r.0 r.1 r.2 r.3).node
+known_node c = let r = c.requires.state in (c.loop-states.invariant r.0 r.1 r.2 r.3).node
 
 known : (c : After-index-states-as_usize)
-    → Represents c.requires.state.0 c.loop-next.at (known_node c) c.index-states-as_usize.result
+    → Represents c.requires.state.0 c.loop-states.at (known_node c) c.index-states-as_usize.result
 known c = let r = c.requires.state in known_by c r.0 r.1 r.2 r.3
 
 pub target-requires-clause-ordered : goal.target-requires-clause-ordered
@@ -42,44 +46,44 @@ pub target-requires-clause-ascending : goal.target-requires-clause-ascending
 target-requires-clause-ascending c = rw c.requires.state.2 at (known c).ascending
 
 -- the walk ends at the target of a transition
-at_target : (c : goal.In-Some) (g : Meaning) (u : Node) → g.transitions ≡ c.args.transitions.now
-    → HasState g c.args.states.now c.args.from u
-    → Ended g c.args.anchored c.args.byte u c.args.looks.now c.look.new.self c.in-Some.next
+at_target : (c : In-Some-target) (g : Meaning) (u : Node) → g.transitions ≡ c.args.trie.transitions.now
+    → HasState g c.args.trie.states.now c.args.from u
+    → Ended g c.args.anchored c.args.byte u c.args.looks.now c.look.new.self c.in-Some-target.next
 at_target c g u same h =
-    let found = c.in-Some.ensures in
-    (ends-target g c.args.states.now c.args.byte u c.args.looks.now c.args.transitions.now same
-    c.loop-next.looks c.look.new.self c.look.ensures
-    c.loop-next.at c.index-states-as_usize.result (rw c.as_usize.ensures.value at c.index-states-as_usize.is)
-    c.args.anchored found.0 c.in-Some.next found.1 (c.loop-next.invariant g u same h))
+    let found = c.in-Some-target.ensures in
+    (ends-target g c.args.trie.states.now c.args.byte u c.args.looks.now c.args.trie.transitions.now same
+    c.loop-states.looks c.look.new.self c.look.ensures
+    c.loop-states.at c.index-states-as_usize.result (rw c.as_usize-in-loop-states.ensures.value at c.index-states-as_usize.is)
+    c.args.anchored found.0 c.in-Some-target.next found.1 (c.loop-states.invariant g u same h))
 
-pub returns-in-Some-clause-steps : goal.returns-in-Some-clause-steps
-returns-in-Some-clause-steps c = λ g u same h. (at_target c g u same h).steps
+pub returns-in-Some-target-clause-steps : goal.returns-in-Some-target-clause-steps
+returns-in-Some-target-clause-steps c = λ g u same h. (at_target c g u same h).steps
 
-pub returns-in-Some-clause-looks : goal.returns-in-Some-clause-looks
-returns-in-Some-clause-looks c = λ g u same h. (at_target c g u same h).looks
+pub returns-in-Some-target-clause-looks : goal.returns-in-Some-target-clause-looks
+returns-in-Some-target-clause-looks c = λ g u same h. (at_target c g u same h).looks
 
-pub returns-in-Some-clause-unanchored : goal.returns-in-Some-clause-unanchored
-returns-in-Some-clause-unanchored c = λ g u same h start.
-    let found = c.in-Some.ensures in
-    leads-inner g c.args.transitions.now same c.loop-next.at (c.loop-next.invariant g u same h).node
+pub returns-in-Some-target-clause-unanchored : goal.returns-in-Some-target-clause-unanchored
+returns-in-Some-target-clause-unanchored c = λ g u same h start.
+    let found = c.in-Some-target.ensures in
+    leads-inner g c.args.trie.transitions.now same c.loop-states.at (c.loop-states.invariant g u same h).node
     c.index-states-as_usize.result
-    (known_by (goal.at.returns-in-Some-clause-unanchored c).After-index-states-as_usize g u same h)
-    c.args.byte found.0 c.in-Some.next found.1 start
+    (known_by (goal.at.returns-in-Some-target-clause-unanchored c).After-index-states-as_usize g u same h)
+    c.args.byte found.0 c.in-Some-target.next found.1 start
 
 -- or at the dead state, if it is anchored
-at_dead : (c : After-must) (g : Meaning) (u : Node) → g.transitions ≡ c.args.transitions.now
-    → HasState g c.args.states.now c.args.from u
+at_dead : (c : After-must) (g : Meaning) (u : Node) → g.transitions ≡ c.args.trie.transitions.now
+    → HasState g c.args.trie.states.now c.args.from u
     → Ended g c.args.anchored c.args.byte u c.args.looks.now c.look.new.self c.must.result
 at_dead c g u same h =
-    let is_yes : c.args.anchored ≡ Yes = elim c.match-matches.branch [
+    let is_yes : c.args.anchored ≡ Yes = elim c.match-matches-2.branch [
       | in-Yes w ↦ w.in-Yes.is
       | in_default-matches w ↦ absurd (cc)
     ] in
     rw c.must.ensures.value
-    (ends-anchored g c.args.states.now c.args.byte u c.args.looks.now c.args.transitions.now same
-    c.loop-next.looks c.look.new.self c.look.ensures
-    c.loop-next.at c.index-states-as_usize.result (rw c.as_usize.ensures.value at c.index-states-as_usize.is)
-    c.in_default.ensures c.args.anchored is_yes (c.loop-next.invariant g u same h))
+    (ends-anchored g c.args.trie.states.now c.args.byte u c.args.looks.now c.args.trie.transitions.now same
+    c.loop-states.looks c.look.new.self c.look.ensures
+    c.loop-states.at c.index-states-as_usize.result (rw c.as_usize-in-loop-states.ensures.value at c.index-states-as_usize.is)
+    c.in_default-target.ensures c.args.anchored is_yes (c.loop-states.invariant g u same h))
 
 pub returns-then-matches-clause-steps : goal.returns-then-matches-clause-steps
 returns-then-matches-clause-steps c = λ g u same h. (at_dead c g u same h).steps
@@ -88,18 +92,18 @@ pub returns-then-matches-clause-looks : goal.returns-then-matches-clause-looks
 returns-then-matches-clause-looks c = λ g u same h. (at_dead c g u same h).looks
 
 -- or behind one of the first four states
-at_outer : (c : Then-as_usize-lt-FIRST_INNER) (g : Meaning) (u : Node) → g.transitions ≡ c.args.transitions.now
-    → HasState g c.args.states.now c.args.from u
+at_outer : (c : Then-as_usize-lt-FIRST_INNER) (g : Meaning) (u : Node) → g.transitions ≡ c.args.trie.transitions.now
+    → HasState g c.args.trie.states.now c.args.from u
     → Ended g c.args.anchored c.args.byte u c.args.looks.now c.look.new.self c.index-states-as_usize.result.fail
 at_outer c g u same h =
-    let is_no : c.args.anchored ≡ No = elim c.match-matches.branch [
+    let is_no : c.args.anchored ≡ No = elim c.match-matches-2.branch [
       | in-Yes w ↦ absurd (cc)
       | in_default-matches w ↦ w.in_default-matches.is
     ] in
-    ends-outer g c.args.states.now c.args.byte u c.args.looks.now c.args.transitions.now same
-    c.loop-next.looks c.look.new.self c.look.ensures
-    c.loop-next.at c.index-states-as_usize.result (rw c.as_usize.ensures.value at c.index-states-as_usize.is)
-    c.in_default.ensures c.args.anchored is_no (omega arith) (c.loop-next.invariant g u same h)
+    ends-outer g c.args.trie.states.now c.args.byte u c.args.looks.now c.args.trie.transitions.now same
+    c.loop-states.looks c.look.new.self c.look.ensures
+    c.loop-states.at c.index-states-as_usize.result (rw c.as_usize-in-loop-states.ensures.value at c.index-states-as_usize.is)
+    c.in_default-target.ensures c.args.anchored is_no (omega arith) (c.loop-states.invariant g u same h)
 
 pub returns-then-as_usize-lt-FIRST_INNER-clause-steps :
     goal.returns-then-as_usize-lt-FIRST_INNER-clause-steps
@@ -119,17 +123,61 @@ returns-then-as_usize-lt-FIRST_INNER-clause-unanchored c = λ g u same h start.
     (known_by (goal.at.returns-then-as_usize-lt-FIRST_INNER-clause-unanchored c).After-index-states-as_usize g u
     same h).unanchored
 
-pub loop-next-smaller : goal.loop-next-smaller
-loop-next-smaller c = (known (goal.at.loop-next-smaller c).After-index-states-as_usize).back (omega arith)
+pub loop-states-smaller : goal.loop-states-smaller
+loop-states-smaller c = (known (goal.at.loop-states-smaller c).After-index-states-as_usize).back (omega arith)
 
 -- else it goes on
-pub loop-next-preserved : goal.loop-next-preserved
-loop-next-preserved c = λ g u same h.
-    let is_no : c.args.anchored ≡ No = elim c.match-matches.branch [
+pub loop-states-preserved : goal.loop-states-preserved
+loop-states-preserved c = λ g u same h.
+    let is_no : c.args.anchored ≡ No = elim c.match-matches-2.branch [
       | in-Yes w ↦ absurd (cc)
       | in_default-matches w ↦ w.in_default-matches.is
     ] in
-    goes-on g c.args.states.now c.args.byte u c.args.looks.now c.args.transitions.now same
-    c.loop-next.looks c.look.new.self c.look.ensures
-    c.loop-next.at c.index-states-as_usize.result (rw c.as_usize.ensures.value at c.index-states-as_usize.is)
-    c.in_default.ensures c.args.anchored is_no (omega arith) (c.loop-next.invariant g u same h)
+    goes-on g c.args.trie.states.now c.args.byte u c.args.looks.now c.args.trie.transitions.now same
+    c.loop-states.looks c.look.new.self c.look.ensures
+    c.loop-states.at c.index-states-as_usize.result (rw c.as_usize-in-loop-states.ensures.value at c.index-states-as_usize.is)
+    c.in_default-target.ensures c.args.anchored is_no (omega arith) (c.loop-states.invariant g u same h)
+
+-- at the start a root table tells where an unanchored walk ends
+module _ (c : After-index-root-byte) where
+  at_start : c.loop-states.at ≡ START
+  at_start = sym c.as_usize.ensures.value ∙ c.if-as_usize-eq-START.true
+
+  told : RootTells c.args.trie.transitions.now c.args.trie.states.now c.args.byte c.index-root-byte.result
+  told =
+      let rooted : IsRoot c.args.trie.transitions.now c.args.trie.states.now c.in-Some.root.now =
+      subst (λ root. IfSome root (λ r. IsRoot c.args.trie.transitions.now c.args.trie.states.now r.now))
+      c.in-Some.is c.requires.rooted in
+      let tells = rooted.told c.args.byte (omega arith) in
+      subst (λ (n : ℕ). RootTells c.args.trie.transitions.now c.args.trie.states.now c.args.byte n)
+      (sym (get_or_read c.in-Some.root.now c.args.byte c.index-root-byte.result (omega (arith, rooted.whole))
+      c.index-root-byte.is 0)) tells
+
+  is_no : c.args.anchored ≡ No
+  is_no = elim c.match-matches.branch [
+    | in-No w ↦ w.in-No.is
+    | in_default w ↦ absurd (cc)
+  ]
+
+  at_root : (g : Meaning) (u : Node) → g.transitions ≡ c.args.trie.transitions.now
+      → HasState g c.args.trie.states.now c.args.from u
+      → Ended g c.args.anchored c.args.byte u c.args.looks.now c.look.new.self c.index-root-byte.result
+  at_root g u same h =
+      ends-root g c.args.trie.states.now c.args.byte u c.args.looks.now c.args.trie.transitions.now same
+      c.loop-states.looks c.look.new.self c.look.ensures c.loop-states.at c.index-root-byte.result
+      c.args.anchored is_no at_start told (c.loop-states.invariant g u same h)
+
+pub returns-in-loop-states-clause-steps : goal.returns-in-loop-states-clause-steps
+returns-in-loop-states-clause-steps c = λ g u same h.
+    (at_root (goal.at.returns-in-loop-states-clause-steps c).After-index-root-byte g u same h).steps
+
+pub returns-in-loop-states-clause-looks : goal.returns-in-loop-states-clause-looks
+returns-in-loop-states-clause-looks c = λ g u same h.
+    (at_root (goal.at.returns-in-loop-states-clause-looks c).After-index-root-byte g u same h).looks
+
+pub returns-in-loop-states-clause-unanchored : goal.returns-in-loop-states-clause-unanchored
+returns-in-loop-states-clause-unanchored c = λ g u same h start.
+    let d = (goal.at.returns-in-loop-states-clause-unanchored c).After-index-root-byte in
+    let o = c.loop-states.invariant g u same h in
+    (told d).inner g o.node same
+    (subst (λ (n : ℕ). HasState g c.args.trie.states.now n o.node) (at_start d) o.state) start

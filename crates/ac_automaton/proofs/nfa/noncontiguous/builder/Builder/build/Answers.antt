@@ -1,4 +1,5 @@
 use Rattle.std.proofs.Common.{rules, sym}
+use Rattle.ac_automaton.proofs.Tables.{start-state}
 use Rattle.ac_automaton.proofs.nfa.noncontiguous.builder.Builder.build.Goals as goal
 
 -- the lists are a table whatever the setting is
@@ -10,6 +11,14 @@ invariant_of-result g c =
       table = (c.in_ok-lists.ensures.nodes, table);
       shortest = search rules;
       longest = search rules;
+      rooted = rw (c.slices.ensures.transitions, c.slices.ensures.states) at c.in_ok-root.ensures;
       skips = found.0;
       serves = found.1;
     })
+
+-- the start stands for the empty string
+pub root_of-requires-clause-start : goal.root_of-requires-clause-start
+root_of-requires-clause-start g c =
+    let whole = c.in_ok-lists.ensures in
+    rw (c.slices.ensures.states, c.slices.ensures.transitions)
+    (start-state _ whole.nodes (whole.table c.self.inside.prefilter))
