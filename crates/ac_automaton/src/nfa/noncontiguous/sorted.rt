@@ -200,13 +200,12 @@ fn listed<'p, A: Allocator>(
 fn compare(a: &SortedPattern<'_>, b: &SortedPattern<'_>, fold: bool) -> Ordering
     ensures { result ≡ compared fold a.now b.now }
 {
-    let by_bytes = if fold {
-        let plain = |x: &u8| plain_byte(true, *x);
-        a.bytes.iter().map(plain).cmp(b.bytes.iter().map(plain))
-    } else {
-        a.bytes.cmp(b.bytes)
-    };
-    by_bytes.then(a.number.cmp(&b.number))
+    let plain = |x: &u8| plain_byte(fold, *x);
+    a.bytes
+        .iter()
+        .map(plain)
+        .cmp(b.bytes.iter().map(plain))
+        .then(a.number.cmp(&b.number))
 }
 
 /// Keeps those of all patterns that take part under `LeftmostFirst`: those without an earlier pattern as a
