@@ -1,18 +1,18 @@
 -- What a run of the program does to its reader and its writer.
-use Rattle.std.specs.Prelude.{◌≡◌, ◌⊎◌, ℕ, ◌+◌, ◌<◌, Bool, true, List, length, None, Some}
+use Rattle.std.specs.Prelude.{◌≡◌, ◌⊎◌, ℕ, ◌+◌, ◌<◌, Bool, true, List, length, MatchOption, MatchResult, None, Some, Result, Ok, Err}
 use Rattle.std.specs.Io.{StartsWith}
 use Rattle.std.specs.Io.KnownBytes.{Appends, Consumes, IsAtEnd}
 use Rattle.ac_util.specs.Device.{Reading, Writing}
 use Rattle.ac_search.specs.Searchers.{IsBuildable, built_by}
 use Rattle.acs.specs.declared.fault.Fault.{Fault}
-use Rattle.acs.specs.declared.fault.Fault.TheVariants.{Io, Memory, WriteZero}
+use Rattle.acs.specs.declared.fault.Fault.TheVariants.{Io, Memory, Usage, WriteZero}
 use Rattle.acs.specs.declared.request.Mode.{Mode}
 use Rattle.acs.specs.declared.request.Mode.TheVariants.{Replace}
 use Rattle.acs.specs.declared.request.Request.{Request}
 use Rattle.acs.specs.declared.run.Outcome.{Outcome}
-use Rattle.acs.specs.Faults.{IsRefusal}
+use Rattle.acs.specs.Faults.{IsRefusal, line_of}
 use Rattle.acs.specs.Lines.{Output, output_of}
-use Rattle.acs.specs.Requests.{patterns_in, request_refusal, settings_of, texts_in}
+use Rattle.acs.specs.Requests.{patterns_in, request_of, request_refusal, settings_of, texts_in, words_behind}
 
 -- the bytes are all that the reader gave up to the first read that gave none, where it was asked no more, and
 -- no read failed. Where `ends` is true they are all that it had left
@@ -114,3 +114,20 @@ module _ (ends : Bool) (request : Request) (words : List (List ℕ)) (reader new
   -- the run has ended with a fault, for its cause: before the first read, while it read, or while it wrote
   abbrev pub HasFailed : Fault → Type 0
   HasFailed fault = FailsAtFirst fault ⊎ (FailsReading fault ⊎ FailsPrinting fault)
+
+-- the run has answered the words after the program's name: they ask for nothing that there is, and reader and writer
+-- are as they were; or for something, and it has run, or failed for its cause
+abbrev pub HasAnswered : Bool → List (List ℕ) → Reading → Reading → Writing → Writing → Result Outcome Fault → Type 0
+HasAnswered ends words reader new_reader writer new_writer answered =
+    MatchOption (request_of words)
+    ((answered ≡ Err Usage) × (new_reader ≡ reader) × (new_writer ≡ writer))
+    (λ request. MatchResult answered
+    (HasRun ends request (words_behind words) reader new_reader writer new_writer)
+    (HasFailed ends request (words_behind words) reader new_reader writer new_writer))
+
+-- a fault was told by its line, or by a beginning of it where a write failed or took nothing; where there is no fault
+-- nothing was written
+abbrev pub HasTold : Result Outcome Fault → Writing → Writing → Type 0
+HasTold (Ok outcome) old new = new ≡ old
+HasTold (Err fault) old new =
+    WritesAll old new (line_of fault) ⊎ ((cause : Fault) × FailsToWrite old new (line_of fault) cause)

@@ -1,9 +1,9 @@
 //! `acs MODE KIND ENGINE WORD..` prints where words occur in standard input, or exchanges them for others.
 #![tactic(auto)]
 
-use ac_search::{FromRead, IntoWrite};
+use ac_search::{FromRead, IntoWrite, Sink};
 use fault::Fault;
-use run::{Outcome, run, status};
+use run::{run_and_tell, status, tell};
 use std::process::ExitCode;
 use std::{env, io};
 
@@ -15,16 +15,23 @@ mod request;
 mod run;
 
 fn main(rt: HostRuntime) -> ExitCode {
-    let outcome = run_on_streams(&rt);
-    if let Err(fault) = &outcome {
-        let line = fault.line();
-        let _told = eprintln!(rt; "{line}");
-    }
-    ExitCode::from(status(&outcome))
+    let mut errors = IntoWrite::new(rt.stderr().lock());
+    let status = match run_on_streams(&rt, &mut errors) {
+        Ok(status) => status,
+        Err(fault) => {
+            let outcome = Err(fault);
+            tell(&outcome, &mut errors);
+            status(&outcome)
+        }
+    };
+    ExitCode::from(status)
 }
 
-/// Runs over the words after the program's name, standard input and standard output.
-fn run_on_streams(rt: &HostRuntime) -> Result<Outcome, Fault> {
+/// Runs over the words after the program's name, standard input and standard output, and returns the exit status.
+///
+/// # Errors
+/// `Memory` where the words can't be copied, `Usage` where one of them is no text.
+fn run_on_streams<E: Sink>(rt: &HostRuntime, errors: &mut E) -> Result<u8, Fault> {
     let alloc = rt.alloc();
     let words = match env::args(rt) {
         Ok(words) => words,
@@ -38,5 +45,6 @@ fn run_on_streams(rt: &HostRuntime) -> Result<Outcome, Fault> {
     }
     let mut reader = FromRead::new(rt.stdin().lock());
     let mut writer = IntoWrite::new(rt.stdout().lock());
-    run(alloc, &texts, &mut reader, &mut writer)
+    let status = run_and_tell(alloc, &texts, &mut reader, &mut writer, errors);
+    Ok(status)
 }

@@ -31,7 +31,7 @@ fn add_line<A: Allocator + Clone>(text: &mut String<A>, m: &Match) -> Result<(),
 ///
 /// # Errors
 /// `Io` where a write fails, `WriteZero` where it takes no byte.
-fn write_all<W: Sink>(writer: &mut W, bytes: &[u8]) -> Result<(), Fault>
+pub(crate) fn write_all<W: Sink>(writer: &mut W, bytes: &[u8]) -> Result<(), Fault>
     ensures { MatchResult result
         (λ _. WritesAll (W.told writer.old) (W.told writer.new) bytes.now)
         (FailsToWrite (W.told writer.old) (W.told writer.new) bytes.now) }

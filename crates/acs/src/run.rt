@@ -1,16 +1,17 @@
 //! The program over any reader and writer.
-ghost use Rattle.std.specs.Prelude.{◌≡◌, Err, MatchOption, MatchResult, None, Some};
+ghost use Rattle.std.specs.Prelude.{◌≡◌, MatchResult, None, Result, Some};
 ghost use Rattle.ac_util.specs.Borrowed.{bytes_of};
 ghost use Rattle.ac_search.specs.Searchers.{IsBuilt};
 ghost use Rattle.acs.specs.declared.fault.Fault;
 ghost use Rattle.acs.specs.Lines.{status_of};
 ghost use Rattle.acs.specs.Faults.{IsRefusal};
-ghost use Rattle.acs.specs.Requests.{request_of, request_refusal, settings_of, words_behind};
-ghost use Rattle.acs.specs.Runs.{HasFailed, HasRun};
+ghost use Rattle.acs.specs.Requests.{request_refusal, settings_of};
+ghost use Rattle.acs.specs.Runs.{HasAnswered, HasFailed, HasRun, HasTold};
+ghost use Rattle.acs.specs.declared.run.Outcome;
 
 use crate::fault::Fault;
 use crate::input::read_all;
-use crate::output::{print_found, print_listing, print_text, print_walk};
+use crate::output::{print_found, print_listing, print_text, print_walk, write_all};
 use crate::request::{Mode, Request, check_patterns, patterns_of, request_of, texts_of};
 use ac_search::{AhoCorasick, AhoCorasickBuilder, Input, MatchKind, Sink, Source};
 use std::alloc::Allocator;
@@ -51,19 +52,44 @@ pub fn run<A: Allocator + Clone, R: Source, W: Sink>(
     reader: &mut R,
     writer: &mut W,
 ) -> Result<Outcome, Fault>
-    ensures { MatchOption (request_of (bytes_of words.now))
-        ((result ≡ Err Fault.Usage)
-        × (R.told reader.new ≡ R.told reader.old) × (W.told writer.new ≡ W.told writer.old))
-        (λ request. MatchResult result
-        (HasRun R.empty_means_end request (words_behind (bytes_of words.now))
-        (R.told reader.old) (R.told reader.new) (W.told writer.old) (W.told writer.new))
-        (HasFailed R.empty_means_end request (words_behind (bytes_of words.now))
-        (R.told reader.old) (R.told reader.new) (W.told writer.old) (W.told writer.new))) }
+    ensures { HasAnswered R.empty_means_end (bytes_of words.now) (R.told reader.old) (R.told reader.new)
+        (W.told writer.old) (W.told writer.new) result }
 {
     let Some(request) = request_of(words) else {
         return Err(Fault::Usage);
     };
     search(alloc, request, &words[3..], reader, writer)
+}
+
+/// Runs, tells a fault by its line on a third device, and returns the exit status: 0 where a line or a whole replaced
+/// text was written, 1 where no line was, 2 after a fault.
+///
+/// Where that device fails, a beginning of the line was written. Where there is no fault nothing is written there.
+pub fn run_and_tell<A: Allocator + Clone, R: Source, W: Sink, E: Sink>(
+    alloc: A,
+    words: &[&str],
+    reader: &mut R,
+    writer: &mut W,
+    errors: &mut E,
+) -> u8
+    ensures { (outcome : Result Outcome Fault)
+        × HasAnswered R.empty_means_end (bytes_of words.now) (R.told reader.old) (R.told reader.new)
+        (W.told writer.old) (W.told writer.new) outcome
+        × HasTold outcome (E.told errors.old) (E.told errors.new)
+        × (result ≡ status_of outcome) }
+{
+    let outcome = run(alloc, words, reader, writer);
+    tell(&outcome, errors);
+    status(&outcome)
+}
+
+/// Writes the line of a fault, if there is one. A line that can't be written is let go: nobody is left to be told.
+pub fn tell<E: Sink>(outcome: &Result<Outcome, Fault>, errors: &mut E)
+    ensures { HasTold outcome.now (E.told errors.old) (E.told errors.new) }
+{
+    if let Err(fault) = outcome {
+        let _written = write_all(errors, fault.line().as_bytes());
+    }
 }
 
 /// Searches all that a reader gives for what a request with these words asks for, and writes what it finds.

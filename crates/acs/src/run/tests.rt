@@ -1,4 +1,4 @@
-use super::{Outcome, run, status};
+use super::{Outcome, run, run_and_tell, status};
 use crate::fault::Fault;
 use ac_search::{Bytes, FromRead, IntoWrite, Written};
 use std::alloc::{AllocError, Global};
@@ -278,19 +278,19 @@ const ENDINGS: &[(Ending, u8, &str)] = &[
     (
         Err(Fault::Usage),
         2,
-        "acs: usage: acs MODE KIND ENGINE WORD..",
+        "acs: usage: acs MODE KIND ENGINE WORD..\n",
     ),
-    (Err(Fault::Memory), 2, "acs: out of memory"),
-    (Err(Fault::TooManyPatterns), 2, "acs: too many patterns"),
-    (Err(Fault::PatternTooLong), 2, "acs: pattern too long"),
-    (Err(Fault::TooManyStates), 2, "acs: too many states"),
+    (Err(Fault::Memory), 2, "acs: out of memory\n"),
+    (Err(Fault::TooManyPatterns), 2, "acs: too many patterns\n"),
+    (Err(Fault::PatternTooLong), 2, "acs: pattern too long\n"),
+    (Err(Fault::TooManyStates), 2, "acs: too many states\n"),
     (
         Err(Fault::OverlappingKind),
         2,
-        "acs: overlapping search needs std",
+        "acs: overlapping search needs std\n",
     ),
-    (Err(Fault::Io), 2, "acs: input or output failed"),
-    (Err(Fault::WriteZero), 2, "acs: output took no byte"),
+    (Err(Fault::Io), 2, "acs: input or output failed\n"),
+    (Err(Fault::WriteZero), 2, "acs: output took no byte\n"),
 ];
 
 /// The words of a walk, its input and its lines.
@@ -410,6 +410,67 @@ fn endings_have_a_status_and_a_line(rt: HostRuntime) {
             assert_eq!(rt; fault.line(), *line, "{ending:?}");
         }
     }
+}
+
+/// Words, what is written, what is told, and the exit status, over one input.
+const TOLD: &[(&[&str], &[u8], &[u8], u8)] = &[
+    (WORDS, LINES, b"", 0),
+    (&["walk", "std", "auto", "absent"], b"", b"", 1),
+    (
+        &[
+            "walk", "std", "auto", "1", "2", "3", "4", "5", "6", "7", "c",
+        ],
+        b"7 2 3\n",
+        b"",
+        0,
+    ),
+    (
+        &["walk", "best", "auto", "ab"],
+        b"",
+        b"acs: usage: acs MODE KIND ENGINE WORD..\n",
+        2,
+    ),
+    (
+        &["overlap", "first", "auto", "ab"],
+        b"",
+        b"acs: overlapping search needs std\n",
+        2,
+    ),
+];
+
+#[test]
+fn faults_are_told_beside_the_lines(rt: HostRuntime) -> Result<(), Fail> {
+    for &(words, wanted, line, number) in TOLD {
+        println!(rt; "status {number} for {} words", words.len())?;
+        let mut reader = Bytes::new(INPUT);
+        let mut writer = Written::new(rt.alloc());
+        let mut errors = Written::new(rt.alloc());
+        let status = run_and_tell(rt.alloc(), words, &mut reader, &mut writer, &mut errors);
+        assert_eq!(rt; status, number);
+        assert_eq!(rt; writer.bytes(), wanted);
+        assert_eq!(rt; errors.bytes(), line);
+    }
+    Ok(())
+}
+
+/// A line of a fault that can't be written changes nothing else.
+#[test]
+fn a_fault_that_cannot_be_told_has_its_status(rt: HostRuntime) -> Result<(), Fail> {
+    let mut held = Vec::new(rt.alloc());
+    let mut errors = IntoWrite::new(Narrow {
+        held: &mut held,
+        room: 5,
+        fails: true,
+    });
+    let mut reader = Bytes::new(INPUT);
+    let mut writer = Written::new(rt.alloc());
+    let words = ["walk", "best", "auto", "ab"];
+    let status = run_and_tell(rt.alloc(), &words, &mut reader, &mut writer, &mut errors);
+    drop(errors);
+    assert_eq!(rt; status, 2);
+    assert!(rt; writer.bytes().is_empty());
+    assert_eq!(rt; held.as_slice(), b"acs: ".as_slice());
+    Ok(())
 }
 
 #[test]
