@@ -81,13 +81,6 @@ pub trait Automaton {
         ensures looks { (u : Node) → stands self.now anchored sid u
             → looks.new ≡ more_looks (looks_of LOOKS (built self.now) anchored u byte) looks.old };
 
-    /// Returns whether the state may be dead, a match state or a start. Where this is false nothing is found there, and
-    /// nothing begins or ends.
-    fn is_special(&self, sid: StateID) -> bool
-        requires state { (anchored : Anchored) × IsState (stands self.now anchored) sid }
-        ensures { (anchored : Anchored) (u : Node) → stands self.now anchored sid u
-            → (u ≡ None) ⊎ (u ≡ Some []) ⊎ (listed self.now sid ≢ []) → IsTrue result };
-
     /// Returns whether the state is dead: nothing is found from it on.
     fn is_dead(&self, sid: StateID) -> bool
         requires state { (anchored : Anchored) × IsState (stands self.now anchored) sid }
@@ -115,6 +108,17 @@ pub trait Automaton {
         requires state { (anchored : Anchored) × IsState (stands self.now anchored) sid }
         ensures { (anchored : Anchored) (u : Node) → stands self.now anchored sid u
             → IsTrue result ↔ (u ≡ Some []) };
+
+    /// Returns whether the state is dead, a match state or a start. At any other nothing is found, and nothing begins or
+    /// ends.
+    #[inline]
+    fn is_special(&self, sid: StateID) -> bool
+        requires state { (anchored : Anchored) × IsState (stands self.now anchored) sid }
+        ensures { (anchored : Anchored) (u : Node) → stands self.now anchored sid u
+            → IsTrue result ↔ ((u ≡ None) ⊎ (u ≡ Some []) ⊎ (listed self.now sid ≢ [])) }
+    {
+        self.is_match_or_dead(sid) || self.is_start(sid)
+    }
 
     /// Returns how many matches a match state has.
     fn match_len(&self, sid: StateID) -> usize

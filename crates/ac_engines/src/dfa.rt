@@ -229,11 +229,6 @@ impl<A: Allocator> Automaton for DFA<A> {
     }
 
     #[inline]
-    fn is_special(&self, sid: StateID) -> bool {
-        sid.as_usize() < self.match_numbers().end
-    }
-
-    #[inline]
     fn is_dead(&self, sid: StateID) -> bool {
         sid.as_usize() == DEAD
     }

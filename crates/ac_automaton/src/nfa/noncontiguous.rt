@@ -202,11 +202,6 @@ impl<A: Allocator> Automaton for NFA<A> {
     }
 
     #[inline]
-    fn is_special(&self, sid: StateID) -> bool {
-        sid.as_usize() < FIRST_INNER || self.is_match(sid)
-    }
-
-    #[inline]
     fn is_dead(&self, sid: StateID) -> bool {
         sid.as_usize() < START
     }

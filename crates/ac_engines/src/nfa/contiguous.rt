@@ -195,11 +195,6 @@ impl<A: Allocator> Automaton for NFA<A> {
     }
 
     #[inline]
-    fn is_special(&self, sid: StateID) -> bool {
-        sid.as_usize() < self.match_end || self.is_start(sid)
-    }
-
-    #[inline]
     fn is_dead(&self, sid: StateID) -> bool {
         sid.as_usize() == DEAD
     }
