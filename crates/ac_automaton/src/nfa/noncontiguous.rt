@@ -1,5 +1,5 @@
 //! A trie with failure links: small, and quickly built.
-ghost use Rattle.std.specs.Prelude.{◌≡◌, IfSome, List, MatchResult};
+ghost use Rattle.std.specs.Prelude.{◌≡◌, ◌≢◌, IfSome, List, MatchResult, None};
 ghost use Rattle.std.proofs.Common.{inr, refl};
 ghost use Rattle.ac_util.specs.Borrowed.{bytes_of};
 ghost use Rattle.ac_util.specs.Node.{Node};
@@ -138,6 +138,7 @@ impl<A: Allocator> NFA<A> {
         ensures states { result.states.now ≡ self.now.states }
         ensures transitions { result.transitions.now ≡ self.now.transitions }
         ensures rooted { IfSome result.root (λ root. IsRoot self.now.transitions self.now.states root.now) }
+        ensures given { result.root ≢ None }
     {
         TrieSlices {
             states: &self.lists.states,
