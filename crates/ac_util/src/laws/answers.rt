@@ -97,12 +97,16 @@ pub fn pick_comes_first()
     ensures standard { (q : Search) → pick MatchKind.Standard q ≡ slice_get (all q) 0 }
 {}
 
-/// `earliest` changes nothing under Standard, and gives what Standard picks under every kind.
+/// `earliest` changes nothing under Standard, and gives what Standard picks under every kind, in a find and in a walk.
 pub fn earliest_is_standard()
     ensures standard { (earliest : Bool)
         → order_of MatchKind.Standard earliest ≡ MatchKind.Standard }
     ensures others { (kind : MatchKind) → order_of kind true ≡ MatchKind.Standard }
     ensures unasked { (kind : MatchKind) → order_of kind false ≡ kind }
+    ensures find { (built : Built) (asked : Asked) → found built (record asked { earliest = true })
+        ≡ found (record built { kind = MatchKind.Standard }) (record asked { earliest = false }) }
+    ensures walk { (built : Built) (asked : Asked) → walked built (record asked { earliest = true })
+        ≡ walked (record built { kind = MatchKind.Standard }) (record asked { earliest = false }) }
 {}
 
 /// The walk ends where there is no next match; else it is that match, and then the walk from its end on.
