@@ -260,7 +260,7 @@ module _ (site : Site) {place end b : ℕ} {transitions : List Transition} {queu
     (fail : ℕ) (fails : slice_get (nodes_of site.sorted queue) fail
     ≡ Some (miss site.kind site.patterns (Some (string site ++ b ∷ [])))) where
   pub refused : (e : BuildError) → IsNotPushed queue e → IsRefused (too_many_states site.kind site.patterns) e
-  refused e (inl memory) = inl memory
+  refused e (inl memory) = inl memory.0
   refused e (inr full) =
       inr (too_many_states-some site.kind site.patterns
       (too-many site.kind site.patterns site.sorted site.ready.order

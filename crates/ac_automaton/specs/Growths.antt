@@ -47,10 +47,11 @@ pub record HasPushed (fold : Bool) (byte : ℕ) (p : QueuedState) (transitions :
   pub waits : new_queue ≡ queue ++ p ∷ []
   pub numbered : FIRST_INNER + length queue < GREATEST + 1
 
--- it has not: for want of memory, or because no number is left for it
+-- it has not: for want of memory, where a number is left for it, or because none is
 abbrev pub IsNotPushed : List QueuedState → BuildError → Type 0
 IsNotPushed queue e =
-    (e ≡ Memory) ⊎ ((e ≡ StateIdOverflow GREATEST (GREATEST + 1)) × (FIRST_INNER + length queue ≡ GREATEST + 1))
+    ((e ≡ Memory) × (FIRST_INNER + length queue ≤ GREATEST))
+    ⊎ ((e ≡ StateIdOverflow GREATEST (GREATEST + 1)) × (FIRST_INNER + length queue ≡ GREATEST + 1))
 
 -- the transitions from a place on have been put in ascending order of their bytes
 pub record HasSorted (first : ℕ) (old new : List Transition) : Type 0 where

@@ -1,5 +1,5 @@
 //! The states of a trie with failure links, and the walks over them.
-ghost use Rattle.std.specs.Prelude.{◌≡◌, ◌≢◌, ℕ, ◌+◌, ◌-◌, ◌<◌, ◌≤◌, [], IfSome, Some, length, slice_get};
+ghost use Rattle.std.specs.Prelude.{◌≡◌, ◌≢◌, ℕ, ◌+◌, ◌-◌, ◌<◌, ◌≤◌, [], IfSome, Some, length, slice_get, slice_index};
 ghost use Rattle.std.specs.List.Sorted.{IsStrictlyIncreasing};
 ghost use Rattle.ac_util.specs.Counts.{more_looks};
 ghost use Rattle.ac_util.specs.Looks.{looks as looks_of_node};
@@ -119,6 +119,33 @@ fn target(state: &State, transitions: &[Transition], byte: u8) -> Option<StateID
     }
 }
 
+/// Returns the state to which a byte leads, if there is a transition by it, and counts the look at the state.
+///
+/// A step reaches the transitions of a state by this alone.
+#[inline]
+fn look(state: &State, transitions: &[Transition], byte: u8, looks: &mut Looks) -> Option<StateID>
+    requires ordered { state.now.transitions ≤ state.now.transitions_end }
+    requires listed { state.now.transitions_end ≤ length transitions.now }
+    requires ascending { IsStrictlyIncreasing
+        (transition_bytes (transitions_of transitions.now state.now)) }
+    ensures target { IsTarget (transitions_of transitions.now state.now) byte result }
+    ensures counted { looks.new ≡ more_looks 1 looks.old }
+{
+    looks.look();
+    target(state, transitions, byte)
+}
+
+/// Returns where a byte leads from the start by the root table, and counts the look at the start.
+#[inline]
+fn look_in_root(root: &[StateID], byte: u8, looks: &mut Looks) -> StateID
+    requires whole { length root.now ≡ 256 }
+    ensures target { result ≡ slice_index root.now byte }
+    ensures counted { looks.new ≡ more_looks 1 looks.old }
+{
+    looks.look();
+    root[byte as usize]
+}
+
 /// What a search follows: the states, the transitions of them all, and where there is one a root table, which has
 /// for each byte where an unanchored search goes on from the start.
 #[derive(Clone, Copy)]
@@ -158,15 +185,14 @@ pub(crate) fn follow(
     let (states, transitions) = (trie.states, trie.transitions);
     let mut at = from;
     loop {
-        looks.look();
         if at.as_usize() == START
             && matches!(anchored, Anchored::No)
             && let Some(root) = trie.root
         {
-            return root[byte as usize];
+            return look_in_root(root, byte, looks);
         }
         let state = &states[at.as_usize()];
-        if let Some(next) = target(state, transitions, byte) {
+        if let Some(next) = look(state, transitions, byte, looks) {
             return next;
         }
         if matches!(anchored, Anchored::Yes) {

@@ -1,5 +1,4 @@
 use Rattle.std.proofs.Common.{◌≡◌, ℕ, arith, subst, sym, ◌∙◌}
-use Rattle.std.proofs.lemmas.List.{get_or_read}
 use Rattle.std.specs.Prelude.{IfSome}
 use Rattle.ac_automaton.specs.Tries.{IsRoot, RootTells}
 use Rattle.ac_util.specs.Node.{Node}
@@ -8,7 +7,7 @@ use Rattle.ac_automaton.specs.declared.nfa.noncontiguous.state.TheConstants.{STA
 use Rattle.ac_automaton.specs.Tries.{HasState, Meaning, Represents}
 use Rattle.ac_automaton.proofs.Follows.{Ended, onward-start, represented, ends-root, ends-target, ends-anchored, ends-outer, goes-on, leads-inner}
 use Rattle.ac_automaton.proofs.nfa.noncontiguous.state.follow.Goals as goal
-use Rattle.ac_automaton.proofs.nfa.noncontiguous.state.follow.Goals.{in-Yes, in-No, in_default, in_default-matches, After-index-states-as_usize, After-index-root-byte, After-must, In-Some-target, Then-as_usize-lt-FIRST_INNER}
+use Rattle.ac_automaton.proofs.nfa.noncontiguous.state.follow.Goals.{in-Yes, in-No, in_default, in_default-matches, After-index-states-as_usize, After-look_in_root, After-must, In-Some-look, Then-as_usize-lt-FIRST_INNER}
 
 pub loop-states-init : goal.loop-states-init
 loop-states-init c =
@@ -36,44 +35,46 @@ known : (c : After-index-states-as_usize)
     → Represents c.requires.state.0 c.loop-states.at (known_node c) c.index-states-as_usize.result
 known c = let r = c.requires.state in known_by c r.0 r.1 r.2 r.3
 
-pub target-requires-clause-ordered : goal.target-requires-clause-ordered
-target-requires-clause-ordered c = (known c).ordered
+pub look-requires-clause-ordered : goal.look-requires-clause-ordered
+look-requires-clause-ordered c = (known (goal.at.look-requires-clause-ordered c).After-index-states-as_usize).ordered
 
-pub target-requires-clause-listed : goal.target-requires-clause-listed
-target-requires-clause-listed c = rw c.requires.state.2 at (known c).listed
+pub look-requires-clause-listed : goal.look-requires-clause-listed
+look-requires-clause-listed c =
+    rw c.requires.state.2 at (known (goal.at.look-requires-clause-listed c).After-index-states-as_usize).listed
 
-pub target-requires-clause-ascending : goal.target-requires-clause-ascending
-target-requires-clause-ascending c = rw c.requires.state.2 at (known c).ascending
+pub look-requires-clause-ascending : goal.look-requires-clause-ascending
+look-requires-clause-ascending c =
+    rw c.requires.state.2 at (known (goal.at.look-requires-clause-ascending c).After-index-states-as_usize).ascending
 
 -- the walk ends at the target of a transition
-at_target : (c : In-Some-target) (g : Meaning) (u : Node) → g.transitions ≡ c.args.trie.transitions.now
+at_target : (c : In-Some-look) (g : Meaning) (u : Node) → g.transitions ≡ c.args.trie.transitions.now
     → HasState g c.args.trie.states.now c.args.from u
-    → Ended g c.args.anchored c.args.byte u c.args.looks.now c.look.new.self c.in-Some-target.next
+    → Ended g c.args.anchored c.args.byte u c.args.looks.now c.look.new.looks c.in-Some-look.next
 at_target c g u same h =
-    let found = c.in-Some-target.ensures in
+    let found = c.in-Some-look.ensures.target in
     (ends-target g c.args.trie.states.now c.args.byte u c.args.looks.now c.args.trie.transitions.now same
-    c.loop-states.looks c.look.new.self c.look.ensures
+    c.loop-states.looks c.look.new.looks c.in-Some-look.ensures.counted
     c.loop-states.at c.index-states-as_usize.result (rw c.as_usize-in-loop-states.ensures.value at c.index-states-as_usize.is)
-    c.args.anchored found.0 c.in-Some-target.next found.1 (c.loop-states.invariant g u same h))
+    c.args.anchored found.0 c.in-Some-look.next found.1 (c.loop-states.invariant g u same h))
 
-pub returns-in-Some-target-clause-steps : goal.returns-in-Some-target-clause-steps
-returns-in-Some-target-clause-steps c = λ g u same h. (at_target c g u same h).steps
+pub returns-in-Some-look-clause-steps : goal.returns-in-Some-look-clause-steps
+returns-in-Some-look-clause-steps c = λ g u same h. (at_target c g u same h).steps
 
-pub returns-in-Some-target-clause-looks : goal.returns-in-Some-target-clause-looks
-returns-in-Some-target-clause-looks c = λ g u same h. (at_target c g u same h).looks
+pub returns-in-Some-look-clause-looks : goal.returns-in-Some-look-clause-looks
+returns-in-Some-look-clause-looks c = λ g u same h. (at_target c g u same h).looks
 
-pub returns-in-Some-target-clause-unanchored : goal.returns-in-Some-target-clause-unanchored
-returns-in-Some-target-clause-unanchored c = λ g u same h start.
-    let found = c.in-Some-target.ensures in
+pub returns-in-Some-look-clause-unanchored : goal.returns-in-Some-look-clause-unanchored
+returns-in-Some-look-clause-unanchored c = λ g u same h start.
+    let found = c.in-Some-look.ensures.target in
     leads-inner g c.args.trie.transitions.now same c.loop-states.at (c.loop-states.invariant g u same h).node
     c.index-states-as_usize.result
-    (known_by (goal.at.returns-in-Some-target-clause-unanchored c).After-index-states-as_usize g u same h)
-    c.args.byte found.0 c.in-Some-target.next found.1 start
+    (known_by (goal.at.returns-in-Some-look-clause-unanchored c).After-index-states-as_usize g u same h)
+    c.args.byte found.0 c.in-Some-look.next found.1 start
 
 -- or at the dead state, if it is anchored
 at_dead : (c : After-must) (g : Meaning) (u : Node) → g.transitions ≡ c.args.trie.transitions.now
     → HasState g c.args.trie.states.now c.args.from u
-    → Ended g c.args.anchored c.args.byte u c.args.looks.now c.look.new.self c.must.result
+    → Ended g c.args.anchored c.args.byte u c.args.looks.now c.look.new.looks c.must.result
 at_dead c g u same h =
     let is_yes : c.args.anchored ≡ Yes = elim c.match-matches-2.branch [
       | in-Yes w ↦ w.in-Yes.is
@@ -81,9 +82,9 @@ at_dead c g u same h =
     ] in
     rw c.must.ensures.value
     (ends-anchored g c.args.trie.states.now c.args.byte u c.args.looks.now c.args.trie.transitions.now same
-    c.loop-states.looks c.look.new.self c.look.ensures
+    c.loop-states.looks c.look.new.looks c.in_default-look.ensures.counted
     c.loop-states.at c.index-states-as_usize.result (rw c.as_usize-in-loop-states.ensures.value at c.index-states-as_usize.is)
-    c.in_default-target.ensures c.args.anchored is_yes (c.loop-states.invariant g u same h))
+    c.in_default-look.ensures.target c.args.anchored is_yes (c.loop-states.invariant g u same h))
 
 pub returns-then-matches-clause-steps : goal.returns-then-matches-clause-steps
 returns-then-matches-clause-steps c = λ g u same h. (at_dead c g u same h).steps
@@ -94,16 +95,16 @@ returns-then-matches-clause-looks c = λ g u same h. (at_dead c g u same h).look
 -- or behind one of the first four states
 at_outer : (c : Then-as_usize-lt-FIRST_INNER) (g : Meaning) (u : Node) → g.transitions ≡ c.args.trie.transitions.now
     → HasState g c.args.trie.states.now c.args.from u
-    → Ended g c.args.anchored c.args.byte u c.args.looks.now c.look.new.self c.index-states-as_usize.result.fail
+    → Ended g c.args.anchored c.args.byte u c.args.looks.now c.look.new.looks c.index-states-as_usize.result.fail
 at_outer c g u same h =
     let is_no : c.args.anchored ≡ No = elim c.match-matches-2.branch [
       | in-Yes w ↦ absurd (cc)
       | in_default-matches w ↦ w.in_default-matches.is
     ] in
     ends-outer g c.args.trie.states.now c.args.byte u c.args.looks.now c.args.trie.transitions.now same
-    c.loop-states.looks c.look.new.self c.look.ensures
+    c.loop-states.looks c.look.new.looks c.in_default-look.ensures.counted
     c.loop-states.at c.index-states-as_usize.result (rw c.as_usize-in-loop-states.ensures.value at c.index-states-as_usize.is)
-    c.in_default-target.ensures c.args.anchored is_no (omega arith) (c.loop-states.invariant g u same h)
+    c.in_default-look.ensures.target c.args.anchored is_no (omega arith) (c.loop-states.invariant g u same h)
 
 pub returns-then-as_usize-lt-FIRST_INNER-clause-steps :
     goal.returns-then-as_usize-lt-FIRST_INNER-clause-steps
@@ -134,24 +135,23 @@ loop-states-preserved c = λ g u same h.
       | in_default-matches w ↦ w.in_default-matches.is
     ] in
     goes-on g c.args.trie.states.now c.args.byte u c.args.looks.now c.args.trie.transitions.now same
-    c.loop-states.looks c.look.new.self c.look.ensures
+    c.loop-states.looks c.look.new.looks c.in_default-look.ensures.counted
     c.loop-states.at c.index-states-as_usize.result (rw c.as_usize-in-loop-states.ensures.value at c.index-states-as_usize.is)
-    c.in_default-target.ensures c.args.anchored is_no (omega arith) (c.loop-states.invariant g u same h)
+    c.in_default-look.ensures.target c.args.anchored is_no (omega arith) (c.loop-states.invariant g u same h)
 
 -- at the start a root table tells where an unanchored walk ends
-module _ (c : After-index-root-byte) where
+module _ (c : After-look_in_root) where
   at_start : c.loop-states.at ≡ START
   at_start = sym c.as_usize.ensures.value ∙ c.if-as_usize-eq-START.true
 
-  told : RootTells c.args.trie.transitions.now c.args.trie.states.now c.args.byte c.index-root-byte.result
+  told : RootTells c.args.trie.transitions.now c.args.trie.states.now c.args.byte c.look_in_root.result
   told =
       let rooted : IsRoot c.args.trie.transitions.now c.args.trie.states.now c.in-Some.root.now =
       subst (λ root. IfSome root (λ r. IsRoot c.args.trie.transitions.now c.args.trie.states.now r.now))
       c.in-Some.is c.requires.rooted in
       let tells = rooted.told c.args.byte (omega arith) in
       subst (λ (n : ℕ). RootTells c.args.trie.transitions.now c.args.trie.states.now c.args.byte n)
-      (sym (get_or_read c.in-Some.root.now c.args.byte c.index-root-byte.result (omega (arith, rooted.whole))
-      c.index-root-byte.is 0)) tells
+      (sym c.look_in_root.ensures.target) tells
 
   is_no : c.args.anchored ≡ No
   is_no = elim c.match-matches.branch [
@@ -161,23 +161,23 @@ module _ (c : After-index-root-byte) where
 
   at_root : (g : Meaning) (u : Node) → g.transitions ≡ c.args.trie.transitions.now
       → HasState g c.args.trie.states.now c.args.from u
-      → Ended g c.args.anchored c.args.byte u c.args.looks.now c.look.new.self c.index-root-byte.result
+      → Ended g c.args.anchored c.args.byte u c.args.looks.now c.look_in_root.new.looks c.look_in_root.result
   at_root g u same h =
       ends-root g c.args.trie.states.now c.args.byte u c.args.looks.now c.args.trie.transitions.now same
-      c.loop-states.looks c.look.new.self c.look.ensures c.loop-states.at c.index-root-byte.result
+      c.loop-states.looks c.look_in_root.new.looks c.look_in_root.ensures.counted c.loop-states.at c.look_in_root.result
       c.args.anchored is_no at_start told (c.loop-states.invariant g u same h)
 
 pub returns-in-loop-states-clause-steps : goal.returns-in-loop-states-clause-steps
 returns-in-loop-states-clause-steps c = λ g u same h.
-    (at_root (goal.at.returns-in-loop-states-clause-steps c).After-index-root-byte g u same h).steps
+    (at_root (goal.at.returns-in-loop-states-clause-steps c).After-look_in_root g u same h).steps
 
 pub returns-in-loop-states-clause-looks : goal.returns-in-loop-states-clause-looks
 returns-in-loop-states-clause-looks c = λ g u same h.
-    (at_root (goal.at.returns-in-loop-states-clause-looks c).After-index-root-byte g u same h).looks
+    (at_root (goal.at.returns-in-loop-states-clause-looks c).After-look_in_root g u same h).looks
 
 pub returns-in-loop-states-clause-unanchored : goal.returns-in-loop-states-clause-unanchored
 returns-in-loop-states-clause-unanchored c = λ g u same h start.
-    let d = (goal.at.returns-in-loop-states-clause-unanchored c).After-index-root-byte in
+    let d = (goal.at.returns-in-loop-states-clause-unanchored c).After-look_in_root in
     let o = c.loop-states.invariant g u same h in
     (told d).inner g o.node same
     (subst (λ (n : ℕ). HasState g c.args.trie.states.now n o.node) (at_start d) o.state) start
