@@ -45,7 +45,10 @@ length-spelled Dense classes s fits =
     let both = length-append targets (match_spelling s.matches) in
     let last = length-match_spelling s.matches in
     omega arith
-length-spelled One classes s fits = length-one_spelling s.failure s.edges fits.0
+length-spelled One classes s fits =
+    let one = length-one_spelling s.failure s.edges fits.0 in
+    let none = ap (λ (matches : List ℕ). match_words (length matches)) fits.1 in
+    omega arith
 length-spelled Sparse classes s fits =
     let classes_of = map (λ (e : Edge). e.class) s.edges in
     let targets = map (λ (e : Edge). e.target) s.edges in

@@ -23,8 +23,7 @@ use Rattle.ac_engines.specs.declared.nfa.contiguous.state.Edge.{Edge}
 use Rattle.ac_engines.specs.declared.nfa.contiguous.state.TheConstants.{FAIL, ONE_MATCH}
 use Rattle.ac_engines.specs.declared.nfa.contiguous.format.Format.{Format}
 use Rattle.ac_engines.specs.declared.nfa.contiguous.format.Format.TheVariants.{Dense}
-use Rattle.ac_engines.specs.declared.nfa.contiguous.format.TheConstants.{MOST_SPARSE}
-use Rattle.ac_engines.specs.Formats.{format_of, sparse_format}
+use Rattle.ac_engines.specs.Formats.{format_of, most_sparse, sparse_format}
 use Rattle.ac_engines.specs.PackedPlaces.{MayPack, PackPlan, packed_of, places_of}
 use Rattle.ac_engines.specs.Packing.{Packed, Places, edges_of, number_at, spelling_at}
 use Rattle.ac_engines.specs.Packs.{AreReady, Packer, anchored_of, state_spelling}
@@ -205,7 +204,7 @@ none-from_length (x ∷ xs) none = absurd (omega arith)
 module _ (s : Spelling) (missing : s.missing ≡ FAIL) where
   -- a spelling fits the form of a state that isn't dense
   sparse-fits : (transitions matches : ℕ) → length s.edges ≡ transitions → length s.matches ≡ matches
-      → transitions ≤ MOST_SPARSE → Fits (sparse_format transitions matches) s
+      → transitions ≤ most_sparse → Fits (sparse_format transitions matches) s
   sparse-fits zero matches edges listed few = (omega arith, missing)
   sparse-fits (suc zero) zero edges listed few = (edges, none-from_length s.matches listed, missing)
   sparse-fits (suc zero) (suc matches) edges listed few = (omega arith, missing)
@@ -216,16 +215,16 @@ module _ (s : Spelling) (missing : s.missing ≡ FAIL) where
       → length s.matches ≡ matches → Fits (format_of depth dense_depth transitions matches) s
   format-fits depth dense_depth transitions matches edges listed = by_depth (nat_lt depth dense_depth)
     where
-      by_count : (t : Bool) → nat_lt MOST_SPARSE transitions ≡ t
+      by_count : (t : Bool) → nat_lt most_sparse transitions ≡ t
           → Fits (if t then Dense else sparse_format transitions matches) s
       by_count true many = tt
-      by_count false few = sparse-fits transitions matches edges listed (ltb-false MOST_SPARSE transitions few)
+      by_count false few = sparse-fits transitions matches edges listed (ltb-false most_sparse transitions few)
 
       by_depth : (t : Bool)
-          → Fits (if t then Dense else if nat_lt MOST_SPARSE transitions then Dense
+          → Fits (if t then Dense else if nat_lt most_sparse transitions then Dense
           else sparse_format transitions matches) s
       by_depth true = tt
-      by_depth false = by_count (nat_lt MOST_SPARSE transitions) refl
+      by_depth false = by_count (nat_lt most_sparse transitions) refl
 
 -- of the classes of all bytes that of a byte so many places behind another is no less
 classes-rise : (classes : List ℕ) → AreClasses classes → (n a : ℕ) → a + n < 256

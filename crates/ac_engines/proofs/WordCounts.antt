@@ -9,8 +9,7 @@ use Rattle.ac_automaton.specs.Automata.{matches_of}
 use Rattle.ac_automaton.specs.Readers.{own_bytes}
 use Rattle.ac_engines.specs.declared.nfa.contiguous.format.Format.{Format}
 use Rattle.ac_engines.specs.declared.nfa.contiguous.format.Format.TheVariants.{Dense, One, Sparse}
-use Rattle.ac_engines.specs.declared.nfa.contiguous.format.TheConstants.{MOST_SPARSE}
-use Rattle.ac_engines.specs.Formats.{match_words, sparse_format, words_of_state}
+use Rattle.ac_engines.specs.Formats.{match_words, most_sparse, sparse_format, words_of_state}
 use Rattle.ac_engines.specs.Sizes.{node_format, node_words}
 
 -- beside the matches stands at most their number
@@ -20,11 +19,11 @@ match_words-most (suc zero) = omega arith
 match_words-most (suc (suc more)) = omega arith
 
 -- a state that is sparse for its transitions has few of them
-sparse-format_few : (shallow many : Bool) (transitions matches : ℕ) → nat_lt MOST_SPARSE transitions ≡ many
+sparse-format_few : (shallow many : Bool) (transitions matches : ℕ) → nat_lt most_sparse transitions ≡ many
     → cond shallow Dense (cond many Dense (sparse_format transitions matches)) ≡ Sparse → transitions ≤ 127
 sparse-format_few true many transitions matches is e = absurd cc
 sparse-format_few false true transitions matches is e = absurd cc
-sparse-format_few false false transitions matches is e = omega (arith, ltb-false MOST_SPARSE transitions is)
+sparse-format_few false false transitions matches is e = omega (arith, ltb-false most_sparse transitions is)
 
 -- a sparse node has few own bytes
 sparse-few : (built : Built) (dense_depth : ℕ) (u : Node) → node_format built dense_depth u ≡ Sparse
@@ -32,14 +31,14 @@ sparse-few : (built : Built) (dense_depth : ℕ) (u : Node) → node_format buil
 sparse-few built dense_depth None e = absurd cc
 sparse-few built dense_depth (Some []) e = absurd cc
 sparse-few built dense_depth (Some (x ∷ w)) e =
-    sparse-format_few (nat_lt (length (x ∷ w)) dense_depth) (nat_lt MOST_SPARSE (length (own_bytes built (Some (x ∷ w)))))
+    sparse-format_few (nat_lt (length (x ∷ w)) dense_depth) (nat_lt most_sparse (length (own_bytes built (Some (x ∷ w)))))
     (length (own_bytes built (Some (x ∷ w)))) (length (matches_of built No (Some (x ∷ w)))) refl e
 
 -- a state that is sparse only with few transitions takes few words beside its matches
 words_of_state-most : (format : Format) (classes transitions matches : ℕ) → classes ≤ 256
     → (format ≡ Sparse → transitions ≤ 127) → words_of_state format classes transitions matches ≤ matches + 259
 words_of_state-most Dense classes transitions matches few sparse = omega (arith, few, match_words-most matches)
-words_of_state-most One classes transitions matches few sparse = omega arith
+words_of_state-most One classes transitions matches few sparse = omega (arith, match_words-most matches)
 words_of_state-most Sparse classes transitions matches few sparse = omega (arith, sparse refl, match_words-most matches)
 
 -- so does the state of a node

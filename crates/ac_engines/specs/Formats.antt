@@ -2,7 +2,10 @@
 use Rattle.std.specs.Prelude.{ℕ, zero, suc, ◌+◌, ◌/◌, nat_lt, if◌then◌else◌}
 use Rattle.ac_engines.specs.declared.nfa.contiguous.format.Format.{Format}
 use Rattle.ac_engines.specs.declared.nfa.contiguous.format.Format.TheVariants.{Dense, One, Sparse}
-use Rattle.ac_engines.specs.declared.nfa.contiguous.format.TheConstants.{MOST_SPARSE}
+
+-- the most transitions of a state that is not dense
+abbrev pub most_sparse : ℕ
+most_sparse = 127
 
 -- the form of a state below the dense depth, by its numbers of transitions and of matches: one transition has a form
 -- of its own, where nothing matches
@@ -14,7 +17,7 @@ sparse_format transitions matches = Sparse
 abbrev pub format_of : ℕ → ℕ → ℕ → ℕ → Format
 format_of depth dense_depth transitions matches =
     if nat_lt depth dense_depth then Dense
-    else if nat_lt MOST_SPARSE transitions then Dense
+    else if nat_lt most_sparse transitions then Dense
     else sparse_format transitions matches
 
 -- a match stands in one word; several stand behind their count
@@ -24,8 +27,8 @@ match_words (suc zero) = 1
 match_words (suc (suc more)) = 3 + more
 
 -- how many words a state takes: two at its head, a target for each class or for each transition, with the classes of
--- these, four in a word, and its matches
+-- these, four in a word, and its matches. No state of one transition has matches
 abbrev pub words_of_state : Format → ℕ → ℕ → ℕ → ℕ
 words_of_state Dense classes transitions matches = 2 + classes + match_words matches
-words_of_state One classes transitions matches = 3
+words_of_state One classes transitions matches = 3 + match_words matches
 words_of_state Sparse classes transitions matches = 2 + (transitions + 3) / 4 + transitions + match_words matches

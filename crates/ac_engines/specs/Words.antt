@@ -4,7 +4,7 @@ use Rattle.std.specs.List.{range_with_len}
 use Rattle.std.specs.List.Sorted.{IsStrictlyIncreasing}
 use Rattle.ac_engines.specs.declared.nfa.contiguous.format.Format.{Format}
 use Rattle.ac_engines.specs.declared.nfa.contiguous.format.Format.TheVariants.{Dense, One, Sparse}
-use Rattle.ac_engines.specs.declared.nfa.contiguous.format.TheConstants.{MOST_SPARSE}
+use Rattle.ac_engines.specs.Formats.{most_sparse}
 use Rattle.ac_engines.specs.declared.nfa.contiguous.state.Edge.{Edge}
 use Rattle.ac_engines.specs.declared.nfa.contiguous.state.TheConstants.{DENSE, FAIL, ONE, ONE_MATCH}
 
@@ -58,7 +58,7 @@ spelled Sparse classes s =
 abbrev pub Fits : Format → Spelling → Type 0
 Fits Dense s = ⊤
 Fits One s = (length s.edges ≡ 1) × (s.matches ≡ []) × (s.missing ≡ FAIL)
-Fits Sparse s = (length s.edges ≤ MOST_SPARSE) × (s.missing ≡ FAIL)
+Fits Sparse s = (length s.edges ≤ most_sparse) × (s.missing ≡ FAIL)
 
 -- the words begin with those of a state: its classes are below their number and ascend, and its matches are fewer than
 -- the mark of a single one

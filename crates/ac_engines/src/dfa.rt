@@ -2,6 +2,7 @@
 ghost use Rattle.std.specs.Prelude.{◌≡◌, ℕ, ◌+◌, ◌<◌, ◌≤◌, IsTrue, List, length, MatchResult, slice_index_or};
 ghost use Rattle.std.proofs.Common.{inl, refl};
 ghost use Rattle.ac_util.specs.Borrowed.{bytes_of};
+ghost use Rattle.ac_util.specs.Counts.{more_looks};
 ghost use Rattle.ac_util.specs.Node.{Node};
 ghost use Rattle.ac_engines.specs.Builds.{IsTableBuilt, RefusesTable, usual_table_settings};
 ghost use Rattle.ac_engines.specs.Rows.{HasMatchesAmong, IsTable, StandsFor, list_at};
@@ -224,8 +225,7 @@ impl<A: Allocator> Automaton for DFA<A> {
         byte: u8,
         looks: &mut Looks,
     ) -> StateID {
-        looks.look();
-        target(self.entries(), self.classes.get(byte) as usize, sid)
+        look(self.entries(), self.classes.get(byte) as usize, sid, looks)
     }
 
     #[inline]
@@ -296,14 +296,16 @@ impl<A: Allocator> Automaton for DFA<A> {
     }
 }
 
-/// Returns what stands in the row of a state at a class.
+/// Returns what stands in the row of a state at a class, and counts the look.
 ///
 /// The column of the class is found first, since it hangs on the byte alone: then one load leads from state to state.
 #[inline]
-fn target(entries: &[StateID], class: usize, sid: StateID) -> StateID
+fn look(entries: &[StateID], class: usize, sid: StateID, looks: &mut Looks) -> StateID
     requires within { sid + class < length entries.now }
-    ensures { result ≡ slice_index_or entries.now (sid + class) 0 }
+    ensures target { result ≡ slice_index_or entries.now (sid + class) 0 }
+    ensures counted { looks.new ≡ more_looks 1 looks.old }
 {
+    looks.look();
     let column = &entries[class..];
     column[sid.as_usize()]
 }

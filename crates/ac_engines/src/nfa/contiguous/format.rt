@@ -57,7 +57,7 @@ pub fn state_words(format: Format, classes: u64, transitions: u64, matches: u64)
     };
     match format {
         Format::Dense => HEAD as u64 + classes + listed,
-        Format::One => HEAD as u64 + 1,
+        Format::One => HEAD as u64 + 1 + listed,
         Format::Sparse => {
             HEAD as u64 + transitions.div_ceil(CLASSES_A_WORD as u64) + transitions + listed
         }

@@ -1,9 +1,11 @@
 //! Reading the words of a state.
 ghost use Rattle.std.specs.Prelude.{◌≡◌, ◌≢◌, ℕ, ◌+◌, ◌<◌, ◌≤◌, ◌++◌, [], drop, length, slice_index};
+ghost use Rattle.ac_util.specs.Counts.{more_looks};
 ghost use Rattle.ac_engines.specs.declared.nfa.contiguous.format.Format.{Format};
 ghost use Rattle.ac_engines.specs.Words.{BeginsWith, Spelling, first_of, match_spelling, target_by, word_of};
 
 use super::format::{CLASSES_A_WORD, HEAD};
+use ac_util::looks::Looks;
 
 /// The low byte of a dense state's first word.
 pub const DENSE: u8 = 0xFF;
@@ -53,9 +55,25 @@ impl<'a> State<'a> {
         self.words[1]
     }
 
+    /// Returns where a class leads, or `FAIL` where it leads nowhere, and counts the look.
+    ///
+    /// A step reaches the transitions of a state by this alone.
+    #[inline]
+    pub(super) fn look(self, class: u8, looks: &mut Looks) -> u32
+        requires { (format : Format) × (classes : ℕ) × (s : Spelling)
+            × BeginsWith self.words.now format classes s × (class < classes) }
+        ensures target { (format : Format) (classes : ℕ) (s : Spelling)
+            → BeginsWith self.entry.words.now format classes s
+            → class < classes → result ≡ target_by s.missing s.edges class }
+        ensures counted { looks.new ≡ more_looks 1 looks.old }
+    {
+        looks.look();
+        self.target(class)
+    }
+
     /// Returns where a class leads, or `FAIL` where it leads nowhere.
     #[inline]
-    pub(super) fn target(self, class: u8) -> u32
+    fn target(self, class: u8) -> u32
         requires { (format : Format) × (classes : ℕ) × (s : Spelling)
             × BeginsWith self.words.now format classes s × (class < classes) }
         ensures { (format : Format) (classes : ℕ) (s : Spelling) → BeginsWith self.entry.words.now format classes s

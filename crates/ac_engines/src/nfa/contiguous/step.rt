@@ -33,9 +33,8 @@ pub(super) fn follow(
 {
     let mut at = from.as_usize();
     loop {
-        looks.look();
         let state = State::at(words, at);
-        let next = state.target(class);
+        let next = state.look(class, looks);
         if next != FAIL {
             return StateID::must(next as usize);
         }

@@ -4,8 +4,8 @@ use Rattle.ac_engines.specs.Rows.{Table}
 use Rattle.ac_engines.proofs.Numbers.{row-within, stands-step}
 use Rattle.ac_engines.proofs.dfa.DFAAutomaton.next_state.Goals as goal
 
-pub target-requires : goal.target-requires
-target-requires g c =
+pub look-requires : goal.look-requires
+look-requires g c =
     let class = c.get.ensures.value ∙ ap (λ (t : Table). class_at t.classes c.args.byte) c.self.view_is in
     record {
       within = rw (c.entries.ensures.value, class) (row-within c.args.self.now c.args._anchored c.args.sid
@@ -15,6 +15,6 @@ target-requires g c =
 pub returns-clause-steps : goal.returns-clause-steps
 returns-clause-steps g c = λ u h.
     let class = c.get.ensures.value ∙ ap (λ (t : Table). class_at t.classes c.args.byte) c.self.view_is in
-    stands-step c.args.self.now c.args._anchored c.args.sid c.target.result u c.args.byte h c.ranges.byte.fits
-    (c.target.ensures ∙ ap (λ n. slice_index_or c.entries.result.now (c.args.sid + n) 0) class
+    stands-step c.args.self.now c.args._anchored c.args.sid c.look.result u c.args.byte h c.ranges.byte.fits
+    (c.look.ensures.target ∙ ap (λ n. slice_index_or c.entries.result.now (c.args.sid + n) 0) class
     ∙ ap (λ entries. slice_index_or entries (c.args.sid + class_at c.args.self.now.classes c.args.byte) 0) c.entries.ensures.value)
