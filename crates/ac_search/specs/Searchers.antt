@@ -9,11 +9,10 @@ use Rattle.ac_util.specs.declared.search.StartKind.TheVariants.{Anchored, Both, 
 use Rattle.ac_util.specs.Built.{Built}
 use Rattle.ac_util.specs.Limits.{limit_refusal}
 use Rattle.ac_automaton.specs.Builds.{EngineSettings, IsRefused, engine_built_by, state_refusal}
-use Rattle.ac_engines.specs.Builds.{classes_by, refusal_or, table_refusal_from}
-use Rattle.ac_engines.specs.PackedBuilds.{packed_refusal_from}
+use Rattle.ac_engines.specs.Builds.{IsTableFrom, refusal_or, table_refusal_from}
+use Rattle.ac_engines.specs.PackedBuilds.{IsPackedFrom, packed_refusal_from}
 use Rattle.ac_search.specs.declared.ahocorasick.choice.AhoCorasickKind.{AhoCorasickKind}
 use Rattle.ac_search.specs.declared.ahocorasick.choice.AhoCorasickKind.TheVariants.{ContiguousNFA, DFA, NoncontiguousNFA}
-use Rattle.ac_search.specs.declared.ahocorasick.choice.TheConstants.{MOST_FOR_TABLE}
 use Rattle.ac_search.specs.States.{States, Contiguous, Dfa, Noncontiguous}
 
 pub record Searcher : Type 0 where
@@ -75,11 +74,15 @@ abbrev pub fits : Option BuildError → Bool
 fits None = true
 fits (Some e) = false
 
+-- how many patterns there may be at most for a table to be chosen
+abbrev pub most_for_table : ℕ
+most_for_table = 100
+
 -- whether there are so few patterns, and one start, that a table is worth its size
 abbrev pub suits_table : StartKind → ℕ → Bool
 suits_table Both count = false
-suits_table Unanchored count = nat_le count MOST_FOR_TABLE
-suits_table Anchored count = nat_le count MOST_FOR_TABLE
+suits_table Unanchored count = nat_le count most_for_table
+suits_table Anchored count = nat_le count most_for_table
 
 -- where no engine was named: a table where it suits and fits, else the contiguous automaton where it fits, else the
 -- noncontiguous one
@@ -127,13 +130,13 @@ RefusesSearcher settings patterns e =
     MatchOption (limit_refusal patterns) (IsRefused (engine_refusal settings patterns) e) (λ refusal. e ≡ refusal)
 
 -- states that were made from an automaton by these settings: packed words have the dense depth and the classes that
--- were set, and a table the classes
+-- were set, and a table the classes and the start, with no more rows than these need
 abbrev pub AreLaidOut : Settings → Built → States → Type 0
 AreLaidOut settings from (Noncontiguous trie) = ⊤
 AreLaidOut settings from (Contiguous packed) =
-    (packed.dense_depth ≡ settings.dense_depth)
-    × (packed.classes ≡ classes_by settings.byte_classes from.fold from.patterns)
-AreLaidOut settings from (Dfa table) = table.classes ≡ classes_by settings.byte_classes from.fold from.patterns
+    IsPackedFrom settings.dense_depth settings.byte_classes from packed.filters packed
+AreLaidOut settings from (Dfa table) =
+    IsTableFrom settings.start_kind settings.byte_classes from table.filters table
 
 -- a build by these settings has succeeded: the searcher is over these patterns, is to have a prefilter if that was set,
 -- is laid out as was set, and no limit refused it

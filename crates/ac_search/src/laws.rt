@@ -12,10 +12,12 @@ ghost use Rattle.ac_util.specs.Occurrence.{Occurrence};
 ghost use Rattle.ac_util.specs.Search.{Occurs};
 ghost use Rattle.ac_util.specs.Sizes.{shortest_len};
 ghost use Rattle.ac_util.specs.Texts.{AreTexts, IsBetweenCharacters};
+ghost use Rattle.ac_engines.specs.declared.nfa.contiguous.format.Format.{Format};
 ghost use Rattle.ac_search.specs.Searchers.{IsBuilt, Searcher, Settings};
 ghost use Rattle.ac_search.specs.declared.ahocorasick.choice.AhoCorasickKind.{AhoCorasickKind};
 
 use crate::ahocorasick::{AhoCorasick, AhoCorasickKind};
+use ac_engines::nfa::contiguous::Format;
 pub use ac_util::laws::{
     clones_are_equal, clones_take_no_memory, closure_exchanges, defaults_are_told,
     earliest_is_standard, equal_values_hash_equally, errors_compare_by_their_fields,
@@ -110,4 +112,11 @@ pub fn engine_names_compare()
         → (⟦<AhoCorasickKind as PartialEq>⟧.eq a b ≡ true) ↔ (a ≡ b) }
     ensures clone { (a b : AhoCorasickKind) → ⟦<AhoCorasickKind as Clone>⟧.is_clone a b → b ≡ a }
     ensures no_memory { (a : AhoCorasickKind) → ⟦<AhoCorasickKind as Clone>⟧.is_infallible a }
+{}
+
+/// The forms of packed states are equal where they are the same, and a clone of one is that form.
+pub fn formats_compare()
+    ensures equal { (a b : Format) → (⟦<Format as PartialEq>⟧.eq a b ≡ true) ↔ (a ≡ b) }
+    ensures clone { (a b : Format) → ⟦<Format as Clone>⟧.is_clone a b → b ≡ a }
+    ensures no_memory { (a : Format) → ⟦<Format as Clone>⟧.is_infallible a }
 {}

@@ -14,7 +14,9 @@ use std::alloc::{AllocError, Global};
 use std::test::Fail;
 
 mod engines;
+mod large;
 mod replace;
+mod small;
 
 /// A pattern number, a start and an end.
 type Told = (usize, usize, usize);

@@ -1,13 +1,16 @@
-use super::{LISTINGS, Told, told, walk_of};
+use super::replace::{IN_BYTES, IN_TEXT, push_number};
+use super::{LISTINGS, OVERLAPPING_REFUSALS, STARTS, Told, told, walk_of};
 use crate::MatchKind::{LeftmostFirst, LeftmostLongest, Standard};
 use crate::{
-    AhoCorasick, AhoCorasickBuilder, AhoCorasickKind, Anchored, Input, MatchKind, OverlappingState,
-    StartKind, choose_kind,
+    AhoCorasick, AhoCorasickBuilder, AhoCorasickKind, Anchored, Input, MatchError, MatchKind,
+    OverlappingState, ReplaceError, StartKind, choose_kind,
 };
+use std::alloc::{AllocError, Global};
 use std::test::Fail;
 
 /// How a searcher is served: the engine, or None to let it choose, the dense depth, whether bytes share classes, and
 /// whether there may be a prefilter.
+#[derive(Clone, Copy)]
 struct Engine {
     kind: Option<AhoCorasickKind>,
     dense_depth: usize,
@@ -15,64 +18,41 @@ struct Engine {
     prefilter: bool,
 }
 
-const ENGINES: [Engine; 9] = [
-    Engine {
-        kind: None,
-        dense_depth: 2,
-        byte_classes: true,
-        prefilter: true,
-    },
-    Engine {
-        kind: Some(AhoCorasickKind::NoncontiguousNFA),
-        dense_depth: 2,
-        byte_classes: true,
-        prefilter: true,
-    },
-    Engine {
-        kind: Some(AhoCorasickKind::ContiguousNFA),
-        dense_depth: 2,
-        byte_classes: true,
-        prefilter: true,
-    },
-    Engine {
-        kind: Some(AhoCorasickKind::ContiguousNFA),
-        dense_depth: 0,
-        byte_classes: true,
-        prefilter: false,
-    },
-    Engine {
-        kind: Some(AhoCorasickKind::ContiguousNFA),
-        dense_depth: 1,
-        byte_classes: false,
-        prefilter: true,
-    },
-    Engine {
-        kind: Some(AhoCorasickKind::ContiguousNFA),
-        dense_depth: 6,
-        byte_classes: true,
-        prefilter: false,
-    },
-    Engine {
-        kind: Some(AhoCorasickKind::DFA),
-        dense_depth: 2,
-        byte_classes: true,
-        prefilter: true,
-    },
-    Engine {
-        kind: Some(AhoCorasickKind::DFA),
-        dense_depth: 0,
-        byte_classes: false,
-        prefilter: false,
-    },
-    Engine {
-        kind: Some(AhoCorasickKind::NoncontiguousNFA),
-        dense_depth: 2,
-        byte_classes: true,
-        prefilter: false,
-    },
+/// The engines, and that one is chosen.
+pub(super) const KINDS: [Option<AhoCorasickKind>; 4] = [
+    None,
+    Some(AhoCorasickKind::NoncontiguousNFA),
+    Some(AhoCorasickKind::ContiguousNFA),
+    Some(AhoCorasickKind::DFA),
 ];
 
-const EACH: &[MatchKind] = &[Standard, LeftmostFirst, LeftmostLongest];
+/// Whether bytes share classes, and whether there may be a prefilter.
+const CLASSES_AND_PREFILTERS: [(bool, bool); 4] = [
+    (true, true),
+    (true, false),
+    (false, true),
+    (false, false),
+];
+
+/// Returns each engine with each dense depth up to 6, with classes and without, and with a prefilter and without.
+fn engines(alloc: Global) -> Result<Vec<Engine>, AllocError> {
+    let mut engines = Vec::new(alloc);
+    for kind in KINDS {
+        for dense_depth in 0..7 {
+            for (byte_classes, prefilter) in CLASSES_AND_PREFILTERS {
+                engines.push(Engine {
+                    kind,
+                    dense_depth,
+                    byte_classes,
+                    prefilter,
+                })?;
+            }
+        }
+    }
+    Ok(engines)
+}
+
+pub(super) const EACH: &[MatchKind] = &[Standard, LeftmostFirst, LeftmostLongest];
 
 /// What the walk of a haystack gives under each of some match kinds.
 struct Row {
@@ -86,7 +66,7 @@ const WORDS: &[&[u8]] = &[b"append", b"appendage", b"app"];
 
 const SENTENCE: &[u8] = b"append the app to the appendage";
 
-const WALKS: [Row; 16] = [
+const WALKS: [Row; 18] = [
     Row {
         kinds: EACH,
         patterns: &[b"apple", b"maple", b"Snapple"],
@@ -172,6 +152,18 @@ const WALKS: [Row; 16] = [
         walk: &[(1, 4, 7)],
     },
     Row {
+        kinds: &[Standard],
+        patterns: &[b"Samwise", b"Sam"],
+        haystack: b"Samwise",
+        walk: &[(1, 0, 3)],
+    },
+    Row {
+        kinds: &[LeftmostFirst],
+        patterns: &[b"Samwise", b"Sam"],
+        haystack: b"Samwise",
+        walk: &[(0, 0, 7)],
+    },
+    Row {
         kinds: EACH,
         patterns: &[b"aba"],
         haystack: b"ababa",
@@ -253,7 +245,7 @@ fn answers_of(
 
 #[test]
 fn each_engine_walks_alike(rt: HostRuntime) -> Result<(), Fail> {
-    for engine in &ENGINES {
+    for engine in &engines(rt.alloc())? {
         for start_kind in [StartKind::Unanchored, StartKind::Both] {
             for row in &WALKS {
                 for &kind in row.kinds {
@@ -270,7 +262,7 @@ fn each_engine_walks_alike(rt: HostRuntime) -> Result<(), Fail> {
 
 #[test]
 fn each_engine_walks_alike_from_its_start(rt: HostRuntime) -> Result<(), Fail> {
-    for engine in &ENGINES {
+    for engine in &engines(rt.alloc())? {
         for start_kind in [StartKind::Anchored, StartKind::Both] {
             for row in &ANCHORED_WALKS {
                 for &kind in row.kinds {
@@ -287,7 +279,7 @@ fn each_engine_walks_alike_from_its_start(rt: HostRuntime) -> Result<(), Fail> {
 
 #[test]
 fn each_engine_finds_the_earliest(rt: HostRuntime) -> Result<(), Fail> {
-    for engine in &ENGINES {
+    for engine in &engines(rt.alloc())? {
         for &kind in EACH {
             let builder = builder_of(engine, kind, StartKind::Unanchored);
             let searcher = builder.build(rt.alloc(), &[b"b", b"abc", b"abcd"])?;
@@ -306,7 +298,7 @@ fn each_engine_finds_the_earliest(rt: HostRuntime) -> Result<(), Fail> {
 fn each_engine_ignores_case_alike(rt: HostRuntime) -> Result<(), Fail> {
     let patterns: [&[u8]; 3] = [b"FOO", b"bAr", b"BaZ"];
     let wanted = [(0, 0, 3), (1, 4, 7), (2, 8, 11)];
-    for engine in &ENGINES {
+    for engine in &engines(rt.alloc())? {
         for &kind in EACH {
             let mut builder = builder_of(engine, kind, StartKind::Unanchored);
             let counts = builder.build(rt.alloc(), &patterns)?;
@@ -315,6 +307,11 @@ fn each_engine_ignores_case_alike(rt: HostRuntime) -> Result<(), Fail> {
             let ignores = builder.build(rt.alloc(), &patterns)?;
             let walked = walk_of(rt, &ignores, Input::new(b"foo bar baz"))?;
             assert_eq!(rt; walked.as_slice(), wanted.as_slice(), "{kind:?}");
+            let fruit = builder.build(rt.alloc(), &[b"apple", b"maple", b"snapple"])?;
+            let input = Input::new(b"Nobody likes maple in their apple flavored Snapple.");
+            let walked = walk_of(rt, &fruit, input)?;
+            let wanted = [(1, 13, 18), (0, 28, 33), (2, 43, 50)];
+            assert_eq!(rt; walked.as_slice(), wanted.as_slice(), "{kind:?}");
         }
     }
     Ok(())
@@ -322,7 +319,7 @@ fn each_engine_ignores_case_alike(rt: HostRuntime) -> Result<(), Fail> {
 
 #[test]
 fn each_engine_lists_alike(rt: HostRuntime) -> Result<(), Fail> {
-    for engine in &ENGINES {
+    for engine in &engines(rt.alloc())? {
         for start_kind in [StartKind::Unanchored, StartKind::Both] {
             let builder = builder_of(engine, Standard, start_kind);
             for &(patterns, haystack, wanted) in LISTINGS {
@@ -341,7 +338,7 @@ fn each_engine_lists_alike(rt: HostRuntime) -> Result<(), Fail> {
 #[test]
 fn each_engine_lists_alike_from_its_start(rt: HostRuntime) -> Result<(), Fail> {
     let input = Input::new(SENTENCE).anchored(Anchored::Yes);
-    for engine in &ENGINES {
+    for engine in &engines(rt.alloc())? {
         for start_kind in [StartKind::Anchored, StartKind::Both] {
             let searcher = builder_of(engine, Standard, start_kind).build(rt.alloc(), WORDS)?;
             let mut state = OverlappingState::start();
@@ -365,15 +362,105 @@ fn each_engine_tells_many_bytes_apart(rt: HostRuntime) -> Result<(), Fail> {
         haystack.push(byte)?;
     }
     let patterns: Vec<&[u8]> = haystack.chunks(2).collect(rt.alloc())?;
-    for engine in &ENGINES {
-        let builder = builder_of(engine, Standard, StartKind::Unanchored);
-        let searcher = builder.build(rt.alloc(), &patterns)?;
-        let walked = walk_of(rt, &searcher, Input::new(&haystack))?;
-        assert_eq!(rt; walked.len(), 128);
-        for (number, found) in walked.iter().enumerate() {
-            let start = number.saturating_mul(2);
-            assert_eq!(rt; *found, (number, start, start.saturating_add(2)));
+    for engine in &engines(rt.alloc())? {
+        for count in [127, 128] {
+            let builder = builder_of(engine, Standard, StartKind::Unanchored);
+            let patterns: Vec<&[u8]> = patterns.iter().copied().take(count).collect(rt.alloc())?;
+            let searcher = builder.build(rt.alloc(), &patterns)?;
+            let walked = walk_of(rt, &searcher, Input::new(&haystack))?;
+            assert_eq!(rt; walked.len(), count);
+            for (number, found) in walked.iter().enumerate() {
+                let start = number.saturating_mul(2);
+                assert_eq!(rt; *found, (number, start, start.saturating_add(2)));
+            }
         }
+    }
+    Ok(())
+}
+
+#[test]
+fn each_engine_finds_from_where_its_span_begins(rt: HostRuntime) -> Result<(), Fail> {
+    for engine in &engines(rt.alloc())? {
+        let builder = builder_of(engine, LeftmostFirst, StartKind::Both);
+        let searcher = builder.build(rt.alloc(), &[b"b", b"abc", b"abcd"])?;
+        let whole = Input::new(b"foo abcd");
+        for anchored in [Anchored::No, Anchored::Yes] {
+            let input = whole.range(4..8).anchored(anchored);
+            let found = searcher.try_find(input)?.map(|m| told(&m));
+            assert_eq!(rt; found, Some((1, 4, 7)), "{builder:?}, {anchored:?}");
+        }
+    }
+    Ok(())
+}
+
+#[test]
+fn each_engine_exchanges_alike(rt: HostRuntime) -> Result<(), Fail> {
+    for engine in &engines(rt.alloc())? {
+        for &(patterns, kind, texts, haystack, wanted) in IN_BYTES {
+            let builder = builder_of(engine, kind, StartKind::Both);
+            let searcher = builder.build(rt.alloc(), patterns)?;
+            assert!(rt; texts.len() == searcher.patterns_len());
+            let replaced = searcher.try_replace_all_bytes(rt.alloc(), haystack, texts)?;
+            assert_eq!(rt; replaced.as_slice(), wanted, "{builder:?}");
+        }
+        for &(patterns, kind, texts, haystack, wanted) in IN_TEXT {
+            let builder = builder_of(engine, kind, StartKind::Unanchored);
+            let searcher = builder.build(rt.alloc(), patterns)?;
+            assert!(rt; texts.len() == searcher.patterns_len());
+            let replaced = searcher.try_replace_all(rt.alloc(), haystack, texts)?;
+            assert_eq!(rt; replaced.as_str(), wanted, "{builder:?}");
+        }
+    }
+    Ok(())
+}
+
+#[test]
+fn each_engine_calls_closures_alike(rt: HostRuntime) -> Result<(), Fail> {
+    let sentence = "append the app to the appendage";
+    for engine in &engines(rt.alloc())? {
+        let builder = builder_of(engine, LeftmostFirst, StartKind::Unanchored);
+        let searcher = builder.build(rt.alloc(), WORDS)?;
+        let mut told = String::from_str(rt.alloc(), "pre")?;
+        searcher.try_replace_all_with(sentence, &mut told, |found, _, destination| {
+            push_number(found, destination)
+        })?;
+        assert_eq!(rt; told.as_str(), "pre0 the 2 to the 0age");
+        let mut told = Vec::new(rt.alloc());
+        searcher.try_replace_all_with_bytes(SENTENCE, &mut told, |found, slice, destination| {
+            destination.extend_from_slice(slice).is_ok() && found.pattern().as_usize() != 2
+        })?;
+        assert_eq!(rt; told.as_slice(), SENTENCE);
+    }
+    Ok(())
+}
+
+#[test]
+fn each_engine_refuses_alike(rt: HostRuntime) -> Result<(), Fail> {
+    for engine in &engines(rt.alloc())? {
+        for &(start_kind, anchored, refusal) in STARTS {
+            let builder = builder_of(engine, Standard, start_kind);
+            let searcher = builder.build(rt.alloc(), &[b"b"])?;
+            let input = Input::new(b"b").range(1..0).anchored(anchored);
+            assert_eq!(rt; searcher.try_find(input).err(), refusal, "{builder:?}");
+            assert_eq!(rt; searcher.try_find_iter(input).err(), refusal, "{builder:?}");
+        }
+        for &(start_kind, kind, anchored, by_state, by_iterator) in OVERLAPPING_REFUSALS {
+            let builder = builder_of(engine, kind, start_kind);
+            let searcher = builder.build(rt.alloc(), &[b"a"])?;
+            let input = Input::new(b"a").anchored(anchored);
+            let mut state = OverlappingState::start();
+            let refusal = searcher.try_find_overlapping(input, &mut state).err();
+            assert_eq!(rt; refusal, by_state, "{builder:?}");
+            let refusal = searcher.try_find_overlapping_iter(input).err();
+            assert_eq!(rt; refusal, by_iterator, "{builder:?}");
+        }
+        let builder = builder_of(engine, Standard, StartKind::Anchored);
+        let searcher = builder.build(rt.alloc(), &[b"a"])?;
+        let mut kept = String::from_str(rt.alloc(), "pre")?;
+        let refused = ReplaceError::Match(MatchError::InvalidInputUnanchored);
+        let answer = searcher.try_replace_all_with("a", &mut kept, |_, _, _| true);
+        assert_eq!(rt; answer, Err(refused));
+        assert_eq!(rt; kept.as_str(), "pre");
     }
     Ok(())
 }
@@ -510,7 +597,7 @@ const SPANS: &[SpanRow] = &[
 
 #[test]
 fn each_engine_keeps_to_the_span(rt: HostRuntime) -> Result<(), Fail> {
-    for engine in &ENGINES {
+    for engine in &engines(rt.alloc())? {
         for &(patterns, haystack, start, end, wanted) in SPANS {
             assert!(rt; end <= haystack.len() && start.saturating_sub(end) <= 1);
             for &kind in EACH {
@@ -527,7 +614,7 @@ fn each_engine_keeps_to_the_span(rt: HostRuntime) -> Result<(), Fail> {
 
 #[test]
 fn each_engine_tells_the_lengths_of_no_patterns(rt: HostRuntime) -> Result<(), Fail> {
-    for engine in &ENGINES {
+    for engine in &engines(rt.alloc())? {
         let builder = builder_of(engine, Standard, StartKind::Unanchored);
         let searcher = builder.build(rt.alloc(), &[])?;
         assert_eq!(rt; searcher.min_pattern_len(), usize::MAX);

@@ -25,7 +25,7 @@ type InBytes = (
     &'static [u8],
 );
 
-const IN_BYTES: &[InBytes] = &[
+pub(super) const IN_BYTES: &[InBytes] = &[
     (
         WORDS,
         LeftmostFirst,
@@ -48,7 +48,7 @@ type InText = (
     &'static str,
 );
 
-const IN_TEXT: &[InText] = &[
+pub(super) const IN_TEXT: &[InText] = &[
     (
         WORDS,
         LeftmostFirst,
@@ -132,7 +132,7 @@ fn lists_exchange_whole_characters(rt: HostRuntime) -> Result<(), Fail> {
 }
 
 /// Appends the number of a pattern.
-fn push_number(found: &Match, destination: &mut String) -> bool {
+pub(super) fn push_number(found: &Match, destination: &mut String) -> bool {
     match NUMBERS.get(found.pattern().as_usize()) {
         Some(number) => destination.push_str(number).is_ok(),
         None => false,

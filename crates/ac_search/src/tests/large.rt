@@ -1,0 +1,129 @@
+//! Searchers past sizes at which a body might answer otherwise, or tell want of memory that nobody refused.
+use super::engines::{EACH, KINDS};
+use crate::{
+    AhoCorasick, AhoCorasickBuilder, AhoCorasickKind, Anchored, Input, MatchKind, StartKind,
+};
+use std::alloc::{AllocError, Global};
+use std::test::Fail;
+
+/// How many words there are, each of which has states of its own: more than 10,000, and than 100,000 states.
+const WORDS: usize = 10_500;
+
+/// How long a haystack is: more than a mebibyte, and than a million matches.
+const LONG: usize = 1_100_000;
+
+/// The start kinds, with an anchoring that each supports.
+const STARTS: [(StartKind, Anchored); 3] = [
+    (StartKind::Unanchored, Anchored::No),
+    (StartKind::Anchored, Anchored::Yes),
+    (StartKind::Both, Anchored::No),
+];
+
+/// Returns words that begin with the digits of their number.
+fn words(alloc: Global) -> Result<Vec<String>, AllocError> {
+    let mut words = Vec::new(alloc);
+    for number in 0..WORDS {
+        let mut word = String::new(alloc);
+        write!(word, "{number:05}{number:010}")?;
+        words.push(word)?;
+    }
+    Ok(words)
+}
+
+/// Returns a byte many times over, with a text behind it.
+fn many(alloc: Global, byte: u8, text: &str) -> Result<Vec<u8>, AllocError> {
+    let mut bytes = Vec::new(alloc);
+    bytes.resize(LONG, byte)?;
+    bytes.extend_from_slice(text.as_bytes())?;
+    Ok(bytes)
+}
+
+/// Returns a builder by these settings.
+fn builder_by(
+    kind: MatchKind,
+    engine: Option<AhoCorasickKind>,
+    start_kind: StartKind,
+) -> AhoCorasickBuilder {
+    let mut builder = AhoCorasickBuilder::new();
+    builder.match_kind(kind).kind(engine).start_kind(start_kind);
+    builder
+}
+
+/// Tests that a searcher, and a clone of it, finds the last of the words where it stands behind a long front.
+fn finds_the_last(searcher: &AhoCorasick, input: Input<'_>) -> Result<(), Fail> {
+    for searcher in [searcher, &searcher.clone()?] {
+        let found = searcher.try_find(input)?;
+        if found.map(|m| (m.pattern().as_usize(), m.start())) != Some((WORDS - 1, LONG)) {
+            return Err(Fail::new(format_args!("{found:?}")));
+        }
+    }
+    Ok(())
+}
+
+/// Each engine over more than 100,000 states, by each kind and with each start, and its clone.
+#[test]
+fn many_states(rt: HostRuntime) -> Result<(), Fail> {
+    let words = words(rt.alloc())?;
+    let patterns: Vec<&[u8]> = words
+        .iter()
+        .map(|word| word.as_bytes())
+        .collect(rt.alloc())?;
+    let last = words.last().map_or("", |word| word.as_str());
+    let haystack = many(rt.alloc(), b'x', last)?;
+    assert!(rt; LONG <= haystack.len());
+    for &kind in EACH {
+        for engine in KINDS {
+            for (start_kind, anchored) in STARTS {
+                let builder = builder_by(kind, engine, start_kind);
+                let searcher = builder.build(rt.alloc(), &patterns)?;
+                let whole = Input::new(&haystack).anchored(anchored);
+                let start = if anchored.is_anchored() { LONG } else { 0 };
+                finds_the_last(&searcher, whole.range(start..haystack.len()))?;
+            }
+        }
+    }
+    Ok(())
+}
+
+/// Each engine over more than a million matches, listed and exchanged, by each kind and with each start.
+#[test]
+fn many_matches(rt: HostRuntime) -> Result<(), Fail> {
+    let haystack = many(rt.alloc(), b'a', "")?;
+    for &kind in EACH {
+        for engine in KINDS {
+            for (start_kind, anchored) in STARTS {
+                let builder = builder_by(kind, engine, start_kind);
+                let searcher = builder.build(rt.alloc(), &[b"a"])?;
+                let input = Input::new(&haystack).anchored(anchored);
+                let mut count = 0usize;
+                for _ in searcher.try_find_iter(input)? {
+                    count = count.saturating_add(1);
+                }
+                assert_eq!(rt; count, LONG, "{builder:?}");
+                if anchored.is_anchored() {
+                    continue;
+                }
+                assert!(rt; searcher.patterns_len() == 1);
+                let replaced = searcher.try_replace_all_bytes(rt.alloc(), &haystack, &[b"bc"])?;
+                assert_eq!(rt; replaced.len(), 2 * LONG, "{builder:?}");
+            }
+        }
+    }
+    Ok(())
+}
+
+/// The listing of more than a million items, by each engine.
+#[test]
+fn many_items(rt: HostRuntime) -> Result<(), Fail> {
+    let haystack = many(rt.alloc(), b'a', "")?;
+    for engine in KINDS {
+        let builder = builder_by(MatchKind::Standard, engine, StartKind::Both);
+        let searcher = builder.build(rt.alloc(), &[b"a", b"aa"])?;
+        let mut count = 0usize;
+        for _ in searcher.try_find_overlapping_iter(Input::new(&haystack))? {
+            count = count.saturating_add(1);
+        }
+        assert_eq!(rt; count, 2 * LONG - 1, "{builder:?}");
+    }
+    Ok(())
+}
