@@ -6,16 +6,16 @@ use Rattle.ac_search.specs.Searchers.{RefusesSearcher, Settings}
 use Rattle.acs.specs.declared.fault.Fault.{Fault}
 use Rattle.acs.specs.declared.fault.Fault.TheVariants.{Usage, Memory, TooManyPatterns, PatternTooLong, TooManyStates, OverlappingKind, Io, WriteZero}
 
--- the line of each fault, with its end
+-- the line of each fault, without its end
 abbrev pub line_of : Fault → List ℕ
-line_of Usage = codes "acs: usage: acs MODE KIND ENGINE WORD..\n"
-line_of Memory = codes "acs: out of memory\n"
-line_of TooManyPatterns = codes "acs: too many patterns\n"
-line_of PatternTooLong = codes "acs: pattern too long\n"
-line_of TooManyStates = codes "acs: too many states\n"
-line_of OverlappingKind = codes "acs: overlapping search needs std\n"
-line_of Io = codes "acs: input or output failed\n"
-line_of WriteZero = codes "acs: output took no byte\n"
+line_of Usage = codes "acs: usage: acs MODE KIND ENGINE WORD.."
+line_of Memory = codes "acs: out of memory"
+line_of TooManyPatterns = codes "acs: too many patterns"
+line_of PatternTooLong = codes "acs: pattern too long"
+line_of TooManyStates = codes "acs: too many states"
+line_of OverlappingKind = codes "acs: overlapping search needs std"
+line_of Io = codes "acs: input or output failed"
+line_of WriteZero = codes "acs: output took no byte"
 
 -- the fault that a refused build is
 abbrev pub fault_of : BuildError → Fault

@@ -1,5 +1,5 @@
 -- What a run of the program does to its reader and its writer.
-use Rattle.std.specs.Prelude.{◌≡◌, ◌⊎◌, ℕ, ◌+◌, ◌<◌, Bool, true, List, length, MatchOption, MatchResult, None, Some, Result, Ok, Err}
+use Rattle.std.specs.Prelude.{◌≡◌, ◌⊎◌, ℕ, ◌+◌, ◌++◌, ◌<◌, Bool, true, List, codes, length, MatchOption, MatchResult, None, Some, Result, Ok, Err}
 use Rattle.std.specs.Io.{StartsWith}
 use Rattle.std.specs.Io.KnownBytes.{Appends, Consumes, IsAtEnd}
 use Rattle.ac_util.specs.Device.{Reading, Writing}
@@ -125,9 +125,13 @@ HasAnswered ends words reader new_reader writer new_writer answered =
     (HasRun ends request (words_behind words) reader new_reader writer new_writer)
     (HasFailed ends request (words_behind words) reader new_reader writer new_writer))
 
--- a fault was told by its line, or by a beginning of it where a write failed or took nothing; where there is no fault
--- nothing was written
+-- what is told of a fault: its line with a line end
+abbrev pub told_of : Fault → List ℕ
+told_of fault = line_of fault ++ codes "\n"
+
+-- a fault was told, or a beginning of its line where a write failed or took nothing; where there is no fault nothing was
+-- written
 abbrev pub HasTold : Result Outcome Fault → Writing → Writing → Type 0
 HasTold (Ok outcome) old new = new ≡ old
 HasTold (Err fault) old new =
-    WritesAll old new (line_of fault) ⊎ ((cause : Fault) × FailsToWrite old new (line_of fault) cause)
+    WritesAll old new (told_of fault) ⊎ ((cause : Fault) × FailsToWrite old new (told_of fault) cause)

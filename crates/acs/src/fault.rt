@@ -29,19 +29,19 @@ pub enum Fault {
 }
 
 impl Fault {
-    /// Returns the line that tells of the fault, with its end.
+    /// Returns the line that tells of the fault, without its end.
     pub fn line(&self) -> &'static str
         ensures { result.now ≡ line_of self.now }
     {
         match self {
-            Fault::Usage => "acs: usage: acs MODE KIND ENGINE WORD..\n",
-            Fault::Memory => "acs: out of memory\n",
-            Fault::TooManyPatterns => "acs: too many patterns\n",
-            Fault::PatternTooLong => "acs: pattern too long\n",
-            Fault::TooManyStates => "acs: too many states\n",
-            Fault::OverlappingKind => "acs: overlapping search needs std\n",
-            Fault::Io => "acs: input or output failed\n",
-            Fault::WriteZero => "acs: output took no byte\n",
+            Fault::Usage => "acs: usage: acs MODE KIND ENGINE WORD..",
+            Fault::Memory => "acs: out of memory",
+            Fault::TooManyPatterns => "acs: too many patterns",
+            Fault::PatternTooLong => "acs: pattern too long",
+            Fault::TooManyStates => "acs: too many states",
+            Fault::OverlappingKind => "acs: overlapping search needs std",
+            Fault::Io => "acs: input or output failed",
+            Fault::WriteZero => "acs: output took no byte",
         }
     }
 }

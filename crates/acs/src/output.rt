@@ -1,5 +1,5 @@
 //! Lines for matches, written in large pieces, and replaced texts.
-ghost use Rattle.std.specs.Prelude.{◌≡◌, ◌++◌, ◌∷◌, [], List, MatchResult, OnOk, option_to_list, string_bytes};
+ghost use Rattle.std.specs.Prelude.{◌≡◌, ◌++◌, ◌∷◌, [], List, codes, MatchResult, OnOk, option_to_list, string_bytes};
 ghost use Rattle.ac_util.specs.Device.{Writing};
 ghost use Rattle.ac_util.specs.Occurrence.{Occurrence};
 ghost use Rattle.acs.specs.declared.run.Outcome.{Outcome};
@@ -31,7 +31,7 @@ fn add_line<A: Allocator + Clone>(text: &mut String<A>, m: &Match) -> Result<(),
 ///
 /// # Errors
 /// `Io` where a write fails, `WriteZero` where it takes no byte.
-pub(crate) fn write_all<W: Sink>(writer: &mut W, bytes: &[u8]) -> Result<(), Fault>
+fn write_all<W: Sink>(writer: &mut W, bytes: &[u8]) -> Result<(), Fault>
     ensures { MatchResult result
         (λ _. WritesAll (W.told writer.old) (W.told writer.new) bytes.now)
         (FailsToWrite (W.told writer.old) (W.told writer.new) bytes.now) }
@@ -45,6 +45,19 @@ pub(crate) fn write_all<W: Sink>(writer: &mut W, bytes: &[u8]) -> Result<(), Fau
         }
     }
     Ok(())
+}
+
+/// Writes a line and its end.
+///
+/// # Errors
+/// As `write_all`.
+pub(crate) fn write_line<W: Sink>(writer: &mut W, line: &str) -> Result<(), Fault>
+    ensures { MatchResult result
+        (λ _. WritesAll (W.told writer.old) (W.told writer.new) (line.now ++ codes "\n"))
+        (FailsToWrite (W.told writer.old) (W.told writer.new) (line.now ++ codes "\n")) }
+{
+    write_all(writer, line.as_bytes())?;
+    write_all(writer, b"\n")
 }
 
 /// Adds the line of a match to the text, and writes the text where it is full.

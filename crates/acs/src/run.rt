@@ -11,7 +11,7 @@ ghost use Rattle.acs.specs.declared.run.Outcome;
 
 use crate::fault::Fault;
 use crate::input::read_all;
-use crate::output::{print_found, print_listing, print_text, print_walk, write_all};
+use crate::output::{print_found, print_listing, print_text, print_walk, write_line};
 use crate::request::{Mode, Request, check_patterns, patterns_of, request_of, texts_of};
 use ac_search::{AhoCorasick, AhoCorasickBuilder, Input, MatchKind, Sink, Source};
 use std::alloc::Allocator;
@@ -88,7 +88,7 @@ pub fn tell<E: Sink>(outcome: &Result<Outcome, Fault>, errors: &mut E)
     ensures { HasTold outcome.now (E.told errors.old) (E.told errors.new) }
 {
     if let Err(fault) = outcome {
-        let _written = write_all(errors, fault.line().as_bytes());
+        let _written = write_line(errors, fault.line());
     }
 }
 

@@ -278,19 +278,19 @@ const ENDINGS: &[(Ending, u8, &str)] = &[
     (
         Err(Fault::Usage),
         2,
-        "acs: usage: acs MODE KIND ENGINE WORD..\n",
+        "acs: usage: acs MODE KIND ENGINE WORD..",
     ),
-    (Err(Fault::Memory), 2, "acs: out of memory\n"),
-    (Err(Fault::TooManyPatterns), 2, "acs: too many patterns\n"),
-    (Err(Fault::PatternTooLong), 2, "acs: pattern too long\n"),
-    (Err(Fault::TooManyStates), 2, "acs: too many states\n"),
+    (Err(Fault::Memory), 2, "acs: out of memory"),
+    (Err(Fault::TooManyPatterns), 2, "acs: too many patterns"),
+    (Err(Fault::PatternTooLong), 2, "acs: pattern too long"),
+    (Err(Fault::TooManyStates), 2, "acs: too many states"),
     (
         Err(Fault::OverlappingKind),
         2,
-        "acs: overlapping search needs std\n",
+        "acs: overlapping search needs std",
     ),
-    (Err(Fault::Io), 2, "acs: input or output failed\n"),
-    (Err(Fault::WriteZero), 2, "acs: output took no byte\n"),
+    (Err(Fault::Io), 2, "acs: input or output failed"),
+    (Err(Fault::WriteZero), 2, "acs: output took no byte"),
 ];
 
 /// The words of a walk, its input and its lines.
@@ -593,20 +593,57 @@ fn an_empty_text_is_written_by_no_call(rt: HostRuntime) -> Result<(), Fail> {
     Ok(())
 }
 
-/// The input needs two reads and the lines need several writes.
-#[test]
-fn large_pieces_change_nothing(rt: HostRuntime) -> Result<(), Fail> {
-    let mut input = Vec::new(rt.alloc());
-    let mut wanted = String::new(rt.alloc());
-    for i in 0..70000usize {
-        input.push(b'a')?;
-        write!(wanted, "0 {i} {}\n", i + 1)?;
+/// How many bytes the input of a large run has, each of which is a match: more than a mebibyte, and than a million.
+const LONG: usize = 1_100_000;
+
+/// Returns words that don't occur there, more than 10,000.
+fn many_words(alloc: Global) -> Result<Vec<String>, AllocError> {
+    let mut words = Vec::new(alloc);
+    for number in 0..10_500 {
+        let mut word = String::new(alloc);
+        write!(word, "x{number}")?;
+        words.push(word)?;
     }
-    let words = ["walk", "std", "noncontiguous", "a"];
-    let mut reader = Bytes::new(&input);
-    let mut writer = Written::new(rt.alloc());
-    let answer = run(rt.alloc(), &words, &mut reader, &mut writer);
-    assert_eq!(rt; answer, Ok(Outcome::Found));
-    assert!(rt; writer.bytes() == wanted.as_bytes());
+    Ok(words)
+}
+
+/// Each mode, kind and engine over a large input and many words, for which the input needs many reads, and what is
+/// written many writes.
+#[test]
+fn large_runs_are_answered(rt: HostRuntime) -> Result<(), Fail> {
+    let mut input = Vec::new(rt.alloc());
+    input.resize(LONG, b'a')?;
+    let mut replaced = Vec::new(rt.alloc());
+    replaced.resize(LONG, b'b')?;
+    let mut lines = String::new(rt.alloc());
+    for at in 0..LONG {
+        write!(lines, "0 {at} {}\n", at + 1)?;
+    }
+    let modes = [
+        ("find", b"0 0 1\n".as_slice()),
+        ("walk", lines.as_bytes()),
+        ("overlap", lines.as_bytes()),
+        ("replace", replaced.as_slice()),
+    ];
+    let more = many_words(rt.alloc())?;
+    for (mode, wanted) in modes {
+        for kind in ["std", "first", "longest"] {
+            for engine in ["noncontiguous", "contiguous", "dfa", "auto"] {
+                if mode == "overlap" && kind != "std" {
+                    continue;
+                }
+                let mut words = Vec::new(rt.alloc());
+                words.extend_from_slice(&[mode, kind, engine, "a", "b"])?;
+                for word in &more {
+                    words.push(word.as_str())?;
+                }
+                let mut reader = Bytes::new(&input);
+                let mut writer = Written::new(rt.alloc());
+                let answer = run(rt.alloc(), &words, &mut reader, &mut writer);
+                assert_eq!(rt; answer, Ok(Outcome::Found), "{mode} {kind} {engine}");
+                assert!(rt; writer.bytes() == wanted, "{mode} {kind} {engine}");
+            }
+        }
+    }
     Ok(())
 }
