@@ -5,10 +5,8 @@ use ac_util::search::{Input, Match, MatchKind};
 use std::alloc::Global;
 use std::test::Fail;
 
-mod large;
 mod memory;
 mod overlap;
-mod prefilters;
 mod queries;
 mod readers;
 mod rows;
