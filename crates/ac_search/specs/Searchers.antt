@@ -130,7 +130,7 @@ RefusesSearcher settings patterns e =
     MatchOption (limit_refusal patterns) (IsRefused (engine_refusal settings patterns) e) (λ refusal. e ≡ refusal)
 
 -- states that were made from an automaton by these settings: packed words have the dense depth and the classes that
--- were set, and a table the classes and the start, with no more rows than these need
+-- were set, and a table the starts and the classes, with as many words or rows as these need
 abbrev pub AreLaidOut : Settings → Built → States → Type 0
 AreLaidOut settings from (Noncontiguous trie) = ⊤
 AreLaidOut settings from (Contiguous packed) =

@@ -129,8 +129,8 @@ HasAnswered ends words reader new_reader writer new_writer answered =
 abbrev pub told_of : Fault → List ℕ
 told_of fault = line_of fault ++ codes "\n"
 
--- a fault was told, or a beginning of its line where a write failed or took nothing; where there is no fault nothing was
--- written
+-- what is told of a fault was written, or a beginning of it where a write failed or took nothing; where there is no fault
+-- nothing was written
 abbrev pub HasTold : Result Outcome Fault → Writing → Writing → Type 0
 HasTold (Ok outcome) old new = new ≡ old
 HasTold (Err fault) old new =

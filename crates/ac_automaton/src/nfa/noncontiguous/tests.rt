@@ -5,6 +5,7 @@ use ac_util::search::{Input, Match, MatchKind};
 use std::alloc::Global;
 use std::test::Fail;
 
+mod large;
 mod memory;
 mod overlap;
 mod queries;
