@@ -32,6 +32,7 @@ pub mod RowByRow
 pub mod RowLists
 pub mod Setting
 pub mod SettingTargets
+mod SizeRows
 pub mod Spellings
 pub mod Starts
 pub mod StateRows

@@ -5,5 +5,3 @@ mod classes;
 pub mod dfa;
 pub mod nfa;
 mod prefilter;
-#[cfg(test)]
-mod samples;

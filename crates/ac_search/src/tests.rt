@@ -7,12 +7,14 @@ ghost use Rattle.ac_search.specs.Texts.{AreTexts};
 use crate::MatchKind::{LeftmostFirst, LeftmostLongest, Standard};
 use crate::laws::{answers_cut_no_character, answers_lie_inside};
 use crate::{
-    AhoCorasick, AhoCorasickBuilder, AhoCorasickKind, Anchored, Input, Match, MatchError,
-    MatchKind, OverlappingState, StartKind,
+    AhoCorasick, AhoCorasickBuilder, AhoCorasickKind, Anchored, BuildError, Input, Match,
+    MatchError, MatchKind, OverlappingState, StartKind,
 };
+use engines::KINDS;
 use std::alloc::{AllocError, Global};
 use std::test::Fail;
 
+mod alone;
 mod engines;
 mod large;
 mod replace;
@@ -20,20 +22,6 @@ mod small;
 
 /// A pattern number, a start and an end.
 type Told = (usize, usize, usize);
-
-/// A name, a match kind, whether the earliest end is asked for, and the match of an anchored find in `abcd`.
-type Row = (&'static str, MatchKind, bool, Told);
-
-const ANCHORED: &[Row] = &[
-    ("the first end", Standard, false, (1, 0, 3)),
-    ("the longest", LeftmostLongest, false, (2, 0, 4)),
-    (
-        "the earliest of the longest",
-        LeftmostLongest,
-        true,
-        (1, 0, 3),
-    ),
-];
 
 /// The start kinds that rule out an anchoring, and with which error; then those that rule out none.
 const STARTS: &[(StartKind, Anchored, Option<MatchError>)] = &[
@@ -324,43 +312,6 @@ fn each_setting_counts(rt: HostRuntime) -> Result<(), Fail> {
 }
 
 #[test]
-fn searches_need_their_start(rt: HostRuntime) -> Result<(), Fail> {
-    for &(kind, anchored, refusal) in STARTS {
-        println!(rt; "start: {kind:?}, {anchored:?}")?;
-        let mut builder = AhoCorasickBuilder::new();
-        builder.start_kind(kind);
-        let searcher = builder.build(rt.alloc(), &[b"b"])?;
-        assert_eq!(rt; searcher.start_kind(), kind);
-        let input = Input::new(b"bxb").anchored(anchored);
-        let found = searcher.try_find(input);
-        assert_eq!(rt; found.err(), refusal, "{kind:?}, {anchored:?}");
-        let walk = searcher.try_find_iter(input);
-        assert_eq!(rt; walk.err(), refusal, "{kind:?}, {anchored:?}");
-    }
-    Ok(())
-}
-
-#[test]
-fn anchored_searches_stay_at_the_start(rt: HostRuntime) -> Result<(), Fail> {
-    let mut builder = AhoCorasickBuilder::default();
-    builder.start_kind(StartKind::Both);
-    let one = builder.build(rt.alloc(), &[b"b"])?;
-    assert!(rt; one.is_match(Input::new(b"xb")));
-    assert!(rt; !one.is_match(Input::new(b"xb").anchored(Anchored::Yes)));
-    for &(name, kind, earliest, wanted) in ANCHORED {
-        println!(rt; "anchored: {name}")?;
-        builder.match_kind(kind);
-        let searcher = builder.build(rt.alloc(), &[b"b", b"abc", b"abcd"])?;
-        let input = Input::new(b"abcd")
-            .anchored(Anchored::Yes)
-            .earliest(earliest);
-        let found = searcher.try_find(input)?.map(|m| told(&m));
-        assert_eq!(rt; found, Some(wanted), "{name}");
-    }
-    Ok(())
-}
-
-#[test]
 fn a_clone_answers_equally(rt: HostRuntime) -> Result<(), Fail> {
     let mut builder = AhoCorasickBuilder::new();
     builder.match_kind(LeftmostLongest);
@@ -383,85 +334,33 @@ fn a_clone_answers_equally(rt: HostRuntime) -> Result<(), Fail> {
     Ok(())
 }
 
+/// With each request for memory refused in turn: a refused build is told, and the next one builds.
 #[test]
-fn anchored_walks_go_on_from_each_end(rt: HostRuntime) -> Result<(), Fail> {
-    for kind in [StartKind::Both, StartKind::Anchored] {
+fn a_refused_build_is_told(rt: HostRuntime) -> Result<(), Fail> {
+    for kind in KINDS {
         let mut builder = AhoCorasickBuilder::new();
-        builder.start_kind(kind);
-        builder.match_kind(LeftmostFirst);
-        let three = builder.build(rt.alloc(), &[b"foo", b"bar", b"quux"])?;
-        let input = Input::new(b"fooquuxbar foo").anchored(Anchored::Yes);
-        let walked = walk_of(rt, &three, input)?;
-        let wanted = [(0, 0, 3), (2, 3, 7), (1, 7, 10)];
-        assert_eq!(rt; walked.as_slice(), wanted.as_slice(), "{kind:?}");
-        let nested = builder.build(rt.alloc(), &[b"b", b"abc", b"abcd"])?;
-        let input = Input::new(b"foo abcd").anchored(Anchored::Yes);
-        assert_eq!(rt; nested.try_find(input)?, None, "{kind:?}");
-        let found = nested.try_find(input.range(4..8))?.map(|m| told(&m));
-        assert_eq!(rt; found, Some((1, 4, 7)), "{kind:?}");
-        builder.match_kind(LeftmostLongest);
-        let empty = builder.build(rt.alloc(), &[b"", b"a"])?;
-        let walked = walk_of(rt, &empty, Input::new(b"ba").anchored(Anchored::Yes))?;
-        let wanted = [(0, 0, 0), (1, 1, 2)];
-        assert_eq!(rt; walked.as_slice(), wanted.as_slice(), "{kind:?}");
+        builder.kind(kind);
+        let searcher = match builder.build(rt.alloc(), &[b"he", b"she"]) {
+            Ok(searcher) => searcher,
+            Err(refused) => {
+                assert_eq!(rt; refused, BuildError::Memory, "{kind:?}");
+                builder.build(rt.alloc(), &[b"he", b"she"])?
+            }
+        };
+        let found = searcher.try_find(Input::new(b"ushers"))?;
+        assert_eq!(rt; found.map(|m| told(&m)), Some((1, 1, 4)), "{kind:?}");
     }
     Ok(())
 }
 
 #[test]
 fn all_occurrences_are_listed(rt: HostRuntime) -> Result<(), Fail> {
-    for &(patterns, haystack, wanted) in LISTINGS {
-        let searcher = AhoCorasick::new(rt.alloc(), patterns)?;
-        let found = all_by_state(rt.alloc(), &searcher, haystack)?;
-        let by_state: Vec<Told> = found.iter().map(told).collect(rt.alloc())?;
-        assert_eq!(rt; by_state.as_slice(), wanted);
-        let mut items = Vec::new(rt.alloc());
-        for m in searcher.find_overlapping_iter(Input::new(haystack)) {
-            items.push(told(&m))?;
-        }
-        assert_eq!(rt; items.as_slice(), wanted);
-    }
-    Ok(())
-}
-
-#[test]
-fn overlapping_searches_are_refused(rt: HostRuntime) -> Result<(), Fail> {
-    for &(start_kind, match_kind, anchored, by_state, by_iterator) in OVERLAPPING_REFUSALS {
-        println!(rt; "overlapping: {start_kind:?}, {match_kind:?}, {anchored:?}")?;
-        let mut builder = AhoCorasickBuilder::new();
-        builder.start_kind(start_kind).match_kind(match_kind);
-        let searcher = builder.build(rt.alloc(), &[b"a"])?;
-        let input = Input::new(b"a").anchored(anchored);
-        let mut state = OverlappingState::start();
-        let refusal = searcher.try_find_overlapping(input, &mut state).err();
-        assert_eq!(rt; refusal, by_state);
-        let given = state.get_match().map(|m| told(&m));
-        assert_eq!(rt;
-            given,
-            if by_state.is_none() {
-                Some((0, 0, 1))
-            } else {
-                None
-            }
-        );
-        let refusal = searcher.try_find_overlapping_iter(input).err();
-        assert_eq!(rt; refusal, by_iterator);
-    }
-    Ok(())
-}
-
-#[test]
-fn anchored_listings_stay_at_the_start(rt: HostRuntime) -> Result<(), Fail> {
-    let mut builder = AhoCorasickBuilder::new();
-    builder.start_kind(StartKind::Both);
-    let searcher = builder.build(rt.alloc(), &[b"append", b"appendage", b"app"])?;
-    let input = Input::new(b"append the app to the appendage").anchored(Anchored::Yes);
-    let mut state = OverlappingState::start();
-    searcher.try_find_overlapping(input, &mut state)?;
-    assert_eq!(rt; state.get_match().map(|m| told(&m)), Some((2, 0, 3)));
-    searcher.try_find_overlapping(input, &mut state)?;
-    assert_eq!(rt; state.get_match().map(|m| told(&m)), Some((0, 0, 6)));
-    searcher.try_find_overlapping(input, &mut state)?;
-    assert_eq!(rt; state.get_match(), None);
+    let searcher = AhoCorasick::new(rt.alloc(), &[b"he", b"she", b"his", b"hers"])?;
+    let found = all_by_state(rt.alloc(), &searcher, b"ushers")?;
+    let listed: Vec<Told> = found.iter().map(told).collect(rt.alloc())?;
+    let wanted = [(1, 1, 4), (0, 2, 4), (3, 2, 6)];
+    assert_eq!(rt; listed.as_slice(), wanted.as_slice());
+    let items = searcher.find_overlapping_iter(Input::new(b"ushers"));
+    assert_eq!(rt; items.count(), 3);
     Ok(())
 }

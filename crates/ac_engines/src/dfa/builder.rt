@@ -267,6 +267,3 @@ fn start_of(start_kind: StartKind, anchored: Anchored, stride2: u32) -> StateID
     };
     StateID::must(row << stride2)
 }
-
-#[cfg(test)]
-mod tests;

@@ -270,6 +270,3 @@ impl<A: Allocator> Automaton for NFA<A> {
         self.prefilter.as_ref()
     }
 }
-
-#[cfg(test)]
-mod tests;

@@ -97,12 +97,6 @@ fn mark(searcher: &AhoCorasick, text: &str, destination: &mut String) -> Result<
 
 #[test]
 fn lists_exchange_bytes(rt: HostRuntime) -> Result<(), Fail> {
-    for &(patterns, kind, texts, haystack, wanted) in IN_BYTES {
-        let searcher = searcher_of(rt, patterns, kind)?;
-        assert!(rt; texts.len() == searcher.patterns_len());
-        let replaced = searcher.try_replace_all_bytes(rt.alloc(), haystack, texts)?;
-        assert_eq!(rt; replaced.as_slice(), wanted);
-    }
     let searcher = AhoCorasick::new(rt.alloc(), &[b"fox", b"brown", b"quick"])?;
     let replaced = searcher.replace_all_bytes(
         rt.alloc(),
@@ -115,12 +109,6 @@ fn lists_exchange_bytes(rt: HostRuntime) -> Result<(), Fail> {
 
 #[test]
 fn lists_exchange_whole_characters(rt: HostRuntime) -> Result<(), Fail> {
-    for &(patterns, kind, texts, haystack, wanted) in IN_TEXT {
-        let searcher = searcher_of(rt, patterns, kind)?;
-        assert!(rt; texts.len() == searcher.patterns_len());
-        let replaced = searcher.try_replace_all(rt.alloc(), haystack, texts)?;
-        assert_eq!(rt; replaced.as_str(), wanted);
-    }
     let searcher = AhoCorasick::new(rt.alloc(), &[b"fox", b"brown", b"quick"])?;
     let replaced = searcher.replace_all(
         rt.alloc(),

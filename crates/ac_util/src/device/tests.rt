@@ -2,7 +2,7 @@ ghost use Rattle.std.specs.Prelude.{◌≤◌, false, IfOk};
 
 use super::{Bytes, FromRead, IntoWrite, Sink, Source, Written};
 use crate::tally::Tally;
-use std::alloc::Global;
+use std::alloc::{AllocError, Global};
 use std::io;
 use std::io::{ErrorKind, Read, Write};
 use std::marker::Model;
@@ -11,46 +11,7 @@ use std::test::Fail;
 /// How many bytes a call moved, or the kind of its error.
 type Outcome = Result<usize, ErrorKind>;
 
-/// A name, how many bytes are left at the failure, and what each read into two places is to answer.
-type Reads = (&'static str, Option<usize>, &'static [Outcome]);
-
-/// A name, how many bytes are held at the failure, and what each write of `abc` is to answer.
-type Writes = (&'static str, Option<usize>, &'static [Outcome]);
-
 const BROKEN: Outcome = Err(ErrorKind::BrokenPipe);
-
-const READS: &[Reads] = &[
-    ("no failure", None, &[Ok(1), Ok(1), Ok(1), Ok(0), Ok(0)]),
-    (
-        "the first read fails",
-        Some(3),
-        &[BROKEN, Ok(1), Ok(1), Ok(1), Ok(0)],
-    ),
-    (
-        "a read in between fails",
-        Some(1),
-        &[Ok(1), Ok(1), BROKEN, Ok(1), Ok(0)],
-    ),
-    (
-        "a read at the end fails",
-        Some(0),
-        &[Ok(1), Ok(1), Ok(1), BROKEN, Ok(0)],
-    ),
-];
-
-const WRITES: &[Writes] = &[
-    ("no failure", None, &[Ok(1), Ok(1), Ok(1), Ok(0), Ok(0)]),
-    (
-        "the first write fails",
-        Some(0),
-        &[BROKEN, Ok(1), Ok(1), Ok(1), Ok(0)],
-    ),
-    (
-        "a write in between fails",
-        Some(2),
-        &[Ok(1), Ok(1), BROKEN, Ok(1), Ok(0)],
-    ),
-];
 
 /// Gives its bytes one a call, and fails once where `cut` bytes are left.
 #[derive(Drop)]
@@ -193,132 +154,147 @@ fn write<S: Sink>(sink: &mut S, piece: &[u8]) -> Outcome {
     sink.write_some(piece).map_err(|e| e.kind())
 }
 
-#[test]
-fn bytes_come_in_order(rt: HostRuntime) -> Result<(), Fail> {
-    let rows: [(&str, usize, &[u8]); 7] = [
-        ("into nothing", 0, b""),
-        ("into two places", 2, b"ab"),
-        ("into nothing, in between", 0, b""),
-        ("into four places", 4, b"cd"),
-        ("at the end", 3, b""),
-        ("at the end again", 1, b""),
-        ("into nothing, at the end", 0, b""),
-    ];
-    let mut source = Bytes::new(b"abcd");
-    for (name, room, wanted) in rows {
-        println!(rt; "bytes: {name}")?;
-        let mut into = [b'-'; 4];
-        assert!(rt; room <= 4 && wanted.len() <= 4);
-        assert_eq!(rt;
-            read(&mut source, &mut into[..room]),
-            Ok(wanted.len()),
-            "{name}"
-        );
-        assert_eq!(rt; &into[..wanted.len()], wanted, "{name}");
+/// Reads five times, each time into two places of its own, and returns the answers and the places.
+fn five_reads<S: Source>(source: &mut S) -> ([Outcome; 5], [[u8; 2]; 5]) {
+    let mut answers = [Ok(0); 5];
+    let mut places = [[b'-'; 2]; 5];
+    for turn in 0..5 {
+        answers[turn] = read(source, &mut places[turn]);
     }
-    Ok(())
+    (answers, places)
+}
+
+/// Returns how five reads of `abc` go, of which one fails where `cut` bytes are left.
+fn cut_reads(cut: Option<usize>) -> ([Outcome; 5], [[u8; 2]; 5]) {
+    five_reads(&mut FromRead::new(Drops { left: b"abc", cut }))
+}
+
+/// Writes `abc` in five writes, each of what is left, to a sink that fails once where it holds `cut` bytes.
+fn cut_writes(held: &mut Vec<u8>, cut: Option<usize>) -> [Outcome; 5] {
+    let mut sink = IntoWrite::new(Narrow { held, cut });
+    let mut answers = [Ok(0); 5];
+    let mut piece: &[u8] = b"abc";
+    for turn in 0..5 {
+        answers[turn] = write(&mut sink, piece);
+        if answers[turn] == Ok(1) && !piece.is_empty() {
+            piece = &piece[1..];
+        }
+    }
+    answers
+}
+
+/// Returns whether such writes answer this, and `abc` is held after them.
+fn are_written(
+    alloc: Global,
+    cut: Option<usize>,
+    wanted: [Outcome; 5],
+) -> Result<bool, AllocError> {
+    let mut held = Vec::with_capacity(alloc, 3)?;
+    let answers = cut_writes(&mut held, cut);
+    Ok(answers == wanted && held.as_slice() == b"abc".as_slice())
+}
+
+/// Writes a piece, and once more where memory is refused.
+fn write_again(sink: &mut Written<Global>, piece: &[u8]) -> Outcome {
+    match write(sink, piece) {
+        Err(ErrorKind::OutOfMemory) => write(sink, piece),
+        answer => answer,
+    }
 }
 
 #[test]
-fn a_pause_is_no_end_of_the_bytes(rt: HostRuntime) -> Result<(), Fail> {
+fn bytes_come_in_order(rt: HostRuntime) {
+    let mut source = Bytes::new(b"abcd");
+    let (mut two, mut four) = ([b'-'; 2], [b'-'; 4]);
+    let answers = [
+        read(&mut source, &mut []),
+        read(&mut source, &mut two),
+        read(&mut source, &mut []),
+        read(&mut source, &mut four),
+        read(&mut source, &mut four),
+        read(&mut source, &mut []),
+    ];
+    assert_eq!(rt; answers, [Ok(0), Ok(2), Ok(0), Ok(2), Ok(0), Ok(0)]);
+    assert_eq!(rt; (two, four), (*b"ab", *b"cd--"));
+}
+
+#[test]
+fn a_pause_is_no_end_of_the_bytes(rt: HostRuntime) {
     let mut source = Pauses {
         left: b"abcde",
         until: 3,
         empties: Tally::zero(),
     };
-    let rows: [&[u8]; 5] = [b"ab", b"c", b"", b"de", b""];
-    for wanted in rows {
-        let mut into = [b'-'; 2];
-        assert!(rt; wanted.len() <= 2);
-        assert_eq!(rt; read(&mut source, &mut into), Ok(wanted.len()));
-        assert_eq!(rt; &into[..wanted.len()], wanted);
-    }
-    Ok(())
+    let (answers, places) = five_reads(&mut source);
+    assert_eq!(rt; answers, [Ok(2), Ok(1), Ok(0), Ok(2), Ok(0)]);
+    assert_eq!(rt; places, [*b"ab", *b"c-", *b"--", *b"de", *b"--"]);
 }
 
 #[test]
-fn reads_go_through(rt: HostRuntime) -> Result<(), Fail> {
-    for &(name, cut, wanted) in READS {
-        println!(rt; "reads: {name}")?;
-        let mut source = FromRead::new(Drops { left: b"abc", cut });
-        let mut came = Vec::new(rt.alloc());
-        for outcome in wanted {
-            let mut into = [b'-'; 2];
-            let answer = read(&mut source, &mut into);
-            assert_eq!(rt; answer, *outcome, "{name}");
-            if answer == Ok(1) {
-                came.push(into[0])?;
-            }
-        }
-        assert_eq!(rt; came.as_slice(), b"abc".as_slice(), "{name}");
-        assert_eq!(rt; read(&mut source, &mut []), Ok(0), "{name}");
-    }
-    Ok(())
+fn reads_go_through(rt: HostRuntime) {
+    let [a, b, c, none] = [*b"a-", *b"b-", *b"c-", *b"--"];
+    let whole = [Ok(1), Ok(1), Ok(1), Ok(0), Ok(0)];
+    assert!(rt; cut_reads(None) == (whole, [a, b, c, none, none]));
+    let first = [BROKEN, Ok(1), Ok(1), Ok(1), Ok(0)];
+    assert!(rt; cut_reads(Some(3)) == (first, [none, a, b, c, none]));
+    let between = [Ok(1), Ok(1), BROKEN, Ok(1), Ok(0)];
+    assert!(rt; cut_reads(Some(1)) == (between, [a, b, none, c, none]));
+    let last = [Ok(1), Ok(1), Ok(1), BROKEN, Ok(0)];
+    assert!(rt; cut_reads(Some(0)) == (last, [a, b, c, none, none]));
 }
 
 #[test]
-fn all_that_has_room_goes_at_once(rt: HostRuntime) -> Result<(), Fail> {
+fn all_that_has_room_is_read_at_once(rt: HostRuntime) {
     let mut source = FromRead::new(b"abcde".as_slice());
-    let mut into = [b'-'; 4];
-    assert_eq!(rt; read(&mut source, &mut into), Ok(4));
-    assert_eq!(rt; into, *b"abcd");
-    assert_eq!(rt; read(&mut source, &mut into), Ok(1));
-    assert_eq!(rt; into[0], b'e');
-    assert_eq!(rt; read(&mut source, &mut into), Ok(0));
+    let (mut first, mut second) = ([b'-'; 4], [b'-'; 4]);
+    let answers = [
+        read(&mut source, &mut first),
+        read(&mut source, &mut second),
+        read(&mut source, &mut second),
+        read(&mut source, &mut []),
+    ];
+    assert_eq!(rt; answers, [Ok(4), Ok(1), Ok(0), Ok(0)]);
+    assert_eq!(rt; (first, second), (*b"abcd", *b"e---"));
+}
+
+#[test]
+fn all_that_has_room_is_written_at_once(rt: HostRuntime) -> Result<(), Fail> {
     let mut held = Vec::with_capacity(rt.alloc(), 5)?;
     let mut sink = IntoWrite::new(&mut held);
-    assert_eq!(rt; write(&mut sink, b"abcd"), Ok(4));
-    assert_eq!(rt; write(&mut sink, b"e"), Ok(1));
+    let answers = [
+        write(&mut sink, b"abcd"),
+        write(&mut sink, b"e"),
+        write(&mut sink, b""),
+    ];
     drop(sink);
+    assert_eq!(rt; answers, [Ok(4), Ok(1), Ok(0)]);
     assert_eq!(rt; held.as_slice(), b"abcde".as_slice());
     Ok(())
 }
 
 #[test]
-fn what_is_written_is_held(rt: HostRuntime) -> Result<(), Fail> {
-    let rows: [(&str, &[u8], &[u8]); 4] = [
-        ("two bytes", b"ab", b"ab"),
-        ("nothing", b"", b"ab"),
-        ("one byte", b"c", b"abc"),
-        ("more than were held", b"defghijklmn", b"abcdefghijklmn"),
-    ];
+fn what_is_written_is_held(rt: HostRuntime) {
     let mut sink = Written::new(rt.alloc());
     assert_eq!(rt; sink.bytes(), b"".as_slice());
-    for (name, piece, wanted) in rows {
-        println!(rt; "written: {name}")?;
-        let before = sink.bytes().len();
-        let mut answer = write(&mut sink, piece);
-        if answer == Err(ErrorKind::OutOfMemory) {
-            assert_eq!(rt; sink.bytes().len(), before, "{name}");
-            answer = write(&mut sink, piece);
-        }
-        assert_eq!(rt; answer, Ok(piece.len()), "{name}");
-        assert_eq!(rt; sink.bytes(), wanted, "{name}");
-    }
-    Ok(())
+    let answers = [
+        write_again(&mut sink, b"ab"),
+        write_again(&mut sink, b""),
+        write_again(&mut sink, b"c"),
+        write_again(&mut sink, b"defghijklmn"),
+    ];
+    assert_eq!(rt; answers, [Ok(2), Ok(0), Ok(1), Ok(11)]);
+    assert_eq!(rt; sink.bytes(), b"abcdefghijklmn".as_slice());
 }
 
 #[test]
 fn writes_go_through(rt: HostRuntime) -> Result<(), Fail> {
-    for &(name, cut, wanted) in WRITES {
-        println!(rt; "writes: {name}")?;
-        let mut held = Vec::with_capacity(rt.alloc(), 3)?;
-        let mut sink = IntoWrite::new(Narrow {
-            held: &mut held,
-            cut,
-        });
-        let mut piece: &[u8] = b"abc";
-        for outcome in wanted {
-            let answer = write(&mut sink, piece);
-            assert_eq!(rt; answer, *outcome, "{name}");
-            if answer == Ok(1) && !piece.is_empty() {
-                piece = &piece[1..];
-            }
-        }
-        assert_eq!(rt; write(&mut sink, b""), Ok(0), "{name}");
-        drop(sink);
-        assert_eq!(rt; held.as_slice(), b"abc".as_slice(), "{name}");
-    }
+    let alloc = rt.alloc();
+    let whole = [Ok(1), Ok(1), Ok(1), Ok(0), Ok(0)];
+    assert!(rt; are_written(alloc, None, whole)?);
+    let first = [BROKEN, Ok(1), Ok(1), Ok(1), Ok(0)];
+    assert!(rt; are_written(alloc, Some(0), first)?);
+    let between = [Ok(1), Ok(1), BROKEN, Ok(1), Ok(0)];
+    assert!(rt; are_written(alloc, Some(2), between)?);
     Ok(())
 }
 

@@ -32,7 +32,6 @@ fn are<A: Allocator>(stored: &Patterns<A>, patterns: &[&[u8]]) -> bool {
 fn patterns_are_stored(rt: HostRuntime) -> Result<(), Fail> {
     let alloc = rt.alloc();
     for &(name, patterns) in ROWS {
-        println!(rt; "patterns: {name}")?;
         let owned = Patterns::new(alloc, patterns)?;
         assert!(rt; are(&owned, patterns), "{name}");
         let lent = Patterns::new(&alloc, patterns)?;

@@ -1,505 +1,188 @@
-ghost use Rattle.std.specs.Prelude.{◌≡◌, length};
+ghost use Rattle.std.specs.Prelude.{◌≤◌, length};
 
 use super::{Query, find, listing, replace_walk, walk};
 use crate::search::Anchored::{No, Yes};
 use crate::search::MatchKind::{LeftmostFirst, LeftmostLongest, Standard};
 use crate::search::{Anchored, Match, MatchKind, Span};
+use std::alloc::{AllocError, Global};
 use std::test::Fail;
 
 /// A pattern number, a start and an end.
 type Told = (usize, usize, usize);
 
-/// A name, the match kinds, the patterns, the haystack and the matches that a search is to give.
-type Row = (
-    &'static str,
-    &'static [MatchKind],
-    &'static [&'static [u8]],
-    &'static [u8],
-    &'static [Told],
-);
+const NESTED: &[&[u8]] = &[b"b", b"abc", b"abcd"];
 
-const EACH: [MatchKind; 3] = [Standard, LeftmostFirst, LeftmostLongest];
+const APPENDS: &[&[u8]] = &[b"append", b"appendage", b"app"];
 
-const FINDS: &[Row] = &[
-    (
-        "he, she, his, hers",
-        &[Standard],
-        &[b"he", b"she", b"his", b"hers"],
-        b"ushers",
-        &[(1, 1, 4)],
-    ),
-    (
-        "bc before abcd",
-        &[Standard],
-        &[b"bc", b"abcd"],
-        b"abcd",
-        &[(0, 1, 3)],
-    ),
-    (
-        "b, abc, abcd: the first end",
-        &[Standard],
-        &[b"b", b"abc", b"abcd"],
-        b"abcd",
-        &[(0, 1, 2)],
-    ),
-    (
-        "b, abc, abcd: the least number",
-        &[LeftmostFirst],
-        &[b"b", b"abc", b"abcd"],
-        b"abcd",
-        &[(1, 0, 3)],
-    ),
-    (
-        "b, abc, abcd: the longest",
-        &[LeftmostLongest],
-        &[b"b", b"abc", b"abcd"],
-        b"abcd",
-        &[(2, 0, 4)],
-    ),
-    (
-        "b, abc, abcd: the first end, further on",
-        &[Standard],
-        &[b"b", b"abc", b"abcd"],
-        b"foo abcd",
-        &[(0, 5, 6)],
-    ),
-    (
-        "b, abc, abcd: the least number, further on",
-        &[LeftmostFirst],
-        &[b"b", b"abc", b"abcd"],
-        b"foo abcd",
-        &[(1, 4, 7)],
-    ),
-    (
-        "Samwise, Sam: the first end",
-        &[Standard],
-        &[b"Samwise", b"Sam"],
-        b"Samwise",
-        &[(1, 0, 3)],
-    ),
-    (
-        "Samwise, Sam: the least number",
-        &[LeftmostFirst],
-        &[b"Samwise", b"Sam"],
-        b"Samwise",
-        &[(0, 0, 7)],
-    ),
-    (
-        "an empty pattern comes first",
-        &[LeftmostFirst],
-        &[b"abc", b"bd", b""],
-        b"abd",
-        &[(2, 0, 0)],
-    ),
-    (
-        "one pattern twice",
-        &EACH,
-        &[b"ab", b"ab"],
-        b"abab",
-        &[(0, 0, 2)],
-    ),
-    (
-        "abcd fails, bc stands",
-        &[LeftmostFirst],
-        &[b"abcd", b"bc"],
-        b"abce",
-        &[(1, 1, 3)],
-    ),
-    (
-        "abcd stands before bc",
-        &[LeftmostFirst],
-        &[b"abcd", b"bc"],
-        b"abcd",
-        &[(0, 0, 4)],
-    ),
-    (
-        "b in xb",
-        &EACH,
-        &[b"b", b"abc", b"abcd"],
-        b"xb",
-        &[(0, 1, 2)],
-    ),
-    ("no patterns", &EACH, &[], b"abc", &[]),
-];
+const SENTENCE: &[u8] = b"append the app to the appendage";
 
-const FOLDED_FINDS: &[Row] = &[
-    (
-        "without case: one pattern in two cases",
-        &EACH,
-        &[b"ab", b"AB"],
-        b"aB",
-        &[(0, 0, 2)],
-    ),
-    (
-        "without case: a bracket is no letter",
-        &EACH,
-        &[b"["],
-        b"{",
-        &[],
-    ),
-];
-
-const ANCHORED_FINDS: &[Row] = &[
-    (
-        "anchored: the first end",
-        &[Standard],
-        &[b"b", b"abc", b"abcd"],
-        b"abcd",
-        &[(1, 0, 3)],
-    ),
-    (
-        "anchored: the longest",
-        &[LeftmostLongest],
-        &[b"b", b"abc", b"abcd"],
-        b"abcd",
-        &[(2, 0, 4)],
-    ),
-    (
-        "anchored: nothing at the start",
-        &EACH,
-        &[b"b", b"abc", b"abcd"],
-        b"abd",
-        &[],
-    ),
-    (
-        "anchored: b in xb",
-        &EACH,
-        &[b"b", b"abc", b"abcd"],
-        b"xb",
-        &[],
-    ),
-    (
-        "anchored: foo abcd",
-        &[LeftmostFirst],
-        &[b"b", b"abc", b"abcd"],
-        b"foo abcd",
-        &[],
-    ),
-];
-
-const WALKS: &[Row] = &[
-    (
-        "maple and apple",
-        &EACH,
-        &[b"apple", b"maple", b"Snapple"],
-        b"Nobody likes maple in their apple flavored Snapple.",
-        &[(1, 13, 18), (0, 28, 33), (2, 43, 50)],
-    ),
-    (
-        "append, appendage, app: the first end",
-        &[Standard],
-        &[b"append", b"appendage", b"app"],
-        b"append the app to the appendage",
-        &[(2, 0, 3), (2, 11, 14), (2, 22, 25)],
-    ),
-    (
-        "append, appendage, app: the least number",
-        &[LeftmostFirst],
-        &[b"append", b"appendage", b"app"],
-        b"append the app to the appendage",
-        &[(0, 0, 6), (2, 11, 14), (0, 22, 28)],
-    ),
-    (
-        "append, appendage, app: the longest",
-        &[LeftmostLongest],
-        &[b"append", b"appendage", b"app"],
-        b"append the app to the appendage",
-        &[(0, 0, 6), (2, 11, 14), (1, 22, 31)],
-    ),
-    (
-        "he, she, his, hers",
-        &[Standard],
-        &[b"he", b"she", b"his", b"hers"],
-        b"ushers",
-        &[(1, 1, 4)],
-    ),
-    (
-        "a and aa",
-        &[Standard],
-        &[b"a", b"aa"],
-        b"aaa",
-        &[(0, 0, 1), (0, 1, 2), (0, 2, 3)],
-    ),
-    (
-        "an empty pattern at each place",
-        &[Standard],
-        &[b""],
-        b"ab",
-        &[(0, 0, 0), (0, 1, 1), (0, 2, 2)],
-    ),
-    (
-        "an empty pattern and a",
-        &[Standard],
-        &[b"", b"a"],
-        b"a",
-        &[(0, 0, 0), (0, 1, 1)],
-    ),
-    (
-        "an empty pattern and a, the longest",
-        &[LeftmostLongest],
-        &[b"", b"a"],
-        b"ba",
-        &[(0, 0, 0), (1, 1, 2)],
-    ),
-    (
-        "a before all",
-        &[LeftmostFirst],
-        &[b"a", b"abcdefghi", b"hz", b"abcdefgh"],
-        b"abcdefghz",
-        &[(0, 0, 1), (2, 7, 9)],
-    ),
-    (
-        "abcdefgh is the longest",
-        &[LeftmostLongest],
-        &[b"a", b"abcdefghi", b"hz", b"abcdefgh"],
-        b"abcdefghz",
-        &[(3, 0, 8)],
-    ),
-    (
-        "abcdefgh starts first",
-        &[LeftmostFirst, LeftmostLongest],
-        &[b"b", b"abcdefghi", b"hz", b"abcdefgh"],
-        b"abcdefghz",
-        &[(3, 0, 8)],
-    ),
-    (
-        "an empty pattern, then bd",
-        &[LeftmostFirst],
-        &[b"abc", b"bd", b""],
-        b"abd",
-        &[(2, 0, 0), (1, 1, 3)],
-    ),
-    (
-        "b, abc, abcd: the first ends",
-        &[Standard],
-        &[b"b", b"abc", b"abcd"],
-        b"abcdabcd",
-        &[(0, 1, 2), (0, 5, 6)],
-    ),
-    ("no patterns", &EACH, &[], b"abc", &[]),
-    (
-        "an empty pattern in nothing",
-        &EACH,
-        &[b""],
-        b"",
-        &[(0, 0, 0)],
-    ),
-    (
-        "FOO, bAr, BaZ with case",
-        &EACH,
-        &[b"FOO", b"bAr", b"BaZ"],
-        b"foo bar baz",
-        &[],
-    ),
-];
-
-const FOLDED_WALKS: &[Row] = &[
-    (
-        "without case: FOO, bAr, BaZ",
-        &EACH,
-        &[b"FOO", b"bAr", b"BaZ"],
-        b"foo bar baz",
-        &[(0, 0, 3), (1, 4, 7), (2, 8, 11)],
-    ),
-    (
-        "without case: maple and apple",
-        &EACH,
-        &[b"apple", b"maple", b"snapple"],
-        b"Nobody likes maple in their apple flavored Snapple.",
-        &[(1, 13, 18), (0, 28, 33), (2, 43, 50)],
-    ),
-];
-
-const ANCHORED_WALKS: &[Row] = &[
-    (
-        "anchored: an empty pattern and a, the longest",
-        &[LeftmostLongest],
-        &[b"", b"a"],
-        b"ba",
-        &[(0, 0, 0), (1, 1, 2)],
-    ),
-    (
-        "anchored: foo, bar, quux",
-        &[LeftmostFirst],
-        &[b"foo", b"bar", b"quux"],
-        b"fooquuxbar foo",
-        &[(0, 0, 3), (2, 3, 7), (1, 7, 10)],
-    ),
-];
-
-const LISTINGS: &[Row] = &[
-    (
-        "append, appendage, app",
-        &[Standard],
-        &[b"append", b"appendage", b"app"],
-        b"append the app to the appendage",
-        &[
-            (2, 0, 3),
-            (0, 0, 6),
-            (2, 11, 14),
-            (2, 22, 25),
-            (0, 22, 28),
-            (1, 22, 31),
-        ],
-    ),
-    (
-        "an empty pattern and a",
-        &[Standard],
-        &[b"", b"a"],
-        b"a",
-        &[(0, 0, 0), (1, 0, 1), (0, 1, 1)],
-    ),
-    (
-        "one pattern twice",
-        &[Standard],
-        &[b"ab", b"ab"],
-        b"abab",
-        &[(0, 0, 2), (1, 0, 2), (0, 2, 4), (1, 2, 4)],
-    ),
-];
-
-const ANCHORED_LISTINGS: &[Row] = &[(
-    "anchored: append, appendage, app",
-    &[Standard],
-    &[b"append", b"appendage", b"app"],
-    b"append the app to the appendage",
-    &[(2, 0, 3), (0, 0, 6)],
-)];
-
-/// Returns the span of a whole haystack.
-fn whole(haystack: &[u8]) -> Span
-    ensures { result.end ≡ length haystack.now }
+/// Returns the search of a whole haystack.
+fn whole<'a>(
+    patterns: &'a [&'a [u8]],
+    fold: bool,
+    haystack: &'a [u8],
+    anchored: Anchored,
+) -> Query<'a>
+    requires { length patterns.now ≤ 100 }
 {
-    Span {
+    let span = Span {
         start: 0,
         end: haystack.len(),
-    }
+    };
+    Query::new(patterns, fold, haystack, anchored, span)
 }
 
-/// Returns what a row says of a match.
+/// Returns what a match tells.
 fn told(m: &Match) -> Told {
     (m.pattern().as_usize(), m.start(), m.end())
 }
 
+/// Returns whether the matches tell this.
+fn tell(matches: &[Match], wanted: &[Told]) -> bool {
+    matches.iter().map(told).eq(wanted.iter().copied())
+}
+
+/// Returns what the first match of a search tells.
+fn found(kind: MatchKind, query: &Query) -> Option<Told> {
+    find(kind, query).map(|m| told(&m))
+}
+
+/// Returns what the first match of `abc` in a span of `xabcx` tells.
+fn abc_in(start: usize, end: usize) -> Option<Told>
+    requires { end ≤ 5 }
+{
+    let query = Query::new(&[b"abc"], false, b"xabcx", No, Span { start, end });
+    found(LeftmostFirst, &query)
+}
+
+/// Returns whether a walk tells this.
+fn walks_by(
+    alloc: Global,
+    kind: MatchKind,
+    query: &Query,
+    wanted: &[Told],
+) -> Result<bool, AllocError> {
+    let matches = walk(alloc, kind, query)?;
+    Ok(tell(&matches, wanted))
+}
+
+/// Returns whether a listing tells this.
+fn lists(alloc: Global, query: &Query, wanted: &[Told]) -> Result<bool, AllocError> {
+    let matches = listing(alloc, query)?;
+    Ok(tell(&matches, wanted))
+}
+
+/// Returns whether the haystack, with each match exchanged for the text of its pattern, is this.
+fn exchanges(
+    alloc: Global,
+    patterns: &[&[u8]],
+    texts: &[&[u8]],
+    haystack: &[u8],
+    wanted: &[u8],
+) -> Result<bool, AllocError>
+    requires few { length patterns.now ≤ 100 }
+    requires enough { length patterns.now ≤ length texts.now }
+{
+    let span = Span {
+        start: 0,
+        end: haystack.len(),
+    };
+    let query = Query::new(patterns, false, haystack, No, span);
+    let bytes = replace_walk(alloc, LeftmostFirst, &query, texts)?;
+    Ok(bytes.as_slice() == wanted)
+}
+
 #[test]
-fn finds(rt: HostRuntime) -> Result<(), Fail> {
-    let tables = [
-        (FINDS, false, No),
-        (FOLDED_FINDS, true, No),
-        (ANCHORED_FINDS, false, Yes),
-    ];
-    for (rows, fold, anchored) in tables {
-        for &(name, kinds, patterns, haystack, wanted) in rows {
-            println!(rt; "find: {name}")?;
-            assert!(rt; patterns.len() <= 100);
-            let query = Query::new(patterns, fold, haystack, anchored, whole(haystack));
-            for &kind in kinds {
-                let found = find(kind, &query).map(|m| told(&m));
-                assert_eq!(rt; found, wanted.first().copied(), "{name} under {kind:?}");
-            }
-        }
-    }
-    Ok(())
+fn each_kind_finds_its_own(rt: HostRuntime) {
+    let nested = whole(NESTED, false, b"abcd", No);
+    assert_eq!(rt; found(Standard, &nested), Some((0, 1, 2)));
+    assert_eq!(rt; found(LeftmostFirst, &nested), Some((1, 0, 3)));
+    assert_eq!(rt; found(LeftmostLongest, &nested), Some((2, 0, 4)));
+    let empty = whole(&[b"abc", b"bd", b""], false, b"abd", No);
+    assert_eq!(rt; found(LeftmostFirst, &empty), Some((2, 0, 0)));
+    let none = whole(&[], false, b"abc", No);
+    assert_eq!(rt; found(Standard, &none), None);
+}
+
+#[test]
+fn settings_change_what_is_found(rt: HostRuntime) {
+    let folded = whole(&[b"ab", b"AB"], true, b"aB", No);
+    assert_eq!(rt; found(Standard, &folded), Some((0, 0, 2)));
+    let bracket = whole(&[b"["], true, b"{", No);
+    assert_eq!(rt; found(Standard, &bracket), None);
+    let anchored = whole(NESTED, false, b"abcd", Yes);
+    assert_eq!(rt; found(Standard, &anchored), Some((1, 0, 3)));
+    let further = whole(NESTED, false, b"xb", Yes);
+    assert_eq!(rt; found(Standard, &further), None);
 }
 
 #[test]
 fn walks(rt: HostRuntime) -> Result<(), Fail> {
-    let tables = [
-        (WALKS, false, No),
-        (FOLDED_WALKS, true, No),
-        (ANCHORED_WALKS, false, Yes),
-    ];
-    for (rows, fold, anchored) in tables {
-        for &(name, kinds, patterns, haystack, wanted) in rows {
-            println!(rt; "walk: {name}")?;
-            assert!(rt; patterns.len() <= 100);
-            let query = Query::new(patterns, fold, haystack, anchored, whole(haystack));
-            for &kind in kinds {
-                let matches = walk(rt.alloc(), kind, &query)?;
-                let found: Vec<Told> = matches.iter().map(told).collect(rt.alloc())?;
-                assert_eq!(rt; found.as_slice(), wanted, "{name} under {kind:?}");
-            }
-        }
-    }
+    let alloc = rt.alloc();
+    let query = whole(APPENDS, false, SENTENCE, No);
+    let ends = [(2, 0, 3), (2, 11, 14), (2, 22, 25)];
+    assert!(rt; walks_by(alloc, Standard, &query, &ends)?);
+    let firsts = [(0, 0, 6), (2, 11, 14), (0, 22, 28)];
+    assert!(rt; walks_by(alloc, LeftmostFirst, &query, &firsts)?);
+    let longest = [(0, 0, 6), (2, 11, 14), (1, 22, 31)];
+    assert!(rt; walks_by(alloc, LeftmostLongest, &query, &longest)?);
+    Ok(())
+}
+
+#[test]
+fn settings_change_a_walk(rt: HostRuntime) -> Result<(), Fail> {
+    let alloc = rt.alloc();
+    let empty = whole(&[b""], false, b"ab", No);
+    let wanted = [(0, 0, 0), (0, 1, 1), (0, 2, 2)];
+    assert!(rt; walks_by(alloc, Standard, &empty, &wanted)?);
+    let folded = whole(&[b"FOO", b"bAr", b"BaZ"], true, b"foo bar baz", No);
+    let wanted = [(0, 0, 3), (1, 4, 7), (2, 8, 11)];
+    assert!(rt; walks_by(alloc, Standard, &folded, &wanted)?);
+    let anchored = whole(&[b"foo", b"bar", b"quux"], false, b"fooquuxbar foo", Yes);
+    let wanted = [(0, 0, 3), (2, 3, 7), (1, 7, 10)];
+    assert!(rt; walks_by(alloc, LeftmostFirst, &anchored, &wanted)?);
     Ok(())
 }
 
 #[test]
 fn listings(rt: HostRuntime) -> Result<(), Fail> {
-    for (rows, anchored) in [(LISTINGS, No), (ANCHORED_LISTINGS, Yes)] {
-        for &(name, _, patterns, haystack, wanted) in rows {
-            println!(rt; "listing: {name}")?;
-            assert!(rt; patterns.len() <= 100);
-            let query = Query::new(patterns, false, haystack, anchored, whole(haystack));
-            let matches = listing(rt.alloc(), &query)?;
-            let found: Vec<Told> = matches.iter().map(told).collect(rt.alloc())?;
-            assert_eq!(rt; found.as_slice(), wanted, "{name}");
-        }
-    }
+    let alloc = rt.alloc();
+    let all = whole(APPENDS, false, SENTENCE, No);
+    let wanted = [
+        (2, 0, 3),
+        (0, 0, 6),
+        (2, 11, 14),
+        (2, 22, 25),
+        (0, 22, 28),
+        (1, 22, 31),
+    ];
+    assert!(rt; lists(alloc, &all, &wanted)?);
+    let anchored = whole(APPENDS, false, SENTENCE, Yes);
+    assert!(rt; lists(alloc, &anchored, &[(2, 0, 3), (0, 0, 6)])?);
+    let empty = whole(&[b"", b"a"], false, b"a", No);
+    let wanted = [(0, 0, 0), (1, 0, 1), (0, 1, 1)];
+    assert!(rt; lists(alloc, &empty, &wanted)?);
     Ok(())
 }
 
 #[test]
-fn spans(rt: HostRuntime) -> Result<(), Fail> {
-    let rows: [(&str, &[&[u8]], &[u8], Anchored, usize, usize, Option<Told>); 6] = [
-        (
-            "just the span",
-            &[b"abc"],
-            b"xabcx",
-            No,
-            1,
-            4,
-            Some((0, 1, 4)),
-        ),
-        ("it ends too early", &[b"abc"], b"xabcx", No, 1, 3, None),
-        ("it starts too late", &[b"abc"], b"xabcx", No, 2, 5, None),
-        ("it is empty", &[b"abc"], b"xabcx", No, 5, 5, None),
-        ("it starts after its end", &[b""], b"abc", No, 4, 3, None),
-        (
-            "anchored where abc stands",
-            &[b"b", b"abc", b"abcd"],
-            b"foo abcd",
-            Yes,
-            4,
-            8,
-            Some((1, 4, 7)),
-        ),
-    ];
-    for (name, patterns, haystack, anchored, start, end, wanted) in rows {
-        println!(rt; "span: {name}")?;
-        assert!(rt; patterns.len() <= 100 && end <= haystack.len());
-        let query = Query::new(patterns, false, haystack, anchored, Span { start, end });
-        let found = find(LeftmostFirst, &query).map(|m| told(&m));
-        assert_eq!(rt; found, wanted, "{name}");
-    }
-    Ok(())
+fn spans(rt: HostRuntime) {
+    assert_eq!(rt; abc_in(1, 4), Some((0, 1, 4)));
+    assert_eq!(rt; [abc_in(1, 3), abc_in(2, 5), abc_in(5, 5)], [None; 3]);
+    let backward = Query::new(&[b""], false, b"abc", No, Span { start: 4, end: 3 });
+    assert_eq!(rt; found(LeftmostFirst, &backward), None);
+    let later = Query::new(NESTED, false, b"foo abcd", Yes, Span { start: 4, end: 8 });
+    assert_eq!(rt; found(LeftmostFirst, &later), Some((1, 4, 7)));
 }
 
 #[test]
 fn replacements(rt: HostRuntime) -> Result<(), Fail> {
-    let rows: [(&str, &[&[u8]], &[&[u8]], &[u8], &[u8]); 3] = [
-        (
-            "append, appendage, app",
-            &[b"append", b"appendage", b"app"],
-            &[b"x", b"y", b"z"],
-            b"append the app to the appendage",
-            b"x the z to the xage",
-        ),
-        (
-            "half a letter",
-            &[b"\xc3"],
-            &[b"x"],
-            b"\xc3\xa9",
-            b"\x78\xa9",
-        ),
-        ("no patterns and no texts", &[], &[], b"abc", b"abc"),
-    ];
-    for (name, patterns, texts, haystack, wanted) in rows {
-        println!(rt; "replaced: {name}")?;
-        assert!(rt; patterns.len() <= 100 && patterns.len() <= texts.len());
-        let query = Query::new(patterns, false, haystack, No, whole(haystack));
-        let bytes = replace_walk(rt.alloc(), LeftmostFirst, &query, texts)?;
-        assert_eq!(rt; bytes.as_slice(), wanted, "{name}");
-    }
+    let alloc = rt.alloc();
+    let texts: [&[u8]; 3] = [b"x", b"y", b"z"];
+    let wanted = b"x the z to the xage";
+    assert!(rt; exchanges(alloc, APPENDS, &texts, SENTENCE, wanted)?);
+    let half = b"\x78\xa9";
+    assert!(rt; exchanges(alloc, &[b"\xc3"], &[b"x"], b"\xc3\xa9", half)?);
+    assert!(rt; exchanges(alloc, &[], &[], b"abc", b"abc")?);
     Ok(())
 }

@@ -1,7 +1,7 @@
-use super::{GREATEST, PatternID, Plain, SmallIndex, StateID, TooLarge};
+use super::{PatternID, Plain, SmallIndex, StateID, TooLarge};
 use std::cmp::Ordering;
+use std::cmp::Ordering::{Equal, Greater, Less};
 use std::hash::{DefaultHasher, Hash, Hasher};
-use std::test::Fail;
 
 /// Returns what a hasher makes of a value.
 fn hash_of<T: Hash>(value: &T) -> u64 {
@@ -10,52 +10,38 @@ fn hash_of<T: Hash>(value: &T) -> u64 {
     hasher.finish()
 }
 
+/// Returns the order of two numbers, the same by `partial_cmp`, and whether they and their hashes are equal.
+fn compared(left: StateID, right: StateID) -> (Ordering, Option<Ordering>, bool, bool) {
+    (
+        left.cmp(&right),
+        left.partial_cmp(&right),
+        left == right,
+        hash_of(&left) == hash_of(&right),
+    )
+}
+
 #[test]
-fn numbers_end_at_the_greatest(rt: HostRuntime) -> Result<(), Fail> {
-    let limits = [
-        ("patterns", PatternID::MAX, PatternID::LIMIT),
-        ("states", StateID::MAX, StateID::LIMIT),
-        (
-            "plain",
-            SmallIndex::<Plain>::MAX,
-            SmallIndex::<Plain>::LIMIT,
-        ),
+fn numbers_end_at_the_greatest(rt: HostRuntime) {
+    let greatest = [PatternID::MAX, StateID::MAX, SmallIndex::<Plain>::MAX];
+    assert_eq!(rt; greatest, [2147483646; 3]);
+    let limits = [PatternID::LIMIT, StateID::LIMIT, SmallIndex::<Plain>::LIMIT];
+    assert_eq!(rt; limits, [2147483647; 3]);
+    let made = [
+        StateID::new(2147483646),
+        StateID::new(2147483647),
+        StateID::new(usize::MAX),
     ];
-    for (name, max, limit) in limits {
-        assert_eq!(rt; (max, limit), (2147483646, 2147483647), "{name}");
-    }
-    let rows: [(&str, usize, bool); 6] = [
-        ("the first", 0, true),
-        ("the second", 1, true),
-        ("one before the greatest", 2147483645, true),
-        ("the greatest", 2147483646, true),
-        ("one past the greatest", 2147483647, false),
-        ("the greatest of its type", usize::MAX, false),
+    let wanted = [
+        Ok(StateID::must(2147483646)),
+        Err(TooLarge {
+            attempted: 2147483647,
+        }),
+        Err(TooLarge {
+            attempted: usize::MAX,
+        }),
     ];
-    for (name, number, small) in rows {
-        println!(rt; "number: {name}")?;
-        let wanted = if small {
-            Ok(number)
-        } else {
-            Err(TooLarge { attempted: number })
-        };
-        let plain: Result<SmallIndex, TooLarge> = SmallIndex::new(number);
-        assert_eq!(rt; plain.map(|i| i.as_usize()), wanted, "{name}");
-        assert_eq!(rt;
-            PatternID::new(number).map(|i| i.as_usize()),
-            wanted,
-            "{name}"
-        );
-        assert_eq!(rt;
-            StateID::new(number).map(|i| i.as_usize()),
-            wanted,
-            "{name}"
-        );
-        if number <= GREATEST {
-            assert_eq!(rt; PatternID::must(number).as_usize(), number, "{name}");
-        }
-    }
-    Ok(())
+    assert_eq!(rt; made, wanted);
+    assert_eq!(rt; PatternID::must(2147483646).as_usize(), 2147483646);
 }
 
 #[test]
@@ -67,22 +53,17 @@ fn numbers_are_0_by_default(rt: HostRuntime) {
 }
 
 #[test]
-fn numbers_are_in_order(rt: HostRuntime) -> Result<(), Fail> {
-    let rows: [(&str, usize, usize, Ordering); 5] = [
-        ("one number twice", 7, 7, Ordering::Equal),
-        ("0 twice", 0, 0, Ordering::Equal),
-        ("a less one", 7, 8, Ordering::Less),
-        ("a greater one", 2147483646, 0, Ordering::Greater),
-        ("more in the low byte alone", 255, 256, Ordering::Less),
-    ];
-    for (name, left, right, wanted) in rows {
-        println!(rt; "order: {name}")?;
-        let (left, right) = (StateID::new(left)?, StateID::new(right)?);
-        assert_eq!(rt; left.cmp(&right), wanted, "{name}");
-        assert_eq!(rt; left.partial_cmp(&right), Some(wanted), "{name}");
-        assert_eq!(rt; left == right, wanted == Ordering::Equal, "{name}");
-        assert_eq!(rt; left < right, wanted == Ordering::Less, "{name}");
-        assert_eq!(rt; hash_of(&left) == hash_of(&right), left == right, "{name}");
-    }
-    Ok(())
+fn numbers_are_in_order(rt: HostRuntime) {
+    let (low, next, greatest) = (
+        StateID::must(255),
+        StateID::must(256),
+        StateID::must(2147483646),
+    );
+    assert_eq!(rt; compared(low, low), (Equal, Some(Equal), true, true));
+    assert_eq!(rt; compared(low, next), (Less, Some(Less), false, false));
+    assert_eq!(rt;
+        compared(greatest, low),
+        (Greater, Some(Greater), false, false)
+    );
+    assert!(rt; low < next);
 }

@@ -1,7 +1,6 @@
 use super::{Anchored, Match, MatchKind, Span, StartKind};
 use crate::primitives::PatternID;
 use std::hash::{DefaultHasher, Hash, Hasher};
-use std::test::Fail;
 
 /// Returns what a hasher makes of a value.
 fn hash_of<T: Hash>(value: &T) -> u64 {
@@ -10,71 +9,48 @@ fn hash_of<T: Hash>(value: &T) -> u64 {
     hasher.finish()
 }
 
-#[test]
-fn spans(rt: HostRuntime) -> Result<(), Fail> {
-    let rows: [(&str, usize, usize, usize, bool); 5] = [
-        ("at the front", 0, 3, 3, false),
-        ("further on", 2, 3, 1, false),
-        ("nothing at the front", 0, 0, 0, true),
-        ("nothing further on", 5, 5, 0, true),
-        ("backward", 5, 2, 0, true),
-    ];
-    for (name, start, end, len, empty) in rows {
-        println!(rt; "span: {name}")?;
-        let span = Span { start, end };
-        assert_eq!(rt; span.range(), start..end, "{name}");
-        assert_eq!(rt; span.len(), len, "{name}");
-        assert_eq!(rt; span.is_empty(), empty, "{name}");
-    }
-    Ok(())
+/// Returns whether two matches are equal, whether their hashes are, and whether the hashes of their spans are.
+fn alike(left: Match, right: Match) -> (bool, bool, bool) {
+    (
+        left == right,
+        hash_of(&left) == hash_of(&right),
+        hash_of(&left.span()) == hash_of(&right.span()),
+    )
 }
 
 #[test]
-fn matches(rt: HostRuntime) -> Result<(), Fail> {
-    let rows: [(&str, usize, usize, usize, usize); 4] = [
-        ("at the front", 0, 0, 3, 3),
-        ("further on", 4, 2, 3, 1),
-        ("an empty one", 1, 5, 5, 0),
-        ("of the greatest number", 2147483646, 1, 9, 8),
-    ];
-    for (name, pattern, start, end, len) in rows {
-        println!(rt; "match: {name}")?;
-        let number = PatternID::new(pattern)?;
-        assert!(rt; start <= end);
-        let found = Match::new(number, Span { start, end });
-        assert_eq!(rt; found, Match::must(number.as_usize(), start..end), "{name}");
-        assert_eq!(rt; found.pattern().as_usize(), pattern, "{name}");
-        assert_eq!(rt; found.start(), start, "{name}");
-        assert_eq!(rt; found.end(), end, "{name}");
-        assert_eq!(rt; found.range(), start..end, "{name}");
-        assert_eq!(rt; found.span(), Span { start, end }, "{name}");
-        assert_eq!(rt; found.len(), len, "{name}");
-        assert_eq!(rt; found.is_empty(), len == 0, "{name}");
-    }
-    Ok(())
+fn spans(rt: HostRuntime) {
+    let span = Span { start: 2, end: 3 };
+    let empty = Span { start: 5, end: 5 };
+    let backward = Span { start: 5, end: 2 };
+    assert_eq!(rt; span.range(), 2..3);
+    assert_eq!(rt; [span.len(), empty.len(), backward.len()], [1, 0, 0]);
+    let empties = [span.is_empty(), empty.is_empty(), backward.is_empty()];
+    assert_eq!(rt; empties, [false, true, true]);
 }
 
 #[test]
-fn matches_compare_by_their_parts(rt: HostRuntime) -> Result<(), Fail> {
+fn matches(rt: HostRuntime) {
+    let span = Span { start: 1, end: 9 };
+    let found = Match::new(PatternID::must(2147483646), span);
+    let empty = Match::must(1, 5..5);
+    assert_eq!(rt; found, Match::must(2147483646, 1..9));
+    assert_eq!(rt; found.pattern().as_usize(), 2147483646);
+    assert_eq!(rt;
+        [found.start(), found.end(), found.len(), empty.len()],
+        [1, 9, 8, 0]
+    );
+    assert_eq!(rt; (found.span(), found.range()), (span, 1..9));
+    assert_eq!(rt; [found.is_empty(), empty.is_empty()], [false, true]);
+}
+
+#[test]
+fn matches_compare_by_their_parts(rt: HostRuntime) {
     let found = Match::must(1, 2..4);
-    let rows = [
-        ("the same", Match::must(1, 2..4), true),
-        ("of another pattern", Match::must(0, 2..4), false),
-        ("another start", Match::must(1, 3..4), false),
-        ("another end", Match::must(1, 2..5), false),
-    ];
-    for (name, other, wanted) in rows {
-        println!(rt; "beside: {name}")?;
-        assert_eq!(rt; found == other, wanted, "{name}");
-        assert_eq!(rt; hash_of(&found) == hash_of(&other), wanted, "{name}");
-        let (span, beside) = (found.span(), other.span());
-        assert_eq!(rt;
-            hash_of(&span) == hash_of(&beside),
-            span == beside,
-            "{name}"
-        );
-    }
-    Ok(())
+    assert_eq!(rt; alike(found, Match::must(1, 2..4)), (true, true, true));
+    assert_eq!(rt; alike(found, Match::must(0, 2..4)), (false, false, true));
+    assert_eq!(rt; alike(found, Match::must(1, 3..4)), (false, false, false));
+    assert_eq!(rt; alike(found, Match::must(1, 2..5)), (false, false, false));
 }
 
 #[test]

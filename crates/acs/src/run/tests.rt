@@ -390,7 +390,6 @@ fn with_engine<'w>(
 fn lines_are_written(rt: HostRuntime) -> Result<(), Fail> {
     for &(name, words, input, wanted, ending) in RUNS {
         for engine in ["noncontiguous", "contiguous", "dfa", "auto"] {
-            println!(rt; "run: {name}, by {engine}")?;
             let words = with_engine(rt.alloc(), words, engine)?;
             let mut reader = Bytes::new(input.as_bytes());
             let mut writer = Written::new(rt.alloc());
@@ -441,7 +440,6 @@ const TOLD: &[(&[&str], &[u8], &[u8], u8)] = &[
 #[test]
 fn faults_are_told_beside_the_lines(rt: HostRuntime) -> Result<(), Fail> {
     for &(words, wanted, line, number) in TOLD {
-        println!(rt; "status {number} for {} words", words.len())?;
         let mut reader = Bytes::new(INPUT);
         let mut writer = Written::new(rt.alloc());
         let mut errors = Written::new(rt.alloc());
@@ -477,7 +475,6 @@ fn a_fault_that_cannot_be_told_has_its_status(rt: HostRuntime) -> Result<(), Fai
 fn a_failed_read_is_told(rt: HostRuntime) -> Result<(), Fail> {
     for &(words, _) in WRITTEN {
         for k in 0..INPUT.len() + 1 {
-            println!(rt; "{}: a read fails behind {k} bytes", words[0])?;
             let mut reader = FromRead::new(Drops {
                 left: &INPUT[..k],
                 fails: true,
@@ -511,7 +508,6 @@ fn a_read_of_nothing_is_the_end(rt: HostRuntime) -> Result<(), Fail> {
 #[test]
 fn overlap_by_a_leftmost_kind_reads_and_writes_nothing(rt: HostRuntime) -> Result<(), Fail> {
     for kind in ["first", "longest"] {
-        println!(rt; "overlap by {kind}")?;
         let mut left = Vec::new(rt.alloc());
         left.extend_from_slice(INPUT)?;
         let mut reader = FromRead::new(Pauses {
@@ -535,7 +531,6 @@ fn a_failed_write_is_told(rt: HostRuntime) -> Result<(), Fail> {
     for &(words, wanted) in WRITTEN {
         for room in 0..wanted.len() {
             for (fails, fault) in [(true, Fault::Io), (false, Fault::WriteZero)] {
-                println!(rt; "{}: {fault:?} behind {room} bytes", words[0])?;
                 let mut held = Vec::new(rt.alloc());
                 let mut reader = Bytes::new(INPUT);
                 let mut writer = IntoWrite::new(Narrow {
@@ -556,7 +551,6 @@ fn a_failed_write_is_told(rt: HostRuntime) -> Result<(), Fail> {
 #[test]
 fn short_reads_and_writes_change_nothing(rt: HostRuntime) -> Result<(), Fail> {
     for &(words, wanted) in WRITTEN {
-        println!(rt; "{}", words[0])?;
         let mut held = Vec::new(rt.alloc());
         let mut reader = FromRead::new(Drops {
             left: INPUT,

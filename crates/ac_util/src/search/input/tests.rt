@@ -1,14 +1,21 @@
 use super::super::{Anchored, Span};
 use super::Input;
-use std::test::Fail;
+use std::ops::Range;
+
+/// Returns the options of an input and its span.
+fn options(input: &Input) -> (Anchored, bool, Range<usize>) {
+    (
+        input.get_anchored(),
+        input.get_earliest(),
+        input.get_range(),
+    )
+}
 
 #[test]
 fn an_input_begins_whole(rt: HostRuntime) {
     let whole = Input::new(b"foobar");
     assert_eq!(rt; whole.haystack(), b"foobar".as_slice());
-    assert_eq!(rt; whole.get_range(), 0..6);
-    assert_eq!(rt; whole.get_anchored(), Anchored::No);
-    assert!(rt; !whole.get_earliest());
+    assert_eq!(rt; options(&whole), (Anchored::No, false, 0..6));
     assert!(rt; !whole.is_done());
     let nothing = Input::new(b"");
     assert_eq!(rt; nothing.get_range(), 0..0);
@@ -19,70 +26,50 @@ fn an_input_begins_whole(rt: HostRuntime) {
 }
 
 #[test]
-fn spans_are_as_set(rt: HostRuntime) -> Result<(), Fail> {
-    let rows: [(&str, usize, usize, bool); 8] = [
-        ("all", 0, 6, false),
-        ("the rest", 3, 6, false),
-        ("the first byte", 0, 1, false),
-        ("nothing at the front", 0, 0, false),
-        ("nothing in between", 3, 3, false),
-        ("nothing at the end", 6, 6, false),
-        ("one past its end", 4, 3, true),
-        ("one past the haystack", 7, 6, true),
+fn spans_are_as_set(rt: HostRuntime) {
+    let whole = Input::new(b"foobar");
+    let (mut spanned, mut ranged, mut by_ends) = (whole, whole, whole);
+    let span = Span { start: 3, end: 4 };
+    spanned.set_span(span);
+    ranged.set_range(3..4);
+    by_ends.set_end(4);
+    by_ends.set_start(3);
+    let spans = [
+        spanned.get_span(),
+        ranged.get_span(),
+        by_ends.get_span(),
+        whole.span(span).get_span(),
+        whole.range(3..4).get_span(),
     ];
-    for (name, start, end, done) in rows {
-        println!(rt; "span: {name}")?;
-        assert!(rt; end <= 6 && start <= end + 1);
-        let whole = Input::new(b"foobar");
-        let (mut spanned, mut ranged, mut by_ends) = (whole, whole, whole);
-        spanned.set_span(Span { start, end });
-        ranged.set_range(start..end);
-        by_ends.set_end(end);
-        by_ends.set_start(start);
-        let inputs = [
-            spanned,
-            ranged,
-            by_ends,
-            whole.span(Span { start, end }),
-            whole.range(start..end),
-        ];
-        for input in inputs {
-            assert_eq!(rt; input.get_span(), Span { start, end }, "{name}");
-            assert_eq!(rt; input.get_range(), start..end, "{name}");
-            assert_eq!(rt; (input.start(), input.end()), (start, end), "{name}");
-            assert_eq!(rt; input.is_done(), done, "{name}");
-            assert_eq!(rt; input.haystack(), b"foobar".as_slice(), "{name}");
-        }
-    }
-    Ok(())
+    assert_eq!(rt; spans, [span; 5]);
+    assert_eq!(rt; (ranged.start(), ranged.end()), (3, 4));
+    assert_eq!(rt; ranged.haystack(), b"foobar".as_slice());
 }
 
 #[test]
-fn options_are_as_set(rt: HostRuntime) -> Result<(), Fail> {
-    let rows = [
-        ("neither", Anchored::No, false),
-        ("earliest", Anchored::No, true),
-        ("anchored", Anchored::Yes, false),
-        ("both", Anchored::Yes, true),
+fn a_span_past_its_end_is_done(rt: HostRuntime) {
+    let whole = Input::new(b"foobar");
+    let past = [
+        whole.range(3..6).is_done(),
+        whole.range(6..6).is_done(),
+        whole.range(4..3).is_done(),
+        whole.range(7..6).is_done(),
     ];
-    for (name, anchored, earliest) in rows {
-        println!(rt; "options: {name}")?;
-        let mut set = Input::new(b"foobar");
-        set.set_anchored(anchored);
-        set.set_earliest(earliest);
-        set.set_range(3..6);
-        let built = Input::new(b"foobar")
-            .anchored(anchored)
-            .earliest(earliest)
-            .range(3..6);
-        for input in [set, built] {
-            assert_eq!(rt; input.get_anchored(), anchored, "{name}");
-            assert_eq!(rt; input.get_earliest(), earliest, "{name}");
-            assert_eq!(rt; input.get_range(), 3..6, "{name}");
-        }
-        let undone = built.anchored(Anchored::No).earliest(false);
-        assert_eq!(rt; undone.get_anchored(), Anchored::No, "{name}");
-        assert!(rt; !undone.get_earliest(), "{name}");
-    }
-    Ok(())
+    assert_eq!(rt; past, [false, false, true, true]);
+}
+
+#[test]
+fn options_are_as_set(rt: HostRuntime) {
+    let mut set = Input::new(b"foobar");
+    set.set_range(3..6);
+    set.set_anchored(Anchored::Yes);
+    assert_eq!(rt; options(&set), (Anchored::Yes, false, 3..6));
+    set.set_earliest(true);
+    assert_eq!(rt; options(&set), (Anchored::Yes, true, 3..6));
+    let early = Input::new(b"foobar").range(3..6).earliest(true);
+    assert_eq!(rt; options(&early), (Anchored::No, true, 3..6));
+    let built = early.anchored(Anchored::Yes);
+    assert_eq!(rt; options(&built), (Anchored::Yes, true, 3..6));
+    let undone = built.anchored(Anchored::No).earliest(false);
+    assert_eq!(rt; options(&undone), (Anchored::No, false, 3..6));
 }
