@@ -12,13 +12,13 @@ use crate::{
 };
 use engines::KINDS;
 use std::alloc::{AllocError, Global};
+use std::fmt::Debug;
+use std::process::Abort;
 use std::test::Fail;
 
 mod alone;
 mod engines;
-mod large;
 mod replace;
-mod small;
 
 /// A pattern number, a start and an end.
 type Told = (usize, usize, usize);
@@ -124,6 +124,16 @@ const OVERLAPPING_REFUSALS: &[Refusals] = &[
         }),
     ),
 ];
+
+/// Ends the test where what was found is not what was wanted. It is proved once, and `assert_eq!` where it stands.
+fn same<T: PartialEq + Debug + Drop>(rt: &impl Abort, found: T, wanted: T) {
+    assert_eq!(rt; found, wanted);
+}
+
+/// The same, and tells what the search was made by.
+fn same_by<T: PartialEq + Debug + Drop, B: Debug>(rt: &impl Abort, found: T, wanted: T, by: &B) {
+    assert_eq!(rt; found, wanted, "{by:?}");
+}
 
 /// Returns what a row says of a match.
 fn told(m: &Match) -> Told {
@@ -234,16 +244,16 @@ fn a_new_searcher_finds(rt: HostRuntime) -> Result<(), Fail> {
     let searcher = AhoCorasick::new(rt.alloc(), &[b"apple", b"maple", b"Snapple"])?;
     let haystack = b"Nobody likes maple in their apple flavored Snapple.";
     let found = searcher.find(Input::new(haystack)).map(|m| told(&m));
-    assert_eq!(rt; found, Some((1, 13, 18)));
+    same(&rt, found, Some((1, 13, 18)));
     assert!(rt; searcher.is_match(Input::new(haystack)));
     assert!(rt; !searcher.is_match(Input::new(b"Nobody")));
-    assert_eq!(rt; searcher.find(Input::new(b"Nobody")), None);
+    same(&rt, searcher.find(Input::new(b"Nobody")), None);
     let mut walked = Vec::new(rt.alloc());
     for found in searcher.find_iter(Input::new(haystack)) {
         walked.push(told(&found))?;
     }
     let wanted = [(1, 13, 18), (0, 28, 33), (2, 43, 50)];
-    assert_eq!(rt; walked.as_slice(), wanted.as_slice());
+    same(&rt, walked.as_slice(), wanted.as_slice());
     Ok(())
 }
 
@@ -253,11 +263,15 @@ fn matches_can_be_used_as_indices(rt: HostRuntime) -> Result<(), Fail> {
     let haystack = b"Nobody likes maple in their apple flavored Snapple.";
     let slices = slices_of(rt.alloc(), &searcher, haystack)?;
     let wanted: [&[u8]; 3] = [b"maple", b"apple", b"Snapple"];
-    assert_eq!(rt; slices.as_slice(), wanted.as_slice());
+    same(&rt, slices.as_slice(), wanted.as_slice());
     let names = names_of(rt.alloc(), &searcher, &["fruit", "tree", "drink"], haystack)?;
-    assert_eq!(rt; names.as_slice(), ["tree", "fruit", "drink"].as_slice());
-    assert_eq!(rt; count_of(&searcher, haystack), 3);
-    assert_eq!(rt; first_slice(&searcher, haystack), Some(b"maple".as_slice()));
+    same(&rt, names.as_slice(), ["tree", "fruit", "drink"].as_slice());
+    same(&rt, count_of(&searcher, haystack), 3);
+    same(
+        &rt,
+        first_slice(&searcher, haystack),
+        Some(b"maple".as_slice()),
+    );
     Ok(())
 }
 
@@ -265,25 +279,25 @@ fn matches_can_be_used_as_indices(rt: HostRuntime) -> Result<(), Fail> {
 fn matches_of_texts_cut_no_character(rt: HostRuntime) -> Result<(), Fail> {
     let searcher = AhoCorasick::new(rt.alloc(), &["é".as_bytes(), "a".as_bytes()])?;
     let parts = parts_of(rt.alloc(), &searcher, "aêéa")?;
-    assert_eq!(rt; parts.as_slice(), ["a", "é", "a"].as_slice());
+    same(&rt, parts.as_slice(), ["a", "é", "a"].as_slice());
     Ok(())
 }
 
 #[test]
 fn a_new_searcher_tells_its_settings(rt: HostRuntime) -> Result<(), Fail> {
     let searcher = AhoCorasick::new(rt.alloc(), &[b"he", b"she", b"hers"])?;
-    assert_eq!(rt; searcher.kind(), AhoCorasickKind::DFA);
-    assert_eq!(rt; searcher.start_kind(), StartKind::Unanchored);
-    assert_eq!(rt; searcher.match_kind(), Standard);
-    assert_eq!(rt; searcher.min_pattern_len(), 2);
-    assert_eq!(rt; searcher.max_pattern_len(), 4);
-    assert_eq!(rt; searcher.patterns_len(), 3);
+    same(&rt, searcher.kind(), AhoCorasickKind::DFA);
+    same(&rt, searcher.start_kind(), StartKind::Unanchored);
+    same(&rt, searcher.match_kind(), Standard);
+    same(&rt, searcher.min_pattern_len(), 2);
+    same(&rt, searcher.max_pattern_len(), 4);
+    same(&rt, searcher.patterns_len(), 3);
     assert!(rt; searcher.memory_usage() > 0);
     let empty = AhoCorasick::new(rt.alloc(), &[])?;
-    assert_eq!(rt; empty.min_pattern_len(), usize::MAX);
-    assert_eq!(rt; empty.max_pattern_len(), 0);
-    assert_eq!(rt; empty.patterns_len(), 0);
-    assert_eq!(rt; empty.try_find(Input::new(b"ushers"))?, None);
+    same(&rt, empty.min_pattern_len(), usize::MAX);
+    same(&rt, empty.max_pattern_len(), 0);
+    same(&rt, empty.patterns_len(), 0);
+    same(&rt, empty.try_find(Input::new(b"ushers"))?, None);
     Ok(())
 }
 
@@ -293,21 +307,21 @@ fn each_setting_counts(rt: HostRuntime) -> Result<(), Fail> {
     let mut builder = AhoCorasick::builder();
     let usual = builder.build(rt.alloc(), &patterns)?;
     let walked = walk_of(rt, &usual, Input::new(b"appendage APP"))?;
-    assert_eq!(rt; walked.as_slice(), [(2, 0, 3)].as_slice());
+    same(&rt, walked.as_slice(), [(2, 0, 3)].as_slice());
     builder.match_kind(LeftmostFirst);
     let first = builder.build(rt.alloc(), &patterns)?;
-    assert_eq!(rt; first.match_kind(), LeftmostFirst);
+    same(&rt, first.match_kind(), LeftmostFirst);
     let walked = walk_of(rt, &first, Input::new(b"appendage APP"))?;
-    assert_eq!(rt; walked.as_slice(), [(0, 0, 6)].as_slice());
+    same(&rt, walked.as_slice(), [(0, 0, 6)].as_slice());
     builder.ascii_case_insensitive(true);
     builder.kind(Some(AhoCorasickKind::NoncontiguousNFA));
     builder.start_kind(StartKind::Both);
     let all = builder.build(rt.alloc(), &patterns)?;
-    assert_eq!(rt; all.match_kind(), LeftmostFirst);
-    assert_eq!(rt; all.start_kind(), StartKind::Both);
-    assert_eq!(rt; all.kind(), AhoCorasickKind::NoncontiguousNFA);
+    same(&rt, all.match_kind(), LeftmostFirst);
+    same(&rt, all.start_kind(), StartKind::Both);
+    same(&rt, all.kind(), AhoCorasickKind::NoncontiguousNFA);
     let walked = walk_of(rt, &all, Input::new(b"appendage APP"))?;
-    assert_eq!(rt; walked.as_slice(), [(0, 0, 6), (2, 10, 13)].as_slice());
+    same(&rt, walked.as_slice(), [(0, 0, 6), (2, 10, 13)].as_slice());
     Ok(())
 }
 
@@ -323,14 +337,14 @@ fn a_clone_answers_equally(rt: HostRuntime) -> Result<(), Fail> {
     let clone = searcher.clone()?;
     let walked = walk_of(rt, &searcher, Input::new(b"usHERS he"))?;
     let wanted = [(1, 1, 4), (0, 7, 9)];
-    assert_eq!(rt; walked.as_slice(), wanted.as_slice());
+    same(&rt, walked.as_slice(), wanted.as_slice());
     drop(searcher);
     let walked = walk_of(rt, &clone, Input::new(b"usHERS he"))?;
-    assert_eq!(rt; walked.as_slice(), wanted.as_slice());
-    assert_eq!(rt; clone.kind(), AhoCorasickKind::ContiguousNFA);
-    assert_eq!(rt; clone.match_kind(), LeftmostLongest);
-    assert_eq!(rt; clone.start_kind(), StartKind::Both);
-    assert_eq!(rt; clone.patterns_len(), 3);
+    same(&rt, walked.as_slice(), wanted.as_slice());
+    same(&rt, clone.kind(), AhoCorasickKind::ContiguousNFA);
+    same(&rt, clone.match_kind(), LeftmostLongest);
+    same(&rt, clone.start_kind(), StartKind::Both);
+    same(&rt, clone.patterns_len(), 3);
     Ok(())
 }
 
@@ -343,12 +357,12 @@ fn a_refused_build_is_told(rt: HostRuntime) -> Result<(), Fail> {
         let searcher = match builder.build(rt.alloc(), &[b"he", b"she"]) {
             Ok(searcher) => searcher,
             Err(refused) => {
-                assert_eq!(rt; refused, BuildError::Memory, "{kind:?}");
+                same_by(&rt, refused, BuildError::Memory, &kind);
                 builder.build(rt.alloc(), &[b"he", b"she"])?
             }
         };
         let found = searcher.try_find(Input::new(b"ushers"))?;
-        assert_eq!(rt; found.map(|m| told(&m)), Some((1, 1, 4)), "{kind:?}");
+        same_by(&rt, found.map(|m| told(&m)), Some((1, 1, 4)), &kind);
     }
     Ok(())
 }
@@ -359,8 +373,8 @@ fn all_occurrences_are_listed(rt: HostRuntime) -> Result<(), Fail> {
     let found = all_by_state(rt.alloc(), &searcher, b"ushers")?;
     let listed: Vec<Told> = found.iter().map(told).collect(rt.alloc())?;
     let wanted = [(1, 1, 4), (0, 2, 4), (3, 2, 6)];
-    assert_eq!(rt; listed.as_slice(), wanted.as_slice());
+    same(&rt, listed.as_slice(), wanted.as_slice());
     let items = searcher.find_overlapping_iter(Input::new(b"ushers"));
-    assert_eq!(rt; items.count(), 3);
+    same(&rt, items.count(), 3);
     Ok(())
 }

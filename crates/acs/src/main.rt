@@ -13,6 +13,8 @@ mod laws;
 mod output;
 mod request;
 mod run;
+#[cfg(test)]
+mod tests;
 
 fn main(rt: HostRuntime) -> ExitCode {
     let mut errors = IntoWrite::new(rt.stderr().lock());

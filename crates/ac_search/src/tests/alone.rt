@@ -2,7 +2,7 @@
 ghost use Rattle.std.specs.Prelude.{IfOk};
 ghost use Rattle.ac_automaton.specs.Automata.{IsState};
 
-use super::{Told, told};
+use super::{Told, same, told};
 use crate::Anchored::{No, Yes};
 use crate::MatchKind::{LeftmostFirst, LeftmostLongest, Standard};
 use crate::nfa::contiguous::{Format, check_words, format_of, state_words};
@@ -187,9 +187,10 @@ fn a_trie_gives_its_kind_and_case(rt: HostRuntime) -> Result<(), Fail> {
         .ascii_case_insensitive(false);
     let packed = builder.clone().build_from_noncontiguous(rt.alloc(), &trie)?;
     let found = packed.try_find(Input::new(b"abcd"))?.map(|m| told(&m));
-    assert_eq!(rt;
+    same(
+        &rt,
         (packed.match_kind(), found),
-        (LeftmostFirst, Some((1, 0, 3)))
+        (LeftmostFirst, Some((1, 0, 3))),
     );
     let mut builder = dfa::Builder::new();
     builder
@@ -197,9 +198,10 @@ fn a_trie_gives_its_kind_and_case(rt: HostRuntime) -> Result<(), Fail> {
         .ascii_case_insensitive(false);
     let table = builder.clone().build_from_noncontiguous(rt.alloc(), &trie)?;
     let found = table.try_find(Input::new(b"abcd"))?.map(|m| told(&m));
-    assert_eq!(rt;
+    same(
+        &rt,
         (table.match_kind(), found),
-        (LeftmostFirst, Some((1, 0, 3)))
+        (LeftmostFirst, Some((1, 0, 3))),
     );
     Ok(())
 }
@@ -259,51 +261,53 @@ fn each_engine_has_the_same_states(rt: HostRuntime) -> Result<(), Fail> {
 fn a_trie_is_read(rt: HostRuntime) -> Result<(), Fail> {
     let trie = noncontiguous::NFA::new(rt.alloc(), &[b"abc", b"bd"])?;
     assert!(rt; trie.states_len() == 9);
-    assert_eq!(rt;
+    same(
+        &rt,
         (trie.fold(), trie.filters(), trie.patterns().len()),
-        (false, true, 2)
+        (false, true, 2),
     );
     let start = trie.start_state(No)?;
     assert!(rt; trie.own_len(start) == 2);
     let (first, a) = trie.own(start, 0);
     let (second, b) = trie.own(start, 1);
-    assert_eq!(rt; (first, second), (b'a', b'b'));
+    same(&rt, (first, second), (b'a', b'b'));
     assert!(rt; FIRST_INNER <= a.as_usize() && a.as_usize() < 9);
     assert!(rt; FIRST_INNER <= b.as_usize() && b.as_usize() < 9);
-    assert_eq!(rt;
+    same(
+        &rt,
         (trie.depth(start), trie.depth(a), trie.own_len(b)),
-        (0, 1, 1)
+        (0, 1, 1),
     );
-    assert_eq!(rt; (trie.fail(a), trie.fail(b)), (start, start));
+    same(&rt, (trie.fail(a), trie.fail(b)), (start, start));
     Ok(())
 }
 
 #[test]
 fn sizes_have_limits(rt: HostRuntime) {
-    assert_eq!(rt; dfa::table_len(9, 3), Ok(72));
-    assert_eq!(rt; dfa::table_len(8388608, 8), Ok(2147483648));
+    same(&rt, dfa::table_len(9, 3), Ok(72));
+    same(&rt, dfa::table_len(8388608, 8), Ok(2147483648));
     let refused = BuildError::StateIdOverflow {
         max: 2147483646,
         requested: 2147483648,
     };
-    assert_eq!(rt; dfa::table_len(8388609, 8), Err(refused));
-    assert_eq!(rt; check_words(2147483646), Ok(2147483646));
+    same(&rt, dfa::table_len(8388609, 8), Err(refused));
+    same(&rt, check_words(2147483646), Ok(2147483646));
     let refused = BuildError::StateIdOverflow {
         max: 2147483646,
         requested: 2147483647,
     };
-    assert_eq!(rt; check_words(2147483647), Err(refused));
+    same(&rt, check_words(2147483647), Err(refused));
 }
 
 #[test]
 fn states_have_forms(rt: HostRuntime) {
-    assert_eq!(rt; format_of(2, 2, 127, 0), Format::Sparse);
-    assert_eq!(rt; format_of(2, 2, 128, 0), Format::Dense);
-    assert_eq!(rt; format_of(1, 2, 1, 0), Format::Dense);
-    assert_eq!(rt; format_of(2, 2, 1, 0), Format::One);
-    assert_eq!(rt; format_of(2, 2, 1, 1), Format::Sparse);
-    assert_eq!(rt; state_words(Format::Sparse, 131, 127, 0), 161);
-    assert_eq!(rt; state_words(Format::Dense, 131, 128, 0), 133);
-    assert_eq!(rt; state_words(Format::One, 256, 1, 0), 3);
-    assert_eq!(rt; state_words(Format::Sparse, 6, 0, 3), 6);
+    same(&rt, format_of(2, 2, 127, 0), Format::Sparse);
+    same(&rt, format_of(2, 2, 128, 0), Format::Dense);
+    same(&rt, format_of(1, 2, 1, 0), Format::Dense);
+    same(&rt, format_of(2, 2, 1, 0), Format::One);
+    same(&rt, format_of(2, 2, 1, 1), Format::Sparse);
+    same(&rt, state_words(Format::Sparse, 131, 127, 0), 161);
+    same(&rt, state_words(Format::Dense, 131, 128, 0), 133);
+    same(&rt, state_words(Format::One, 256, 1, 0), 3);
+    same(&rt, state_words(Format::Sparse, 6, 0, 3), 6);
 }

@@ -1,5 +1,5 @@
 use super::replace::{IN_BYTES, IN_TEXT, push_number};
-use super::{LISTINGS, OVERLAPPING_REFUSALS, STARTS, Told, told, walk_of};
+use super::{LISTINGS, OVERLAPPING_REFUSALS, STARTS, Told, same, same_by, told, walk_of};
 use crate::MatchKind::{LeftmostFirst, LeftmostLongest, Standard};
 use crate::{
     AhoCorasick, AhoCorasickBuilder, AhoCorasickKind, Anchored, Input, MatchError, MatchKind,
@@ -52,7 +52,7 @@ fn engines(alloc: Global) -> Result<Vec<Engine>, AllocError> {
     Ok(engines)
 }
 
-pub(super) const EACH: &[MatchKind] = &[Standard, LeftmostFirst, LeftmostLongest];
+const EACH: &[MatchKind] = &[Standard, LeftmostFirst, LeftmostLongest];
 
 /// What the walk of a haystack gives under each of some match kinds.
 struct Row {
@@ -251,8 +251,8 @@ fn each_engine_walks_alike(rt: HostRuntime) -> Result<(), Fail> {
                 for &kind in row.kinds {
                     let builder = builder_of(engine, kind, start_kind);
                     let answers = answers_of(rt, &builder, row, Anchored::No)?;
-                    assert_eq!(rt; answers.walk.as_slice(), row.walk, "{builder:?}");
-                    assert_eq!(rt; answers.find, row.walk.first().copied(), "{builder:?}");
+                    same_by(&rt, answers.walk.as_slice(), row.walk, &builder);
+                    same_by(&rt, answers.find, row.walk.first().copied(), &builder);
                 }
             }
         }
@@ -268,8 +268,8 @@ fn each_engine_walks_alike_from_its_start(rt: HostRuntime) -> Result<(), Fail> {
                 for &kind in row.kinds {
                     let builder = builder_of(engine, kind, start_kind);
                     let answers = answers_of(rt, &builder, row, Anchored::Yes)?;
-                    assert_eq!(rt; answers.walk.as_slice(), row.walk, "{builder:?}");
-                    assert_eq!(rt; answers.find, row.walk.first().copied(), "{builder:?}");
+                    same_by(&rt, answers.walk.as_slice(), row.walk, &builder);
+                    same_by(&rt, answers.find, row.walk.first().copied(), &builder);
                 }
             }
         }
@@ -285,10 +285,10 @@ fn each_engine_finds_the_earliest(rt: HostRuntime) -> Result<(), Fail> {
             let searcher = builder.build(rt.alloc(), &[b"b", b"abc", b"abcd"])?;
             let input = Input::new(b"abcd").earliest(true);
             let found = searcher.try_find(input)?.map(|m| told(&m));
-            assert_eq!(rt; found, Some((0, 1, 2)), "{kind:?}");
+            same_by(&rt, found, Some((0, 1, 2)), &kind);
             let input = Input::new(b"foo abcd").earliest(true);
             let found = searcher.try_find(input)?.map(|m| told(&m));
-            assert_eq!(rt; found, Some((0, 5, 6)), "{kind:?}");
+            same_by(&rt, found, Some((0, 5, 6)), &kind);
         }
     }
     Ok(())
@@ -302,16 +302,20 @@ fn each_engine_ignores_case_alike(rt: HostRuntime) -> Result<(), Fail> {
         for &kind in EACH {
             let mut builder = builder_of(engine, kind, StartKind::Unanchored);
             let counts = builder.build(rt.alloc(), &patterns)?;
-            assert_eq!(rt; walk_of(rt, &counts, Input::new(b"foo bar baz"))?.len(), 0);
+            same(
+                &rt,
+                walk_of(rt, &counts, Input::new(b"foo bar baz"))?.len(),
+                0,
+            );
             builder.ascii_case_insensitive(true);
             let ignores = builder.build(rt.alloc(), &patterns)?;
             let walked = walk_of(rt, &ignores, Input::new(b"foo bar baz"))?;
-            assert_eq!(rt; walked.as_slice(), wanted.as_slice(), "{kind:?}");
+            same_by(&rt, walked.as_slice(), wanted.as_slice(), &kind);
             let fruit = builder.build(rt.alloc(), &[b"apple", b"maple", b"snapple"])?;
             let input = Input::new(b"Nobody likes maple in their apple flavored Snapple.");
             let walked = walk_of(rt, &fruit, input)?;
             let wanted = [(1, 13, 18), (0, 28, 33), (2, 43, 50)];
-            assert_eq!(rt; walked.as_slice(), wanted.as_slice(), "{kind:?}");
+            same_by(&rt, walked.as_slice(), wanted.as_slice(), &kind);
         }
     }
     Ok(())
@@ -328,7 +332,7 @@ fn each_engine_lists_alike(rt: HostRuntime) -> Result<(), Fail> {
                 for m in searcher.try_find_overlapping_iter(Input::new(haystack))? {
                     listed.push(told(&m))?;
                 }
-                assert_eq!(rt; listed.as_slice(), wanted, "{builder:?}");
+                same_by(&rt, listed.as_slice(), wanted, &builder);
             }
         }
     }
@@ -343,11 +347,11 @@ fn each_engine_lists_alike_from_its_start(rt: HostRuntime) -> Result<(), Fail> {
             let searcher = builder_of(engine, Standard, start_kind).build(rt.alloc(), WORDS)?;
             let mut state = OverlappingState::start();
             searcher.try_find_overlapping(input, &mut state)?;
-            assert_eq!(rt; state.get_match().map(|m| told(&m)), Some((2, 0, 3)));
+            same(&rt, state.get_match().map(|m| told(&m)), Some((2, 0, 3)));
             searcher.try_find_overlapping(input, &mut state)?;
-            assert_eq!(rt; state.get_match().map(|m| told(&m)), Some((0, 0, 6)));
+            same(&rt, state.get_match().map(|m| told(&m)), Some((0, 0, 6)));
             searcher.try_find_overlapping(input, &mut state)?;
-            assert_eq!(rt; state.get_match(), None, "{start_kind:?}");
+            same_by(&rt, state.get_match(), None, &start_kind);
         }
     }
     Ok(())
@@ -368,10 +372,10 @@ fn each_engine_tells_many_bytes_apart(rt: HostRuntime) -> Result<(), Fail> {
             let patterns: Vec<&[u8]> = patterns.iter().copied().take(count).collect(rt.alloc())?;
             let searcher = builder.build(rt.alloc(), &patterns)?;
             let walked = walk_of(rt, &searcher, Input::new(&haystack))?;
-            assert_eq!(rt; walked.len(), count);
+            same(&rt, walked.len(), count);
             for (number, found) in walked.iter().enumerate() {
                 let start = number.saturating_mul(2);
-                assert_eq!(rt; *found, (number, start, start.saturating_add(2)));
+                same(&rt, *found, (number, start, start.saturating_add(2)));
             }
         }
     }
@@ -387,7 +391,7 @@ fn each_engine_finds_from_where_its_span_begins(rt: HostRuntime) -> Result<(), F
         for anchored in [Anchored::No, Anchored::Yes] {
             let input = whole.range(4..8).anchored(anchored);
             let found = searcher.try_find(input)?.map(|m| told(&m));
-            assert_eq!(rt; found, Some((1, 4, 7)), "{builder:?}, {anchored:?}");
+            same_by(&rt, found, Some((1, 4, 7)), &anchored);
         }
     }
     Ok(())
@@ -401,14 +405,14 @@ fn each_engine_exchanges_alike(rt: HostRuntime) -> Result<(), Fail> {
             let searcher = builder.build(rt.alloc(), patterns)?;
             assert!(rt; texts.len() == searcher.patterns_len());
             let replaced = searcher.try_replace_all_bytes(rt.alloc(), haystack, texts)?;
-            assert_eq!(rt; replaced.as_slice(), wanted, "{builder:?}");
+            same_by(&rt, replaced.as_slice(), wanted, &builder);
         }
         for &(patterns, kind, texts, haystack, wanted) in IN_TEXT {
             let builder = builder_of(engine, kind, StartKind::Unanchored);
             let searcher = builder.build(rt.alloc(), patterns)?;
             assert!(rt; texts.len() == searcher.patterns_len());
             let replaced = searcher.try_replace_all(rt.alloc(), haystack, texts)?;
-            assert_eq!(rt; replaced.as_str(), wanted, "{builder:?}");
+            same_by(&rt, replaced.as_str(), wanted, &builder);
         }
     }
     Ok(())
@@ -424,12 +428,12 @@ fn each_engine_calls_closures_alike(rt: HostRuntime) -> Result<(), Fail> {
         searcher.try_replace_all_with(sentence, &mut told, |found, _, destination| {
             push_number(found, destination)
         })?;
-        assert_eq!(rt; told.as_str(), "pre0 the 2 to the 0age");
+        same(&rt, told.as_str(), "pre0 the 2 to the 0age");
         let mut told = Vec::new(rt.alloc());
         searcher.try_replace_all_with_bytes(SENTENCE, &mut told, |found, slice, destination| {
             destination.extend_from_slice(slice).is_ok() && found.pattern().as_usize() != 2
         })?;
-        assert_eq!(rt; told.as_slice(), SENTENCE);
+        same(&rt, told.as_slice(), SENTENCE);
     }
     Ok(())
 }
@@ -441,8 +445,8 @@ fn each_engine_refuses_alike(rt: HostRuntime) -> Result<(), Fail> {
             let builder = builder_of(engine, Standard, start_kind);
             let searcher = builder.build(rt.alloc(), &[b"b"])?;
             let input = Input::new(b"b").range(1..0).anchored(anchored);
-            assert_eq!(rt; searcher.try_find(input).err(), refusal, "{builder:?}");
-            assert_eq!(rt; searcher.try_find_iter(input).err(), refusal, "{builder:?}");
+            same_by(&rt, searcher.try_find(input).err(), refusal, &builder);
+            same_by(&rt, searcher.try_find_iter(input).err(), refusal, &builder);
         }
         for &(start_kind, kind, anchored, by_state, by_iterator) in OVERLAPPING_REFUSALS {
             let builder = builder_of(engine, kind, start_kind);
@@ -450,17 +454,17 @@ fn each_engine_refuses_alike(rt: HostRuntime) -> Result<(), Fail> {
             let input = Input::new(b"a").anchored(anchored);
             let mut state = OverlappingState::start();
             let refusal = searcher.try_find_overlapping(input, &mut state).err();
-            assert_eq!(rt; refusal, by_state, "{builder:?}");
+            same_by(&rt, refusal, by_state, &builder);
             let refusal = searcher.try_find_overlapping_iter(input).err();
-            assert_eq!(rt; refusal, by_iterator, "{builder:?}");
+            same_by(&rt, refusal, by_iterator, &builder);
         }
         let builder = builder_of(engine, Standard, StartKind::Anchored);
         let searcher = builder.build(rt.alloc(), &[b"a"])?;
         let mut kept = String::from_str(rt.alloc(), "pre")?;
         let refused = ReplaceError::Match(MatchError::InvalidInputUnanchored);
         let answer = searcher.try_replace_all_with("a", &mut kept, |_, _, _| true);
-        assert_eq!(rt; answer, Err(refused));
-        assert_eq!(rt; kept.as_str(), "pre");
+        same(&rt, answer, Err(refused));
+        same(&rt, kept.as_str(), "pre");
     }
     Ok(())
 }
@@ -513,21 +517,17 @@ const CHOICES: [Choice; 9] = [
 #[test]
 fn an_engine_is_chosen(rt: HostRuntime) -> Result<(), Fail> {
     let searcher = AhoCorasick::new(rt.alloc(), &[b"foo", b"bar", b"quux", b"baz"])?;
-    assert_eq!(rt; searcher.kind(), AhoCorasickKind::DFA);
-    assert_eq!(rt; searcher.min_pattern_len(), 3);
-    assert_eq!(rt; searcher.max_pattern_len(), 4);
+    same(&rt, searcher.kind(), AhoCorasickKind::DFA);
+    same(&rt, searcher.min_pattern_len(), 3);
+    same(&rt, searcher.max_pattern_len(), 4);
     for (count, start_kind, named, wanted) in CHOICES {
         let patterns: Vec<&[u8]> = (0..count).map(|_| b"ab".as_slice()).collect(rt.alloc())?;
         let mut builder = AhoCorasickBuilder::new();
         builder.start_kind(start_kind).kind(named);
         let searcher = builder.build(rt.alloc(), &patterns)?;
-        assert_eq!(rt;
-            searcher.kind(),
-            wanted,
-            "{count}, {start_kind:?}, {named:?}"
-        );
-        assert_eq!(rt; searcher.clone()?.kind(), wanted);
-        assert_eq!(rt; searcher.patterns_len(), count);
+        same_by(&rt, searcher.kind(), wanted, &(count, start_kind, named));
+        same(&rt, searcher.clone()?.kind(), wanted);
+        same(&rt, searcher.patterns_len(), count);
     }
     Ok(())
 }
@@ -572,7 +572,7 @@ const FITTINGS: [Fitting; 6] = [
 fn what_fits_is_chosen(rt: HostRuntime) {
     for (patterns_len, start_kind, dfa_fits, contiguous_fits, wanted) in FITTINGS {
         let kind = choose_kind(patterns_len, start_kind, dfa_fits, contiguous_fits);
-        assert_eq!(rt; kind, wanted, "{patterns_len}, {start_kind:?}");
+        same_by(&rt, kind, wanted, &(patterns_len, start_kind));
     }
 }
 
@@ -605,7 +605,7 @@ fn each_engine_keeps_to_the_span(rt: HostRuntime) -> Result<(), Fail> {
                 let searcher = builder.build(rt.alloc(), patterns)?;
                 let input = Input::new(haystack).range(start..end);
                 let found = searcher.try_find(input)?.map(|m| told(&m));
-                assert_eq!(rt; found, wanted, "{patterns:?}, {start}..{end}");
+                same_by(&rt, found, wanted, &(start, end));
             }
         }
     }
@@ -617,9 +617,9 @@ fn each_engine_tells_the_lengths_of_no_patterns(rt: HostRuntime) -> Result<(), F
     for engine in &engines(rt.alloc())? {
         let builder = builder_of(engine, Standard, StartKind::Unanchored);
         let searcher = builder.build(rt.alloc(), &[])?;
-        assert_eq!(rt; searcher.min_pattern_len(), usize::MAX);
-        assert_eq!(rt; searcher.max_pattern_len(), 0);
-        assert_eq!(rt; searcher.patterns_len(), 0);
+        same(&rt, searcher.min_pattern_len(), usize::MAX);
+        same(&rt, searcher.max_pattern_len(), 0);
+        same(&rt, searcher.patterns_len(), 0);
     }
     Ok(())
 }

@@ -2,6 +2,7 @@ ghost use Rattle.std.specs.Prelude.{◌≡◌, ◌++◌, IfOk, List, ℕ, None, 
 ghost use Rattle.ac_search.specs.Built.{exchanged, replace_refusal};
 ghost use Rattle.ac_search.specs.Replaced.{exchanged_from};
 
+use super::same;
 use crate::MatchKind::{LeftmostFirst, Standard};
 use crate::laws::{closure_exchanges, text_closure_exchanges};
 use crate::{
@@ -103,7 +104,7 @@ fn lists_exchange_bytes(rt: HostRuntime) -> Result<(), Fail> {
         b"The quick brown fox.",
         &[b"sloth", b"grey", b"slow"],
     )?;
-    assert_eq!(rt; replaced.as_slice(), b"The slow grey sloth.".as_slice());
+    same(&rt, replaced.as_slice(), b"The slow grey sloth.".as_slice());
     Ok(())
 }
 
@@ -115,7 +116,7 @@ fn lists_exchange_whole_characters(rt: HostRuntime) -> Result<(), Fail> {
         "The quick brown fox.",
         &["sloth", "grey", "slow"],
     )?;
-    assert_eq!(rt; replaced.as_str(), "The slow grey sloth.");
+    same(&rt, replaced.as_str(), "The slow grey sloth.");
     Ok(())
 }
 
@@ -134,25 +135,25 @@ fn closures_exchange_whole_characters(rt: HostRuntime) -> Result<(), Fail> {
     searcher.try_replace_all_with(SENTENCE, &mut numbers, |found, _, destination| {
         push_number(found, destination)
     })?;
-    assert_eq!(rt; numbers.as_str(), "pre0 the 2 to the 0age");
+    same(&rt, numbers.as_str(), "pre0 the 2 to the 0age");
     let mut stopped = String::new(rt.alloc());
     searcher.try_replace_all_with(SENTENCE, &mut stopped, |found, _, destination| {
         push_number(found, destination) && found.pattern().as_usize() != 2
     })?;
-    assert_eq!(rt; stopped.as_str(), "0 the 2 to the appendage");
+    same(&rt, stopped.as_str(), "0 the 2 to the appendage");
     let mut cleared = String::from_str(rt.alloc(), "keep")?;
     searcher.try_replace_all_with(SENTENCE, &mut cleared, |_, _, destination| {
         destination.clear();
         true
     })?;
-    assert_eq!(rt; cleared.as_str(), "age");
+    same(&rt, cleared.as_str(), "age");
     let mut nothing = String::new(rt.alloc());
     searcher.try_replace_all_with(SENTENCE, &mut nothing, |_, _, _| false)?;
-    assert_eq!(rt; nothing.as_str(), " the app to the appendage");
+    same(&rt, nothing.as_str(), " the app to the appendage");
     let cut = searcher_of(rt, &[b"\xC3"], Standard)?;
     let mut kept = String::new(rt.alloc());
     cut.try_replace_all_with("é", &mut kept, |_, _, _| true)?;
-    assert_eq!(rt; kept.as_str(), "é");
+    same(&rt, kept.as_str(), "é");
     Ok(())
 }
 
@@ -166,9 +167,10 @@ fn closures_exchange_bytes(rt: HostRuntime) -> Result<(), Fail> {
             && destination.push(b'!').is_ok()
             && found.pattern().as_usize() != 2
     })?;
-    assert_eq!(rt;
+    same(
+        &rt,
         told.as_slice(),
-        b"append! the app! to the appendage".as_slice()
+        b"append! the app! to the appendage".as_slice(),
     );
     let mut cleared = Vec::new(rt.alloc());
     cleared.extend_from_slice(b"keep")?;
@@ -176,10 +178,14 @@ fn closures_exchange_bytes(rt: HostRuntime) -> Result<(), Fail> {
         destination.clear();
         true
     })?;
-    assert_eq!(rt; cleared.as_slice(), b"age".as_slice());
+    same(&rt, cleared.as_slice(), b"age".as_slice());
     let mut nothing = Vec::new(rt.alloc());
     searcher.try_replace_all_with_bytes(sentence, &mut nothing, |_, _, _| false)?;
-    assert_eq!(rt; nothing.as_slice(), b" the app to the appendage".as_slice());
+    same(
+        &rt,
+        nothing.as_slice(),
+        b" the app to the appendage".as_slice(),
+    );
     Ok(())
 }
 
@@ -189,10 +195,10 @@ fn a_closure_needs_its_own_contract_alone(rt: HostRuntime) -> Result<(), Fail> {
     let mut removed = Vec::new(rt.alloc());
     removed.extend_from_slice(b"pre")?;
     remove(&searcher, b"an app, apps", &mut removed)?;
-    assert_eq!(rt; removed.as_slice(), b"prean , s".as_slice());
+    same(&rt, removed.as_slice(), b"prean , s".as_slice());
     let mut marked = String::from_str(rt.alloc(), "pre")?;
     mark(&searcher, "an app, apps", &mut marked)?;
-    assert_eq!(rt; marked.as_str(), "prean -, -s");
+    same(&rt, marked.as_str(), "prean -, -s");
     Ok(())
 }
 
@@ -202,27 +208,28 @@ fn a_refused_replacement_changes_nothing(rt: HostRuntime) -> Result<(), Fail> {
     builder.start_kind(StartKind::Anchored);
     let searcher = builder.build(rt.alloc(), &[b"a"])?;
     let refused = ReplaceError::Match(MatchError::InvalidInputUnanchored);
-    assert_eq!(rt;
+    same(
+        &rt,
         searcher.try_replace_all(rt.alloc(), "a", &["x"]).err(),
-        Some(refused)
+        Some(refused),
     );
     let bytes = searcher.try_replace_all_bytes(rt.alloc(), b"a", &[b"x"]);
-    assert_eq!(rt; bytes.err(), Some(refused));
+    same(&rt, bytes.err(), Some(refused));
     let mut text = String::from_str(rt.alloc(), "pre")?;
     let told = searcher.try_replace_all_with("a", &mut text, |_, _, destination| {
         destination.clear();
         true
     });
-    assert_eq!(rt; told, Err(refused));
-    assert_eq!(rt; text.as_str(), "pre");
+    same(&rt, told, Err(refused));
+    same(&rt, text.as_str(), "pre");
     let mut bytes = Vec::new(rt.alloc());
     bytes.extend_from_slice(b"pre")?;
     let told = searcher.try_replace_all_with_bytes(b"a", &mut bytes, |_, _, destination| {
         destination.clear();
         true
     });
-    assert_eq!(rt; told, Err(refused));
-    assert_eq!(rt; bytes.as_slice(), b"pre".as_slice());
+    same(&rt, told, Err(refused));
+    same(&rt, bytes.as_slice(), b"pre".as_slice());
     Ok(())
 }
 
@@ -231,18 +238,18 @@ fn a_refused_replacement_changes_nothing(rt: HostRuntime) -> Result<(), Fail> {
 fn want_of_memory_is_told_by_lists(rt: HostRuntime) -> Result<(), Fail> {
     let searcher = AhoCorasick::new(rt.alloc(), &[b"a"])?;
     match searcher.try_replace_all(rt.alloc(), "ab", &["xyz"]) {
-        Ok(replaced) => assert_eq!(rt; replaced.as_str(), "xyzb"),
-        Err(told) => assert_eq!(rt; told, ReplaceError::Memory),
+        Ok(replaced) => same(&rt, replaced.as_str(), "xyzb"),
+        Err(told) => same(&rt, told, ReplaceError::Memory),
     }
     match searcher.try_replace_all_bytes(rt.alloc(), b"ab", &[b"xyz"]) {
-        Ok(replaced) => assert_eq!(rt; replaced.as_slice(), b"xyzb".as_slice()),
-        Err(told) => assert_eq!(rt; told, ReplaceError::Memory),
+        Ok(replaced) => same(&rt, replaced.as_slice(), b"xyzb".as_slice()),
+        Err(told) => same(&rt, told, ReplaceError::Memory),
     }
     if let Ok(replaced) = searcher.replace_all(rt.alloc(), "ab", &["xyz"]) {
-        assert_eq!(rt; replaced.as_str(), "xyzb");
+        same(&rt, replaced.as_str(), "xyzb");
     }
     if let Ok(replaced) = searcher.replace_all_bytes(rt.alloc(), b"ab", &[b"xyz"]) {
-        assert_eq!(rt; replaced.as_slice(), b"xyzb".as_slice());
+        same(&rt, replaced.as_slice(), b"xyzb".as_slice());
     }
     Ok(())
 }
@@ -253,17 +260,17 @@ fn want_of_memory_leaves_the_steps_before(rt: HostRuntime) -> Result<(), Fail> {
     let searcher = AhoCorasick::new(rt.alloc(), &[b"a"])?;
     let mut text = String::new(rt.alloc());
     match searcher.try_replace_all_with("-ab", &mut text, |_, _, _| true) {
-        Ok(()) => assert_eq!(rt; text.as_str(), "-b"),
+        Ok(()) => same(&rt, text.as_str(), "-b"),
         Err(told) => {
-            assert_eq!(rt; told, ReplaceError::Memory);
+            same(&rt, told, ReplaceError::Memory);
             assert!(rt; "-b".starts_with(text.as_str()));
         }
     }
     let mut bytes = Vec::new(rt.alloc());
     match searcher.try_replace_all_with_bytes(b"-ab", &mut bytes, |_, _, _| true) {
-        Ok(()) => assert_eq!(rt; bytes.as_slice(), b"-b".as_slice()),
+        Ok(()) => same(&rt, bytes.as_slice(), b"-b".as_slice()),
         Err(told) => {
-            assert_eq!(rt; told, ReplaceError::Memory);
+            same(&rt, told, ReplaceError::Memory);
             assert!(rt; b"-b".starts_with(bytes.as_slice()));
         }
     }
@@ -273,13 +280,13 @@ fn want_of_memory_leaves_the_steps_before(rt: HostRuntime) -> Result<(), Fail> {
         .replace_all_with("-ab", &mut text, |_, _, _| true)
         .is_ok()
     {
-        assert_eq!(rt; text.as_str(), "-b");
+        same(&rt, text.as_str(), "-b");
     }
     if searcher
         .replace_all_with_bytes(b"-ab", &mut bytes, |_, _, _| true)
         .is_ok()
     {
-        assert_eq!(rt; bytes.as_slice(), b"-b".as_slice());
+        same(&rt, bytes.as_slice(), b"-b".as_slice());
     }
     Ok(())
 }

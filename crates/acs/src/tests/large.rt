@@ -1,6 +1,5 @@
 //! Searchers past sizes at which a body might answer otherwise, or tell want of memory that nobody refused.
-use super::engines::{EACH, KINDS};
-use crate::{
+use ac_search::{
     AhoCorasick, AhoCorasickBuilder, AhoCorasickKind, Anchored, Input, MatchKind, StartKind,
 };
 use std::alloc::{AllocError, Global};
@@ -11,6 +10,21 @@ const WORDS: usize = 10_500;
 
 /// How long a haystack is: more than a mebibyte, and than a million matches.
 const LONG: usize = 1_100_000;
+
+/// The engines, and that one is chosen.
+const ENGINES: [Option<AhoCorasickKind>; 4] = [
+    None,
+    Some(AhoCorasickKind::NoncontiguousNFA),
+    Some(AhoCorasickKind::ContiguousNFA),
+    Some(AhoCorasickKind::DFA),
+];
+
+/// The match kinds.
+const MATCH_KINDS: [MatchKind; 3] = [
+    MatchKind::Standard,
+    MatchKind::LeftmostFirst,
+    MatchKind::LeftmostLongest,
+];
 
 /// The start kinds, with an anchoring that each supports.
 const STARTS: [(StartKind, Anchored); 3] = [
@@ -71,8 +85,8 @@ fn many_states(rt: HostRuntime) -> Result<(), Fail> {
     let last = words.last().map_or("", |word| word.as_str());
     let haystack = many(rt.alloc(), b'x', last)?;
     assert!(rt; LONG <= haystack.len());
-    for &kind in EACH {
-        for engine in KINDS {
+    for kind in MATCH_KINDS {
+        for engine in ENGINES {
             for (start_kind, anchored) in STARTS {
                 let builder = builder_by(kind, engine, start_kind);
                 let searcher = builder.build(rt.alloc(), &patterns)?;
@@ -89,8 +103,8 @@ fn many_states(rt: HostRuntime) -> Result<(), Fail> {
 #[test]
 fn many_matches(rt: HostRuntime) -> Result<(), Fail> {
     let haystack = many(rt.alloc(), b'a', "")?;
-    for &kind in EACH {
-        for engine in KINDS {
+    for kind in MATCH_KINDS {
+        for engine in ENGINES {
             for (start_kind, anchored) in STARTS {
                 let builder = builder_by(kind, engine, start_kind);
                 let searcher = builder.build(rt.alloc(), &[b"a"])?;
@@ -116,7 +130,7 @@ fn many_matches(rt: HostRuntime) -> Result<(), Fail> {
 #[test]
 fn many_items(rt: HostRuntime) -> Result<(), Fail> {
     let haystack = many(rt.alloc(), b'a', "")?;
-    for engine in KINDS {
+    for engine in ENGINES {
         let builder = builder_by(MatchKind::Standard, engine, StartKind::Both);
         let searcher = builder.build(rt.alloc(), &[b"a", b"aa"])?;
         let mut count = 0usize;

@@ -1,10 +1,10 @@
 //! All lists of at most three short patterns over two letters: the engines, and the plain search beside them.
-use crate::MatchKind::{LeftmostFirst, LeftmostLongest, Standard};
-use crate::{
+use ac_search::MatchKind::{LeftmostFirst, LeftmostLongest, Standard};
+use ac_search::plain::{Query, listing, replace_walk, walk};
+use ac_search::{
     AhoCorasick, AhoCorasickBuilder, AhoCorasickKind, Anchored, Input, Match, MatchKind,
     OverlappingState, Span, StartKind,
 };
-use ac_util::plain::{Query, listing, replace_walk, walk};
 use std::alloc::{AllocError, Global};
 use std::test::Fail;
 
@@ -413,11 +413,11 @@ impl Sample {
 fn words_are_all_there(rt: HostRuntime) -> Result<(), Fail> {
     let shortest: [&[u8]; 7] = [b"", b"a", b"b", b"aa", b"ba", b"ab", b"bb"];
     let found = words(rt.alloc(), *b"ab", 7)?;
-    assert_eq!(rt; found.len(), 7);
+    assert!(rt; found.len() == 7);
     for (word, wanted) in found.iter().zip(shortest) {
-        assert_eq!(rt; word.as_slice(), wanted);
+        assert!(rt; word.as_slice() == wanted);
     }
-    assert_eq!(rt; haystacks_over(rt.alloc(), *b"ab")?.parts.len(), 3584);
+    assert!(rt; haystacks_over(rt.alloc(), *b"ab")?.parts.len() == 3584);
     Ok(())
 }
 

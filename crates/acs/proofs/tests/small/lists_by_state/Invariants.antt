@@ -1,6 +1,6 @@
 use Rattle.ac_search.specs.Inputs.{asked}
 use Rattle.ac_search.specs.Places.{HasPlace}
-use Rattle.ac_search.proofs.tests.small.lists_by_state.Given as goal
+use Rattle.acs.proofs.tests.small.lists_by_state.Given as goal
 
 -- the state stands for a place of the listing
 abbrev pub invariant-loop-next : goal.invariant-loop-next

@@ -1,0 +1,3 @@
+//! What holds of searchers for every engine and setting, by runs: over small lists, and past large sizes.
+mod large;
+mod small;
