@@ -110,7 +110,18 @@ module _ {F D E : Type 0} (holds : D → List ℕ) where
       → AppendsBeginning holds bytes s end t
       → (rest : List ℕ) × (holds t.destination ++ rest ≡ holds s.destination ++ bytes)
   AppendsBeginning-begins bytes s t None h = ([], append-nil (holds t.destination) ∙ h.1)
-  AppendsBeginning-begins bytes s t (Some failure) h = h.1
+  AppendsBeginning-begins bytes s t (Some failure) (same, (taken, rest, split, took)) = (
+    rest,
+    ap (λ (w : List ℕ). w ++ rest) took ∙ append_assoc (holds s.destination) taken rest
+        ∙ ap (λ (w : List ℕ). holds s.destination ++ w) (sym split),
+  )
+
+  -- which adds something to what was there, or nothing
+  AppendsBeginning-adds : (bytes : List ℕ) (s t : Replacing F D) (end : Option E)
+      → AppendsBeginning holds bytes s end t
+      → (more : List ℕ) × (holds t.destination ≡ holds s.destination ++ more)
+  AppendsBeginning-adds bytes s t None h = (bytes, h.1)
+  AppendsBeginning-adds bytes s t (Some failure) (same, (taken, rest, split, took)) = (taken, took)
 
 -- what the destination of a closure holds after the steps
 module _ (E : Type 0) {F D : Type 0} (calls : Occurrence → List ℕ → Replacing F D → Bool → Replacing F D → Type 0)
@@ -136,17 +147,17 @@ module _ (E : Type 0) {F D : Type 0} (calls : Occurrence → List ℕ → Replac
       steps-begin (AppendsAll {E = E} holds) calls asked_by haystack (λ u. holds u.destination) write
       (λ bytes u v e. e.1) (AppendsAll-begins holds) asks_on 0 ms s t end
 
+-- bytes that are appended to what is appended to these bytes
+appends-on : (bytes : List ℕ) (was is : List ℕ) → ((more : List ℕ) × (is ≡ was ++ more))
+    → ((more : List ℕ) × (was ≡ bytes ++ more)) → (more : List ℕ) × (is ≡ bytes ++ more)
+appends-on bytes was is then first = (
+  first.0 ++ then.0,
+  then.1 ∙ ap (λ (w : List ℕ). w ++ then.0) first.1 ∙ append_assoc bytes first.0 then.0,
+)
+
 -- where calls only append, what the destination held stays at its beginning
 module _ (E : Type 0) {F D : Type 0} (calls : Occurrence → List ℕ → Replacing F D → Bool → Replacing F D → Type 0)
     (holds : D → List ℕ) (appends : OnlyAppends calls holds) where
-  -- bytes that are appended to what is appended to these bytes
-  appends-on : (bytes : List ℕ) (was is : List ℕ) → ((more : List ℕ) × (is ≡ was ++ more))
-      → ((more : List ℕ) × (was ≡ bytes ++ more)) → (more : List ℕ) × (is ≡ bytes ++ more)
-  appends-on bytes was is then first = (
-    first.0 ++ then.0,
-    then.1 ∙ ap (λ (w : List ℕ). w ++ then.0) first.1 ∙ append_assoc bytes first.0 then.0,
-  )
-
   -- what an append adds, where it adds something
   added : (bytes : List ℕ) (s t : Replacing F D) (end : Option E) → AppendsAll holds bytes s end t
       → (more : List ℕ) × (holds t.destination ≡ holds s.destination ++ more)
@@ -187,3 +198,16 @@ module _ (E : Type 0) (haystack : List ℕ) (texts : List (List ℕ)) where
       steps-begin (AppendsBeginning {E = E} (λ d. d)) (WritesText texts) asked_by haystack
       (λ u. u.destination) (λ m slice. slice_index_or texts m.pattern []) (λ bytes u v e. e.1)
       (AppendsBeginning-begins (λ d. d)) on_texts 0 ms s t end
+
+  -- what was there stays, and something follows it
+  pub text-keeps : (ms : List Occurrence) (s t : Replacing (Unit {0}) (List ℕ)) (end : Option E)
+      → ReplacementSteps (AppendsBeginning {E = E} (λ d. d)) (WritesText texts) asked_by haystack 0 ms s end t
+      → (more : List ℕ) × (t.destination ≡ s.destination ++ more)
+  text-keeps ms s t end steps =
+      steps-keep (AppendsBeginning {E = E} (λ d. d)) (WritesText texts) asked_by haystack
+      (λ u. (more : List ℕ) × (u.destination ≡ s.destination ++ more))
+      (λ bytes u v finish h p.
+      appends-on s.destination u.destination v.destination (AppendsBeginning-adds (λ d. d) bytes u v finish h) p)
+      (λ m slice u v r h p.
+      appends-on s.destination u.destination v.destination (slice_index_or texts m.pattern [], h.1) p)
+      0 ms s t end steps ([], sym (append-nil s.destination))

@@ -6,6 +6,7 @@ use Rattle.std.proofs.lemmas.Bool.{eq-eqb, cases_lt, false_from_ne_true, false�
 use Rattle.std.proofs.lemmas.List.Folds.{list_any_at}
 use Rattle.memchr.specs.Find.{IsFirst, IsFirstByte, FindsNeedle, OccursAt, Passes}
 use Rattle.ac_util.specs.declared.prefilter.Candidate.{Candidate}
+use Rattle.ac_util.specs.declared.prefilter.Candidate.TheVariants.{None as Nothing}
 use Rattle.ac_util.specs.declared.search.MatchKind.{MatchKind}
 use Rattle.ac_util.specs.declared.search.MatchKind.TheVariants.{Standard, LeftmostFirst, LeftmostLongest}
 use Rattle.ac_util.specs.Node.{is_empty}
@@ -16,6 +17,7 @@ use Rattle.ac_util.specs.Prefilters.{BeginWith, IsSkipFor, Promises, Skip, Tells
 use Rattle.ac_util.specs.Prefilters.Skip.{FirstOf, Needle}
 use Rattle.ac_util.specs.Sameness.{plain_byte}
 use Rattle.ac_util.specs.Search.{Search, Occurs, pattern_of}
+use Rattle.ac_util.proofs.OneLonger.{none-past_end}
 use Rattle.ac_util.proofs.Picks.{pick-IsPick, pick-from_IsPick, same_occurrence}
 use Rattle.ac_util.proofs.SamenessLemmas.{IsSame-at, IsSame-from_places}
 
@@ -241,3 +243,9 @@ promised (Needle needle) fold patterns hay low high candidate is (counts, single
     (subst (λ (w : List (List ℕ)). Promises (search_over false w hay low high) candidate) (sym single)
     (subst (λ (w : Candidate). Promises (search_over false (needle ∷ []) hay low high) w) (sym is)
     (needle_promise needle hay low high (pick Standard (search_over false (needle ∷ []) hay low high)) refl)))
+
+-- where a span starts past its end a skip tells of nothing
+pub tells-nothing : (skip : Skip) (hay : List ℕ) (low high : ℕ) → high < low → Tells skip hay low high Nothing
+tells-nothing (FirstOf bytes) hay low high past = (None, (λ k from below. absurd (omega arith)), refl)
+tells-nothing (Needle needle) hay low high past =
+    sym (ap match_told (none-past_end Standard (search_over false (needle ∷ []) hay low high) past))

@@ -52,13 +52,14 @@ module _ {F D E : Type 0} (holds : D → List ℕ) where
   AppendsAll bytes s (Some failure) t =
       (t.closure ≡ s.closure) × (holds t.destination ≡ holds s.destination)
 
-  -- the same of a destination that may take a beginning of the bytes before it fails
+  -- the same of a destination that may take a beginning of the bytes before it fails: what it held stays, and this
+  -- beginning follows
   abbrev pub AppendsBeginning : List ℕ → Replacing F D → Option E → Replacing F D → Type 0
   AppendsBeginning bytes s None t =
       (t.closure ≡ s.closure) × (holds t.destination ≡ holds s.destination ++ bytes)
   AppendsBeginning bytes s (Some failure) t =
       (t.closure ≡ s.closure)
-      × ((rest : List ℕ) × (holds t.destination ++ rest ≡ holds s.destination ++ bytes))
+      × ((taken rest : List ℕ) × (bytes ≡ taken ++ rest) × (holds t.destination ≡ holds s.destination ++ taken))
 
 -- a call of the closure with a match, its slice and the destination may answer r, and take s to t
 pub record Calls {F D R : Type 0}

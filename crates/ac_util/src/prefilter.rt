@@ -5,6 +5,7 @@ ghost use Rattle.std.specs.Prelude.{◌≡◌, ℕ, ◌≤◌, ◌<◌, ◌⊎�
 ghost use Rattle.std.specs.List.{list_any};
 ghost use Rattle.memchr.specs.Find.{IsFirstByte};
 ghost use Rattle.ac_util.specs.declared.error.BuildError.TheVariants.{Memory};
+ghost use Rattle.ac_util.specs.Asked.{IsLegal};
 ghost use Rattle.ac_util.specs.Node.{is_empty};
 ghost use Rattle.ac_util.specs.Prefilters.{IsSkipFor, Promises, Skip, Tells, begins_with, byte_count, first_bytes_of, is_one_of, marked, search_over, skip_for, skip_of};
 ghost use Rattle.ac_util.specs.Prefilters.Skip.{FirstOf};
@@ -241,15 +242,18 @@ impl<A: Allocator> Prefilter<A> {
     /// Returns what is told of the bytes of a span: the first place of it that holds one of the first bytes, or the
     /// first match of the needle.
     ///
-    /// The span has to end within the haystack, and to start no later than it ends.
+    /// The span has to end within the haystack, and to start no later than one past its end: where it starts past its
+    /// end, nothing occurs in it.
     #[inline]
     pub fn find_in(&self, haystack: &[u8], span: Span) -> Candidate
-        requires ordered { span.start ≤ span.end }
-        requires within { span.end ≤ length haystack.now }
+        requires legal { IsLegal haystack.now span.start span.end }
         ensures tells { Tells (skip_of self.now) haystack.now span.start span.end result }
         ensures promises { (fold : Bool) (patterns : List (List ℕ)) → IsSkipFor (skip_of self.now) fold patterns
             → Promises (search_over fold patterns haystack.now span.start span.end) result }
     {
+        if span.start > span.end {
+            return Candidate::None;
+        }
         match self {
             Prefilter::Bytes(bytes) => bytes.find_in(haystack, span),
             Prefilter::Needle(needle) => needle.find_in(haystack, span),

@@ -136,8 +136,8 @@ pub fn walk_has_beginnings()
         ≡ filter (λ m. nat_le m.end end) (walk MatchKind.Standard q) }
 {}
 
-/// Calls that append the text of each pattern and go on leave the replaced text behind what was there, and a
-/// beginning of it where an append failed, though it took some of its bytes.
+/// Calls that append the text of each pattern and go on leave the replaced text after what was there, and a
+/// beginning of it where an append failed, though it took some of its bytes. What was there stays.
 pub fn steps_replace()
     ensures whole { (haystack : List ℕ) (texts : List (List ℕ)) (ms : List Occurrence)
         (s t : Replacing (Unit {0}) (List ℕ))
@@ -147,6 +147,10 @@ pub fn steps_replace()
         (s t : Replacing (Unit {0}) (List ℕ)) (end : Option AllocError)
         → ReplacementSteps (AppendsBeginning (λ d. d)) (WritesText texts) asked_by haystack 0 ms s end t
         → (rest : List ℕ) × (t.destination ++ rest ≡ s.destination ++ replaced haystack texts ms) }
+    ensures kept { (haystack : List ℕ) (texts : List (List ℕ)) (ms : List Occurrence)
+        (s t : Replacing (Unit {0}) (List ℕ)) (end : Option AllocError)
+        → ReplacementSteps (AppendsBeginning (λ d. d)) (WritesText texts) asked_by haystack 0 ms s end t
+        → (more : List ℕ) × (t.destination ≡ s.destination ++ more) }
 {}
 
 /// A closure that appends to its destination, at each call, what `write` gives for the match and its slice, and

@@ -41,6 +41,6 @@ fn patterns_are_stored(rt: HostRuntime) -> Result<(), Fail> {
 }
 
 #[test]
-fn refused_memory_is_told(rt: HostRuntime) {
+fn a_refused_request_becomes_want_of_memory(rt: HostRuntime) {
     assert_eq!(rt; BuildError::from(AllocError), BuildError::Memory);
 }

@@ -28,7 +28,7 @@ fn told(
     start: usize,
     end: usize,
 ) -> Result<Option<Candidate>, BuildError> {
-    if end > haystack.len() || start > end {
+    if end > haystack.len() || start > end + 1 {
         return Ok(None);
     }
     match prefilter_of(alloc, patterns, fold)? {
@@ -76,6 +76,18 @@ fn patterns_begin_with_few_bytes(rt: HostRuntime) -> Result<(), Fail> {
         Some(Candidate::PossibleStart(1)),
     ];
     assert_eq!(rt; answers, wanted);
+    Ok(())
+}
+
+#[test]
+fn nothing_occurs_in_a_span_that_starts_past_its_end(rt: HostRuntime) -> Result<(), Fail> {
+    let alloc = rt.alloc();
+    let two: [&[u8]; 2] = [b"foo", b"bar"];
+    let answers = [
+        told(alloc, &[b"foo"], false, b"xfoob", 4, 3)?,
+        told(alloc, &two, false, b"xfoob", 4, 3)?,
+    ];
+    assert_eq!(rt; answers, [Some(Candidate::None), Some(Candidate::None)]);
     Ok(())
 }
 
