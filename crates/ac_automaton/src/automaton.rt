@@ -31,7 +31,7 @@ mod skip;
 mod step;
 mod walk;
 
-pub use find::find_core;
+pub use find::{Finder, find_core};
 pub use overlap::{FindOverlappingIter, MatchRest, OverlappingState};
 pub use walk::FindIter;
 

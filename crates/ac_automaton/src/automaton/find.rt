@@ -57,10 +57,10 @@ pub fn find_core<A: Automaton>(
         (search_in (A.built automaton.now) (asked_of tape.old.bytes start end anchored earliest)) result
         tape.old tape.new looks.old looks.new }
 {
-    let Ok(finder) = Finder::new(automaton, anchored, earliest) else {
+    let Ok(mut finder) = Finder::new(automaton, anchored, earliest) else {
         unreachable!()
     };
-    finder.find(Span { start, end }, &mut Credit::new(), tape, looks)
+    finder.find(Span { start, end }, tape, looks)
 }
 
 /// Returns what `Automaton::try_find` does.
@@ -72,18 +72,25 @@ pub(super) fn try_find<A: Automaton>(
     ensures { AnswersUnless (find_refusal (A.built automaton.now) (asked input.entry))
         (found (A.built automaton.now) (asked input.entry)) result }
 {
-    let finder = Finder::new(automaton, input.get_anchored(), input.get_earliest())?;
+    automaton.start_state(input.get_anchored())?;
     let (mut tape, mut looks) = open(&input);
-    let span = Span {
-        start: input.start(),
-        end: input.end(),
-    };
-    Ok(finder.find(span, &mut Credit::new(), &mut tape, &mut looks))
+    Ok(find_core(
+        automaton,
+        input.get_anchored(),
+        input.get_earliest(),
+        input.start(),
+        input.end(),
+        &mut tape,
+        &mut looks,
+    ))
 }
 
-/// A find that is ready to be made in any span: its start state is known.
+/// A find by an automaton, with its start state and its prefilter looked up, so that it can be made in span after span.
+///
+/// `find` is the core of every find: `find_core` is one call of it, and a walk one or two for each match. Contracts see
+/// what the automaton was built from, the anchoring, and the order by which the find picks.
 #[derive(Drop)]
-pub(super) struct Finder<'a, A: Automaton> {
+pub struct Finder<'a, A: Automaton> {
     automaton: &'a A,
     anchored: Anchored,
     /// Whether the first match found is the answer.
@@ -91,6 +98,8 @@ pub(super) struct Finder<'a, A: Automaton> {
     start: StateID,
     /// None in an anchored search, which skips nothing.
     prefilter: Option<&'a Prefilter<A::Memory>>,
+    /// Kept from find to find, so that no prefilter is called for long where it skips little.
+    credit: Credit,
 }
 
 impl<'a, A: Automaton> Model for Finder<'a, A> {
@@ -126,7 +135,7 @@ impl<'a, A: Automaton> Finder<'a, A> {
     /// # Errors
     /// `InvalidInputAnchored` or `InvalidInputUnanchored` where the automaton has no start for the anchoring.
     #[inline]
-    pub(super) fn new(
+    pub fn new(
         automaton: &'a A,
         anchored: Anchored,
         earliest: bool,
@@ -153,6 +162,7 @@ impl<'a, A: Automaton> Finder<'a, A> {
             stops,
             start,
             prefilter,
+            credit: Credit::new(),
         })
     }
 
@@ -164,21 +174,23 @@ impl<'a, A: Automaton> Finder<'a, A> {
         self.stops
     }
 
-    /// Returns the pick of a span, as `find_core` does. It calls the prefilter as long as the credit allows.
+    /// Returns the pick of a span of a tape's haystack, as `find_core` does, with the same conditions and the same
+    /// bounds on what is read and counted. It calls the prefilter as long as that has paid, in this find and in those
+    /// made before by this finder.
     #[inline]
-    pub(super) fn find(
-        &self,
+    pub fn find(
+        &mut self,
         span: Span,
-        credit: &mut Credit,
         tape: &mut Tape<'_>,
         looks: &mut Looks,
     ) -> Option<Match>
         requires end_within { span.end ≤ length tape.old.bytes }
         requires start_within { span.start ≤ span.end + 1 }
         requires unread { tape.old.place ≤ span.start }
-        ensures { HasSearched A.LOOKS self.now.filters self.now.built.kind self.now.order
-            (search_of self.now.built self.now.anchored tape.old.bytes span.start span.end) result
+        ensures searched { HasSearched A.LOOKS self.old.filters self.old.built.kind self.old.order
+            (search_of self.old.built self.old.anchored tape.old.bytes span.start span.end) result
             tape.old tape.new looks.old looks.new }
+        ensures same { self.new ≡ self.old }
     {
         if span.start > span.end {
             return None;
@@ -190,9 +202,13 @@ impl<'a, A: Automaton> Finder<'a, A> {
             span,
         };
         let cursor = match self.prefilter {
-            Some(prefilter) if span.start < span.end && credit.is_left() => match prefilter {
-                Prefilter::Bytes(_) => find.skip_on(prefilter, self.start, credit, tape, looks)?,
-                Prefilter::Needle(_) => return find.find_needle(prefilter, credit, tape, looks),
+            Some(prefilter) if span.start < span.end && self.credit.is_left() => match prefilter {
+                Prefilter::Bytes(_) => {
+                    find.skip_on(prefilter, self.start, &mut self.credit, tape, looks)?
+                }
+                Prefilter::Needle(_) => {
+                    return find.find_needle(prefilter, &mut self.credit, tape, looks);
+                }
             },
             _ => Cursor {
                 state: self.start,

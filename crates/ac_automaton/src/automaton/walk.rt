@@ -12,7 +12,6 @@ ghost use Rattle.ac_automaton.specs.Iterators.{Finds, GoesOn, after, begun, kept
 
 use super::Automaton;
 use super::find::Finder;
-use super::skip::Credit;
 use ac_util::error::MatchError;
 use ac_util::looks::{Looks, Tape, open};
 use ac_util::search::{Input, Match, Span};
@@ -33,8 +32,6 @@ pub struct FindIter<'a, 'h, A: Automaton> {
     input: Input<'h>,
     /// Where the match before this ended.
     last: Option<usize>,
-    /// Kept from find to find, so that a walk calls no prefilter in vain for long.
-    credit: Credit,
     tape: Tape<'h>,
     looks: Looks,
     /// Where the span began.
@@ -71,7 +68,6 @@ impl<'a, 'h, A: Automaton> FindIter<'a, 'h, A> {
             finder,
             input,
             last: None,
-            credit: Credit::new(),
             tape,
             looks,
             from: Snapshot::of(&input.start()),
@@ -84,10 +80,9 @@ impl<'a, 'h, A: Automaton> FindIter<'a, 'h, A> {
         ensures { GoesOn self.old result self.new }
     {
         let found = next_left(
-            &self.finder,
+            &mut self.finder,
             &self.input,
             self.last,
-            &mut self.credit,
             &mut self.tape,
             &mut self.looks,
         );
@@ -102,28 +97,28 @@ impl<'a, 'h, A: Automaton> FindIter<'a, 'h, A> {
 /// Returns the next match of a walk in an input, after one that ended at `last`.
 #[inline]
 fn next_left<'h, A: Automaton>(
-    finder: &Finder<'_, A>,
+    finder: &mut Finder<'_, A>,
     input: &Input<'h>,
     last: Option<usize>,
-    credit: &mut Credit,
     tape: &mut Tape<'h>,
     looks: &mut Looks,
 ) -> Option<Match>
-    requires anchored { finder.now.anchored ≡ (asked input.now).anchored }
+    requires anchored { finder.old.anchored ≡ (asked input.now).anchored }
     requires bytes { tape.old.bytes ≡ (asked input.now).haystack }
-    requires unread { finder.now.order ≡ Standard → tape.old.place ≤ (asked input.now).start }
+    requires unread { finder.old.order ≡ Standard → tape.old.place ≤ (asked input.now).start }
     requires behind { IfSome last (λ e. e ≤ (asked input.now).start) }
-    ensures next { result ≡ next_match finder.now.order (search_in finder.now.built (asked input.now)) last }
+    ensures next { result ≡ next_match finder.old.order (search_in finder.old.built (asked input.now)) last }
     ensures bytes { tape.new.bytes ≡ (asked input.now).haystack }
-    ensures finds { (start : ℕ) → Finds (walking_of A.LOOKS finder.now (asked input.now) last start
+    ensures same { finder.new ≡ finder.old }
+    ensures finds { (start : ℕ) → Finds (walking_of A.LOOKS finder.old (asked input.now) last start
         tape.old.place looks.old) tape.new.place looks.new }
 {
-    let first = find_left(finder, input, credit, tape, looks);
+    let first = find_left(finder, input, tape, looks);
     if !repeats(&first, last) {
         return first;
     }
     let further = input.range(input.start() + 1..input.end());
-    find_left(finder, &further, credit, tape, looks)
+    find_left(finder, &further, tape, looks)
 }
 
 /// Moves the span on to the end of a match that was found in it, or past its own end where there is none.
@@ -153,20 +148,20 @@ fn repeats(found: &Option<Match>, last: Option<usize>) -> bool
 /// Returns the pick of an input, with a new tape where the find before may have read past its match.
 #[inline]
 fn find_left<'h, A: Automaton>(
-    finder: &Finder<'_, A>,
+    finder: &mut Finder<'_, A>,
     input: &Input<'h>,
-    credit: &mut Credit,
     tape: &mut Tape<'h>,
     looks: &mut Looks,
 ) -> Option<Match>
-    requires anchored { finder.now.anchored ≡ (asked input.now).anchored }
+    requires anchored { finder.old.anchored ≡ (asked input.now).anchored }
     requires bytes { tape.old.bytes ≡ (asked input.now).haystack }
-    requires unread { finder.now.order ≡ Standard → tape.old.place ≤ (asked input.now).start }
-    ensures pick { result ≡ pick finder.now.order (search_in finder.now.built (asked input.now)) }
+    requires unread { finder.old.order ≡ Standard → tape.old.place ≤ (asked input.now).start }
+    ensures pick { result ≡ pick finder.old.order (search_in finder.old.built (asked input.now)) }
     ensures bytes { tape.new.bytes ≡ (asked input.now).haystack }
-    ensures found { HasSearched A.LOOKS finder.now.filters finder.now.built.kind finder.now.order
-        (search_in finder.now.built (asked input.now)) result
-        (record { bytes = (asked input.now).haystack; place = kept_place finder.now.order tape.old.place })
+    ensures same { finder.new ≡ finder.old }
+    ensures found { HasSearched A.LOOKS finder.old.filters finder.old.built.kind finder.old.order
+        (search_in finder.old.built (asked input.now)) result
+        (record { bytes = (asked input.now).haystack; place = kept_place finder.old.order tape.old.place })
         (record { bytes = (asked input.now).haystack; place = tape.new.place }) looks.old looks.new }
 {
     if !finder.stops_at_match() {
@@ -177,7 +172,7 @@ fn find_left<'h, A: Automaton>(
         start: input.start(),
         end: input.end(),
     };
-    finder.find(span, credit, tape, looks)
+    finder.find(span, tape, looks)
 }
 
 impl<'a, 'h, A: Automaton> Iterator for FindIter<'a, 'h, A> {

@@ -2,6 +2,7 @@ use Rattle.std.proofs.Common.{sym, ◌∙◌, ap, arith}
 use Rattle.ac_util.specs.Built.{search_in}
 use Rattle.ac_util.specs.Asked.{Asked}
 use Rattle.ac_util.specs.Inputs.{asked}
+use Rattle.ac_automaton.specs.Finders.{Finding}
 use Rattle.ac_automaton.proofs.WalkLoop.{repeated-some, unread-repeated}
 use Rattle.ac_automaton.proofs.automaton.walk.next_left.Goals as goal
 
@@ -18,7 +19,8 @@ range-further-requires g c =
 pub find_left-requires-clause-unread : goal.find_left-requires-clause-unread
 find_left-requires-clause-unread g c =
     let start = ap (λ (i : Asked). i.start) c.range-further.ensures.value in
-    λ standard.
+    λ standard_then.
+    let standard = sym (ap (λ (f : Finding). f.order) c.find_left-first.ensures.same) ∙ standard_then in
     let unread =
     unread-repeated c.args.last c.find_left-first.ensures.found c.requires.behind
     (sym c.repeats.ensures ∙ c.if-not-repeats.false) standard (c.requires.unread standard) in

@@ -19,8 +19,8 @@ use Rattle.ac_automaton.proofs.automaton.find.Finder.find.Given.{Over}
 use Rattle.ac_automaton.proofs.automaton.find.Finder.find.Goals.{Joined-self, in-Some+in-Bytes+in_ok-cursor-in-Bytes, in_default}
 use Rattle.ac_automaton.proofs.automaton.find.Finder.find.Goals as goal
 
-pub returns-then-span : goal.returns-then-span
-returns-then-span g c =
+pub returns-then-span-clause-searched : goal.returns-then-span-clause-searched
+returns-then-span-clause-searched g c =
     find.searched-nothing g.A.Automaton.LOOKS c.args.self.now.filters c.args.self.now.built.kind c.args.self.now.order
     (search_of c.args.self.now.built c.args.self.now.anchored c.args.tape.now.bytes c.args.span.start c.args.span.end)
     c.args.tape.now c.args.looks.now c.if-span.true c.requires.unread
@@ -91,9 +91,9 @@ read_on-requires-clause-ready g c =
     c.match-self.cursor.at) (sym reads.come.read.bytes) reads.ready
 
 -- what the find has done is told of the finder as it is seen
-pub returns : goal.returns
-returns g c =
-    let s = (goal.at.returns g c).Joined-self in
+pub returns-clause-searched : goal.returns-clause-searched
+returns-clause-searched g c =
+    let s = (goal.at.returns-clause-searched g c).Joined-self in
     let reads = reads g s in
     let same = reads.come.read.bytes in
     let Searched : List ℕ → Type 0 =

@@ -2,6 +2,7 @@ use Rattle.std.proofs.Common.{◌≡◌, ℕ, ap, subst, sym, ◌∙◌, Option,
 use Rattle.ac_util.specs.Built.{search_in}
 use Rattle.ac_util.specs.Asked.{Asked}
 use Rattle.ac_util.specs.Inputs.{asked}
+use Rattle.ac_automaton.specs.Finders.{Finding}
 use Rattle.ac_automaton.specs.Iterators.{Walking, last_after, walking_of}
 use Rattle.ac_automaton.proofs.WalkLoop.{HasGone, after-within, has-gone}
 use Rattle.ac_automaton.proofs.automaton.walk.FindIter.advance.Given.{Over}
@@ -29,17 +30,20 @@ go_on-requires g c =
 gone : (g : Over) (c : After-go_on g) (last : Option ℕ)
     → last ≡ last_after c.self.inside.last c.next_left-found.result
     → HasGone c.args.self.now c.next_left-found.result
-    (walking_of g.A.Automaton.LOOKS c.self.inside.finder (asked c.go_on.new.input) last
+    (walking_of g.A.Automaton.LOOKS c.next_left-found.new.finder (asked c.go_on.new.input) last
     c.self.inside.from.value c.next_left-found.new.tape.place c.next_left-found.new.looks)
 gone g c last ends =
     let inside = c.self.inside in
-    subst (λ (w : Walking). HasGone w c.next_left-found.result
+    subst (λ (f : Finding). HasGone c.args.self.now c.next_left-found.result
+    (walking_of g.A.Automaton.LOOKS f (asked c.go_on.new.input) last inside.from.value
+    c.next_left-found.new.tape.place c.next_left-found.new.looks)) (sym c.next_left-found.ensures.same)
+    (subst (λ (w : Walking). HasGone w c.next_left-found.result
     (walking_of g.A.Automaton.LOOKS inside.finder (asked c.go_on.new.input) last
     inside.from.value c.next_left-found.new.tape.place c.next_left-found.new.looks)) c.self.view_is
     (has-gone g.A.Automaton.LOOKS inside.finder (asked inside.input) inside.last inside.from.value
     inside.tape.place inside.looks c.next_left-found.result c.next_left-found.new.tape.place
     c.next_left-found.new.looks (asked c.go_on.new.input) last c.next_left-found.ensures.next c.go_on.ensures
-    ends c.self.invariant.under_way (c.next_left-found.ensures.finds inside.from.value))
+    ends c.self.invariant.under_way (c.next_left-found.ensures.finds inside.from.value)))
 
 -- the match that was found is the last one
 ends : (g : Over) (c : goal.After-self-1 g)
@@ -49,8 +53,9 @@ ends g c =
 
 -- the span alone was moved
 module _ (g : Over) (c : After-go_on g) where
-  anchored : c.self.inside.finder.anchored ≡ c.go_on.new.input.anchored
-  anchored = c.self.invariant.anchored ∙ sym (ap (λ (i : Asked). i.anchored) c.go_on.ensures)
+  anchored : c.next_left-found.new.finder.anchored ≡ c.go_on.new.input.anchored
+  anchored =
+      ap (λ (f : Finding). f.anchored) c.next_left-found.ensures.same ∙ c.self.invariant.anchored ∙ sym (ap (λ (i : Asked). i.anchored) c.go_on.ensures)
 
   bytes : c.next_left-found.new.tape.bytes ≡ c.go_on.new.input.haystack.now
   bytes = c.next_left-found.ensures.bytes ∙ sym (ap (λ (i : Asked). i.haystack) c.go_on.ensures)
