@@ -7,6 +7,22 @@ use Rattle.ac_engines.specs.declared.nfa.contiguous.format.Format.TheVariants.{D
 abbrev pub most_sparse : ℕ
 most_sparse = 127
 
+-- the low byte of the first word of a dense state
+abbrev pub dense_form : ℕ
+dense_form = 255
+
+-- the low byte of the first word of a state with one transition
+abbrev pub one_form : ℕ
+one_form = 254
+
+-- what stands in place of a target where a class has none
+abbrev pub no_target : ℕ
+no_target = 1
+
+-- what is added to the number of a match that is the only one: the top bit of its word
+abbrev pub one_match : ℕ
+one_match = 2147483648
+
 -- the form of a state below the dense depth, by its numbers of transitions and of matches: one transition has a form
 -- of its own, where nothing matches
 abbrev pub sparse_format : ℕ → ℕ → Format

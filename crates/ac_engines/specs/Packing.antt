@@ -14,7 +14,7 @@ use Rattle.ac_automaton.specs.Automata.{Lists, matches_of, plain_of}
 use Rattle.ac_automaton.specs.Readers.{own_bytes}
 use Rattle.ac_automaton.specs.Tries.{miss}
 use Rattle.ac_engines.specs.declared.nfa.contiguous.state.Edge.{Edge}
-use Rattle.ac_engines.specs.declared.nfa.contiguous.state.TheConstants.{DENSE, FAIL, ONE_MATCH}
+use Rattle.ac_engines.specs.Formats.{dense_form, no_target, one_match}
 use Rattle.ac_engines.specs.Rows.{equal-first}
 use Rattle.ac_engines.specs.Sizes.{node_format}
 use Rattle.std.proofs.Common.{ap, sym, ◌∙◌}
@@ -61,11 +61,11 @@ number_at at anchored (Some (x ∷ w)) = at.place (x ∷ w)
 -- matches as they are spelled: a single one stands in a word with the top bit set, several stand behind their count
 abbrev pub matches_in : List ℕ → List ℕ
 matches_in [] = []
-matches_in (first ∷ words) = if nat_lt first ONE_MATCH then take first words else (first - ONE_MATCH) ∷ []
+matches_in (first ∷ words) = if nat_lt first one_match then take first words else (first - one_match) ∷ []
 
 -- how many words of a state stand before its matches, by its form and where there are so many classes
 abbrev pub words_before_matches : ℕ → ℕ → ℕ
-words_before_matches form classes = if form == DENSE then 2 + classes else 2 + (form + 3) / 4 + form
+words_before_matches form classes = if form == dense_form then 2 + classes else 2 + (form + 3) / 4 + form
 
 -- what the state at a place lists
 abbrev pub listed_at : Packed → ℕ → List ℕ
@@ -87,7 +87,7 @@ module _ (p : Packed) (at : Places) where
   abbrev pub spelling_of : List ℕ → Spelling
   spelling_of w = record {
     failure = number_at at No (miss p.built.kind (plain_of p.built) (Some w));
-    missing = FAIL;
+    missing = no_target;
     edges = edges_of w;
     matches = matches_of p.built No (Some w);
   }
@@ -107,9 +107,9 @@ module _ (p : Packed) (at : Places) where
   spelling_at anchored (Some []) = start_spelling anchored
   spelling_at anchored (Some (x ∷ w)) = spelling_of (x ∷ w)
 
-  -- the words stand for the nodes: each has a state, behind FAIL but for the dead one, whose number is 0, and no string
-  -- but the empty one has the number of a start. The states of strings that have matches come before the others, and
-  -- list these. Patterns are few and short enough for their numbers and lengths
+  -- the words stand for the nodes: each has a state, behind the number that is no target but for the dead one, whose
+  -- number is 0, and no string but the empty one has the number of a start. The states of strings that have matches come
+  -- before the others, and list these. Patterns are few and short enough for their numbers and lengths
   pub record IsPacked : Type 0 where
     pub classes : AreClasses p.classes
     pub apart : SetsApart p.built.fold p.built.patterns p.classes
@@ -124,10 +124,10 @@ module _ (p : Packed) (at : Places) where
     pub within : (anchored : Anchored) (w : List ℕ) → IsNode p.built.kind (plain_of p.built) (Some w)
         → number_at at anchored (Some w) < length p.words
     pub behind : (anchored : Anchored) (w : List ℕ) → IsNode p.built.kind (plain_of p.built) (Some w)
-        → FAIL < number_at at anchored (Some w)
+        → no_target < number_at at anchored (Some w)
     pub longer : (anchored : Anchored) (w : List ℕ) → IsNode p.built.kind (plain_of p.built) (Some w) → w ≢ []
         → at.place w ≢ number_at at anchored (Some [])
-    pub ended : FAIL < p.match_end
+    pub ended : no_target < p.match_end
     pub matched : (anchored : Anchored) (w : List ℕ) → IsNode p.built.kind (plain_of p.built) (Some w)
         → number_at at anchored (Some w) < p.match_end ↔ matches_of p.built No (Some w) ≢ []
     pub lists : (anchored : Anchored) (w : List ℕ) → IsNode p.built.kind (plain_of p.built) (Some w)

@@ -4,9 +4,8 @@ use Rattle.std.specs.List.{range_with_len}
 use Rattle.std.specs.List.Sorted.{IsStrictlyIncreasing}
 use Rattle.ac_engines.specs.declared.nfa.contiguous.format.Format.{Format}
 use Rattle.ac_engines.specs.declared.nfa.contiguous.format.Format.TheVariants.{Dense, One, Sparse}
-use Rattle.ac_engines.specs.Formats.{most_sparse}
+use Rattle.ac_engines.specs.Formats.{dense_form, most_sparse, no_target, one_form, one_match}
 use Rattle.ac_engines.specs.declared.nfa.contiguous.state.Edge.{Edge}
-use Rattle.ac_engines.specs.declared.nfa.contiguous.state.TheConstants.{DENSE, FAIL, ONE, ONE_MATCH}
 
 -- what the words of a state spell: its failure target, where it leads by a class without a transition, its transitions
 -- in ascending order of their classes, and its matches
@@ -37,18 +36,18 @@ class_words (a ∷ b ∷ c ∷ d ∷ classes) = word_of a b c d ∷ class_words 
 -- numbers
 abbrev pub match_spelling : List ℕ → List ℕ
 match_spelling [] = []
-match_spelling (p ∷ []) = (ONE_MATCH + p) ∷ []
+match_spelling (p ∷ []) = (one_match + p) ∷ []
 match_spelling (p ∷ q ∷ ps) = length (p ∷ q ∷ ps) ∷ p ∷ q ∷ ps
 
 -- one transition, whose class stands beside the form
 abbrev pub one_spelling : ℕ → List Edge → List ℕ
 one_spelling failure [] = []
-one_spelling failure (e ∷ edges) = (ONE + 256 * e.class) ∷ failure ∷ e.target ∷ []
+one_spelling failure (e ∷ edges) = (one_form + 256 * e.class) ∷ failure ∷ e.target ∷ []
 
 -- the words of a state, where there are so many classes
 unfoldable pub spelled : Format → ℕ → Spelling → List ℕ
 spelled Dense classes s =
-    DENSE ∷ s.failure ∷ map (target_by s.missing s.edges) (range_with_len 0 classes) ++ match_spelling s.matches
+    dense_form ∷ s.failure ∷ map (target_by s.missing s.edges) (range_with_len 0 classes) ++ match_spelling s.matches
 spelled One classes s = one_spelling s.failure s.edges
 spelled Sparse classes s =
     length s.edges ∷ s.failure ∷ class_words (map (λ e. e.class) s.edges)
@@ -57,8 +56,8 @@ spelled Sparse classes s =
 -- a form can spell these transitions and matches: a form that isn't dense leads nowhere where there is no transition
 abbrev pub Fits : Format → Spelling → Type 0
 Fits Dense s = ⊤
-Fits One s = (length s.edges ≡ 1) × (s.matches ≡ []) × (s.missing ≡ FAIL)
-Fits Sparse s = (length s.edges ≤ most_sparse) × (s.missing ≡ FAIL)
+Fits One s = (length s.edges ≡ 1) × (s.matches ≡ []) × (s.missing ≡ no_target)
+Fits Sparse s = (length s.edges ≤ most_sparse) × (s.missing ≡ no_target)
 
 -- the words begin with those of a state: its classes are below their number and ascend, and its matches are fewer than
 -- the mark of a single one
@@ -69,8 +68,8 @@ pub record BeginsWith (words : List ℕ) (format : Format) (classes : ℕ) (s : 
   pub few : classes ≤ 256
   pub below : All (λ e. e.class < classes) s.edges
   pub ascending : IsStrictlyIncreasing (map (λ e. e.class) s.edges)
-  pub few_matches : length s.matches < ONE_MATCH
-  pub numbers : (k : ℕ) → slice_index_or s.matches k 0 < ONE_MATCH
+  pub few_matches : length s.matches < one_match
+  pub numbers : (k : ℕ) → slice_index_or s.matches k 0 < one_match
 
 -- which of four classes is this one first, or 4 where none is
 abbrev pub first_of : ℕ → ℕ → ℕ → ℕ → ℕ → ℕ
