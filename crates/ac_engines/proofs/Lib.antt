@@ -37,5 +37,6 @@ pub mod Spellings
 pub mod Starts
 pub mod StateRows
 pub mod StateSpellings
+pub mod Transitions
 pub mod Vectors
 pub mod WordCounts

@@ -37,7 +37,7 @@ module _ (words : List ℕ) (classes : ℕ) (s : Spelling) where
       ∙ append_assoc (class_words (classes_of s.edges)) (targets_of s.edges) (match_spelling s.matches ++ h.rest))
 
   -- all words behind the first two
-  abbrev behind : List ℕ
+  abbrev pub behind : List ℕ
   behind = take (length words - 2) (drop 2 words)
 
   -- what the code splits the words of a sparse state into: its class words, and its targets with what stands behind
@@ -165,16 +165,16 @@ module _ (words : List ℕ) (classes : ℕ) (s : Spelling) where
   abbrev pub form : ℕ
   form = slice_index_or words 0 0 % 256
 
-  form-dense : BeginsWith words Dense classes s → form ≡ 255
+  pub form-dense : BeginsWith words Dense classes s → form ≡ 255
   form-dense h = ap (λ (ns : List ℕ). slice_index_or ns 0 0 % 256) (dense-words h)
 
-  form-one : BeginsWith words One classes s → form ≡ 254
+  pub form-one : BeginsWith words One classes s → form ≡ 254
   form-one h =
       let one = one-words h in
       let first = ap (λ (ns : List ℕ). slice_index_or ns 0 0) one.words_are in
       omega (arith, first)
 
-  form-sparse : BeginsWith words Sparse classes s → (form ≡ length s.edges) × (length s.edges ≤ 127)
+  pub form-sparse : BeginsWith words Sparse classes s → (form ≡ length s.edges) × (length s.edges ≤ 127)
   form-sparse h =
       let first = ap (λ (ns : List ℕ). slice_index_or ns 0 0) (sparse-words h) in
       let few = h.fits.0 in

@@ -1,5 +1,7 @@
 -- How the states of the contiguous engine are spelled in words of 32 bits.
-use Rattle.std.specs.Prelude.{◌≡◌, ℕ, ◌+◌, ◌*◌, ◌<◌, ◌≤◌, ◌==◌, List, [], ◌∷◌, ◌++◌, length, map, slice_index_or, All, if◌then◌else◌, ⊤}
+use Rattle.std.specs.Prelude.{◌≡◌, ℕ, ◌+◌, ◌*◌, ◌/◌, ◌%◌, ◌<◌, ◌≤◌, ◌==◌, List, [], ◌∷◌, ◌++◌, length, map, slice_index_or, All, Option, Some, None, if◌then◌else◌, ⊤}
+use Rattle.std.specs.Borrow.{Bor}
+use Rattle.std.specs.Int.{to_le_bytes, w32}
 use Rattle.std.specs.List.{range_with_len}
 use Rattle.std.specs.List.Sorted.{IsStrictlyIncreasing}
 use Rattle.ac_engines.specs.declared.nfa.contiguous.format.Format.{Format}
@@ -85,3 +87,26 @@ pub record HasTargets (old : List ℕ) (edges : List Edge) (now : List ℕ) : Ty
   pub same_length : length now ≡ length old
   pub each : (class : ℕ) → class < length old
       → slice_index_or now class 0 ≡ target_by (slice_index_or old class 0) edges class
+
+-- the transitions that a state's words tell, in ascending order of their classes; a dense state tells where each class
+-- leads
+abbrev pub transitions_of : Format → ℕ → Spelling → List Edge
+transitions_of Dense classes s =
+    map (λ class. record { class = class; target = target_by s.missing s.edges class }) (range_with_len 0 classes)
+transitions_of One classes s = s.edges
+transitions_of Sparse classes s = s.edges
+
+-- the class at a place of class words
+abbrev pub packed_class : List ℕ → ℕ → ℕ
+packed_class words place = slice_index_or (to_le_bytes w32 (slice_index_or words (place / 4) 0)) (place % 4) 0
+
+-- the class of a place: that in the class words, or the place itself where there are none
+abbrev pub class_of_place : Option (Bor (List ℕ)) → ℕ → ℕ
+class_of_place (Some words) place = packed_class words.now place
+class_of_place None place = place
+
+-- transitions to these targets, by the classes of places from one on
+unfoldable pub edges_from : (ℕ → ℕ) → ℕ → List ℕ → List Edge
+edges_from class_of place [] = []
+edges_from class_of place (target ∷ targets) =
+    record { class = class_of place; target = target } ∷ edges_from class_of (place + 1) targets

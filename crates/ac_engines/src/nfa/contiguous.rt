@@ -31,6 +31,7 @@ mod pack;
 mod plan;
 mod state;
 mod step;
+mod transitions;
 
 pub use builder::Builder;
 pub use format::{Format, check_words, format_of, state_words};

@@ -2,9 +2,10 @@
 ghost use Rattle.std.specs.Prelude.{◌≡◌, ◌≢◌, ℕ, ◌+◌, ◌<◌, ◌≤◌, ◌++◌, [], drop, length, slice_index};
 ghost use Rattle.ac_util.specs.Counts.{more_looks};
 ghost use Rattle.ac_engines.specs.declared.nfa.contiguous.format.Format.{Format};
-ghost use Rattle.ac_engines.specs.Words.{BeginsWith, Spelling, first_of, match_spelling, target_by, word_of};
+ghost use Rattle.ac_engines.specs.Words.{BeginsWith, Spelling, first_of, match_spelling, target_by, transitions_of, word_of};
 
 use super::format::{CLASSES_A_WORD, HEAD};
+use super::transitions::Transitions;
 use ac_util::looks::Looks;
 
 /// The low byte of a dense state's first word.
@@ -109,6 +110,37 @@ impl<'a> State<'a> {
             }
         }
         FAIL
+    }
+
+    /// Returns an iterator over the state's own transitions in ascending order of their classes. A dense state has one
+    /// for each class, to `FAIL` where it leads nowhere.
+    pub(super) fn transitions(self, classes: usize) -> Transitions<'a>
+        requires { (format : Format) × (s : Spelling) × BeginsWith self.words.now format classes s }
+        ensures { (format : Format) (s : Spelling) → BeginsWith self.entry.words.now format classes s
+            → result ≡ transitions_of format classes s }
+    {
+        let [form, only, _, _] = self.words[0].to_le_bytes();
+        if form == DENSE {
+            return Transitions {
+                classes: None,
+                place: 0,
+                targets: &self.words[HEAD..HEAD + classes],
+            };
+        }
+        if form == ONE {
+            return Transitions {
+                classes: None,
+                place: only as usize,
+                targets: &self.words[HEAD..HEAD + 1],
+            };
+        }
+        let transitions = form as usize;
+        let (classes, targets) = self.words[HEAD..].split_at(transitions.div_ceil(CLASSES_A_WORD));
+        Transitions {
+            classes: Some(classes),
+            place: 0,
+            targets: &targets[..transitions],
+        }
     }
 
     /// Returns how many matches the state has. It has to have some.

@@ -1,0 +1,197 @@
+-- Which transitions stand in the words of a state.
+use Rattle.std.proofs.Common.{refl, ◌≡◌, ◌≢◌, ℕ, zero, suc, ◌+◌, ◌/◌, ◌%◌, ◌<◌, List, [], ◌∷◌, ◌++◌, length, map, take, drop, ap, sym, subst, ◌∙◌, arith}
+use Rattle.std.specs.Prelude.{All, slice_index_or, Option, Some, None}
+use Rattle.std.specs.Borrow.{Bor}
+use Rattle.std.specs.Iterator.{MakesProgress, item_count}
+use Rattle.std.specs.Int.{div_ceil, to_le_bytes, w32}
+use Rattle.std.specs.List.{range_with_len}
+use Rattle.std.proofs.Math.Seq.{take-append_seam}
+use Rattle.std.proofs.lemmas.List.{get_or_append_left, length-map}
+use Rattle.std.proofs.lemmas.List.Elements.{All-drop}
+use Rattle.std.proofs.lemmas.List.FromFn.{length-map-range_with_len}
+use Rattle.ac_engines.specs.declared.nfa.contiguous.format.Format.{Format}
+use Rattle.ac_engines.specs.declared.nfa.contiguous.format.Format.TheVariants.{Dense, One, Sparse}
+use Rattle.ac_engines.specs.declared.nfa.contiguous.state.Edge.{Edge}
+use Rattle.ac_engines.specs.Words.{BeginsWith, Spelling, class_of_place, class_words, edges_from, match_spelling, packed_class, target_by, transitions_of, word_of}
+use Rattle.ac_engines.proofs.ClassWords.{classes_of, targets_of}
+use Rattle.ac_engines.proofs.Spellings.{behind, dense-words, form, form-dense, form-one, form-sparse, one-words, splits-at}
+
+-- the targets of transitions, by the classes of these, make up the transitions
+edges-from : (class_of : ℕ → ℕ) (place : ℕ) (es : List Edge)
+    → ((k : ℕ) → k < length es → class_of (place + k) ≡ slice_index_or (classes_of es) k 0)
+    → edges_from class_of place (targets_of es) ≡ es
+unfolding edges_from
+edges-from class_of place [] are = refl
+edges-from class_of place (e ∷ es) are =
+    let here : place + 0 ≡ place = omega arith in
+    let first = sym (ap class_of here) ∙ are 0 (omega arith) in
+    let others = edges-from class_of (place + 1) es (λ k low.
+    let next : place + 1 + k ≡ place + suc k = omega arith in
+    ap class_of next ∙ are (suc k) (omega (arith, low))) in
+    ap (λ (class : ℕ). record { class = class; target = e.target } ∷ edges_from class_of (place + 1) (targets_of es)) first
+    ∙ ap (λ (rest : List Edge). e ∷ rest) others
+
+-- targets of all classes from one on make up a transition for each class
+edges-of-all : (to : ℕ → ℕ) (class n : ℕ)
+    → edges_from (class_of_place None) class (map to (range_with_len class n))
+    ≡ map (λ c. record { class = c; target = to c }) (range_with_len class n)
+unfolding edges_from
+edges-of-all to class zero = refl
+edges-of-all to class (suc n) =
+    ap (λ (rest : List Edge). record { class = class; target = to class } ∷ rest) (edges-of-all to (class + 1) n)
+
+-- four classes of a word are bytes
+abbrev AreBytes : ℕ → ℕ → ℕ → ℕ → Type 0
+AreBytes a b c d = (a < 256) × (b < 256) × (c < 256) × (d < 256)
+
+-- each byte of a class word is the class at its place
+byte-of : (a b c d place : ℕ) → AreBytes a b c d → place < 4
+    → slice_index_or (to_le_bytes w32 (word_of a b c d)) place 0 ≡ slice_index_or (a ∷ b ∷ c ∷ d ∷ []) place 0
+byte-of a b c d zero bytes low = omega (arith, bytes.0)
+byte-of a b c d (suc zero) bytes low = omega (arith, bytes.0, bytes.1)
+byte-of a b c d (suc (suc zero)) bytes low = omega (arith, bytes.0, bytes.1, bytes.2)
+byte-of a b c d (suc (suc (suc zero))) bytes low = omega (arith, bytes.0, bytes.1, bytes.2, bytes.3)
+byte-of a b c d (suc (suc (suc (suc place)))) bytes low = absurd (omega (arith, low))
+
+-- the first four places are those of the first word
+packed-first : (a b c d : ℕ) (words : List ℕ) (place : ℕ) → AreBytes a b c d → place < 4
+    → packed_class (word_of a b c d ∷ words) place ≡ slice_index_or (a ∷ b ∷ c ∷ d ∷ []) place 0
+packed-first a b c d words place bytes low =
+    let index : place / 4 ≡ 0 = omega (arith, low) in
+    let byte : place % 4 ≡ place = omega (arith, low) in
+    rw (index, byte) (byte-of a b c d place bytes low)
+
+-- four places on stand the classes of the next word
+packed-next : (word : ℕ) (words : List ℕ) (place : ℕ)
+    → packed_class (word ∷ words) (suc (suc (suc (suc place)))) ≡ packed_class words place
+packed-next word words place =
+    let index : suc (suc (suc (suc place))) / 4 ≡ suc (place / 4) = omega arith in
+    let byte : suc (suc (suc (suc place))) % 4 ≡ place % 4 = omega arith in
+    rw (index, byte) refl
+
+-- a word of four classes comes before the words of others
+packed-four : (a b c d : ℕ) (words classes : List ℕ) (place : ℕ) → AreBytes a b c d
+    → ((k : ℕ) → place ≡ 4 + k → packed_class words k ≡ slice_index_or classes k 0)
+    → packed_class (word_of a b c d ∷ words) place ≡ slice_index_or (a ∷ b ∷ c ∷ d ∷ classes) place 0
+packed-four a b c d words classes zero bytes others = packed-first a b c d words 0 bytes (omega arith)
+packed-four a b c d words classes (suc zero) bytes others = packed-first a b c d words 1 bytes (omega arith)
+packed-four a b c d words classes (suc (suc zero)) bytes others = packed-first a b c d words 2 bytes (omega arith)
+packed-four a b c d words classes (suc (suc (suc zero))) bytes others = packed-first a b c d words 3 bytes (omega arith)
+packed-four a b c d words classes (suc (suc (suc (suc place)))) bytes others =
+    packed-next (word_of a b c d) words place ∙ others place (omega arith)
+
+-- the class at a place of class words is that of the transition at that place
+packed-class : (es : List Edge) (place : ℕ) → All (λ e. e.class < 256) es → place < length es
+    → packed_class (class_words (classes_of es)) place ≡ slice_index_or (classes_of es) place 0
+unfolding class_words
+packed-class [] place small low = absurd (omega (arith, low))
+packed-class (a ∷ []) place small low =
+    let first = small 0 a (omega arith) in
+    packed-first a.class a.class a.class a.class [] place (first, first, first, first) (omega (arith, low))
+    ∙ get_or_append_left (a.class ∷ []) (a.class ∷ a.class ∷ a.class ∷ []) 0 place low
+packed-class (a ∷ b ∷ []) place small low =
+    let last = small 1 b (omega arith) in
+    packed-first a.class b.class b.class b.class [] place (small 0 a (omega arith), last, last, last) (omega (arith, low))
+    ∙ get_or_append_left (a.class ∷ b.class ∷ []) (b.class ∷ b.class ∷ []) 0 place low
+packed-class (a ∷ b ∷ c ∷ []) place small low =
+    let last = small 2 c (omega arith) in
+    packed-first a.class b.class c.class c.class [] place (small 0 a (omega arith), small 1 b (omega arith), last, last)
+    (omega (arith, low))
+    ∙ get_or_append_left (a.class ∷ b.class ∷ c.class ∷ []) (c.class ∷ []) 0 place low
+packed-class (a ∷ b ∷ c ∷ d ∷ es) place small low =
+    packed-four a.class b.class c.class d.class (class_words (classes_of es)) (classes_of es) place
+    (small 0 a (omega arith), small 1 b (omega arith), small 2 c (omega arith), small 3 d (omega arith))
+    (λ k behind. packed-class es k (All-drop (λ e. e.class < 256) 4 (a ∷ b ∷ c ∷ d ∷ es) small)
+    (omega (arith, low, behind)))
+
+module _ (words : List ℕ) (classes : ℕ) (s : Spelling) (targets : List ℕ) where
+  -- a dense state has a target for each class
+  pub dense-transitions : (format : Format) → BeginsWith words format classes s → form words classes s ≡ 255
+      → targets ≡ take classes (drop 2 words)
+      → edges_from (class_of_place None) 0 targets ≡ transitions_of format classes s
+  dense-transitions Dense h tells are =
+      let all = map (target_by s.missing s.edges) (range_with_len 0 classes) in
+      let more = match_spelling s.matches ++ h.rest in
+      let many = length-map-range_with_len (target_by s.missing s.edges) 0 classes in
+      let front : targets ≡ all =
+      are ∙ ap (λ (ns : List ℕ). take classes (drop 2 ns)) (dense-words words classes s h)
+      ∙ subst (λ (n : ℕ). take n (all ++ more) ≡ all) many (take-append_seam all more) in
+      ap (λ (ns : List ℕ). edges_from (class_of_place None) 0 ns) front
+      ∙ edges-of-all (target_by s.missing s.edges) 0 classes
+  dense-transitions One h tells are = let one = form-one words classes s h in absurd (omega (arith, one, tells))
+  dense-transitions Sparse h tells are =
+      let sparse = form-sparse words classes s h in absurd (omega (arith, sparse.0, sparse.1, tells))
+
+  -- a state with one transition has one target, and its class stands beside the form
+  pub one-transition : (format : Format) (class : ℕ) → BeginsWith words format classes s → form words classes s ≡ 254
+      → class ≡ slice_index_or words 0 0 / 256 % 256 → targets ≡ take 1 (drop 2 words)
+      → edges_from (class_of_place None) class targets ≡ transitions_of format classes s
+  unfolding edges_from
+  one-transition Dense class h tells is are =
+      let dense = form-dense words classes s h in absurd (omega (arith, dense, tells))
+  one-transition One class h tells is are =
+      let one = one-words words classes s h in
+      let first = ap (λ (ns : List ℕ). slice_index_or ns 0 0) one.words_are in
+      let below = subst (λ (es : List Edge). All (λ e. e.class < classes) es) one.only h.below 0 one.edge (omega arith) in
+      let few = h.few in
+      let same : class ≡ one.edge.class = omega (arith, is, first, below, few) in
+      let front : targets ≡ one.edge.target ∷ [] =
+      are ∙ ap (λ (ns : List ℕ). take 1 (drop 2 ns)) one.words_are in
+      rw (front, same) (sym one.only)
+  one-transition Sparse class h tells is are =
+      let sparse = form-sparse words classes s h in absurd (omega (arith, sparse.0, sparse.1, tells))
+
+  -- behind the class words of a sparse state stand the targets of its transitions
+  pub sparse-targets : (transitions count : ℕ) → BeginsWith words Sparse classes s → transitions ≡ length s.edges
+      → count ≡ div_ceil transitions 4 → targets ≡ take transitions (drop count (behind words classes s))
+      → targets ≡ targets_of s.edges
+  sparse-targets transitions count h counts words_are are =
+      let split = splits-at words classes s transitions count h counts words_are in
+      let many : length (targets_of s.edges) ≡ transitions = length-map s.edges (λ e. e.target) ∙ sym counts in
+      are ∙ ap (λ (ns : List ℕ). take transitions ns) split.back
+      ∙ subst (λ (n : ℕ). take n (targets_of s.edges ++ split.more) ≡ targets_of s.edges) many
+      (take-append_seam (targets_of s.edges) split.more)
+
+  -- they make up its transitions, by the classes in the class words
+  pub sparse-transitions : (format : Format) (transitions count : ℕ) (front : Bor (List ℕ))
+      → BeginsWith words format classes s → transitions ≡ form words classes s → transitions ≢ 255 → transitions ≢ 254
+      → count ≡ div_ceil transitions 4 → front.now ≡ take count (behind words classes s)
+      → targets ≡ take transitions (drop count (behind words classes s))
+      → edges_from (class_of_place (Some front)) 0 targets ≡ transitions_of format classes s
+  sparse-transitions Dense transitions count front h is dense one words_are front_is are =
+      absurd (dense (is ∙ form-dense words classes s h))
+  sparse-transitions One transitions count front h is dense one words_are front_is are =
+      absurd (one (is ∙ form-one words classes s h))
+  sparse-transitions Sparse transitions count front h is dense one words_are front_is are =
+      let counts = is ∙ (form-sparse words classes s h).0 in
+      let split = splits-at words classes s transitions count h counts words_are in
+      ap (λ (ns : List ℕ). edges_from (class_of_place (Some front)) 0 ns)
+      (sparse-targets transitions count h counts words_are are)
+      ∙ edges-from (class_of_place (Some front)) 0 s.edges (λ k low.
+      let here : 0 + k ≡ k = omega arith in
+      ap (λ (place : ℕ). packed_class front.now place) here
+      ∙ ap (λ (ns : List ℕ). packed_class ns k) (front_is ∙ split.front) ∙ packed-class s.edges k split.small low)
+
+-- where no target is left there is no transition
+pub none-left : (class_of : ℕ → ℕ) (place : ℕ) (targets : List ℕ) → length targets ≡ 0
+    → edges_from class_of place targets ≡ []
+unfolding edges_from
+none-left class_of place [] none = refl
+none-left class_of place (target ∷ targets) none = absurd (omega (arith, none))
+
+-- the first transition is that to the first target
+pub first-edge : (words : Option (Bor (List ℕ))) (place class target : ℕ) (all targets : List ℕ)
+    → all ≡ target ∷ targets → class ≡ class_of_place words place
+    → edges_from (class_of_place words) place all
+    ≡ record { class = class; target = target } ∷ edges_from (class_of_place words) (place + 1) targets
+unfolding edges_from
+first-edge words place class target all targets are is = rw (are, is) refl
+
+-- a call that gives the first transition leaves fewer
+pub goes-on : (can : List Edge → Type 0) → ((left : List Edge) → can left) → (old new : List Edge) (e : Edge)
+    → old ≡ e ∷ new → MakesProgress can (item_count (λ left. left)) old (Some e) new
+goes-on can always old new e is = record {
+  on = λ _. (always new, tt, subst (λ (left : List Edge). length new < length left) (sym is) (omega arith));
+  keeps = always new;
+  rests = λ _. tt;
+}
