@@ -271,3 +271,6 @@ impl<A: Allocator> Automaton for NFA<A> {
         self.prefilter.as_ref()
     }
 }
+
+#[cfg(test)]
+mod tests;

@@ -211,3 +211,6 @@ fn place_in(word: u32, class: u8) -> usize
         CLASSES_A_WORD
     }
 }
+
+#[cfg(test)]
+mod tests;

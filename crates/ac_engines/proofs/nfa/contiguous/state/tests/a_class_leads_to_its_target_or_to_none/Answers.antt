@@ -1,0 +1,25 @@
+use Rattle.std.proofs.Common.{List, ℕ, subst, sym, arith}
+use Rattle.ac_engines.specs.declared.nfa.contiguous.format.Format.TheVariants.{Sparse}
+use Rattle.ac_engines.specs.Words.{BeginsWith}
+use Rattle.ac_engines.proofs.Vectors.{five_edges, sparse-begins}
+use Rattle.ac_engines.proofs.nfa.contiguous.state.tests.a_class_leads_to_its_target_or_to_none.Goals as goal
+
+pub look-requires : goal.look-requires
+look-requires g c = (
+  Sparse,
+  131,
+  five_edges,
+  subst (λ (ns : List ℕ). BeginsWith ns Sparse 131 five_edges) (sym c.at-state.ensures)
+      sparse-begins,
+  omega arith,
+)
+
+pub look-requires-2 : goal.look-requires-2
+look-requires-2 g c = (
+  Sparse,
+  131,
+  five_edges,
+  subst (λ (ns : List ℕ). BeginsWith ns Sparse 131 five_edges) (sym c.at-state.ensures)
+      sparse-begins,
+  omega arith,
+)

@@ -1,0 +1,94 @@
+//! The words of automata that were built.
+use super::Builder;
+use super::state::FAIL;
+use ac_automaton::automaton::Automaton;
+use ac_util::looks::Looks;
+use ac_util::search::MatchKind::{LeftmostFirst, Standard};
+use ac_util::search::{Anchored, MatchKind};
+use std::test::Fail;
+
+/// Three patterns, two of which begin alike.
+const THREE: &[&[u8]] = &[b"b", b"abc", b"abcd"];
+
+/// Patterns and whether case is ignored, a match kind, a dense depth and whether bytes share classes, with how many
+/// classes and how many words there are.
+type Size = (
+    &'static [&'static [u8]],
+    bool,
+    MatchKind,
+    usize,
+    bool,
+    usize,
+    usize,
+);
+
+const SIZES: [Size; 7] = [
+    (&[], false, Standard, 2, true, 1, 9),
+    (THREE, false, Standard, 2, true, 6, 54),
+    (THREE, false, LeftmostFirst, 2, true, 6, 49),
+    (&[b"abcd"], false, Standard, 2, true, 6, 41),
+    (&[b"ab"], true, Standard, 2, true, 7, 39),
+    (&[b"ab"], true, Standard, 0, true, 7, 35),
+    (&[b"ab"], true, Standard, 0, false, 256, 782),
+];
+
+#[test]
+fn words_have_their_number(rt: HostRuntime) -> Result<(), Fail> {
+    for (patterns, fold, kind, dense_depth, byte_classes, classes, words) in SIZES {
+        let mut builder = Builder::new();
+        builder
+            .ascii_case_insensitive(fold)
+            .match_kind(kind)
+            .dense_depth(dense_depth)
+            .byte_classes(byte_classes);
+        let nfa = builder.build(rt.alloc(), patterns)?;
+        let told = (nfa.classes.alphabet_len(), nfa.words.len());
+        assert_eq!(rt;
+            told,
+            (classes, words),
+            "{patterns:?} to depth {dense_depth}"
+        );
+    }
+    Ok(())
+}
+
+/// Patterns of `a` and each byte from 80 on, so that the state of `a` has 127 transitions or 128. It is the last one,
+/// since the patterns' own states have matches.
+#[test]
+fn a_state_of_many_transitions(rt: HostRuntime) -> Result<(), Fail> {
+    let mut text = Vec::new(rt.alloc());
+    for byte in 0x80..=0xFFu8 {
+        text.push(b'a')?;
+        text.push(byte)?;
+    }
+    // How many patterns there are, and of the state the number of its words, the first, and another one with its place.
+    let rows = [(127, 161, 127, 33, 0x8181807F), (128, 133, 0xFF, 4, FAIL)];
+    for (patterns, len, form, place, word) in rows {
+        let patterns: Vec<&[u8]> = text.chunks(2).take(patterns).collect(rt.alloc())?;
+        let nfa = Builder::new().dense_depth(0).build(rt.alloc(), &patterns)?;
+        assert_eq!(rt; nfa.classes.alphabet_len(), 131);
+        let start = nfa.start_state(Anchored::No)?;
+        let sid = nfa.next_state(Anchored::No, start, b'a', &mut Looks::new());
+        let words = nfa.words.get(sid.as_usize()..).unwrap_or_default();
+        assert_eq!(rt; words.len(), len);
+        assert_eq!(rt; words.first(), Some(&form));
+        assert_eq!(rt; words.get(place), Some(&word));
+    }
+    Ok(())
+}
+
+/// Where a state has no transition by a byte, an unanchored step goes on at its failure target, and an anchored one is
+/// at its end.
+#[test]
+fn a_step_without_a_transition(rt: HostRuntime) -> Result<(), Fail> {
+    let nfa = Builder::new().build(rt.alloc(), &[b"ab"])?;
+    let mut looks = Looks::new();
+    let start = nfa.start_state(Anchored::No)?;
+    let sid = nfa.next_state(Anchored::No, start, b'a', &mut looks);
+    assert_eq!(rt; nfa.next_state(Anchored::No, sid, b'a', &mut looks), sid);
+    let start = nfa.start_state(Anchored::Yes)?;
+    let sid = nfa.next_state(Anchored::Yes, start, b'a', &mut looks);
+    let after = nfa.next_state(Anchored::Yes, sid, b'a', &mut looks);
+    assert!(rt; nfa.is_dead(after));
+    Ok(())
+}
