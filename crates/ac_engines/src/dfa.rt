@@ -319,3 +319,6 @@ fn lies_in(range: Range<usize>, number: usize) -> bool
 {
     number.wrapping_sub(range.start) < range.end.wrapping_sub(range.start)
 }
+
+#[cfg(test)]
+mod tests;
