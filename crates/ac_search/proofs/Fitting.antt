@@ -1,5 +1,5 @@
 -- Where no engine is named one is chosen that fits.
-use Rattle.std.proofs.Common.{◌≡◌, ℕ, ◌-◌, ◌*◌, Bool, true, false, List, Option, Some, None, inl, inr, refl, ap, ◌∙◌}
+use Rattle.std.proofs.Common.{◌≡◌, ℕ, ◌-◌, ◌*◌, Bool, true, false, List, Option, Some, None, refl, ap, ◌∙◌}
 use Rattle.std.specs.Prelude.{MatchOption, MatchResult, Result, Ok, Err, ◌&&◌, if◌then◌else◌, length, nat_lt}
 use Rattle.ac_util.specs.declared.error.BuildError.{BuildError}
 use Rattle.ac_util.specs.declared.error.BuildError.TheVariants.{Memory, StateIdOverflow}
@@ -9,12 +9,13 @@ use Rattle.ac_util.specs.Built.{Built}
 use Rattle.ac_util.specs.Classes.{stride}
 use Rattle.ac_util.specs.Sizes.{state_count}
 use Rattle.ac_automaton.specs.Automata.{plain_of}
-use Rattle.ac_automaton.specs.Builds.{IsRefused, state_refusal}
+use Rattle.ac_automaton.specs.Builds.{state_refusal}
 use Rattle.ac_engines.specs.Builds.{classes_by, refusal_or, table_refusal}
 use Rattle.ac_engines.specs.Layouts.{table_rows}
+use Rattle.ac_engines.specs.PackedBuilds.{words_from}
 use Rattle.ac_search.specs.declared.ahocorasick.choice.AhoCorasickKind.{AhoCorasickKind}
 use Rattle.ac_search.specs.declared.ahocorasick.choice.AhoCorasickKind.TheVariants.{ContiguousNFA, DFA, NoncontiguousNFA}
-use Rattle.ac_search.specs.Searchers.{Settings, choose_kind, engine_refusal, engine_settings, fits, kind_for, made_from, refusal_of, size_refusal, suits_table}
+use Rattle.ac_search.specs.Searchers.{IsRefusedExactly, Settings, choose_kind, engine_refusal, engine_settings, fits, kind_for, made_from, refusal_of, size_refusal, suits_table}
 
 -- the engine that is chosen for so many patterns is not too large
 not-too-large : (settings : Settings) (from : Built) (count : ℕ)
@@ -75,7 +76,7 @@ size-overflow settings from e h =
 pub kept-or-left_out : {T : Type 0} (P : T → Type 0) (suits : Bool) (size : Option BuildError)
     (made : Result T BuildError) (kept : Result (Option T) BuildError) → suits ≡ true
     → ((e : BuildError) → size ≡ Some e → IsOverflow e)
-    → MatchResult made (λ engine. P engine × (size ≡ None)) (IsRefused size)
+    → MatchResult made (λ engine. P engine × (size ≡ None)) (IsRefusedExactly size)
     → MatchResult made
     (λ engine. kept ≡ Ok (Some engine))
     (λ e. (e ≡ Memory → kept ≡ Err Memory)
@@ -85,6 +86,30 @@ pub kept-or-left_out : {T : Type 0} (P : T → Type 0) (suits : Bool) (size : Op
     (λ e. e ≡ Memory)
 kept-or-left_out P suits size (Ok engine) kept on overflow h k =
     rw k (h.0, rw (on, h.1) refl)
-kept-or-left_out P suits size (Err e) kept on overflow (inl memory) k = rw (k.0 memory) refl
-kept-or-left_out P suits size (Err e) kept on overflow (inr own) k =
-    let too = overflow e own in rw (k.1 too.0 too.1 too.2) (rw (on, own) refl)
+kept-or-left_out P suits None (Err e) kept on overflow memory k = rw (k.0 memory) refl
+kept-or-left_out P suits (Some refusal) (Err e) kept on overflow own k =
+    let too = overflow refusal refl in
+    rw (k.1 too.0 too.1 (own ∙ too.2)) (rw on refl)
+
+-- packed words are too large for a reason of that kind too
+pub packed-overflow : (settings : Settings) (from : Built) (e : BuildError)
+    → size_refusal ContiguousNFA settings from ≡ Some e → IsOverflow e
+packed-overflow settings from e h =
+    let words = words_from settings.dense_depth settings.byte_classes from in
+    overflow-told (nat_lt GREATEST words) GREATEST words e h
+
+-- where no table is chosen packed words are, or where they would be too large the automaton itself
+pub chosen-without_table : {T : Type 0} (P : AhoCorasickKind → T → Type 0) (table : Bool) (packed : Option BuildError)
+    (kept : Result (Option T) BuildError) → table ≡ false
+    → MatchResult kept
+    (λ found. MatchOption found (true && fits packed ≡ false)
+    (λ engine. P ContiguousNFA engine × (true && fits packed ≡ true)))
+    (λ e. e ≡ Memory)
+    → MatchResult kept
+    (λ found. MatchOption found
+    ((if table then DFA else if fits packed then ContiguousNFA else NoncontiguousNFA) ≡ NoncontiguousNFA)
+    (P (if table then DFA else if fits packed then ContiguousNFA else NoncontiguousNFA)))
+    (λ e. e ≡ Memory)
+chosen-without_table P table packed (Ok None) none h = rw (none, h) refl
+chosen-without_table P table packed (Ok (Some engine)) none h = rw (none, h.1) h.0
+chosen-without_table P table packed (Err e) none h = h

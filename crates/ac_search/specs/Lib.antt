@@ -45,6 +45,7 @@ pub use Rattle.ac_util.specs.Looks
 pub use Rattle.ac_util.specs.Counts
 pub use Rattle.ac_util.specs.Prefilters
 pub use Rattle.ac_automaton.specs.Automata
+pub use Rattle.ac_automaton.specs.Readers
 pub use Rattle.ac_automaton.specs.Tries
 -- tables and packed words: their classes, rows and words, and their builds
 pub use Rattle.ac_util.specs.Classes

@@ -2,6 +2,7 @@
 -- its engine. No answer of a search hangs on the last three; an overlapping state is one for these states alone.
 use Rattle.std.specs.Prelude.{◌≡◌, ℕ, nat_le, Bool, false, true, List, length, Option, None, Some, MatchOption, ⊤, ◌&&◌, if◌then◌else◌}
 use Rattle.ac_util.specs.declared.error.BuildError.{BuildError}
+use Rattle.ac_util.specs.declared.error.BuildError.TheVariants.{Memory}
 use Rattle.ac_util.specs.declared.search.MatchKind.{MatchKind}
 use Rattle.ac_util.specs.declared.search.MatchKind.TheVariants.{Standard}
 use Rattle.ac_util.specs.declared.search.StartKind.{StartKind}
@@ -128,6 +129,10 @@ pub record IsBuildable (settings : Settings) (patterns : List (List ℕ)) : Type
 abbrev pub RefusesSearcher : Settings → List (List ℕ) → BuildError → Type 0
 RefusesSearcher settings patterns e =
     MatchOption (limit_refusal patterns) (IsRefused (engine_refusal settings patterns) e) (λ refusal. e ≡ refusal)
+
+-- an engine is refused exactly where it would be too large, and else for want of memory alone
+abbrev pub IsRefusedExactly : Option BuildError → BuildError → Type 0
+IsRefusedExactly own_refusal e = MatchOption own_refusal (e ≡ Memory) (λ refusal. e ≡ refusal)
 
 -- states that were made from an automaton by these settings: packed words have the dense depth and the classes that
 -- were set, and a table the starts and the classes, with as many words or rows as these need

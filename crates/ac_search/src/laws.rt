@@ -3,7 +3,7 @@
 ghost use Rattle.std.specs.Prelude.{◌≡◌, ◌≢◌, ◌+◌, ◌-◌, ◌≤◌, ◌↔◌, ℕ, IfSome, IsTrue, List, None, true, length};
 ghost use Rattle.std.specs.List.{AllByRecursion};
 ghost use Rattle.std.specs.Str.{IsUtf8};
-ghost use Rattle.ac_util.specs.Built.{Built, exchanged, exchanged_in_text, find_refusal, found, has_empty, overlapping_refusal, replace_refusal, search_in, walked};
+ghost use Rattle.ac_util.specs.Built.{Built, exchanged, exchanged_in_text, find_refusal, found, has_empty, overlapping_iter_refusal, overlapping_refusal, replace_refusal, search_in, walked};
 ghost use Rattle.ac_util.specs.Asked.{Asked};
 ghost use Rattle.ac_util.specs.Inputs.{asked};
 ghost use Rattle.ac_util.specs.Inside.{LiesIn};
@@ -19,13 +19,16 @@ ghost use Rattle.ac_search.specs.declared.ahocorasick.choice.AhoCorasickKind.{Ah
 use crate::ahocorasick::{AhoCorasick, AhoCorasickKind};
 use ac_engines::nfa::contiguous::Format;
 pub use ac_util::laws::{
-    clones_are_equal, clones_take_no_memory, closure_exchanges, defaults_are_told,
-    earliest_is_standard, equal_values_hash_equally, errors_compare_by_their_fields,
-    greatest_number_is_told, listing_goes_on, listing_is_exact, matches_cut_no_character,
-    matches_lie_inside, numbers_compare_as_numbers, only_the_span_counts, pick_comes_first,
-    sameness_is_by_letter, steps_replace, tests_decide, text_closure_exchanges,
-    values_compare_by_their_fields, values_hash_by_their_fields, walk_goes_on, walk_has_beginnings,
-    walk_is_in_order, walk_is_short,
+    classes_are_lawful, classes_set_apart, clones_are_equal, clones_take_no_memory,
+    closure_exchanges, dead_is_the_end, defaults_are_told, earliest_is_standard,
+    equal_values_hash_equally, errors_compare_by_their_fields, failures_step_alike,
+    first_pick_follows, greatest_number_is_told, listing_follows, listing_goes_on,
+    listing_is_exact, looks_are_paid, matches_cut_no_character, matches_follow, matches_lie_inside,
+    nodes_are_counted, numbers_compare_as_numbers, only_the_span_counts, pick_begins,
+    pick_comes_first, pick_follows, sameness_is_by_letter, steps_follow, steps_replace,
+    strides_have_room, tests_decide, text_closure_exchanges, values_compare_by_their_fields,
+    values_hash_by_their_fields, walk_goes_on, walk_has_beginnings, walk_is_in_order,
+    walk_is_short,
 };
 use ac_util::search::Input;
 use std::alloc::Allocator;
@@ -92,6 +95,7 @@ pub fn engines_agree<A: Allocator, B: Allocator>(one: &AhoCorasick<A>, other: &A
         × (found one.now.built asked ≡ found other.now.built asked) }
     ensures walk { (asked : Asked) → walked one.now.built asked ≡ walked other.now.built asked }
     ensures listing { (asked : Asked) → (overlapping_refusal one.now.built asked ≡ overlapping_refusal other.now.built asked)
+        × (overlapping_iter_refusal one.now.built asked ≡ overlapping_iter_refusal other.now.built asked)
         × (all (search_in one.now.built asked) ≡ all (search_in other.now.built asked)) }
     ensures replacement { (haystack : List ℕ) → (replace_refusal one.now.built ≡ replace_refusal other.now.built)
         × (exchanged one.now.built haystack ≡ exchanged other.now.built haystack)

@@ -23,17 +23,20 @@ pub mod laws;
 pub mod nfa;
 
 pub use ac_automaton::automaton;
-pub use ac_automaton::automaton::{Automaton, MatchRest, OverlappingState, find_core};
+pub use ac_automaton::automaton::{Automaton, Finder, MatchRest, OverlappingState, find_core};
 pub use ac_engines::dfa;
 pub use ac_util::alphabet::ByteClasses;
 pub use ac_util::device::{Bytes, FromRead, IntoWrite, Sink, Source, Written};
 pub use ac_util::error::{BuildError, MatchError, ReplaceError};
 pub use ac_util::looks::{Looks, Tape, open};
-pub use ac_util::patterns::{Patterns, check_limits};
+pub use ac_util::patterns::{Patterns, check_limits, plain_byte};
 pub use ac_util::plain;
-pub use ac_util::prefilter::{Candidate, Prefilter};
-pub use ac_util::primitives::{GREATEST, PatternID, SmallIndex, StateID, TooLarge};
+pub use ac_util::prefilter::{Candidate, FirstBytes, Needle, Prefilter};
+pub use ac_util::primitives::{
+    GREATEST, OfPattern, OfState, PatternID, Plain, SmallIndex, StateID, TooLarge,
+};
 pub use ac_util::search::{Anchored, Input, Match, MatchKind, Span, StartKind};
+pub use ac_util::tally::Tally;
 pub use ahocorasick::{
     AhoCorasick, AhoCorasickBuilder, AhoCorasickKind, FindIter, FindOverlappingIter, choose_kind,
 };

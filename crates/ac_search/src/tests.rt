@@ -141,8 +141,8 @@ fn told(m: &Match) -> Told {
 }
 
 /// Returns the walk of a searcher as a row says it.
-fn walk_of(rt: HostRuntime, searcher: &AhoCorasick, input: Input<'_>) -> Result<Vec<Told>, Fail> {
-    let mut walked = Vec::new(rt.alloc());
+fn walk_of(alloc: Global, searcher: &AhoCorasick, input: Input<'_>) -> Result<Vec<Told>, Fail> {
+    let mut walked = Vec::new(alloc);
     for found in searcher.try_find_iter(input)? {
         walked.push(told(&found))?;
     }
@@ -306,12 +306,12 @@ fn each_setting_counts(rt: HostRuntime) -> Result<(), Fail> {
     let patterns: [&[u8]; 3] = [b"append", b"appendage", b"app"];
     let mut builder = AhoCorasick::builder();
     let usual = builder.build(rt.alloc(), &patterns)?;
-    let walked = walk_of(rt, &usual, Input::new(b"appendage APP"))?;
+    let walked = walk_of(rt.alloc(), &usual, Input::new(b"appendage APP"))?;
     same(&rt, walked.as_slice(), [(2, 0, 3)].as_slice());
     builder.match_kind(LeftmostFirst);
     let first = builder.build(rt.alloc(), &patterns)?;
     same(&rt, first.match_kind(), LeftmostFirst);
-    let walked = walk_of(rt, &first, Input::new(b"appendage APP"))?;
+    let walked = walk_of(rt.alloc(), &first, Input::new(b"appendage APP"))?;
     same(&rt, walked.as_slice(), [(0, 0, 6)].as_slice());
     builder.ascii_case_insensitive(true);
     builder.kind(Some(AhoCorasickKind::NoncontiguousNFA));
@@ -320,7 +320,7 @@ fn each_setting_counts(rt: HostRuntime) -> Result<(), Fail> {
     same(&rt, all.match_kind(), LeftmostFirst);
     same(&rt, all.start_kind(), StartKind::Both);
     same(&rt, all.kind(), AhoCorasickKind::NoncontiguousNFA);
-    let walked = walk_of(rt, &all, Input::new(b"appendage APP"))?;
+    let walked = walk_of(rt.alloc(), &all, Input::new(b"appendage APP"))?;
     same(&rt, walked.as_slice(), [(0, 0, 6), (2, 10, 13)].as_slice());
     Ok(())
 }
@@ -335,11 +335,11 @@ fn a_clone_answers_equally(rt: HostRuntime) -> Result<(), Fail> {
     builder.ascii_case_insensitive(false);
     let searcher = settings.build(rt.alloc(), &[b"he", b"she", b"hers"])?;
     let clone = searcher.clone()?;
-    let walked = walk_of(rt, &searcher, Input::new(b"usHERS he"))?;
+    let walked = walk_of(rt.alloc(), &searcher, Input::new(b"usHERS he"))?;
     let wanted = [(1, 1, 4), (0, 7, 9)];
     same(&rt, walked.as_slice(), wanted.as_slice());
     drop(searcher);
-    let walked = walk_of(rt, &clone, Input::new(b"usHERS he"))?;
+    let walked = walk_of(rt.alloc(), &clone, Input::new(b"usHERS he"))?;
     same(&rt, walked.as_slice(), wanted.as_slice());
     same(&rt, clone.kind(), AhoCorasickKind::ContiguousNFA);
     same(&rt, clone.match_kind(), LeftmostLongest);
@@ -348,9 +348,9 @@ fn a_clone_answers_equally(rt: HostRuntime) -> Result<(), Fail> {
     Ok(())
 }
 
-/// With each request for memory refused in turn: a refused build is told, and the next one builds.
+/// A builder whose build wanted memory builds again.
 #[test]
-fn a_refused_build_is_told(rt: HostRuntime) -> Result<(), Fail> {
+fn a_build_succeeds_or_wants_memory(rt: HostRuntime) -> Result<(), Fail> {
     for kind in KINDS {
         let mut builder = AhoCorasickBuilder::new();
         builder.kind(kind);

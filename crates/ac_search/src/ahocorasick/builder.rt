@@ -5,7 +5,7 @@ ghost use Rattle.ac_util.specs.Borrowed.{bytes_of};
 ghost use Rattle.ac_automaton.specs.Builds.{IsEngineBuilt, IsRefused};
 ghost use Rattle.ac_search.specs.declared.ahocorasick.choice.AhoCorasickKind.TheVariants.{ContiguousNFA, DFA, NoncontiguousNFA};
 ghost use Rattle.ac_search.specs.Engines.{IsMadeFrom, Supports, built_of, filters_of, name_of, searcher_of};
-ghost use Rattle.ac_search.specs.Searchers.{IsBuilt, RefusesSearcher, choose_kind, engine_refusal, engine_settings, fits, size_refusal, suits_table, usual_settings};
+ghost use Rattle.ac_search.specs.Searchers.{IsBuilt, IsRefusedExactly, RefusesSearcher, choose_kind, engine_refusal, engine_settings, fits, size_refusal, suits_table, usual_settings};
 
 use super::AhoCorasick;
 use super::choice::{AhoCorasickKind, suits_table};
@@ -231,8 +231,8 @@ impl AhoCorasickBuilder {
     {
         match kind {
             AhoCorasickKind::NoncontiguousNFA => Ok(engine_of(nfa)?),
-            AhoCorasickKind::ContiguousNFA => self.packed_over(&nfa),
-            AhoCorasickKind::DFA => self.table_over(&nfa),
+            AhoCorasickKind::ContiguousNFA => self.packed_over(nfa.allocator().clone()?, &nfa),
+            AhoCorasickKind::DFA => self.table_over(nfa.allocator().clone()?, &nfa),
         }
     }
 
@@ -257,7 +257,7 @@ impl AhoCorasickBuilder {
     {
         match self.chosen_table(nfa)? {
             Some(engine) => Ok(Some(engine)),
-            None => unless_too_large(self.packed_over(nfa)),
+            None => unless_too_large(self.packed_over(nfa.allocator().clone()?, nfa)),
         }
     }
 
@@ -279,7 +279,7 @@ impl AhoCorasickBuilder {
             (λ e. e ≡ Memory) }
     {
         if suits_table(self.start_kind, nfa.patterns_len()) {
-            unless_too_large(self.table_over(nfa))
+            unless_too_large(self.table_over(nfa.allocator().clone()?, nfa))
         } else {
             Ok(None)
         }
@@ -288,20 +288,21 @@ impl AhoCorasickBuilder {
     /// Returns a contiguous automaton with this dense depth and these classes.
     ///
     /// # Errors
-    /// `StateIdOverflow` only where it would be too large, and `Memory` where a request for memory is refused.
+    /// `StateIdOverflow` exactly where it would be too large, whether there is memory or not; else `Memory` where a
+    /// request for memory is refused.
     fn packed_over<A: Allocator + Clone>(
         &self,
+        alloc: A,
         nfa: &noncontiguous::NFA<A>,
     ) -> Result<Engine<A>, BuildError>
         ensures { MatchResult result
             (λ engine. IsMadeFrom nfa.now self.now engine ContiguousNFA
             × (size_refusal ContiguousNFA self.now nfa.now.built ≡ None))
-            (IsRefused (size_refusal ContiguousNFA self.now nfa.now.built)) }
+            (IsRefusedExactly (size_refusal ContiguousNFA self.now nfa.now.built)) }
     {
         let mut settings = contiguous::Builder::new();
         settings.dense_depth(self.dense_depth);
         settings.byte_classes(self.byte_classes);
-        let alloc = nfa.allocator().clone()?;
         let packed = settings.build_from_noncontiguous(alloc, nfa)?;
         Ok(Engine::Contiguous(Rc::new(nfa.allocator().clone()?, packed)?))
     }
@@ -309,20 +310,21 @@ impl AhoCorasickBuilder {
     /// Returns a table with these starts and classes.
     ///
     /// # Errors
-    /// `StateIdOverflow` only where it would be too large, and `Memory` where a request for memory is refused.
+    /// `StateIdOverflow` exactly where it would be too large, whether there is memory or not; else `Memory` where a
+    /// request for memory is refused.
     fn table_over<A: Allocator + Clone>(
         &self,
+        alloc: A,
         nfa: &noncontiguous::NFA<A>,
     ) -> Result<Engine<A>, BuildError>
         ensures { MatchResult result
             (λ engine. IsMadeFrom nfa.now self.now engine DFA
             × (size_refusal DFA self.now nfa.now.built ≡ None))
-            (IsRefused (size_refusal DFA self.now nfa.now.built)) }
+            (IsRefusedExactly (size_refusal DFA self.now nfa.now.built)) }
     {
         let mut builder = dfa::Builder::new();
         builder.start_kind(self.start_kind);
         builder.byte_classes(self.byte_classes);
-        let alloc = nfa.allocator().clone()?;
         let table = builder.build_from_noncontiguous(alloc, nfa)?;
         Ok(Engine::Dfa(Rc::new(nfa.allocator().clone()?, table)?))
     }

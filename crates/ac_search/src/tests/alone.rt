@@ -9,8 +9,8 @@ use crate::nfa::contiguous::{Format, check_words, format_of, state_words};
 use crate::nfa::noncontiguous::FIRST_INNER;
 use crate::nfa::{contiguous, noncontiguous};
 use crate::{
-    Anchored, Automaton, BuildError, Input, Looks, Match, MatchError, OverlappingState, PatternID,
-    StartKind, StateID, dfa,
+    Anchored, Automaton, BuildError, Finder, Input, Looks, Match, MatchError, MatchKind,
+    OverlappingState, PatternID, Span, StartKind, StateID, dfa, find_core, open,
 };
 use std::alloc::Global;
 use std::test::Fail;
@@ -96,6 +96,28 @@ fn compare_searches<A: Automaton>(alloc: Global, automaton: &A) -> Result<(), Fa
     Ok(())
 }
 
+/// Compares what the core finds in `ushers`, by one call and by a finder that is used twice.
+fn compare_cores<A: Automaton>(automaton: &A) -> Result<(), Fail> {
+    let input = Input::new(b"ushers");
+    let mut finder = Finder::new(automaton, No, false)?;
+    let (mut tape, mut looks) = open(&input);
+    let found = find_core(automaton, No, false, 0, 6, &mut tape, &mut looks);
+    if found.map(|m| told(&m)) != Some((1, 1, 4)) {
+        return Err(Fail::new("another find by one call"));
+    }
+    let (mut tape, mut looks) = open(&input);
+    let found = finder.find(Span { start: 0, end: 6 }, &mut tape, &mut looks);
+    if found.map(|m| told(&m)) != Some((1, 1, 4)) {
+        return Err(Fail::new("another find"));
+    }
+    let (mut tape, mut looks) = open(&input);
+    let found = finder.find(Span { start: 2, end: 6 }, &mut tape, &mut looks);
+    if found.map(|m| told(&m)) != Some((0, 2, 4)) {
+        return Err(Fail::new("another find from two on"));
+    }
+    Ok(())
+}
+
 /// Compares what an automaton over the pronouns makes of `ushers`.
 fn compare_texts<A: Automaton>(alloc: Global, automaton: &A) -> Result<(), Fail> {
     if automaton.patterns_len() != 4 {
@@ -135,6 +157,7 @@ fn compare_closures<A: Automaton>(alloc: Global, automaton: &A) -> Result<(), Fa
 /// Compares all that an automaton over the pronouns answers.
 fn compare<A: Automaton>(alloc: Global, automaton: &A) -> Result<(), Fail> {
     compare_queries(automaton)?;
+    compare_cores(automaton)?;
     compare_searches(alloc, automaton)?;
     compare_texts(alloc, automaton)?;
     compare_closures(alloc, automaton)
@@ -173,6 +196,66 @@ fn tables_answer_alone(rt: HostRuntime) -> Result<(), Fail> {
     compare(rt.alloc(), &dfa::DFA::new(rt.alloc(), &PRONOUNS)?.clone()?)
 }
 
+/// Compares the walk of an automaton over the words with what is wanted.
+fn compare_walk<A: Automaton>(alloc: Global, automaton: &A, wanted: &[Told]) -> Result<(), Fail> {
+    let input = Input::new(b"append the app to the appendage");
+    if walk_of(alloc, automaton, input)?.as_slice() != wanted {
+        return Err(Fail::new("another walk"));
+    }
+    Ok(())
+}
+
+/// A match kind, and the walk by the words.
+type Walk = (MatchKind, &'static [Told]);
+
+const WALKS: [Walk; 3] = [
+    (Standard, &[(2, 0, 3), (2, 11, 14), (2, 22, 25)]),
+    (LeftmostFirst, &[(0, 0, 6), (2, 11, 14), (0, 22, 28)]),
+    (LeftmostLongest, &[(0, 0, 6), (2, 11, 14), (1, 22, 31)]),
+];
+
+#[test]
+fn clones_walk_alone(rt: HostRuntime) -> Result<(), Fail> {
+    let alloc = rt.alloc();
+    let words: [&[u8]; 3] = [b"append", b"appendage", b"app"];
+    for (kind, wanted) in WALKS {
+        let mut builder = noncontiguous::Builder::new();
+        let trie = builder.match_kind(kind).build(alloc, &words)?;
+        compare_walk(alloc, &trie.clone()?, wanted)?;
+        let packed = contiguous::Builder::new().build_from_noncontiguous(alloc, &trie)?;
+        compare_walk(alloc, &packed.clone()?, wanted)?;
+        let table = dfa::Builder::new().build_from_noncontiguous(alloc, &trie)?;
+        compare_walk(alloc, &table.clone()?, wanted)?;
+    }
+    Ok(())
+}
+
+/// A table without the start that is asked for refuses, even where the span starts past its end.
+#[test]
+fn a_table_refuses_before_it_looks_at_the_span(rt: HostRuntime) -> Result<(), Fail> {
+    let table = dfa::DFA::new(rt.alloc(), &[b"abc"])?;
+    let input = Input::new(b"abc").range(4..3).anchored(Yes);
+    same(
+        &rt,
+        table.try_find(input),
+        Err(MatchError::InvalidInputAnchored),
+    );
+    same(&rt, table.try_find(input.anchored(No)), Ok(None));
+    Ok(())
+}
+
+#[test]
+fn a_table_has_both_starts(rt: HostRuntime) -> Result<(), Fail> {
+    let mut builder = dfa::Builder::new();
+    builder.start_kind(StartKind::Both);
+    let table = builder.build(rt.alloc(), &[b"abc", b"bd"])?;
+    let found = table.try_find(Input::new(b"abd"))?.map(|m| told(&m));
+    same(&rt, found, Some((1, 1, 3)));
+    let found = table.try_find(Input::new(b"abd").anchored(Yes))?;
+    same(&rt, found, None);
+    Ok(())
+}
+
 /// The match kind and the case are those of the trie, whatever the builder of the engine says.
 #[test]
 fn a_trie_gives_its_kind_and_case(rt: HostRuntime) -> Result<(), Fail> {
@@ -203,6 +286,21 @@ fn a_trie_gives_its_kind_and_case(rt: HostRuntime) -> Result<(), Fail> {
         (table.match_kind(), found),
         (LeftmostFirst, Some((1, 0, 3))),
     );
+    Ok(())
+}
+
+/// A builder's own kind does not count.
+#[test]
+fn a_table_takes_its_kind_from_the_trie(rt: HostRuntime) -> Result<(), Fail> {
+    let mut builder = noncontiguous::Builder::new();
+    builder.match_kind(LeftmostFirst);
+    let trie = builder.build(rt.alloc(), &[b"b", b"abc", b"abcd"])?;
+    let mut builder = dfa::Builder::new();
+    builder.match_kind(LeftmostLongest);
+    let table = builder.build_from_noncontiguous(rt.alloc(), &trie)?;
+    same(&rt, table.match_kind(), LeftmostFirst);
+    let found = table.try_find(Input::new(b"abcd"))?.map(|m| told(&m));
+    same(&rt, found, Some((1, 0, 3)));
     Ok(())
 }
 
@@ -282,25 +380,34 @@ fn a_trie_is_read(rt: HostRuntime) -> Result<(), Fail> {
     Ok(())
 }
 
+/// Returns the refusal of an engine that would need this number.
+fn too_large(requested: u64) -> BuildError {
+    BuildError::StateIdOverflow {
+        max: 2147483646,
+        requested,
+    }
+}
+
 #[test]
 fn sizes_have_limits(rt: HostRuntime) {
     same(&rt, dfa::table_len(9, 3), Ok(72));
     same(&rt, dfa::table_len(8388608, 8), Ok(2147483648));
-    let refused = BuildError::StateIdOverflow {
-        max: 2147483646,
-        requested: 2147483648,
-    };
-    same(&rt, dfa::table_len(8388609, 8), Err(refused));
+    let refused = Err(too_large(2147483648));
+    same(&rt, dfa::table_len(8388609, 8), refused);
+    same(&rt, dfa::table_len(2147483647, 0), Ok(2147483647));
+    let refused = Err(too_large(2147483647));
+    same(&rt, dfa::table_len(2147483648, 0), refused);
     same(&rt, check_words(2147483646), Ok(2147483646));
-    let refused = BuildError::StateIdOverflow {
-        max: 2147483646,
-        requested: 2147483647,
-    };
-    same(&rt, check_words(2147483647), Err(refused));
+    let refused = Err(too_large(2147483647));
+    same(&rt, check_words(2147483647), refused);
 }
 
 #[test]
 fn states_have_forms(rt: HostRuntime) {
+    same(&rt, format_of(1, 0, 1, 0), Format::One);
+    same(&rt, format_of(1, 0, 1, 1), Format::Sparse);
+    same(&rt, format_of(1, 0, 127, 0), Format::Sparse);
+    same(&rt, format_of(1, 0, 128, 0), Format::Dense);
     same(&rt, format_of(2, 2, 127, 0), Format::Sparse);
     same(&rt, format_of(2, 2, 128, 0), Format::Dense);
     same(&rt, format_of(1, 2, 1, 0), Format::Dense);

@@ -6,6 +6,7 @@ use crate::{
     OverlappingState, ReplaceError, StartKind, choose_kind,
 };
 use std::alloc::{AllocError, Global};
+use std::process::Abort;
 use std::test::Fail;
 
 /// How a searcher is served: the engine, or None to let it choose, the dense depth, whether bytes share classes, and
@@ -66,7 +67,10 @@ const WORDS: &[&[u8]] = &[b"append", b"appendage", b"app"];
 
 const SENTENCE: &[u8] = b"append the app to the appendage";
 
-const WALKS: [Row; 18] = [
+/// Two patterns of which one begins the other, and one that stands inside both.
+const PREFIXES: &[&[u8]] = &[b"b", b"abc", b"abcd"];
+
+const WALKS: [Row; 22] = [
     Row {
         kinds: EACH,
         patterns: &[b"apple", b"maple", b"Snapple"],
@@ -75,19 +79,19 @@ const WALKS: [Row; 18] = [
     },
     Row {
         kinds: &[Standard],
-        patterns: &[b"b", b"abc", b"abcd"],
+        patterns: PREFIXES,
         haystack: b"abcd",
         walk: &[(0, 1, 2)],
     },
     Row {
         kinds: &[LeftmostFirst],
-        patterns: &[b"b", b"abc", b"abcd"],
+        patterns: PREFIXES,
         haystack: b"abcd",
         walk: &[(1, 0, 3)],
     },
     Row {
         kinds: &[LeftmostLongest],
-        patterns: &[b"b", b"abc", b"abcd"],
+        patterns: PREFIXES,
         haystack: b"abcd",
         walk: &[(2, 0, 4)],
     },
@@ -128,6 +132,12 @@ const WALKS: [Row; 18] = [
         walk: &[(0, 0, 1), (2, 7, 9)],
     },
     Row {
+        kinds: &[LeftmostLongest],
+        patterns: &[b"a", b"abcdefghi", b"hz", b"abcdefgh"],
+        haystack: b"abcdefghz",
+        walk: &[(3, 0, 8)],
+    },
+    Row {
         kinds: &[LeftmostFirst, LeftmostLongest],
         patterns: &[b"b", b"abcdefghi", b"hz", b"abcdefgh"],
         haystack: b"abcdefghz",
@@ -147,9 +157,15 @@ const WALKS: [Row; 18] = [
     },
     Row {
         kinds: &[LeftmostFirst],
-        patterns: &[b"b", b"abc", b"abcd"],
+        patterns: PREFIXES,
         haystack: b"foo abcd",
         walk: &[(1, 4, 7)],
+    },
+    Row {
+        kinds: EACH,
+        patterns: PREFIXES,
+        haystack: b"xb",
+        walk: &[(0, 1, 2)],
     },
     Row {
         kinds: &[Standard],
@@ -170,6 +186,18 @@ const WALKS: [Row; 18] = [
         walk: &[(0, 0, 3)],
     },
     Row {
+        kinds: &[Standard],
+        patterns: &[b"a", b"aa"],
+        haystack: b"aaa",
+        walk: &[(0, 0, 1), (0, 1, 2), (0, 2, 3)],
+    },
+    Row {
+        kinds: EACH,
+        patterns: &[b""],
+        haystack: b"",
+        walk: &[(0, 0, 0)],
+    },
+    Row {
         kinds: EACH,
         patterns: &[],
         haystack: b"abc",
@@ -177,7 +205,30 @@ const WALKS: [Row; 18] = [
     },
 ];
 
-const ANCHORED_WALKS: [Row; 5] = [
+/// The same with `earliest`.
+const EARLIEST_WALKS: [Row; 3] = [
+    Row {
+        kinds: EACH,
+        patterns: PREFIXES,
+        haystack: b"abcd",
+        walk: &[(0, 1, 2)],
+    },
+    Row {
+        kinds: EACH,
+        patterns: PREFIXES,
+        haystack: b"foo abcd",
+        walk: &[(0, 5, 6)],
+    },
+    Row {
+        kinds: EACH,
+        patterns: PREFIXES,
+        haystack: b"abcdabcd",
+        walk: &[(0, 1, 2), (0, 5, 6)],
+    },
+];
+
+/// The same of anchored walks.
+const ANCHORED_WALKS: [Row; 9] = [
     Row {
         kinds: EACH,
         patterns: &[b"abc", b"bd"],
@@ -192,15 +243,33 @@ const ANCHORED_WALKS: [Row; 5] = [
     },
     Row {
         kinds: &[LeftmostFirst],
-        patterns: &[b"b", b"abc", b"abcd"],
+        patterns: PREFIXES,
         haystack: b"foo abcd",
         walk: &[],
     },
     Row {
-        kinds: &[LeftmostFirst],
-        patterns: &[b"b", b"abc", b"abcd"],
+        kinds: &[Standard, LeftmostFirst],
+        patterns: PREFIXES,
         haystack: b"abcd",
         walk: &[(1, 0, 3)],
+    },
+    Row {
+        kinds: &[LeftmostLongest],
+        patterns: PREFIXES,
+        haystack: b"abcd",
+        walk: &[(2, 0, 4)],
+    },
+    Row {
+        kinds: EACH,
+        patterns: PREFIXES,
+        haystack: b"abd",
+        walk: &[],
+    },
+    Row {
+        kinds: EACH,
+        patterns: PREFIXES,
+        haystack: b"xb",
+        walk: &[],
     },
     Row {
         kinds: &[LeftmostFirst],
@@ -208,7 +277,21 @@ const ANCHORED_WALKS: [Row; 5] = [
         haystack: b"fooquuxbar foo",
         walk: &[(0, 0, 3), (2, 3, 7), (1, 7, 10)],
     },
+    Row {
+        kinds: EACH,
+        patterns: &[b""],
+        haystack: b"",
+        walk: &[(0, 0, 0)],
+    },
 ];
+
+/// The same of anchored walks with `earliest`.
+const ANCHORED_EARLIEST_WALKS: [Row; 1] = [Row {
+    kinds: EACH,
+    patterns: PREFIXES,
+    haystack: b"abcd",
+    walk: &[(1, 0, 3)],
+}];
 
 /// Returns a builder that takes this engine.
 fn builder_of(engine: &Engine, kind: MatchKind, start_kind: StartKind) -> AhoCorasickBuilder {
@@ -226,72 +309,80 @@ fn builder_of(engine: &Engine, kind: MatchKind, start_kind: StartKind) -> AhoCor
 struct Answers {
     walk: Vec<Told>,
     find: Option<Told>,
+    is_match: bool,
 }
 
-/// Returns what a searcher by these settings answers for a row.
-fn answers_of(
-    rt: HostRuntime,
-    builder: &AhoCorasickBuilder,
-    row: &Row,
-    anchored: Anchored,
-) -> Result<Answers, Fail> {
-    let searcher = builder.build(rt.alloc(), row.patterns)?;
-    let input = Input::new(row.haystack).anchored(anchored);
+/// Returns what a searcher answers for an input that it supports.
+fn answers_of(alloc: Global, searcher: &AhoCorasick, input: Input<'_>) -> Result<Answers, Fail> {
+    searcher.try_find(input)?;
+    let mut walk = Vec::new(alloc);
+    for found in searcher.find_iter(input) {
+        walk.push(told(&found))?;
+    }
     Ok(Answers {
-        walk: walk_of(rt, &searcher, input)?,
-        find: searcher.try_find(input)?.map(|m| told(&m)),
+        walk,
+        find: searcher.find(input).map(|m| told(&m)),
+        is_match: searcher.is_match(input),
     })
+}
+
+/// Returns the find of a searcher that supports the input.
+fn find_of(searcher: &AhoCorasick, input: Input<'_>) -> Result<Option<Told>, MatchError> {
+    searcher.try_find(input)?;
+    Ok(searcher.find(input).map(|m| told(&m)))
+}
+
+/// How rows are searched: by searchers with either start kind, and with these options.
+#[derive(Clone, Copy)]
+struct Search {
+    start_kinds: [StartKind; 2],
+    anchored: Anchored,
+    earliest: bool,
+}
+
+/// Compares what clones of searchers answer, over each engine, with what rows say.
+fn compare_rows(rt: &impl Abort, alloc: Global, rows: &[Row], search: &Search) -> Result<(), Fail> {
+    for engine in &engines(alloc)? {
+        for start_kind in search.start_kinds {
+            for row in rows {
+                for &kind in row.kinds {
+                    let builder = builder_of(engine, kind, start_kind);
+                    let searcher = builder.build(alloc, row.patterns)?.clone()?;
+                    let input = Input::new(row.haystack).anchored(search.anchored);
+                    let answers = answers_of(alloc, &searcher, input.earliest(search.earliest))?;
+                    let first = row.walk.first().copied();
+                    same_by(rt, answers.walk.as_slice(), row.walk, &builder);
+                    same_by(rt, answers.find, first, &builder);
+                    same_by(rt, answers.is_match, first.is_some(), &builder);
+                }
+            }
+        }
+    }
+    Ok(())
 }
 
 #[test]
 fn each_engine_walks_alike(rt: HostRuntime) -> Result<(), Fail> {
-    for engine in &engines(rt.alloc())? {
-        for start_kind in [StartKind::Unanchored, StartKind::Both] {
-            for row in &WALKS {
-                for &kind in row.kinds {
-                    let builder = builder_of(engine, kind, start_kind);
-                    let answers = answers_of(rt, &builder, row, Anchored::No)?;
-                    same_by(&rt, answers.walk.as_slice(), row.walk, &builder);
-                    same_by(&rt, answers.find, row.walk.first().copied(), &builder);
-                }
-            }
-        }
-    }
-    Ok(())
+    let mut search = Search {
+        start_kinds: [StartKind::Unanchored, StartKind::Both],
+        anchored: Anchored::No,
+        earliest: false,
+    };
+    compare_rows(&rt, rt.alloc(), &WALKS, &search)?;
+    search.earliest = true;
+    compare_rows(&rt, rt.alloc(), &EARLIEST_WALKS, &search)
 }
 
 #[test]
 fn each_engine_walks_alike_from_its_start(rt: HostRuntime) -> Result<(), Fail> {
-    for engine in &engines(rt.alloc())? {
-        for start_kind in [StartKind::Anchored, StartKind::Both] {
-            for row in &ANCHORED_WALKS {
-                for &kind in row.kinds {
-                    let builder = builder_of(engine, kind, start_kind);
-                    let answers = answers_of(rt, &builder, row, Anchored::Yes)?;
-                    same_by(&rt, answers.walk.as_slice(), row.walk, &builder);
-                    same_by(&rt, answers.find, row.walk.first().copied(), &builder);
-                }
-            }
-        }
-    }
-    Ok(())
-}
-
-#[test]
-fn each_engine_finds_the_earliest(rt: HostRuntime) -> Result<(), Fail> {
-    for engine in &engines(rt.alloc())? {
-        for &kind in EACH {
-            let builder = builder_of(engine, kind, StartKind::Unanchored);
-            let searcher = builder.build(rt.alloc(), &[b"b", b"abc", b"abcd"])?;
-            let input = Input::new(b"abcd").earliest(true);
-            let found = searcher.try_find(input)?.map(|m| told(&m));
-            same_by(&rt, found, Some((0, 1, 2)), &kind);
-            let input = Input::new(b"foo abcd").earliest(true);
-            let found = searcher.try_find(input)?.map(|m| told(&m));
-            same_by(&rt, found, Some((0, 5, 6)), &kind);
-        }
-    }
-    Ok(())
+    let mut search = Search {
+        start_kinds: [StartKind::Anchored, StartKind::Both],
+        anchored: Anchored::Yes,
+        earliest: false,
+    };
+    compare_rows(&rt, rt.alloc(), &ANCHORED_WALKS, &search)?;
+    search.earliest = true;
+    compare_rows(&rt, rt.alloc(), &ANCHORED_EARLIEST_WALKS, &search)
 }
 
 #[test]
@@ -304,22 +395,47 @@ fn each_engine_ignores_case_alike(rt: HostRuntime) -> Result<(), Fail> {
             let counts = builder.build(rt.alloc(), &patterns)?;
             same(
                 &rt,
-                walk_of(rt, &counts, Input::new(b"foo bar baz"))?.len(),
+                walk_of(rt.alloc(), &counts, Input::new(b"foo bar baz"))?.len(),
                 0,
             );
             builder.ascii_case_insensitive(true);
             let ignores = builder.build(rt.alloc(), &patterns)?;
-            let walked = walk_of(rt, &ignores, Input::new(b"foo bar baz"))?;
+            let walked = walk_of(rt.alloc(), &ignores, Input::new(b"foo bar baz"))?;
             same_by(&rt, walked.as_slice(), wanted.as_slice(), &kind);
             let fruit = builder.build(rt.alloc(), &[b"apple", b"maple", b"snapple"])?;
             let input = Input::new(b"Nobody likes maple in their apple flavored Snapple.");
-            let walked = walk_of(rt, &fruit, input)?;
+            let walked = walk_of(rt.alloc(), &fruit, input)?;
             let wanted = [(1, 13, 18), (0, 28, 33), (2, 43, 50)];
             same_by(&rt, walked.as_slice(), wanted.as_slice(), &kind);
+            let letters = builder.build(rt.alloc(), &[b"ab", b"AB"])?;
+            let found = find_of(&letters, Input::new(b"aB"))?;
+            same_by(&rt, found, Some((0, 0, 2)), &kind);
+            let bracket = builder.build(rt.alloc(), &[b"["])?;
+            same_by(&rt, find_of(&bracket, Input::new(b"{"))?, None, &kind);
         }
     }
     Ok(())
 }
+
+/// Returns the listing of a searcher as a row says it.
+fn listing_of(alloc: Global, searcher: &AhoCorasick, input: Input<'_>) -> Result<Vec<Told>, Fail> {
+    searcher.try_find_overlapping_iter(input)?;
+    let mut listed = Vec::new(alloc);
+    for m in searcher.find_overlapping_iter(input) {
+        listed.push(told(&m))?;
+    }
+    Ok(listed)
+}
+
+/// The listing of `aaaa` from 1 to 4 by one letter a, two and three.
+const WITHIN_LETTERS: [Told; 6] = [
+    (0, 1, 2),
+    (1, 1, 3),
+    (0, 2, 3),
+    (2, 1, 4),
+    (1, 2, 4),
+    (0, 3, 4),
+];
 
 #[test]
 fn each_engine_lists_alike(rt: HostRuntime) -> Result<(), Fail> {
@@ -328,12 +444,12 @@ fn each_engine_lists_alike(rt: HostRuntime) -> Result<(), Fail> {
             let builder = builder_of(engine, Standard, start_kind);
             for &(patterns, haystack, wanted) in LISTINGS {
                 let searcher = builder.build(rt.alloc(), patterns)?;
-                let mut listed = Vec::new(rt.alloc());
-                for m in searcher.try_find_overlapping_iter(Input::new(haystack))? {
-                    listed.push(told(&m))?;
-                }
+                let listed = listing_of(rt.alloc(), &searcher, Input::new(haystack))?;
                 same_by(&rt, listed.as_slice(), wanted, &builder);
             }
+            let searcher = builder.build(rt.alloc(), &[b"a", b"aa", b"aaa"])?;
+            let listed = listing_of(rt.alloc(), &searcher, Input::new(b"aaaa").range(1..4))?;
+            same_by(&rt, listed.as_slice(), WITHIN_LETTERS.as_slice(), &builder);
         }
     }
     Ok(())
@@ -350,6 +466,16 @@ fn each_engine_lists_alike_from_its_start(rt: HostRuntime) -> Result<(), Fail> {
             same(&rt, state.get_match().map(|m| told(&m)), Some((2, 0, 3)));
             searcher.try_find_overlapping(input, &mut state)?;
             same(&rt, state.get_match().map(|m| told(&m)), Some((0, 0, 6)));
+            searcher.try_find_overlapping(input, &mut state)?;
+            same_by(&rt, state.get_match(), None, &start_kind);
+            let searcher = builder_of(engine, Standard, start_kind).build(
+                rt.alloc(),
+                &[b"b", b"abc"],
+            )?;
+            let input = Input::new(b"abc").anchored(Anchored::Yes);
+            let mut state = OverlappingState::start();
+            searcher.try_find_overlapping(input, &mut state)?;
+            same(&rt, state.get_match().map(|m| told(&m)), Some((1, 0, 3)));
             searcher.try_find_overlapping(input, &mut state)?;
             same_by(&rt, state.get_match(), None, &start_kind);
         }
@@ -371,7 +497,7 @@ fn each_engine_tells_many_bytes_apart(rt: HostRuntime) -> Result<(), Fail> {
             let builder = builder_of(engine, Standard, StartKind::Unanchored);
             let patterns: Vec<&[u8]> = patterns.iter().copied().take(count).collect(rt.alloc())?;
             let searcher = builder.build(rt.alloc(), &patterns)?;
-            let walked = walk_of(rt, &searcher, Input::new(&haystack))?;
+            let walked = walk_of(rt.alloc(), &searcher, Input::new(&haystack))?;
             same(&rt, walked.len(), count);
             for (number, found) in walked.iter().enumerate() {
                 let start = number.saturating_mul(2);
@@ -390,8 +516,7 @@ fn each_engine_finds_from_where_its_span_begins(rt: HostRuntime) -> Result<(), F
         let whole = Input::new(b"foo abcd");
         for anchored in [Anchored::No, Anchored::Yes] {
             let input = whole.range(4..8).anchored(anchored);
-            let found = searcher.try_find(input)?.map(|m| told(&m));
-            same_by(&rt, found, Some((1, 4, 7)), &anchored);
+            same_by(&rt, find_of(&searcher, input)?, Some((1, 4, 7)), &anchored);
         }
     }
     Ok(())
@@ -429,11 +554,26 @@ fn each_engine_calls_closures_alike(rt: HostRuntime) -> Result<(), Fail> {
             push_number(found, destination)
         })?;
         same(&rt, told.as_str(), "pre0 the 2 to the 0age");
-        let mut told = Vec::new(rt.alloc());
-        searcher.try_replace_all_with_bytes(SENTENCE, &mut told, |found, slice, destination| {
-            destination.extend_from_slice(slice).is_ok() && found.pattern().as_usize() != 2
+        let mut told = String::new(rt.alloc());
+        searcher.try_replace_all_with(sentence, &mut told, |found, _, destination| {
+            push_number(found, destination) && found.pattern().as_usize() != 2
         })?;
-        same(&rt, told.as_slice(), SENTENCE);
+        same(&rt, told.as_str(), "0 the 2 to the appendage");
+        let mut told = String::from_str(rt.alloc(), "keep")?;
+        searcher.try_replace_all_with(sentence, &mut told, |_, _, destination| {
+            destination.clear();
+            true
+        })?;
+        same(&rt, told.as_str(), "age");
+        let mut told = String::new(rt.alloc());
+        searcher.try_replace_all_with(sentence, &mut told, |_, _, _| false)?;
+        same(&rt, told.as_str(), " the app to the appendage");
+        let mut told = Vec::new(rt.alloc());
+        searcher.try_replace_all_with_bytes(SENTENCE, &mut told, |found, _, destination| {
+            destination.push(b'-').is_ok() && found.pattern().as_usize() != 2
+        })?;
+        let wanted = b"- the - to the appendage".as_slice();
+        same(&rt, told.as_slice(), wanted);
     }
     Ok(())
 }
@@ -443,10 +583,12 @@ fn each_engine_refuses_alike(rt: HostRuntime) -> Result<(), Fail> {
     for engine in &engines(rt.alloc())? {
         for &(start_kind, anchored, refusal) in STARTS {
             let builder = builder_of(engine, Standard, start_kind);
-            let searcher = builder.build(rt.alloc(), &[b"b"])?;
-            let input = Input::new(b"b").range(1..0).anchored(anchored);
-            same_by(&rt, searcher.try_find(input).err(), refusal, &builder);
-            same_by(&rt, searcher.try_find_iter(input).err(), refusal, &builder);
+            let searcher = builder.build(rt.alloc(), PREFIXES)?;
+            let input = Input::new(b"abcd").anchored(anchored);
+            for input in [input, input.range(1..0)] {
+                same_by(&rt, searcher.try_find(input).err(), refusal, &builder);
+                same_by(&rt, searcher.try_find_iter(input).err(), refusal, &builder);
+            }
         }
         for &(start_kind, kind, anchored, by_state, by_iterator) in OVERLAPPING_REFUSALS {
             let builder = builder_of(engine, kind, start_kind);
@@ -518,6 +660,8 @@ const CHOICES: [Choice; 9] = [
 fn an_engine_is_chosen(rt: HostRuntime) -> Result<(), Fail> {
     let searcher = AhoCorasick::new(rt.alloc(), &[b"foo", b"bar", b"quux", b"baz"])?;
     same(&rt, searcher.kind(), AhoCorasickKind::DFA);
+    same(&rt, searcher.start_kind(), StartKind::Unanchored);
+    same(&rt, searcher.match_kind(), Standard);
     same(&rt, searcher.min_pattern_len(), 3);
     same(&rt, searcher.max_pattern_len(), 4);
     for (count, start_kind, named, wanted) in CHOICES {
@@ -604,8 +748,7 @@ fn each_engine_keeps_to_the_span(rt: HostRuntime) -> Result<(), Fail> {
                 let builder = builder_of(engine, kind, StartKind::Unanchored);
                 let searcher = builder.build(rt.alloc(), patterns)?;
                 let input = Input::new(haystack).range(start..end);
-                let found = searcher.try_find(input)?.map(|m| told(&m));
-                same_by(&rt, found, wanted, &(start, end));
+                same_by(&rt, find_of(&searcher, input)?, wanted, &(start, end));
             }
         }
     }

@@ -233,9 +233,8 @@ fn a_refused_replacement_changes_nothing(rt: HostRuntime) -> Result<(), Fail> {
     Ok(())
 }
 
-/// With each request for memory refused in turn: a list tells it.
 #[test]
-fn want_of_memory_is_told_by_lists(rt: HostRuntime) -> Result<(), Fail> {
+fn lists_exchange_or_want_memory(rt: HostRuntime) -> Result<(), Fail> {
     let searcher = AhoCorasick::new(rt.alloc(), &[b"a"])?;
     match searcher.try_replace_all(rt.alloc(), "ab", &["xyz"]) {
         Ok(replaced) => same(&rt, replaced.as_str(), "xyzb"),
@@ -254,9 +253,9 @@ fn want_of_memory_is_told_by_lists(rt: HostRuntime) -> Result<(), Fail> {
     Ok(())
 }
 
-/// With each request for memory refused in turn: a closure's destination is as the steps before left it.
+/// Where an append wants memory, the destination is as the steps before left it.
 #[test]
-fn want_of_memory_leaves_the_steps_before(rt: HostRuntime) -> Result<(), Fail> {
+fn closures_exchange_or_want_memory(rt: HostRuntime) -> Result<(), Fail> {
     let searcher = AhoCorasick::new(rt.alloc(), &[b"a"])?;
     let mut text = String::new(rt.alloc());
     match searcher.try_replace_all_with("-ab", &mut text, |_, _, _| true) {

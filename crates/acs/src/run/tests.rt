@@ -41,6 +41,13 @@ const RUNS: &[Row] = &[
         Ok(Outcome::Nothing),
     ),
     (
+        "walk for no word by the engine that is chosen",
+        &["walk", "std", "auto"],
+        "abc",
+        "",
+        Ok(Outcome::Nothing),
+    ),
+    (
         "walk for apple, maple, Snapple",
         &["walk", "std", "noncontiguous", "apple", "maple", "Snapple"],
         "Nobody likes maple in their apple flavored Snapple.",
@@ -515,7 +522,7 @@ fn overlap_by_a_leftmost_kind_reads_and_writes_nothing(rt: HostRuntime) -> Resul
             until: usize::MAX,
         });
         let mut writer = Written::new(rt.alloc());
-        let words = ["overlap", kind, "noncontiguous", "a"];
+        let words = ["overlap", kind, "auto", "a"];
         let answer = run(rt.alloc(), &words, &mut reader, &mut writer);
         drop(reader);
         assert_eq!(rt; answer, Err(Fault::OverlappingKind), "{kind}");

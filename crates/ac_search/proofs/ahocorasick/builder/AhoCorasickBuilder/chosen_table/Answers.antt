@@ -6,8 +6,8 @@ use Rattle.ac_search.proofs.Fitting.{kept-or-left_out, size-overflow}
 use Rattle.ac_search.proofs.ahocorasick.builder.AhoCorasickBuilder.chosen_table.Goals as goal
 
 -- a table that suits is kept where it fits
-pub returns-then-suits_table : goal.returns-then-suits_table
-returns-then-suits_table g c =
+pub returns-in_ok-clone : goal.returns-in_ok-clone
+returns-in_ok-clone g c =
     let suits : suits_table c.args.self.now.start_kind (length c.args.nfa.now.built.patterns) ≡ true = search rules in
     kept-or-left_out (λ engine. IsMadeFrom c.args.nfa.now c.args.self.now engine DFA) _
     (size_refusal DFA c.args.self.now c.args.nfa.now.built) c.table_over.result c.unless_too_large.result suits
