@@ -1,5 +1,5 @@
 -- What the words after the program's name ask for.
-use Rattle.std.specs.Prelude.{ℕ, ◌%◌, ◌==◌, List, [], ◌∷◌, Option, None, Some, Bool, true, false, bytes_eq, codes, drop, length, if◌then◌else◌}
+use Rattle.std.specs.Prelude.{ℕ, ◌%◌, ◌==◌, List, [], ◌∷◌, Option, None, Some, Bool, true, false, bytes_eq, String, codes, drop, length, map, string_bytes, if◌then◌else◌}
 use Rattle.ac_util.specs.declared.search.MatchKind.{MatchKind}
 use Rattle.ac_util.specs.declared.search.MatchKind.TheVariants.{Standard, LeftmostFirst, LeftmostLongest}
 use Rattle.ac_util.specs.declared.search.StartKind.TheVariants.{Unanchored}
@@ -53,6 +53,10 @@ abbrev pub request_of : List (List ℕ) → Option Request
 request_of (mode ∷ kind ∷ engine ∷ words) =
     request_with (mode_of mode) (kind_of kind) (engine_of engine) (length words)
 request_of words = None
+
+-- the words among the arguments, of which the first is the program's name
+abbrev pub words_among : {A : Type 0} → List (String A) → List (List ℕ)
+words_among arguments = drop 1 (map string_bytes arguments)
 
 -- the words behind these three
 abbrev pub words_behind : List (List ℕ) → List (List ℕ)

@@ -11,7 +11,7 @@ use Rattle.acs.specs.declared.request.Mode.TheVariants.{Replace}
 use Rattle.acs.specs.declared.request.Request.{Request}
 use Rattle.acs.specs.declared.run.Outcome.{Outcome}
 use Rattle.acs.specs.Faults.{IsRefusal, line_of}
-use Rattle.acs.specs.Lines.{Output, output_of}
+use Rattle.acs.specs.Lines.{Output, output_of, status_of}
 use Rattle.acs.specs.Requests.{patterns_in, request_of, request_refusal, settings_of, texts_in, words_behind}
 
 -- the bytes are all that the reader gave up to the first read that gave none, where it was asked no more, and
@@ -135,3 +135,11 @@ abbrev pub HasTold : Result Outcome Fault → Writing → Writing → Type 0
 HasTold (Ok outcome) old new = new ≡ old
 HasTold (Err fault) old new =
     WritesAll old new (told_of fault) ⊎ ((cause : Fault) × FailsToWrite old new (told_of fault) cause)
+
+-- the run has answered the words, a fault was told, and this is the exit status
+abbrev pub HasEnded : Bool → List (List ℕ) → Reading → Reading → Writing → Writing → Writing → Writing → ℕ → Type 0
+HasEnded ends words reader new_reader writer new_writer errors new_errors status =
+    (outcome : Result Outcome Fault)
+    × HasAnswered ends words reader new_reader writer new_writer outcome
+    × HasTold outcome errors new_errors
+    × (status ≡ status_of outcome)

@@ -3,7 +3,7 @@
 
 use ac_search::{FromRead, IntoWrite, Sink};
 use fault::Fault;
-use run::{run_and_tell, status, tell};
+use run::{run_on_arguments, status, tell};
 use std::process::ExitCode;
 use std::{env, io};
 
@@ -29,24 +29,17 @@ fn main(rt: HostRuntime) -> ExitCode {
     ExitCode::from(status)
 }
 
-/// Runs over the words after the program's name, standard input and standard output, and returns the exit status.
+/// Runs on the program's arguments, standard input and standard output, and returns the exit status.
 ///
 /// # Errors
-/// `Memory` where the words can't be copied, `Usage` where one of them is no text.
+/// `Memory` where the arguments can't be copied, `Usage` where one of them is no text.
 fn run_on_streams<E: Sink>(rt: &HostRuntime, errors: &mut E) -> Result<u8, Fault> {
-    let alloc = rt.alloc();
-    let words = match env::args(rt) {
-        Ok(words) => words,
+    let arguments = match env::args(rt) {
+        Ok(arguments) => arguments,
         Err(e) if e.kind() == io::ErrorKind::OutOfMemory => return Err(Fault::Memory),
         Err(_) => return Err(Fault::Usage),
     };
-    let words: Vec<String> = words.skip(1).collect(alloc)?;
-    let mut texts = Vec::new(alloc);
-    for word in &words {
-        texts.push(word.as_str())?;
-    }
     let mut reader = FromRead::new(rt.stdin().lock());
     let mut writer = IntoWrite::new(rt.stdout().lock());
-    let status = run_and_tell(alloc, &texts, &mut reader, &mut writer, errors);
-    Ok(status)
+    run_on_arguments(rt.alloc(), arguments, &mut reader, &mut writer, errors)
 }

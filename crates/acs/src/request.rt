@@ -3,7 +3,7 @@ ghost use Rattle.std.specs.Prelude.{◌≡◌, Err, IfOk, MatchOption, Ok};
 ghost use Rattle.ac_util.specs.Borrowed.{bytes_of};
 ghost use Rattle.ac_util.specs.Limits.{limit_refusal};
 ghost use Rattle.acs.specs.Faults.{fault_of};
-ghost use Rattle.acs.specs.Requests.{allows_count, engine_of, firsts, kind_of, mode_of, patterns_in, request_of, seconds};
+ghost use Rattle.acs.specs.Requests.{allows_count, engine_of, firsts, kind_of, mode_of, patterns_in, request_of, seconds, words_among};
 
 use crate::fault::Fault;
 use ac_search::{AhoCorasickKind, MatchKind, PatternID, check_limits};
@@ -29,6 +29,25 @@ pub(crate) struct Request {
     pub(crate) kind: MatchKind,
     /// The engine that is named; with none the searcher chooses.
     pub(crate) engine: Option<AhoCorasickKind>,
+}
+
+/// Returns the words among the arguments: all but the first, which is the program's name.
+///
+/// # Errors
+/// `AllocError` where a request for memory is refused.
+pub(crate) fn words_among<'w, A: Allocator>(
+    alloc: A,
+    arguments: &'w [String],
+) -> Result<Vec<&'w str, A>, AllocError>
+    ensures { IfOk result (λ words. bytes_of words.items ≡ words_among arguments.now) }
+{
+    let mut words = Vec::new(alloc);
+    if let Some((_name, rest)) = arguments.split_first() {
+        for word in rest {
+            words.push(word.as_str())?;
+        }
+    }
+    Ok(words)
 }
 
 /// Returns what the words ask for, or `None` where they ask for nothing that there is.

@@ -1,18 +1,22 @@
 //! The program over any reader and writer.
-ghost use Rattle.std.specs.Prelude.{◌≡◌, MatchResult, None, Result, Some};
+ghost use Rattle.std.specs.Prelude.{◌≡◌, IfErr, IfOk, List, MatchResult, None, Some, String};
+ghost use Rattle.std.specs.declared.alloc.Global.{Global};
+ghost use Rattle.std.specs.Iterator.{Drains, IsFinite};
 ghost use Rattle.ac_util.specs.Borrowed.{bytes_of};
 ghost use Rattle.ac_search.specs.Searchers.{IsBuilt};
 ghost use Rattle.acs.specs.declared.fault.Fault;
+ghost use Rattle.acs.specs.declared.fault.Fault.TheVariants.{Memory};
 ghost use Rattle.acs.specs.Lines.{status_of};
 ghost use Rattle.acs.specs.Faults.{IsRefusal};
-ghost use Rattle.acs.specs.Requests.{request_refusal, settings_of};
-ghost use Rattle.acs.specs.Runs.{HasAnswered, HasFailed, HasRun, HasTold};
-ghost use Rattle.acs.specs.declared.run.Outcome;
+ghost use Rattle.acs.specs.Requests.{request_refusal, settings_of, words_among};
+ghost use Rattle.acs.specs.Runs.{HasAnswered, HasEnded, HasFailed, HasRun, HasTold};
 
 use crate::fault::Fault;
 use crate::input::read_all;
 use crate::output::{print_found, print_listing, print_text, print_walk, write_line};
-use crate::request::{Mode, Request, check_patterns, patterns_of, request_of, texts_of};
+use crate::request::{
+    Mode, Request, check_patterns, patterns_of, request_of, texts_of, words_among,
+};
 use ac_search::{AhoCorasick, AhoCorasickBuilder, Input, MatchKind, Sink, Source};
 use std::alloc::Allocator;
 
@@ -61,6 +65,31 @@ pub fn run<A: Allocator + Clone, R: Source, W: Sink>(
     search(alloc, request, &words[3..], reader, writer)
 }
 
+/// Runs on the words among the arguments: all but the first, which is the program's name, each as it was given. Tells a
+/// fault and returns the exit status, as `run_and_tell` does.
+///
+/// # Errors
+/// `Memory` where the arguments can't be copied: then nothing is read, written or told.
+pub fn run_on_arguments<
+    A: Allocator + Clone,
+    I: Iterator<Item = String>,
+    R: Source,
+    W: Sink,
+    E: Sink,
+>(alloc: A, arguments: I, reader: &mut R, writer: &mut W, errors: &mut E) -> Result<u8, Fault>
+    requires can { I.can_next arguments }
+    requires finite { IsFinite (I.remaining arguments) }
+    ensures ended { IfOk result (λ status. (given : List (String Global)) × Drains I.next_gives arguments given
+        × HasEnded R.empty_means_end (words_among given) (R.told reader.old) (R.told reader.new)
+        (W.told writer.old) (W.told writer.new) (E.told errors.old) (E.told errors.new) status) }
+    ensures refused { IfErr result (λ fault. (fault ≡ Memory) × (R.told reader.new ≡ R.told reader.old)
+        × (W.told writer.new ≡ W.told writer.old) × (E.told errors.new ≡ E.told errors.old)) }
+{
+    let arguments: Vec<String, A> = arguments.collect(alloc.clone()?)?;
+    let words = words_among(alloc.clone()?, &arguments)?;
+    Ok(run_and_tell(alloc, &words, reader, writer, errors))
+}
+
 /// Runs, tells a fault by its line on a third device, and returns the exit status: 0 where a line or a whole replaced
 /// text was written, 1 where no line was, 2 after a fault.
 ///
@@ -72,11 +101,8 @@ pub fn run_and_tell<A: Allocator + Clone, R: Source, W: Sink, E: Sink>(
     writer: &mut W,
     errors: &mut E,
 ) -> u8
-    ensures { (outcome : Result Outcome Fault)
-        × HasAnswered R.empty_means_end (bytes_of words.now) (R.told reader.old) (R.told reader.new)
-        (W.told writer.old) (W.told writer.new) outcome
-        × HasTold outcome (E.told errors.old) (E.told errors.new)
-        × (result ≡ status_of outcome) }
+    ensures { HasEnded R.empty_means_end (bytes_of words.now) (R.told reader.old) (R.told reader.new)
+        (W.told writer.old) (W.told writer.new) (E.told errors.old) (E.told errors.new) result }
 {
     let outcome = run(alloc, words, reader, writer);
     tell(&outcome, errors);

@@ -1,4 +1,4 @@
-use super::{Outcome, run, run_and_tell, status};
+use super::{Outcome, run, run_and_tell, run_on_arguments, status};
 use crate::fault::Fault;
 use ac_search::{Bytes, FromRead, IntoWrite, Written};
 use std::alloc::{AllocError, Global};
@@ -452,6 +452,48 @@ fn faults_are_told_beside_the_lines(rt: HostRuntime) -> Result<(), Fail> {
         let mut errors = Written::new(rt.alloc());
         let status = run_and_tell(rt.alloc(), words, &mut reader, &mut writer, &mut errors);
         assert_eq!(rt; status, number);
+        assert_eq!(rt; writer.bytes(), wanted);
+        assert_eq!(rt; errors.bytes(), line);
+    }
+    Ok(())
+}
+
+/// Returns the arguments of a program: its name, and then these words.
+fn arguments_of(alloc: Global, words: &[&str]) -> Result<Vec<String>, AllocError> {
+    let mut arguments = Vec::new(alloc);
+    arguments.push(String::from_str(alloc, "acs")?)?;
+    for word in words {
+        arguments.push(String::from_str(alloc, word)?)?;
+    }
+    Ok(arguments)
+}
+
+/// Words with blanks in and around them, equal words, a name with a blank behind it, and no words.
+const AS_GIVEN: &[(&[&str], &[u8], &[u8], u8)] = &[
+    (
+        &["overlap", "std", "auto", "ab", " ab", "ab ", "a b", "ab"],
+        b"0 0 2\n4 0 2\n2 0 3\n3 3 6\n1 6 9\n0 7 9\n4 7 9\n",
+        b"",
+        0,
+    ),
+    (
+        &["overlap", "std ", "auto", "ab"],
+        b"",
+        b"acs: usage: acs MODE KIND ENGINE WORD..\n",
+        2,
+    ),
+    (&[], b"", b"acs: usage: acs MODE KIND ENGINE WORD..\n", 2),
+];
+
+#[test]
+fn words_are_taken_as_they_are_given(rt: HostRuntime) -> Result<(), Fail> {
+    for &(words, wanted, line, number) in AS_GIVEN {
+        let arguments = arguments_of(rt.alloc(), words)?.into_iter();
+        let mut reader = Bytes::new(b"ab a b ab".as_slice());
+        let mut writer = Written::new(rt.alloc());
+        let mut errors = Written::new(rt.alloc());
+        let status = run_on_arguments(rt.alloc(), arguments, &mut reader, &mut writer, &mut errors);
+        assert_eq!(rt; status, Ok(number));
         assert_eq!(rt; writer.bytes(), wanted);
         assert_eq!(rt; errors.bytes(), line);
     }
