@@ -178,12 +178,7 @@ impl<'a, A: Automaton> Finder<'a, A> {
     /// bounds on what is read and counted. It calls the prefilter as long as that has paid, in this find and in those
     /// made before by this finder.
     #[inline]
-    pub fn find(
-        &mut self,
-        span: Span,
-        tape: &mut Tape<'_>,
-        looks: &mut Looks,
-    ) -> Option<Match>
+    pub fn find(&mut self, span: Span, tape: &mut Tape<'_>, looks: &mut Looks) -> Option<Match>
         requires end_within { span.end ≤ length tape.old.bytes }
         requires start_within { span.start ≤ span.end + 1 }
         requires unread { tape.old.place ≤ span.start }
