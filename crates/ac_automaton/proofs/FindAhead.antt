@@ -5,6 +5,7 @@ use Rattle.std.specs.Option.{is_some}
 use Rattle.std.proofs.lemmas.Bool.{cases_lt, false≢true}
 use Rattle.ac_util.specs.declared.search.Anchored.{Anchored}
 use Rattle.ac_util.specs.Built.{Built}
+use Rattle.ac_util.specs.declared.search.Span.{Span}
 use Rattle.ac_util.specs.declared.search.MatchKind.{MatchKind}
 use Rattle.ac_util.specs.declared.search.MatchKind.TheVariants.{Standard}
 use Rattle.ac_util.specs.Node.{Node, is_leftmost}
@@ -13,40 +14,40 @@ use Rattle.ac_util.specs.Pick.{order_of, pick}
 use Rattle.ac_util.proofs.SearchLoop.{GoesOn}
 use Rattle.ac_automaton.specs.Automata.{matches_of}
 use Rattle.ac_automaton.specs.Finds.{IsAnswered, IsDecided, found_at, place_of}
-use Rattle.ac_automaton.specs.Progress.{Beginning, IsQuiet}
+use Rattle.ac_automaton.specs.Scans.{NoMatchBetween, Scan, in_memory}
 use Rattle.ac_automaton.proofs.FindLoop.{dead-stays, found-end, goes_on-by, node_at, order, picked-final, picked-newly, picked-still, q, up_to}
 use Rattle.ac_automaton.proofs.ReadOn.{node-start}
 
-module _ (built : Built) (anchored : Anchored) (stops : Bool) (began : Beginning) where
+module _ (s : Scan) (stops : Bool) (bytes : List ℕ) (span : Span) where
   abbrev node : ℕ → Node
-  node = node_at built anchored stops began
+  node = node_at s stops bytes span
 
   abbrev picked_to : ℕ → Option Occurrence
-  picked_to k = pick (order built anchored stops began) (up_to built anchored stops began k)
+  picked_to k = pick (order s stops bytes span) (up_to s stops bytes span k)
 
   -- a search that is dead has read on from its start
-  pub past-start : (at : ℕ) → began.start ≤ at → node at ≡ None → began.start < at
-  past-start at ordered dead = elim (cases_lt began.start at) [
+  pub past-start : (at : ℕ) → span.start ≤ at → node at ≡ None → span.start < at
+  past-start at ordered dead = elim (cases_lt span.start at) [
     | inl before ↦ before
     | inr behind ↦
-        let e : at ≡ began.start = omega arith in
-        let no : None ≡ Some [] = sym dead ∙ ap node e ∙ node-start built anchored began in
+        let e : at ≡ span.start = omega arith in
+        let no : None ≡ Some [] = sym dead ∙ ap node e ∙ node-start s (in_memory bytes span) span.start refl in
         absurd (cc)
   ]
 
   -- a node without matches finds none
-  pub found-nothing : (k : ℕ) → matches_of built anchored (node k) ≡ [] → found_at built anchored (node k) k ≡ None
-  found-nothing k none = ap (λ (ms : List ℕ). option_map (place_of built k) (slice_get ms 0)) none
+  pub found-nothing : (k : ℕ) → matches_of s.built s.anchored (node k) ≡ [] → found_at s.built s.anchored (node k) k ≡ None
+  found-nothing k none = ap (λ (ms : List ℕ). option_map (place_of s.built k) (slice_get ms 0)) none
 
   -- what was picked where it began to read ahead stays picked as long as no match is reached
-  module _ {from at : ℕ} (ordered : began.start ≤ from) (inside : at ≤ length began.tape.bytes)
-      (r : Option Occurrence) (goes : GoesOn built.kind (order built anchored stops began) r)
-      (picked : r ≡ picked_to from) (quiet : IsQuiet built anchored began.tape.bytes began.start from at) where
+  module _ {from at : ℕ} (ordered : span.start ≤ from) (inside : at ≤ length bytes)
+      (r : Option Occurrence) (goes : GoesOn s.built.kind (order s stops bytes span) r)
+      (picked : r ≡ picked_to from) (quiet : NoMatchBetween s (in_memory bytes span) from at) where
     still-for : (n : ℕ) → from + n < at → r ≡ picked_to (from + n)
     still-for zero up = let e : from ≡ from + 0 = omega arith in picked ∙ ap picked_to e
     still-for (suc n) up =
         let e : from + n + 1 ≡ from + suc n = omega arith in
-        picked-still built anchored stops began (from + n) r (omega arith) (omega arith) (still-for n (omega arith)) goes
+        picked-still s stops bytes span (from + n) r (omega arith) (omega arith) (still-for n (omega arith)) goes
         (found-nothing (from + n + 1) (quiet (from + n + 1) (omega arith) (omega arith))) ∙ ap picked_to e
 
     still-before : from < at → r ≡ picked_to (at - 1)
@@ -54,27 +55,27 @@ module _ (built : Built) (anchored : Anchored) (stops : Bool) (began : Beginning
         let e : from + (at - 1 - from) ≡ at - 1 = omega arith in still-for (at - 1 - from) (omega arith) ∙ ap picked_to e
 
     -- where nothing is found it still is
-    pub picked-ahead : from < at → found_at built anchored (node at) at ≡ None → r ≡ picked_to at
+    pub picked-ahead : from < at → found_at s.built s.anchored (node at) at ≡ None → r ≡ picked_to at
     picked-ahead before none =
         let e : at - 1 + 1 ≡ at = omega arith in
-        picked-still built anchored stops began (at - 1) r (omega arith) (omega arith) (still-before before) goes
-        (ap (λ (k : ℕ). found_at built anchored (node k) k) e ∙ none) ∙ ap picked_to e
+        picked-still s stops bytes span (at - 1) r (omega arith) (omega arith) (still-before before) goes
+        (ap (λ (k : ℕ). found_at s.built s.anchored (node k) k) e ∙ none) ∙ ap picked_to e
 
     -- else what is found is picked
-    pub picked-there : from < at → (m : Occurrence) → found_at built anchored (node at) at ≡ Some m
+    pub picked-there : from < at → (m : Occurrence) → found_at s.built s.anchored (node at) at ≡ Some m
         → Some m ≡ picked_to at
     picked-there before m some =
         let e : at - 1 + 1 ≡ at = omega arith in
-        picked-newly built anchored stops began (at - 1) r (omega arith) (omega arith) (still-before before) goes m
-        (ap (λ (k : ℕ). found_at built anchored (node k) k) e ∙ some) ∙ ap picked_to e
+        picked-newly s stops bytes span (at - 1) r (omega arith) (omega arith) (still-before before) goes m
+        (ap (λ (k : ℕ). found_at s.built s.anchored (node k) k) e ∙ some) ∙ ap picked_to e
 
     -- so what is picked there is what is found, if anything is
-    pub picked-some : from < at → (found : Option Occurrence) → found ≡ found_at built anchored (node at) at
+    pub picked-some : from < at → (found : Option Occurrence) → found ≡ found_at s.built s.anchored (node at) at
         → is_some found ≡ true → found ≡ picked_to at
     picked-some before None is some = absurd (false≢true some)
     picked-some before (Some m) is some = picked-there before m (sym is)
 
-    pub picked-none : from < at → (found : Option Occurrence) → found ≡ found_at built anchored (node at) at
+    pub picked-none : from < at → (found : Option Occurrence) → found ≡ found_at s.built s.anchored (node at) at
         → is_some found ≡ false → r ≡ picked_to at
     picked-none before None is none = picked-ahead before (sym is)
     picked-none before (Some m) is none = absurd (cc)
@@ -87,33 +88,33 @@ module _ (built : Built) (anchored : Anchored) (stops : Bool) (began : Beginning
   kept-or-goes kind false r leftmost = inr (goes_on-by kind false r leftmost (λ no. absurd (cc)))
 
   -- where a find has its answer
-  module _ (at : ℕ) (ordered : began.start ≤ at) (up : at ≤ began.end) (inside : began.end ≤ length began.tape.bytes)
-      (r : Option Occurrence) (picked : r ≡ picked_to at) (leftmost : stops ≡ false → is_leftmost built.kind ≡ true)
+  module _ (at : ℕ) (ordered : span.start ≤ at) (up : at ≤ span.end) (inside : span.end ≤ length bytes)
+      (r : Option Occurrence) (picked : r ≡ picked_to at) (leftmost : stops ≡ false → is_leftmost s.built.kind ≡ true)
     where
-      kept : order built anchored stops began ≡ Standard → (s : Option Occurrence) → s ≡ r → s ≢ None
-          → r ≡ pick (order built anchored stops began) (q built anchored stops began)
+      kept : order s stops bytes span ≡ Standard → (o : Option Occurrence) → o ≡ r → o ≢ None
+          → r ≡ pick (order s stops bytes span) (q s stops bytes span)
       kept standard None is some = absurd (some refl)
-      kept standard (Some m) is some = sym is ∙ picked-final built anchored stops began at m up standard (is ∙ picked)
+      kept standard (Some m) is some = sym is ∙ picked-final s stops bytes span at m up standard (is ∙ picked)
 
       -- what is picked so far is the pick
-      pub answer-there : IsAnswered stops began.end at (node at) r
-          → r ≡ pick (order built anchored stops began) (q built anchored stops began)
-      answer-there (inl over) = let e : at ≡ began.end = omega arith in picked ∙ ap picked_to e
-      answer-there (inr (inl dead)) = elim (kept-or-goes built.kind stops r leftmost) [
+      pub answer-there : IsAnswered stops span.end at (node at) r
+          → r ≡ pick (order s stops bytes span) (q s stops bytes span)
+      answer-there (inl over) = let e : at ≡ span.end = omega arith in picked ∙ ap picked_to e
+      answer-there (inr (inl dead)) = elim (kept-or-goes s.built.kind stops r leftmost) [
         | inl first ↦ kept first.0 r refl (λ none. let some = first.1.1 in absurd (cc))
-        | inr goes ↦ dead-stays built anchored stops began at r ordered picked goes up inside dead
+        | inr goes ↦ dead-stays s stops bytes span at r ordered picked goes up inside dead
       ]
-      answer-there (inr (inr first)) = kept (ap (order_of built.kind) first.0) r refl first.1
+      answer-there (inr (inr first)) = kept (ap (order_of s.built.kind) first.0) r refl first.1
 
       -- and it has read enough
-      pub decided-there : {place : ℕ} → IsAnswered stops began.end at (node at) r → at ≤ max began.start place → place ≤ at
-          → IsDecided built.kind (order built anchored stops began) (q built anchored stops began) r place
+      pub decided-there : {place : ℕ} → IsAnswered stops span.end at (node at) r → at ≤ max span.start place → place ≤ at
+          → IsDecided s.built.kind (order s stops bytes span) (q s stops bytes span) r place
       decided-there (inl over) whole unread = inr (inl (omega arith))
       decided-there {place = place} (inr (inl dead)) whole unread =
           let past = past-start at ordered dead in
           let e : at ≡ place = omega arith in
           inr (inr (subst (λ (n : ℕ). node n ≡ None) e dead))
-      decided-there (inr (inr first)) whole unread = inl (ap (order_of built.kind) first.0, first.1)
+      decided-there (inr (inr first)) whole unread = inl (ap (order_of s.built.kind) first.0, first.1)
 
 -- what is found at a place ends there
 pub ends-there : (built : Built) (a : Anchored) (u : Node) (at : ℕ) (r : Option Occurrence) → r ≡ found_at built a u at

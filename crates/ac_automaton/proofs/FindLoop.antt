@@ -6,11 +6,11 @@ use Rattle.ac_util.specs.declared.search.MatchKind.{MatchKind}
 use Rattle.ac_util.specs.declared.search.MatchKind.TheVariants.{Standard}
 use Rattle.ac_util.specs.declared.search.Anchored.{Anchored}
 use Rattle.ac_util.specs.declared.search.Anchored.TheVariants.{No, Yes}
+use Rattle.ac_util.specs.declared.search.Span.{Span}
 use Rattle.ac_util.specs.Occurrence.{Occurrence}
 use Rattle.ac_util.specs.Search.{Search}
 use Rattle.ac_util.specs.Pick.{order_of, pick}
 use Rattle.ac_util.specs.Prefilters.{may_skip}
-use Rattle.ac_util.specs.Counts.{Counts, Taped}
 use Rattle.ac_util.specs.Node.{Node, is_leftmost}
 use Rattle.ac_util.specs.Built.{Built}
 use Rattle.ac_util.proofs.Beginning.{within, ends_by, pick-within}
@@ -18,9 +18,11 @@ use Rattle.ac_util.proofs.Walks.{pick-in_span}
 use Rattle.ac_util.proofs.OneLonger.{pick-empty_none, pick-empty_some, none-past_end}
 use Rattle.ac_util.proofs.SearchLoop.{GoesOn, pick-goes_on, pick-found, pick-stays_dead}
 use Rattle.ac_automaton.specs.Automata.{matches_of}
-use Rattle.ac_automaton.specs.Finds.{place_of, HasSearched, IsDecided, ReadsTo, Tells, found_at}
-use Rattle.ac_automaton.specs.Progress.{Beginning, HasCome, most_looks, node_at as node_of, span_of}
-use Rattle.ac_automaton.proofs.ReadOn.{dead-come, read-come, read-nothing}
+use Rattle.ac_automaton.specs.Finders.{Finding}
+use Rattle.ac_automaton.specs.Finds.{place_of, HasSearched, IsDecided, ReadsTo, Tells, finding_by, found_at}
+use Rattle.ac_automaton.specs.Progress.{Work, most_looks}
+use Rattle.ac_automaton.specs.Scans.{IsAt, Scan, ScansTo, in_memory, node, search_through}
+use Rattle.ac_automaton.proofs.ReadOn.{read-nothing, read-scanned}
 
 -- the dead node finds nothing
 pub found-dead : (built : Built) (a : Anchored) (u : Node) (end : ℕ) → u ≡ None → found_at built a u end ≡ None
@@ -52,54 +54,53 @@ goes_on-none kind order r P (inr first) standard =
     subst (λ (x : Option Occurrence). IfSome x P) (sym first.1) tt
 
 -- where a span starts past its end nothing is found, and nothing done
-pub searched-nothing : (most : ℕ) (filters : Bool) (kind order : MatchKind) (q : Search) (tape : Taped)
-    (counts : Counts)
-    → q.high < q.low → tape.place ≤ q.low → HasSearched most filters kind order q None tape tape counts counts
-searched-nothing most filters kind order q tape counts past unread = record {
-  answer = sym (none-past_end order q past);
-  read = read-nothing (most_looks q.anchored most) (may_skip filters q) q.low q.high tape counts unread;
+pub searched-nothing : (finding : Finding) (q : Search) (work : Work)
+    → q.high < q.low → work.place ≤ q.low → HasSearched finding q None work work
+searched-nothing finding q work past unread = record {
+  answer = sym (none-past_end finding.order q past);
+  read = read-nothing (most_looks q.anchored finding.most) (may_skip finding.filters q) q.low q.high work unread;
   tells = tt;
   stops = λ _. tt;
   dead = λ k from below. absurd (omega arith);
   decided = λ _. inr (inl (omega arith));
 }
 
-module _ (built : Built) (anchored : Anchored) (earliest : Bool) (began : Beginning) where
+module _ (s : Scan) (stops : Bool) (bytes : List ℕ) (span : Span) where
   -- what is searched
   abbrev pub q : Search
-  q = span_of built anchored began
+  q = search_through s (in_memory bytes span)
 
   -- the search as far as a place, and the node that the automaton has reached there
   abbrev pub up_to : ℕ → Search
   up_to at = record q { high = at }
 
   abbrev pub node_at : ℕ → Node
-  node_at = node_of built.kind q
+  node_at = node s (in_memory bytes span)
 
   -- the order by which matches are picked
   abbrev pub order : MatchKind
-  order = order_of built.kind earliest
+  order = order_of s.built.kind stops
 
   -- what is found there, by the matches of the node
-  found-by : (at : ℕ) (ns : List ℕ) → matches_of built anchored (node_at at) ≡ ns
-      → found_at built anchored (node_at at) at ≡ option_map (place_of built at) (slice_get ns 0)
-  found-by at ns e = ap (λ (ms : List ℕ). option_map (place_of built at) (slice_get ms 0)) e
+  found-by : (at : ℕ) (ns : List ℕ) → matches_of s.built s.anchored (node_at at) ≡ ns
+      → found_at s.built s.anchored (node_at at) at ≡ option_map (place_of s.built at) (slice_get ns 0)
+  found-by at ns e = ap (λ (ms : List ℕ). option_map (place_of s.built at) (slice_get ms 0)) e
 
   -- at the start what the start state finds is picked
-  pub picked-start : began.start ≤ length began.tape.bytes
-      → pick order (up_to began.start) ≡ found_at built anchored (node_at began.start) began.start
-  picked-start inside = by (matches_of built anchored (node_at began.start)) refl
+  pub picked-start : span.start ≤ length bytes
+      → pick order (up_to span.start) ≡ found_at s.built s.anchored (node_at span.start) span.start
+  picked-start inside = by (matches_of s.built s.anchored (node_at span.start)) refl
     where
-      by : (ns : List ℕ) → matches_of built anchored (node_at began.start) ≡ ns
-          → pick order (up_to began.start) ≡ found_at built anchored (node_at began.start) began.start
+      by : (ns : List ℕ) → matches_of s.built s.anchored (node_at span.start) ≡ ns
+          → pick order (up_to span.start) ≡ found_at s.built s.anchored (node_at span.start) span.start
       by [] e =
-          pick-empty_none built.kind (up_to began.start) refl inside order e ∙ sym (found-by began.start [] e)
+          pick-empty_none s.built.kind (up_to span.start) refl inside order e ∙ sym (found-by span.start [] e)
       by (i ∷ rest) e =
-          pick-empty_some built.kind (up_to began.start) refl inside earliest i rest e
-          ∙ sym (found-by began.start (i ∷ rest) e)
+          pick-empty_some s.built.kind (up_to span.start) refl inside stops i rest e
+          ∙ sym (found-by span.start (i ∷ rest) e)
 
   -- under Standard what was picked stays
-  pub picked-final : (at : ℕ) (m : Occurrence) → at ≤ began.end → order ≡ Standard
+  pub picked-final : (at : ℕ) (m : Occurrence) → at ≤ span.end → order ≡ Standard
       → Some m ≡ pick order (up_to at)
       → Some m ≡ pick order q
   picked-final at m up standard e =
@@ -117,80 +118,77 @@ module _ (built : Built) (anchored : Anchored) (earliest : Bool) (began : Beginn
       by (Some x) h = kept x (ends_by at x) h
 
   -- what a find has done that answers r once it has come to a place, where it has read enough
-  module _ {stands : ℕ → Node → Type 0} {most : ℕ} {filters : Bool} {state at : ℕ} {tape : Taped} {counts : Counts}
-      (come : HasCome stands most filters built anchored began state at tape counts) where
+  module _ {state at : ℕ} {work new_work : Work} (is_at : IsAt s (in_memory bytes span) state at)
+      (scans : ScansTo s (in_memory bytes span) span.start work at new_work) where
     -- each byte of what was picked was read
-    picked-told : (r : Option Occurrence) → r ≡ pick order (up_to at)
-        → IfSome r (Tells began.start tape began.counts counts)
+    picked-told : (r : Option Occurrence) → r ≡ pick order (up_to at) → IfSome r (Tells span.start work new_work)
     picked-told None e = tt
     picked-told (Some m) e =
-        let span = pick-in_span order (up_to at) m (sym e) in
-        let h = span.to_high in record {
-          place = λ same. let w = come.whole same in omega arith;
-          reads = λ same. let c = come.counted same in omega arith;
+        let h = (pick-in_span order (up_to at) m (sym e)).to_high in
+        record {
+          place = λ same. let w = scans.whole same in omega arith;
+          reads = λ same. let c = scans.counted same in omega arith;
         }
 
     -- and none past the place
-    ends-here : (r : Option Occurrence) → IfSome r (λ m. m.end ≡ at)
-        → IfSome r (ReadsTo began.start began.tape tape began.counts counts)
+    ends-here : (r : Option Occurrence) → IfSome r (λ m. m.end ≡ at) → IfSome r (ReadsTo span.start work new_work)
     ends-here None h = tt
     ends-here (Some m) h =
-        let w = come.read.within in
-        let c = come.read.calls in
-        record { place = omega arith; calls = omega arith }
+        let u = scans.unread in let c = scans.calls in record { place = omega arith; calls = omega arith }
 
-    pub searched : (r : Option Occurrence) → r ≡ pick order q → at ≤ began.end → r ≡ pick order (up_to at)
+    pub searched : (r : Option Occurrence) → r ≡ pick order q → at ≤ span.end → r ≡ pick order (up_to at)
         → (order ≡ Standard → IfSome r (λ m. m.end ≡ at))
-        → (counts.calls ≡ began.counts.calls → IsDecided built.kind order q r tape.place)
-        → HasSearched most filters built.kind order q r began.tape tape began.counts counts
+        → (new_work.counts.calls ≡ work.counts.calls → IsDecided s.built.kind order q r new_work.place)
+        → HasSearched (finding_by s stops) q r work new_work
     searched r answer up picked ends decided =
+        let u = scans.unread in
         record {
           answer = answer;
-          read = read-come built anchored began come up;
+          read = read-scanned s (in_memory bytes span) refl scans up;
           tells = picked-told r picked;
           stops = λ standard. ends-here r (ends standard);
-          dead = dead-come built anchored began come;
+          dead = λ k from below. is_at.alive k from (omega arith);
           decided = decided;
         }
 
   -- one more byte is read, after r was picked
-  module _ (at : ℕ) (r : Option Occurrence) (ordered : began.start ≤ at) (room : at < length began.tape.bytes)
-      (picked : r ≡ pick order (up_to at)) (goes : GoesOn built.kind order r) where
+  module _ (at : ℕ) (r : Option Occurrence) (ordered : span.start ≤ at) (room : at < length bytes)
+      (picked : r ≡ pick order (up_to at)) (goes : GoesOn s.built.kind order r) where
     -- what is found where the byte ends
     abbrev pub here : Option Occurrence
-    here = found_at built anchored (node_at (at + 1)) (at + 1)
+    here = found_at s.built s.anchored (node_at (at + 1)) (at + 1)
 
-    goes_on : GoesOn built.kind order (pick order (up_to at))
-    goes_on = subst (GoesOn built.kind order) picked goes
+    goes_on : GoesOn s.built.kind order (pick order (up_to at))
+    goes_on = subst (GoesOn s.built.kind order) picked goes
 
     -- nothing: r stays picked
     pub picked-still : here ≡ None → r ≡ pick order (up_to (at + 1))
-    picked-still nothing = by (matches_of built anchored (node_at (at + 1))) refl
+    picked-still nothing = by (matches_of s.built s.anchored (node_at (at + 1))) refl
       where
-        by : (ns : List ℕ) → matches_of built anchored (node_at (at + 1)) ≡ ns
+        by : (ns : List ℕ) → matches_of s.built s.anchored (node_at (at + 1)) ≡ ns
             → r ≡ pick order (up_to (at + 1))
-        by [] e = picked ∙ sym (pick-goes_on built.kind order (up_to at) ordered room goes_on e)
+        by [] e = picked ∙ sym (pick-goes_on s.built.kind order (up_to at) ordered room goes_on e)
         by (i ∷ rest) e =
-            let is : Some (place_of built (at + 1) i) ≡ None = sym (found-by (at + 1) (i ∷ rest) e) ∙ nothing in
+            let is : Some (place_of s.built (at + 1) i) ≡ None = sym (found-by (at + 1) (i ∷ rest) e) ∙ nothing in
             absurd (cc)
 
     -- or a match, which is picked
     pub picked-newly : (m : Occurrence) → here ≡ Some m → Some m ≡ pick order (up_to (at + 1))
-    picked-newly m is = by (matches_of built anchored (node_at (at + 1))) refl
+    picked-newly m is = by (matches_of s.built s.anchored (node_at (at + 1))) refl
       where
-        by : (ns : List ℕ) → matches_of built anchored (node_at (at + 1)) ≡ ns
+        by : (ns : List ℕ) → matches_of s.built s.anchored (node_at (at + 1)) ≡ ns
             → Some m ≡ pick order (up_to (at + 1))
         by [] e = let no : None ≡ Some m = sym (found-by (at + 1) [] e) ∙ is in absurd (cc)
         by (i ∷ rest) e =
             sym is ∙ found-by (at + 1) (i ∷ rest) e
-            ∙ sym (pick-found built.kind order (up_to at) ordered room goes_on i rest e)
+            ∙ sym (pick-found s.built.kind order (up_to at) ordered room goes_on i rest e)
 
   -- where it is dead what was picked stays picked to the end
-  pub dead-stays : (at : ℕ) (r : Option Occurrence) → began.start ≤ at → r ≡ pick order (up_to at)
-      → GoesOn built.kind order r → at ≤ began.end → began.end ≤ length began.tape.bytes → node_at at ≡ None
+  pub dead-stays : (at : ℕ) (r : Option Occurrence) → span.start ≤ at → r ≡ pick order (up_to at)
+      → GoesOn s.built.kind order r → at ≤ span.end → span.end ≤ length bytes → node_at at ≡ None
       → r ≡ pick order q
   dead-stays at r ordered picked goes up inside dead =
       picked
-      ∙ sym (pick-stays_dead built.kind order (up_to at) (began.end - at) (omega arith) (omega arith) dead
-      (subst (GoesOn built.kind order) picked goes))
+      ∙ sym (pick-stays_dead s.built.kind order (up_to at) (span.end - at) (omega arith) (omega arith) dead
+      (subst (GoesOn s.built.kind order) picked goes))
       ∙ ap (λ (h : ℕ). pick order (record q { high = h })) (omega arith)

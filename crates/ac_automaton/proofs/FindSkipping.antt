@@ -5,27 +5,29 @@ use Rattle.std.specs.List.{list_any}
 use Rattle.std.proofs.lemmas.Bool.{false≢true, cases_lt}
 use Rattle.ac_util.specs.declared.prefilter.Candidate.{Candidate}
 use Rattle.ac_util.specs.declared.prefilter.Candidate.TheVariants.{None as Nothing, PossibleStart}
+use Rattle.ac_util.specs.declared.search.Anchored.{Anchored}
 use Rattle.ac_util.specs.declared.search.Anchored.TheVariants.{No}
+use Rattle.ac_util.specs.declared.search.Span.{Span}
 use Rattle.ac_util.specs.declared.search.MatchKind.{MatchKind}
 use Rattle.ac_util.specs.declared.search.MatchKind.TheVariants.{Standard}
-use Rattle.ac_util.specs.Built.{Built}
-use Rattle.ac_util.specs.Counts.{Counts, Taped, one_more_call}
-use Rattle.ac_util.specs.Node.{Node, is_empty, is_leftmost}
+use Rattle.ac_util.specs.Counts.{Counts, one_more_call}
+use Rattle.ac_util.specs.Node.{is_empty, is_leftmost}
 use Rattle.ac_util.specs.Occurrence.{Occurrence}
-use Rattle.ac_util.specs.Pick.{pick}
+use Rattle.ac_util.specs.Pick.{order_of, pick}
 use Rattle.ac_util.specs.Prefilters.{Skip, Tells as SkipTells, match_told, search_over, skip_among, skip_for}
 use Rattle.ac_util.specs.Prefilters.Skip.{Needle}
 use Rattle.ac_util.specs.Search.{Occurs, Search, pattern_of}
 use Rattle.ac_util.proofs.SearchLoop.{GoesOn}
 use Rattle.ac_util.proofs.Walks.{pick-Occurs}
-use Rattle.ac_automaton.specs.Automata.{matches_of}
-use Rattle.ac_automaton.specs.Finds.{HasSearched, ReadsTo, Tells, found_at}
-use Rattle.ac_automaton.specs.Progress.{Beginning, IsQuiet, search_of}
-use Rattle.ac_automaton.specs.Skipping.{Skips}
+use Rattle.ac_automaton.specs.declared.automaton.scan.Cursor.{Cursor}
+use Rattle.ac_automaton.specs.Finds.{HasSearched, IsReady, ReadsTo, Tells, finding_by, found_at}
+use Rattle.ac_automaton.specs.Progress.{Work, search_of}
+use Rattle.ac_automaton.specs.Scans.{PassesNoMatch, Scan, in_memory, node, search_through}
+use Rattle.ac_automaton.specs.Skipping.{SkipsByNeedle}
 use Rattle.ac_automaton.proofs.FindAhead.{found-nothing, picked-ahead, picked-there}
-use Rattle.ac_automaton.proofs.FindLoop.{dead-stays, found-dead, goes_on-by, node_at, order, picked-start, q, up_to}
+use Rattle.ac_automaton.proofs.FindLoop.{goes_on-by, order, picked-start, up_to}
 use Rattle.ac_automaton.proofs.ReadOn.{node-start}
-use Rattle.ac_automaton.proofs.Skipping.{grows-called, matches-start, skips-somehow}
+use Rattle.ac_automaton.proofs.Skipping.{grows-called, none-there, skips-somehow}
 
 -- a search that skips has no empty pattern
 pub skip-some : (filters fold : Bool) (patterns : List (List ℕ)) (skip : Skip)
@@ -71,44 +73,55 @@ told-none needle bytes low high candidate (inr is) told =
     by None h = absurd (cc)
     by (Some m) h = absurd (cc)
 
--- what is searched of a span of this tape
-abbrev over : Built → ℕ → ℕ → Taped → Search
-over built start end tape = search_of built No tape.bytes start end
-
 -- a find that has called its prefilter alone, and answers the pick, has read nothing
-module _ (built : Built) (start end : ℕ) (tape : Taped) {filters : Bool} {skip : Skip} (counts new_counts : Counts)
-    (skips : Skips filters built skip) (counted : new_counts ≡ one_more_call counts) where
+module _ (s : Scan) (bytes : List ℕ) (span : Span) {skip : Skip} (by : SkipsByNeedle s skip) (place : ℕ)
+    (counts new_counts : Counts) (counted : new_counts ≡ one_more_call counts) where
+  abbrev searched : Search
+  searched = search_through s (in_memory bytes span)
+
+  abbrev before : Work
+  before = record { place = place; counts = counts }
+
+  abbrev after : Work
+  after = record { place = place; counts = new_counts }
+
   calls : new_counts.calls ≡ counts.calls + 1
   calls = ap (λ (c : Counts). c.calls) counted
 
-  tells : (r : Option Occurrence) → IfSome r (Tells start tape counts new_counts)
+  tells : (r : Option Occurrence) → IfSome r (Tells span.start before after)
   tells None = tt
   tells (Some m) =
       let c = calls in
       record { place = λ same. absurd (omega (arith, c, same)); reads = λ same. absurd (omega (arith, c, same)) }
 
-  stops : (kind : MatchKind) (r : Option Occurrence) → r ≡ pick kind (over built start end tape)
-      → IfSome r (ReadsTo start tape tape counts new_counts)
-  stops kind None answer = tt
-  stops kind (Some m) answer =
-      let occurs = pick-Occurs kind (over built start end tape) m (sym answer) in
+  stops-at : (kind : MatchKind) (r : Option Occurrence) → r ≡ pick kind searched
+      → IfSome r (ReadsTo span.start before after)
+  stops-at kind None answer = tt
+  stops-at kind (Some m) answer =
+      let occurs = pick-Occurs kind searched m (sym answer) in
       let some =
-      has-byte (over built start end tape) m (skip-some filters built.fold built.patterns skip skips.built_so) occurs in
+      has-byte searched m (skip-some s.filters s.built.fold s.built.patterns skip by.skips.built_so) occurs in
       let low = occurs.from_low in
       let c = calls in
       record { place = omega arith; calls = omega arith }
 
-  pub searched-told : (most : ℕ) (kind : MatchKind) (r : Option Occurrence)
-      → r ≡ pick kind (over built start end tape) → start < end → tape.place ≤ start
-      → HasSearched most filters built.kind kind (over built start end tape) r tape tape counts new_counts
-  searched-told most kind r answer some_bytes unread =
+  -- the search of a span that isn't anchored
+  unanchored : (kind : MatchKind) {r : Option Occurrence}
+      → pick kind (search_over s.built.fold s.built.patterns bytes span.start span.end) ≡ r → r ≡ pick kind searched
+  unanchored kind is =
+      sym is ∙ ap (λ (a : Anchored). pick kind (search_of s.built a bytes span.start span.end)) (sym by.unanchored)
+
+  pub searched-told : (stops : Bool) (r : Option Occurrence)
+      → pick (order_of s.built.kind stops) (search_over s.built.fold s.built.patterns bytes span.start span.end) ≡ r
+      → span.start < span.end → place ≤ span.start
+      → HasSearched (finding_by s stops) searched r before after
+  searched-told stops r answer some_bytes unread =
       let c = calls in
       let reads = ap (λ (c : Counts). c.reads) counted in
       let looks = ap (λ (c : Counts). c.looks) counted in
       record {
-        answer = answer;
+        answer = unanchored (order_of s.built.kind stops) answer;
         read = record {
-          bytes = refl;
           onward = omega arith;
           within = omega arith;
           grows = grows-called counted;
@@ -118,54 +131,57 @@ module _ (built : Built) (start end : ℕ) (tape : Taped) {filters : Bool} {skip
           looks = omega (arith, reads, looks);
           calls = omega arith;
           quiet = λ quiet. absurd (false≢true (sym quiet
-              ∙ skips-somehow filters built (over built start end tape) skip refl skips.built_so));
+              ∙ skips-somehow s.filters s.built searched skip by.unanchored by.skips.built_so));
         };
         tells = tells r;
-        stops = λ _. stops kind r answer;
+        stops = λ _. stops-at (order_of s.built.kind stops) r (unanchored (order_of s.built.kind stops) answer);
         dead = λ k from below. absurd (omega arith);
         decided = λ same. absurd (omega (arith, c, same));
       }
 
--- a find whose automaton has reached no match so far has picked none
-module _ (built : Built) (stops : Bool) (began : Beginning) (some : list_any is_empty built.patterns ≡ false)
-    (leftmost : stops ≡ false → is_leftmost built.kind ≡ true) (at : ℕ) (inside : at ≤ length began.tape.bytes)
-    (quiet : IsQuiet built No began.tape.bytes began.start began.start at) where
-  abbrev node : ℕ → Node
-  node = node_at built No stops began
+-- a find whose automaton has reached no match since it began picks what the node finds
+module _ (s : Scan) (stops : Bool) (bytes : List ℕ) (span : Span) (free : s.anchored ≡ No)
+    (some : list_any is_empty s.built.patterns ≡ false) (leftmost : stops ≡ false → is_leftmost s.built.kind ≡ true)
+    {cursor : Cursor} {work new_work : Work}
+    (passed : PassesNoMatch s (in_memory bytes span) span.start work cursor new_work) where
+  abbrev at : ℕ
+  at = cursor.at
 
   abbrev picked_to : ℕ → Option Occurrence
-  picked_to k = pick (order built No stops began) (up_to built No stops began k)
+  picked_to k = pick (order s stops bytes span) (up_to s stops bytes span k)
 
-  goes : GoesOn built.kind (order built No stops began) None
-  goes = goes_on-by built.kind stops None leftmost (λ _. refl)
+  abbrev found : ℕ → Option Occurrence
+  found k = found_at s.built s.anchored (node s (in_memory bytes span) k) k
 
-  none-at_start : began.start ≤ at → None ≡ picked_to began.start
+  goes : GoesOn s.built.kind (order s stops bytes span) None
+  goes = goes_on-by s.built.kind stops None leftmost (λ _. refl)
+
+  none-at_start : span.start ≤ at → None ≡ picked_to span.start
   none-at_start ordered =
-      sym (picked-start built No stops began (omega arith)
-      ∙ found-nothing built No stops began began.start
-      (ap (matches_of built No) (node-start built No began) ∙ matches-start built some))
+      let inside = passed.is_at.inside in
+      sym (picked-start s stops bytes span (omega arith)
+      ∙ found-nothing s stops bytes span span.start
+      (none-there s free some (node-start s (in_memory bytes span) span.start refl)))
 
-  -- so what its automaton finds there is what it picks
-  picked-next : began.start < at → found_at built No (node at) at ≡ picked_to at
-  picked-next before = by (found_at built No (node at) at) refl
+  picked-next : span.start < at → found at ≡ picked_to at
+  picked-next early = found-by (found at) refl
     where
-      by : (r : Option Occurrence) → found_at built No (node at) at ≡ r → r ≡ picked_to at
-      by None e =
-          picked-ahead built No stops began (omega arith) inside None goes (none-at_start (omega arith)) quiet before e
-      by (Some m) e =
-          picked-there built No stops began (omega arith) inside None goes (none-at_start (omega arith)) quiet before m e
+      found-by : (r : Option Occurrence) → found at ≡ r → r ≡ picked_to at
+      found-by None e =
+          picked-ahead s stops bytes span (omega arith) passed.is_at.inside None goes (none-at_start (omega arith))
+          passed.none early e
+      found-by (Some m) e =
+          picked-there s stops bytes span (omega arith) passed.is_at.inside None goes (none-at_start (omega arith))
+          passed.none early m e
 
-  pub picked-quiet : began.start ≤ at → found_at built No (node at) at ≡ picked_to at
-  picked-quiet ordered = elim (cases_lt began.start at) [
+  picked-quiet : span.start ≤ at → found at ≡ picked_to at
+  picked-quiet ordered = elim (cases_lt span.start at) [
     | inl before ↦ picked-next before
     | inr behind ↦
-        let e : began.start ≡ at = omega arith in
-        subst (λ (k : ℕ). found_at built No (node k) k ≡ picked_to k) e (sym (picked-start built No stops began (omega arith)))
+        let e : span.start ≡ at = omega arith in
+        let inside = passed.is_at.inside in
+        subst (λ (k : ℕ). found k ≡ picked_to k) e (sym (picked-start s stops bytes span (omega arith)))
   ]
 
-  -- and nothing to the end of the span where it is dead
-  pub dead-quiet : began.start ≤ at → at ≤ began.end → began.end ≤ length began.tape.bytes → node at ≡ None
-      → None ≡ pick (order built No stops began) (q built No stops began)
-  dead-quiet ordered up whole dead =
-      dead-stays built No stops began at None ordered
-      (sym (found-dead built No (node at) at dead) ∙ picked-quiet ordered) goes up whole dead
+  pub ready-passed : IsReady s (in_memory bytes span) stops cursor
+  ready-passed = record { is_at = passed.is_at; picked = picked-quiet passed.is_at.onward }

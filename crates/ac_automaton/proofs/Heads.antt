@@ -1,6 +1,7 @@
--- The first of the matches that a state lists, and whether it counts.
-use Rattle.std.proofs.Common.{◌≡◌, ◌≢◌, ℕ, ◌-◌, ◌<◌, ◌≤◌, List, [], ◌∷◌, ◌++◌, length, inl, refl, ap, sym, ◌∙◌, subst, arith, Option, Some, None}
+-- The first of the matches that a state lists, and whether it is due.
+use Rattle.std.proofs.Common.{◌≡◌, ◌≢◌, ℕ, ◌-◌, ◌<◌, ◌≤◌, true, false, List, [], ◌∷◌, ◌++◌, length, inl, refl, ap, sym, ◌∙◌, subst, arith, Option, Some, None}
 use Rattle.std.specs.Prelude.{option_map, slice_get}
+use Rattle.std.proofs.lemmas.Bool.{eq-eqb, eqb-true, false≢true}
 use Rattle.std.proofs.lemmas.List.{length-map}
 use Rattle.std.proofs.Math.ListN.{get_or-map}
 use Rattle.ac_util.specs.declared.search.Anchored.{Anchored}
@@ -16,6 +17,7 @@ use Rattle.ac_util.proofs.Participants.{IsIn-from_equal_to}
 use Rattle.ac_util.proofs.Found.{matches-fits, matches-whole}
 use Rattle.ac_automaton.specs.Automata.{plain_of, matches_of, Lists}
 use Rattle.ac_automaton.specs.Finds.{place_of, FitsIn, found_at}
+use Rattle.ac_automaton.specs.Overlaps.{is_due}
 
 -- a pattern is as long as its plain string
 pub plain_length : (built : Built) (n : ℕ)
@@ -95,18 +97,18 @@ module _ (built : Built) (listed : List ℕ) (start end : ℕ) where
       matches-whole built.kind (plain_of built) u p (among Yes (Some u) p lists e) (plain_length built p ∙ l) in
       subst (λ (ns : List ℕ). IsIn p ns) none whole
 
-  -- it counts, unless the search is anchored and it is shorter than what was read
-  pub found-first : (anchored : Anchored) (u : Node) (p : ℕ) → Lists built anchored u listed
+  -- where it is due it is found
+  pub found-due : (anchored : Anchored) (u : Node) (p : ℕ) → Lists built anchored u listed
       → FitsIn anchored u start end
-      → slice_get listed 0 ≡ Some p → (anchored ≡ Yes → length (pattern_of built.patterns p) ≡ end - start)
+      → slice_get listed 0 ≡ Some p → is_due anchored (length (pattern_of built.patterns p)) (end - start) ≡ true
       → found_at built anchored u end ≡ Some (place_of built end p)
-  found-first No u p lists fits e whole =
+  found-due No u p lists fits e due =
       ap (λ (r : Option ℕ). option_map (place_of built end) r)
       (ap (λ (ns : List ℕ). slice_get ns 0) (sym lists) ∙ e)
-  found-first Yes None p lists fits e whole = absurd (node_of Yes None p lists e refl)
-  found-first Yes (Some u) p lists fits e whole =
+  found-due Yes None p lists fits e due = absurd (node_of Yes None p lists e refl)
+  found-due Yes (Some u) p lists fits e due =
       let long : length u ≡ end - start = fits.whole refl (λ n. absurd (cc)) in
-      let some = whole-some u p lists e (whole refl ∙ sym long) in
+      let some = whole-some u p lists e (eqb-true (length (pattern_of built.patterns p)) (end - start) due ∙ sym long) in
       ap (λ (r : Option ℕ). option_map (place_of built end) r)
       (front_first (matches_of built Yes (Some u)) lists.passed_over p
       (ap (λ (ns : List ℕ). slice_get ns 0) (sym lists.first) ∙ e) some)
@@ -134,13 +136,15 @@ module _ (built : Built) (listed : List ℕ) (start end : ℕ) where
           let long = fits.whole refl (λ k. absurd (cc)) in
           absurd (short (sym (plain_length built p) ∙ ap length equal.same ∙ long))
 
-  -- the same where the anchoring isn't known from the start
-  pub found-short : (anchored : Anchored) (u : Node) (p : ℕ) → anchored ≡ Yes → Lists built anchored u listed
+  -- and where it isn't nothing is
+  pub found-not_due : (anchored : Anchored) (u : Node) (p : ℕ) → Lists built anchored u listed
       → FitsIn anchored u start end
-      → slice_get listed 0 ≡ Some p → length (pattern_of built.patterns p) ≢ end - start
+      → slice_get listed 0 ≡ Some p → is_due anchored (length (pattern_of built.patterns p)) (end - start) ≡ false
       → found_at built anchored u end ≡ None
-  found-short No u p is lists fits e short = absurd (cc)
-  found-short Yes u p is lists fits e short = found-passed_over u p lists fits e short
+  found-not_due No u p lists fits e due = absurd (false≢true (sym due))
+  found-not_due Yes u p lists fits e due =
+      found-passed_over u p lists fits e
+      (λ same. false≢true (sym due ∙ eq-eqb (length (pattern_of built.patterns p)) (end - start) same))
 
 -- a list that can't but be empty is
 pub nil-from_not : (xs : List ℕ) → (xs ≢ [] → ⊥) → xs ≡ []

@@ -16,7 +16,6 @@ mod Leading
 pub mod Lengths
 pub mod Linking
 pub mod ListLoop
-pub mod ListSkipping
 pub mod ListsOf
 pub mod Misses
 pub mod Orders

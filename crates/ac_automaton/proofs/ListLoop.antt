@@ -1,16 +1,14 @@
 -- A listing that reads byte by byte: which item is due where the automaton stands, and what is listed with one byte
 -- more.
-use Rattle.std.proofs.Common.{◌≡◌, ◌⊎◌, ℕ, suc, ◌+◌, ◌-◌, ◌<◌, ◌≤◌, Bool, true, false, cond, List, [], ◌∷◌, ◌++◌, map, length, length-append, inl, inr, refl, ap, sym, subst, ◌∙◌, arith, Option, Some, None}
+use Rattle.std.proofs.Common.{◌≡◌, ◌⊎◌, ℕ, zero, suc, ◌+◌, ◌-◌, ◌<◌, ◌≤◌, Bool, true, false, cond, List, [], ◌∷◌, ◌++◌, map, length, length-append, inl, inr, refl, ap, sym, subst, ◌∙◌, arith, Option, Some, None}
 use Rattle.std.specs.Prelude.{All, slice_get}
 use Rattle.std.specs.List.{take_while}
-use Rattle.std.proofs.lemmas.List.{append_assoc, length-map}
+use Rattle.std.proofs.lemmas.List.{append_assoc, append-nil, length-map}
 use Rattle.std.proofs.lemmas.List.Sums.{take_while-cons}
 use Rattle.std.proofs.lemmas.Option.{slice_get_past}
 use Rattle.ac_util.specs.declared.search.MatchKind.{MatchKind}
 use Rattle.ac_util.specs.declared.search.MatchKind.TheVariants.{Standard}
-use Rattle.ac_util.specs.declared.search.Anchored.{Anchored}
-use Rattle.ac_util.specs.Built.{Built}
-use Rattle.ac_util.specs.Counts.{Taped, no_counts}
+use Rattle.ac_util.specs.declared.search.Span.{Span}
 use Rattle.ac_util.specs.Listing.{all, item_at, place_after}
 use Rattle.ac_util.specs.Node.{Node}
 use Rattle.ac_util.specs.Occurrence.{Occurrence}
@@ -22,9 +20,11 @@ use Rattle.ac_util.proofs.ListingBeginning.{ListsMore, all-dead, all-longer_by, 
 use Rattle.ac_util.proofs.ListingLonger.{all-empty, all-longer}
 use Rattle.ac_automaton.specs.declared.automaton.overlap.MatchRest.{MatchRest}
 use Rattle.ac_automaton.specs.declared.automaton.overlap.Reached.{Reached}
+use Rattle.ac_automaton.specs.declared.automaton.scan.Cursor.{Cursor}
 use Rattle.ac_automaton.specs.Automata.{IsState, Lists, matches_of}
-use Rattle.ac_automaton.specs.Overlaps.{HasGiven, HasListed, HasMoved, due_in, given_in, rest_in}
-use Rattle.ac_automaton.specs.Progress.{Reaches, node_at, search_of}
+use Rattle.ac_automaton.specs.Overlaps.{HasGiven, HasMoved, IsListed, due_in, given_in, rest_in}
+use Rattle.ac_automaton.specs.Progress.{Work, node_at}
+use Rattle.ac_automaton.specs.Scans.{IsAt, PassesNoMatch, Scan, ScanText, in_memory, node, search_through}
 use Rattle.ac_automaton.proofs.Due.{counts, listed-due, listed-numbered}
 use Rattle.ac_automaton.proofs.ReadOn.{node-fits}
 
@@ -54,103 +54,93 @@ past-all q =
     let item = slice_get_past (all q) (length (all q)) (omega arith) in
     record { item = item; after = (item-none q (length (all q)) item).1 }
 
-module _ (built : Built) (anchored : Anchored) (bytes : List ℕ) (start end : ℕ) where
-  -- what is searched, and as far as a place
+module _ (s : Scan) (bytes : List ℕ) (span : Span) where
+  -- what is read and searched, and as far as a place
+  abbrev t : ScanText
+  t = in_memory bytes span
+
   abbrev pub q : Search
-  q = search_of built anchored bytes start end
+  q = search_through s t
 
   abbrev pub up_to : ℕ → Search
   up_to at = record q { high = at }
 
   -- the matches where the automaton has reached a place
   abbrev pub matches_at : ℕ → List ℕ
-  matches_at at = matches_of built anchored (node_at built.kind q at)
+  matches_at at = matches_of s.built s.anchored (node s t at)
 
   -- the same by Standard, as the listing goes on
-  matches-listed : built.kind ≡ Standard → (at : ℕ) → found_at_end Standard (up_to at) ≡ matches_at at
+  matches-listed : s.built.kind ≡ Standard → (at : ℕ) → found_at_end Standard (up_to at) ≡ matches_at at
   matches-listed standard at = ap (λ (kind : MatchKind). found_at_end kind (up_to at)) (sym standard)
 
   -- at the start the matches of the start state are listed
-  pub listing-start : built.kind ≡ Standard → start ≤ length bytes
-      → all (up_to start) ≡ map (ending (up_to start)) (matches_at start)
+  pub listing-start : s.built.kind ≡ Standard → span.start ≤ length bytes
+      → all (up_to span.start) ≡ map (ending (up_to span.start)) (matches_at span.start)
   listing-start standard inside =
-      all-empty (up_to start) refl inside
-      ∙ ap (map (ending (up_to start))) (matches-listed standard start)
+      all-empty (up_to span.start) refl inside
+      ∙ ap (map (ending (up_to span.start))) (matches-listed standard span.start)
 
   -- and with one byte more those of the state that it leads to
-  pub listing-next : built.kind ≡ Standard → (at : ℕ) → start ≤ at → at < length bytes
+  pub listing-next : s.built.kind ≡ Standard → (at : ℕ) → span.start ≤ at → at < length bytes
       → all (up_to (at + 1)) ≡ all (up_to at) ++ map (ending (up_to (at + 1))) (matches_at (at + 1))
   listing-next standard at ordered room =
       all-longer (up_to at) ordered room
       ∙ ap (λ (ns : List ℕ). all (up_to at) ++ map (ending (up_to (at + 1))) ns)
       (matches-listed standard (at + 1))
 
-  module _ {stands : ℕ → Node → Type 0} (listed : ℕ → List ℕ) where
-    -- all matches are due where a state was just come to
-    due-arrived : (state at : ℕ) → Reaches stands built.kind q state at
-        → Lists built anchored (node_at built.kind q at) (listed state)
-        → due_in listed q (record { state = state; at = at; rest = record { state = state; index = 0 } })
-        ≡ matches_at at
-    due-arrived state at reaches lists =
-        listed-due built (listed state) start at anchored (node_at built.kind q at) lists
-        (node-fits built anchored (record {
-          start = start;
-          end = end;
-          tape = record { bytes = bytes; place = 0 };
-          counts = no_counts;
-        }) at reaches.onward reaches.inside)
+  -- where a listing has come to at a place: all matches of its state are left
+  abbrev pub arrived : ℕ → ℕ → Reached
+  arrived state at = record { state = state; at = at; rest = record { state = state; index = 0 } }
 
-    -- so what was listed before was given
-    pub given-arrived : (state at : ℕ) → Reaches stands built.kind q state at
-        → Lists built anchored (node_at built.kind q at) (listed state) → (before : List Occurrence)
-        → all (up_to at) ≡ before ++ map (ending (up_to at)) (matches_at at)
-        → given_in listed q (record { state = state; at = at; rest = record { state = state; index = 0 } })
-        ≡ length before
-    given-arrived state at reaches lists before listing =
-        let due = ap (length {A = ℕ}) (due-arrived state at reaches lists) in
-        let long = ap length listing ∙ length-append before (map (ending (up_to at)) (matches_at at)) in
-        let all_of = length-map (matches_at at) (ending (up_to at)) in
-        omega arith
+  -- a listing that was just come to a state
+  module _ {state at : ℕ} (is_at : IsAt s t state at) (lists : Lists s.built s.anchored (node s t at) (s.listed state)) where
+    -- all matches there are due
+    due-arrived : due_in s.listed q (arrived state at) ≡ matches_at at
+    due-arrived =
+        listed-due s.built (s.listed state) span.start at s.anchored (node s t at) lists (node-fits s t state at is_at)
 
-    -- a listing has come to a state whose matches are the last items listed
-    pub arrives : (state at : ℕ) → Reaches stands built.kind q state at → at ≤ end
-        → Lists built anchored (node_at built.kind q at) (listed state) → (before : List Occurrence)
-        → all (up_to at) ≡ before ++ map (ending (up_to at)) (matches_at at)
-        → HasListed stands listed built.kind q
-        (record { state = state; at = at; rest = record { state = state; index = 0 } })
-    arrives state at reaches within lists before listing = record {
-      reaches = reaches;
-      within = within;
-      state = (node_at built.kind q at, reaches.there);
-      numbered = listed-numbered built (listed state) start at anchored (node_at built.kind q at) lists;
-      given = before;
-      listing = listing ∙ ap (λ (ns : List ℕ). before ++ map (ending (up_to at)) ns)
-          (sym (due-arrived state at reaches lists));
-    }
+    module _ (before : List Occurrence) (listing : all (up_to at) ≡ before ++ map (ending (up_to at)) (matches_at at)) where
+      -- so what was listed before was given
+      pub given-arrived : given_in s.listed q (arrived state at) ≡ length before
+      given-arrived =
+          let due = ap (length {A = ℕ}) due-arrived in
+          let long = ap length listing ∙ length-append before (map (ending (up_to at)) (matches_at at)) in
+          let all_of = length-map (matches_at at) (ending (up_to at)) in
+          omega arith
 
-  module _ {stands : ℕ → Node → Type 0} {listed : ℕ → List ℕ} {reached : Reached}
-      (on : HasListed stands listed built.kind q reached) where
+      -- and the matches there are the last items listed
+      pub arrives : at ≤ span.end → IsListed s t (arrived state at)
+      arrives within = record {
+        reaches = is_at;
+        within = within;
+        state = (node s t at, is_at.there);
+        numbered = listed-numbered s.built (s.listed state) span.start at s.anchored (node s t at) lists;
+        given = before;
+        listing = listing ∙ ap (λ (ns : List ℕ). before ++ map (ending (up_to at)) ns) (sym due-arrived);
+      }
+
+  module _ {reached : Reached} (on : IsListed s t reached) where
     abbrev here : Search
     here = up_to reached.at
 
     -- how many items were given
-    given-count : given_in listed q reached ≡ length on.given
+    given-count : given_in s.listed q reached ≡ length on.given
     given-count =
         let long = ap length on.listing
-        ∙ length-append on.given (map (ending here) (due_in listed q reached)) in
-        let due = length-map (due_in listed q reached) (ending here) in
+        ∙ length-append on.given (map (ending here) (due_in s.listed q reached)) in
+        let due = length-map (due_in s.listed q reached) (ending here) in
         omega arith
 
     -- what is due, by the first match in the rest of the list
-    due-first : (n : ℕ) (rest : MatchRest) → rest_in listed reached.rest ≡ n ∷ rest_in listed rest
-        → due_in listed q reached
-        ≡ cond (counts built anchored (reached.at - start) n) (n ∷ due_in listed q (record reached { rest = rest })) []
+    due-first : (n : ℕ) (rest : MatchRest) → rest_in s.listed reached.rest ≡ n ∷ rest_in s.listed rest
+        → due_in s.listed q reached
+        ≡ cond (counts s.built s.anchored (reached.at - span.start) n) (n ∷ due_in s.listed q (record reached { rest = rest })) []
     due-first n rest e =
-        ap (take_while (counts built anchored (reached.at - start))) e
-        ∙ take_while-cons (counts built anchored (reached.at - start)) n (rest_in listed rest)
+        ap (take_while (counts s.built s.anchored (reached.at - span.start))) e
+        ∙ take_while-cons (counts s.built s.anchored (reached.at - span.start)) n (rest_in s.listed rest)
 
     -- what is due first occurs
-    due-occurs : (n : ℕ) (later : List ℕ) → due_in listed q reached ≡ n ∷ later → Occurs here (ending here n)
+    due-occurs : (n : ℕ) (later : List ℕ) → due_in s.listed q reached ≡ n ∷ later → Occurs here (ending here n)
     due-occurs n later e =
         all-only here (ending here n)
         (subst (λ (ms : List Occurrence). IsIn (ending here n) ms)
@@ -158,26 +148,26 @@ module _ (built : Built) (anchored : Anchored) (bytes : List ℕ) (start end : �
         (IsIn-append_right (ending here n) on.given (map (ending here) (n ∷ later)) (inl refl)))
 
     -- a match that counts is no longer than what was read
-    pub due-short : (n : ℕ) (rest : MatchRest) → rest_in listed reached.rest ≡ n ∷ rest_in listed rest
-        → counts built anchored (reached.at - start) n ≡ true
-        → length (pattern_of built.patterns n) ≤ reached.at
+    pub due-short : (n : ℕ) (rest : MatchRest) → rest_in s.listed reached.rest ≡ n ∷ rest_in s.listed rest
+        → counts s.built s.anchored (reached.at - span.start) n ≡ true
+        → length (pattern_of s.built.patterns n) ≤ reached.at
     due-short n rest e counted =
-        let o = due-occurs n (due_in listed q (record reached { rest = rest }))
-        (due-first n rest e ∙ ap (λ (t : Bool). cond t (n ∷ due_in listed q (record reached { rest = rest })) []) counted) in
+        let o = due-occurs n (due_in s.listed q (record reached { rest = rest }))
+        (due-first n rest e ∙ ap (λ (t : Bool). cond t (n ∷ due_in s.listed q (record reached { rest = rest })) []) counted) in
         let l = o.as_long in let h = o.to_high in omega arith
 
     -- the first match in the rest of the list has a number
-    pub first-numbered : (n : ℕ) (rest : MatchRest) → rest_in listed reached.rest ≡ n ∷ rest_in listed rest
-        → n < length built.patterns
+    pub first-numbered : (n : ℕ) (rest : MatchRest) → rest_in s.listed reached.rest ≡ n ∷ rest_in s.listed rest
+        → n < length s.built.patterns
     first-numbered n rest e =
-        subst (λ (ns : List ℕ). All (λ k. k < length built.patterns) ns) e on.numbered 0 n (omega arith)
+        subst (λ (ns : List ℕ). All (λ k. k < length s.built.patterns) ns) e on.numbered 0 n (omega arith)
 
     -- it is given where it counts
-    pub gives-first : (n : ℕ) (rest : MatchRest) → rest_in listed reached.rest ≡ n ∷ rest_in listed rest
-        → counts built anchored (reached.at - start) n ≡ true → IsState stands rest.state
-        → HasGiven stands listed built.kind q reached (Some (ending here n)) (record reached { rest = rest })
+    pub gives-first : (n : ℕ) (rest : MatchRest) → rest_in s.listed reached.rest ≡ n ∷ rest_in s.listed rest
+        → counts s.built s.anchored (reached.at - span.start) n ≡ true → IsState s.stands rest.state
+        → HasGiven s t reached (Some (ending here n)) (record reached { rest = rest })
     gives-first n rest e counted state =
-        let later = due_in listed q (record reached { rest = rest }) in
+        let later = due_in s.listed q (record reached { rest = rest }) in
         let due = due-first n rest e ∙ ap (λ (t : Bool). cond t (n ∷ later) []) counted in
         record {
           state = refl;
@@ -189,7 +179,7 @@ module _ (built : Built) (anchored : Anchored) (bytes : List ℕ) (start end : �
             within = on.within;
             state = state;
             numbered = λ i k inside.
-                subst (λ (ns : List ℕ). All (λ k. k < length built.patterns) ns) e on.numbered (suc i) k
+                subst (λ (ns : List ℕ). All (λ k. k < length s.built.patterns) ns) e on.numbered (suc i) k
                 (omega arith);
             given = on.given ++ ending here n ∷ [];
             listing = on.listing ∙ ap (λ (ns : List ℕ). on.given ++ map (ending here) ns) due
@@ -198,34 +188,34 @@ module _ (built : Built) (anchored : Anchored) (bytes : List ℕ) (start end : �
         }
 
     -- else nothing is
-    nothing-due : due_in listed q reached ≡ [] → HasGiven stands listed built.kind q reached None reached
+    nothing-due : due_in s.listed q reached ≡ [] → HasGiven s t reached None reached
     nothing-due none = record { state = refl; at = refl; due = (none, refl); ending = tt; leaves = on }
 
-    pub gives-none : rest_in listed reached.rest ≡ [] → HasGiven stands listed built.kind q reached None reached
-    gives-none none = nothing-due (ap (take_while (counts built anchored (reached.at - start))) none)
+    pub gives-none : rest_in s.listed reached.rest ≡ [] → HasGiven s t reached None reached
+    gives-none none = nothing-due (ap (take_while (counts s.built s.anchored (reached.at - span.start))) none)
 
-    pub gives-not : (n : ℕ) (rest : MatchRest) → rest_in listed reached.rest ≡ n ∷ rest_in listed rest
-        → counts built anchored (reached.at - start) n ≡ false
-        → HasGiven stands listed built.kind q reached None reached
+    pub gives-not : (n : ℕ) (rest : MatchRest) → rest_in s.listed reached.rest ≡ n ∷ rest_in s.listed rest
+        → counts s.built s.anchored (reached.at - span.start) n ≡ false
+        → HasGiven s t reached None reached
     gives-not n rest e short =
         nothing-due (due-first n rest e
-        ∙ ap (λ (t : Bool). cond t (n ∷ due_in listed q (record reached { rest = rest })) []) short)
+        ∙ ap (λ (t : Bool). cond t (n ∷ due_in s.listed q (record reached { rest = rest })) []) short)
 
     -- the listing of the whole span goes on behind what is listed so far
-    goes_on : end ≤ length bytes → ListsMore here q
+    goes_on : span.end ≤ length bytes → ListsMore here q
     goes_on legal =
         let order = on.reaches.onward in
         let within = on.within in
         subst (λ (h : ℕ). ListsMore here (record q { high = h }))
-        (let e : reached.at + (end - reached.at) ≡ end = omega arith in e)
-        (all-longer_by here (end - reached.at) order (omega arith))
+        (let e : reached.at + (span.end - reached.at) ≡ span.end = omega arith in e)
+        (all-longer_by here (span.end - reached.at) order (omega arith))
 
     -- the match given is the next item
-    pub given-item : end ≤ length bytes → (m : Occurrence) (new_reached : Reached)
-        → HasGiven stands listed built.kind q reached (Some m) new_reached → IsItem q (given_in listed q reached) m
+    pub given-item : span.end ≤ length bytes → (m : Occurrence) (new_reached : Reached)
+        → HasGiven s t reached (Some m) new_reached → IsItem q (given_in s.listed q reached) m
     given-item legal m new_reached gave =
         let more = goes_on legal in
-        let later = map (ending here) (due_in listed q new_reached) in
+        let later = map (ending here) (due_in s.listed q new_reached) in
         subst (λ (n : ℕ). IsItem q n m) (sym given-count)
         (item-behind q on.given (later ++ more.later) m
         (more.goes_on ∙ ap (λ (ms : List Occurrence). ms ++ more.later)
@@ -235,71 +225,103 @@ module _ (built : Built) (anchored : Anchored) (bytes : List ℕ) (start end : �
 
     -- and the place is one further
     pub given-place : (m : Occurrence) (new_reached : Reached)
-        → HasGiven stands listed built.kind q reached (Some m) new_reached
-        → given_in listed q new_reached ≡ given_in listed q reached + 1
+        → HasGiven s t reached (Some m) new_reached
+        → given_in s.listed q new_reached ≡ given_in s.listed q reached + 1
     given-place m new_reached gave =
         let long = ap length on.listing
-        ∙ length-append on.given (map (ending here) (due_in listed q reached)) in
-        let due = length-map (due_in listed q reached) (ending here) in
+        ∙ length-append on.given (map (ending here) (due_in s.listed q reached)) in
+        let due = length-map (due_in s.listed q reached) (ending here) in
         let one = ap (length {A = ℕ}) gave.due in
         let same = ap (λ (at : ℕ). length (all (up_to at))) gave.at in
         omega arith
 
     -- where nothing is due all items that end up to there were given
-    pub given-all : due_in listed q reached ≡ [] → given_in listed q reached ≡ length (all here)
+    pub given-all : due_in s.listed q reached ≡ [] → given_in s.listed q reached ≡ length (all here)
     given-all none = let l = ap (length {A = ℕ}) none in omega arith
 
     -- so at the end of the span, and where the automaton is dead, the listing is at its end
-    pub given-past : built.kind ≡ Standard → end ≤ length bytes → due_in listed q reached ≡ []
-        → (reached.at ≡ end) ⊎ (node_at built.kind q reached.at ≡ None) → IsPast q (given_in listed q reached)
+    pub given-past : s.built.kind ≡ Standard → span.end ≤ length bytes → due_in s.listed q reached ≡ []
+        → (reached.at ≡ span.end) ⊎ (node s t reached.at ≡ None) → IsPast q (given_in s.listed q reached)
     given-past standard legal none over =
         subst (IsPast q) (sym (given-all none ∙ ap length (sym (whole over)))) (past-all q)
       where
-        whole : (reached.at ≡ end) ⊎ (node_at built.kind q reached.at ≡ None) → all q ≡ all here
+        whole : (reached.at ≡ span.end) ⊎ (node s t reached.at ≡ None) → all q ≡ all here
         whole (inl e) = ap (λ (h : ℕ). all (up_to h)) (sym e)
         whole (inr dead) =
             let order = on.reaches.onward in
             let within = on.within in
-            ap (λ (h : ℕ). all (up_to h)) (let e : end ≡ reached.at + (end - reached.at) = omega arith in e)
+            ap (λ (h : ℕ). all (up_to h)) (let e : span.end ≡ reached.at + (span.end - reached.at) = omega arith in e)
             ∙ all-dead here order
             (ap (λ (kind : MatchKind). reached_by kind) (sym standard) ∙ dead)
-            (end - reached.at) (omega arith)
+            (span.end - reached.at) (omega arith)
           where
             reached_by : MatchKind → Node
             reached_by kind = node_at kind q reached.at
 
     -- a match that was given, or that none is due at the end, is the next item of a listing that had given so many
-    pub has-moved : (old : Reached) (found : Option Occurrence) (new_reached : Reached) (tape new_tape : Taped)
-        → built.kind ≡ Standard → end ≤ length bytes
-        → given_in listed q reached ≡ given_in listed q old
-        → HasGiven stands listed built.kind q reached found new_reached
-        → (found ≡ None → (reached.at ≡ end) ⊎ (node_at built.kind q reached.at ≡ None))
-        → new_tape.bytes ≡ tape.bytes → tape.place ≤ new_tape.place → new_tape.place ≤ reached.at
-        → HasMoved stands listed built.kind q old found new_reached tape new_tape
-    has-moved old None new_reached tape new_tape standard legal as_many gave over same onward unread =
+    pub has-moved : (old : Reached) (found : Option Occurrence) (new_reached : Reached)
+        → s.built.kind ≡ Standard → span.end ≤ length bytes
+        → given_in s.listed q reached ≡ given_in s.listed q old → HasGiven s t reached found new_reached
+        → (found ≡ None → (reached.at ≡ span.end) ⊎ (node s t reached.at ≡ None)) → HasMoved s t old found new_reached
+    has-moved old None new_reached standard legal as_many gave over =
         let past = subst (IsPast q) as_many (given-past standard legal gave.due.0 (over refl)) in
-        subst (λ (r : Reached). HasMoved stands listed built.kind q old None r tape new_tape) (sym gave.due.1)
+        subst (λ (r : Reached). HasMoved s t old None r) (sym gave.due.1)
         (record {
           item = sym past.item;
           place = as_many ∙ sym past.after;
           leaves = on;
           ends = tt;
-          bytes = same;
-          onward = onward;
-          unread = unread;
           whole = λ _. over refl;
         })
-    has-moved old (Some m) new_reached tape new_tape standard legal as_many gave over same onward unread =
+    has-moved old (Some m) new_reached standard legal as_many gave over =
         let next = subst (λ (n : ℕ). IsItem q n m) as_many (given-item legal m new_reached gave) in
-        let there = gave.at in
-        let end_of = ap (λ (o : Occurrence). o.end) gave.ending in
         record {
           item = sym next.item;
           place = given-place m new_reached gave ∙ ap (λ (n : ℕ). n + 1) as_many ∙ sym next.after;
           leaves = gave.leaves;
-          ends = end_of ∙ sym there;
-          bytes = same;
-          onward = onward;
-          unread = omega arith;
+          ends = ap (λ (o : Occurrence). o.end) gave.ending ∙ sym gave.at;
           whole = λ none. absurd (cc);
+        }
+
+  -- a listing has come on: it stands where what is left is still to be given, and has given no item
+  pub record HasComeOn (old reached : Reached) : Type 0 where
+    pub leaves : IsListed s t reached
+    pub as_many : given_in s.listed q reached ≡ given_in s.listed q old
+
+  -- no item ends where no match was passed over, so a listing that has nothing due goes on where its scan has come to
+  module _ (standard : s.built.kind ≡ Standard) (legal : span.end ≤ length bytes) {reached : Reached}
+      (on : IsListed s t reached) (none : due_in s.listed q reached ≡ []) {cursor : Cursor} {work new_work : Work}
+      (passed : PassesNoMatch s t reached.at work cursor new_work) (within : cursor.at ≤ span.end) where
+    -- all items that end up to a place
+    abbrev all_to : ℕ → List Occurrence
+    all_to k = all (up_to k)
+
+    all-quiet : (n : ℕ) → reached.at + n < cursor.at → all_to (reached.at + n) ≡ all_to reached.at
+    all-quiet zero up = let e : reached.at + 0 ≡ reached.at = omega arith in ap all_to e
+    all-quiet (suc n) up =
+        let e : reached.at + suc n ≡ reached.at + n + 1 = omega arith in
+        let ordered = on.reaches.onward in
+        ap all_to e
+        ∙ listing-next standard (reached.at + n) (omega arith) (omega arith)
+        ∙ ap (λ (ns : List ℕ). all_to (reached.at + n) ++ map (ending (up_to (reached.at + n + 1))) ns)
+        (passed.none (reached.at + n + 1) (omega arith) (omega arith))
+        ∙ append-nil (all_to (reached.at + n))
+        ∙ all-quiet n (omega arith)
+
+    pub come-on : reached.at < cursor.at
+        → Lists s.built s.anchored (node s t cursor.at) (s.listed cursor.state)
+        → HasComeOn reached (arrived cursor.state cursor.at)
+    come-on before lists =
+        let ordered = on.reaches.onward in
+        let last : reached.at + (cursor.at - 1 - reached.at) ≡ cursor.at - 1 = omega arith in
+        let quiet : all_to (cursor.at - 1) ≡ all_to reached.at =
+        ap all_to (sym last) ∙ all-quiet (cursor.at - 1 - reached.at) (omega arith) in
+        let next : cursor.at - 1 + 1 ≡ cursor.at = omega arith in
+        let listing : all_to cursor.at ≡ all_to (cursor.at - 1) ++ map (ending (up_to cursor.at)) (matches_at cursor.at) =
+        subst (λ (k : ℕ). all_to k ≡ all_to (cursor.at - 1) ++ map (ending (up_to k)) (matches_at k)) next
+        (listing-next standard (cursor.at - 1) (omega arith) (omega arith)) in
+        record {
+          leaves = arrives passed.is_at lists (all_to (cursor.at - 1)) listing within;
+          as_many = given-arrived passed.is_at lists (all_to (cursor.at - 1)) listing
+              ∙ ap length quiet ∙ sym (given-all on none);
         }

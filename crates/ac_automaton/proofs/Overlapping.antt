@@ -1,5 +1,5 @@
 -- Overlapping search by a state, and by an iterator: how it begins, and what a call leaves.
-use Rattle.std.proofs.Common.{◌≡◌, ℕ, zero, suc, Bool, drop, ◌+◌, ◌<◌, ◌≤◌, List, [], ◌∷◌, length, inl, inr, refl, ap, sym, subst, ◌∙◌, arith, Option, Some, None}
+use Rattle.std.proofs.Common.{◌≡◌, ℕ, zero, suc, drop, ◌+◌, ◌<◌, ◌≤◌, List, [], ◌∷◌, length, inl, inr, refl, ap, sym, subst, ◌∙◌, arith, Option, Some, None}
 use Rattle.std.specs.Prelude.{◌⊎◌, IfSome, MatchOption, max, slice_get}
 use Rattle.std.proofs.Math.Seq.{drop-nil}
 use Rattle.ac_util.specs.declared.error.MatchError.{MatchError}
@@ -7,9 +7,9 @@ use Rattle.ac_util.specs.declared.search.Anchored.{Anchored}
 use Rattle.ac_util.specs.declared.search.Anchored.TheVariants.{No}
 use Rattle.ac_util.specs.declared.search.MatchKind.{MatchKind}
 use Rattle.ac_util.specs.declared.search.MatchKind.TheVariants.{Standard}
+use Rattle.ac_util.specs.declared.search.Span.{Span}
 use Rattle.ac_util.specs.Asked.{Asked}
-use Rattle.ac_util.specs.Built.{Built, overlapping_iter_refusal, overlapping_refusal, search_in}
-use Rattle.ac_util.specs.Counts.{Counts, Taped, no_counts}
+use Rattle.ac_util.specs.Built.{Built, overlapping_iter_refusal, overlapping_refusal}
 use Rattle.ac_util.specs.Listing.{all, item_at, place_after}
 use Rattle.ac_util.specs.Node.{Node, reached}
 use Rattle.ac_util.specs.Occurrence.{Occurrence}
@@ -22,10 +22,11 @@ use Rattle.ac_util.proofs.Reached.{reached-alive}
 use Rattle.ac_automaton.specs.declared.automaton.overlap.OverlappingState.{OverlappingState}
 use Rattle.ac_automaton.specs.declared.automaton.overlap.Reached.{Reached}
 use Rattle.ac_automaton.specs.Automata.{Lists}
-use Rattle.ac_automaton.specs.Overlaps.{GivesNext, HasListed, HasMoved, IsListing, IsPlaced, ListsNext, beginning_of, given_by, given_in, overlapping_of, place_by}
-use Rattle.ac_automaton.specs.Progress.{Grows, HasCome, HasRead, most_looks, node_at, search_of}
-use Rattle.ac_automaton.proofs.ListLoop.{IsPast, arrives, given-arrived, listing-start, past-all}
-use Rattle.ac_automaton.proofs.ReadOn.{come-start, read-come, read-nothing, reaches-start}
+use Rattle.ac_automaton.specs.Overlaps.{GivesNext, HasListed, HasMoved, IsListed, IsListing, IsPlaced, ListsNext, given_by, given_in, overlapping_by, place_by}
+use Rattle.ac_automaton.specs.Progress.{Work, most_looks, node_at, nothing_done}
+use Rattle.ac_automaton.specs.Scans.{Scan, ScanText, ScansTo, in_memory, node, search_through}
+use Rattle.ac_automaton.proofs.ListLoop.{IsPast, arrived, arrives, given-arrived, listing-start, past-all}
+use Rattle.ac_automaton.proofs.ReadOn.{at-start, read-nothing, read-scanned, scans-nothing, scans-on}
 
 -- a search by a state is refused for its start or its match kind
 pub by_state-served : (built : Built) (asked : Asked) → start_refusal built.start_kind asked.anchored ≡ None
@@ -68,71 +69,56 @@ past_end-gives {stands} {listed} {kind} q state past placed = by state.reached p
     by (Some reached) on = absurd (let low = on.reaches.onward in let high = on.within in omega arith)
 
 -- a listing goes on from here: there it has come, and so many items were given
-pub record GoesOnFrom (stands : ℕ → Node → Type 0) (listed : ℕ → List ℕ) (built : Built) (asked : Asked)
-    (given : ℕ) (reached : Reached) : Type 0 where
-  pub on : HasListed stands listed built.kind (search_in built asked) reached
-  pub as_many : given_in listed (search_in built asked) reached ≡ given
+pub record GoesOnFrom (s : Scan) (t : ScanText) (given : ℕ) (reached : Reached) : Type 0 where
+  pub on : IsListed s t reached
+  pub as_many : given_in s.listed (search_through s t) reached ≡ given
 
--- a listing that has come to the start of the span
-abbrev pub at_start : Asked → ℕ → Reached
-at_start asked start =
-    record { state = start; at = asked.start; rest = record { state = start; index = 0 } }
-
-module _ {stands : ℕ → Node → Type 0} (listed : ℕ → List ℕ) (built : Built) (asked : Asked) (start : ℕ)
-    (starts : stands start (Some []))
-    (lists : (u : Node) → stands start u → Lists built asked.anchored u (listed start))
-    (standard : built.kind ≡ Standard) (order : asked.start ≤ asked.end)
-    (legal : asked.end ≤ length asked.haystack) where
+-- a listing over a span that doesn't start past its end, whose automaton has this start state
+module _ (s : Scan) (bytes : List ℕ) (span : Span) (start : ℕ) (starts : s.stands start (Some []))
+    (lists : (u : Node) → s.stands start u → Lists s.built s.anchored u (s.listed start))
+    (standard : s.built.kind ≡ Standard) (order : span.start ≤ span.end) (legal : span.end ≤ length bytes) where
   -- one that begins goes on from the start of the span, and has given nothing
-  pub goes_on-start : GoesOnFrom stands listed built asked 0 (at_start asked start)
+  pub goes_on-start : GoesOnFrom s (in_memory bytes span) 0 (arrived s bytes span start span.start)
   goes_on-start =
-      let inside : asked.start ≤ length asked.haystack = omega arith in
-      let reaches = reaches-start built asked.anchored (beginning_of (search_in built asked)) {stands = stands} starts inside in
-      let there = lists (node_at built.kind (search_in built asked) asked.start) reaches.there in
-      let listing = listing-start built asked.anchored asked.haystack asked.start asked.end standard inside in
+      let inside : span.start ≤ length bytes = omega arith in
+      let is_at = at-start s (in_memory bytes span) {state = start} span.start starts refl inside in
+      let there = lists (node s (in_memory bytes span) span.start) is_at.there in
+      let listing = listing-start s bytes span standard inside in
       record {
-        on = arrives built asked.anchored asked.haystack asked.start asked.end listed start asked.start reaches
-            order there [] listing;
-        as_many = given-arrived built asked.anchored asked.haystack asked.start asked.end listed start asked.start
-            reaches there [] listing;
+        on = arrives s bytes span is_at there [] listing order;
+        as_many = given-arrived s bytes span is_at there [] listing;
       }
 
   -- and one that goes on from where it came to
   pub goes_on-there : (reached : Option Reached) (here : Reached)
-      → IfSome reached (HasListed stands listed built.kind (search_in built asked))
-      → MatchOption reached (here ≡ at_start asked start) (λ there. here ≡ there)
-      → GoesOnFrom stands listed built asked (given_by listed (search_in built asked) reached) here
-  goes_on-there None here placed is =
-      subst (GoesOnFrom stands listed built asked 0) (sym is) goes_on-start
+      → IfSome reached (IsListed s (in_memory bytes span))
+      → MatchOption reached (here ≡ arrived s bytes span start span.start) (λ there. here ≡ there)
+      → GoesOnFrom s (in_memory bytes span) (given_by s.listed (search_through s (in_memory bytes span)) reached) here
+  goes_on-there None here placed is = subst (GoesOnFrom s (in_memory bytes span) 0) (sym is) goes_on-start
   goes_on-there (Some there) here placed is =
-      subst (GoesOnFrom stands listed built asked (given_in listed (search_in built asked) there)) (sym is)
-      (record { on = placed; as_many = refl })
+      subst (GoesOnFrom s (in_memory bytes span) (given_in s.listed (search_through s (in_memory bytes span)) there))
+      (sym is) (record { on = placed; as_many = refl })
 
   -- an iterator over it has read nothing
-  pub listing-starts : (most : ℕ) (filters : Bool) → asked.anchored ≡ No
-      → IsListing stands listed most filters built (search_in built asked) (Some (at_start asked start))
-      (record { bytes = asked.haystack; place = 0 }) no_counts
-  listing-starts most filters unanchored = record {
+  pub listing-starts : s.anchored ≡ No
+      → IsListing s (in_memory bytes span) (Some (arrived s bytes span start span.start)) nothing_done
+  listing-starts unanchored = record {
     standard = standard;
     unanchored = unanchored;
     legal = legal;
-    begun = (
-      goes_on-start.on,
-      come-start built asked.anchored (beginning_of (search_in built asked)) stands most filters start starts
-          (omega arith) (omega arith),
-    );
+    begun = (goes_on-start.on, scans-nothing s (in_memory bytes span) (omega arith));
   }
 
 -- what a call has given that went on from there
-pub gives-moved : {stands : ℕ → Node → Type 0} {listed : ℕ → List ℕ} {kind : MatchKind} (q : Search)
-    (state : OverlappingState) (here : Reached) (found : Option Occurrence) (new_reached : Reached)
-    {tape new_tape : Taped}
-    → given_in listed q here ≡ place_by listed q state
-    → HasMoved stands listed kind q here found new_reached tape new_tape
-    → GivesNext stands listed kind q state (record { found = found; reached = Some new_reached })
-gives-moved q state here found new_reached as_many moved = record {
-  item = moved.item ∙ ap (item_at q) as_many;
-  place = moved.place ∙ ap (place_after q) as_many;
+pub gives-moved : (s : Scan) (t : ScanText) (state : OverlappingState) (here : Reached) (found : Option Occurrence)
+    (new_reached : Reached)
+    → given_in s.listed (search_through s t) here ≡ place_by s.listed (search_through s t) state
+    → HasMoved s t here found new_reached
+    → GivesNext s.stands s.listed s.built.kind (search_through s t) state
+    (record { found = found; reached = Some new_reached })
+gives-moved s t state here found new_reached as_many moved = record {
+  item = moved.item ∙ ap (item_at (search_through s t)) as_many;
+  place = moved.place ∙ ap (place_after (search_through s t)) as_many;
   placed = moved.leaves;
 }
 
@@ -160,94 +146,83 @@ left-after q given (Some m) is =
     drop-item (all q) given m (sym is)
     ∙ ap (λ (n : ℕ). m ∷ drop n (all q)) (sym (item-some q given m (sym is)).1)
 
-module _ (built : Built) (anchored : Anchored) (bytes : List ℕ) (start end : ℕ) where
-  -- what is listed
+module _ (s : Scan) (bytes : List ℕ) (span : Span) where
+  -- what is read and listed
+  abbrev t : ScanText
+  t = in_memory bytes span
+
   abbrev q : Search
-  q = search_of built anchored bytes start end
+  q = search_through s t
 
-  module _ {stands : ℕ → Node → Type 0} {listed : ℕ → List ℕ} {most : ℕ} {filters : Bool} where
-    -- in a span that starts past its end there is nothing to give
-    pub lists-past_end : (tape : Taped) (counts : Counts)
-        → IsListing stands listed most filters built q None tape counts
-        → ListsNext (overlapping_of most filters q 0 tape.place counts) None
-        (overlapping_of most filters q 0 tape.place counts)
-    lists-past_end tape counts way =
-        let past = way.begun.0 in
-        let none = all-past_end q past in
-        let first = subst (IsPast q) (ap length none) (past-all q) in
-        let place = way.begun.1 in
-        record {
-          gives = (none, none);
-          item = sym first.item;
-          same = ap (λ (n : ℕ). record (overlapping_of most filters q 0 tape.place counts) { given = n })
-              (sym first.after);
-          onward = omega arith;
-          grows = record { reads = omega arith; looks = omega arith; calls = omega arith };
-          stops = tt;
-          told = λ _. tt;
-          whole = λ _ _. omega arith;
-          read = subst (λ (n : ℕ). HasRead (most_looks q.anchored most) (may_skip filters q) start end
-              (record { bytes = bytes; place = 0 }) (record { bytes = bytes; place = n }) no_counts counts)
-              (sym place)
-              (subst (λ (c : Counts). HasRead (most_looks q.anchored most) (may_skip filters q) start end
-              (record { bytes = bytes; place = 0 }) (record { bytes = bytes; place = 0 }) no_counts c)
-              (sym way.begun.2)
-              (read-nothing (most_looks q.anchored most) (may_skip filters q) start end
-              (record { bytes = bytes; place = 0 }) no_counts (omega arith)));
-        }
+  -- in a span that starts past its end there is nothing to give
+  pub lists-past_end : (work : Work) → IsListing s t None work
+      → ListsNext (overlapping_by s t None work) None (overlapping_by s t None work)
+  lists-past_end work way =
+      let past = way.begun.0 in
+      let none = all-past_end q past in
+      let first = subst (IsPast q) (ap length none) (past-all q) in
+      subst (λ (w : Work). ListsNext (overlapping_by s t None w) None (overlapping_by s t None w)) (sym way.begun.1)
+      (record {
+        gives = (none, none);
+        item = sym first.item;
+        same = ap (λ (n : ℕ). record (overlapping_by s t None nothing_done) { given = n }) (sym first.after);
+        onward = omega arith;
+        grows = record { reads = omega arith; looks = omega arith; calls = omega arith };
+        stops = tt;
+        told = λ _. tt;
+        whole = λ _ _. omega arith;
+        read = read-nothing (most_looks s.anchored s.most) (may_skip s.filters q) span.start span.end nothing_done
+            (omega arith);
+      })
 
-    module _ (here new_reached : Reached) (tape new_tape : Taped) (counts new_counts : Counts)
-        (found : Option Occurrence)
-        (way : IsListing stands listed most filters built q (Some here) tape counts)
-        (moved : HasMoved stands listed built.kind q here found new_reached tape new_tape)
-        (grows : Grows counts new_counts)
-        (come : HasCome stands most filters built anchored (beginning_of q) new_reached.state new_reached.at new_tape
-        new_counts) where
-      -- else the next item is given
-      stops : (r : Option Occurrence) → IfSome r (λ m. m.end ≡ new_reached.at)
-          → IfSome r (λ m. new_tape.place ≤ max tape.place m.end)
-      stops None ends = tt
-      stops (Some m) ends = let u = moved.unread in omega arith
+  module _ (here new_reached : Reached) (work new_work : Work) (found : Option Occurrence)
+      (way : IsListing s t (Some here) work) (moved : HasMoved s t here found new_reached)
+      (scans : ScansTo s t here.at work new_reached.at new_work) where
+    -- the scan from the start of the span on
+    so_far : ScansTo s t span.start nothing_done new_reached.at new_work
+    so_far = scans-on way.begun.1 scans
 
-      told : new_counts.calls ≡ 0 → (r : Option Occurrence) → IfSome r (λ m. m.end ≡ new_reached.at)
-          → IfSome r (λ m. m.end ≤ max start new_tape.place)
-      told none None ends = tt
-      told none (Some m) ends = let w = come.whole none in omega arith
+    -- else the next item is given
+    stops : (r : Option Occurrence) → IfSome r (λ m. m.end ≡ new_reached.at)
+        → IfSome r (λ m. new_work.place ≤ max work.place m.end)
+    stops None ends = tt
+    stops (Some m) ends = let u = scans.unread in omega arith
 
-      whole : new_counts.calls ≡ 0 → (new_reached.at ≡ end) ⊎ (node_at built.kind q new_reached.at ≡ None)
-          → end ≤ max start new_tape.place
-      whole none (inl there) = let w = come.whole none in omega arith
-      whole none (inr dead) =
-          absurd (reached-alive Standard (plain_patterns q) refl (text (record q { high = new_reached.at }))
-          (ap (λ (a : Anchored). reached Standard (plain_patterns q) a (text (record q { high = new_reached.at })))
-          (sym way.unanchored)
-          ∙ ap (λ (kind : MatchKind). node_at kind q new_reached.at) (sym way.standard) ∙ dead))
+    told : new_work.counts.calls ≡ 0 → (r : Option Occurrence) → IfSome r (λ m. m.end ≡ new_reached.at)
+        → IfSome r (λ m. m.end ≤ max span.start new_work.place)
+    told none None ends = tt
+    told none (Some m) ends = let w = so_far.whole none in omega arith
 
-      pub lists-next : ListsNext (overlapping_of most filters q (given_in listed q here) tape.place counts) found
-          (overlapping_of most filters q (given_in listed q new_reached) new_tape.place new_counts)
-      lists-next = record {
-        gives = subst (λ (n : ℕ). MatchOption found
-            ((drop (given_in listed q here) (all q) ≡ []) × (drop n (all q) ≡ []))
-            (λ m. drop (given_in listed q here) (all q) ≡ m ∷ drop n (all q))) (sym moved.place)
-            (left-after q (given_in listed q here) found moved.item);
-        item = moved.item;
-        same = ap (λ (n : ℕ). record (overlapping_of most filters q (given_in listed q new_reached)
-            new_tape.place new_counts) { given = n }) moved.place;
-        onward = moved.onward;
-        grows = grows;
-        stops = stops found moved.ends;
-        told = λ none. told none found moved.ends;
-        whole = λ none past. whole none (moved.whole past);
-        read = subst (λ (bs : List ℕ). HasRead (most_looks q.anchored most) (may_skip filters q) start end
-            (record { bytes = bytes; place = 0 }) (record { bytes = bs; place = new_tape.place }) no_counts
-            new_counts) come.read.bytes (read-come built anchored (beginning_of q) come moved.leaves.within);
-      }
+    whole : new_work.counts.calls ≡ 0 → (new_reached.at ≡ span.end) ⊎ (node s t new_reached.at ≡ None)
+        → span.end ≤ max span.start new_work.place
+    whole none (inl there) = let w = so_far.whole none in omega arith
+    whole none (inr dead) =
+        absurd (reached-alive Standard (plain_patterns q) refl (text (record q { high = new_reached.at }))
+        (ap (λ (a : Anchored). reached Standard (plain_patterns q) a (text (record q { high = new_reached.at })))
+        (sym way.unanchored)
+        ∙ ap (λ (kind : MatchKind). node_at kind q new_reached.at) (sym way.standard) ∙ dead))
 
-      -- and the listing goes on
-      pub listing-goes_on : IsListing stands listed most filters built q (Some new_reached) new_tape new_counts
-      listing-goes_on = record {
-        standard = way.standard;
-        unanchored = way.unanchored;
-        legal = way.legal;
-        begun = (moved.leaves, come);
-      }
+    pub lists-next : ListsNext (overlapping_by s t (Some here) work) found (overlapping_by s t (Some new_reached) new_work)
+    lists-next = record {
+      gives = subst (λ (n : ℕ). MatchOption found
+          ((drop (given_in s.listed q here) (all q) ≡ []) × (drop n (all q) ≡ []))
+          (λ m. drop (given_in s.listed q here) (all q) ≡ m ∷ drop n (all q))) (sym moved.place)
+          (left-after q (given_in s.listed q here) found moved.item);
+      item = moved.item;
+      same = ap (λ (n : ℕ). record (overlapping_by s t (Some new_reached) new_work) { given = n }) moved.place;
+      onward = scans.forward;
+      grows = scans.grows;
+      stops = stops found moved.ends;
+      told = λ none. told none found moved.ends;
+      whole = λ none past. whole none (moved.whole past);
+      read = read-scanned s t refl so_far moved.leaves.within;
+    }
+
+    -- and the listing goes on
+    pub listing-goes_on : IsListing s t (Some new_reached) new_work
+    listing-goes_on = record {
+      standard = way.standard;
+      unanchored = way.unanchored;
+      legal = way.legal;
+      begun = (moved.leaves, so_far);
+    }

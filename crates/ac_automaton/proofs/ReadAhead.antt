@@ -1,33 +1,16 @@
 -- Reading on up to a match: where the automaton stands, and that it has passed over none.
-use Rattle.std.proofs.Common.{◌≡◌, ◌≢◌, ℕ, ◌+◌, ◌≤◌, List, [], inl, inr, subst, sym, refl, ◌++◌, ◌∷◌, ◌∙◌, arith, None}
+use Rattle.std.proofs.Common.{◌≡◌, ◌≢◌, ◌⊎◌, ℕ, ◌+◌, ◌≤◌, List, [], inl, inr, subst, sym, refl, ◌++◌, ◌∷◌, ◌∙◌, arith, None}
 use Rattle.std.proofs.lemmas.Bool.{cases_lt}
 use Rattle.ac_util.specs.declared.search.Anchored.{Anchored}
 use Rattle.ac_util.specs.declared.search.Anchored.TheVariants.{No, Yes}
 use Rattle.ac_util.specs.Built.{Built}
 use Rattle.ac_util.specs.Node.{Node}
+use Rattle.ac_automaton.specs.declared.automaton.scan.Cursor.{Cursor}
 use Rattle.ac_automaton.specs.Automata.{Lists, matches_of}
-use Rattle.ac_automaton.specs.Progress.{IsQuiet, Reaches, node_at, search_of}
-
--- where an automaton stands doesn't depend on where the span ends
-pub reaches-as : (built : Built) (anchored : Anchored) {stands : ℕ → Node → Type 0} {state at start end other : ℕ} {bytes same : List ℕ}
-    → bytes ≡ same → Reaches stands built.kind (search_of built anchored bytes start end) state at
-    → Reaches stands built.kind (search_of built anchored same start other) state at
-reaches-as built anchored {stands} {state} {at} {start} {end} {other} e reaches =
-    subst (λ (bs : List ℕ). Reaches stands built.kind (search_of built anchored bs start other) state at) e (record {
-      there = reaches.there;
-      onward = reaches.onward;
-      inside = reaches.inside;
-      alive = reaches.alive;
-    })
-
--- an automaton has come from one place of a span to another, where it isn't dead, and at none after the first
--- has it reached a match
-pub record IsAlong (stands : ℕ → Node → Type 0) (built : Built) (anchored : Anchored) (bytes : List ℕ) (start end from : ℕ)
-    (state at : ℕ) : Type 0 where
-  pub reaches : Reaches stands built.kind (search_of built anchored bytes start end) state at
-  pub onward : from ≤ at
-  pub quiet : IsQuiet built anchored bytes start from (at + 1)
-  pub living : node_at built.kind (search_of built anchored bytes start end) at ≢ None
+use Rattle.ac_automaton.specs.Progress.{Work}
+use Rattle.ac_automaton.specs.Scans.{IsAlive, NoMatchBetween, PassesNoMatch, Scan, ScanText, ScansTo, node}
+use Rattle.ac_automaton.proofs.Heads.{nil-from_not}
+use Rattle.ac_automaton.proofs.ReadOn.{passes-on, scans-nothing}
 
 -- a state that lists nothing has no matches
 pub nothing-listed : (built : Built) (anchored : Anchored) (u : Node) {listed : List ℕ} → Lists built anchored u listed
@@ -39,15 +22,57 @@ nothing-listed built Yes u lists none = by (matches_of built Yes u) (sym lists.f
     by [] e = refl
     by (n ∷ ns) e = absurd (cc)
 
--- a span stays quiet with one more place where nothing is found
-pub quiet-longer : (built : Built) (anchored : Anchored) (bytes : List ℕ) (start from to : ℕ)
-    → IsQuiet built anchored bytes start from to
-    → matches_of built anchored (node_at built.kind (search_of built anchored bytes start to) to) ≡ []
-    → IsQuiet built anchored bytes start from (to + 1)
-quiet-longer built anchored bytes start from to quiet none k low high = elim (cases_lt k to) [
-  | inl before ↦ quiet k low before
-  | inr behind ↦
-      let e : to ≡ k = omega arith in
-      subst (λ (n : ℕ). matches_of built anchored (node_at built.kind (search_of built anchored bytes start to) n) ≡ [])
-      e none
-]
+-- a scan has come on, isn't dead, and has reached no match since, nor stands at one
+pub record IsAlong (s : Scan) (t : ScanText) (from : ℕ) (work : Work) (cursor : Cursor) (new_work : Work) : Type 0 where
+  pub alive : IsAlive s t cursor
+  pub scans : ScansTo s t from work cursor.at new_work
+  pub none : NoMatchBetween s t from (cursor.at + 1)
+
+module _ {s : Scan} {t : ScanText} where
+  -- a scan that has done nothing is along
+  pub along-start : {work : Work} {cursor : Cursor} → IsAlive s t cursor → work.place ≤ cursor.at
+      → IsAlong s t cursor.at work cursor work
+  along-start alive unread = record {
+    alive = alive;
+    scans = scans-nothing s t unread;
+    none = λ k low high. absurd (omega arith);
+  }
+
+  -- what is along has passed over no match
+  pub along-passed : {from : ℕ} {work new_work : Work} {cursor : Cursor} → IsAlong s t from work cursor new_work
+      → PassesNoMatch s t from work cursor new_work
+  along-passed along =
+      record { is_at = along.alive.is_at; scans = along.scans; none = λ k low high. along.none k low (omega arith) }
+
+  -- the same where its place is named otherwise
+  pub along-ended : {from state at : ℕ} {work new_work : Work} (end : ℕ) → at ≡ end
+      → IsAlong s t from work (record { state = state; at = at }) new_work
+      → PassesNoMatch s t from work (record { state = state; at = end }) new_work
+  along-ended {from} {state} {at} {work} {new_work} end is along =
+      subst (λ (n : ℕ). PassesNoMatch s t from work (record { state = state; at = n }) new_work) is (along-passed along)
+
+  module _ {from : ℕ} {work new_work work_then : Work} {cursor then_cursor : Cursor}
+      (along : IsAlong s t from work cursor new_work)
+      (passed : PassesNoMatch s t cursor.at new_work then_cursor work_then) where
+    -- it goes on over no match
+    pub along-passes : PassesNoMatch s t from work then_cursor work_then
+    along-passes = passes-on (along-passed along) along.none passed
+
+    -- and stays along where its state is neither dead nor has matches
+    pub along-next : Lists s.built s.anchored (node s t then_cursor.at) (s.listed then_cursor.state)
+        → ¬ ((node s t then_cursor.at ≡ None) ⊎ (s.listed then_cursor.state ≢ []))
+        → IsAlong s t from work then_cursor work_then
+    along-next lists not =
+        let passes = along-passes in
+        let none = nothing-listed s.built s.anchored (node s t then_cursor.at) lists
+        (nil-from_not (s.listed then_cursor.state) (λ some. not (inr some))) in
+        record {
+          alive = record { is_at = passes.is_at; living = λ dead. not (inl dead) };
+          scans = passes.scans;
+          none = λ k low high. elim (cases_lt k then_cursor.at) [
+            | inl before ↦ passes.none k low before
+            | inr behind ↦
+                let e : then_cursor.at ≡ k = omega arith in
+                subst (λ (n : ℕ). matches_of s.built s.anchored (node s t n) ≡ []) e none
+          ];
+        }

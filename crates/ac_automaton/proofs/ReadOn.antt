@@ -1,12 +1,12 @@
--- A search that reads byte by byte: where its automaton stands with one byte more, what it has read and looked at,
--- and that each look is paid for.
-use Rattle.std.proofs.Common.{◌≡◌, ◌≢◌, ◌⊎◌, ℕ, ◌+◌, ◌-◌, ◌*◌, ◌<◌, ◌≤◌, true, false, cond, List, [], length, slice_index, inl, inr, refl, ap, sym, subst, ◌∙◌, arith, Bool, Some, None}
+-- A scan that reads byte by byte: where its automaton stands with one byte more, what it has read and looked at, and that
+-- each look is paid for.
+use Rattle.std.proofs.Common.{◌≡◌, ◌≢◌, ◌⊎◌, ℕ, suc, ◌+◌, ◌-◌, ◌*◌, ◌<◌, ◌≤◌, true, false, cond, List, [], ◌∷◌, ◌++◌, length, length-append, slice_index, inl, inr, refl, ap, sym, subst, ◌∙◌, arith, Bool, Some, None}
 use Rattle.std.specs.Prelude.{◌==◌, if◌then◌else◌}
 use Rattle.std.proofs.lemmas.Bool.{cases_lt}
 use Rattle.ac_util.specs.declared.search.Anchored.{Anchored}
 use Rattle.ac_util.specs.declared.search.Anchored.TheVariants.{No, Yes}
 use Rattle.ac_util.specs.Built.{Built}
-use Rattle.ac_util.specs.Counts.{Counts, Taped, one_more_read, more_looks}
+use Rattle.ac_util.specs.Counts.{Counts, one_more_read, more_looks}
 use Rattle.ac_util.specs.Looks.{credit}
 use Rattle.ac_util.specs.Node.{Node, depth, is_node, reached}
 use Rattle.ac_util.specs.Prefilters.{may_skip}
@@ -18,10 +18,11 @@ use Rattle.ac_util.proofs.OneLonger.{text-empty, step-longer}
 use Rattle.ac_util.proofs.Reached.{reached-nil}
 use Rattle.ac_util.proofs.Spans.{text_length}
 use Rattle.ac_util.proofs.SearchLoop.{credit-nil, looks_by-once, step-paid}
+use Rattle.ac_automaton.specs.declared.automaton.scan.Cursor.{Cursor}
 use Rattle.ac_automaton.specs.Automata.{plain_of, step_of, looks_of}
 use Rattle.ac_automaton.specs.Finds.{FitsIn}
-use Rattle.ac_automaton.specs.Progress.{Beginning, Grows, HasCome, HasRead, Reaches, StopsAtDead, most_looks, node_at, span_of}
-use Rattle.ac_automaton.specs.Skipping.{MayRead}
+use Rattle.ac_automaton.specs.Progress.{Grows, HasRead, Work, most_looks}
+use Rattle.ac_automaton.specs.Scans.{IsAlive, IsAt, NoMatchBetween, PassesNoMatch, Scan, ScanText, ScansTo, node, past, search_through}
 
 -- a step's looks are paid by what was saved and what the byte brings; an anchored one saves nothing and looks
 -- once
@@ -50,6 +51,23 @@ depth-most : (u : List ℕ) (t : Bool) → depth (cond t (Some u) None) ≤ leng
 depth-most u true = omega arith
 depth-most u false = omega arith
 
+-- a place of the tape among all bytes read, as a sum
+pub past-is : (before : List ℕ) (at : ℕ) → past before at ≡ length before + at
+past-is [] at = omega arith
+past-is (b ∷ before) at = let e = past-is before at in omega arith
+
+-- a byte of the tape among all bytes read
+index-past : (before bytes : List ℕ) (at : ℕ) → slice_index (before ++ bytes) (past before at) ≡ slice_index bytes at
+index-past [] bytes at = refl
+index-past (b ∷ before) bytes at =
+    ap (slice_index (b ∷ before ++ bytes)) (let e : past before at + 1 ≡ suc (past before at) = omega arith in e)
+    ∙ index-past before bytes at
+
+-- one place further
+past-next : (before : List ℕ) (at : ℕ) → past before at + 1 ≡ past before (at + 1)
+past-next [] at = refl
+past-next (b ∷ before) at = let e = past-next before at in omega arith
+
 -- what has grown twice has grown
 pub grows-trans : {a b c : Counts} → Grows a b → Grows b c → Grows a c
 grows-trans first second = record {
@@ -58,24 +76,10 @@ grows-trans first second = record {
   calls = (let f = first.calls in let t = second.calls in omega arith);
 }
 
--- a byte that is read and followed takes a look at least
-pub grows-read : (most : ℕ) (built : Built) (anchored : Anchored) (u : Node) (byte : ℕ)
-    (counts read new_counts : Counts)
-    → read ≡ one_more_read counts → new_counts ≡ more_looks (looks_of most built anchored u byte) read
-    → Grows counts new_counts
-grows-read most built anchored u byte counts read new_counts counted looked =
-    let once = looks_by-once most built.kind (plain_of built) anchored u (plain_byte built.fold byte) in
-    let reads = ap (λ (c : Counts). c.reads) looked ∙ ap (λ (c : Counts). c.reads) counted in
-    let looks = ap (λ (c : Counts). c.looks) looked in
-    let before = ap (λ (c : Counts). c.looks) counted in
-    let calls = ap (λ (c : Counts). c.calls) looked ∙ ap (λ (c : Counts). c.calls) counted in
-    record { reads = omega arith; looks = omega arith; calls = omega arith }
-
 -- a search that has read nothing
-pub read-nothing : (most : ℕ) (skips : Bool) (start end : ℕ) (tape : Taped) (counts : Counts)
-    → tape.place ≤ start → HasRead most skips start end tape tape counts counts
-read-nothing most skips start end tape counts unread = record {
-  bytes = refl;
+pub read-nothing : (most : ℕ) (skips : Bool) (start end : ℕ) (work : Work)
+    → work.place ≤ start → HasRead most skips start end work work
+read-nothing most skips start end work unread = record {
   onward = omega arith;
   within = omega arith;
   grows = record { reads = omega arith; looks = omega arith; calls = omega arith };
@@ -87,186 +91,212 @@ read-nothing most skips start end tape counts unread = record {
   quiet = λ _. refl;
 }
 
-module _ (built : Built) (anchored : Anchored) (began : Beginning) where
-  -- what is searched, and the bytes of the tape
+-- two payments one after another
+paid-twice : (m a b c x y z r t v : ℕ) → a ≤ b → b ≤ c → y + t ≤ x + r + m * (b - a) → z + v ≤ y + t + m * (c - b)
+    → z + v ≤ x + r + m * (c - a)
+paid-twice m a b c x y z r t v low high one two =
+    let e : c - a ≡ (b - a) + (c - b) = omega arith in
+    rw e (omega arith)
+
+module _ (s : Scan) (t : ScanText) where
   abbrev q : Search
-  q = span_of built anchored began
+  q = search_through s t
 
-  abbrev bytes : List ℕ
-  bytes = began.tape.bytes
+  abbrev most : ℕ
+  most = most_looks s.anchored s.most
 
-  -- before a byte was read the automaton stands at the start
-  pub node-start : node_at built.kind q began.start ≡ Some []
-  node-start =
-      ap (reached built.kind (plain_of built) anchored) (text-empty (record q { high = began.start }) refl)
-      ∙ reached-nil built.kind (plain_of built) anchored
+  abbrev place : ℕ → ℕ
+  place at = past t.before at
+
+  -- a place of the tape lies among all bytes read
+  pub inside-past : {at : ℕ} → at ≤ length t.bytes → place at ≤ length (t.before ++ t.bytes)
+  inside-past {at} room =
+      let long = length-append t.before t.bytes in let e = past-is t.before at in omega arith
+
+  -- where the text starts nothing was read: the automaton stands at its start
+  pub node-start : (at : ℕ) → place at ≡ t.start → node s t at ≡ Some []
+  node-start at there =
+      ap (reached s.built.kind (plain_of s.built) s.anchored) (text-empty (record q { high = place at }) (sym there))
+      ∙ reached-nil s.built.kind (plain_of s.built) s.anchored
 
   -- one byte more leads from the node reached to the next one
-  pub node-step : (at byte : ℕ) → began.start ≤ at → at < length bytes → byte ≡ slice_index bytes at
-      → step_of built anchored (node_at built.kind q at) byte ≡ node_at built.kind q (at + 1)
+  pub node-step : (at byte : ℕ) → t.start ≤ place at → at < length t.bytes → byte ≡ slice_index t.bytes at
+      → step_of s.built s.anchored (node s t at) byte ≡ node s t (at + 1)
   node-step at byte ordered room read =
-      ap (step_of built anchored (node_at built.kind q at)) read
-      ∙ step-longer built.kind (record q { high = at }) ordered room
+      let inside = inside-past {at = at + 1} (omega arith) in
+      let next = past-next t.before at in
+      ap (step_of s.built s.anchored (node s t at)) (read ∙ sym (index-past t.before t.bytes at))
+      ∙ step-longer s.built.kind (record q { high = place at }) ordered (omega arith)
+      ∙ ap (λ (k : ℕ). reached s.built.kind (plain_of s.built) s.anchored (text (record q { high = k }))) next
 
   -- the node fits into what was read
-  pub node-fits : (at : ℕ) → began.start ≤ at → at ≤ length bytes
-      → FitsIn anchored (node_at built.kind q at) began.start at
-  node-fits at ordered room =
-      record { ordered = ordered; short = short anchored; whole = whole anchored }
+  pub node-fits : (state at : ℕ) → IsAt s t state at → FitsIn s.anchored (node s t at) t.start (place at)
+  node-fits state at is_at =
+      record { ordered = is_at.onward; short = short s.anchored; whole = whole s.anchored }
     where
-      size : length (text (record q { high = at })) ≡ at - began.start
-      size = text_length (record q { high = at }) ordered room
+      read : List ℕ
+      read = text (record q { high = place at })
 
-      short : (a : Anchored)
-          → depth (reached built.kind (plain_of built) a (text (record q { high = at }))) ≤ at - began.start
-      short No =
-          let l = depth-reached built.kind (plain_of built) (text (record q { high = at })) in let s = size in omega arith
+      size : length read ≡ place at - t.start
+      size = text_length (record q { high = place at }) is_at.onward is_at.inside
+
+      short : (a : Anchored) → depth (reached s.built.kind (plain_of s.built) a read) ≤ place at - t.start
+      short No = let l = depth-reached s.built.kind (plain_of s.built) read in let k = size in omega arith
       short Yes =
-          let l = depth-most (text (record q { high = at })) (is_node built.kind (plain_of built) (text (record q { high = at }))) in
-          let s = size in
-          omega arith
+          let l = depth-most read (is_node s.built.kind (plain_of s.built) read) in let k = size in omega arith
 
-      whole : (a : Anchored) → a ≡ Yes → reached built.kind (plain_of built) a (text (record q { high = at })) ≢ None
-          → depth (reached built.kind (plain_of built) a (text (record q { high = at }))) ≡ at - began.start
+      whole : (a : Anchored) → a ≡ Yes → reached s.built.kind (plain_of s.built) a read ≢ None
+          → depth (reached s.built.kind (plain_of s.built) a read) ≡ place at - t.start
       whole No e some = absurd (cc)
-      whole Yes e some =
-          depth-node (text (record q { high = at })) (is_node built.kind (plain_of built) (text (record q { high = at }))) some ∙ size
+      whole Yes e some = depth-node read (is_node s.built.kind (plain_of s.built) read) some ∙ size
 
-  module _ {stands : ℕ → Node → Type 0} where
-    -- the automaton stands at the start of the span
-    pub reaches-start : {state : ℕ} → stands state (Some []) → began.start ≤ length bytes
-        → Reaches stands built.kind q state began.start
-    reaches-start {state} there room = record {
-      there = subst (stands state) (sym node-start) there;
-      onward = omega arith;
-      inside = room;
-      alive = λ k from below. absurd (omega arith);
-    }
-
-    -- and one place further where it stands once a byte is followed
-    pub reaches-next : {state at next byte : ℕ} → Reaches stands built.kind q state at
-        → byte ≡ slice_index bytes at → at < length bytes
-        → stands next (step_of built anchored (node_at built.kind q at) byte) → node_at built.kind q at ≢ None
-        → Reaches stands built.kind q next (at + 1)
-    reaches-next {at = at} {next} {byte} reaches is room there living = record {
-      there = subst (stands next) (node-step at byte reaches.onward room is) there;
-      onward = (let o = reaches.onward in omega arith);
-      inside = omega arith;
-      alive = λ k from below. below_next at (λ n. began.start ≤ n → node_at built.kind q n ≢ None)
-          (λ n up low. reaches.alive n low up) (λ _. living) k below from;
-    }
-
-  -- the automaton has come to the start of the span: nothing was read
-  pub come-start : (stands : ℕ → Node → Type 0) (most : ℕ) (filters : Bool) (state : ℕ) → stands state (Some [])
-      → began.tape.place ≤ began.start → began.start ≤ length bytes
-      → HasCome stands most filters built anchored began state began.start began.tape began.counts
-  come-start stands most filters state there unread room =
-      let worthless = ap (credit (most_looks anchored most)) node-start ∙ credit-nil (most_looks anchored most) in
+  -- where the text starts the automaton stands in a state for its start
+  pub at-start : {state : ℕ} (at : ℕ) → s.stands state (Some []) → place at ≡ t.start → at ≤ length t.bytes
+      → IsAt s t state at
+  at-start {state} at there start room =
       record {
-        reaches = reaches-start there room;
-        unread = unread;
-        read = read-nothing (most_looks anchored most) (may_skip filters q) began.start began.start began.tape
-            began.counts unread;
-        whole = λ _. omega arith;
-        counted = λ _. omega arith;
-        paid = rw worthless (omega arith);
+        there = subst (s.stands state) (sym (node-start at start)) there;
+        onward = omega arith;
+        inside = inside-past room;
+        alive = λ k from below. absurd (omega arith);
       }
 
-  module _ {stands : ℕ → Node → Type 0} {most : ℕ} {filters : Bool} {state at : ℕ} {tape : Taped} {counts : Counts}
-      (come : MayRead stands most filters built anchored began state at tape counts) where
-    -- it comes one place further by reading a byte and following it
-    pub come-next : {next byte : ℕ} {new_tape : Taped} {read new_counts : Counts} → (most ≡ 1) ⊎ (most ≡ 2)
-        → byte ≡ slice_index tape.bytes at → at < length tape.bytes
-        → new_tape ≡ record { bytes = tape.bytes; place = at + 1 } → read ≡ one_more_read counts
-        → new_counts ≡ more_looks (looks_of most built anchored (node_at built.kind q at) byte) read
-        → stands next (step_of built anchored (node_at built.kind q at) byte) → node_at built.kind q at ≢ None
-        → HasCome stands most filters built anchored began next (at + 1) new_tape new_counts
-    come-next {next} {byte} {new_tape} {read} {new_counts} one_or_two is room place counted looked there living =
-        let node = node_at built.kind q at in
-        let so_far = come.read in
-        let onward = come.reaches.onward in
-        let inside : at < length bytes = omega (arith, ap length so_far.bytes) in
-        let here = is ∙ ap (λ (bs : List ℕ). slice_index bs at) so_far.bytes in
-        let paid = subst (λ (v : Node). looks_of most built anchored node byte
-        + credit (most_looks anchored most) v
-        ≤ credit (most_looks anchored most) node + most_looks anchored most) (node-step at byte onward inside here)
-        (step-within most built anchored node byte one_or_two) in
-        let there_now = ap (λ (t : Taped). t.place) place in
-        let reads = ap (λ (c : Counts). c.reads) looked ∙ ap (λ (c : Counts). c.reads) counted in
-        let looks = ap (λ (c : Counts). c.looks) looked in
-        let before = ap (λ (c : Counts). c.looks) counted in
-        let calls = ap (λ (c : Counts). c.calls) looked ∙ ap (λ (c : Counts). c.calls) counted in
-        let one : new_counts.reads - began.counts.reads ≡ (counts.reads - began.counts.reads) + 1 =
-        let grows = so_far.grows in omega arith in
-        let paid_now : new_counts.looks
-        + credit (most_looks anchored most) (node_at built.kind q (at + 1))
-        ≤ began.counts.looks + most_looks anchored most * (new_counts.reads - began.counts.reads) =
-        rw one (omega arith) in
-        record {
-          reaches = reaches-next come.reaches here inside there living;
-          unread = come.unread;
-          read = record {
-            bytes = ap (λ (t : Taped). t.bytes) place ∙ so_far.bytes;
-            onward = omega arith;
-            within = omega arith;
-            grows = grows-trans so_far.grows
-                (grows-read most built anchored node byte counts read new_counts counted looked);
-            told = λ _. let grows = so_far.grows in omega arith;
-            whole = λ same. let grows = so_far.grows in let c = come.counted (omega arith) in omega arith;
-            reads = omega arith;
-            looks = omega arith;
-            calls = omega arith;
-            quiet = λ none. let s = so_far.quiet none in omega arith;
-          };
-          whole = λ same. omega arith;
-          counted = λ same. let grows = so_far.grows in let c = come.counted (omega arith) in omega arith;
-          paid = paid_now;
-        }
+  -- where it isn't dead
+  pub alive-start : {state : ℕ} (at : ℕ) → s.stands state (Some []) → place at ≡ t.start → at ≤ length t.bytes
+      → IsAlive s t (record { state = state; at = at })
+  alive-start at there start room =
+      let here = node-start at start in
+      record { is_at = at-start at there start room; living = λ dead. absurd (cc) }
 
-  module _ {stands : ℕ → Node → Type 0} {most : ℕ} {filters : Bool} {state at : ℕ} {tape : Taped} {counts : Counts}
-      (come : HasCome stands most filters built anchored began state at tape counts) where
-    -- where it has come it may read
-    pub may-read : MayRead stands most filters built anchored began state at tape counts
-    may-read =
-        let read = come.read in record {
-          reaches = come.reaches;
-          unread = come.unread;
-          unread_here = (let o = come.reaches.onward in let u = come.unread in let w = read.within in omega arith);
-          read = record {
-            bytes = read.bytes;
-            onward = read.onward;
-            within = omega arith;
-            grows = read.grows;
-            told = read.told;
-            whole = read.whole;
-            reads = read.reads;
-            looks = read.looks;
-            calls = omega arith;
-            quiet = read.quiet;
-          };
-          counted = come.counted;
-          paid = come.paid;
-        }
+  -- a scan that has done nothing
+  pub scans-nothing : {at : ℕ} {work : Work} → work.place ≤ at → ScansTo s t at work at work
+  scans-nothing unread = record {
+    onward = omega arith;
+    forward = omega arith;
+    unread = unread;
+    grows = record { reads = omega arith; looks = omega arith; calls = omega arith };
+    told = λ moved. omega arith;
+    whole = λ _. omega arith;
+    counted = λ _. omega arith;
+    reads = omega arith;
+    paid = omega arith;
+    calls = omega arith;
+    quiet = λ _. refl;
+  }
 
-    -- what a search has done that has come to a place of its span
-    pub read-come : at ≤ began.end
-        → HasRead (most_looks anchored most) (may_skip filters q) began.start began.end began.tape tape
-        began.counts counts
-    read-come up =
-        let read = come.read in record {
-          bytes = read.bytes;
-          onward = read.onward;
-          within = omega arith;
-          grows = read.grows;
-          told = read.told;
-          whole = read.whole;
-          reads = read.reads;
-          looks = read.looks;
-          calls = omega arith;
-          quiet = read.quiet;
-        }
+  -- what a search of the text has read that began at its start, in memory
+  pub read-scanned : {at : ℕ} {work new_work : Work} → t.before ≡ []
+      → ScansTo s t t.start work at new_work → at ≤ t.end
+      → HasRead most (may_skip s.filters q) t.start t.end work new_work
+  read-scanned {at} {work} {new_work} memory scans up =
+      let o = scans.onward in let u = scans.unread in
+      let nothing = ap (credit most) (node-start t.start (ap (λ (bs : List ℕ). past bs t.start) memory)) ∙ credit-nil most in
+      record {
+        onward = scans.forward;
+        within = omega arith;
+        grows = scans.grows;
+        told = scans.told;
+        whole = λ same. let c = scans.counted same in omega arith;
+        reads = scans.reads;
+        looks = (let p = scans.paid in omega arith);
+        calls = (let c = scans.calls in omega arith);
+        quiet = scans.quiet;
+      }
 
-    -- and it has read nothing from the dead node on
-    pub dead-come : StopsAtDead built.kind q tape.place
-    dead-come = λ k from below. let w = come.read.within in let u = come.unread in
-        come.reaches.alive k from (omega arith)
+module _ {s : Scan} {t : ScanText} where
+  -- one scan after another is one scan
+  pub scans-on : {from between to : ℕ} {work work_between new_work : Work}
+      → ScansTo s t from work between work_between
+      → ScansTo s t between work_between to new_work → ScansTo s t from work to new_work
+  scans-on {from} {between} {to} {work} {work_between} {new_work} one two =
+      let o = one.onward in let p = two.onward in
+      let f = one.forward in let g = two.forward in
+      let u = one.unread in let v = two.unread in
+      let c = one.grows.calls in let d = two.grows.calls in
+      let r = one.grows.reads in let w = two.grows.reads in
+      record {
+        onward = omega arith;
+        forward = omega arith;
+        unread = v;
+        grows = grows-trans one.grows two.grows;
+        told = λ moved. elim (cases_lt work.place work_between.place) [
+          | inl first ↦ (let a = one.told first in omega arith)
+          | inr still ↦ (let a = two.told (omega arith) in omega arith)
+        ];
+        whole = λ same. let a = one.whole (omega arith) in let b = two.whole (omega arith) in omega arith;
+        counted = λ same. let a = one.counted (omega arith) in let b = two.counted (omega arith) in omega arith;
+        reads = (let a = one.reads in let b = two.reads in omega arith);
+        paid = paid-twice (most_looks s.anchored s.most) work.counts.reads work_between.counts.reads new_work.counts.reads
+            work.counts.looks work_between.counts.looks new_work.counts.looks (credit (most_looks s.anchored s.most) (node s t from))
+            (credit (most_looks s.anchored s.most) (node s t between)) (credit (most_looks s.anchored s.most) (node s t to)) r w one.paid two.paid;
+        calls = (let a = one.calls in let b = two.calls in omega arith);
+        quiet = λ none. two.quiet none ∙ one.quiet none;
+      }
+
+  -- a scan that has passed over no match goes on from where nothing is found
+  pub passes-on : {from : ℕ} {work new_work work_then : Work} {cursor then_cursor : Cursor}
+      → PassesNoMatch s t from work cursor new_work
+      → NoMatchBetween s t from (cursor.at + 1)
+      → PassesNoMatch s t cursor.at new_work then_cursor work_then
+      → PassesNoMatch s t from work then_cursor work_then
+  passes-on {cursor = cursor} one none two = record {
+    is_at = two.is_at;
+    scans = scans-on one.scans two.scans;
+    none = λ k low high. elim (cases_lt k (cursor.at + 1)) [
+      | inl before ↦ none k low before
+      | inr behind ↦ two.none k (omega arith) high
+    ];
+  }
+
+module _ {s : Scan} {t : ScanText} {cursor : Cursor} (alive : IsAlive s t cursor) where
+  -- and one place further where it stands once a byte is followed
+  pub at-next : {next byte : ℕ} → byte ≡ slice_index t.bytes cursor.at → cursor.at < length t.bytes
+      → s.stands next (step_of s.built s.anchored (node s t cursor.at) byte)
+      → IsAt s t next (cursor.at + 1)
+  at-next {next} {byte} is room there =
+      let further = past-next t.before cursor.at in
+      record {
+        there = subst (s.stands next) (node-step s t cursor.at byte alive.is_at.onward room is) there;
+        onward = (let o = alive.is_at.onward in omega arith);
+        inside = inside-past s t (omega arith);
+        alive = λ k from below. below_next (past t.before cursor.at)
+            (λ n. t.start ≤ n → reached s.built.kind (plain_of s.built) s.anchored
+            (text (record (search_through s t) { high = n })) ≢ None)
+            (λ n up low. alive.is_at.alive n low up) (λ _. alive.living) k (omega arith) from;
+      }
+
+  -- a byte that is read and followed is a scan
+  pub scans-byte : {byte : ℕ} {work new_work : Work} {read : Counts} → (s.most ≡ 1) ⊎ (s.most ≡ 2)
+      → work.place ≤ cursor.at → byte ≡ slice_index t.bytes cursor.at → cursor.at < length t.bytes
+      → new_work.place ≡ cursor.at + 1 → read ≡ one_more_read work.counts
+      → new_work.counts ≡ more_looks (looks_of s.most s.built s.anchored (node s t cursor.at) byte) read
+      → ScansTo s t cursor.at work (cursor.at + 1) new_work
+  scans-byte {byte} {work} {new_work} one_or_two unread is room there counted looked =
+      let at = cursor.at in
+      let most = most_looks s.anchored s.most in
+      let counts = work.counts in
+      let new_counts = new_work.counts in
+      let u = node s t at in
+      let once = looks_by-once s.most s.built.kind (plain_of s.built) s.anchored u (plain_byte s.built.fold byte) in
+      let paid = subst (λ (v : Node). looks_of s.most s.built s.anchored u byte + credit most v ≤ credit most u + most)
+      (node-step s t at byte alive.is_at.onward room is) (step-within s.most s.built s.anchored u byte one_or_two) in
+      let reads : new_counts.reads ≡ counts.reads + 1 =
+      ap (λ (c : Counts). c.reads) looked ∙ ap (λ (c : Counts). c.reads) counted in
+      let looks = ap (λ (c : Counts). c.looks) looked in
+      let before = ap (λ (c : Counts). c.looks) counted in
+      let calls : new_counts.calls ≡ counts.calls =
+      ap (λ (c : Counts). c.calls) looked ∙ ap (λ (c : Counts). c.calls) counted in
+      let one : new_counts.reads - counts.reads ≡ 1 = omega arith in
+      record {
+        onward = omega arith;
+        forward = omega arith;
+        unread = omega arith;
+        grows = record { reads = omega arith; looks = omega arith; calls = omega arith };
+        told = λ _. omega arith;
+        whole = λ _. omega arith;
+        counted = λ _. omega arith;
+        reads = omega arith;
+        paid = rw one (omega arith);
+        calls = omega arith;
+        quiet = λ _. calls;
+      }

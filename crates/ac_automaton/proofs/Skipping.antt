@@ -1,16 +1,17 @@
 -- Bytes with which no pattern begins don't lead away from the start, where nothing is found either if no pattern is
 -- empty.
-use Rattle.std.proofs.Common.{rules, ◌≡◌, ◌≢◌, ℕ, zero, suc, ◌+◌, ◌-◌, ◌<◌, ◌≤◌, Bool, true, false, ◌&&◌, ◌⊎◌, ◌*◌, cond, List, [], ◌∷◌, length, map, refl, ap, sym, ◌∙◌, subst, inl, inr, arith, Some, None}
+use Rattle.std.proofs.Common.{rules, ◌≡◌, ℕ, zero, suc, ◌+◌, ◌-◌, ◌<◌, ◌≤◌, Bool, true, false, ◌&&◌, ◌⊎◌, cond, List, [], ◌∷◌, length, map, refl, ap, sym, ◌∙◌, subst, inl, inr, arith, Some, None}
 use Rattle.std.specs.Prelude.{nat_eq, slice_index}
 use Rattle.std.specs.List.{list_any, starts_with}
 use Rattle.std.proofs.lemmas.Bool.{or_right, false≢true, false_from_ne_true, cases_lt}
+use Rattle.ac_util.specs.declared.search.Anchored.{Anchored}
 use Rattle.ac_util.specs.declared.search.Anchored.TheVariants.{No}
 use Rattle.ac_util.specs.Built.{Built}
 use Rattle.ac_util.specs.Node.{Node, begins_with_pattern, is_empty, is_leftmost, is_node, participants}
-use Rattle.ac_util.specs.Counts.{Counts, Taped, no_counts, one_more_call}
+use Rattle.ac_util.specs.Counts.{Counts, one_more_call}
 use Rattle.ac_util.specs.Looks.{credit}
 use Rattle.ac_util.specs.Occurrence.{Occurrence}
-use Rattle.ac_util.specs.Prefilters.{BeginWith, Skip, Tells, begins_with, is_one_of, may_skip, skip_for}
+use Rattle.ac_util.specs.Prefilters.{BeginWith, IsSkipFor, Skip, Tells, begins_with, is_one_of, may_skip, skip_for}
 use Rattle.ac_util.specs.Prefilters.Skip.{FirstOf}
 use Rattle.ac_util.specs.Sameness.{plain, plain_byte}
 use Rattle.ac_util.specs.Search.{Search, pattern_of}
@@ -21,11 +22,12 @@ use Rattle.ac_util.proofs.Found.{matches-nil}
 use Rattle.ac_util.proofs.NodeCount.{any_passes}
 use Rattle.ac_util.proofs.Participants.{equal_to-none_begins}
 use Rattle.ac_util.proofs.Reached.{step-nil}
+use Rattle.ac_automaton.specs.declared.automaton.scan.Cursor.{Cursor}
 use Rattle.ac_automaton.specs.Automata.{matches_of, plain_of, step_of}
-use Rattle.ac_automaton.specs.Progress.{Beginning, Grows, HasCome, HasRead, IsQuiet, Reaches, most_looks, node_at, search_of, span_of}
-use Rattle.ac_automaton.specs.Skipping.{HasStayed, MayRead}
-use Rattle.ac_automaton.proofs.ReadAhead.{IsAlong}
-use Rattle.ac_automaton.proofs.ReadOn.{node-step}
+use Rattle.ac_automaton.specs.Progress.{Grows, Work, most_looks, node_at}
+use Rattle.ac_automaton.specs.Scans.{HasSkipped, IsAlive, PassesNoMatch, Scan, ScanText, StaysAtStart, node, past, search_through}
+use Rattle.ac_automaton.specs.Skipping.{SkipsByBytes}
+use Rattle.ac_automaton.proofs.ReadOn.{grows-trans, inside-past, node-step, past-is}
 
 -- where a plain pattern begins with a plain byte, some pattern begins with the byte
 begins-from_plain : (fold : Bool) (b : ℕ) (patterns : List (List ℕ)) (n : ℕ)
@@ -110,149 +112,124 @@ pub skips-somehow : (filters : Bool) (built : Built) (q : Search) (skip : Skip) 
     → skip_for filters q.fold q.patterns ≡ Some skip → may_skip filters q ≡ true
 skips-somehow filters built q skip unanchored some = rw (unanchored, some) refl
 
-module _ (built : Built) (bytes : List ℕ) (start end : ℕ) (first : List ℕ)
-    (begin : BeginWith first built.fold built.patterns) where
-  abbrev node : ℕ → Node
-  node k = node_at built.kind (search_of built No bytes start end) k
+-- what a prefilter by first bytes has told: none of them stands before the place to which it leads
+pub nowhere-led : (skip : Skip) (first bytes : List ℕ) (low high place : ℕ) (candidate : Candidate) → skip ≡ FirstOf first
+    → candidate ≡ PossibleStart place → Tells skip bytes low high candidate → IsTold first bytes low high place
+nowhere-led skip first bytes low high place candidate by is tells =
+    told-start first bytes low high place
+    (subst (λ (k : Skip). Tells k bytes low high (PossibleStart place)) by (subst (Tells skip bytes low high) is tells))
 
-  abbrev began : Beginning
-  began = record { start = start; end = end; tape = record { bytes = bytes; place = 0 }; counts = no_counts }
+-- a scan skips onward
+pub skipped-onward : (s : Scan) (t : ScanText) {from to : ℕ} {counts new_counts : Counts}
+    → HasSkipped s t from to counts new_counts → from ≤ to
+skipped-onward s t skipped = elim skipped [ inl same ↦ omega (arith, same.0) | inr gone ↦ gone.0 ]
 
-  -- over bytes with which no pattern begins an automaton stays at its start
-  module _ (at to : ℕ) (onward : start ≤ at) (inside : to ≤ length bytes)
-      (none : Nowhere (Passes (is_one_of first) bytes) at to) (there : node at ≡ Some []) where
-    stays-for : (n : ℕ) → at + n ≤ to → node (at + n) ≡ Some []
-    stays-for zero up = ap node (omega arith) ∙ there
+-- at the start of an unanchored scan no match is found, if no pattern is empty
+pub none-there : (s : Scan) → s.anchored ≡ No → list_any is_empty s.built.patterns ≡ false → {u : Node} → u ≡ Some []
+    → matches_of s.built s.anchored u ≡ []
+none-there s free some start =
+    ap (matches_of s.built s.anchored) start
+    ∙ ap (λ (a : Anchored). matches_of s.built a (Some [])) free
+    ∙ matches-start s.built some
+
+-- a scan that skips by first bytes
+module _ {s : Scan} {skip : Skip} (by : SkipsByBytes s skip) where
+  begin : BeginWith by.bytes s.built.fold s.built.patterns
+  begin = subst (λ (k : Skip). IsSkipFor k s.built.fold s.built.patterns) by.by_bytes by.skips.serves
+
+  -- over bytes with which no pattern begins it stays there
+  module _ (t : ScanText) (at to : ℕ) (onward : t.start ≤ past t.before at) (inside : to ≤ length t.bytes)
+      (none : Nowhere (Passes (is_one_of by.bytes) t.bytes) at to) (there : node s t at ≡ Some []) where
+    stays-for : (n : ℕ) → at + n ≤ to → node s t (at + n) ≡ Some []
+    stays-for zero up = ap (node s t) (omega arith) ∙ there
     stays-for (suc n) up =
         let here = stays-for n (omega arith) in
-        let byte = slice_index bytes (at + n) in
-        let other = false_from_ne_true (list_any (begins_with built.fold byte) built.patterns)
-        (λ t. none (at + n) (omega arith) (omega arith) (begin.begins byte t)) in
-        ap node (omega arith)
-        ∙ sym (node-step built No began (at + n) byte (omega arith) (omega arith) refl)
-        ∙ ap (λ (u : Node). step_of built No u byte) here
-        ∙ step-stays built begin.some byte other
+        let byte = slice_index t.bytes (at + n) in
+        let other = false_from_ne_true (list_any (begins_with s.built.fold byte) s.built.patterns)
+        (λ f. none (at + n) (omega arith) (omega arith) (begin.begins byte f)) in
+        let low = past-is t.before at in
+        let here_past = past-is t.before (at + n) in
+        ap (node s t) (let e : at + suc n ≡ at + n + 1 = omega arith in e)
+        ∙ sym (node-step s t (at + n) byte (omega arith) (omega arith) refl)
+        ∙ ap (λ (u : Node). step_of s.built s.anchored u byte) here
+        ∙ ap (λ (a : Anchored). step_of s.built a (Some []) byte) by.unanchored
+        ∙ step-stays s.built begin.some byte other
 
-    pub stays : (k : ℕ) → at ≤ k → k ≤ to → node k ≡ Some []
-    stays k low high = ap node (omega arith) ∙ stays-for (k - at) (omega arith)
+    pub stays : StaysAtStart s t at to
+    stays k low high = ap (node s t) (omega arith) ∙ stays-for (k - at) (omega arith)
 
-    pub stayed : {stands : ℕ → Node → Type 0} {state : ℕ} → at ≤ to
-        → Reaches stands built.kind (search_of built No bytes start end) state at
-        → HasStayed stands built bytes start end at state to
-    stayed {stands} {state} up reaches = record {
-      reaches = record {
-        there = subst (stands state) (there ∙ sym (stays to up (omega arith))) reaches.there;
-        onward = omega arith;
-        inside = inside;
-        alive = λ k low high. alive k low high (cases_lt k at);
-      };
-      onward = up;
-      there = λ k low high. stays k (omega arith) high;
-    }
-      where
-        alive : (k : ℕ) → start ≤ k → k < to → (k < at) ⊎ (at ≤ k) → node k ≢ None
-        alive k low high (inl before) = reaches.alive k low before
-        alive k low high (inr behind) = λ dead. let s = stays k behind (omega arith) in absurd (cc)
+  module _ {t : ScanText} {cursor : Cursor} {to : ℕ} {counts new_counts : Counts} (alive : IsAlive s t cursor)
+      (inside : to ≤ length t.bytes) (skipped : HasSkipped s t cursor.at to counts new_counts) where
+    -- where it has skipped to the automaton stands too, and isn't dead
+    pub alive-skipped : IsAlive s t (record { state = cursor.state; at = to })
+    alive-skipped = elim skipped [
+      | inl same ↦
+          subst (λ (at : ℕ). IsAlive s t (record { state = cursor.state; at = at })) (sym same.0) alive
+      | inr gone ↦
+          let low = past-is t.before cursor.at in
+          let high = past-is t.before to in
+          let here = gone.1 cursor.at (omega arith) gone.0 in
+          let there = gone.1 to gone.0 (omega arith) in
+          record {
+            is_at = record {
+              there = subst (s.stands cursor.state) (here ∙ sym there) alive.is_at.there;
+              onward = (let o = alive.is_at.onward in omega arith);
+              inside = inside-past s t inside;
+              alive = λ k from below. elim (cases_lt k (past t.before cursor.at)) [
+                | inl before ↦ alive.is_at.alive k from before
+                | inr behind ↦ (λ dead.
+                    let local = past-is t.before (k - length t.before) in
+                    let place : past t.before (k - length t.before) ≡ k = omega arith in
+                    let start = gone.1 (k - length t.before) (omega arith) (omega arith) in
+                    let both : Some [] ≡ None =
+                    sym start ∙ ap (λ (n : ℕ). node_at s.built.kind (search_through s t) n) place ∙ dead in
+                    absurd (cc))
+              ];
+            };
+            living = λ dead. let both : Some [] ≡ None = sym there ∙ dead in absurd (cc);
+          }
+    ]
 
-module _ (built : Built) (began : Beginning) {stands : ℕ → Node → Type 0} {most : ℕ} {filters : Bool}
-    {state at to : ℕ} {tape : Taped} {counts new_counts : Counts} (skip : Skip)
-    (come : HasCome stands most filters built No began state at tape counts)
-    (there : node_at built.kind (span_of built No began) at ≡ Some [])
-    (stayed : HasStayed stands built began.tape.bytes began.start began.end at state to)
-    (some : skip_for filters built.fold built.patterns ≡ Some skip)
-    (called : new_counts ≡ one_more_call counts) where
-  abbrev q : Search
-  q = span_of built No began
-
-  same_credit : credit (most_looks No most) (node_at built.kind q to) ≡ credit (most_looks No most) (node_at built.kind q at)
-  same_credit = elim (cases_lt at to) [
-    | inl low ↦ ap (credit (most_looks No most)) (stayed.there to low (omega arith) ∙ sym there)
-    | inr same ↦ let o = stayed.onward in ap (λ (k : ℕ). credit (most_looks No most) (node_at built.kind q k)) (omega arith)
-  ]
-
-  calls : new_counts.calls ≡ counts.calls + 1
-  calls = ap (λ (c : Counts). c.calls) called
-
-  reads : new_counts.reads ≡ counts.reads
-  reads = ap (λ (c : Counts). c.reads) called
-
-  looks : new_counts.looks ≡ counts.looks
-  looks = ap (λ (c : Counts). c.looks) called
-
-  paid : new_counts.looks + credit (most_looks No most) (node_at built.kind q to)
-      ≤ began.counts.looks + most_looks No most * (new_counts.reads - began.counts.reads)
-  paid = rw (same_credit, reads, looks) come.paid
-
-  read : (last : ℕ) → at < last → HasRead (most_looks No most) (may_skip filters q) began.start last
-      began.tape tape began.counts new_counts
-  read last before =
-      let so_far = come.read in
-      let onward = come.reaches.onward in
-      let grows = so_far.grows in record {
-        bytes = so_far.bytes;
-        onward = so_far.onward;
-        within = omega arith;
-        grows = record {
-          reads = omega (arith, reads, grows.reads);
-          looks = omega (arith, reads, looks, grows.looks);
-          calls = omega (arith, calls, grows.calls);
-        };
-        told = λ moved. let t = so_far.told moved in omega (arith, reads, t);
-        whole = λ same. absurd (omega (arith, calls, grows.calls, same));
-        reads = omega (arith, reads, so_far.reads);
-        looks = rw (reads, looks) so_far.looks;
-        calls = omega (arith, calls, so_far.calls, before, onward);
-        quiet = λ quiet. absurd (false≢true (sym quiet ∙ skips-somehow filters built q skip refl some));
-      }
-
-  -- a search that has skipped to a place may read there
-  pub may-read-skipped : MayRead stands most filters built No began state to tape new_counts
-  may-read-skipped = record {
-    reaches = stayed.reaches;
-    unread = come.unread;
-    unread_here = (let o = come.reaches.onward in let u = come.unread in let w = come.read.within in let s = stayed.onward in omega arith);
-    read = read (to + 1) (let s = stayed.onward in omega arith);
-    counted = λ same. let g = come.read.grows in absurd (omega (arith, calls, g.calls, same));
-    paid = paid;
-  }
-
-  -- and one that has skipped some bytes has come to where it has skipped to
-  pub come-skipped : at < to → HasCome stands most filters built No began state to tape new_counts
-  come-skipped before = record {
-    reaches = stayed.reaches;
-    unread = come.unread;
-    read = read to before;
-    whole = λ same. let g = come.read.grows in absurd (omega (arith, calls, g.calls, same));
-    counted = λ same. let g = come.read.grows in absurd (omega (arith, calls, g.calls, same));
-    paid = paid;
-  }
-
-module _ {stands : ℕ → Node → Type 0} (built : Built) (some : list_any is_empty built.patterns ≡ false) {bytes : List ℕ}
-    {start end from at state to : ℕ} (along : IsAlong stands built No bytes start end from state at)
-    (stayed : HasStayed stands built bytes start end at state to) where
-  -- once it has stayed at its start up to a place it is still alive
-  pub living-on : node_at built.kind (search_of built No bytes start end) to ≢ None
-  living-on = elim (cases_lt at to) [
-    | inl low ↦ (λ dead. let s = stayed.there to low (omega arith) in absurd (cc))
-    | inr same ↦
-        let o = stayed.onward in
-        subst (λ (k : ℕ). node_at built.kind (search_of built No bytes start end) k ≢ None) (omega arith) along.living
-  ]
-
-  quiet-at : (k : ℕ) → from < k → k < to + 1 → (k < at + 1) ⊎ (at + 1 ≤ k)
-      → matches_of built No (node_at built.kind (search_of built No bytes start to) k) ≡ []
-  quiet-at k low high (inl before) = along.quiet k low before
-  quiet-at k low high (inr behind) =
-      ap (matches_of built No) (stayed.there k (omega arith) (omega arith)) ∙ matches-start built some
-
-  -- and has reached no match
-  pub quiet-on : IsQuiet built No bytes start from (to + 1)
-  quiet-on k low high = quiet-at k low high (cases_lt k (at + 1))
-
-  -- nor if no match is at the next place
-  pub quiet-next : matches_of built No (node_at built.kind (search_of built No bytes start end) (to + 1)) ≡ []
-      → IsQuiet built No bytes start from (to + 1 + 1)
-  quiet-next none k low high = elim (cases_lt k (to + 1)) [
-    | inl before ↦ quiet-on k low before
-    | inr behind ↦ subst (λ (n : ℕ). matches_of built No (node_at built.kind (search_of built No bytes start end) n) ≡ []) (omega arith) none
-  ]
+    -- what it reads on from there was scanned from where it was
+    pub skipped-on : {place : ℕ} {then_cursor : Cursor} {new_work : Work} → place ≤ cursor.at
+        → PassesNoMatch s t to (record { place = place; counts = new_counts }) then_cursor new_work
+        → new_work.counts.calls ≡ new_counts.calls → cursor.at < then_cursor.at
+        → PassesNoMatch s t cursor.at (record { place = place; counts = counts }) then_cursor new_work
+    skipped-on {place} {then_cursor} {new_work} unread read uncalled moved = elim skipped [
+      | inl same ↦
+          subst (λ (c : Counts). PassesNoMatch s t cursor.at (record { place = place; counts = c }) then_cursor new_work)
+          same.1
+          (subst (λ (at : ℕ). PassesNoMatch s t at (record { place = place; counts = new_counts }) then_cursor new_work)
+          same.0 read)
+      | inr gone ↦
+          let scans = read.scans in
+          let grows = scans.grows in
+          let calls = ap (λ (c : Counts). c.calls) gone.2 in
+          let reads = ap (λ (c : Counts). c.reads) gone.2 in
+          let looks = ap (λ (c : Counts). c.looks) gone.2 in
+          let worth : credit (most_looks s.anchored s.most) (node s t to)
+          ≡ credit (most_looks s.anchored s.most) (node s t cursor.at) =
+          ap (credit (most_looks s.anchored s.most))
+          (gone.1 to gone.0 (omega arith) ∙ sym (gone.1 cursor.at (omega arith) gone.0)) in
+          record {
+            is_at = read.is_at;
+            scans = record {
+              onward = omega arith;
+              forward = scans.forward;
+              unread = scans.unread;
+              grows = grows-trans (grows-called gone.2) grows;
+              told = λ on. let l = scans.told on in omega arith;
+              whole = λ same. absurd (omega (arith, calls, same, uncalled));
+              counted = λ same. absurd (omega (arith, calls, same, uncalled));
+              reads = (let r = scans.reads in let o = scans.onward in omega arith);
+              paid = rw (sym worth, sym reads, sym looks) scans.paid;
+              calls = omega arith;
+              quiet = λ quiet. absurd (false≢true (sym quiet
+                  ∙ skips-somehow s.filters s.built (search_through s t) skip by.unanchored by.skips.built_so));
+            };
+            none = λ k low high. elim (cases_lt k (to + 1)) [
+              | inl before ↦ none-there s by.unanchored begin.some (gone.1 k (omega arith) (omega arith))
+              | inr behind ↦ read.none k (omega arith) high
+            ];
+          }
+    ]

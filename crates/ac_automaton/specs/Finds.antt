@@ -5,15 +5,17 @@ use Rattle.ac_util.specs.declared.search.Anchored.TheVariants.{Yes}
 use Rattle.ac_util.specs.declared.search.MatchKind.{MatchKind}
 use Rattle.ac_util.specs.declared.search.MatchKind.TheVariants.{Standard}
 use Rattle.ac_util.specs.Built.{Built}
-use Rattle.ac_util.specs.Counts.{Counts, Taped}
 use Rattle.ac_util.specs.Asked.{Asked}
 use Rattle.ac_util.specs.Node.{Node, depth}
 use Rattle.ac_util.specs.Occurrence.{Occurrence, occurrence}
 use Rattle.ac_util.specs.Pick.{order_of, pick}
 use Rattle.ac_util.specs.Prefilters.{may_skip}
 use Rattle.ac_util.specs.Search.{Search, pattern_of}
+use Rattle.ac_automaton.specs.declared.automaton.scan.Cursor.{Cursor}
 use Rattle.ac_automaton.specs.Automata.{matches_of}
-use Rattle.ac_automaton.specs.Progress.{Beginning, HasCome, HasRead, Reaches, StopsAtDead, most_looks, node_at, span_of}
+use Rattle.ac_automaton.specs.Finders.{Finding}
+use Rattle.ac_automaton.specs.Progress.{HasRead, StopsAtDead, Work, most_looks, node_at}
+use Rattle.ac_automaton.specs.Scans.{IsAt, Scan, ScanText, node, search_through}
 
 -- what a core is asked: a span of the bytes of a tape, and two options
 abbrev pub asked_of : List ℕ → ℕ → ℕ → Anchored → Bool → Asked
@@ -27,15 +29,15 @@ asked_of bytes start end anchored earliest = record {
 
 -- unless the prefilter was called, the place of reading is past the match, and each byte from the start of the
 -- span to the end of the match was read
-pub record Tells (start : ℕ) (new_tape : Taped) (counts new_counts : Counts) (m : Occurrence) : Type 0 where
-  pub place : new_counts.calls ≡ counts.calls → m.end ≤ max start new_tape.place
-  pub reads : new_counts.calls ≡ counts.calls → counts.reads + (m.end - start) ≤ new_counts.reads
+pub record Tells (start : ℕ) (work new_work : Work) (m : Occurrence) : Type 0 where
+  pub place : new_work.counts.calls ≡ work.counts.calls → m.end ≤ max start new_work.place
+  pub reads : new_work.counts.calls ≡ work.counts.calls
+      → work.counts.reads + (m.end - start) ≤ new_work.counts.reads
 
 -- nothing past the end of the match was read, and the prefilter was called at most once for each byte up to it
-pub record ReadsTo (start : ℕ) (tape new_tape : Taped) (counts new_counts : Counts) (m : Occurrence)
-    : Type 0 where
-  pub place : new_tape.place ≤ max tape.place m.end
-  pub calls : new_counts.calls ≤ counts.calls + (m.end - start)
+pub record ReadsTo (start : ℕ) (work new_work : Work) (m : Occurrence) : Type 0 where
+  pub place : new_work.place ≤ max work.place m.end
+  pub calls : new_work.counts.calls ≤ work.counts.calls + (m.end - start)
 
 -- a search that picks by this order has read enough: it stops at the first match and has one, or it has read the
 -- span to its end, or its automaton is dead
@@ -43,18 +45,16 @@ abbrev pub IsDecided : MatchKind → MatchKind → Search → Option Occurrence 
 IsDecided kind order q found place =
     ((order ≡ Standard) × (found ≢ None)) ⊎ ((q.high ≤ max q.low place) ⊎ (node_at kind q place ≡ None))
 
--- a find over an automaton of this kind, which picks by this order, has answered: what it has done to its tape
--- and its counts. One that stops at the first match has read nothing past its end, and none has read from the
--- dead node on; and unless it called the prefilter it has read enough
-pub record HasSearched (most : ℕ) (filters : Bool) (kind order : MatchKind) (q : Search)
-    (found : Option Occurrence) (tape new_tape : Taped)
-    (counts new_counts : Counts) : Type 0 where
-  pub answer : found ≡ pick order q
-  pub read : HasRead (most_looks q.anchored most) (may_skip filters q) q.low q.high tape new_tape counts new_counts
-  pub tells : IfSome found (Tells q.low new_tape counts new_counts)
-  pub stops : order ≡ Standard → IfSome found (ReadsTo q.low tape new_tape counts new_counts)
-  pub dead : StopsAtDead kind q new_tape.place
-  pub decided : new_counts.calls ≡ counts.calls → IsDecided kind order q found new_tape.place
+-- a find has answered: what it has done to its tape and its counts. One that stops at the first match has read nothing
+-- past its end, and none has read from the dead node on; and unless it called the prefilter it has read enough
+pub record HasSearched (finding : Finding) (q : Search) (found : Option Occurrence) (work new_work : Work) : Type 0 where
+  pub answer : found ≡ pick finding.order q
+  pub read : HasRead (most_looks q.anchored finding.most) (may_skip finding.filters q) q.low q.high work new_work
+  pub tells : IfSome found (Tells q.low work new_work)
+  pub stops : finding.order ≡ Standard → IfSome found (ReadsTo q.low work new_work)
+  pub dead : StopsAtDead finding.built.kind q new_work.place
+  pub decided : new_work.counts.calls ≡ work.counts.calls
+      → IsDecided finding.built.kind finding.order q found new_work.place
 
 -- where a pattern stands that ends at a place
 abbrev pub place_of : Built → ℕ → ℕ → Occurrence
@@ -70,22 +70,31 @@ pub record FitsIn (anchored : Anchored) (u : Node) (start end : ℕ) : Type 0 wh
 abbrev pub found_at : Built → Anchored → Node → ℕ → Option Occurrence
 found_at built anchored u end = option_map (place_of built end) (slice_get (matches_of built anchored u) 0)
 
--- a find may go on from a place: its automaton stands there at the node reached, alive, and of the span so far it
--- picks what the node finds
-pub record IsReady (stands : ℕ → Node → Type 0) (built : Built) (anchored : Anchored) (stops : Bool) (q : Search)
-    (state at : ℕ) : Type 0 where
-  pub reaches : Reaches stands built.kind q state at
-  pub living : node_at built.kind q at ≢ None
-  pub picked : found_at built anchored (node_at built.kind q at) at
-      ≡ pick (order_of built.kind stops) (record q { high = at })
+-- the state stands for a node that fits into what was read from start up to the cursor
+abbrev pub StandsIn : Scan → ℕ → Cursor → Type 0
+StandsIn s start cursor = (u : Node) × s.stands cursor.state u × FitsIn s.anchored u start cursor.at
 
--- a find that began in this way may read on from a place, with what it has read and counted so far
-pub record MayReadOn (stands : ℕ → Node → Type 0) (most : ℕ) (filters : Bool) (built : Built) (anchored : Anchored)
-    (stops : Bool) (began : Beginning) (state at : ℕ) (tape : Taped) (counts : Counts) : Type 0 where
-  pub ready : IsReady stands built anchored stops (span_of built anchored began) state at
-  pub come : HasCome stands most filters built anchored began state at tape counts
-  pub within : at ≤ began.end
-  pub unread : tape.place ≤ at
+-- this is what each such node finds
+abbrev pub FindsAt : Scan → ℕ → Cursor → Option Occurrence → Type 0
+FindsAt s start cursor found =
+    (u : Node) → s.stands cursor.state u → FitsIn s.anchored u start cursor.at
+    → found ≡ found_at s.built s.anchored u cursor.at
+
+-- the find of a scan that stops at the first match, or not
+abbrev pub finding_by : Scan → Bool → Finding
+finding_by s stops = record {
+  built = s.built;
+  most = s.most;
+  filters = s.filters;
+  anchored = s.anchored;
+  order = order_of s.built.kind stops;
+}
+
+-- a find may read on from here: of the text so far it picks what the node finds
+pub record IsReady (s : Scan) (t : ScanText) (stops : Bool) (cursor : Cursor) : Type 0 where
+  pub is_at : IsAt s t cursor.state cursor.at
+  pub picked : found_at s.built s.anchored (node s t cursor.at) cursor.at
+      ≡ pick (order_of s.built.kind stops) (record (search_through s t) { high = cursor.at })
 
 -- a find that has come to a node has its answer in the last match found: nothing is left to read, nothing more is
 -- found, or it stops at the first match and has one

@@ -7,6 +7,7 @@ pub mod Iterators
 pub mod Overlaps
 pub mod Progress
 pub mod Readers
+pub mod Scans
 pub mod Skipping
 pub mod Sorted
 pub mod Tries

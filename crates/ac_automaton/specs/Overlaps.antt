@@ -6,6 +6,7 @@ use Rattle.ac_util.specs.declared.search.Anchored.{Anchored}
 use Rattle.ac_util.specs.declared.search.Anchored.TheVariants.{No, Yes}
 use Rattle.ac_util.specs.declared.search.MatchKind.{MatchKind}
 use Rattle.ac_util.specs.declared.search.MatchKind.TheVariants.{Standard}
+use Rattle.ac_util.specs.declared.search.Span.{Span}
 use Rattle.ac_util.specs.Asked.{Asked}
 use Rattle.ac_util.specs.Built.{Built, search_in}
 use Rattle.ac_util.specs.Counts.{Counts, Taped, no_counts}
@@ -19,7 +20,8 @@ use Rattle.ac_automaton.specs.declared.automaton.overlap.MatchRest.{MatchRest}
 use Rattle.ac_automaton.specs.declared.automaton.overlap.OverlappingState.{OverlappingState}
 use Rattle.ac_automaton.specs.declared.automaton.overlap.Reached.{Reached}
 use Rattle.ac_automaton.specs.Automata.{IsState}
-use Rattle.ac_automaton.specs.Progress.{Beginning, Grows, HasCome, HasRead, Reaches, most_looks, node_at}
+use Rattle.ac_automaton.specs.Progress.{Grows, HasRead, Reaches, Work, most_looks, nothing_done}
+use Rattle.ac_automaton.specs.Scans.{Scan, ScanText, ScansTo, in_memory, node, search_through}
 
 -- the matches in a rest of a match list
 abbrev pub rest_in : (ℕ → List ℕ) → MatchRest → List ℕ
@@ -59,30 +61,38 @@ pub record HasListed (stands : ℕ → Node → Type 0) (listed : ℕ → List �
   pub listing : all (record q { high = reached.at })
       ≡ given ++ map (ending (record q { high = reached.at })) (due_in listed q reached)
 
+-- a listing of a text by a scan has come to a place
+abbrev pub IsListed : Scan → ScanText → Reached → Type 0
+IsListed s t reached = HasListed s.stands s.listed s.built.kind (search_through s t) reached
+
+-- a listing of a span may go on from where it has come to
+pub record MayList (s : Scan) (span : Span) (tape : Taped) (reached : Reached) : Type 0 where
+  pub standard : s.built.kind ≡ Standard
+  pub listed : IsListed s (in_memory tape.bytes span) reached
+  pub inside : span.end ≤ length tape.bytes
+  pub unread : tape.place ≤ reached.at
+
 -- the match that is due first where the automaton stands was given and passed over, or there is none; the automaton
 -- stands where it did
-pub record HasGiven (stands : ℕ → Node → Type 0) (listed : ℕ → List ℕ) (kind : MatchKind) (q : Search)
-    (reached : Reached) (found : Option Occurrence) (new_reached : Reached) : Type 0 where
+pub record HasGiven (s : Scan) (t : ScanText) (reached : Reached) (found : Option Occurrence) (new_reached : Reached)
+    : Type 0 where
   pub state : new_reached.state ≡ reached.state
   pub at : new_reached.at ≡ reached.at
-  pub due : MatchOption found ((due_in listed q reached ≡ []) × (new_reached ≡ reached))
-      (λ m. due_in listed q reached ≡ m.pattern ∷ due_in listed q new_reached)
-  pub ending : IfSome found (λ m. m ≡ ending (record q { high = reached.at }) m.pattern)
-  pub leaves : HasListed stands listed kind q new_reached
+  pub due : MatchOption found ((due_in s.listed (search_through s t) reached ≡ []) × (new_reached ≡ reached))
+      (λ m. due_in s.listed (search_through s t) reached ≡ m.pattern ∷ due_in s.listed (search_through s t) new_reached)
+  pub ending : IfSome found (λ m. m ≡ ending (record (search_through s t) { high = reached.at }) m.pattern)
+  pub leaves : IsListed s t new_reached
 
 -- the next item of the listing was given, or none past its end, by reading on; and past its end the automaton is at
 -- the end of the span, or dead
-pub record HasMoved (stands : ℕ → Node → Type 0) (listed : ℕ → List ℕ) (kind : MatchKind) (q : Search)
-    (reached : Reached) (found : Option Occurrence) (new_reached : Reached) (tape new_tape : Taped) : Type 0 where
-  pub item : found ≡ item_at q (given_in listed q reached)
-  pub place : given_in listed q new_reached ≡ place_after q (given_in listed q reached)
-  pub leaves : HasListed stands listed kind q new_reached
+pub record HasMoved (s : Scan) (t : ScanText) (reached : Reached) (found : Option Occurrence) (new_reached : Reached)
+    : Type 0 where
+  pub item : found ≡ item_at (search_through s t) (given_in s.listed (search_through s t) reached)
+  pub place : given_in s.listed (search_through s t) new_reached
+      ≡ place_after (search_through s t) (given_in s.listed (search_through s t) reached)
+  pub leaves : IsListed s t new_reached
   pub ends : IfSome found (λ m. m.end ≡ new_reached.at)
-  pub bytes : new_tape.bytes ≡ tape.bytes
-  pub onward : tape.place ≤ new_tape.place
-  pub unread : new_tape.place ≤ new_reached.at
-  pub whole : found ≡ None
-      → (new_reached.at ≡ q.high) ⊎ (node_at kind q new_reached.at ≡ None)
+  pub whole : found ≡ None → (new_reached.at ≡ t.end) ⊎ (node s t new_reached.at ≡ None)
 
 -- a state of an overlapping search that has given nothing yet
 abbrev pub fresh : OverlappingState
@@ -157,26 +167,20 @@ pub record ListsNext (listing : Overlapping) (found : Option Occurrence) (new_li
   pub whole : new_listing.counts.calls ≡ 0 → found ≡ None
       → listing.search.high ≤ max listing.search.low new_listing.place
   pub read : HasRead (most_looks listing.search.anchored listing.most)
-      (may_skip listing.filters listing.search) listing.search.low listing.search.high
-      (record { bytes = listing.search.haystack; place = 0 })
-      (record { bytes = listing.search.haystack; place = new_listing.place }) no_counts new_listing.counts
+      (may_skip listing.filters listing.search) listing.search.low listing.search.high nothing_done
+      (record { place = new_listing.place; counts = new_listing.counts })
 
--- how an iterator over the listing of a span begins: it has read nothing
-abbrev pub beginning_of : Search → Beginning
-beginning_of q = record {
-  start = q.low;
-  end = q.high;
-  tape = record { bytes = q.haystack; place = 0 };
-  counts = no_counts;
-}
+-- what is seen of a listing that a scan makes
+abbrev pub overlapping_by : Scan → ScanText → Option Reached → Work → Overlapping
+overlapping_by s t reached work =
+    overlapping_of s.most s.filters (search_through s t) (given_by s.listed (search_through s t) reached) work.place
+    work.counts
 
--- what an iterator over the listing keeps: it searches the bytes of its tape, unanchored and by Standard; where the
--- span doesn't start past its end its automaton has read it as far as it has come, and else it has read nothing
-pub record IsListing (stands : ℕ → Node → Type 0) (listed : ℕ → List ℕ) (most : ℕ) (filters : Bool)
-    (built : Built) (q : Search) (reached : Option Reached) (tape : Taped) (counts : Counts) : Type 0 where
-  pub standard : built.kind ≡ Standard
-  pub unanchored : q.anchored ≡ No
-  pub legal : q.high ≤ length q.haystack
-  pub begun : MatchOption reached ((q.high < q.low) × (tape.place ≡ 0) × (counts ≡ no_counts))
-      (λ here. HasListed stands listed built.kind q here
-      × HasCome stands most filters built q.anchored (beginning_of q) here.state here.at tape counts)
+-- what an iterator over the listing keeps: it searches unanchored and by Standard; where the span doesn't start past its
+-- end its automaton has read it as far as it has come, and else it has read nothing
+pub record IsListing (s : Scan) (t : ScanText) (reached : Option Reached) (work : Work) : Type 0 where
+  pub standard : s.built.kind ≡ Standard
+  pub unanchored : s.anchored ≡ No
+  pub legal : t.end ≤ length t.bytes
+  pub begun : MatchOption reached ((t.end < t.start) × (work ≡ nothing_done))
+      (λ here. IsListed s t here × ScansTo s t t.start nothing_done here.at work)

@@ -27,12 +27,13 @@ use std::alloc::Allocator;
 mod find;
 mod overlap;
 mod replace;
+mod scan;
 mod skip;
-mod step;
 mod walk;
 
 pub use find::{Finder, find_core};
 pub use overlap::{FindOverlappingIter, MatchRest, OverlappingState};
+pub use scan::is_due;
 pub use walk::FindIter;
 
 /// An automaton that finds patterns: states, and where each byte leads from a state.

@@ -1,22 +1,19 @@
 //! The core of every find.
-ghost use Rattle.std.specs.Prelude.{◌≡◌, ℕ, MatchOption, ◌+◌, ◌<◌, ◌≤◌, ◌↔◌, [], false, true, IsTrue, length, None, Some, MatchResult};
-ghost use Rattle.ac_util.specs.declared.search.Anchored.TheVariants.{No};
+ghost use Rattle.std.specs.Prelude.{◌≡◌, ◌+◌, ◌<◌, ◌≤◌, ◌↔◌, false, true, IsTrue, length, None, Some, MatchResult};
 ghost use Rattle.ac_util.specs.declared.search.MatchKind.TheVariants.{Standard};
 ghost use Rattle.ac_util.specs.Built.{find_refusal, found, search_in};
-ghost use Rattle.ac_util.specs.Counts.{Counts};
 ghost use Rattle.ac_util.specs.Inputs.{asked};
-ghost use Rattle.ac_util.specs.Node.{Node, is_leftmost};
+ghost use Rattle.ac_util.specs.Node.{is_leftmost};
 ghost use Rattle.ac_util.specs.Pick.{order_of};
 ghost use Rattle.ac_util.specs.Prefilters.{skip_of};
 ghost use Rattle.ac_util.specs.Refusal.{AnswersUnless, start_refusal};
-ghost use Rattle.ac_automaton.specs.Automata.{IsState};
-ghost use Rattle.ac_automaton.specs.Finds.{FitsIn, HasSearched, IsAnswered, IsReady, MayReadOn, asked_of, found_at};
-ghost use Rattle.ac_automaton.specs.Progress.{HasCome, began_at, search_of};
-ghost use Rattle.ac_automaton.specs.Skipping.{IsNeedle, Skips, SkipsByBytes};
+ghost use Rattle.ac_automaton.specs.Finders.{finding_of};
+ghost use Rattle.ac_automaton.specs.Finds.{HasSearched, asked_of};
+ghost use Rattle.ac_automaton.specs.Progress.{search_of, work_of};
 
 use super::Automaton;
-use super::skip::{Credit, Skipper};
-use super::step::{Cursor, Reader};
+use super::scan::{Cursor, Scanner, Scans};
+use super::skip::Credit;
 use ac_util::error::MatchError;
 use ac_util::looks::{Looks, Tape, open};
 use ac_util::prefilter::{Candidate, Prefilter};
@@ -52,10 +49,11 @@ pub fn find_core<A: Automaton>(
     requires unread { tape.old.place ≤ start }
     ensures pick { result ≡ found (A.built automaton.now)
         (asked_of tape.old.bytes start end anchored earliest) }
-    ensures searched { HasSearched A.LOOKS (A.filters automaton.now) (A.built automaton.now).kind
-        (order_of (A.built automaton.now).kind earliest)
+    ensures searched { HasSearched (finding_of A.LOOKS (A.built automaton.now) (A.filters automaton.now)
+        (asked_of tape.old.bytes start end anchored earliest))
         (search_in (A.built automaton.now) (asked_of tape.old.bytes start end anchored earliest)) result
-        tape.old tape.new looks.old looks.new }
+        (work_of tape.old looks.old) (work_of tape.new looks.new) }
+    ensures bytes { tape.new.bytes ≡ tape.old.bytes }
 {
     let Ok(mut finder) = Finder::new(automaton, anchored, earliest) else {
         unreachable!()
@@ -116,6 +114,7 @@ impl<'a, A: Automaton> Model for Finder<'a, A> {
 
     ghost view = { λ f. record {
       built = A.built f.automaton.now;
+      most = A.LOOKS;
       filters = A.filters f.automaton.now;
       anchored = f.anchored;
       order = if f.stops then Standard else (A.built f.automaton.now).kind;
@@ -144,6 +143,7 @@ impl<'a, A: Automaton> Finder<'a, A> {
             (λ finder. (start_refusal (A.built automaton.now).start_kind anchored ≡ None)
             × (finder ≡ record {
               built = A.built automaton.now;
+              most = A.LOOKS;
               filters = A.filters automaton.now;
               anchored = anchored;
               order = order_of (A.built automaton.now).kind earliest;
@@ -182,82 +182,78 @@ impl<'a, A: Automaton> Finder<'a, A> {
         requires end_within { span.end ≤ length tape.old.bytes }
         requires start_within { span.start ≤ span.end + 1 }
         requires unread { tape.old.place ≤ span.start }
-        ensures searched { HasSearched A.LOOKS self.old.filters self.old.built.kind self.old.order
+        ensures searched { HasSearched self.old
             (search_of self.old.built self.old.anchored tape.old.bytes span.start span.end) result
-            tape.old tape.new looks.old looks.new }
+            (work_of tape.old looks.old) (work_of tape.new looks.new) }
+        ensures bytes { tape.new.bytes ≡ tape.old.bytes }
         ensures same { self.new ≡ self.old }
     {
         if span.start > span.end {
             return None;
         }
-        let find = Find {
+        let stops = self.stops;
+        let scanner = Scanner {
             automaton: self.automaton,
             anchored: self.anchored,
-            stops: self.stops,
             span,
+        };
+        let start = Cursor {
+            state: self.start,
+            at: span.start,
         };
         let cursor = match self.prefilter {
             Some(prefilter) if span.start < span.end && self.credit.is_left() => match prefilter {
                 Prefilter::Bytes(_) => {
-                    find.skip_on(prefilter, self.start, &mut self.credit, tape, looks)?
+                    scanner.skip_on(prefilter, start, &mut self.credit, tape, looks)
                 }
                 Prefilter::Needle(_) => {
-                    return find.find_needle(prefilter, &mut self.credit, tape, looks);
+                    return scanner.find_needle(prefilter, stops, &mut self.credit, tape, looks);
                 }
             },
-            _ => Cursor {
-                state: self.start,
-                at: span.start,
-            },
+            _ => start,
         };
-        find.read_on(cursor, tape, looks)
+        scanner.find_on(stops, cursor, tape, looks)
     }
 }
 
-/// A find in one span.
-#[derive(Drop)]
-struct Find<'a, A: Automaton> {
-    automaton: &'a A,
-    anchored: Anchored,
-    /// Whether the first match found is the answer.
-    stops: bool,
-    span: Span,
-}
+impl<'a, A: Automaton> Scanner<'a, A> {
+    ghost use Rattle.ac_util.specs.Counts.{Counts};
+    ghost use Rattle.ac_util.specs.Node.{Node};
+    ghost use Rattle.ac_automaton.specs.Automata.{IsState};
+    ghost use Rattle.ac_automaton.specs.Finds.{IsAnswered, IsReady, finding_by};
+    ghost use Rattle.ac_automaton.specs.Progress.{Work};
+    ghost use Rattle.ac_automaton.specs.Scans.{ScansTo, in_memory, search_through};
+    ghost use Rattle.ac_automaton.specs.Skipping.{SkipsByNeedle};
 
-impl<'a, A: Automaton> Find<'a, A> {
-    /// Returns the pick, by reading on from a state where nothing is picked but what it finds.
+    /// Returns the pick of the span, by reading on from where nothing is picked but what the state there finds.
     #[inline]
-    fn read_on(&self, cursor: Cursor, tape: &mut Tape<'_>, looks: &mut Looks) -> Option<Match>
-        requires leftmost { self.now.stops ≡ false → is_leftmost (A.built self.now.automaton.now).kind ≡ true }
-        requires end_within { self.now.span.end ≤ length tape.old.bytes }
+    fn find_on(
+        &self,
+        stops: bool,
+        cursor: Cursor,
+        tape: &mut Tape<'_>,
+        looks: &mut Looks,
+    ) -> Option<Match>
+        requires leftmost { stops ≡ false
+            → is_leftmost (⟦<A as Scans>⟧.scan self.now.automaton.now self.now.anchored).built.kind ≡ true }
         requires within { cursor.at ≤ self.now.span.end }
+        requires inside { self.now.span.end ≤ length tape.old.bytes }
         requires unread { tape.old.place ≤ cursor.at }
-        requires ready { IsReady (A.stands self.now.automaton.now self.now.anchored)
-            (A.built self.now.automaton.now) self.now.anchored self.now.stops
-            (search_of (A.built self.now.automaton.now) self.now.anchored tape.old.bytes self.now.span.start
-            self.now.span.end) cursor.state cursor.at }
-        ensures { (place : ℕ) (counts : Counts)
-            → HasCome (A.stands self.now.automaton.now self.now.anchored) A.LOOKS (A.filters self.now.automaton.now)
-            (A.built self.now.automaton.now) self.now.anchored
-            (began_at self.now.span.start self.now.span.end tape.old.bytes place counts) cursor.state cursor.at
-            tape.old looks.old
-            → HasSearched A.LOOKS (A.filters self.now.automaton.now) (A.built self.now.automaton.now).kind
-            (order_of (A.built self.now.automaton.now).kind self.now.stops)
-            (search_of (A.built self.now.automaton.now) self.now.anchored tape.old.bytes self.now.span.start
-            self.now.span.end) result (record { bytes = tape.old.bytes; place = place }) tape.new counts looks.new }
+        requires ready { IsReady (⟦<A as Scans>⟧.scan self.now.automaton.now self.now.anchored)
+            (in_memory tape.old.bytes self.now.span) stops cursor }
+        ensures bytes { tape.new.bytes ≡ tape.old.bytes }
+        ensures found { (begun : Work) → ScansTo (⟦<A as Scans>⟧.scan self.now.automaton.now self.now.anchored)
+            (in_memory tape.old.bytes self.now.span) self.now.span.start begun cursor.at (work_of tape.old looks.old)
+            → HasSearched (finding_by (⟦<A as Scans>⟧.scan self.now.automaton.now self.now.anchored) stops)
+            (search_through (⟦<A as Scans>⟧.scan self.now.automaton.now self.now.anchored) (in_memory tape.old.bytes self.now.span))
+            result begun (work_of tape.new looks.new) }
     {
-        let (automaton, anchored, span) = (self.automaton, self.anchored, self.span);
         let (mut state, mut at) = (cursor.state, cursor.at);
-        let reader = Reader {
-            automaton,
-            anchored,
-            end: span.end,
-        };
-        let mut last = match_at(automaton, anchored, Cursor { state, at }, span.start);
-        while !self.is_decided(Cursor { state, at }, &last) {
-            let ahead = reader.read_ahead(Cursor { state, at }, tape, looks);
+        let mut last = self.match_at(Cursor { state, at });
+        while !self.is_decided(stops, Cursor { state, at }, &last) {
+            let ahead = self.read_ahead(Cursor { state, at }, tape, looks);
             (state, at) = (ahead.state, ahead.at);
-            let found = match_at(automaton, anchored, Cursor { state, at }, span.start);
+            let found = self.match_at(Cursor { state, at });
             if found.is_some() {
                 last = found;
             }
@@ -268,78 +264,33 @@ impl<'a, A: Automaton> Find<'a, A> {
     /// Returns whether the last match found is the answer: nothing is left to read, nothing more is found, or the
     /// first match counts.
     #[inline]
-    fn is_decided(&self, cursor: Cursor, last: &Option<Match>) -> bool
-        requires state { IsState (A.stands self.now.automaton.now self.now.anchored) cursor.state }
-        ensures { (u : Node) → A.stands self.now.automaton.now self.now.anchored cursor.state u
-            → IsTrue result ↔ IsAnswered self.now.stops self.now.span.end cursor.at u last.now }
+    fn is_decided(&self, stops: bool, cursor: Cursor, last: &Option<Match>) -> bool
+        requires state { IsState (⟦<A as Scans>⟧.scan self.now.automaton.now self.now.anchored).stands cursor.state }
+        ensures { (u : Node) → (⟦<A as Scans>⟧.scan self.now.automaton.now self.now.anchored).stands cursor.state u
+            → IsTrue result ↔ IsAnswered stops self.now.span.end cursor.at u last.now }
     {
         cursor.at >= self.span.end
             || self.automaton.is_dead(cursor.state)
-            || (self.stops && last.is_some())
+            || (stops && last.is_some())
     }
 
-    /// Skips to where patterns begin as long as none is found and skipping pays. Returns where to read on, or None
-    /// where the automaton is dead: then nothing is found.
-    #[inline(never)]
-    fn skip_on(
-        &self,
-        prefilter: &'a Prefilter<A::Memory>,
-        start: StateID,
-        credit: &mut Credit,
-        tape: &mut Tape<'_>,
-        looks: &mut Looks,
-    ) -> Option<Cursor>
-        requires leftmost { self.now.stops ≡ false → is_leftmost (A.built self.now.automaton.now).kind ≡ true }
-        requires skips { SkipsByBytes (A.filters self.now.automaton.now) (A.built self.now.automaton.now)
-            (skip_of prefilter.now) }
-        requires starts { A.stands self.now.automaton.now No start (Some []) }
-        requires end_within { self.now.span.end ≤ length tape.old.bytes }
-        requires ordered { self.now.span.start ≤ self.now.span.end }
-        requires unread { tape.old.place ≤ self.now.span.start }
-        ensures { MatchOption result
-            (HasSearched A.LOOKS (A.filters self.now.automaton.now) (A.built self.now.automaton.now).kind
-            (order_of (A.built self.now.automaton.now).kind self.now.stops)
-            (search_of (A.built self.now.automaton.now) No tape.old.bytes self.now.span.start self.now.span.end)
-            None tape.old tape.new looks.old looks.new)
-            (λ cursor. MayReadOn (A.stands self.now.automaton.now No) A.LOOKS (A.filters self.now.automaton.now)
-            (A.built self.now.automaton.now) No self.now.stops
-            (began_at self.now.span.start self.now.span.end tape.old.bytes tape.old.place looks.old) cursor.state
-            cursor.at tape.new looks.new) }
-    {
-        let (automaton, span) = (self.automaton, self.span);
-        let skipper = Skipper {
-            automaton,
-            prefilter,
-        };
-        let begin = Cursor {
-            state: start,
-            at: span.start,
-        };
-        let cursor = skipper.skip_on(begin, span.end, credit, tape, looks);
-        if automaton.is_dead(cursor.state) {
-            return None;
-        }
-        Some(cursor)
-    }
-
-    /// Returns the pick where there is a single pattern, as its prefilter finds it.
+    /// Returns the pick of the span where there is a single pattern, as its prefilter finds it.
     #[inline(never)]
     fn find_needle(
         &self,
         prefilter: &Prefilter<A::Memory>,
+        stops: bool,
         credit: &mut Credit,
         tape: &Tape<'_>,
         looks: &mut Looks,
     ) -> Option<Match>
-        requires needle { IsNeedle (A.filters self.now.automaton.now) (A.built self.now.automaton.now)
-            (skip_of prefilter.now) }
-        requires end_within { self.now.span.end ≤ length tape.now.bytes }
+        requires needle { SkipsByNeedle (⟦<A as Scans>⟧.scan self.now.automaton.now self.now.anchored) (skip_of prefilter.now) }
+        requires inside { self.now.span.end ≤ length tape.now.bytes }
         requires some_bytes { self.now.span.start < self.now.span.end }
         requires unread { tape.now.place ≤ self.now.span.start }
-        ensures { HasSearched A.LOOKS (A.filters self.now.automaton.now) (A.built self.now.automaton.now).kind
-            (order_of (A.built self.now.automaton.now).kind self.now.stops)
-            (search_of (A.built self.now.automaton.now) No tape.now.bytes self.now.span.start self.now.span.end)
-            result tape.now tape.now looks.old looks.new }
+        ensures { HasSearched (finding_by (⟦<A as Scans>⟧.scan self.now.automaton.now self.now.anchored) stops)
+            (search_through (⟦<A as Scans>⟧.scan self.now.automaton.now self.now.anchored) (in_memory tape.now.bytes self.now.span))
+            result (work_of tape.now looks.old) (work_of tape.now looks.new) }
     {
         let span = self.span;
         match tape.scan(prefilter, span.start, span.end, looks) {
@@ -350,37 +301,4 @@ impl<'a, A: Automaton> Find<'a, A> {
             Candidate::None | Candidate::PossibleStart(_) => None,
         }
     }
-}
-
-/// Returns the first match of the state where the automaton stands, which ends at the cursor's place.
-///
-/// In an anchored search a match that starts later than `start` doesn't count.
-#[inline]
-fn match_at<A: Automaton>(
-    automaton: &A,
-    anchored: Anchored,
-    cursor: Cursor,
-    start: usize,
-) -> Option<Match>
-    requires state { (u : Node) × A.stands automaton.now anchored cursor.state u
-        × FitsIn anchored u start cursor.at }
-    ensures { (u : Node) → A.stands automaton.now anchored cursor.state u → FitsIn anchored u start cursor.at
-        → result ≡ found_at (A.built automaton.now) anchored u cursor.at }
-{
-    if !automaton.is_match(cursor.state) {
-        return None;
-    }
-    let end = cursor.at;
-    let pattern = automaton.match_pattern(cursor.state, 0);
-    let len = automaton.pattern_len(pattern);
-    if anchored.is_anchored() && len != end - start {
-        return None;
-    }
-    Some(Match::new(
-        pattern,
-        Span {
-            start: end - len,
-            end,
-        },
-    ))
 }

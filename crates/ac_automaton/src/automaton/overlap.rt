@@ -1,19 +1,17 @@
 //! All occurrences, one after another: overlapping search by a state, and by an iterator.
 ghost use Rattle.std.specs.Prelude.{◌≡◌, ◌≢◌, ◌⊎◌, ℕ, ◌∷◌, ◌≤◌, List, [], None, Some, IfSome, MatchOption, MatchResult, length};
 ghost use Rattle.std.specs.Iterator.{item_count};
-ghost use Rattle.ac_util.specs.declared.search.Anchored.TheVariants.{No};
 ghost use Rattle.ac_util.specs.declared.search.MatchKind.TheVariants.{Standard};
 ghost use Rattle.ac_util.specs.Built.{overlapping_iter_refusal, overlapping_refusal, search_in};
 ghost use Rattle.ac_util.specs.Inputs.{asked};
 ghost use Rattle.ac_util.specs.Prefilters.{skip_of};
 ghost use Rattle.ac_util.specs.Refusal.{AnswersUnless, start_refusal};
-ghost use Rattle.ac_automaton.specs.Overlaps.{GivesNext, HasGiven, HasListed, HasMoved, IsPlaced, ListsNext, fresh, listing_begun};
-ghost use Rattle.ac_automaton.specs.Progress.{Beginning, Grows, HasCome, search_of};
-ghost use Rattle.ac_automaton.specs.Skipping.{SkipsByBytes};
+ghost use Rattle.ac_automaton.specs.Overlaps.{GivesNext, IsPlaced, ListsNext, fresh, listing_begun};
+ghost use Rattle.ac_automaton.specs.Progress.{work_of};
 
 use super::Automaton;
-use super::skip::{Credit, Skipper};
-use super::step::{Cursor, Reader};
+use super::scan::{Cursor, Scanner, Scans, is_due};
+use super::skip::Credit;
 use ac_util::error::MatchError;
 use ac_util::looks::{Looks, Tape, open};
 use ac_util::prefilter::Prefilter;
@@ -107,23 +105,29 @@ pub(super) fn try_find_overlapping<A: Automaton>(
         (λ e. (overlapping_refusal (A.built automaton.now) (asked input.entry) ≡ Some e)
         × (state.new ≡ state.old)) }
 {
-    let start = start_of(automaton, input.get_anchored())?;
+    let anchored = input.get_anchored();
+    let start = start_of(automaton, anchored)?;
     if input.is_done() {
         state.found = None;
         return Ok(());
     }
-    let lister = Lister {
+    let scanner = Scanner {
         automaton,
-        anchored: input.get_anchored(),
+        anchored,
         span: input.get_span(),
-        prefilter: listing_prefilter(automaton, input.get_anchored()),
     };
     let mut reached = match state.reached {
         Some(reached) => reached,
         None => Reached::new(start, input.start()),
     };
     let (mut tape, mut looks) = open(&input);
-    let found = lister.next(&mut reached, &mut Credit::new(), &mut tape, &mut looks);
+    let found = scanner.next_item(
+        scanner.listing_prefilter(),
+        &mut reached,
+        &mut Credit::new(),
+        &mut tape,
+        &mut looks,
+    );
     *state = OverlappingState {
         found,
         reached: Some(reached),
@@ -153,61 +157,41 @@ fn start_of<A: Automaton>(automaton: &A, anchored: Anchored) -> Result<StateID, 
     }
 }
 
-/// Returns the prefilter of a listing: one that skips by first bytes, in an unanchored search.
-///
-/// A needle is none: where it is found first the automaton need not have been at its start.
-#[inline]
-fn listing_prefilter<'a, A: Automaton>(
-    automaton: &'a A,
-    anchored: Anchored,
-) -> Option<&'a Prefilter<A::Memory>>
-    ensures { IfSome result (λ p. (anchored ≡ No)
-        × SkipsByBytes (A.filters automaton.now) (A.built automaton.now) (skip_of p.now)) }
-{
-    match (anchored, automaton.prefilter()) {
-        (Anchored::No, Some(prefilter)) => match prefilter {
-            Prefilter::Bytes(_) => Some(prefilter),
-            Prefilter::Needle(_) => None,
-        },
-        _ => None,
-    }
-}
+impl<'a, A: Automaton> Scanner<'a, A> {
+    ghost use Rattle.ac_automaton.specs.Overlaps.{HasGiven, HasMoved, IsListed, MayList};
+    ghost use Rattle.ac_automaton.specs.Scans.{ScansTo, in_memory};
+    ghost use Rattle.ac_automaton.specs.Skipping.{SkipsByBytes};
 
-/// The listing of a span by an automaton.
-#[derive(Drop)]
-struct Lister<'a, A: Automaton> {
-    automaton: &'a A,
-    anchored: Anchored,
-    span: Span,
-    /// That of `listing_prefilter`.
-    prefilter: Option<&'a Prefilter<A::Memory>>,
-}
-
-impl<'a, A: Automaton> Lister<'a, A> {
-    /// Returns the next match that is due where the automaton stands, and passes over it.
+    /// Returns the prefilter of a listing: one that skips by first bytes, in an unanchored search.
     ///
-    /// In an anchored search a match that is shorter than what was read isn't due, nor any after it.
+    /// A needle is none: where it is found first the automaton need not have been at its start.
     #[inline]
-    fn give(&self, reached: &mut Reached) -> Option<Match>
-        requires listed { (bytes : List ℕ)
-            × HasListed (A.stands self.now.automaton.now self.now.anchored) (A.listed self.now.automaton.now)
-            (A.built self.now.automaton.now).kind
-            (search_of (A.built self.now.automaton.now) self.now.anchored bytes self.now.span.start
-            self.now.span.end) reached.old }
-        ensures { (bytes : List ℕ)
-            → HasListed (A.stands self.now.automaton.now self.now.anchored) (A.listed self.now.automaton.now)
-            (A.built self.now.automaton.now).kind
-            (search_of (A.built self.now.automaton.now) self.now.anchored bytes self.now.span.start
-            self.now.span.end) reached.old
-            → HasGiven (A.stands self.now.automaton.now self.now.anchored) (A.listed self.now.automaton.now)
-            (A.built self.now.automaton.now).kind
-            (search_of (A.built self.now.automaton.now) self.now.anchored bytes self.now.span.start
-            self.now.span.end) reached.old result reached.new }
+    fn listing_prefilter(&self) -> Option<&'a Prefilter<A::Memory>>
+        ensures { IfSome result (λ p. SkipsByBytes (⟦<A as Scans>⟧.scan self.now.automaton.now self.now.anchored) (skip_of p.now)) }
+    {
+        match (self.anchored, self.automaton.prefilter()) {
+            (Anchored::No, Some(prefilter)) => match prefilter {
+                Prefilter::Bytes(_) => Some(prefilter),
+                Prefilter::Needle(_) => None,
+            },
+            _ => None,
+        }
+    }
+
+    /// Takes the next match that is due where the automaton stands, or returns None where there is none.
+    #[inline]
+    fn take_due(&self, reached: &mut Reached) -> Option<Match>
+        requires listed { (bytes : List ℕ) × IsListed (⟦<A as Scans>⟧.scan self.now.automaton.now self.now.anchored)
+            (in_memory bytes self.now.span) reached.old }
+        ensures { (bytes : List ℕ) → IsListed (⟦<A as Scans>⟧.scan self.now.automaton.now self.now.anchored)
+            (in_memory bytes self.now.span) reached.old
+            → HasGiven (⟦<A as Scans>⟧.scan self.now.automaton.now self.now.anchored) (in_memory bytes self.now.span) reached.old result
+            reached.new }
     {
         let (pattern, rest) = self.automaton.take_match(reached.rest)?;
         let len = self.automaton.pattern_len(pattern);
         let end = reached.at;
-        if self.anchored.is_anchored() && len != end - self.span.start {
+        if !is_due(self.anchored, len, end - self.span.start) {
             return None;
         }
         let span = Span {
@@ -218,139 +202,43 @@ impl<'a, A: Automaton> Lister<'a, A> {
         Some(Match::new(pattern, span))
     }
 
-    /// Returns the next item of the listing, and moves on behind it. It calls the prefilter as long as the credit allows.
+    /// Returns the next item of the listing of the span, and moves on past it. It skips by the prefilter, where one is
+    /// given, as long as the credit allows.
     #[inline]
-    fn next(
+    fn next_item(
         &self,
+        prefilter: Option<&Prefilter<A::Memory>>,
         reached: &mut Reached,
         credit: &mut Credit,
         tape: &mut Tape<'_>,
         looks: &mut Looks,
     ) -> Option<Match>
-        requires skips { IfSome self.now.prefilter (λ p. (self.now.anchored ≡ No)
-            × SkipsByBytes (A.filters self.now.automaton.now) (A.built self.now.automaton.now) (skip_of p.now)) }
-        requires standard { (A.built self.now.automaton.now).kind ≡ Standard }
-        requires listed { HasListed (A.stands self.now.automaton.now self.now.anchored)
-            (A.listed self.now.automaton.now) (A.built self.now.automaton.now).kind
-            (search_of (A.built self.now.automaton.now) self.now.anchored tape.old.bytes self.now.span.start
-            self.now.span.end) reached.old }
-        requires end_within { self.now.span.end ≤ length tape.old.bytes }
-        requires unread { tape.old.place ≤ reached.old.at }
-        ensures moved { HasMoved (A.stands self.now.automaton.now self.now.anchored) (A.listed self.now.automaton.now)
-            (A.built self.now.automaton.now).kind
-            (search_of (A.built self.now.automaton.now) self.now.anchored tape.old.bytes self.now.span.start
-            self.now.span.end) reached.old result reached.new tape.old tape.new }
-        ensures grows { Grows looks.old looks.new }
-        ensures come { (began : Beginning) → HasCome (A.stands self.now.automaton.now self.now.anchored) A.LOOKS
-            (A.filters self.now.automaton.now) (A.built self.now.automaton.now) self.now.anchored began
-            reached.old.state reached.old.at tape.old looks.old
-            → HasCome (A.stands self.now.automaton.now self.now.anchored) A.LOOKS
-            (A.filters self.now.automaton.now) (A.built self.now.automaton.now) self.now.anchored began
-            reached.new.state reached.new.at tape.new looks.new }
+        requires skips { IfSome prefilter
+            (λ p. SkipsByBytes (⟦<A as Scans>⟧.scan self.now.automaton.now self.now.anchored) (skip_of p.now)) }
+        requires listed { MayList (⟦<A as Scans>⟧.scan self.now.automaton.now self.now.anchored) self.now.span tape.old reached.old }
+        ensures bytes { tape.new.bytes ≡ tape.old.bytes }
+        ensures moved { HasMoved (⟦<A as Scans>⟧.scan self.now.automaton.now self.now.anchored) (in_memory tape.old.bytes self.now.span)
+            reached.old result reached.new }
+        ensures scans { ScansTo (⟦<A as Scans>⟧.scan self.now.automaton.now self.now.anchored) (in_memory tape.old.bytes self.now.span)
+            reached.old.at (work_of tape.old looks.old) reached.new.at (work_of tape.new looks.new) }
     {
-        match self.prefilter {
-            Some(prefilter) if credit.is_left() => {
-                self.skip(prefilter, reached, credit, tape, looks)
-            }
-            _ => self.next_on(reached, tape, looks),
-        }
-    }
-
-    /// Returns the next item of the listing, and moves on behind it, by skipping to where patterns begin.
-    #[inline(never)]
-    fn skip(
-        &self,
-        prefilter: &'a Prefilter<A::Memory>,
-        reached: &mut Reached,
-        credit: &mut Credit,
-        tape: &mut Tape<'_>,
-        looks: &mut Looks,
-    ) -> Option<Match>
-        requires unanchored { self.now.anchored ≡ No }
-        requires skips { SkipsByBytes (A.filters self.now.automaton.now) (A.built self.now.automaton.now)
-            (skip_of prefilter.now) }
-        requires standard { (A.built self.now.automaton.now).kind ≡ Standard }
-        requires listed { HasListed (A.stands self.now.automaton.now self.now.anchored)
-            (A.listed self.now.automaton.now) (A.built self.now.automaton.now).kind
-            (search_of (A.built self.now.automaton.now) self.now.anchored tape.old.bytes self.now.span.start
-            self.now.span.end) reached.old }
-        requires end_within { self.now.span.end ≤ length tape.old.bytes }
-        requires unread { tape.old.place ≤ reached.old.at }
-        ensures moved { HasMoved (A.stands self.now.automaton.now self.now.anchored) (A.listed self.now.automaton.now)
-            (A.built self.now.automaton.now).kind
-            (search_of (A.built self.now.automaton.now) self.now.anchored tape.old.bytes self.now.span.start
-            self.now.span.end) reached.old result reached.new tape.old tape.new }
-        ensures grows { Grows looks.old looks.new }
-        ensures come { (began : Beginning) → HasCome (A.stands self.now.automaton.now self.now.anchored) A.LOOKS
-            (A.filters self.now.automaton.now) (A.built self.now.automaton.now) self.now.anchored began
-            reached.old.state reached.old.at tape.old looks.old
-            → HasCome (A.stands self.now.automaton.now self.now.anchored) A.LOOKS
-            (A.filters self.now.automaton.now) (A.built self.now.automaton.now) self.now.anchored began
-            reached.new.state reached.new.at tape.new looks.new }
-    {
-        if let Some(found) = self.give(reached) {
-            return Some(found);
-        }
-        let skipper = Skipper {
-            automaton: self.automaton,
-            prefilter,
-        };
-        let here = Cursor {
-            state: reached.state,
-            at: reached.at,
-        };
-        let cursor = skipper.skip_on(here, self.span.end, credit, tape, looks);
-        if cursor.at > reached.at {
-            *reached = Reached::new(cursor.state, cursor.at);
-        }
-        self.next_on(reached, tape, looks)
-    }
-
-    /// Returns the next item of the listing, and moves on behind it, by reading on.
-    #[inline]
-    fn next_on(
-        &self,
-        reached: &mut Reached,
-        tape: &mut Tape<'_>,
-        looks: &mut Looks,
-    ) -> Option<Match>
-        requires standard { (A.built self.now.automaton.now).kind ≡ Standard }
-        requires listed { HasListed (A.stands self.now.automaton.now self.now.anchored)
-            (A.listed self.now.automaton.now) (A.built self.now.automaton.now).kind
-            (search_of (A.built self.now.automaton.now) self.now.anchored tape.old.bytes self.now.span.start
-            self.now.span.end) reached.old }
-        requires end_within { self.now.span.end ≤ length tape.old.bytes }
-        requires unread { tape.old.place ≤ reached.old.at }
-        ensures moved { HasMoved (A.stands self.now.automaton.now self.now.anchored) (A.listed self.now.automaton.now)
-            (A.built self.now.automaton.now).kind
-            (search_of (A.built self.now.automaton.now) self.now.anchored tape.old.bytes self.now.span.start
-            self.now.span.end) reached.old result reached.new tape.old tape.new }
-        ensures grows { Grows looks.old looks.new }
-        ensures come { (began : Beginning) → HasCome (A.stands self.now.automaton.now self.now.anchored) A.LOOKS
-            (A.filters self.now.automaton.now) (A.built self.now.automaton.now) self.now.anchored began
-            reached.old.state reached.old.at tape.old looks.old
-            → HasCome (A.stands self.now.automaton.now self.now.anchored) A.LOOKS
-            (A.filters self.now.automaton.now) (A.built self.now.automaton.now) self.now.anchored began
-            reached.new.state reached.new.at tape.new looks.new }
-    {
-        let (automaton, anchored, end) = (self.automaton, self.anchored, self.span.end);
-        let reader = Reader {
-            automaton,
-            anchored,
-            end,
-        };
         loop {
-            if let Some(found) = self.give(reached) {
+            if let Some(found) = self.take_due(reached) {
                 return Some(found);
             }
             let here = Cursor {
                 state: reached.state,
                 at: reached.at,
             };
-            if here.at >= end || automaton.is_dead(here.state) {
+            if here.at >= self.span.end || self.automaton.is_dead(here.state) {
                 return None;
             }
-            let ahead = reader.read_ahead(here, tape, looks);
+            let ahead = match prefilter {
+                Some(prefilter) if credit.is_left() => {
+                    self.skip_on(prefilter, here, credit, tape, looks)
+                }
+                _ => self.read_ahead(here, tape, looks),
+            };
             *reached = Reached::new(ahead.state, ahead.at);
         }
     }
@@ -363,7 +251,9 @@ impl<'a, A: Automaton> Lister<'a, A> {
 /// was given last.
 #[derive(Drop)]
 pub struct FindOverlappingIter<'a, 'h, A: Automaton> {
-    lister: Lister<'a, A>,
+    scanner: Scanner<'a, A>,
+    /// That of `Scanner::listing_prefilter`.
+    prefilter: Option<&'a Prefilter<A::Memory>>,
     /// None where the span starts past its end.
     reached: Option<Reached>,
     /// Kept from item to item, so that a listing calls no prefilter in vain for long.
@@ -373,31 +263,26 @@ pub struct FindOverlappingIter<'a, 'h, A: Automaton> {
 }
 
 impl<'a, 'h, A: Automaton> Model for FindOverlappingIter<'a, 'h, A> {
-    ghost use Rattle.std.specs.Prelude.{◌≡◌, IfSome};
-    ghost use Rattle.ac_util.specs.declared.search.Anchored.TheVariants.{No};
+    ghost use Rattle.std.specs.Prelude.{IfSome};
     ghost use Rattle.ac_util.specs.Prefilters.{skip_of};
-    ghost use Rattle.ac_automaton.specs.Overlaps.{IsListing, Overlapping, given_by, overlapping_of};
-    ghost use Rattle.ac_automaton.specs.Progress.{search_of};
+    ghost use Rattle.ac_automaton.specs.Overlaps.{IsListing, Overlapping, overlapping_by};
+    ghost use Rattle.ac_automaton.specs.Progress.{work_of};
+    ghost use Rattle.ac_automaton.specs.Scans.{in_memory, scan_by};
     ghost use Rattle.ac_automaton.specs.Skipping.{SkipsByBytes};
 
     ghost Value = { Overlapping };
 
-    ghost view = { λ s. overlapping_of A.LOOKS (A.filters s.lister.automaton.now)
-        (search_of (A.built s.lister.automaton.now) s.lister.anchored s.tape.bytes s.lister.span.start
-        s.lister.span.end)
-        (given_by (A.listed s.lister.automaton.now) (search_of (A.built s.lister.automaton.now)
-        s.lister.anchored s.tape.bytes s.lister.span.start s.lister.span.end) s.reached)
-        s.tape.place s.looks };
+    ghost view = { λ s. overlapping_by (scan_by (A.stands s.scanner.automaton.now) (A.listed s.scanner.automaton.now)
+        (A.built s.scanner.automaton.now) A.LOOKS (A.filters s.scanner.automaton.now) s.scanner.anchored)
+        (in_memory s.tape.bytes s.scanner.span) s.reached (work_of s.tape s.looks) };
 
-    ghost invariant = { λ s. record {
-      listing : IsListing (A.stands s.lister.automaton.now s.lister.anchored)
-          (A.listed s.lister.automaton.now) A.LOOKS (A.filters s.lister.automaton.now)
-          (A.built s.lister.automaton.now)
-          (search_of (A.built s.lister.automaton.now) s.lister.anchored s.tape.bytes s.lister.span.start
-          s.lister.span.end) s.reached s.tape s.looks;
-      skips : IfSome s.lister.prefilter (λ p. (s.lister.anchored ≡ No)
-          × SkipsByBytes (A.filters s.lister.automaton.now) (A.built s.lister.automaton.now) (skip_of p.now));
-    } };
+    ghost invariant = { λ s.
+        let scan = scan_by (A.stands s.scanner.automaton.now) (A.listed s.scanner.automaton.now)
+        (A.built s.scanner.automaton.now) A.LOOKS (A.filters s.scanner.automaton.now) s.scanner.anchored in
+        record {
+          listing : IsListing scan (in_memory s.tape.bytes s.scanner.span) s.reached (work_of s.tape s.looks);
+          skips : IfSome s.prefilter (λ p. SkipsByBytes scan (skip_of p.now));
+        } };
 }
 
 impl<'a, 'h, A: Automaton> FindOverlappingIter<'a, 'h, A> {
@@ -410,8 +295,9 @@ impl<'a, 'h, A: Automaton> FindOverlappingIter<'a, 'h, A> {
         ensures { AnswersUnless (overlapping_iter_refusal (A.built automaton.now) (asked input.entry))
             (listing_begun A.LOOKS (A.built automaton.now) (A.filters automaton.now) (asked input.entry)) result }
     {
-        let begun = start_of(automaton, input.get_anchored())?;
-        if input.get_anchored().is_anchored() {
+        let anchored = input.get_anchored();
+        let begun = start_of(automaton, anchored)?;
+        if anchored.is_anchored() {
             return Err(MatchError::InvalidInputAnchored);
         }
         let reached = if input.is_done() {
@@ -419,14 +305,16 @@ impl<'a, 'h, A: Automaton> FindOverlappingIter<'a, 'h, A> {
         } else {
             Some(Reached::new(begun, input.start()))
         };
+        let scanner = Scanner {
+            automaton,
+            anchored,
+            span: input.get_span(),
+        };
+        let prefilter = scanner.listing_prefilter();
         let (tape, looks) = open(&input);
         Ok(FindOverlappingIter {
-            lister: Lister {
-                automaton,
-                anchored: input.get_anchored(),
-                span: input.get_span(),
-                prefilter: listing_prefilter(automaton, input.get_anchored()),
-            },
+            scanner,
+            prefilter,
             reached,
             credit: Credit::new(),
             tape,
@@ -440,7 +328,8 @@ impl<'a, 'h, A: Automaton> FindOverlappingIter<'a, 'h, A> {
         ensures { ListsNext self.old result self.new }
     {
         let mut reached = self.reached?;
-        let found = self.lister.next(
+        let found = self.scanner.next_item(
+            self.prefilter,
             &mut reached,
             &mut self.credit,
             &mut self.tape,

@@ -9,6 +9,7 @@ ghost use Rattle.ac_util.specs.Refusal.{AnswersUnless};
 ghost use Rattle.ac_util.specs.Walk.{next_match, repeats};
 ghost use Rattle.ac_automaton.specs.Finds.{HasSearched};
 ghost use Rattle.ac_automaton.specs.Iterators.{Finds, GoesOn, after, begun, kept_place, walking_of};
+ghost use Rattle.ac_automaton.specs.Progress.{work_of};
 
 use super::Automaton;
 use super::find::Finder;
@@ -42,16 +43,16 @@ impl<'a, 'h, A: Automaton> Model for FindIter<'a, 'h, A> {
     ghost use Rattle.std.specs.Prelude.{◌≡◌};
     ghost use Rattle.ac_util.specs.Inputs.{asked};
     ghost use Rattle.ac_automaton.specs.Iterators.{IsUnderWay, Walking, walking_of};
+    ghost use Rattle.ac_automaton.specs.Progress.{work_of};
 
     ghost Value = { Walking };
 
-    ghost view = { λ s. walking_of A.LOOKS s.finder (asked s.input) s.last s.from.value s.tape.place s.looks };
+    ghost view = { λ s. walking_of s.finder (asked s.input) s.last s.from.value (work_of s.tape s.looks) };
 
     ghost invariant = { λ s. record {
       anchored : s.finder.anchored ≡ s.input.anchored;
       bytes : s.tape.bytes ≡ s.input.haystack.now;
-      under_way : IsUnderWay (walking_of A.LOOKS s.finder (asked s.input) s.last s.from.value s.tape.place
-          s.looks);
+      under_way : IsUnderWay (walking_of s.finder (asked s.input) s.last s.from.value (work_of s.tape s.looks));
     } };
 }
 
@@ -110,8 +111,8 @@ fn next_left<'h, A: Automaton>(
     ensures next { result ≡ next_match finder.old.order (search_in finder.old.built (asked input.now)) last }
     ensures bytes { tape.new.bytes ≡ (asked input.now).haystack }
     ensures same { finder.new ≡ finder.old }
-    ensures finds { (start : ℕ) → Finds (walking_of A.LOOKS finder.old (asked input.now) last start
-        tape.old.place looks.old) tape.new.place looks.new }
+    ensures finds { (start : ℕ) → Finds (walking_of finder.old (asked input.now) last start
+        (work_of tape.old looks.old)) (work_of tape.new looks.new) }
 {
     let first = find_left(finder, input, tape, looks);
     if !repeats(&first, last) {
@@ -159,10 +160,9 @@ fn find_left<'h, A: Automaton>(
     ensures pick { result ≡ pick finder.old.order (search_in finder.old.built (asked input.now)) }
     ensures bytes { tape.new.bytes ≡ (asked input.now).haystack }
     ensures same { finder.new ≡ finder.old }
-    ensures found { HasSearched A.LOOKS finder.old.filters finder.old.built.kind finder.old.order
-        (search_in finder.old.built (asked input.now)) result
-        (record { bytes = (asked input.now).haystack; place = kept_place finder.old.order tape.old.place })
-        (record { bytes = (asked input.now).haystack; place = tape.new.place }) looks.old looks.new }
+    ensures found { HasSearched finder.old (search_in finder.old.built (asked input.now)) result
+        (record { place = kept_place finder.old.order tape.old.place; counts = looks.old })
+        (work_of tape.new looks.new) }
 {
     if !finder.stops_at_match() {
         let (anew, _looks) = open(input);

@@ -4,10 +4,9 @@ ghost use Rattle.ac_util.specs.Node.{Node};
 ghost use Rattle.ac_util.specs.Pieces.{AreBounds, pieces};
 ghost use Rattle.ac_automaton.specs.Automata.{matches_of};
 ghost use Rattle.ac_automaton.specs.Readers.{AreNodes};
-ghost use Rattle.ac_automaton.specs.Overlaps.{is_due};
 ghost use Rattle.ac_engines.specs.Layouts.{HasNode, row_lists};
 
-use ac_automaton::automaton::{Automaton, MatchRest};
+use ac_automaton::automaton::{Automaton, MatchRest, is_due};
 use ac_automaton::nfa::noncontiguous::NFA;
 use ac_util::primitives::{PatternID, StateID};
 use ac_util::search::{Anchored, StartKind};
@@ -152,14 +151,4 @@ fn list_of<'a>(listed: &'a [PatternID], bounds: &[usize], row: usize) -> &'a [Pa
 {
     let (_before, list) = listed[..bounds[row + 1]].split_at(bounds[row]);
     list
-}
-
-/// Returns whether a match of this length counts at a state of this depth: in an anchored search it has to be as long.
-fn is_due(anchored: Anchored, len: usize, depth: usize) -> bool
-    ensures { result ≡ is_due anchored len depth }
-{
-    match anchored {
-        Anchored::No => true,
-        Anchored::Yes => len == depth,
-    }
 }

@@ -1,0 +1,30 @@
+use Rattle.std.proofs.Common.{◌≡◌, ◌-◌, ◌≤◌}
+use Rattle.std.specs.Prelude.{IfSome}
+use Rattle.ac_util.specs.declared.search.MatchKind.TheVariants.{Standard}
+use Rattle.ac_util.specs.Pick.{pick}
+use Rattle.ac_automaton.specs.Progress.{Work, work_of}
+use Rattle.ac_automaton.specs.Scans.{scan_by, IsAt, Scan, ScanText, ScansTo, in_memory}
+use Rattle.ac_automaton.proofs.FindLoop.{order, up_to}
+use Rattle.ac_automaton.proofs.automaton.scan.Scanner.find_on.Given as goal
+
+-- the scan has come to the cursor, and what was picked so far is in hand: under Standard it ends there
+abbrev pub invariant-loop-state : goal.invariant-loop-state
+invariant-loop-state g l =
+    let A = g.A.Automaton in
+    let s : Scan =
+    scan_by (A.stands l.self.automaton.now) (A.listed l.self.automaton.now) (A.built l.self.automaton.now) A.LOOKS
+    (A.filters l.self.automaton.now) l.self.anchored in
+    let t : ScanText = in_memory l.fn.tape.bytes l.self.span in record {
+      bytes : l.tape.bytes ≡ l.fn.tape.bytes;
+      unread : l.tape.place ≤ l.at;
+      within : l.at ≤ l.self.span.end;
+      is_at : IsAt s t l.state l.at;
+      scans : (begun : Work) → ScansTo s t l.self.span.start begun l.fn.cursor.at (work_of l.fn.tape l.fn.looks)
+          → ScansTo s t l.self.span.start begun l.at (work_of l.tape l.looks);
+      picked : l.last ≡ pick (order s l.stops l.fn.tape.bytes l.self.span)
+          (up_to s l.stops l.fn.tape.bytes l.self.span l.at);
+      ends : order s l.stops l.fn.tape.bytes l.self.span ≡ Standard → IfSome l.last (λ m. m.end ≡ l.at);
+    }
+
+abbrev pub decreases-loop-state : goal.decreases-loop-state
+decreases-loop-state g l = l.self.span.end - l.at

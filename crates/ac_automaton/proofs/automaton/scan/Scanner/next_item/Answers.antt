@@ -1,0 +1,176 @@
+use Rattle.std.proofs.Common.{◌≡◌, ◌≢◌, ◌⊎◌, ◌<◌, ◌≤◌, [], ap, sym, subst, ◌∙◌, inl, inr, arith, Option, None}
+use Rattle.std.proofs.lemmas.Bool.{false≢true}
+use Rattle.ac_util.specs.Counts.{Counts, Taped}
+use Rattle.ac_util.specs.Occurrence.{Occurrence}
+use Rattle.ac_automaton.specs.declared.automaton.overlap.Reached.{Reached}
+use Rattle.ac_automaton.specs.declared.automaton.scan.Cursor.{Cursor}
+use Rattle.ac_automaton.specs.Overlaps.{HasGiven, HasMoved, due_in, given_in}
+use Rattle.ac_automaton.specs.Progress.{work_of}
+use Rattle.ac_automaton.specs.Scans.{IsAlive, PassesNoMatch, Scan, ScanText, ScansTo, in_memory, node, scan_by, search_through}
+use Rattle.ac_automaton.proofs.ListLoop.{HasComeOn, come-on, has-moved}
+use Rattle.ac_automaton.proofs.ReadOn.{scans-on}
+use Rattle.ac_automaton.proofs.automaton.scan.Scanner.next_item.Given.{Over}
+use Rattle.ac_automaton.proofs.automaton.scan.Scanner.next_item.Goals.{After-new, After-take_due}
+use Rattle.ac_automaton.proofs.automaton.scan.Scanner.next_item.Goals.{in-Some-prefilter, in_default-prefilter, then-here-self-via-then-here-self, then-here-self-via-else-here-self+then-is_dead}
+use Rattle.ac_automaton.proofs.automaton.scan.Scanner.next_item.Goals as goal
+
+-- what is given where the listing has come to
+module _ (g : Over) (c : After-take_due g) where
+  abbrev s : Scan
+  s =
+      let automaton = c.args.self.now.automaton.now in
+      scan_by (g.A.Automaton.stands automaton) (g.A.Automaton.listed automaton) (g.A.Automaton.built automaton)
+      g.A.Automaton.LOOKS (g.A.Automaton.filters automaton) c.args.self.now.anchored
+
+  abbrev t : ScanText
+  t = in_memory c.args.tape.now.bytes c.args.self.now.span
+
+  gave : HasGiven s t c.loop-found.reached c.take_due.result c.take_due.new.reached
+  gave = c.take_due.ensures c.args.tape.now.bytes c.loop-found.invariant.on.leaves
+
+  -- it is the next item, and so is None at the end
+  moved : (c.take_due.result ≡ None
+      → (c.loop-found.reached.at ≡ c.args.self.now.span.end) ⊎ (node s t c.loop-found.reached.at ≡ None))
+      → HasMoved s t c.args.reached.now c.take_due.result c.take_due.new.reached
+  moved over =
+      has-moved s c.args.tape.now.bytes c.args.self.now.span c.loop-found.invariant.on.leaves c.args.reached.now
+      c.take_due.result c.take_due.new.reached c.requires.listed.standard c.requires.listed.inside
+      c.loop-found.invariant.on.as_many gave over
+
+  -- where none is given the listing stays
+  stayed : c.take_due.result ≡ None
+      → (due_in s.listed (search_through s t) c.loop-found.reached ≡ []) × (c.take_due.new.reached ≡ c.loop-found.reached)
+  stayed none =
+      (subst (λ (r : Option Occurrence). HasGiven s t c.loop-found.reached r c.take_due.new.reached) none gave).due
+
+pub returns-in-Some-clause-moved : goal.returns-in-Some-clause-moved
+returns-in-Some-clause-moved g c =
+    let d = (goal.at.returns-in-Some-clause-moved g c).After-take_due in
+    subst (λ (r : Option Occurrence). HasMoved (s g d) (t g d) c.args.reached.now r c.take_due.new.reached) c.in-Some.is
+    (moved g d (λ none. let both = sym c.in-Some.is ∙ none in absurd (cc)))
+
+pub returns-then-here-self-clause-moved : goal.returns-then-here-self-clause-moved
+returns-then-here-self-clause-moved g c =
+    let d = (goal.at.returns-then-here-self-clause-moved g c).After-take_due in
+    let on = c.loop-found.invariant.on.leaves in
+    let same = (stayed g d c.in_default.is).1 in
+    let at = ap (λ (r : Reached). r.at) same in
+    subst (λ (r : Option Occurrence). HasMoved (s g d) (t g d) c.args.reached.now r c.take_due.new.reached)
+    c.in_default.is
+    (moved g d (λ none. elim c.then-here-self.branch [
+      | then-here-self-via-then-here-self w ↦
+          let over = w.if-here-self.true in let within = on.within in inl (omega arith)
+      | then-here-self-via-else-here-self+then-is_dead w ↦
+          inr ((w.is_dead.ensures c.args.self.now.anchored _
+          (subst (λ (r : Reached). (s g d).stands r.state (node (s g d) (t g d) c.loop-found.reached.at)) (sym same)
+          on.reaches.there)).0 w.if-is_dead.true)
+    ]))
+
+-- where nothing is due and it isn't dead its scan may read on
+alive : (g : Over) (c : After-take_due g) → c.take_due.result ≡ None
+    → ((u : _) → g.A.Automaton.stands c.args.self.now.automaton.now c.args.self.now.anchored c.take_due.new.reached.state u
+    → u ≢ None)
+    → IsAlive (s g c) (t g c) (record { state = c.take_due.new.reached.state; at = c.take_due.new.reached.at })
+alive g c none living =
+    let same = (stayed g c none).1 in
+    subst (λ (r : Reached). IsAlive (s g c) (t g c) (record { state = r.state; at = r.at })) (sym same)
+    (record {
+      is_at = c.loop-found.invariant.on.leaves.reaches;
+      living = living _
+          (subst (λ (r : Reached). (s g c).stands r.state (node (s g c) (t g c) c.loop-found.reached.at)) (sym same)
+          c.loop-found.invariant.on.leaves.reaches.there);
+    })
+
+pub skip_on-ahead-requires-clause-alive : goal.skip_on-ahead-requires-clause-alive
+skip_on-ahead-requires-clause-alive g c =
+    let d = (goal.at.skip_on-ahead-requires-clause-alive g c).After-take_due in (
+      _,
+      sym c.loop-found.invariant.bytes,
+      alive g d c.in_default.is
+          (λ u there dead. false≢true (sym c.if-is_dead.false ∙ (c.is_dead.ensures c.args.self.now.anchored u there).1 dead)),
+    )
+
+pub read_ahead-ahead-requires-clause-alive : goal.read_ahead-ahead-requires-clause-alive
+read_ahead-ahead-requires-clause-alive g c =
+    let d = (goal.at.read_ahead-ahead-requires-clause-alive g c).After-take_due in (
+      _,
+      sym c.loop-found.invariant.bytes,
+      alive g d c.in_default.is
+          (λ u there dead. false≢true (sym c.if-is_dead.false ∙ (c.is_dead.ensures c.args.self.now.anchored u there).1 dead)),
+    )
+
+-- where it has read on, by skipping or without
+module _ (g : Over) (c : After-new g) where
+  abbrev scan : Scan
+  scan =
+      let automaton = c.args.self.now.automaton.now in
+      scan_by (g.A.Automaton.stands automaton) (g.A.Automaton.listed automaton) (g.A.Automaton.built automaton)
+      g.A.Automaton.LOOKS (g.A.Automaton.filters automaton) c.args.self.now.anchored
+
+  abbrev text : ScanText
+  text = in_memory c.args.tape.now.bytes c.args.self.now.span
+
+  -- what is known of where it has come to
+  record Came (cursor : Cursor) (tape : Taped) (counts : Counts) : Type 0 where
+    same : tape.bytes ≡ c.loop-found.tape.bytes
+    moved : c.take_due.new.reached.at < cursor.at
+    within : cursor.at ≤ c.args.self.now.span.end
+    passed : PassesNoMatch scan text c.take_due.new.reached.at (work_of c.loop-found.tape c.loop-found.looks) cursor
+        (work_of tape counts)
+
+  came-as : {cursor joined : Cursor} {tape new_tape : Taped} {counts new_counts : Counts} → joined ≡ cursor
+      → new_tape ≡ tape → new_counts ≡ counts → Came cursor tape counts → Came joined new_tape new_counts
+  came-as {cursor} {joined} {tape} {new_tape} {counts} {new_counts} there taped counted came =
+      subst (λ (k : Cursor). Came k new_tape new_counts) (sym there)
+      (subst (λ (n : Taped). Came cursor n new_counts) (sym taped) (subst (Came cursor tape) (sym counted) came))
+
+  came : IsAlive scan text (record { state = c.take_due.new.reached.state; at = c.take_due.new.reached.at })
+      → Came c.match-prefilter.ahead c.match-prefilter.tape c.match-prefilter.looks
+  came alive = elim c.match-prefilter.branch [
+    | in-Some-prefilter w ↦
+        let ahead = w.skip_on-ahead.ensures in
+        came-as w.ahead-is w.tape-is w.looks-is (record {
+          same = ahead.bytes;
+          moved = ahead.moved;
+          within = ahead.within;
+          passed = ahead.reads text (sym c.loop-found.invariant.bytes) alive;
+        })
+    | in_default-prefilter w ↦
+        let ahead = w.read_ahead-ahead.ensures in
+        came-as w.ahead-is w.tape-is w.looks-is (record {
+          same = ahead.bytes;
+          moved = ahead.moved c.if-here-self.false;
+          within = ahead.within;
+          passed = ahead.reads text (sym c.loop-found.invariant.bytes) alive;
+        })
+  ]
+
+-- what is due there is still to be given, and nothing was given since
+pub loop-found-preserved : goal.loop-found-preserved
+loop-found-preserved g c =
+    let d = (goal.at.loop-found-preserved g c).After-take_due in
+    let inv = c.loop-found.invariant in
+    let bytes = c.args.tape.now.bytes in
+    let span = c.args.self.now.span in
+    let stayed = stayed g d c.in_default.is in
+    let came = came g c (alive g d c.in_default.is
+    (λ u there dead. false≢true (sym c.if-is_dead.false ∙ (c.is_dead.ensures c.args.self.now.anchored u there).1 dead))) in
+    let on = come-on (s g d) bytes span c.requires.listed.standard c.requires.listed.inside (gave g d).leaves
+    (ap (due_in (s g d).listed (search_through (s g d) (t g d))) stayed.1 ∙ stayed.0) came.passed came.within came.moved
+    (g.met.A.Automaton.lists c.args.self.now.automaton.now c.args.self.now.anchored c.match-prefilter.ahead.state _
+    came.passed.is_at.there) in
+    let Scans : Reached → Reached → Type 0 =
+    λ from to. ScansTo (s g d) (t g d) from.at (work_of c.loop-found.tape c.loop-found.looks) to.at
+    (work_of c.match-prefilter.tape c.match-prefilter.looks) in
+    record {
+      bytes = came.same ∙ inv.bytes;
+      on = subst (HasComeOn (s g d) bytes span c.args.reached.now) (sym c.new.ensures) (record {
+        leaves = on.leaves;
+        as_many = on.as_many
+            ∙ ap (given_in (s g d).listed (search_through (s g d) (t g d))) stayed.1 ∙ inv.on.as_many;
+      });
+      scans = scans-on inv.scans
+          (subst (Scans c.loop-found.reached) (sym c.new.ensures)
+          (subst (λ (r : Reached). ScansTo (s g d) (t g d) r.at (work_of c.loop-found.tape c.loop-found.looks)
+          c.match-prefilter.ahead.at (work_of c.match-prefilter.tape c.match-prefilter.looks)) stayed.1 came.passed.scans));
+    }

@@ -1,0 +1,62 @@
+use Rattle.std.proofs.Common.{◌≡◌, ◌≤◌, ℕ, List, length, refl, ap, sym, subst, inl, inr, arith}
+use Rattle.memchr.specs.Find.{Nowhere, Passes}
+use Rattle.ac_util.specs.Prefilters.{Skip, Tells, is_one_of}
+use Rattle.ac_automaton.specs.Scans.{scan_by, IsAt, Scan, ScanText, StaysAtStart}
+use Rattle.ac_automaton.proofs.Skipping.{IsTold, nowhere-led, stays, told-none}
+use Rattle.ac_automaton.proofs.automaton.scan.Scanner.skip.Given.{Over}
+use Rattle.ac_automaton.proofs.automaton.scan.Scanner.skip.Goals.{After-note, After-scan}
+use Rattle.ac_automaton.proofs.automaton.scan.Scanner.skip.Goals as goal
+
+-- away from its start it stays where it is
+pub returns-then-not-is_start-clause-skipped : goal.returns-then-not-is_start-clause-skipped
+returns-then-not-is_start-clause-skipped g c = λ t same is_at. inl (refl, refl)
+
+module _ (g : Over) (c : After-scan g) where
+  abbrev scan : Scan
+  scan =
+      let automaton = c.args.self.now.automaton.now in
+      scan_by (g.A.Automaton.stands automaton) (g.A.Automaton.listed automaton) (g.A.Automaton.built automaton)
+      g.A.Automaton.LOOKS (g.A.Automaton.filters automaton) c.args.self.now.anchored
+
+  -- at its start it goes on over bytes with which no pattern begins
+  stays-there : (to : ℕ) → to ≤ c.args.self.now.span.end
+      → Nowhere (Passes (is_one_of c.requires.skips.bytes) c.args.tape.now.bytes) c.args.cursor.at to
+      → (t : ScanText) → t.bytes ≡ c.args.tape.now.bytes → IsAt scan t c.args.cursor.state c.args.cursor.at
+      → StaysAtStart scan t c.args.cursor.at to
+  stays-there to within none t same is_at =
+      let long = ap (length {A = ℕ}) same in
+      stays c.requires.skips t c.args.cursor.at to is_at.onward (omega (arith, long, within, c.requires.inside))
+      (subst (λ (bs : List ℕ). Nowhere (Passes (is_one_of c.requires.skips.bytes) bs) c.args.cursor.at to) (sym same) none)
+      ((c.is_start.ensures c.args.self.now.anchored _ is_at.there).0 c.if-not-is_start.false)
+
+-- the prefilter has led to a place
+led : (g : Over) (c : After-note g) → IsTold c.requires.skips.bytes c.args.tape.now.bytes c.args.cursor.at
+    c.args.self.now.span.end c.in-PossibleStart.place
+led g c =
+    nowhere-led _ c.requires.skips.bytes c.args.tape.now.bytes c.args.cursor.at c.args.self.now.span.end
+    c.in-PossibleStart.place c.scan.result c.requires.skips.by_bytes c.in-PossibleStart.is c.scan.ensures.tells
+
+pub returns-in-PossibleStart-clause-within : goal.returns-in-PossibleStart-clause-within
+returns-in-PossibleStart-clause-within g c = (led g c).within
+
+pub returns-in-PossibleStart-clause-skipped : goal.returns-in-PossibleStart-clause-skipped
+returns-in-PossibleStart-clause-skipped g c =
+    let s = (goal.at.returns-in-PossibleStart-clause-skipped g c).After-scan in
+    let led = led g c in
+    let within = led.within in
+    λ t same is_at.
+    inr (led.onward, stays-there g s c.in-PossibleStart.place (omega arith) led.none t same is_at, c.scan.ensures.counted)
+
+pub returns-in-None : goal.returns-in-None
+returns-in-None g c =
+    let s = (goal.at.returns-in-None g c).After-scan in
+    let none = told-none c.requires.skips.bytes c.args.tape.now.bytes c.args.cursor.at c.args.self.now.span.end
+    c.scan.result c.in-None.is
+    (subst (λ (k : Skip). Tells k c.args.tape.now.bytes c.args.cursor.at c.args.self.now.span.end c.scan.result)
+    c.requires.skips.by_bytes c.scan.ensures.tells) in
+    let before = c.requires.before_end in
+    record {
+      within = tt;
+      skipped = λ t same is_at.
+          inr (omega arith, stays-there g s c.args.self.now.span.end (omega arith) none t same is_at, c.scan.ensures.counted);
+    }
