@@ -18,8 +18,8 @@ use Rattle.ac_util.proofs.Walks.{pick-in_span}
 use Rattle.ac_util.proofs.OneLonger.{pick-empty_none, pick-empty_some, none-past_end}
 use Rattle.ac_util.proofs.SearchLoop.{GoesOn, pick-goes_on, pick-found, pick-stays_dead}
 use Rattle.ac_automaton.specs.Automata.{matches_of}
-use Rattle.ac_automaton.specs.Finders.{Finding}
-use Rattle.ac_automaton.specs.Finds.{place_of, HasSearched, IsDecided, ReadsTo, Tells, finding_by, found_at}
+use Rattle.ac_automaton.specs.Finders.{Picking}
+use Rattle.ac_automaton.specs.Finds.{place_of, HasSearched, IsDecided, ReadsTo, Tells, picking_by, found_at}
 use Rattle.ac_automaton.specs.Progress.{Work, most_looks}
 use Rattle.ac_automaton.specs.Scans.{IsAt, Scan, ScansTo, in_memory, node, search_through}
 use Rattle.ac_automaton.proofs.ReadOn.{read-nothing, read-scanned}
@@ -54,11 +54,11 @@ goes_on-none kind order r P (inr first) standard =
     subst (λ (x : Option Occurrence). IfSome x P) (sym first.1) tt
 
 -- where a span starts past its end nothing is found, and nothing done
-pub searched-nothing : (finding : Finding) (q : Search) (work : Work)
-    → q.high < q.low → work.place ≤ q.low → HasSearched finding q None work work
-searched-nothing finding q work past unread = record {
-  answer = sym (none-past_end finding.order q past);
-  read = read-nothing (most_looks q.anchored finding.most) (may_skip finding.filters q) q.low q.high work unread;
+pub searched-nothing : (picking : Picking) (q : Search) (work : Work)
+    → q.high < q.low → work.place ≤ q.low → HasSearched picking q None work work
+searched-nothing picking q work past unread = record {
+  answer = sym (none-past_end picking.order q past);
+  read = read-nothing (most_looks q.anchored picking.most) (may_skip picking.filters q) q.low q.high work unread;
   tells = tt;
   stops = λ _. tt;
   dead = λ k from below. absurd (omega arith);
@@ -139,7 +139,7 @@ module _ (s : Scan) (stops : Bool) (bytes : List ℕ) (span : Span) where
     pub searched : (r : Option Occurrence) → r ≡ pick order q → at ≤ span.end → r ≡ pick order (up_to at)
         → (order ≡ Standard → IfSome r (λ m. m.end ≡ at))
         → (new_work.counts.calls ≡ work.counts.calls → IsDecided s.built.kind order q r new_work.place)
-        → HasSearched (finding_by s stops) q r work new_work
+        → HasSearched (picking_by s stops) q r work new_work
     searched r answer up picked ends decided =
         let u = scans.unread in
         record {

@@ -20,7 +20,7 @@ use Rattle.ac_util.specs.Search.{Occurs, Search, pattern_of}
 use Rattle.ac_util.proofs.SearchLoop.{GoesOn}
 use Rattle.ac_util.proofs.Walks.{pick-Occurs}
 use Rattle.ac_automaton.specs.declared.automaton.scan.Cursor.{Cursor}
-use Rattle.ac_automaton.specs.Finds.{HasSearched, IsReady, ReadsTo, Tells, finding_by, found_at}
+use Rattle.ac_automaton.specs.Finds.{HasSearched, IsReady, ReadsTo, Tells, picking_by, found_at}
 use Rattle.ac_automaton.specs.Progress.{Work, search_of}
 use Rattle.ac_automaton.specs.Scans.{PassesNoMatch, Scan, in_memory, node, search_through}
 use Rattle.ac_automaton.specs.Skipping.{SkipsByNeedle}
@@ -114,7 +114,7 @@ module _ (s : Scan) (bytes : List ℕ) (span : Span) {skip : Skip} (by : SkipsBy
   pub searched-told : (stops : Bool) (r : Option Occurrence)
       → pick (order_of s.built.kind stops) (search_over s.built.fold s.built.patterns bytes span.start span.end) ≡ r
       → span.start < span.end → place ≤ span.start
-      → HasSearched (finding_by s stops) searched r before after
+      → HasSearched (picking_by s stops) searched r before after
   searched-told stops r answer some_bytes unread =
       let c = calls in
       let reads = ap (λ (c : Counts). c.reads) counted in

@@ -14,7 +14,7 @@ use Rattle.ac_util.specs.Sizes.{shortest_len}
 use Rattle.ac_util.specs.Walk.{next_match, repeats, unless_repeated, walk_after}
 use Rattle.ac_util.proofs.OneLonger.{none-past_end}
 use Rattle.ac_util.proofs.Walks.{next-in_span, pick-in_span, pick-Occurs, walk_after-None, walk_after-Some}
-use Rattle.ac_automaton.specs.Finders.{Finding}
+use Rattle.ac_automaton.specs.Finders.{Picking}
 use Rattle.ac_automaton.specs.Finds.{HasSearched}
 use Rattle.ac_automaton.specs.Iterators.{Finds, GoesOn, HasFound, IsUnderWay, Walking, after, kept_place, last_after}
 use Rattle.ac_automaton.specs.Progress.{Work, most_looks}
@@ -39,22 +39,22 @@ kept LeftmostLongest place = (omega arith, λ standard. absurd (cc))
 
 -- a find has found an empty match again at the low end of its span: some pattern is empty, and under Standard it
 -- has read nothing of what is left and called no prefilter
-pub record HasRepeated (finding : Finding) (q : Search) (work new_work : Work) : Type 0 where
+pub record HasRepeated (picking : Picking) (q : Search) (work new_work : Work) : Type 0 where
   pub room : q.low ≤ q.high
   pub shortest : shortest_len q.patterns ≡ 0
-  pub place : finding.order ≡ Standard → new_work.place ≤ max work.place q.low
-  pub calls : finding.order ≡ Standard → new_work.counts.calls ≤ work.counts.calls
+  pub place : picking.order ≡ Standard → new_work.place ≤ max work.place q.low
+  pub calls : picking.order ≡ Standard → new_work.counts.calls ≤ work.counts.calls
 
 -- so it is where what was found repeats the match before, which ended no later than the span starts
-pub repeated : {finding : Finding} {q : Search} {r : Option Occurrence} {work new_work : Work} (last : Option ℕ)
-    → HasSearched finding q r work new_work → IfSome last (λ e. e ≤ q.low) → repeats r last ≡ true
-    → HasRepeated finding q work new_work
+pub repeated : {picking : Picking} {q : Search} {r : Option Occurrence} {work new_work : Work} (last : Option ℕ)
+    → HasSearched picking q r work new_work → IfSome last (λ e. e ≤ q.low) → repeats r last ≡ true
+    → HasRepeated picking q work new_work
 repeated {r = None} last found behind again = absurd (cc)
 repeated {r = Some m} None found behind again = absurd (cc)
-repeated {finding = finding} {q = q} {r = Some m} (Some e) found behind again =
+repeated {picking = picking} {q = q} {r = Some m} (Some e) found behind again =
     let both = and_parts (m.start == m.end) (m.end == e) again in
     let empty = eqb-true m.start m.end both.0 in let ends = eqb-true m.end e both.1 in
-    let o = pick-Occurs finding.order q m (sym found.answer) in
+    let o = pick-Occurs picking.order q m (sym found.answer) in
     let least = shortest-least q.patterns m.pattern o.numbered in
     record {
       room = omega arith;
@@ -72,7 +72,7 @@ after-within order q last (Some m) e = let h = next-in_span order q last m (sym 
 -- a walk that goes on at a place, after a match that ended at `last`
 abbrev pub going_on : Walking → ℕ → Option ℕ → Work → Walking
 going_on walking stop last work = record walking {
-  rest = walk_after walking.finding.order (from walking.left stop) last;
+  rest = walk_after walking.picking.order (from walking.left stop) last;
   left = from walking.left stop;
   last = last;
   work = work;
@@ -88,9 +88,9 @@ record MayGoOn (walking : Walking) (work : Work) (stop : ℕ) (last : Option ℕ
   onward : walking.left.low ≤ stop
   legal : stop ≤ walking.left.high + 1
   behind : IfSome last (λ e. e ≤ stop)
-  place : walking.finding.order ≡ Standard
-      → work.place ≤ max (kept_place walking.finding.order walking.work.place) stop
-  calls : walking.finding.order ≡ Standard
+  place : walking.picking.order ≡ Standard
+      → work.place ≤ max (kept_place walking.picking.order walking.work.place) stop
+  calls : walking.picking.order ≡ Standard
       → work.counts.calls ≤ walking.work.counts.calls + (min stop walking.left.high - walking.left.low)
   covered : work.counts.calls ≡ walking.work.counts.calls → 0 < shortest_len walking.left.patterns
       → stop ≤ walking.left.high → walking.work.counts.reads + (stop - walking.left.low) ≤ work.counts.reads
@@ -102,11 +102,11 @@ under_way-on : {walking : Walking} {work : Work} {r : Option Occurrence} {stop :
     → IsUnderWay walking → HasFound walking walking.left r walking.work work → MayGoOn walking work stop last
     → IsUnderWay (going_on walking stop last work)
 under_way-on {walking = walking} {work = work} way found may =
-    let read = found.read in let k = kept walking.finding.order walking.work.place in
+    let read = found.read in let k = kept walking.picking.order walking.work.place in
     record {
       paid = record {
         looked = omega arith;
-        looks = paid_total (most_looks walking.left.anchored walking.finding.most) walking.work.counts.reads
+        looks = paid_total (most_looks walking.left.anchored walking.picking.most) walking.work.counts.reads
             work.counts.reads walking.work.counts.looks work.counts.looks (omega arith) (omega arith) (omega arith);
         reads = λ standard. omega (arith, way.reads standard, k.1 standard);
         calls = λ standard. omega (arith, way.called standard);
@@ -144,7 +144,7 @@ under_way-further {walking = walking} way found again =
 under_way-found : {walking : Walking} {work : Work} {r : Option Occurrence} → IsUnderWay walking
     → HasFound walking walking.left r walking.work work → IsUnderWay (next walking r work)
 under_way-found {walking = walking} {r = None} way found =
-    let read = found.read in let k = kept walking.finding.order walking.work.place in
+    let read = found.read in let k = kept walking.picking.order walking.work.place in
     under_way-on way found (record {
       onward = omega arith;
       legal = omega arith;
@@ -155,7 +155,7 @@ under_way-found {walking = walking} {r = None} way found =
       told = λ none some. IfSome_then walking.last (way.paid.told (omega arith) some) (λ e t. omega arith);
     })
 under_way-found {walking = walking} {r = Some m} way found =
-    let read = found.read in let span = pick-in_span walking.finding.order walking.left m (sym found.answer) in
+    let read = found.read in let span = pick-in_span walking.picking.order walking.left m (sym found.answer) in
     under_way-on way found (record {
       onward = omega arith;
       legal = omega arith;
@@ -187,18 +187,18 @@ pub record HasGone (walking : Walking) (r : Option Occurrence) (new_walking : Wa
 
 -- it has gone on where the next match is found by one find or by two
 pub has-gone : {walking : Walking} {work : Work} {r : Option Occurrence} → IsUnderWay walking
-    → walking.rest ≡ walk_after walking.finding.order walking.left walking.last
-    → r ≡ next_match walking.finding.order walking.left walking.last → Finds walking work
+    → walking.rest ≡ walk_after walking.picking.order walking.left walking.last
+    → r ≡ next_match walking.picking.order walking.left walking.last → Finds walking work
     → HasGone walking r (next walking r work)
 has-gone {walking = walking} {work = work} {r = r} way rest is finds =
     let still : IsUnderWay (next walking r work) =
-    elim (cases_Bool (repeats (pick walking.finding.order walking.left) walking.last)) [
+    elim (cases_Bool (repeats (pick walking.picking.order walking.left) walking.last)) [
       | inl again ↦ let both = rw again at finds in
           rw (is, again) (under_way-found (under_way-further way both.1 again) both.2)
       | inr once ↦ rw (is, once) (under_way-found way (rw once at finds))
     ] in record {
       goes_on = record {
-        gives = rw rest (gives walking.finding.order walking.left walking.last r is);
+        gives = rw rest (gives walking.picking.order walking.left walking.last r is);
         next = is;
         same = refl;
         finds = finds;

@@ -13,7 +13,7 @@ use Rattle.ac_util.specs.Prefilters.{may_skip}
 use Rattle.ac_util.specs.Search.{Search, pattern_of}
 use Rattle.ac_automaton.specs.declared.automaton.scan.Cursor.{Cursor}
 use Rattle.ac_automaton.specs.Automata.{matches_of}
-use Rattle.ac_automaton.specs.Finders.{Finding}
+use Rattle.ac_automaton.specs.Finders.{Picking, picking_of}
 use Rattle.ac_automaton.specs.Progress.{HasRead, StopsAtDead, Work, most_looks, node_at}
 use Rattle.ac_automaton.specs.Scans.{IsAt, Scan, ScanText, node, search_through}
 
@@ -47,14 +47,14 @@ IsDecided kind order q found place =
 
 -- a find has answered: what it has done to its tape and its counts. One that stops at the first match has read nothing
 -- past its end, and none has read from the dead node on; and unless it called the prefilter it has read enough
-pub record HasSearched (finding : Finding) (q : Search) (found : Option Occurrence) (work new_work : Work) : Type 0 where
-  pub answer : found ≡ pick finding.order q
-  pub read : HasRead (most_looks q.anchored finding.most) (may_skip finding.filters q) q.low q.high work new_work
+pub record HasSearched (picking : Picking) (q : Search) (found : Option Occurrence) (work new_work : Work) : Type 0 where
+  pub answer : found ≡ pick picking.order q
+  pub read : HasRead (most_looks q.anchored picking.most) (may_skip picking.filters q) q.low q.high work new_work
   pub tells : IfSome found (Tells q.low work new_work)
-  pub stops : finding.order ≡ Standard → IfSome found (ReadsTo q.low work new_work)
-  pub dead : StopsAtDead finding.built.kind q new_work.place
+  pub stops : picking.order ≡ Standard → IfSome found (ReadsTo q.low work new_work)
+  pub dead : StopsAtDead picking.kind q new_work.place
   pub decided : new_work.counts.calls ≡ work.counts.calls
-      → IsDecided finding.built.kind finding.order q found new_work.place
+      → IsDecided picking.kind picking.order q found new_work.place
 
 -- where a pattern stands that ends at a place
 abbrev pub place_of : Built → ℕ → ℕ → Occurrence
@@ -80,15 +80,9 @@ FindsAt s start cursor found =
     (u : Node) → s.stands cursor.state u → FitsIn s.anchored u start cursor.at
     → found ≡ found_at s.built s.anchored u cursor.at
 
--- the find of a scan that stops at the first match, or not
-abbrev pub finding_by : Scan → Bool → Finding
-finding_by s stops = record {
-  built = s.built;
-  most = s.most;
-  filters = s.filters;
-  anchored = s.anchored;
-  order = order_of s.built.kind stops;
-}
+-- how a scan's finds are made that stop at the first match, or not
+abbrev pub picking_by : Scan → Bool → Picking
+picking_by s stops = picking_of s.most s.built.kind s.filters stops
 
 -- a find may read on from here: of the text so far it picks what the node finds
 pub record IsReady (s : Scan) (t : ScanText) (stops : Bool) (cursor : Cursor) : Type 0 where

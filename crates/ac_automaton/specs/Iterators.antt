@@ -11,7 +11,7 @@ use Rattle.ac_util.specs.Walk.{next_match, repeats, walk_after}
 use Rattle.ac_util.specs.Asked.{Asked}
 use Rattle.ac_util.specs.Pick.{pick}
 use Rattle.ac_util.specs.Prefilters.{may_skip}
-use Rattle.ac_automaton.specs.Finders.{Finding, finding_of}
+use Rattle.ac_automaton.specs.Finders.{Finding, Picking, picking_of}
 use Rattle.ac_automaton.specs.Finds.{HasSearched}
 use Rattle.ac_automaton.specs.Progress.{Work, most_looks, nothing_done}
 
@@ -19,7 +19,7 @@ use Rattle.ac_automaton.specs.Progress.{Work, most_looks, nothing_done}
 -- there was one; where the whole span began; and what was done so far
 pub record Walking : Type 0 where
   pub rest : List Occurrence
-  pub finding : Finding
+  pub picking : Picking
   pub left : Search
   pub last : Option ℕ
   pub start : ℕ
@@ -28,8 +28,8 @@ pub record Walking : Type 0 where
 -- a walk by these finds, which has come to this input after a match that ended at `last`
 abbrev pub walking_of : Finding → Asked → Option ℕ → ℕ → Work → Walking
 walking_of finding asked last start work = record {
-  rest = walk_after finding.order (search_in finding.built asked) last;
-  finding = finding;
+  rest = walk_after finding.picking.order (search_in finding.built asked) last;
+  picking = finding.picking;
   left = search_in finding.built asked;
   last = last;
   start = start;
@@ -39,7 +39,11 @@ walking_of finding asked last start work = record {
 -- a walk that begins: all its matches are still to come
 abbrev pub begun : ℕ → Built → Bool → Asked → Walking
 begun most built filters asked =
-    walking_of (finding_of most built filters asked) asked None asked.start nothing_done
+    walking_of (record {
+      built = built;
+      anchored = asked.anchored;
+      picking = picking_of most built.kind filters asked.earliest;
+    }) asked None asked.start nothing_done
 
 -- where a walk in a span with this end goes on once a find has answered: at the end of the match, or past that of
 -- the span
@@ -62,18 +66,18 @@ kept_place LeftmostLongest place = 0
 -- a find of a walk in a span has answered
 abbrev pub HasFound : Walking → Search → Option Occurrence → Work → Work → Type 0
 HasFound walking q found work new_work =
-    HasSearched walking.finding q found (record work { place = kept_place walking.finding.order work.place }) new_work
+    HasSearched walking.picking q found (record work { place = kept_place walking.picking.order work.place }) new_work
 
 -- a walk takes one find for a match; or two, where the first finds an empty match again where the one before it
 -- ended: then the second is made one place further on
 abbrev pub Finds : Walking → Work → Type 0
 Finds walking new_work =
-    MatchBool (repeats (pick walking.finding.order walking.left) walking.last)
+    MatchBool (repeats (pick walking.picking.order walking.left) walking.last)
     ((work : Work)
-    × HasFound walking walking.left (pick walking.finding.order walking.left) walking.work work
+    × HasFound walking walking.left (pick walking.picking.order walking.left) walking.work work
     × HasFound walking (from walking.left (walking.left.low + 1))
-    (pick walking.finding.order (from walking.left (walking.left.low + 1))) work new_work)
-    (HasFound walking walking.left (pick walking.finding.order walking.left) walking.work new_work)
+    (pick walking.picking.order (from walking.left (walking.left.low + 1))) work new_work)
+    (HasFound walking walking.left (pick walking.picking.order walking.left) walking.work new_work)
 
 -- what a walk has counted since it was made: for each byte read it has looked at states at least once and at
 -- most `most` times on the whole, or where it is anchored exactly once; under Standard it has read each byte of
@@ -82,10 +86,10 @@ Finds walking new_work =
 -- last match
 pub record IsPaid (walking : Walking) : Type 0 where
   pub looked : walking.work.counts.reads ≤ walking.work.counts.looks
-  pub looks : walking.work.counts.looks ≤ most_looks walking.left.anchored walking.finding.most * walking.work.counts.reads
-  pub reads : walking.finding.order ≡ Standard → walking.work.counts.reads ≤ walking.left.high - walking.start
-  pub calls : walking.finding.order ≡ Standard → walking.work.counts.calls ≤ walking.left.high - walking.start
-  pub quiet : may_skip walking.finding.filters walking.left ≡ false → walking.work.counts.calls ≡ 0
+  pub looks : walking.work.counts.looks ≤ most_looks walking.left.anchored walking.picking.most * walking.work.counts.reads
+  pub reads : walking.picking.order ≡ Standard → walking.work.counts.reads ≤ walking.left.high - walking.start
+  pub calls : walking.picking.order ≡ Standard → walking.work.counts.calls ≤ walking.left.high - walking.start
+  pub quiet : may_skip walking.picking.filters walking.left ≡ false → walking.work.counts.calls ≡ 0
   pub told : walking.work.counts.calls ≡ 0 → 0 < shortest_len walking.left.patterns
       → IfSome walking.last (λ e. e - walking.start ≤ walking.work.counts.reads)
 
@@ -93,7 +97,7 @@ pub record IsPaid (walking : Walking) : Type 0 where
 -- it made one find or two, and all that it counted is paid
 pub record GoesOn (walking : Walking) (found : Option Occurrence) (new_walking : Walking) : Type 0 where
   pub gives : YieldsFirst (λ (w : Walking). w.rest) walking found new_walking
-  pub next : found ≡ next_match walking.finding.order walking.left walking.last
+  pub next : found ≡ next_match walking.picking.order walking.left walking.last
   pub same : new_walking ≡ record walking {
     rest = new_walking.rest;
     left = from walking.left (after walking.left.high found);
@@ -110,10 +114,10 @@ pub record IsUnderWay (walking : Walking) : Type 0 where
   pub onward : walking.start ≤ walking.left.low
   pub legal : walking.left.low ≤ walking.left.high + 1
   pub behind : IfSome walking.last (λ e. e ≤ walking.left.low)
-  pub unread : walking.finding.order ≡ Standard → walking.work.place ≤ walking.left.low
+  pub unread : walking.picking.order ≡ Standard → walking.work.place ≤ walking.left.low
   pub within : walking.work.place ≤ walking.left.high
-  pub reads : walking.finding.order ≡ Standard → walking.work.counts.reads ≤ walking.work.place - walking.start
-  pub called : walking.finding.order ≡ Standard
+  pub reads : walking.picking.order ≡ Standard → walking.work.counts.reads ≤ walking.work.place - walking.start
+  pub called : walking.picking.order ≡ Standard
       → walking.work.counts.calls ≤ min walking.left.low walking.left.high - walking.start
   pub covered : walking.work.counts.calls ≡ 0 → 0 < shortest_len walking.left.patterns
       → walking.left.low ≤ walking.left.high → walking.left.low - walking.start ≤ walking.work.counts.reads

@@ -7,7 +7,7 @@ ghost use Rattle.ac_util.specs.Node.{is_leftmost};
 ghost use Rattle.ac_util.specs.Pick.{order_of};
 ghost use Rattle.ac_util.specs.Prefilters.{skip_of};
 ghost use Rattle.ac_util.specs.Refusal.{AnswersUnless, start_refusal};
-ghost use Rattle.ac_automaton.specs.Finders.{finding_of};
+ghost use Rattle.ac_automaton.specs.Finders.{picking_of};
 ghost use Rattle.ac_automaton.specs.Finds.{HasSearched, asked_of};
 ghost use Rattle.ac_automaton.specs.Progress.{search_of, work_of};
 
@@ -49,8 +49,8 @@ pub fn find_core<A: Automaton>(
     requires unread { tape.old.place ≤ start }
     ensures pick { result ≡ found (A.built automaton.now)
         (asked_of tape.old.bytes start end anchored earliest) }
-    ensures searched { HasSearched (finding_of A.LOOKS (A.built automaton.now) (A.filters automaton.now)
-        (asked_of tape.old.bytes start end anchored earliest))
+    ensures searched { HasSearched
+        (picking_of A.LOOKS (A.built automaton.now).kind (A.filters automaton.now) earliest)
         (search_in (A.built automaton.now) (asked_of tape.old.bytes start end anchored earliest)) result
         (work_of tape.old looks.old) (work_of tape.new looks.new) }
     ensures bytes { tape.new.bytes ≡ tape.old.bytes }
@@ -107,17 +107,15 @@ impl<'a, A: Automaton> Model for Finder<'a, A> {
     ghost use Rattle.ac_util.specs.Node.{is_leftmost};
     ghost use Rattle.ac_util.specs.Prefilters.{skip_of};
     ghost use Rattle.ac_util.specs.Refusal.{start_refusal};
-    ghost use Rattle.ac_automaton.specs.Finders.{Finding};
+    ghost use Rattle.ac_automaton.specs.Finders.{Finding, picking_of};
     ghost use Rattle.ac_automaton.specs.Skipping.{Skips};
 
     ghost Value = { Finding };
 
     ghost view = { λ f. record {
       built = A.built f.automaton.now;
-      most = A.LOOKS;
-      filters = A.filters f.automaton.now;
       anchored = f.anchored;
-      order = if f.stops then Standard else (A.built f.automaton.now).kind;
+      picking = picking_of A.LOOKS (A.built f.automaton.now).kind (A.filters f.automaton.now) f.stops;
     } };
 
     ghost invariant = { λ f. record {
@@ -143,10 +141,8 @@ impl<'a, A: Automaton> Finder<'a, A> {
             (λ finder. (start_refusal (A.built automaton.now).start_kind anchored ≡ None)
             × (finder ≡ record {
               built = A.built automaton.now;
-              most = A.LOOKS;
-              filters = A.filters automaton.now;
               anchored = anchored;
-              order = order_of (A.built automaton.now).kind earliest;
+              picking = picking_of A.LOOKS (A.built automaton.now).kind (A.filters automaton.now) earliest;
             }))
             (λ e. start_refusal (A.built automaton.now).start_kind anchored ≡ Some e) }
     {
@@ -169,7 +165,7 @@ impl<'a, A: Automaton> Finder<'a, A> {
     /// Returns whether the first match found is the answer.
     #[inline]
     pub(super) fn stops_at_match(&self) -> bool
-        ensures { IsTrue result ↔ (self.now.order ≡ Standard) }
+        ensures { IsTrue result ↔ (self.now.picking.order ≡ Standard) }
     {
         self.stops
     }
@@ -182,7 +178,7 @@ impl<'a, A: Automaton> Finder<'a, A> {
         requires end_within { span.end ≤ length tape.old.bytes }
         requires start_within { span.start ≤ span.end + 1 }
         requires unread { tape.old.place ≤ span.start }
-        ensures searched { HasSearched self.old
+        ensures searched { HasSearched self.old.picking
             (search_of self.old.built self.old.anchored tape.old.bytes span.start span.end) result
             (work_of tape.old looks.old) (work_of tape.new looks.new) }
         ensures bytes { tape.new.bytes ≡ tape.old.bytes }
@@ -220,7 +216,7 @@ impl<'a, A: Automaton> Scanner<'a, A> {
     ghost use Rattle.ac_util.specs.Counts.{Counts};
     ghost use Rattle.ac_util.specs.Node.{Node};
     ghost use Rattle.ac_automaton.specs.Automata.{IsState};
-    ghost use Rattle.ac_automaton.specs.Finds.{IsAnswered, IsReady, finding_by};
+    ghost use Rattle.ac_automaton.specs.Finds.{IsAnswered, IsReady, picking_by};
     ghost use Rattle.ac_automaton.specs.Progress.{Work};
     ghost use Rattle.ac_automaton.specs.Scans.{ScansTo, in_memory, search_through};
     ghost use Rattle.ac_automaton.specs.Skipping.{SkipsByNeedle};
@@ -244,7 +240,7 @@ impl<'a, A: Automaton> Scanner<'a, A> {
         ensures bytes { tape.new.bytes ≡ tape.old.bytes }
         ensures found { (begun : Work) → ScansTo (⟦<A as Scans>⟧.scan self.now.automaton.now self.now.anchored)
             (in_memory tape.old.bytes self.now.span) self.now.span.start begun cursor.at (work_of tape.old looks.old)
-            → HasSearched (finding_by (⟦<A as Scans>⟧.scan self.now.automaton.now self.now.anchored) stops)
+            → HasSearched (picking_by (⟦<A as Scans>⟧.scan self.now.automaton.now self.now.anchored) stops)
             (search_through (⟦<A as Scans>⟧.scan self.now.automaton.now self.now.anchored) (in_memory tape.old.bytes self.now.span))
             result begun (work_of tape.new looks.new) }
     {
@@ -288,7 +284,7 @@ impl<'a, A: Automaton> Scanner<'a, A> {
         requires inside { self.now.span.end ≤ length tape.now.bytes }
         requires some_bytes { self.now.span.start < self.now.span.end }
         requires unread { tape.now.place ≤ self.now.span.start }
-        ensures { HasSearched (finding_by (⟦<A as Scans>⟧.scan self.now.automaton.now self.now.anchored) stops)
+        ensures { HasSearched (picking_by (⟦<A as Scans>⟧.scan self.now.automaton.now self.now.anchored) stops)
             (search_through (⟦<A as Scans>⟧.scan self.now.automaton.now self.now.anchored) (in_memory tape.now.bytes self.now.span))
             result (work_of tape.now looks.old) (work_of tape.now looks.new) }
     {

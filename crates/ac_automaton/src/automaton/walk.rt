@@ -106,9 +106,9 @@ fn next_left<'h, A: Automaton>(
 ) -> Option<Match>
     requires anchored { finder.old.anchored ≡ (asked input.now).anchored }
     requires bytes { tape.old.bytes ≡ (asked input.now).haystack }
-    requires unread { finder.old.order ≡ Standard → tape.old.place ≤ (asked input.now).start }
+    requires unread { finder.old.picking.order ≡ Standard → tape.old.place ≤ (asked input.now).start }
     requires behind { IfSome last (λ e. e ≤ (asked input.now).start) }
-    ensures next { result ≡ next_match finder.old.order (search_in finder.old.built (asked input.now)) last }
+    ensures next { result ≡ next_match finder.old.picking.order (search_in finder.old.built (asked input.now)) last }
     ensures bytes { tape.new.bytes ≡ (asked input.now).haystack }
     ensures same { finder.new ≡ finder.old }
     ensures finds { (start : ℕ) → Finds (walking_of finder.old (asked input.now) last start
@@ -156,12 +156,12 @@ fn find_left<'h, A: Automaton>(
 ) -> Option<Match>
     requires anchored { finder.old.anchored ≡ (asked input.now).anchored }
     requires bytes { tape.old.bytes ≡ (asked input.now).haystack }
-    requires unread { finder.old.order ≡ Standard → tape.old.place ≤ (asked input.now).start }
-    ensures pick { result ≡ pick finder.old.order (search_in finder.old.built (asked input.now)) }
+    requires unread { finder.old.picking.order ≡ Standard → tape.old.place ≤ (asked input.now).start }
+    ensures pick { result ≡ pick finder.old.picking.order (search_in finder.old.built (asked input.now)) }
     ensures bytes { tape.new.bytes ≡ (asked input.now).haystack }
     ensures same { finder.new ≡ finder.old }
-    ensures found { HasSearched finder.old (search_in finder.old.built (asked input.now)) result
-        (record { place = kept_place finder.old.order tape.old.place; counts = looks.old })
+    ensures found { HasSearched finder.old.picking (search_in finder.old.built (asked input.now)) result
+        (record { place = kept_place finder.old.picking.order tape.old.place; counts = looks.old })
         (work_of tape.new looks.new) }
 {
     if !finder.stops_at_match() {

@@ -7,7 +7,7 @@ use Rattle.ac_util.specs.Counts.{Counts, Taped}
 use Rattle.ac_util.specs.Prefilters.{skip_of}
 use Rattle.ac_automaton.specs.declared.automaton.scan.Cursor.{Cursor}
 use Rattle.ac_automaton.specs.Finders.{Finding}
-use Rattle.ac_automaton.specs.Finds.{HasSearched, IsReady, finding_by}
+use Rattle.ac_automaton.specs.Finds.{HasSearched, IsReady, picking_by}
 use Rattle.ac_automaton.specs.Progress.{search_of, work_of}
 use Rattle.ac_automaton.specs.Scans.{Scan, ScanText, ScansTo, in_memory, scan_by, search_through}
 use Rattle.ac_automaton.specs.Skipping.{Skips}
@@ -20,7 +20,7 @@ use Rattle.ac_automaton.proofs.automaton.find.Finder.find.Goals as goal
 
 pub returns-then-span-clause-searched : goal.returns-then-span-clause-searched
 returns-then-span-clause-searched g c =
-    searched-nothing c.args.self.now
+    searched-nothing c.args.self.now.picking
     (search_of c.args.self.now.built c.args.self.now.anchored c.args.tape.now.bytes c.args.span.start c.args.span.end)
     (work_of c.args.tape.now c.args.looks.now) c.if-span.true c.requires.unread
 
@@ -110,13 +110,13 @@ returns-clause-searched g c =
     let work = work_of c.args.tape.now c.args.looks.now in
     let done = work_of c.find_on.new.tape c.find_on.new.looks in
     let Searched : List ℕ → Type 0 =
-    λ bs. HasSearched (finding_by (s g j) c.self.inside.stops) (search_through (s g j) (in_memory bs c.args.span))
+    λ bs. HasSearched (picking_by (s g j) c.self.inside.stops) (search_through (s g j) (in_memory bs c.args.span))
     c.find_on.result work done in
     let searched : Searched c.args.tape.now.bytes =
     subst Searched may.same
     (c.find_on.ensures.found work
     (subst (λ (bs : List ℕ). ScansTo (s g j) (in_memory bs c.args.span) c.args.span.start work c.match-self.cursor.at
     (work_of c.match-self.tape c.match-self.looks)) (sym may.same) may.scans)) in
-    subst (λ (f : Finding). HasSearched f
+    subst (λ (f : Finding). HasSearched f.picking
     (search_of f.built f.anchored c.args.tape.now.bytes c.args.span.start c.args.span.end) c.find_on.result work done)
     c.self.view_is searched

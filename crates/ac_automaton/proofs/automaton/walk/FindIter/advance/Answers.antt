@@ -14,7 +14,7 @@ pub go_on-requires : goal.go_on-requires
 go_on-requires g c =
     let f = c.self.inside.finder in
     record {
-      within = after-within f.order (search_in f.built (asked c.self.inside.input)) c.self.inside.last
+      within = after-within f.picking.order (search_in f.built (asked c.self.inside.input)) c.self.inside.last
           c.next_left-found.result c.next_left-found.ensures.next;
     }
 
