@@ -37,3 +37,4 @@ pub mod PlainListing
 pub mod PlainWalk
 pub mod PlainReplaced
 pub mod Exchanges
+pub mod Devices

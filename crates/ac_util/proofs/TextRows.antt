@@ -19,7 +19,8 @@ use Rattle.ac_util.specs.Pick.{pick}
 use Rattle.ac_util.specs.Walk.{walk, walk_after}
 use Rattle.ac_util.specs.Replaced.{replaced, whole_characters}
 use Rattle.ac_util.specs.Refusal.{Call, refusal, Find, Replace, OverlappingByState, OverlappingIterator, Stream}
-use Rattle.ac_util.specs.Stream.{stream_search, held}
+use Rattle.ac_util.specs.Built.{Built}
+use Rattle.ac_util.specs.Stream.{held, streamed, without_last}
 use Rattle.ac_util.specs.Sizes.{longest_len}
 use Rattle.ac_util.proofs.SearchRows.{in_text, at_start, append_words, append_text}
 
@@ -38,10 +39,8 @@ text_replaced_until n kind patterns texts haystack =
     replaced haystack texts (take n (whole_characters haystack (walk kind (in_text patterns haystack))))
 
 -- what a stream has written once these bytes were read: the replaced text without the bytes that are held back
-abbrev written : MatchKind → List (List ℕ) → List (List ℕ) → List ℕ → List ℕ
-written kind patterns texts bytes =
-    let whole = bytes_replaced kind patterns texts bytes in
-    take (length whole - held kind patterns false bytes) whole
+abbrev written : Built → List (List ℕ) → List ℕ → List ℕ
+written built texts bytes = without_last (held built bytes) (replaced bytes texts (streamed built bytes))
 
 -- the texts and the patterns that several rows share
 abbrev numbers : List (List ℕ)
@@ -52,6 +51,9 @@ e_acute = 195 ∷ 169 ∷ []
 
 abbrev fox_words : List (List ℕ)
 fox_words = codes "fox" ∷ codes "brown" ∷ codes "quick" ∷ []
+
+abbrev foxes : Built
+foxes = record { patterns = fox_words; fold = false; kind = Standard; start_kind = Unanchored }
 
 abbrev fox_texts : List (List ℕ)
 fox_texts = codes "sloth" ∷ codes "grey" ∷ codes "slow" ∷ []
@@ -135,16 +137,15 @@ unfolding walk_after pick all
 fox-emptied = refl
 
 -- a stream that ends too early: its matches
-fox-found-after-12 : walk Standard (stream_search fox_words false (codes "The quick br"))
-    ≡ occurrence 2 4 9 ∷ []
+fox-found-after-12 : streamed foxes (codes "The quick br") ≡ occurrence 2 4 9 ∷ []
 unfolding walk_after pick all
 fox-found-after-12 = refl
 
 -- what a stream has given, how many bytes of it are held back, and what is written
 abbrev AreStreamed : List (String × ℕ × String) → Type 0
 AreStreamed rows =
-    (map (λ row. held Standard fox_words false (codes row.0)) rows ≡ map (λ row. row.1) rows)
-    × (map (λ row. written Standard fox_words fox_texts (codes row.0)) rows ≡ map (λ row. codes row.2) rows)
+    (map (λ row. held foxes (codes row.0)) rows ≡ map (λ row. row.1) rows)
+    × (map (λ row. written foxes fox_texts (codes row.0)) rows ≡ map (λ row. codes row.2) rows)
 
 -- a sentence as it comes
 fox-streamed : AreStreamed (

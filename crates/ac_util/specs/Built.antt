@@ -9,7 +9,7 @@ use Rattle.ac_util.specs.Occurrence.{Occurrence}
 use Rattle.ac_util.specs.Search.{Search}
 use Rattle.ac_util.specs.Pick.{order_of, pick}
 use Rattle.ac_util.specs.Walk.{walk}
-use Rattle.ac_util.specs.Refusal.{refusal, Find, OverlappingByState, OverlappingIterator, Replace}
+use Rattle.ac_util.specs.Refusal.{refusal, Find, OverlappingByState, OverlappingIterator, Replace, Stream}
 use Rattle.ac_util.specs.Replaced.{whole_characters}
 use Rattle.ac_util.specs.Asked.{Asked, asked_whole, search_for}
 
@@ -61,3 +61,7 @@ overlapping_iter_refusal built asked =
 -- why a replacement is refused, if it is
 abbrev pub replace_refusal : Built → Option MatchError
 replace_refusal built = refusal built.start_kind built.kind Replace (has_empty built)
+
+-- why the search of a stream is refused, if it is
+abbrev pub stream_refusal : Built → Option MatchError
+stream_refusal built = refusal built.start_kind built.kind Stream (has_empty built)

@@ -1,6 +1,9 @@
--- What a read and a write do: which bytes move, and which counts rise.
-use Rattle.std.specs.Prelude.{◌≡◌, ℕ, ◌+◌, ◌<◌, ◌≤◌, Bool, true, ◌&&◌, ◌==◌, nat_lt, List, length, take, Option, IfSome, Result, Ok, MatchResult, min, if◌then◌else◌}
+-- What a read and a write do, and what many of them do: which bytes move, and which counts rise.
+use Rattle.std.specs.Prelude.{◌≡◌, ℕ, ◌+◌, ◌<◌, ◌≤◌, Bool, true, ◌&&◌, ◌==◌, nat_lt, List, ◌++◌, length, take, Option, IfSome, Result, Ok, MatchResult, min, if◌then◌else◌}
+use Rattle.std.specs.Io.{StartsWith}
 use Rattle.std.specs.Io.KnownBytes.{Consumes, IsAtEnd, Appends}
+use Rattle.ac_util.specs.declared.device.WriteError.{WriteError}
+use Rattle.ac_util.specs.declared.device.WriteError.TheVariants.{Io, WriteZero}
 
 -- the bytes that a reader has left, if it tells them; how many of its calls failed; and how many reads into a
 -- slice that isn't empty gave no byte
@@ -48,3 +51,54 @@ Writes old new r piece = MatchResult r (Gave old new piece) (λ _. new ≡ recor
 -- a read of these bytes answered r: it gave all, or as many as the slice has room for
 abbrev pub GivesAll : {E : Type 0} → Option (List ℕ) → Result ℕ E → List ℕ → Type 0
 GivesAll left r into = IfSome left (λ bytes. r ≡ Ok (min (length bytes) (length into)))
+
+-- the bytes came, by reads of which each gave some
+pub record ReadsSome (old new : Reading) (bytes : List ℕ) : Type 0 where
+  pub moved : Consumes old.left new.left bytes
+  pub failed : new.failed ≡ old.failed
+  pub empties : new.empties ≡ old.empties
+
+-- the bytes are all that the reader gave up to the first read that gave none, where it was asked no more, and
+-- no read failed. Where `ends` is true they are all that it had left
+pub record ReadsAll (ends : Bool) (old new : Reading) (bytes : List ℕ) : Type 0 where
+  pub moved : Consumes old.left new.left bytes
+  pub ended : ends ≡ true → IsAtEnd new.left
+  pub failed : new.failed ≡ old.failed
+  pub empties : new.empties ≡ old.empties + 1
+
+-- the bytes came, by reads of which each gave some, and then a read has failed
+pub record ReadsUntilFailure (old new : Reading) (bytes : List ℕ) : Type 0 where
+  pub moved : Consumes old.left new.left bytes
+  pub failed : new.failed ≡ old.failed + 1
+  pub empties : new.empties ≡ old.empties
+
+-- the bytes came, and then a read gave so many that usize doesn't count all of them
+pub record ReadsTooMany (old new : Reading) (bytes : List ℕ) : Type 0 where
+  pub lost : List ℕ
+  pub too_many : 18446744073709551615 < length bytes + length lost
+  pub moved : Consumes old.left new.left (bytes ++ lost)
+  pub failed : new.failed ≡ old.failed
+  pub empties : new.empties ≡ old.empties
+
+-- the bytes were all written: no write failed, and none took nothing
+pub record WritesAll (old new : Writing) (bytes : List ℕ) : Type 0 where
+  pub moved : Appends old.written new.written bytes
+  pub failed : new.failed ≡ old.failed
+  pub idles : new.idles ≡ old.idles
+
+-- a beginning of the bytes was written, and not all of them
+pub record WritesSome (old new : Writing) (bytes : List ℕ) : Type 0 where
+  pub part : List ℕ
+  pub begins : StartsWith bytes part
+  pub left_out : length part < length bytes
+  pub moved : Appends old.written new.written part
+
+-- one write has failed, or one took nothing, by the error
+abbrev pub HasCause : Writing → Writing → WriteError → Type 0
+HasCause old new (Io e) = (new.failed ≡ old.failed + 1) × (new.idles ≡ old.idles)
+HasCause old new WriteZero = (new.failed ≡ old.failed) × (new.idles ≡ old.idles + 1)
+
+-- a beginning of the bytes was written, and then a write has failed or took nothing
+pub record WritesUntilFailure (old new : Writing) (bytes : List ℕ) (e : WriteError) : Type 0 where
+  pub some : WritesSome old new bytes
+  pub cause : HasCause old new e

@@ -9,6 +9,7 @@ pub mod Replacement
 pub mod Replacing
 pub mod Refusal
 pub mod Stream
+pub mod StreamReplacing
 pub mod Node
 pub mod Matches
 pub mod Looks

@@ -1,8 +1,8 @@
 //! Where the bytes of a stream come from and go to.
-ghost use Rattle.std.specs.Prelude.{◌≡◌, Bool, true, [], Some, IfErr, IfOk, length};
+ghost use Rattle.std.specs.Prelude.{◌≡◌, Bool, true, [], Some, IfErr, IfOk, MatchResult, length};
 ghost use Rattle.std.specs.IoError.{error_kind};
 ghost use Rattle.std.specs.declared.io.ErrorKind.TheVariants.{OutOfMemory};
-ghost use Rattle.ac_util.specs.Device.{GivesAll, Reading, Reads, Writing, Writes};
+ghost use Rattle.ac_util.specs.Device.{GivesAll, Reading, Reads, Writing, Writes, WritesAll, WritesUntilFailure};
 
 use crate::tally::Tally;
 use std::alloc::Allocator;
@@ -282,6 +282,36 @@ impl<W: Write + Drop> Sink for IntoWrite<W> {
             }
         }
     }
+}
+
+/// Why not all of some bytes were written.
+#[derive(Debug, Drop)]
+pub enum WriteError {
+    /// A write failed.
+    Io(io::Error),
+    /// A write took no byte of a piece that isn't empty.
+    WriteZero,
+}
+
+/// Writes all of the bytes. It makes no call for bytes of which none are left.
+///
+/// # Errors
+/// `Io` where a write failed and `WriteZero` where one took no byte: a beginning of the bytes was written then, and
+/// not all of them.
+pub fn write_all<W: Sink>(writer: &mut W, bytes: &[u8]) -> Result<(), WriteError>
+    ensures { MatchResult result
+        (λ _. WritesAll (W.told writer.old) (W.told writer.new) bytes.now)
+        (WritesUntilFailure (W.told writer.old) (W.told writer.new) bytes.now) }
+{
+    let mut at = 0;
+    while at < bytes.len() {
+        match writer.write_some(&bytes[at..]) {
+            Ok(0) => return Err(WriteError::WriteZero),
+            Ok(n) => at += n,
+            Err(e) => return Err(WriteError::Io(e)),
+        }
+    }
+    Ok(())
 }
 
 #[cfg(test)]

@@ -2,9 +2,11 @@
 ghost use Rattle.ac_util.specs.declared.error.BuildError.TheVariants.{Memory};
 ghost use Rattle.std.specs.Prelude.{◌≡◌};
 
+use crate::device::WriteError;
 use crate::primitives::PatternID;
 use crate::search::MatchKind;
 use std::alloc::{AllocError, AllocFailed};
+use std::io;
 
 /// Why no automaton was built. The limits are tested in the order of the cases that follow `Memory`.
 #[derive(Clone, Copy, PartialEq, Eq, Debug)]
@@ -101,5 +103,56 @@ impl From<AllocError> for ReplaceError {
 
     fn from(_refused: AllocError) -> ReplaceError {
         ReplaceError::Memory
+    }
+}
+
+/// Why a stream was not searched, or not replaced, to its end.
+#[derive(Debug, Drop)]
+pub enum StreamError {
+    /// It is refused: nothing was read or written, and no closure called.
+    Match(MatchError),
+    /// A request for the buffer's memory was refused: nothing was read or written, and no closure called.
+    Memory,
+    /// A read or a write failed, or a call of the closure did.
+    Io(io::Error),
+    /// A write took no byte of a piece that isn't empty.
+    WriteZero,
+    /// More bytes came than a `usize` counts.
+    TooLong,
+}
+
+impl From<MatchError> for StreamError {
+    ghost use Rattle.ac_util.specs.declared.error.StreamError.TheVariants.{Match};
+    ghost use Rattle.std.specs.Prelude.{◌≡◌};
+
+    ghost from_gives = { λ refusal e. e ≡ Match refusal };
+
+    fn from(refusal: MatchError) -> StreamError {
+        StreamError::Match(refusal)
+    }
+}
+
+impl From<AllocError> for StreamError {
+    ghost use Rattle.std.specs.Prelude.{◌≡◌};
+    ghost use Rattle.ac_util.specs.declared.error.StreamError.TheVariants.{Memory};
+
+    ghost from_gives = { λ _ e. e ≡ Memory };
+
+    fn from(_refused: AllocError) -> StreamError {
+        StreamError::Memory
+    }
+}
+
+impl From<WriteError> for StreamError {
+    ghost use Rattle.std.specs.Prelude.{◌≡◌};
+    ghost use Rattle.ac_util.specs.Stream.{error_of};
+
+    ghost from_gives = { λ failure e. e ≡ error_of failure };
+
+    fn from(failure: WriteError) -> StreamError {
+        match failure {
+            WriteError::Io(e) => StreamError::Io(e),
+            WriteError::WriteZero => StreamError::WriteZero,
+        }
     }
 }

@@ -7,7 +7,7 @@ use std::marker::Model;
 /// A count without a greatest number. Contracts read it as `number`; at run time it takes no bytes and no work.
 #[derive(Drop)]
 pub struct Tally {
-    /// Private, so that a count is made in this crate alone.
+    /// Private, so that a count is made by the two functions below alone.
     seal: (),
     pub ghost number: { ℕ },
 }
@@ -24,7 +24,7 @@ unsafe impl Sync for Tally {}
 impl Tally {
     /// Returns a count of 0.
     #[inline]
-    pub(crate) fn zero() -> Tally
+    pub fn zero() -> Tally
         ensures { result.number ≡ 0 }
     {
         Tally { seal: () }
@@ -32,7 +32,7 @@ impl Tally {
 
     /// Returns a count of one more.
     #[inline]
-    pub(crate) fn after(_before: &Tally) -> Tally
+    pub fn after(_before: &Tally) -> Tally
         ensures { result.number ≡ _before.now.number + 1 }
     {
         Tally { seal: () }

@@ -1,4 +1,3 @@
-pub mod Devices
 pub mod PairLimits
 pub mod Pairs
 pub mod Printing

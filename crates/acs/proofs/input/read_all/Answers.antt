@@ -2,7 +2,7 @@ use Rattle.std.proofs.lemmas.List.{length-take-le}
 use Rattle.std.proofs.Common.{length-append, ◌≡◌, ℕ, List, ◌++◌, length, take, ap, sym, ◌∙◌, subst, refl, arith, inr}
 use Rattle.std.specs.Io.KnownBytes.{Consumes}
 use Rattle.acs.specs.Runs.{FailsToRead}
-use Rattle.acs.proofs.Devices.{not-empty, read-more}
+use Rattle.ac_util.proofs.Devices.{not-empty, read-more}
 use Rattle.ac_automaton.proofs.Places.{refused-by, written-whole}
 use Rattle.acs.proofs.input.read_all.Goals as goal
 

@@ -2,8 +2,8 @@ use Rattle.std.proofs.Common.{◌≡◌, ◌+◌, ◌<◌, ◌≤◌, ℕ, List,
 use Rattle.std.specs.Prelude.{slice_range}
 use Rattle.std.specs.Io.KnownBytes.{Appends}
 use Rattle.ac_util.specs.Device.{Writing}
-use Rattle.acs.proofs.Devices.{append-more, beginning, not-idle, rest-range, take-short, was-idle}
-use Rattle.acs.proofs.output.write_all.Goals as goal
+use Rattle.ac_util.proofs.Devices.{append-more, beginning, not-idle, rest-range, take-short, was-idle}
+use Rattle.ac_util.proofs.device.write_all.Goals as goal
 
 pub loop-at-preserved : goal.loop-at-preserved
 loop-at-preserved g c =
@@ -55,7 +55,7 @@ returns-in-Ok-eq0 g c =
             (λ (piece : List ℕ). Appends (told c.loop-at.writer).written (told c.write_some.new.self).written
             (take c.in-Ok-eq0.field-0 piece)) rest gave.moved);
       };
-      cause = inr (refl, gave.failed ∙ h.failed, (let i = gave.idles in let k = h.idles in omega arith));
+      cause = (gave.failed ∙ h.failed, (let i = gave.idles in let k = h.idles in omega arith));
     }
 
 pub returns-in-Err : goal.returns-in-Err
@@ -70,8 +70,7 @@ returns-in-Err g c =
         left_out = take-short c.loop-at.at c.args.bytes.now (omega (arith, c.loop-at-test.true));
         moved = rw failed h.moved;
       };
-      cause = inl (
-        refl,
+      cause = (
         (let f = ap (λ (w : Writing). w.failed) failed in let k = h.failed in omega arith),
         ap (λ (w : Writing). w.idles) failed ∙ h.idles,
       );

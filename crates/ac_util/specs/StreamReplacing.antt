@@ -1,0 +1,102 @@
+-- What the replacement of a stream leaves in a writer, and when each error comes.
+use Rattle.std.specs.Prelude.{◌≡◌, ◌⊎◌, ℕ, ◌-◌, Bool, List, Option, None, Some, Result, Ok, Err, length, take}
+use Rattle.std.specs.Borrow.{Bor, MutBor}
+use Rattle.std.specs.Fn.{Mut}
+use Rattle.std.specs.declared.io.Error.{Error}
+use Rattle.ac_util.specs.declared.device.WriteError.{WriteError}
+use Rattle.ac_util.specs.declared.error.MatchError.{MatchError}
+use Rattle.ac_util.specs.declared.error.StreamError.{StreamError}
+use Rattle.ac_util.specs.declared.error.StreamError.TheVariants.{Io, Match, Memory, TooLong, WriteZero}
+use Rattle.ac_util.specs.Built.{Built}
+use Rattle.ac_util.specs.Device.{Reading, ReadsAll, ReadsSome, ReadsTooMany, ReadsUntilFailure, Writing, WritesAll, WritesUntilFailure}
+use Rattle.ac_util.specs.Occurrence.{Occurrence}
+use Rattle.ac_util.specs.Replaced.{replaced}
+use Rattle.ac_util.specs.Replacement.{Answer, CallsNoMore, Calls, Fails, GoesOn, Replacing, ReplacementSteps}
+use Rattle.ac_util.specs.Stream.{error_of, held, streamed, without_last}
+
+-- one of five things, by why a stream ended
+abbrev pub MatchStreamError : StreamError → (MatchError → Type 0) → Type 0 → Type 0 → Type 0 → Type 0 → Type 0
+MatchStreamError (Match e) refused memory io zero long = refused e
+MatchStreamError Memory refused memory io zero long = memory
+MatchStreamError (Io e) refused memory io zero long = io
+MatchStreamError WriteZero refused memory io zero long = zero
+MatchStreamError TooLong refused memory io zero long = long
+
+-- a refused call changes nothing; it is refused for want of memory only where the settings don't refuse it
+abbrev pub IsRefused : Option MatchError → Type 0 → StreamError → Type 0
+IsRefused refusal unchanged e =
+    MatchStreamError e (λ m. (refusal ≡ Some m) × unchanged) ((refusal ≡ None) × unchanged) ⊥ ⊥ ⊥
+
+-- the bytes came, and then a read has failed, or brought more than usize counts
+abbrev pub FailsToRead : Reading → Reading → List ℕ → StreamError → Type 0
+FailsToRead old new bytes e =
+    MatchStreamError e (λ _. ⊥) ⊥ (ReadsUntilFailure old new bytes) ⊥ (ReadsTooMany old new bytes)
+
+-- as far as which place a stream is settled, of which these bytes came: all of it once its end was met, and else all
+-- but the bytes held back
+abbrev pub settled : Built → List ℕ → ℕ
+settled built bytes = length bytes - held built bytes
+
+-- the bytes came, with the end or without it, and the stream is settled as far as a place
+abbrev pub IsSettled : Bool → Built → Reading → Reading → List ℕ → ℕ → Type 0
+IsSettled ends built old new bytes place =
+    (ReadsSome old new bytes × (place ≡ settled built bytes)) ⊎ (ReadsAll ends old new bytes × (place ≡ length bytes))
+
+module _ {F D : Type 0} (told : D → Writing) where
+  -- the bytes are written, all of them; or a beginning of them, and then a write has failed or took nothing
+  abbrev pub WritesPiece : List ℕ → Replacing F D → Option StreamError → Replacing F D → Type 0
+  WritesPiece bytes s None t =
+      (t.closure ≡ s.closure) × WritesAll (told s.destination) (told t.destination) bytes
+  WritesPiece bytes s (Some e) t =
+      (t.closure ≡ s.closure)
+      × ((failure : WriteError) × (e ≡ error_of failure)
+      × WritesUntilFailure (told s.destination) (told t.destination) bytes failure)
+
+-- what the answer of a closure asks for: to go on, or to end at once with its error
+abbrev pub asked_by_result : Result (Unit {0}) Error → Answer StreamError
+asked_by_result (Ok done) = GoesOn
+asked_by_result (Err e) = Fails (Io e)
+
+module _ {F D : Type 0} (told : D → Writing)
+    (closures : Mut F (Bor Occurrence × (Bor (List ℕ) × (MutBor D × Unit {0})))
+    (Result (Unit {0}) Error × (MutBor D × Unit {0}))) (built : Built) (closure : F) (old : D) where
+  -- the steps that exchange the matches of these bytes by a closure, as far as a place, lead a writer from `old` to `new`
+  abbrev pub StreamStepsLead : List ℕ → ℕ → Option StreamError → D → Type 0
+  StreamStepsLead bytes place end new =
+      (left : F) × ReplacementSteps (WritesPiece told) (Calls closures) asked_by_result (take place bytes) 0
+      (streamed built bytes) (record { closure = closure; destination = old }) end
+      (record { closure = left; destination = new })
+
+  -- the stream was read to its end, and all of its steps were made
+  abbrev pub ReplacesStreamWith : Bool → Reading → Reading → D → Type 0
+  ReplacesStreamWith ends reader new_reader new =
+      (bytes : List ℕ) × ReadsAll ends reader new_reader bytes × StreamStepsLead bytes (length bytes) None new
+
+  -- a read has failed, or brought more than usize counts: the steps were made as far as the stream was settled. Or a
+  -- write has failed, or took nothing, or the closure has failed: no step was made after that
+  abbrev pub FailsToReplaceWith : Bool → Reading → Reading → D → StreamError → Type 0
+  FailsToReplaceWith ends reader new_reader new e =
+      (bytes : List ℕ)
+      × ((FailsToRead reader new_reader bytes e × StreamStepsLead bytes (settled built bytes) None new)
+      ⊎ ((place : ℕ) × IsSettled ends built reader new_reader bytes place × StreamStepsLead bytes place (Some e) new))
+
+module _ (built : Built) (texts : List (List ℕ)) (old new : Writing) where
+  -- all bytes of the stream with their matches exchanged for texts
+  abbrev pub stream_replaced : List ℕ → List ℕ
+  stream_replaced bytes = replaced bytes texts (streamed built bytes)
+
+  -- the stream was read to its end, and its replaced text was written
+  abbrev pub ReplacesStream : Bool → Reading → Reading → Type 0
+  ReplacesStream ends reader new_reader =
+      (bytes : List ℕ) × ReadsAll ends reader new_reader bytes × WritesAll old new (stream_replaced bytes)
+
+  -- a read has failed, or brought more than usize counts: the replaced text of what was read was written but for the
+  -- bytes held back. Or a write has failed, or took nothing: a beginning of the replaced text of what was read was written
+  abbrev pub FailsToReplace : Bool → Reading → Reading → StreamError → Type 0
+  FailsToReplace ends reader new_reader e =
+      (bytes : List ℕ)
+      × ((FailsToRead reader new_reader bytes e
+      × WritesAll old new (without_last (held built bytes) (stream_replaced bytes)))
+      ⊎ ((ReadsSome reader new_reader bytes ⊎ ReadsAll ends reader new_reader bytes)
+      × ((failure : WriteError) × (e ≡ error_of failure)
+      × WritesUntilFailure old new (stream_replaced bytes) failure)))
