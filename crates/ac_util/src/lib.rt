@@ -4,6 +4,7 @@
 pub mod alphabet;
 pub mod device;
 pub mod error;
+pub mod history;
 pub mod laws;
 pub mod looks;
 pub mod patterns;

@@ -1,0 +1,43 @@
+//! Bytes that contracts alone see.
+ghost use Rattle.std.specs.Prelude.{◌≡◌, ℕ, List, [], ◌++◌};
+ghost use Rattle.std.specs.Borrow.{ftrue};
+
+use std::marker::Model;
+
+/// All bytes that a stream has given so far. Contracts read them as `bytes`; at run time they take no memory and no work.
+#[derive(Drop)]
+pub struct History {
+    /// Private, so that a history is made in this module alone.
+    seal: (),
+    pub ghost bytes: { List ℕ },
+}
+
+impl Model for History {
+    ghost also_owns = { λ _. ftrue };
+}
+
+// A struct with `also_owns` is neither `Send` nor `Sync` by itself. This one owns nothing.
+unsafe impl Send for History {}
+
+unsafe impl Sync for History {}
+
+impl History {
+    /// Returns a history without bytes.
+    #[inline]
+    pub fn empty() -> History
+        ensures { result.bytes ≡ [] }
+    {
+        History { seal: () }
+    }
+
+    /// Returns a history with more bytes behind those of another.
+    #[inline]
+    pub fn with(_before: &History, _more: &[u8]) -> History
+        ensures { result.bytes ≡ _before.now.bytes ++ _more.now }
+    {
+        History { seal: () }
+    }
+}
+
+#[cfg(test)]
+mod tests;
