@@ -29,7 +29,7 @@ use Rattle.ac_automaton.proofs.Due.{counts, listed-due, listed-numbered}
 use Rattle.ac_automaton.proofs.ReadOn.{node-fits}
 
 -- the element behind a list in two lists put together
-get-behind : {X : Type 0} (xs ys : List X) (y : X) → slice_get (xs ++ y ∷ ys) (length xs) ≡ Some y
+pub get-behind : {X : Type 0} (xs ys : List X) (y : X) → slice_get (xs ++ y ∷ ys) (length xs) ≡ Some y
 get-behind [] ys y = refl
 get-behind (x ∷ xs) ys y = get-behind xs ys y
 

@@ -13,6 +13,7 @@ use Rattle.ac_util.specs.Search.{Search, from, pattern_of}
 use Rattle.ac_util.specs.Sizes.{shortest_len}
 use Rattle.ac_util.specs.Walk.{next_match, repeats, unless_repeated, walk_after}
 use Rattle.ac_util.proofs.OneLonger.{none-past_end}
+use Rattle.ac_util.proofs.Shortest.{shortest-least}
 use Rattle.ac_util.proofs.Walks.{next-in_span, pick-in_span, pick-Occurs, walk_after-None, walk_after-Some}
 use Rattle.ac_automaton.specs.Finders.{Picking}
 use Rattle.ac_automaton.specs.Finds.{HasSearched}
@@ -23,12 +24,6 @@ use Rattle.ac_automaton.specs.Progress.{Work, most_looks}
 paid_total : (most r n looks looks_then : ℕ) → r ≤ n → looks ≤ most * r → looks_then ≤ looks + most * (n - r)
     → looks_then ≤ most * n
 paid_total most r n looks looks_then l a b = omega (arith, mul-sub most n r, mul-le most r most n (omega arith) l)
-
--- no pattern is shorter than the shortest
-shortest-least : (ps : List (List ℕ)) (n : ℕ) → n < length ps → shortest_len ps ≤ length (pattern_of ps n)
-shortest-least [] n within = absurd (omega arith)
-shortest-least (p ∷ ps) zero within = omega arith
-shortest-least (p ∷ ps) (suc n) within = let l = shortest-least ps n (omega arith) in omega arith
 
 -- a find of a walk reads from no place past the one read up to, and under Standard from just there
 kept : (order : MatchKind) (place : ℕ)

@@ -10,4 +10,5 @@ pub mod Readers
 pub mod Scans
 pub mod Skipping
 pub mod Sorted
+pub mod Streams
 pub mod Tries

@@ -119,6 +119,10 @@ ReadsOn s bytes cursor work new_cursor new_work =
     (t : ScanText) → t.bytes ≡ bytes → IsAlive s t cursor
     → PassesNoMatch s t cursor.at work new_cursor new_work
 
+-- a scan stops in a state that is dead or has matches
+abbrev pub HasStopped : Scan → ℕ → Type 0
+HasStopped s state = (u : Node) → s.stands state u → (u ≡ None) ⊎ (s.listed state ≢ [])
+
 -- the place to which a prefilter leads: the one that it gives, or the end
 abbrev pub led_to : Option ℕ → ℕ → ℕ
 led_to None end = end

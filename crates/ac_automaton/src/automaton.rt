@@ -29,11 +29,13 @@ mod overlap;
 mod replace;
 mod scan;
 mod skip;
+mod stream;
 mod walk;
 
 pub use find::{Finder, find_core};
 pub use overlap::{FindOverlappingIter, MatchRest, OverlappingState};
 pub use scan::is_due;
+pub use stream::{Phase, StreamFinder};
 pub use walk::FindIter;
 
 /// An automaton that finds patterns: states, and where each byte leads from a state.

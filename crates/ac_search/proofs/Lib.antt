@@ -1,5 +1,4 @@
 pub mod Fitting
 pub mod Named
 pub mod Served
-pub mod Shortest
 pub mod SomeMatch

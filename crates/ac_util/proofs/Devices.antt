@@ -1,13 +1,16 @@
 -- Reading on, and writing on.
 use Rattle.std.proofs.Common.{◌≡◌, ◌≢◌, ◌+◌, ◌<◌, ℕ, zero, suc, List, [], ◌∷◌, ◌++◌, length, length-drop, take, drop, ap, sym, refl, ◌∙◌, subst, arith, Bool, Option}
 use Rattle.std.proofs.lemmas.Bool.Decides.{nat_tests}
-use Rattle.std.proofs.lemmas.List.{length-take-le}
+use Rattle.std.proofs.lemmas.List.{append-nil, length-take-le}
 use Rattle.std.specs.Prelude.{slice_range}
 use Rattle.std.specs.Io.{StartsWith}
 use Rattle.std.specs.Io.KnownBytes.{Appends, Consumes}
 use Rattle.std.proofs.Math.Seq.{take-add, take-length}
 use Rattle.std.proofs.KnownBytes.{Appends-trans, Consumes-trans}
-use Rattle.ac_util.specs.Device.{Reading, Took, idle}
+use Rattle.ac_util.specs.declared.error.StreamError.{StreamError}
+use Rattle.ac_util.specs.declared.error.StreamError.TheVariants.{Io, Match, Memory, TooLong, WriteZero}
+use Rattle.ac_util.specs.Device.{Reading, ReadsSome, Took, idle}
+use Rattle.ac_util.specs.StreamReplacing.{FailsToRead}
 
 -- what was read so far with what a read has taken
 pub read-more : {ends : Bool} (a b c : Reading) (bs piece : List ℕ) (n : ℕ) → Consumes a.left b.left bs
@@ -48,3 +51,24 @@ not-empty a b into n some t = let none = not-idle n (length into) some in let co
 pub rest-range : (at : ℕ) (bytes : List ℕ) → slice_range bytes at (length bytes) ≡ drop at bytes
 rest-range at bytes =
     ap (λ (n : ℕ). take n (drop at bytes)) (sym (length-drop at bytes)) ∙ take-length (drop at bytes)
+
+-- bytes came, and then a read has failed, or brought more than usize counts
+pub fails-on : {old between : Reading} (new : Reading) (seen total : ℕ) (bytes : List ℕ) → total ≡ seen + length bytes
+    → ReadsSome old between bytes → (e : StreamError) → FailsToRead total between new [] e
+    → FailsToRead seen old new bytes e
+fails-on new seen total bytes sum reads (Match m) fails = fails
+fails-on new seen total bytes sum reads Memory fails = fails
+fails-on {old} {between} new seen total bytes sum reads (Io e) fails = record {
+  moved = subst (Consumes old.left new.left) (append-nil bytes)
+      (Consumes-trans old.left between.left new.left bytes [] reads.moved fails.moved);
+  failed = (let f = fails.failed in let r = reads.failed in omega arith);
+  empties = fails.empties ∙ reads.empties;
+}
+fails-on new seen total bytes sum reads WriteZero fails = fails
+fails-on {old} {between} new seen total bytes sum reads TooLong fails = record {
+  lost = fails.lost;
+  too_many = (let l = fails.too_many in omega arith);
+  moved = Consumes-trans old.left between.left new.left bytes fails.lost reads.moved fails.moved;
+  failed = fails.failed ∙ reads.failed;
+  empties = fails.empties ∙ reads.empties;
+}

@@ -29,6 +29,8 @@ pub mod StrideLemmas
 mod ClassRows
 pub mod ReplacementLemmas
 pub mod SearchLoop
+pub mod Shortest
+pub mod Longer
 mod SearchRows
 mod TextRows
 mod NodeRows

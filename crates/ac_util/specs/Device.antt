@@ -72,10 +72,10 @@ pub record ReadsUntilFailure (old new : Reading) (bytes : List ℕ) : Type 0 whe
   pub failed : new.failed ≡ old.failed + 1
   pub empties : new.empties ≡ old.empties
 
--- the bytes came, and then a read gave so many that usize doesn't count all of them
-pub record ReadsTooMany (old new : Reading) (bytes : List ℕ) : Type 0 where
+-- the bytes came, and then a read gave so many that usize doesn't count all of them and those `seen` before
+pub record ReadsTooMany (seen : ℕ) (old new : Reading) (bytes : List ℕ) : Type 0 where
   pub lost : List ℕ
-  pub too_many : 18446744073709551615 < length bytes + length lost
+  pub too_many : 18446744073709551615 < seen + length bytes + length lost
   pub moved : Consumes old.left new.left (bytes ++ lost)
   pub failed : new.failed ≡ old.failed
   pub empties : new.empties ≡ old.empties

@@ -27,10 +27,10 @@ abbrev pub IsRefused : Option MatchError → Type 0 → StreamError → Type 0
 IsRefused refusal unchanged e =
     MatchStreamError e (λ m. (refusal ≡ Some m) × unchanged) ((refusal ≡ None) × unchanged) ⊥ ⊥ ⊥
 
--- the bytes came, and then a read has failed, or brought more than usize counts
-abbrev pub FailsToRead : Reading → Reading → List ℕ → StreamError → Type 0
-FailsToRead old new bytes e =
-    MatchStreamError e (λ _. ⊥) ⊥ (ReadsUntilFailure old new bytes) ⊥ (ReadsTooMany old new bytes)
+-- after so many bytes of a stream these came, and then a read has failed, or brought more than usize counts
+abbrev pub FailsToRead : ℕ → Reading → Reading → List ℕ → StreamError → Type 0
+FailsToRead seen old new bytes e =
+    MatchStreamError e (λ _. ⊥) ⊥ (ReadsUntilFailure old new bytes) ⊥ (ReadsTooMany seen old new bytes)
 
 -- as far as which place a stream is settled, of which these bytes came: all of it once its end was met, and else all
 -- but the bytes held back
@@ -77,7 +77,7 @@ module _ {F D : Type 0} (told : D → Writing)
   abbrev pub FailsToReplaceWith : Bool → Reading → Reading → D → StreamError → Type 0
   FailsToReplaceWith ends reader new_reader new e =
       (bytes : List ℕ)
-      × ((FailsToRead reader new_reader bytes e × StreamStepsLead bytes (settled built bytes) None new)
+      × ((FailsToRead 0 reader new_reader bytes e × StreamStepsLead bytes (settled built bytes) None new)
       ⊎ ((place : ℕ) × IsSettled ends built reader new_reader bytes place × StreamStepsLead bytes place (Some e) new))
 
 module _ (built : Built) (texts : List (List ℕ)) (old new : Writing) where
@@ -95,7 +95,7 @@ module _ (built : Built) (texts : List (List ℕ)) (old new : Writing) where
   abbrev pub FailsToReplace : Bool → Reading → Reading → StreamError → Type 0
   FailsToReplace ends reader new_reader e =
       (bytes : List ℕ)
-      × ((FailsToRead reader new_reader bytes e
+      × ((FailsToRead 0 reader new_reader bytes e
       × WritesAll old new (without_last (held built bytes) (stream_replaced bytes)))
       ⊎ ((ReadsSome reader new_reader bytes ⊎ ReadsAll ends reader new_reader bytes)
       × ((failure : WriteError) × (e ≡ error_of failure)

@@ -7,7 +7,7 @@ ghost use Rattle.ac_util.specs.declared.search.Anchored.{Anchored};
 ghost use Rattle.ac_automaton.specs.Finds.{FindsAt, StandsIn};
 ghost use Rattle.ac_automaton.specs.Overlaps.{is_due};
 ghost use Rattle.ac_automaton.specs.Progress.{work_of};
-ghost use Rattle.ac_automaton.specs.Scans.{MayRead, ReadsOn, Scan, scan_by};
+ghost use Rattle.ac_automaton.specs.Scans.{HasStopped, MayRead, ReadsOn, Scan, scan_by};
 
 use super::Automaton;
 use ac_util::looks::{Looks, Tape};
@@ -89,19 +89,27 @@ impl<'a, A: Automaton> Scanner<'a, A> {
         ensures bytes { tape.new.bytes ≡ tape.old.bytes }
         ensures moved { cursor.at < self.now.span.end → cursor.at < result.at }
         ensures within { result.at ≤ self.now.span.end }
+        ensures stops { result.at < self.now.span.end
+            → HasStopped (⟦<A as Scans>⟧.scan self.now.automaton.now self.now.anchored) result.state }
         ensures reads { ReadsOn (⟦<A as Scans>⟧.scan self.now.automaton.now self.now.anchored) tape.old.bytes cursor
             (work_of tape.old looks.old) result (work_of tape.new looks.new) }
     {
+        // A copy, whose fields the loop keeps in registers.
+        let scanner = Scanner {
+            automaton: self.automaton,
+            anchored: self.anchored,
+            span: self.span,
+        };
         let mut state = cursor.state;
-        for at in cursor.at..self.span.end {
-            state = self.read_byte(Cursor { state, at }, tape, looks);
-            if self.automaton.is_match_or_dead(state) {
+        for at in cursor.at..scanner.span.end {
+            state = scanner.read_byte(Cursor { state, at }, tape, looks);
+            if scanner.automaton.is_match_or_dead(state) {
                 return Cursor { state, at: at + 1 };
             }
         }
         Cursor {
             state,
-            at: self.span.end,
+            at: scanner.span.end,
         }
     }
 

@@ -1,4 +1,4 @@
-use Rattle.ac_search.proofs.Shortest.{shortest-empty}
+use Rattle.ac_util.proofs.Shortest.{shortest-empty}
 use Rattle.ac_search.proofs.laws.shortest_is_empty.Goals as goal
 
 pub returns : goal.returns

@@ -1,0 +1,18 @@
+use Rattle.std.proofs.Common.{◌≡◌, ◌-◌, ◌++◌, ℕ, List, length}
+use Rattle.ac_util.specs.Device.{ReadsSome}
+use Rattle.ac_automaton.specs.declared.automaton.stream.Phase.TheVariants.{Open}
+use Rattle.ac_automaton.proofs.automaton.stream.StreamFinder.next.Given as goal
+
+-- so far some bytes were read, and no match was given
+abbrev pub invariant-loop-found : goal.invariant-loop-found
+invariant-loop-found g l =
+    let told = g.R.Source.told in
+    record {
+      more : List ℕ;
+      reads : ReadsSome (told l.fn.reader) (told l.reader) more;
+      goes_on : l.fn.self.phase ≡ Open;
+      same : l.self ≡ record l.fn.self { bytes = l.fn.self.bytes ++ more; front = l.self.front; kept = l.self.kept };
+    }
+
+abbrev pub decreases-loop-found : goal.decreases-loop-found
+decreases-loop-found g l = 18446744073709551615 - length l.self.bytes

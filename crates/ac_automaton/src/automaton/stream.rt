@@ -1,0 +1,311 @@
+//! The search of a stream: what a reader gives is read into a buffer, and its matches are given one after another.
+ghost use Rattle.std.specs.Prelude.{◌≡◌, ◌≤◌, ◌<◌, ◌+◌, ◌-◌, ◌*◌, MatchResult, None, Some, drop, length, max, min, take, ⊤};
+ghost use Rattle.ac_util.specs.declared.search.Anchored.TheVariants.{No};
+ghost use Rattle.ac_util.specs.Built.{stream_refusal};
+ghost use Rattle.ac_util.specs.Device.{Reads};
+ghost use Rattle.ac_util.specs.Refusal.{start_refusal};
+ghost use Rattle.ac_util.specs.StreamReplacing.{IsRefused};
+ghost use Rattle.ac_automaton.specs.declared.automaton.stream.Phase.TheVariants.{Open};
+ghost use Rattle.ac_automaton.specs.Streams.{Fills, GivesRead, StreamsOn, settled_in, settled_of, stream_begun};
+
+use super::Automaton;
+use super::scan::{Cursor, Scanner};
+use ac_util::device::Source;
+use ac_util::error::{MatchError, StreamError};
+use ac_util::history::History;
+use ac_util::looks::open;
+use ac_util::primitives::StateID;
+use ac_util::search::{Anchored, Input, Match, MatchKind, Span};
+use ac_util::tally::Tally;
+use std::alloc::Allocator;
+use std::io;
+use std::marker::Model;
+use std::snapshot::Snapshot;
+
+/// How many bytes a buffer has at least.
+const LEAST_BUFFER: usize = 65536;
+
+/// How many times as long as the longest pattern a buffer is at least.
+const BUFFER_FACTOR: usize = 8;
+
+/// Whether a stream goes on.
+#[derive(Clone, Copy, PartialEq, Eq, Debug)]
+pub enum Phase {
+    /// More may be read.
+    Open,
+    /// A read gave no byte, though there was room: the reader isn't asked again.
+    Ended,
+    /// A read failed, or brought more than a `usize` counts: the reader isn't asked again.
+    Failed,
+}
+
+/// A search over a stream, whose reader is handed to each call. `StreamFindIter` is one with a reader of its own.
+///
+/// The matches are those of the walk over all bytes that the readers gave, however they cut them. What was read stands in one
+/// buffer, which is made at first and never grows: it is read into as far as it has room, and the bytes that a match to come
+/// may need are moved to its front only when it is full. Contracts see all bytes that were read, and how many of their
+/// matches were given.
+#[derive(Drop)]
+pub struct StreamFinder<'a, A: Automaton, Z: Allocator> {
+    automaton: &'a A,
+    /// The state at which a search begins.
+    start: StateID,
+    /// How many bytes may be kept back.
+    reserve: usize,
+    buffer: Vec<u8, Z>,
+    /// How many bytes of the buffer are filled.
+    filled: usize,
+    /// Where in the stream the buffer begins.
+    front: usize,
+    /// From where in the stream on bytes are kept.
+    kept: usize,
+    state: StateID,
+    /// Up to where the buffer was searched.
+    at: usize,
+    phase: Phase,
+    /// Where in the stream the last match given ended.
+    begun: Snapshot<usize>,
+    given: Tally,
+    history: History,
+}
+
+impl<'a, A: Automaton, Z: Allocator> Model for StreamFinder<'a, A, Z> {
+    ghost use Rattle.std.specs.Prelude.{length};
+    ghost use Rattle.ac_util.specs.declared.search.Anchored.TheVariants.{No};
+    ghost use Rattle.ac_automaton.specs.Streams.{IsStreaming, Streaming};
+
+    ghost Value = { Streaming };
+
+    ghost view = { λ f. record {
+      built = A.built f.automaton.now;
+      bytes = f.history.bytes;
+      given = f.given.number;
+      front = f.front;
+      kept = f.kept;
+      phase = f.phase;
+      buffer = length f.buffer.items;
+    } };
+
+    ghost invariant = { λ f. IsStreaming (A.stands f.automaton.now No)
+        (record {
+          start = f.start;
+          reserve = f.reserve;
+          buffer = f.buffer.items;
+          filled = f.filled;
+          state = f.state;
+          at = f.at;
+          begun = f.begun.value;
+        })
+        (record {
+          built = A.built f.automaton.now;
+          bytes = f.history.bytes;
+          given = f.given.number;
+          front = f.front;
+          kept = f.kept;
+          phase = f.phase;
+          buffer = length f.buffer.items;
+        }) };
+}
+
+impl<'a, A: Automaton, Z: Allocator> StreamFinder<'a, A, Z> {
+    /// Returns a search over a stream of which nothing was read yet, and makes its buffer.
+    ///
+    /// # Errors
+    /// `StreamError::Match` with `InvalidInputUnanchored` where the automaton has no unanchored start, else with
+    /// `UnsupportedStream` where its match kind isn't `MatchKind::Standard`, else with `UnsupportedEmpty` where some pattern is
+    /// empty; else `StreamError::Memory` where the memory for the buffer is refused.
+    pub fn new(automaton: &'a A, alloc: Z) -> Result<StreamFinder<'a, A, Z>, StreamError>
+        ensures { MatchResult result
+            (λ finder. (stream_refusal (A.built automaton.now) ≡ None) × (finder ≡ stream_begun (A.built automaton.now)))
+            (IsRefused (stream_refusal (A.built automaton.now)) ⊤) }
+    {
+        let start = automaton.start_state(Anchored::No)?;
+        check_stream(automaton)?;
+        let longest = automaton.max_pattern_len();
+        let mut buffer = Vec::new(alloc);
+        buffer.resize(buffer_len(longest), 0)?;
+        Ok(StreamFinder {
+            automaton,
+            start,
+            reserve: longest.max(1) - 1,
+            buffer,
+            filled: 0,
+            front: 0,
+            kept: 0,
+            state: start,
+            at: 0,
+            phase: Phase::Open,
+            begun: Snapshot::of(&0),
+            given: Tally::zero(),
+            history: History::empty(),
+        })
+    }
+
+    /// Returns how many bytes the buffer has: 65,536, or eight times as many as the longest pattern if that is more.
+    pub fn buffer_len(&self) -> usize
+        ensures { result ≡ self.now.buffer }
+    {
+        self.buffer.len()
+    }
+
+    /// Returns the next match of the bytes that were read, without reading more of them. `None` says that all their matches
+    /// were given.
+    pub fn next_read(&mut self) -> Option<Match>
+        ensures { GivesRead self.old result self.new }
+    {
+        let scanner = Scanner {
+            automaton: self.automaton,
+            anchored: Anchored::No,
+            span: Span {
+                start: 0,
+                end: self.filled,
+            },
+        };
+        let (mut tape, mut looks) = open(&Input::new(&self.buffer));
+        let begun = Cursor {
+            state: self.state,
+            at: self.at,
+        };
+        let cursor = scanner.read_ahead(begun, &mut tape, &mut looks);
+        let read = self.front + cursor.at;
+        let found = scanner.match_at(Cursor {
+            state: cursor.state,
+            at: read,
+        });
+        self.at = cursor.at;
+        match found {
+            None => {
+                self.state = cursor.state;
+                self.kept = settled_from(self.phase, self.kept, read, self.reserve);
+                None
+            }
+            Some(found) => {
+                self.state = self.start;
+                self.begun = Snapshot::of(&found.end());
+                self.given = Tally::after(&self.given);
+                self.kept = found.end();
+                Some(found)
+            }
+        }
+    }
+
+    /// Reads more bytes into the buffer, and returns whether some came: else the end was met. All matches of those that were
+    /// read before have to be given.
+    ///
+    /// # Errors
+    /// `Io` where the read failed, and `TooLong` where more bytes have come than a `usize` counts: its bytes aren't searched.
+    pub(super) fn fill<R: Source>(&mut self, reader: &mut R) -> Result<bool, StreamError>
+        requires goes_on { self.old.phase ≡ Open }
+        requires settled { settled_of self.old ≤ self.old.kept }
+        ensures { Fills R.empty_means_end self.old result self.new (R.told reader.old) (R.told reader.new) }
+    {
+        self.make_room();
+        match read_behind(reader, &mut self.buffer, self.filled) {
+            Ok(0) => {
+                self.phase = Phase::Ended;
+                Ok(false)
+            }
+            Ok(n) if self.front + self.filled <= usize::MAX - n => {
+                let more = &self.buffer[self.filled..self.filled + n];
+                self.history = History::with(&self.history, more);
+                self.filled += n;
+                Ok(true)
+            }
+            Ok(_) => {
+                self.phase = Phase::Failed;
+                Err(StreamError::TooLong)
+            }
+            Err(e) => {
+                self.phase = Phase::Failed;
+                Err(StreamError::Io(e))
+            }
+        }
+    }
+
+    /// Moves the bytes that are kept to the front of the buffer where it is full.
+    fn make_room(&mut self)
+        requires goes_on { self.old.phase ≡ Open }
+        requires settled { settled_of self.old ≤ self.old.kept }
+        ensures same { self.new ≡ record self.old { front = self.new.front } }
+        ensures room { length self.new.bytes < self.new.front + self.new.buffer }
+    {
+        if self.filled < self.buffer.len() {
+            return;
+        }
+        let from = self.kept - self.front;
+        self.buffer.copy_within(from..self.filled, 0);
+        self.filled -= from;
+        self.at -= from;
+        self.front = self.kept;
+    }
+
+    /// Returns the next match of the stream, and reads more of it where that is needed. After an error or the end it keeps
+    /// giving `None`, and the reader isn't asked again.
+    ///
+    /// # Errors
+    /// `Io` where a read failed, and `TooLong` where more bytes came than a `usize` counts. All matches of the bytes read before
+    /// were given then.
+    pub fn next<R: Source>(&mut self, reader: &mut R) -> Option<Result<Match, StreamError>>
+        ensures { StreamsOn R.empty_means_end self.old result self.new (R.told reader.old) (R.told reader.new) }
+    {
+        if self.phase != Phase::Open {
+            return None;
+        }
+        loop {
+            if let Some(found) = self.next_read() {
+                return Some(Ok(found));
+            }
+            match self.fill(reader) {
+                Ok(true) => {}
+                Ok(false) => return None,
+                Err(e) => return Some(Err(e)),
+            }
+        }
+    }
+}
+
+/// Reads into a buffer behind its first bytes, which stay as they are.
+fn read_behind<R: Source>(reader: &mut R, buffer: &mut [u8], filled: usize) -> io::Result<usize>
+    requires inside { filled ≤ length buffer.old }
+    ensures long { length buffer.new ≡ length buffer.old }
+    ensures keeps { take filled buffer.new ≡ take filled buffer.old }
+    ensures reads { Reads R.empty_means_end (R.told reader.old) (R.told reader.new) result (drop filled buffer.new) }
+{
+    reader.read_some(&mut buffer[filled..])
+}
+
+/// Returns as far as where nothing is kept once all matches of the bytes read were given.
+fn settled_from(phase: Phase, kept: usize, read: usize, reserve: usize) -> usize
+    ensures { result ≡ settled_in phase (max kept (read - reserve)) read }
+{
+    match phase {
+        Phase::Ended => read,
+        Phase::Open | Phase::Failed => kept.max(read.saturating_sub(reserve)),
+    }
+}
+
+/// Returns how many bytes the buffer of a stream has, by the length of the longest pattern.
+fn buffer_len(longest: usize) -> usize
+    ensures { result ≡ max 65536 (min 18446744073709551615 (8 * longest)) }
+{
+    longest.saturating_mul(BUFFER_FACTOR).max(LEAST_BUFFER)
+}
+
+/// Tests that an automaton may search streams.
+///
+/// # Errors
+/// As `StreamFinder::new`, but for its start.
+fn check_stream<A: Automaton>(automaton: &A) -> Result<(), MatchError>
+    ensures { MatchResult result
+        (λ _. start_refusal (A.built automaton.now).start_kind No ≡ None → stream_refusal (A.built automaton.now) ≡ None)
+        (λ e. start_refusal (A.built automaton.now).start_kind No ≡ None → stream_refusal (A.built automaton.now) ≡ Some e) }
+{
+    match automaton.match_kind() {
+        MatchKind::Standard => {}
+        got => return Err(MatchError::UnsupportedStream { got }),
+    }
+    if automaton.min_pattern_len() == 0 {
+        return Err(MatchError::UnsupportedEmpty);
+    }
+    Ok(())
+}

@@ -1,0 +1,30 @@
+-- A haystack behind which more bytes come: in a span of what was there before everything stays.
+use Rattle.std.proofs.Common.{◌≡◌, ℕ, ◌≤◌, List, ◌++◌, length, length-append, ap, subst, sym, ◌∙◌, arith, Option}
+use Rattle.std.specs.Prelude.{option_map}
+use Rattle.ac_util.specs.declared.search.MatchKind.{MatchKind}
+use Rattle.ac_util.specs.Occurrence.{Occurrence}
+use Rattle.ac_util.specs.Pick.{pick}
+use Rattle.ac_util.specs.Sameness.{plain}
+use Rattle.ac_util.specs.Search.{Search}
+use Rattle.ac_util.specs.Text.{outward, plain_patterns, text}
+use Rattle.ac_util.proofs.PiecesLemmas.{slice_range-append}
+use Rattle.ac_util.proofs.Spans.{inward, pick-from_text, pick-in_text, pick-out_again}
+use Rattle.ac_util.proofs.Standing.{IsPickIn}
+
+module _ (q : Search) (more : List ℕ) (ordered : q.low ≤ q.high) (inside : q.high ≤ length q.haystack) where
+  -- the search once these bytes have come
+  abbrev pub extended : Search
+  extended = record q { haystack = q.haystack ++ more }
+
+  -- its text
+  pub text-extended : text extended ≡ text q
+  text-extended = ap (plain q.fold) (slice_range-append q.haystack more q.low q.high ordered inside)
+
+  -- and its pick
+  pub pick-extended : (kind : MatchKind) → pick kind extended ≡ pick kind q
+  pick-extended kind =
+      let long = length-append q.haystack more in
+      sym (pick-from_text extended ordered (omega arith) kind (option_map (inward q.low) (pick kind q))
+      (subst (λ (w : List ℕ). IsPickIn kind (plain_patterns q) q.anchored w (option_map (inward q.low) (pick kind q)))
+      (sym text-extended) (pick-in_text q ordered inside kind)))
+      ∙ pick-out_again q ordered inside kind

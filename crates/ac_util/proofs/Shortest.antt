@@ -1,0 +1,43 @@
+-- The shortest and the longest of patterns: when the shortest is empty, and which lengths all of them have.
+use Rattle.std.proofs.Common.{◌≡◌, ℕ, zero, suc, ◌<◌, ◌≤◌, true, false, List, [], ◌∷◌, length, inl, inr, sym, ◌∙◌, arith}
+use Rattle.std.specs.Prelude.{◌↔◌, ◌==◌}
+use Rattle.std.specs.List.{list_any}
+use Rattle.std.proofs.lemmas.Bool.{or_cases, or_left, or_right, false≢true, cases_lt}
+use Rattle.std.proofs.lemmas.Bool.Decides.{nat_tests}
+use Rattle.ac_util.specs.Search.{pattern_of}
+use Rattle.ac_util.specs.Sizes.{longest_len, shortest_len}
+
+-- the shortest is empty exactly if some pattern is
+pub shortest-empty : (ps : List (List ℕ)) → (shortest_len ps ≡ 0) ↔ (list_any (λ p. length p == 0) ps ≡ true)
+shortest-empty [] = ((λ e. absurd (omega arith)), (λ t. absurd (false≢true t)))
+shortest-empty (p ∷ ps) =
+    let later = shortest-empty ps in (
+      (λ e. elim (cases_lt 0 (length p)) [
+        | inl some ↦ or_right (length p == 0) _ (later.0 (omega arith))
+        | inr none ↦ or_left (length p == 0) _ (grind (arith, nat_tests))
+      ]),
+      (λ t. elim (or_cases (length p == 0) _ t) [
+        | inl none ↦ (let z : length p ≡ 0 = grind (arith, nat_tests) in omega arith)
+        | inr some ↦ (let z = later.1 some in omega arith)
+      ]),
+    )
+
+-- no pattern is shorter than the shortest
+pub shortest-least : (ps : List (List ℕ)) (n : ℕ) → n < length ps → shortest_len ps ≤ length (pattern_of ps n)
+shortest-least [] n within = absurd (omega arith)
+shortest-least (p ∷ ps) zero within = omega arith
+shortest-least (p ∷ ps) (suc n) within = let l = shortest-least ps n (omega arith) in omega arith
+
+-- and none is longer than the longest
+pub longest-most : (ps : List (List ℕ)) (n : ℕ) → n < length ps → length (pattern_of ps n) ≤ longest_len ps
+longest-most [] n within = absurd (omega arith)
+longest-most (p ∷ ps) zero within = omega arith
+longest-most (p ∷ ps) (suc n) within = let l = longest-most ps n (omega arith) in omega arith
+
+-- where no pattern is empty each has a byte
+pub none-empty : (ps : List (List ℕ)) (n : ℕ) → list_any (λ p. length p == 0) ps ≡ false → n < length ps
+    → 0 < length (pattern_of ps n)
+none-empty ps n none within = elim (cases_lt 0 (shortest_len ps)) [
+  | inl some ↦ let l = shortest-least ps n within in omega arith
+  | inr empty ↦ absurd (false≢true (sym none ∙ (shortest-empty ps).0 (omega arith)))
+]
