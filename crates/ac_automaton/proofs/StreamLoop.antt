@@ -1,10 +1,11 @@
 -- The search of a stream from where it stands: what its tape shows, what is found next, and what is settled.
-use Rattle.std.proofs.Common.{◌≡◌, ◌≢◌, ◌⊎◌, ℕ, ◌+◌, ◌-◌, ◌<◌, ◌≤◌, Bool, true, false, List, [], ◌∷◌, ◌++◌, length, length-append, length-drop, length-take, take, drop, max, min, inl, inr, refl, ap, sym, subst, ◌∙◌, arith, Option, Some, None}
-use Rattle.std.specs.Prelude.{option_map, slice_get, ◌==◌}
+use Rattle.std.proofs.Common.{◌≡◌, ◌≢◌, ◌⊎◌, ℕ, zero, suc, ◌+◌, ◌-◌, ◌<◌, ◌≤◌, Bool, true, false, List, [], ◌∷◌, ◌++◌, length, length-append, length-drop, length-take, get_or, take, drop, max, min, inl, inr, refl, ap, sym, subst, ◌∙◌, arith, Option, Some, None}
+use Rattle.std.specs.Prelude.{AllPairs, option_map, slice_get, slice_range, ◌==◌}
 use Rattle.std.specs.List.{list_any}
 use Rattle.std.proofs.lemmas.Bool.{cases_lt, and_parts, eqb-true}
 use Rattle.std.proofs.lemmas.List.{append-nil, append_assoc, drop-append-le, drop-drop, drop-take, length-take-le, take-append-drop}
 use Rattle.std.proofs.lemmas.List.Edits.{take-paste}
+use Rattle.std.proofs.lemmas.Option.{get_or_from_slice_get, slice_get_within}
 use Rattle.std.proofs.Math.Seq.{paste, take-add}
 use Rattle.ac_util.specs.declared.error.MatchError.TheVariants.{UnsupportedEmpty}
 use Rattle.ac_util.specs.declared.search.Anchored.TheVariants.{No}
@@ -27,11 +28,12 @@ use Rattle.ac_util.specs.Sizes.{longest_len, shortest_len}
 use Rattle.ac_util.specs.Stream.{buffer_len, held, last_end, reserve, streamed}
 use Rattle.ac_util.specs.StreamReplacing.{settled}
 use Rattle.ac_util.specs.Text.{text}
-use Rattle.ac_util.specs.Walk.{next_match, repeats, unless_repeated, walk_after}
+use Rattle.ac_util.specs.Walk.{IsAfter, next_match, repeats, unless_repeated, walk_after}
 use Rattle.ac_util.proofs.Longer.{pick-extended, text-extended}
 use Rattle.ac_util.proofs.Reached.{reached-alive}
 use Rattle.ac_util.proofs.Shortest.{longest-most, none-empty, shortest-empty}
-use Rattle.ac_util.proofs.Walks.{pick-Occurs, walk_after-None, walk_after-Some}
+use Rattle.ac_util.proofs.Spans.{take_drop_take}
+use Rattle.ac_util.proofs.Walks.{pick-Occurs, walk-ordered, walk_after-None, walk_after-Some}
 use Rattle.ac_automaton.specs.declared.automaton.scan.Cursor.{Cursor}
 use Rattle.ac_automaton.specs.declared.automaton.stream.Phase.{Phase}
 use Rattle.ac_automaton.specs.declared.automaton.stream.Phase.TheVariants.{Ended, Failed, Open}
@@ -120,6 +122,29 @@ last_end-more : (ms : List Occurrence) (m : Occurrence) → last_end (ms ++ m �
 last_end-more [] m = refl
 last_end-more (n ∷ []) m = refl
 last_end-more (n ∷ k ∷ ms) m = last_end-more (k ∷ ms) m
+
+-- where the last of the matches ends, by its place
+last_end-at : (ms : List Occurrence) (d : Occurrence) → 0 < length ms → last_end ms ≡ (get_or ms (length ms - 1) d).end
+last_end-at [] d some = absurd (omega arith)
+last_end-at (m ∷ []) d some = refl
+last_end-at (m ∷ n ∷ ms) d some =
+    last_end-at (n ∷ ms) d (omega arith)
+    ∙ ap (λ (k : ℕ). (get_or (m ∷ n ∷ ms) k d).end)
+    (let e : suc (length (n ∷ ms) - 1) ≡ length (m ∷ n ∷ ms) - 1 = omega arith in e)
+
+-- no match of a walk ends past its last one
+last-after : (ms : List Occurrence) (k : ℕ) (m : Occurrence) → AllPairs IsAfter ms → slice_get ms k ≡ Some m
+    → m.end ≤ last_end ms
+last-after ms k m pairs at =
+    let within = slice_get_within ms k m at in
+    let is = ap (λ (o : Occurrence). o.end) (get_or_from_slice_get ms k m m at) in
+    let last = last_end-at ms m (omega arith) in
+    elim (cases_lt k (length ms - 1)) [
+      | inl before ↦ let a = (pairs k (length ms - 1) m before (omega arith)).rises in omega arith
+      | inr here ↦
+          let e : k ≡ length ms - 1 = omega arith in
+          let there = ap (λ (i : ℕ). (get_or ms i m).end) e in omega arith
+    ]
 
 -- a node that finds nothing has no matches
 no-matches : (built : Built) (u : Node) (at : ℕ) → found_at built No u at ≡ None → matches_of built No u ≡ []
@@ -405,6 +430,7 @@ module _ (stands : ℕ → Node → Type 0) (listed : ℕ → List ℕ) (most : 
                 quiet = quiet;
                 none = none-picked;
                 given = inv.given;
+                few = inv.few;
                 in_buffer = (let b = inv.in_buffer in let o = on.0 in omega arith);
                 after = (let b = inv.after in let o = on.0 in omega arith);
                 kept_within = settled-within v.phase;
@@ -493,29 +519,51 @@ module _ (stands : ℕ → Node → Type 0) (listed : ℕ → List ℕ) (most : 
             ∙ sym (append_assoc inv.given.matches (m ∷ [])
             (walk_after v.built.kind (stream_from v.built (v.bytes ++ more) m.end) (Some m.end)))
 
+        next-there : slice_get (streamed v.built v.bytes) v.given ≡ Some m
+        next-there =
+            subst (λ (w : List ℕ). slice_get (streamed v.built w) v.given ≡ Some m) (append-nil v.bytes)
+          (ap (λ (ms : List Occurrence). slice_get ms v.given)
+          (walks-on [] ∙ append_assoc inv.given.matches (m ∷ [])
+          (walk_after v.built.kind (stream_from v.built (v.bytes ++ []) m.end) (Some m.end)))
+          ∙ ap (slice_get (inv.given.matches ++ m
+          ∷ walk_after v.built.kind (stream_from v.built (v.bytes ++ []) m.end) (Some m.end)))
+          (sym inv.given.count)
+          ∙ get-behind inv.given.matches
+          (walk_after v.built.kind (stream_from v.built (v.bytes ++ []) m.end) (Some m.end)) m)
+
         gives : GivesMatch v m (record v { given = v.given + 1; kept = m.end })
         gives =
             let o = occurs.as_long in let f = occurs.from_low in
             let long = longest-most v.built.patterns m.pattern occurs.numbered in
             let some = some-bytes in let e = ends in let r = inv.reserve in let on = further in
             record {
-              next = subst (λ (w : List ℕ). slice_get (streamed v.built w) v.given ≡ Some m) (append-nil v.bytes)
-                  (ap (λ (ms : List Occurrence). slice_get ms v.given)
-                  (walks-on [] ∙ append_assoc inv.given.matches (m ∷ [])
-                  (walk_after v.built.kind (stream_from v.built (v.bytes ++ []) m.end) (Some m.end)))
-                  ∙ ap (slice_get (inv.given.matches ++ m
-                  ∷ walk_after v.built.kind (stream_from v.built (v.bytes ++ []) m.end) (Some m.end)))
-                  (sym inv.given.count)
-                  ∙ get-behind inv.given.matches
-                  (walk_after v.built.kind (stream_from v.built (v.bytes ++ []) m.end) (Some m.end)) m);
+              next = next-there;
               same = refl;
               after = elim inv.back [
                 | inl back ↦ omega arith
                 | inr ended ↦ let a = ended.1 in omega arith
               ];
+              numbered = occurs.numbered;
               ordered = omega arith;
               within = let w = there.inside in omega arith;
+              settled = settled-by v.phase;
+              counted = (let f' = inv.few in let w = there.inside in let s = inv.small in omega arith);
             }
+          where
+            -- it is one of the matches, so none of its bytes is held back
+            among : slice_get (streamed v.built v.bytes) v.given ≡ Some m
+            among = next-there
+
+            settled-by : (p : Phase) → m.end ≤ settled_in p (settled v.built v.bytes) (length v.bytes)
+            settled-by Ended = let w = there.inside in let e = ends in omega arith
+            settled-by Open =
+                let w = there.inside in let e = ends in
+                let l = last-after (streamed v.built v.bytes) v.given m (walk-ordered v.built.kind (stream_from v.built v.bytes 0)) among in
+                omega arith
+            settled-by Failed =
+                let w = there.inside in let e = ends in
+                let l = last-after (streamed v.built v.bytes) v.given m (walk-ordered v.built.kind (stream_from v.built v.bytes 0)) among in
+                omega arith
 
         begins-anew : IsStreaming stands (record i { state = i.start; at = cursor.at; begun = m.end })
             (record v { given = v.given + 1; kept = m.end })
@@ -547,6 +595,8 @@ module _ (stands : ℕ → Node → Type 0) (listed : ℕ → List ℕ) (most : 
                 last = Some m.end;
                 walks = walks-on;
               };
+              few = (let f = inv.few in let l = occurs.from_low in let o = occurs.as_long in let s = some-bytes in
+                  omega arith);
               in_buffer = (let k = inv.in_buffer in omega arith);
               after = omega arith;
               kept_within = gives.within;
@@ -615,6 +665,7 @@ module _ (stands : ℕ → Node → Type 0) (built : Built) (allowed : stream_re
     quiet = sym (picked-start scan-begun true [] whole-begun (omega arith)) ∙ nothing-begun;
     none = nothing-begun;
     given = record { matches = []; count = refl; end = refl; last = None; walks = λ more. refl };
+    few = omega arith;
     in_buffer = omega arith;
     after = omega arith;
     kept_within = omega arith;
@@ -710,6 +761,7 @@ module _ (stands : ℕ → Node → Type 0) (i : Inside) (v : Streaming) (inv : 
         none = subst (λ (p : ℕ). pick Standard (record (stream_from v.built v.bytes i.begun) { high = p }) ≡ None) place
             inv.none;
         given = inv.given;
+        few = inv.few;
         in_buffer = omega arith;
         after = inv.after;
         kept_within = inv.kept_within;
@@ -751,6 +803,7 @@ module _ (stands : ℕ → Node → Type 0) (i : Inside) (v : Streaming) (inv : 
       quiet = inv.quiet;
       none = inv.none;
       given = inv.given;
+      few = inv.few;
       in_buffer = inv.in_buffer;
       after = inv.after;
       kept_within = inv.kept_within;
@@ -790,6 +843,7 @@ module _ (stands : ℕ → Node → Type 0) (i : Inside) (v : Streaming) (inv : 
             none = pick-extended (record (stream_from v.built v.bytes i.begun) { high = v.front + i.at }) more
                 inv.is_at.onward inside Standard ∙ inv.none;
             given = given-longer stands v.built v.bytes more i.begun v.given inv.given;
+            few = inv.few;
             in_buffer = inv.in_buffer;
             after = inv.after;
             kept_within = omega arith;
@@ -823,3 +877,14 @@ failed-as old between searched new more read all failed =
     ∙ ap (λ (v : Streaming). record v { front = new.front; kept = settled_of between; phase = Failed }) read
     ∙ ap (λ (k : ℕ). record old { bytes = old.bytes ++ more; front = new.front; kept = k; phase = Failed })
     (sym (ap (λ (v : Streaming). v.kept) failed ∙ ap (λ (v : Streaming). v.kept) all.same))
+
+-- bytes of the stream as they stand in the buffer
+pub buffer-shows : (bytes buffer : List ℕ) (front filled start end : ℕ) → length bytes ≡ front + filled
+    → take filled buffer ≡ drop front bytes → front ≤ start → start ≤ end → end ≤ length bytes
+    → take (end - front - (start - front)) (drop (start - front) buffer) ≡ slice_range bytes start end
+buffer-shows bytes buffer front filled start end counted holds from ordered within =
+    ap (λ (n : ℕ). take n (drop (start - front) buffer)) (let e : end - front - (start - front) ≡ end - start = omega arith in e)
+    ∙ sym (take_drop_take (end - start) (start - front) filled buffer (omega arith))
+    ∙ ap (λ (xs : List ℕ). take (end - start) (drop (start - front) xs)) holds
+    ∙ ap (take (end - start)) (drop-drop (start - front) front bytes
+    ∙ ap (λ (k : ℕ). drop k bytes) (let e : front + (start - front) ≡ start = omega arith in e))

@@ -1,5 +1,6 @@
 pub mod Automata
 pub mod Builds
+pub mod Exchanges
 pub mod Finders
 pub mod Finds
 pub mod Growths

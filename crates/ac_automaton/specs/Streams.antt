@@ -54,13 +54,16 @@ settled_in Failed place all = place
 abbrev pub settled_of : Streaming → ℕ
 settled_of v = settled_in v.phase (settled v.built v.bytes) (length v.bytes)
 
--- the next match of the bytes read so far was given. It and all that is kept before it are in the buffer
+-- the next match of the bytes read so far was given. It stands behind what isn't kept any more, and is settled
 pub record GivesMatch (old : Streaming) (m : Occurrence) (new : Streaming) : Type 0 where
   pub next : slice_get (matches_so_far old) old.given ≡ Some m
   pub same : new ≡ record old { given = old.given + 1; kept = m.end }
+  pub numbered : m.pattern < length old.built.patterns
   pub after : old.kept ≤ m.start
   pub ordered : m.start ≤ m.end
   pub within : m.end ≤ length old.bytes
+  pub settled : m.end ≤ settled_of old
+  pub counted : new.given ≤ 18446744073709551615
 
 -- all matches of the bytes read so far were given, and what is settled is kept no more
 pub record HasGivenAll (old new : Streaming) : Type 0 where
@@ -103,6 +106,7 @@ pub record GivesNext (old : Streaming) (m : Occurrence) (new : Streaming) (reade
   pub more : List ℕ
   pub reads : ReadsSome reader new_reader more
   pub next : slice_get (streamed old.built (old.bytes ++ more)) old.given ≡ Some m
+  pub counted : new.given ≤ 18446744073709551615
   pub same : new ≡ record old {
     bytes = old.bytes ++ more;
     given = old.given + 1;
@@ -182,7 +186,30 @@ pub record IsStreaming (stands : ℕ → Node → Type 0) (i : Inside) (v : Stre
       (v.front + i.at) ≡ None
   pub none : pick Standard (record (stream_from v.built v.bytes i.begun) { high = v.front + i.at }) ≡ None
   pub given : HasGiven v.built v.bytes v.given i.begun
+  pub few : v.given ≤ i.begun
   pub in_buffer : v.front ≤ v.kept
   pub after : i.begun ≤ v.kept
   pub kept_within : v.kept ≤ length v.bytes
   pub back : (v.kept ≤ max i.begun (v.front + i.at - i.reserve)) ⊎ ((v.phase ≡ Ended) × (i.at ≡ i.filled))
+
+-- what is seen of an iterator over the matches of a stream: the search, and its reader
+pub record StreamReading : Type 0 where
+  pub stream : Streaming
+  pub reader : Reading
+
+-- the iterator has given the next item, and more was read where that was needed
+abbrev pub GivesItem : Bool → StreamReading → Option (Result Occurrence StreamError) → StreamReading → Type 0
+GivesItem ends old item new = StreamsOn ends old.stream item new.stream old.reader new.reader
+
+-- it has given the next match without a read, or there is none
+abbrev pub ReadsItem : StreamReading → Option Occurrence → StreamReading → Type 0
+ReadsItem old found new = GivesRead old.stream found new.stream × (new.reader ≡ old.reader)
+
+-- how many items may follow at most: each match has a byte, and an error is the last one
+abbrev pub items_in : Phase → ℕ → ℕ
+items_in Open given = 18446744073709551615 - given + 1
+items_in Ended given = 0
+items_in Failed given = 0
+
+abbrev pub items_left : StreamReading → ℕ
+items_left s = items_in s.stream.phase s.stream.given

@@ -30,12 +30,15 @@ mod replace;
 mod scan;
 mod skip;
 mod stream;
+mod stream_iter;
+mod stream_replace;
 mod walk;
 
 pub use find::{Finder, find_core};
 pub use overlap::{FindOverlappingIter, MatchRest, OverlappingState};
 pub use scan::is_due;
 pub use stream::{Phase, StreamFinder};
+pub use stream_iter::StreamFindIter;
 pub use walk::FindIter;
 
 /// An automaton that finds patterns: states, and where each byte leads from a state.

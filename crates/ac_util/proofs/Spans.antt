@@ -15,7 +15,7 @@ use Rattle.ac_util.proofs.Picks.{pick-IsPick, pick-from_IsPick, same_occurrence}
 use Rattle.ac_util.proofs.Standing.{Stands, place_of, IsPickIn, Stands-end}
 
 -- a part of the first m elements is a part of the list
-take_drop_take : {X : Type 0} (n k m : ℕ) (xs : List X) → k + n ≤ m
+pub take_drop_take : {X : Type 0} (n k m : ℕ) (xs : List X) → k + n ≤ m
     → take n (drop k (take m xs)) ≡ take n (drop k xs)
 take_drop_take n zero m xs h = take-take n m xs (omega arith)
 take_drop_take n (suc k) zero xs h = absurd (omega arith)

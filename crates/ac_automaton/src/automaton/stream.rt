@@ -1,5 +1,5 @@
 //! The search of a stream: what a reader gives is read into a buffer, and its matches are given one after another.
-ghost use Rattle.std.specs.Prelude.{◌≡◌, ◌≤◌, ◌<◌, ◌+◌, ◌-◌, ◌*◌, MatchResult, None, Some, drop, length, max, min, take, ⊤};
+ghost use Rattle.std.specs.Prelude.{◌≡◌, ◌≤◌, ◌<◌, ◌+◌, ◌-◌, ◌*◌, MatchResult, None, Some, drop, length, max, min, slice_range, take, ⊤};
 ghost use Rattle.ac_util.specs.declared.search.Anchored.TheVariants.{No};
 ghost use Rattle.ac_util.specs.Built.{stream_refusal};
 ghost use Rattle.ac_util.specs.Device.{Reads};
@@ -146,6 +146,25 @@ impl<'a, A: Automaton, Z: Allocator> StreamFinder<'a, A, Z> {
         ensures { result ≡ self.now.buffer }
     {
         self.buffer.len()
+    }
+
+    /// Returns from where in the stream on bytes are kept: the end of the last match that was given, or further on.
+    pub(super) fn kept(&self) -> usize
+        ensures kept { result ≡ self.now.kept }
+        ensures in_buffer { self.now.front ≤ self.now.kept }
+        ensures within { self.now.kept ≤ length self.now.bytes }
+    {
+        self.kept
+    }
+
+    /// Returns the bytes of the stream from one offset up to another, as they stand in the buffer.
+    pub(super) fn bytes(&self, from: usize, to: usize) -> &[u8]
+        requires in_buffer { self.now.front ≤ from }
+        requires ordered { from ≤ to }
+        requires within { to ≤ length self.now.bytes }
+        ensures { result.now ≡ slice_range self.now.bytes from to }
+    {
+        &self.buffer[from - self.front..to - self.front]
     }
 
     /// Returns the next match of the bytes that were read, without reading more of them. `None` says that all their matches

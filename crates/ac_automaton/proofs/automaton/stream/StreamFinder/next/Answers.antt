@@ -31,9 +31,9 @@ returns-in-Err g c =
       open' = read.goes_on;
       more = more;
       reads = fails-on _ (length c.args.self.now.bytes) _ more
-          (ap (λ (v : Streaming). length v.bytes) (all.same ∙ ap (λ (v : Streaming). record v { kept = c.next_read.new.self.kept }) read.same)
+          (ap (λ (v : Streaming). length v.bytes) all.same ∙ ap (λ (v : Streaming). length v.bytes) read.same
           ∙ length-append c.args.self.now.bytes more) read.reads _ fails.reads;
       all = sym (ap (λ (v : Streaming). v.given) read.same) ∙ all.all
           ∙ ap (λ (v : Streaming). length (matches_so_far v)) read.same;
-      same = failed-as _ _ _ _ more read.same all fails.same;
+      same = failed-as c.args.self.now c.loop-found.self c.next_read.new.self c.fill.new.self more read.same all fails.same;
     }

@@ -1,0 +1,22 @@
+use Rattle.std.proofs.Common.{◌≡◌, ◌-◌, ◌<◌, ℕ, length}
+use Rattle.ac_util.specs.Occurrence.{Occurrence}
+use Rattle.ac_util.specs.Replacement.{Replacing}
+use Rattle.ac_automaton.specs.Exchanges.{HasReplaced}
+use Rattle.ac_automaton.specs.Streams.{matches_so_far}
+use Rattle.ac_automaton.proofs.automaton.stream_replace.exchange_read.Given as goal
+
+-- whatever was done before, some more of the matches were exchanged
+abbrev pub invariant-loop-found : goal.invariant-loop-found
+invariant-loop-found g l =
+    let E = g.E.Exchange in record {
+      accepted : (m : Occurrence) → E.accepts l.fn.exchange m → E.accepts l.exchange m;
+      same : l.finder ≡ record l.fn.finder { given = l.finder.given; kept = l.finder.kept };
+      replaced : (first : Replacing _ _)
+          → HasReplaced g.W.Sink.told E.calls l.fn.finder first
+          (record { closure = l.fn.exchange; destination = l.fn.writer })
+          → HasReplaced g.W.Sink.told E.calls l.finder first
+          (record { closure = l.exchange; destination = l.writer });
+    }
+
+abbrev pub decreases-loop-found : goal.decreases-loop-found
+decreases-loop-found g l = length (matches_so_far l.finder) - l.finder.given

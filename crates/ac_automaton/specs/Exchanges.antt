@@ -1,0 +1,62 @@
+-- What the replacement of a stream has done so far.
+use Rattle.std.specs.Prelude.{◌≡◌, ◌⊎◌, ℕ, List, ◌++◌, Option, None, Some, Result, Ok, Err, MatchResult, [], length, slice_index_or, take}
+use Rattle.std.specs.Borrow.{Bor, MutBor}
+use Rattle.std.specs.Fn.{Mut}
+use Rattle.std.specs.declared.io.Error.{Error}
+use Rattle.ac_util.specs.declared.error.StreamError.{StreamError}
+use Rattle.ac_util.specs.declared.error.StreamError.TheVariants.{Io}
+use Rattle.ac_util.specs.Device.{Writing}
+use Rattle.ac_util.specs.Occurrence.{Occurrence}
+use Rattle.ac_util.specs.Replacement.{Answer, Calls, Fails, GoesOn, Replacing, ReplacementSteps}
+use Rattle.ac_util.specs.StreamReplacing.{WritesPiece}
+use Rattle.ac_automaton.specs.Streams.{Streaming, matches_so_far, settled_of}
+
+-- the error in an answer, if there is one
+abbrev pub error_in : Result (Unit {0}) StreamError → Option StreamError
+error_in (Ok done) = None
+error_in (Err e) = Some e
+
+-- and what it asks for: to go on, or to end with the error
+abbrev pub asked_by_answer : Result (Unit {0}) StreamError → Answer StreamError
+asked_by_answer (Ok done) = GoesOn
+asked_by_answer (Err e) = Fails e
+
+-- the text of the match's pattern was written, or a beginning of it
+abbrev pub WritesTexts : {F D : Type 0} → (D → Writing) → List (List ℕ) → Occurrence → Replacing F D
+    → Result (Unit {0}) StreamError → Replacing F D → Type 0
+WritesTexts told texts m s r t = WritesPiece told (slice_index_or texts m.pattern []) s (error_in r) t
+
+-- a closure was called with a match and its slice, and its error is the answer's
+abbrev pub CallsBy : {F D : Type 0}
+    → Mut F (Bor Occurrence × (Bor (List ℕ) × (MutBor D × Unit {0}))) (Result (Unit {0}) Error × (MutBor D × Unit {0}))
+    → Occurrence → List ℕ → F → D → Result (Unit {0}) StreamError → F → D → Type 0
+CallsBy closures m slice closure old r left new =
+    (answer : Result (Unit {0}) Error)
+    × Calls closures m slice (record { closure = closure; destination = old }) answer
+    (record { closure = left; destination = new })
+    × MatchResult answer (λ done. r ≡ Ok done) (λ e. r ≡ Err (Io e))
+
+module _ {E D : Type 0} (told : D → Writing)
+    (calls : Occurrence → List ℕ → Replacing E D → Result (Unit {0}) StreamError → Replacing E D → Type 0) where
+  -- the steps that exchange these matches of a haystack, from a place on
+  abbrev pub Steps : List ℕ → ℕ → List Occurrence → Replacing E D → Option StreamError → Replacing E D → Type 0
+  Steps haystack place ms s end t = ReplacementSteps (WritesPiece told) calls asked_by_answer haystack place ms s end t
+
+  -- the matches given so far were exchanged, and what isn't kept any more was written: in any haystack that begins as
+  -- the stream does, steps from there on are the last of steps from the start
+  pub record HasReplaced (v : Streaming) (first s : Replacing E D) : Type 0 where
+    pub steps : (haystack : List ℕ) → take v.kept haystack ≡ take v.kept v.bytes
+        → (ms : List Occurrence) (end : Option StreamError) (t : Replacing E D) → Steps haystack v.kept ms s end t
+        → Steps haystack 0 (take v.given (matches_so_far v) ++ ms) first end t
+
+  -- all matches of what was read were exchanged, and all that is settled was written: whatever was done before
+  pub record HasExchanged (old new : Streaming) (s t : Replacing E D) : Type 0 where
+    pub all : new.given ≡ length (matches_so_far new)
+    pub same : new ≡ record old { given = new.given; kept = settled_of old }
+    pub replaced : (first : Replacing E D) → HasReplaced old first s → HasReplaced new first t
+
+  -- a write, or an exchange, has failed: the steps were made up to it
+  abbrev pub FailsToExchange : Streaming → Replacing E D → StreamError → Replacing E D → Type 0
+  FailsToExchange old s e t =
+      (first : Replacing E D) → HasReplaced old first s
+      → Steps (take (settled_of old) old.bytes) 0 (matches_so_far old) first (Some e) t

@@ -1,0 +1,82 @@
+//! The matches of a stream, one after another.
+ghost use Rattle.std.specs.Prelude.{◌≡◌, MatchResult, None, ⊤};
+ghost use Rattle.std.specs.Iterator.{at_most};
+ghost use Rattle.ac_util.specs.Built.{stream_refusal};
+ghost use Rattle.ac_util.specs.StreamReplacing.{IsRefused};
+ghost use Rattle.ac_automaton.specs.Streams.{GivesItem, ReadsItem, items_left, stream_begun};
+
+use super::Automaton;
+use super::stream::StreamFinder;
+use ac_util::device::Source;
+use ac_util::error::StreamError;
+use ac_util::search::Match;
+use std::alloc::Allocator;
+use std::marker::Model;
+
+/// An iterator over the matches of what a reader gives, made by `Automaton::try_stream_find_iter`.
+///
+/// The matches are those of the walk over all bytes of the reader, however it cuts them; offsets count from 0 over the whole
+/// stream. Its first error is its last item: after an error, as after the end, it keeps giving `None`, and the reader isn't
+/// asked again. Before each read all matches of the bytes read so far were given.
+#[derive(Drop)]
+pub struct StreamFindIter<'a, A: Automaton, R: Source + Drop, Z: Allocator> {
+    finder: StreamFinder<'a, A, Z>,
+    reader: R,
+}
+
+impl<'a, A: Automaton, R: Source + Drop, Z: Allocator> Model for StreamFindIter<'a, A, R, Z> {
+    ghost use Rattle.ac_automaton.specs.Streams.{StreamReading};
+
+    ghost Value = { StreamReading };
+
+    ghost view = { λ s. record { stream = s.finder; reader = R.told s.reader } };
+}
+
+impl<'a, A: Automaton, R: Source + Drop, Z: Allocator> StreamFindIter<'a, A, R, Z> {
+    /// Returns what `Automaton::try_stream_find_iter` does.
+    pub(super) fn new(automaton: &'a A, alloc: Z, reader: R) -> Result<StreamFindIter<'a, A, R, Z>, StreamError>
+        ensures { MatchResult result
+            (λ matches. (stream_refusal (A.built automaton.now) ≡ None)
+            × (matches ≡ record { stream = stream_begun (A.built automaton.now); reader = R.told reader }))
+            (IsRefused (stream_refusal (A.built automaton.now)) ⊤) }
+    {
+        let finder = StreamFinder::new(automaton, alloc)?;
+        Ok(StreamFindIter { finder, reader })
+    }
+
+    /// Returns how many bytes the buffer has: 65,536, or eight times as many as the longest pattern if that is more.
+    pub fn buffer_len(&self) -> usize
+        ensures { result ≡ self.now.stream.buffer }
+    {
+        self.finder.buffer_len()
+    }
+
+    /// Returns the next match of the bytes that were read, without reading more of them. `None` says that all their matches
+    /// were given.
+    pub fn next_read(&mut self) -> Option<Match>
+        ensures { ReadsItem self.old result self.new }
+    {
+        self.finder.next_read()
+    }
+
+    /// Returns the next match of the stream, and reads more of it where that is needed.
+    #[inline]
+    fn advance(&mut self) -> Option<Result<Match, StreamError>>
+        ensures { GivesItem R.empty_means_end self.old result self.new }
+    {
+        self.finder.next(&mut self.reader)
+    }
+}
+
+impl<'a, A: Automaton, R: Source + Drop, Z: Allocator> Iterator for StreamFindIter<'a, A, R, Z> {
+    type Item = Result<Match, StreamError>;
+
+    ghost next_gives = { GivesItem R.empty_means_end };
+
+    ghost remaining = { λ s. at_most (items_left s) };
+
+    #[inline]
+    fn next(&mut self) -> Option<Result<Match, StreamError>> {
+        self.advance()
+    }
+}

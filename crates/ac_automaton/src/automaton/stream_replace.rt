@@ -1,0 +1,98 @@
+//! Replacement in a stream: its bytes are written as they were read, with each match exchanged by a list or by a closure.
+ghost use Rattle.std.specs.Prelude.{◌≡◌, ℕ, ◌<◌, List, MatchResult, None, Result, length};
+ghost use Rattle.ac_util.specs.Borrowed.{bytes_of};
+ghost use Rattle.ac_util.specs.Built.{stream_refusal};
+ghost use Rattle.ac_util.specs.Occurrence.{Occurrence};
+ghost use Rattle.ac_util.specs.Replacement.{Replacing};
+ghost use Rattle.ac_util.specs.declared.error.StreamError.{StreamError};
+ghost use Rattle.ac_automaton.specs.Exchanges.{CallsBy, FailsToExchange, HasExchanged, WritesTexts};
+
+use super::Automaton;
+use super::stream::StreamFinder;
+use ac_util::device::{Sink, Source, write_all};
+use ac_util::error::StreamError;
+use ac_util::search::Match;
+use std::alloc::Allocator;
+use std::io;
+
+/// What writes in place of a match.
+pub(super) trait Exchange<W: Sink> {
+    // Whether it may be called with a match.
+    ghost accepts: { Self → Occurrence → Type 0 };
+
+    // A call with a match and its slice may answer so, and leave it and the writer so.
+    ghost calls: { Occurrence → List ℕ → Replacing Self W → Result (Unit {0}) StreamError → Replacing Self W → Type 0 };
+
+    /// Writes in place of a match.
+    ///
+    /// # Errors
+    /// As what is wrapped.
+    fn exchange(&mut self, found: &Match, slice: &[u8], writer: &mut W) -> Result<(), StreamError>
+        requires accepted { accepts self.old found.now }
+        ensures calls { calls found.now slice.now (record { closure = self.old; destination = writer.old }) result
+            (record { closure = self.new; destination = writer.new }) }
+        ensures still { (m : Occurrence) → accepts self.old m → accepts self.new m };
+}
+
+/// Writes the text of a match's pattern.
+pub(super) struct ByTexts<'t> {
+    pub(super) texts: &'t [&'t [u8]],
+}
+
+impl<'t, W: Sink> Exchange<W> for ByTexts<'t> {
+    ghost accepts = { λ e m. m.pattern < length e.texts.now };
+
+    ghost calls = { λ m slice s r t. WritesTexts W.told (bytes_of s.closure.texts.now) m s r t };
+
+    fn exchange(&mut self, found: &Match, _slice: &[u8], writer: &mut W) -> Result<(), StreamError> {
+        write_all(writer, self.texts[found.pattern().as_usize()])?;
+        Ok(())
+    }
+}
+
+/// Calls a closure.
+pub(super) struct ByClosure<F> {
+    pub(super) closure: F,
+}
+
+impl<W: Sink, F: FnMut(&Match, &[u8], &mut W) -> io::Result<()>> Exchange<W> for ByClosure<F> {
+    ghost accepts = { λ e m. F.IsAlwaysCallable e.closure };
+
+    ghost calls = { λ m slice s r t. CallsBy F.FnMut m slice s.closure.closure s.destination r t.closure.closure t.destination };
+
+    fn exchange(&mut self, found: &Match, slice: &[u8], writer: &mut W) -> Result<(), StreamError> {
+        match (self.closure)(found, slice, writer) {
+            Ok(()) => Ok(()),
+            Err(e) => Err(StreamError::Io(e)),
+        }
+    }
+}
+
+/// Exchanges all matches of what was read that are still to be given, and writes the bytes between them as far as they are
+/// settled.
+///
+/// # Errors
+/// `Io` where a write failed, `WriteZero` where one took no byte, and those of an exchange.
+fn exchange_read<A: Automaton, Z: Allocator, W: Sink, E: Exchange<W>>(
+    finder: &mut StreamFinder<'_, A, Z>,
+    writer: &mut W,
+    exchange: &mut E,
+) -> Result<(), StreamError>
+    requires accepted { (m : Occurrence) → m.pattern < length finder.old.built.patterns → E.accepts exchange.old m }
+    ensures accepted { (m : Occurrence) → E.accepts exchange.old m → E.accepts exchange.new m }
+    ensures exchanged { MatchResult result
+        (λ _. HasExchanged W.told E.calls finder.old finder.new (record { closure = exchange.old; destination = writer.old })
+        (record { closure = exchange.new; destination = writer.new }))
+        (λ e. FailsToExchange W.told E.calls finder.old (record { closure = exchange.old; destination = writer.old }) e
+        (record { closure = exchange.new; destination = writer.new })) }
+{
+    loop {
+        let from = finder.kept();
+        let Some(found) = finder.next_read() else {
+            write_all(writer, finder.bytes(from, finder.kept()))?;
+            return Ok(());
+        };
+        write_all(writer, finder.bytes(from, found.start()))?;
+        exchange.exchange(&found, finder.bytes(found.start(), found.end()), writer)?;
+    }
+}
