@@ -1,5 +1,5 @@
 -- What the replacement of a stream has done so far.
-use Rattle.std.specs.Prelude.{◌≡◌, ◌⊎◌, ℕ, List, ◌++◌, Option, None, Some, Result, Ok, Err, MatchResult, [], length, slice_index_or, take}
+use Rattle.std.specs.Prelude.{◌≡◌, ℕ, ◌≤◌, List, ◌∷◌, ◌++◌, ⊤, Option, None, Some, Result, Ok, Err, MatchResult, [], length, slice_index_or, take}
 use Rattle.std.specs.Borrow.{Bor, MutBor}
 use Rattle.std.specs.Fn.{Mut}
 use Rattle.std.specs.declared.io.Error.{Error}
@@ -36,6 +36,11 @@ CallsBy closures m slice closure old r left new =
     (record { closure = left; destination = new })
     × MatchResult answer (λ done. r ≡ Ok done) (λ e. r ≡ Err (Io e))
 
+-- the first of the matches starts at the place or later
+abbrev pub StartFrom : ℕ → List Occurrence → Type 0
+StartFrom place [] = ⊤
+StartFrom place (m ∷ ms) = place ≤ m.start
+
 module _ {E D : Type 0} (told : D → Writing)
     (calls : Occurrence → List ℕ → Replacing E D → Result (Unit {0}) StreamError → Replacing E D → Type 0) where
   -- the steps that exchange these matches of a haystack, from a place on
@@ -46,7 +51,8 @@ module _ {E D : Type 0} (told : D → Writing)
   -- the stream does, steps from there on are the last of steps from the start
   pub record HasReplaced (v : Streaming) (first s : Replacing E D) : Type 0 where
     pub steps : (haystack : List ℕ) → take v.kept haystack ≡ take v.kept v.bytes
-        → (ms : List Occurrence) (end : Option StreamError) (t : Replacing E D) → Steps haystack v.kept ms s end t
+        → (ms : List Occurrence) → StartFrom v.kept ms → (end : Option StreamError) (t : Replacing E D)
+        → Steps haystack v.kept ms s end t
         → Steps haystack 0 (take v.given (matches_so_far v) ++ ms) first end t
 
   -- all matches of what was read were exchanged, and all that is settled was written: whatever was done before

@@ -1,0 +1,161 @@
+use Rattle.std.proofs.Common.{◌≡◌, ◌∙◌, ◌+◌, ◌-◌, ◌<◌, ◌≤◌, ℕ, List, Option, Some, Ok, Err, Result, length, take, refl, sym, ap, subst, arith}
+use Rattle.std.specs.Prelude.{slice_range}
+use Rattle.std.proofs.lemmas.Option.{slice_get_within}
+use Rattle.ac_util.specs.declared.error.StreamError.{StreamError}
+use Rattle.ac_util.specs.Device.{WritesAll, WritesUntilFailure}
+use Rattle.ac_util.specs.Replacement.{Replacing}
+use Rattle.ac_util.specs.Stream.{error_of}
+use Rattle.ac_automaton.specs.Exchanges.{FailsToExchange, HasExchanged, HasReplaced, Steps}
+use Rattle.ac_automaton.specs.Streams.{GivesMatch, HasGivenAll, Streaming, matches_so_far, settled_of}
+use Rattle.ac_automaton.proofs.Places.{refused-by}
+use Rattle.ac_automaton.proofs.StreamExchanging.{exchange-fails, gap-fails, replaced-match, replaced-settled, settled-fails}
+use Rattle.ac_automaton.proofs.automaton.stream_replace.exchange_read.Goals as goal
+
+pub returns-in_default-clause-exchanged : goal.returns-in_default-clause-exchanged
+returns-in_default-clause-exchanged g c =
+    let told = g.W.Sink.told in
+    let calls = g.E.Exchange.calls in
+    let v = c.loop-found.finder in
+    let all : HasGivenAll v c.next_read.new.self = c.in_default.ensures in
+    let shown : c.bytes.result.now ≡ slice_range v.bytes v.kept (settled_of v) =
+    c.bytes.ensures ∙ ap (λ (w : Streaming). slice_range w.bytes c.kept-from.result c.kept.result) all.same
+    ∙ ap (λ (k : ℕ). slice_range v.bytes k c.kept.result) c.kept-from.ensures.kept
+    ∙ ap (λ (k : ℕ). slice_range v.bytes v.kept k) (c.kept.ensures.kept ∙ ap (λ (w : Streaming). w.kept) all.same) in
+    let writes = subst (λ (w : List ℕ). WritesAll (told c.loop-found.writer) (told c.write_all.new.writer) w) shown
+    c.in_ok-write_all.ensures in
+    record {
+      all = subst (λ (w : Streaming). w.given ≡ length (matches_so_far w)) (sym all.same) all.all;
+      same = all.same ∙ ap (λ (w : Streaming). record w { kept = settled_of w }) c.loop-found.invariant.same
+          ∙ ap (λ (n : ℕ). record c.args.finder.now { given = n; kept = settled_of c.args.finder.now })
+          (sym (ap (λ (w : Streaming). w.given) all.same));
+      replaced = λ first done.
+          subst (λ (w : Streaming). HasReplaced told calls w first
+          (record { closure = c.loop-found.exchange; destination = c.write_all.new.writer })) (sym all.same)
+          (replaced-settled told calls v first _ (c.loop-found.invariant.replaced first done) (settled_of v) _ all.onward
+          (refl, writes));
+    }
+
+pub returns-in_err-write_all-clause-exchanged : goal.returns-in_err-write_all-clause-exchanged
+returns-in_err-write_all-clause-exchanged g c =
+    let told = g.W.Sink.told in
+    let calls = g.E.Exchange.calls in
+    let v = c.loop-found.finder in
+    let failure = c.in_err-write_all.field-0.0 in
+    let all : HasGivenAll v c.next_read.new.self = c.in_default.ensures in
+    let shown : c.bytes.result.now ≡ slice_range v.bytes v.kept (settled_of v) =
+    c.bytes.ensures ∙ ap (λ (w : Streaming). slice_range w.bytes c.kept-from.result c.kept.result) all.same
+    ∙ ap (λ (k : ℕ). slice_range v.bytes k c.kept.result) c.kept-from.ensures.kept
+    ∙ ap (λ (k : ℕ). slice_range v.bytes v.kept k) (c.kept.ensures.kept ∙ ap (λ (w : Streaming). w.kept) all.same) in
+    let writes = subst (λ (w : List ℕ). WritesUntilFailure (told c.loop-found.writer) (told c.write_all.new.writer) w failure)
+    shown c.in_err-write_all.ensures in
+    refused-by c.from_residual.result (error_of failure) _ _ c.from_residual.ensures.1
+    (λ first done.
+    subst (λ (w : Streaming). Steps told calls (take (settled_of w) w.bytes) 0 (matches_so_far w) first
+    (Some (error_of failure)) (record { closure = c.loop-found.exchange; destination = c.write_all.new.writer }))
+    c.loop-found.invariant.same
+    (settled-fails told calls v first _ (c.loop-found.invariant.replaced first done) (error_of failure) _ all.all all.onward
+    (refl, (failure, refl, writes))))
+
+pub returns-in_err-write_all-2-clause-exchanged : goal.returns-in_err-write_all-2-clause-exchanged
+returns-in_err-write_all-2-clause-exchanged g c =
+    let told = g.W.Sink.told in
+    let calls = g.E.Exchange.calls in
+    let v = c.loop-found.finder in
+    let failure = c.in_err-write_all-2.field-0.0 in
+    let m = c.in-Some.found in
+    let gives : GivesMatch v m c.next_read.new.self = c.in-Some.ensures in
+    let shown : c.bytes-in-loop-found.result.now ≡ slice_range v.bytes v.kept m.start =
+    c.bytes-in-loop-found.ensures
+    ∙ ap (λ (w : Streaming). slice_range w.bytes c.kept-from.result c.start.result) gives.same
+    ∙ ap (λ (k : ℕ). slice_range v.bytes k c.start.result) c.kept-from.ensures.kept
+    ∙ ap (λ (k : ℕ). slice_range v.bytes v.kept k) c.start.ensures in
+    let writes = subst (λ (w : List ℕ). WritesUntilFailure (told c.loop-found.writer)
+    (told c.write_all-in-loop-found.new.writer) w failure) shown c.in_err-write_all-2.ensures in
+    refused-by c.from_residual-in_err-write_all-2.result (error_of failure) _ _
+    c.from_residual-in_err-write_all-2.ensures.1
+    (λ first done.
+    subst (λ (w : Streaming). Steps told calls (take (settled_of w) w.bytes) 0 (matches_so_far w) first
+    (Some (error_of failure))
+    (record { closure = c.loop-found.exchange; destination = c.write_all-in-loop-found.new.writer }))
+    c.loop-found.invariant.same
+    (gap-fails told calls v first _ (c.loop-found.invariant.replaced first done) m _ gives (error_of failure) _
+    (refl, (failure, refl, writes))))
+
+pub loop-found-smaller : goal.loop-found-smaller
+loop-found-smaller g c =
+    let v = c.loop-found.finder in
+    let gives : GivesMatch v c.in-Some.found c.next_read.new.self = c.in-Some.ensures in
+    let within = slice_get_within (matches_so_far v) v.given c.in-Some.found gives.next in
+    let more : c.next_read.new.self.given ≡ v.given + 1 = ap (λ (w : Streaming). w.given) gives.same in
+    let long : length (matches_so_far c.next_read.new.self) ≡ length (matches_so_far v) =
+    ap (λ (w : Streaming). length (matches_so_far w)) gives.same in
+    omega arith
+
+pub loop-found-preserved : goal.loop-found-preserved
+loop-found-preserved g c =
+    let told = g.W.Sink.told in
+    let calls = g.E.Exchange.calls in
+    let v = c.loop-found.finder in
+    let m = c.in-Some.found in
+    let gives : GivesMatch v m c.next_read.new.self = c.in-Some.ensures in
+    let shown : c.bytes-in-loop-found.result.now ≡ slice_range v.bytes v.kept m.start =
+    c.bytes-in-loop-found.ensures
+    ∙ ap (λ (w : Streaming). slice_range w.bytes c.kept-from.result c.start.result) gives.same
+    ∙ ap (λ (k : ℕ). slice_range v.bytes k c.start.result) c.kept-from.ensures.kept
+    ∙ ap (λ (k : ℕ). slice_range v.bytes v.kept k) c.start.ensures in
+    let slice : c.bytes-in-loop-found-2.result.now ≡ slice_range v.bytes m.start m.end =
+    c.bytes-in-loop-found-2.ensures
+    ∙ ap (λ (w : Streaming). slice_range w.bytes c.start-in-loop-found.result c.end.result) gives.same
+    ∙ ap (λ (k : ℕ). slice_range v.bytes k c.end.result) c.start-in-loop-found.ensures
+    ∙ ap (λ (k : ℕ). slice_range v.bytes m.start k) c.end.ensures in
+    let writes = subst (λ (w : List ℕ). WritesAll (told c.loop-found.writer)
+    (told c.write_all-in-loop-found.new.writer) w) shown c.in_ok-write_all-2.ensures in
+    record {
+      accepted = λ n accepts. c.exchange.ensures.still n (c.loop-found.invariant.accepted n accepts);
+      same = gives.same
+          ∙ ap (λ (w : Streaming). record w { given = v.given + 1; kept = m.end }) c.loop-found.invariant.same
+          ∙ ap (λ (n : ℕ). record c.args.finder.now { given = n; kept = m.end })
+          (sym (ap (λ (w : Streaming). w.given) gives.same))
+          ∙ ap (λ (k : ℕ). record c.args.finder.now { given = c.next_read.new.self.given; kept = k })
+          (sym (ap (λ (w : Streaming). w.kept) gives.same));
+      replaced = λ first done.
+          replaced-match told calls v first _ (c.loop-found.invariant.replaced first done) m _ gives
+          (record { closure = c.loop-found.exchange; destination = c.write_all-in-loop-found.new.writer })
+          (refl, writes) _
+          (subst (λ (w : List ℕ). calls m w
+          (record { closure = c.loop-found.exchange; destination = c.write_all-in-loop-found.new.writer }) (Ok tt)
+          (record { closure = c.exchange.new.self; destination = c.exchange.new.writer })) slice
+          c.in_ok-exchange.ensures.calls);
+    }
+
+pub returns-in_err-exchange-clause-exchanged : goal.returns-in_err-exchange-clause-exchanged
+returns-in_err-exchange-clause-exchanged g c =
+    let told = g.W.Sink.told in
+    let calls = g.E.Exchange.calls in
+    let v = c.loop-found.finder in
+    let m = c.in-Some.found in
+    let e = c.in_err-exchange.field-0.0 in
+    let gives : GivesMatch v m c.next_read.new.self = c.in-Some.ensures in
+    let shown : c.bytes-in-loop-found.result.now ≡ slice_range v.bytes v.kept m.start =
+    c.bytes-in-loop-found.ensures
+    ∙ ap (λ (w : Streaming). slice_range w.bytes c.kept-from.result c.start.result) gives.same
+    ∙ ap (λ (k : ℕ). slice_range v.bytes k c.start.result) c.kept-from.ensures.kept
+    ∙ ap (λ (k : ℕ). slice_range v.bytes v.kept k) c.start.ensures in
+    let slice : c.bytes-in-loop-found-2.result.now ≡ slice_range v.bytes m.start m.end =
+    c.bytes-in-loop-found-2.ensures
+    ∙ ap (λ (w : Streaming). slice_range w.bytes c.start-in-loop-found.result c.end.result) gives.same
+    ∙ ap (λ (k : ℕ). slice_range v.bytes k c.end.result) c.start-in-loop-found.ensures
+    ∙ ap (λ (k : ℕ). slice_range v.bytes m.start k) c.end.ensures in
+    let writes = subst (λ (w : List ℕ). WritesAll (told c.loop-found.writer)
+    (told c.write_all-in-loop-found.new.writer) w) shown c.in_ok-write_all-2.ensures in
+    refused-by c.from_residual-in_err-exchange.result e _ _ c.from_residual-in_err-exchange.ensures.1
+    (λ first done.
+    subst (λ (w : Streaming). Steps told calls (take (settled_of w) w.bytes) 0 (matches_so_far w) first (Some e)
+    (record { closure = c.exchange.new.self; destination = c.exchange.new.writer })) c.loop-found.invariant.same
+    (exchange-fails told calls v first _ (c.loop-found.invariant.replaced first done) m _ gives
+    (record { closure = c.loop-found.exchange; destination = c.write_all-in-loop-found.new.writer })
+    (refl, writes) e _
+    (subst (λ (w : List ℕ). calls m w
+    (record { closure = c.loop-found.exchange; destination = c.write_all-in-loop-found.new.writer }) (Err e)
+    (record { closure = c.exchange.new.self; destination = c.exchange.new.writer })) slice
+    c.in_err-exchange.ensures.calls)))
