@@ -132,6 +132,12 @@ pub refused-by : {T E : Type 0} (r : Result T E) (e : E) (P : T → Type 0) (Q :
 refused-by (Ok x) e P Q is q = absurd is
 refused-by (Err y) e P Q is q = subst Q (sym is) q
 
+-- what holds of an answer, by what else holds of it
+pub match-by : {T E : Type 0} (r : Result T E) {P : T → Type 0} {Q : E → Type 0} (P' : T → Type 0) (Q' : E → Type 0)
+    → ((x : T) → P x → P' x) → ((e : E) → Q e → Q' e) → MatchResult r P Q → MatchResult r P' Q'
+match-by (Ok x) P' Q' ok err h = ok x h
+match-by (Err e) P' Q' ok err h = err e h
+
 -- one element more of a list
 pub take-next : {X : Type 0} (xs : List X) (i : ℕ) (x : X) → slice_get xs i ≡ Some x
     → take (i + 1) xs ≡ take i xs ++ x ∷ []

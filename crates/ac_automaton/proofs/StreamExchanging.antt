@@ -1,20 +1,26 @@
 -- The replacement of a stream: what was written so far and one piece more, one exchange more, and where it fails.
-use Rattle.std.proofs.Common.{◌≡◌, ◌≢◌, ◌⊎◌, ℕ, zero, suc, ◌+◌, ◌-◌, ◌<◌, ◌≤◌, List, [], ◌∷◌, ◌++◌, length, length-append, take, drop, inl, inr, refl, ap, sym, subst, ◌∙◌, arith, Option, Some, None, Result, Ok, Err}
+use Rattle.std.proofs.Common.{◌≡◌, ◌≢◌, ◌⊎◌, ℕ, zero, suc, ◌+◌, ◌-◌, ◌<◌, ◌≤◌, Bool, List, [], ◌∷◌, ◌++◌, length, length-append, length-take, take, drop, inl, inr, refl, ap, sym, subst, ◌∙◌, arith, Option, Some, None, Result, Ok, Err}
 use Rattle.std.specs.Prelude.{slice_get, slice_range, ⊤}
-use Rattle.std.proofs.KnownBytes.{Appends-nil, Appends-trans}
+use Rattle.std.specs.Io.KnownBytes.{Consumes}
+use Rattle.std.proofs.KnownBytes.{Appends-nil, Appends-trans, Consumes-nil, Consumes-trans}
 use Rattle.std.proofs.Math.Seq.{take-add, take-append-add}
-use Rattle.std.proofs.lemmas.List.{append-nil, append_assoc, drop-drop, drop-take, take-append-drop, take-take, take_all}
+use Rattle.std.proofs.lemmas.List.{append-nil, append_assoc, drop-drop, drop-take, drop_all, take-append-drop, take-append-le, take-take, take_all}
 use Rattle.ac_util.specs.declared.device.WriteError.{WriteError}
 use Rattle.ac_util.specs.declared.device.WriteError.TheVariants.{Io, WriteZero}
 use Rattle.ac_util.specs.declared.error.StreamError.{StreamError}
-use Rattle.ac_util.specs.Device.{HasCause, Writing}
+use Rattle.ac_util.specs.Built.{Built}
+use Rattle.ac_util.specs.Device.{HasCause, Reading, ReadsAll, ReadsSome, Writing}
 use Rattle.ac_util.specs.Occurrence.{Occurrence}
 use Rattle.ac_util.specs.Replacement.{Replacing}
-use Rattle.ac_util.specs.StreamReplacing.{WritesPiece}
+use Rattle.ac_util.specs.Stream.{streamed}
+use Rattle.ac_util.specs.StreamReplacing.{WritesPiece, settled}
+use Rattle.ac_util.proofs.Devices.{fails-on}
 use Rattle.ac_util.proofs.Spans.{take_drop_take}
-use Rattle.ac_automaton.specs.Exchanges.{FailsToExchange, HasReplaced, StartFrom, Steps}
+use Rattle.ac_automaton.specs.declared.automaton.stream.Phase.{Phase}
+use Rattle.ac_automaton.specs.declared.automaton.stream.Phase.TheVariants.{Ended, Failed, Open}
+use Rattle.ac_automaton.specs.Exchanges.{FailsBy, FailsToExchange, HasExchanged, HasReplaced, ReplacesBy, StartFrom, Steps}
 use Rattle.ac_automaton.proofs.Places.{take-next}
-use Rattle.ac_automaton.specs.Streams.{GivesMatch, HasGivenAll, Streaming, matches_so_far, settled_of}
+use Rattle.ac_automaton.specs.Streams.{FailsToFill, FillsMore, GivesMatch, HasGivenAll, MeetsEnd, Streaming, matches_so_far, settled_in, settled_of, stream_begun}
 
 -- a part of a list and then the next are a part
 part-join : {X : Type 0} (xs : List X) (a b c : ℕ) → a ≤ b → b ≤ c
@@ -236,3 +242,194 @@ module _ {E D : Type 0} (told : D → Writing)
                 (sym (part-same (take (settled_of v) v.bytes) v.bytes m.end v.kept m.start same gives.after gives.ordered))
                 gap,
           )))
+
+module _ {E D : Type 0} (told : D → Writing)
+    (calls : Occurrence → List ℕ → Replacing E D → Result (Unit {0}) StreamError → Replacing E D → Type 0) where
+  -- of a stream that begins nothing was exchanged or written
+  pub replaced-begin : (v : Streaming) (s : Replacing E D) → v.kept ≡ 0 → v.given ≡ 0 → HasReplaced told calls v s s
+  replaced-begin v s kept given = record {
+    steps = λ haystack same ms starts end t steps.
+        subst (λ (n : ℕ). Steps told calls haystack 0 (take n (matches_so_far v) ++ ms) s end t) (sym given)
+        (subst (λ (n : ℕ). Steps told calls haystack n ms s end t) kept steps);
+  }
+
+  -- more bytes have come
+  pub replaced-filled : (v new : Streaming) (first s : Replacing E D) → HasReplaced told calls v first s
+      → new.kept ≡ v.kept → new.given ≡ v.given → take v.kept new.bytes ≡ take v.kept v.bytes
+      → take v.given (matches_so_far new) ≡ take v.given (matches_so_far v) → HasReplaced told calls new first s
+  replaced-filled v new first s done kept given same stay = record {
+    steps = λ haystack alike ms starts end t steps.
+        subst (λ (ns : List Occurrence). Steps told calls haystack 0 (ns ++ ms) first end t)
+        (sym stay ∙ ap (λ (n : ℕ). take n (matches_so_far new)) (sym given))
+        (done.steps haystack (subst (λ (k : ℕ). take k haystack ≡ take k new.bytes) kept alike ∙ same) ms
+        (subst (λ (k : ℕ). StartFrom k ms) kept starts) end t
+        (subst (λ (k : ℕ). Steps told calls haystack k ms s end t) kept steps));
+  }
+
+  -- all matches were exchanged: these are the steps as far as bytes are settled
+  pub replaced-all : (v : Streaming) (first s : Replacing E D) (place : ℕ) → HasReplaced told calls v first s
+      → v.given ≡ length (matches_so_far v) → v.kept ≡ place
+      → Steps told calls (take place v.bytes) 0 (matches_so_far v) first None s
+  replaced-all v first s place done all kept =
+      subst (λ (ms : List Occurrence). Steps told calls (take place v.bytes) 0 ms first None s)
+      (append-nil (take v.given (matches_so_far v)) ∙ take_all v.given (matches_so_far v) (omega arith))
+      (done.steps (take place v.bytes)
+      (ap (λ (k : ℕ). take k (take place v.bytes)) kept ∙ take-take place place v.bytes (omega arith)
+      ∙ ap (λ (k : ℕ). take k v.bytes) (sym kept)) [] tt None s
+      (subst (λ (w : List ℕ). WritesPiece told w s None s)
+      (sym (drop_all v.kept (take place v.bytes) (let l = length-take place v.bytes in omega arith)))
+      (piece-none told calls s)))
+
+-- the replacement of a stream from its beginning on
+module _ {E D : Type 0} (told : D → Writing)
+    (calls : Occurrence → List ℕ → Replacing E D → Result (Unit {0}) StreamError → Replacing E D → Type 0)
+    (ends : Bool) (built : Built) (begun : Reading) (first : Replacing E D) where
+  -- what was read was searched so far as it was before the last read, and what was found exchanged
+  pub record IsReplacing (reader : Reading) (v : Streaming) (s : Replacing E D) : Type 0 where
+    pub built_is : v.built ≡ built
+    pub goes_on : v.phase ≡ Open
+    pub reads : ReadsSome begun reader v.bytes
+    pub replaced : HasReplaced told calls v first s
+
+  -- the same once the end was met
+  pub record IsEnding (reader : Reading) (v : Streaming) (s : Replacing E D) : Type 0 where
+    pub built_is : v.built ≡ built
+    pub ended : v.phase ≡ Ended
+    pub reads : ReadsAll ends begun reader v.bytes
+    pub replaced : HasReplaced told calls v first s
+
+  -- as far as where all is settled, by the phase
+  settled-open : (v : Streaming) → v.built ≡ built → v.phase ≡ Open → settled_of v ≡ settled built v.bytes
+  settled-open v is open' =
+      ap (λ (p : Phase). settled_in p (settled v.built v.bytes) (length v.bytes)) open'
+      ∙ ap (λ (b : Built). settled b v.bytes) is
+
+  settled-ended : (v : Streaming) → v.phase ≡ Ended → settled_of v ≡ length v.bytes
+  settled-ended v ended = ap (λ (p : Phase). settled_in p (settled v.built v.bytes) (length v.bytes)) ended
+
+  -- steps told by what the search was built from
+  steps-by : (v : Streaming) (from to : ℕ) (end : Option StreamError) (t : Replacing E D) → v.built ≡ built → from ≡ to
+      → Steps told calls (take from v.bytes) 0 (matches_so_far v) first end t
+      → Steps told calls (take to v.bytes) 0 (streamed built v.bytes) first end t
+  steps-by v from to end t is place steps =
+      subst (λ (n : ℕ). Steps told calls (take n v.bytes) 0 (streamed built v.bytes) first end t) place
+      (subst (λ (b : Built). Steps told calls (take from v.bytes) 0 (streamed b v.bytes) first end t) is steps)
+
+  pub begins : (v : Streaming) → v ≡ stream_begun built → IsReplacing begun v first
+  begins v is =
+      subst (λ (w : Streaming). IsReplacing begun w first) (sym is) (record {
+        built_is = refl;
+        goes_on = refl;
+        reads = record { moved = Consumes-nil begun.left; failed = refl; empties = refl };
+        replaced = replaced-begin told calls (stream_begun built) first refl refl;
+      })
+
+  module _ {reader new_reader : Reading} {v new : Streaming} {s : Replacing E D} (on : IsReplacing reader v s)
+      (within : v.kept ≤ length v.bytes) where
+    -- some bytes more have come
+    pub fills : FillsMore v new reader new_reader → IsReplacing new_reader new s
+    fills more = record {
+      built_is = ap (λ (w : Streaming). w.built) more.same ∙ on.built_is;
+      goes_on = ap (λ (w : Streaming). w.phase) more.same ∙ on.goes_on;
+      reads = subst (ReadsSome begun new_reader) (sym (ap (λ (w : Streaming). w.bytes) more.same)) (record {
+        moved = Consumes-trans begun.left reader.left new_reader.left v.bytes more.more on.reads.moved more.reads.moved;
+        failed = more.reads.failed ∙ on.reads.failed;
+        empties = more.reads.empties ∙ on.reads.empties;
+      });
+      replaced = replaced-filled told calls v new first s on.replaced (ap (λ (w : Streaming). w.kept) more.same)
+          (ap (λ (w : Streaming). w.given) more.same)
+          (ap (take v.kept) (ap (λ (w : Streaming). w.bytes) more.same)
+          ∙ take-append-le v.kept v.bytes more.more within) more.given;
+    }
+
+    -- or the end was met
+    pub ends-there : MeetsEnd ends v new reader new_reader → IsEnding new_reader new s
+    ends-there met =
+        let bytes = ap (λ (w : Streaming). w.bytes) met.same in
+        record {
+          built_is = ap (λ (w : Streaming). w.built) met.same ∙ on.built_is;
+          ended = ap (λ (w : Streaming). w.phase) met.same;
+          reads = subst (ReadsAll ends begun new_reader) (sym bytes) (record {
+            moved = subst (Consumes begun.left new_reader.left) (append-nil v.bytes)
+                (Consumes-trans begun.left reader.left new_reader.left v.bytes [] on.reads.moved met.reads.moved);
+            ended = met.reads.ended;
+            failed = met.reads.failed ∙ on.reads.failed;
+            empties = (let e = met.reads.empties in let r = on.reads.empties in omega arith);
+          });
+          replaced = replaced-filled told calls v new first s on.replaced (ap (λ (w : Streaming). w.kept) met.same)
+              (ap (λ (w : Streaming). w.given) met.same) (ap (take v.kept) bytes)
+              (ap (λ (w : Streaming). take v.given (matches_so_far w)) met.same);
+        }
+
+    -- or a read has failed
+    pub fails-reading : v.given ≡ length (matches_so_far v) → v.kept ≡ settled_of v → (e : StreamError)
+        → FailsToFill v new reader new_reader e → FailsBy told calls ends built begun new_reader first e s
+    fails-reading all kept e fails = (
+      v.bytes,
+      inl (
+        fails-on new_reader 0 (length v.bytes) v.bytes (omega arith) on.reads e fails.reads,
+        steps-by v (settled_of v) (settled built v.bytes) None s on.built_is (settled-open v on.built_is on.goes_on)
+            (replaced-all told calls v first s (settled_of v) on.replaced all kept),
+      ),
+    )
+
+  -- all that is settled was written
+  pub all-kept : {v new : Streaming} {s t : Replacing E D} → HasExchanged told calls v new s t
+      → new.kept ≡ settled_of new
+  all-kept done =
+      ap (λ (w : Streaming). w.kept) done.same ∙ sym (ap (λ (w : Streaming). settled_of w) done.same)
+
+  -- nothing is settled past the bytes read
+  pub settled-within : (v : Streaming) → settled_of v ≤ length v.bytes
+  settled-within v = by v.phase
+    where
+      by : (p : Phase) → settled_in p (settled v.built v.bytes) (length v.bytes) ≤ length v.bytes
+      by Open = omega arith
+      by Ended = omega arith
+      by Failed = omega arith
+
+  module _ {reader : Reading} {v : Streaming} {s : Replacing E D} where
+    -- what was found in what was read was exchanged
+    pub goes-on : {new : Streaming} {t : Replacing E D} → IsReplacing reader v s → HasExchanged told calls v new s t
+        → IsReplacing reader new t
+    goes-on on done = record {
+      built_is = ap (λ (w : Streaming). w.built) done.same ∙ on.built_is;
+      goes_on = ap (λ (w : Streaming). w.phase) done.same ∙ on.goes_on;
+      reads = subst (ReadsSome begun reader) (sym (ap (λ (w : Streaming). w.bytes) done.same)) on.reads;
+      replaced = done.replaced first on.replaced;
+    }
+
+    -- or that has failed
+    pub fails-exchanging : IsReplacing reader v s → (e : StreamError) (t : Replacing E D) → FailsToExchange told calls v s e t
+        → FailsBy told calls ends built begun reader first e t
+    fails-exchanging on e t fails = (
+      v.bytes,
+      inr (settled built v.bytes, inl (on.reads, refl),
+        steps-by v (settled_of v) (settled built v.bytes) (Some e) t on.built_is
+            (settled-open v on.built_is on.goes_on) (fails first on.replaced)),
+    )
+
+    -- at the end all was written
+    pub replaces : {new : Streaming} {t : Replacing E D} → IsEnding reader v s → HasExchanged told calls v new s t
+        → ReplacesBy told calls ends built begun reader first t
+    replaces {new} {t} on done =
+        let bytes = ap (λ (w : Streaming). w.bytes) done.same in
+        let is = ap (λ (w : Streaming). w.built) done.same ∙ on.built_is in
+        (
+          new.bytes,
+          subst (ReadsAll ends begun reader) (sym bytes) on.reads,
+          steps-by new (settled_of new) (length new.bytes) None t is
+              (settled-ended new (ap (λ (w : Streaming). w.phase) done.same ∙ on.ended))
+              (replaced-all told calls new first t (settled_of new) (done.replaced first on.replaced) done.all
+              (all-kept done)),
+        )
+
+    -- or that has failed
+    pub fails-at-last : IsEnding reader v s → (e : StreamError) (t : Replacing E D) → FailsToExchange told calls v s e t
+        → FailsBy told calls ends built begun reader first e t
+    fails-at-last on e t fails = (
+      v.bytes,
+      inr (length v.bytes, inr (on.reads, refl),
+        steps-by v (settled_of v) (length v.bytes) (Some e) t on.built_is (settled-ended v on.ended)
+            (fails first on.replaced)),
+    )

@@ -1,12 +1,12 @@
 -- The search of a stream from where it stands: what its tape shows, what is found next, and what is settled.
 use Rattle.std.proofs.Common.{◌≡◌, ◌≢◌, ◌⊎◌, ℕ, zero, suc, ◌+◌, ◌-◌, ◌<◌, ◌≤◌, Bool, true, false, List, [], ◌∷◌, ◌++◌, length, length-append, length-drop, length-take, get_or, take, drop, max, min, inl, inr, refl, ap, sym, subst, ◌∙◌, arith, Option, Some, None}
-use Rattle.std.specs.Prelude.{AllPairs, option_map, slice_get, slice_range, ◌==◌}
+use Rattle.std.specs.Prelude.{AllPairs, option_map, slice_get, slice_range, ◌==◌, ⊤}
 use Rattle.std.specs.List.{list_any}
 use Rattle.std.proofs.lemmas.Bool.{cases_lt, and_parts, eqb-true}
 use Rattle.std.proofs.lemmas.List.{append-nil, append_assoc, drop-append-le, drop-drop, drop-take, length-take-le, take-append-drop}
 use Rattle.std.proofs.lemmas.List.Edits.{take-paste}
 use Rattle.std.proofs.lemmas.Option.{get_or_from_slice_get, slice_get_within}
-use Rattle.std.proofs.Math.Seq.{paste, take-add}
+use Rattle.std.proofs.Math.Seq.{paste, take-add, take-append_seam}
 use Rattle.ac_util.specs.declared.error.MatchError.TheVariants.{UnsupportedEmpty}
 use Rattle.ac_util.specs.declared.search.Anchored.TheVariants.{No}
 use Rattle.ac_util.specs.declared.search.MatchKind.{MatchKind}
@@ -779,6 +779,22 @@ module _ (stands : ℕ → Node → Type 0) (i : Inside) (v : Streaming) (inv : 
       ap (λ (p : Phase). settled_in p (settled v.built v.bytes) (length v.bytes)) open' in
       omega arith
 
+  -- the matches that were given stay as they are, whichever bytes follow
+  pub given-stays : (more : List ℕ)
+      → take v.given (streamed v.built (v.bytes ++ more)) ≡ take v.given (streamed v.built v.bytes)
+  given-stays more =
+      taken (v.bytes ++ more) _ (inv.given.walks more)
+      ∙ sym (taken v.bytes _ (subst (λ (w : List ℕ). streamed v.built w
+      ≡ inv.given.matches ++ walk_after v.built.kind (stream_from v.built w i.begun) inv.given.last)
+      (append-nil v.bytes) (inv.given.walks [])))
+    where
+      taken : (bytes : List ℕ) (rest : List Occurrence) → streamed v.built bytes ≡ inv.given.matches ++ rest
+          → take v.given (streamed v.built bytes) ≡ inv.given.matches
+      taken bytes rest e =
+          ap (take v.given) e
+          ∙ ap (λ (n : ℕ). take n (inv.given.matches ++ rest)) (sym inv.given.count)
+          ∙ take-append_seam inv.given.matches rest
+
   -- what stands behind the bytes read has changed
   module _ (open' : v.phase ≡ Open) (buffer : List ℕ) (long : length buffer ≡ length i.buffer)
       (keeps : take i.filled buffer ≡ take i.filled i.buffer) where
@@ -888,3 +904,23 @@ buffer-shows bytes buffer front filled start end counted holds from ordered with
     ∙ ap (λ (xs : List ℕ). take (end - start) (drop (start - front) xs)) holds
     ∙ ap (take (end - start)) (drop-drop (start - front) front bytes
     ∙ ap (λ (k : ℕ). drop k bytes) (let e : front + (start - front) ≡ start = omega arith in e))
+
+-- of no bytes there are no matches
+pub streamed-nothing : (built : Built) → stream_refusal built ≡ None → streamed built [] ≡ []
+streamed-nothing built allowed =
+    walk_after-None built.kind (stream_from built [] 0) None
+    (next-none built.kind (stream_from built [] 0) None
+    (ap (λ (k : MatchKind). pick k (stream_from built [] 0)) (allowed-kind built allowed)
+    ∙ picked-nothing (λ s u. ⊤) (λ s. []) built 1 false (allowed-some built allowed) [] 0))
+
+-- what is seen once more bytes have come
+pub filled-as : (old mid inside : Streaming) → inside ≡ mid → mid ≡ record old { front = mid.front }
+    → (n : ℕ) → n ≡ inside.buffer → (bytes more : List ℕ) → bytes ≡ inside.bytes ++ more
+    → record inside { bytes = bytes; buffer = n } ≡ record old { bytes = old.bytes ++ more; front = inside.front }
+filled-as old mid inside is same n size bytes more added =
+    let e : inside ≡ record old { front = mid.front } = is ∙ same in
+    ap (λ (v : Streaming). record v { bytes = bytes; buffer = n }) e
+    ∙ ap (λ (b : ℕ). record old { bytes = bytes; front = mid.front; buffer = b }) (size ∙ ap (λ (v : Streaming). v.buffer) e)
+    ∙ ap (λ (f : ℕ). record old { bytes = bytes; front = f }) (sym (ap (λ (v : Streaming). v.front) e))
+    ∙ ap (λ (w : List ℕ). record old { bytes = w; front = inside.front })
+    (added ∙ ap (λ (v : Streaming). v.bytes ++ more) e)

@@ -1,14 +1,16 @@
 -- What the replacement of a stream has done so far.
-use Rattle.std.specs.Prelude.{◌≡◌, ℕ, ◌≤◌, List, ◌∷◌, ◌++◌, ⊤, Option, None, Some, Result, Ok, Err, MatchResult, [], length, slice_index_or, take}
+use Rattle.std.specs.Prelude.{◌≡◌, ◌⊎◌, ℕ, ◌≤◌, Bool, List, ◌∷◌, ◌++◌, ⊤, Option, None, Some, Result, Ok, Err, MatchResult, [], length, slice_index_or, take}
 use Rattle.std.specs.Borrow.{Bor, MutBor}
 use Rattle.std.specs.Fn.{Mut}
 use Rattle.std.specs.declared.io.Error.{Error}
 use Rattle.ac_util.specs.declared.error.StreamError.{StreamError}
 use Rattle.ac_util.specs.declared.error.StreamError.TheVariants.{Io}
-use Rattle.ac_util.specs.Device.{Writing}
+use Rattle.ac_util.specs.Built.{Built}
+use Rattle.ac_util.specs.Device.{Reading, ReadsAll, Writing}
 use Rattle.ac_util.specs.Occurrence.{Occurrence}
 use Rattle.ac_util.specs.Replacement.{Answer, Calls, Fails, GoesOn, Replacing, ReplacementSteps}
-use Rattle.ac_util.specs.StreamReplacing.{WritesPiece}
+use Rattle.ac_util.specs.Stream.{streamed}
+use Rattle.ac_util.specs.StreamReplacing.{FailsToRead, IsSettled, WritesPiece, settled}
 use Rattle.ac_automaton.specs.Streams.{Streaming, matches_so_far, settled_of}
 
 -- the error in an answer, if there is one
@@ -66,3 +68,19 @@ module _ {E D : Type 0} (told : D → Writing)
   FailsToExchange old s e t =
       (first : Replacing E D) → HasReplaced old first s
       → Steps (take (settled_of old) old.bytes) 0 (matches_so_far old) first (Some e) t
+
+  -- the stream was read to its end, and all of its steps were made
+  abbrev pub ReplacesBy : Bool → Built → Reading → Reading → Replacing E D → Replacing E D → Type 0
+  ReplacesBy ends built reader new_reader s t =
+      (bytes : List ℕ) × ReadsAll ends reader new_reader bytes
+      × Steps (take (length bytes) bytes) 0 (streamed built bytes) s None t
+
+  -- a read has failed, or brought more than usize counts: the steps were made as far as the stream was settled. Or a
+  -- write, or an exchange, has failed: no step was made after that
+  abbrev pub FailsBy : Bool → Built → Reading → Reading → Replacing E D → StreamError → Replacing E D → Type 0
+  FailsBy ends built reader new_reader s e t =
+      (bytes : List ℕ)
+      × ((FailsToRead 0 reader new_reader bytes e
+      × Steps (take (settled built bytes) bytes) 0 (streamed built bytes) s None t)
+      ⊎ ((place : ℕ) × IsSettled ends built reader new_reader bytes place
+      × Steps (take place bytes) 0 (streamed built bytes) s (Some e) t))

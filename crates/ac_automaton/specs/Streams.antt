@@ -75,13 +75,14 @@ pub record HasGivenAll (old new : Streaming) : Type 0 where
 abbrev pub GivesRead : Streaming → Option Occurrence → Streaming → Type 0
 GivesRead old result new = MatchOption result (HasGivenAll old new) (λ m. GivesMatch old m new)
 
--- some bytes more were read
+-- some bytes more were read: the matches that were given stay as they are
 pub record FillsMore (old new : Streaming) (reader new_reader : Reading) : Type 0 where
   pub more : List ℕ
   pub some : 0 < length more
   pub reads : ReadsSome reader new_reader more
   pub same : new ≡ record old { bytes = old.bytes ++ more; front = new.front }
   pub small : length new.bytes ≤ 18446744073709551615
+  pub given : take old.given (matches_so_far new) ≡ take old.given (matches_so_far old)
 
 -- or the end was met
 pub record MeetsEnd (ends : Bool) (old new : Streaming) (reader new_reader : Reading) : Type 0 where

@@ -1,11 +1,12 @@
 //! Replacement in a stream: its bytes are written as they were read, with each match exchanged by a list or by a closure.
-ghost use Rattle.std.specs.Prelude.{◌≡◌, ℕ, ◌<◌, List, MatchResult, None, Result, length};
+ghost use Rattle.std.specs.Prelude.{◌≡◌, ◌⊎◌, ℕ, ◌<◌, List, MatchResult, None, Result, length};
 ghost use Rattle.ac_util.specs.Borrowed.{bytes_of};
 ghost use Rattle.ac_util.specs.Built.{stream_refusal};
 ghost use Rattle.ac_util.specs.Occurrence.{Occurrence};
 ghost use Rattle.ac_util.specs.Replacement.{Replacing};
+ghost use Rattle.ac_util.specs.StreamReplacing.{IsRefused};
 ghost use Rattle.ac_util.specs.declared.error.StreamError.{StreamError};
-ghost use Rattle.ac_automaton.specs.Exchanges.{CallsBy, FailsToExchange, HasExchanged, WritesTexts};
+ghost use Rattle.ac_automaton.specs.Exchanges.{CallsBy, FailsBy, FailsToExchange, HasExchanged, ReplacesBy, WritesTexts};
 
 use super::Automaton;
 use super::stream::StreamFinder;
@@ -95,4 +96,36 @@ fn exchange_read<A: Automaton, Z: Allocator, W: Sink, E: Exchange<W>>(
         write_all(writer, finder.bytes(from, found.start()))?;
         exchange.exchange(&found, finder.bytes(found.start(), found.end()), writer)?;
     }
+}
+
+/// Exchanges the matches of all that a reader gives, and writes all other bytes as they are.
+///
+/// # Errors
+/// As `Automaton::try_stream_replace_all`.
+fn replace_stream<A: Automaton, Z: Allocator, R: Source, W: Sink, E: Exchange<W>>(
+    automaton: &A,
+    alloc: Z,
+    reader: &mut R,
+    writer: &mut W,
+    exchange: &mut E,
+) -> Result<(), StreamError>
+    requires accepted { (m : Occurrence) → m.pattern < length (A.built automaton.now).patterns
+        → E.accepts exchange.old m }
+    ensures { MatchResult result
+        (λ _. (stream_refusal (A.built automaton.now) ≡ None)
+        × ReplacesBy W.told E.calls R.empty_means_end (A.built automaton.now) (R.told reader.old) (R.told reader.new)
+        (record { closure = exchange.old; destination = writer.old })
+        (record { closure = exchange.new; destination = writer.new }))
+        (λ e. IsRefused (stream_refusal (A.built automaton.now))
+        ((reader.new ≡ reader.old) × (writer.new ≡ writer.old)) e
+        ⊎ ((stream_refusal (A.built automaton.now) ≡ None)
+        × FailsBy W.told E.calls R.empty_means_end (A.built automaton.now) (R.told reader.old) (R.told reader.new)
+        (record { closure = exchange.old; destination = writer.old }) e
+        (record { closure = exchange.new; destination = writer.new }))) }
+{
+    let mut finder = StreamFinder::new(automaton, alloc)?;
+    while finder.fill(reader)? {
+        exchange_read(&mut finder, writer, exchange)?;
+    }
+    exchange_read(&mut finder, writer, exchange)
 }

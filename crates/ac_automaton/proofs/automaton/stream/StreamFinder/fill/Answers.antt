@@ -1,10 +1,11 @@
-use Rattle.std.proofs.Common.{◌≡◌, ◌∙◌, ◌+◌, ◌-◌, ◌<◌, ◌≤◌, ◌++◌, ℕ, List, length, length-drop, take, drop, refl, sym, ap, subst, arith}
+use Rattle.std.proofs.Common.{◌≡◌, ◌∙◌, ◌+◌, ◌-◌, ◌<◌, ◌≤◌, ◌≢◌, ◌++◌, ℕ, List, length, length-append, length-drop, take, drop, refl, sym, ap, subst, arith}
 use Rattle.std.proofs.lemmas.List.{length-take-le}
 use Rattle.std.specs.Io.KnownBytes.{Consumes}
 use Rattle.ac_util.proofs.Devices.{not-idle, was-idle}
-use Rattle.ac_automaton.specs.Streams.{Streaming}
+use Rattle.ac_util.specs.Stream.{streamed}
+use Rattle.ac_automaton.specs.Streams.{Streaming, matches_so_far}
 use Rattle.ac_automaton.proofs.Places.{written-whole}
-use Rattle.ac_automaton.proofs.StreamLoop.{seen-as, streams-filled}
+use Rattle.ac_automaton.proofs.StreamLoop.{filled-as, given-stays, seen-as, streams-filled}
 use Rattle.ac_automaton.proofs.automaton.stream.StreamFinder.fill.Goals as goal
 
 pub invariant_of-self-then-self-n : goal.invariant_of-self-then-self-n
@@ -71,4 +72,44 @@ returns-in-Ok-2 g c =
       };
       same = seen-as c.args.self.now c.make_room.new.self _ c.self.view_is c.make_room.ensures.same _
           (ap length (written-whole c.read_behind.new.buffer buffer.items buffer.len long) ∙ long ∙ buffer.ok.0) _;
+    }
+
+pub returns-in-Ok : goal.returns-in-Ok
+returns-in-Ok g c =
+    let took = c.in-Ok.ensures.reads in
+    let buffer = c.self.inside.buffer in
+    let at = c.self.inside.filled in
+    let n = c.in-Ok.n in
+    let into = drop at c.read_behind.new.buffer in
+    let long : length c.read_behind.new.buffer ≡ buffer.len = c.read_behind.ensures.long ∙ c.deref_mut.ensures.len in
+    let whole = written-whole c.read_behind.new.buffer buffer.items buffer.len long in
+    let more = take n into in
+    let size = length-take-le n into took.within in
+    let none : length more ≢ 0 = (λ e. absurd (omega (arith, c.in-Ok.n-test))) in
+    let added : c.with-self-inside.result.bytes ≡ c.self.inside.history.bytes ++ more =
+    c.with-self-inside.ensures
+    ∙ ap (λ (w : List ℕ). c.self.inside.history.bytes ++ w)
+    (ap (λ (k : ℕ). take k (drop at c.deref.result.now)) (let e : at + n - at ≡ n = omega arith in e)
+    ∙ ap (λ (b : List ℕ). take n (drop at b)) (c.deref.ensures.value ∙ whole)) in
+    let e = c.self.view_is ∙ c.make_room.ensures.same in
+    record {
+      more = more;
+      some = omega arith;
+      reads = record {
+        moved = took.moved;
+        failed = took.failed;
+        empties = (let e = took.empties in let i = not-idle n (length into)
+            (λ e. absurd (omega (arith, c.in-Ok.n-test))) in omega arith);
+      };
+      same = filled-as c.args.self.now c.make_room.new.self _ c.self.view_is c.make_room.ensures.same _
+          (ap length whole ∙ long ∙ buffer.ok.0) _ more added;
+      small = (let l = ap length added ∙ length-append c.self.inside.history.bytes more in
+          let k = c.self.invariant.counted in let w = took.within in
+          let d = length-drop at c.read_behind.new.buffer in omega (arith, c.if-self-n.true));
+      given = ap (λ (k : ℕ). take k (streamed (g.A.Automaton.built c.self.inside.automaton.now) c.with-self-inside.result.bytes))
+          (sym (ap (λ (v : Streaming). v.given) e))
+          ∙ ap (λ (w : List ℕ). take c.self.inside.given.number
+          (streamed (g.A.Automaton.built c.self.inside.automaton.now) w)) added
+          ∙ given-stays _ _ _ c.self.invariant more
+          ∙ ap (λ (v : Streaming). take v.given (matches_so_far v)) e;
     }
