@@ -924,3 +924,17 @@ filled-as old mid inside is same n size bytes more added =
     ∙ ap (λ (f : ℕ). record old { bytes = bytes; front = f }) (sym (ap (λ (v : Streaming). v.front) e))
     ∙ ap (λ (w : List ℕ). record old { bytes = w; front = inside.front })
     (added ∙ ap (λ (v : Streaming). v.bytes ++ more) e)
+
+-- what is seen once all that was read was searched, and more bytes have come then
+pub read-as : (old between searched new : Streaming) (more later : List ℕ)
+    → between ≡ record old { bytes = old.bytes ++ more; front = between.front; kept = between.kept }
+    → HasGivenAll between searched → new ≡ record searched { bytes = searched.bytes ++ later; front = new.front }
+    → new ≡ record old { bytes = old.bytes ++ (more ++ later); front = new.front; kept = new.kept }
+read-as old between searched new more later read all fills =
+    fills
+    ∙ ap (λ (v : Streaming). record v { bytes = v.bytes ++ later; front = new.front }) all.same
+    ∙ ap (λ (v : Streaming). record v { bytes = v.bytes ++ later; front = new.front; kept = settled_of between }) read
+    ∙ ap (λ (w : List ℕ). record old { bytes = w; front = new.front; kept = settled_of between })
+    (append_assoc old.bytes more later)
+    ∙ ap (λ (k : ℕ). record old { bytes = old.bytes ++ (more ++ later); front = new.front; kept = k })
+    (sym (ap (λ (v : Streaming). v.kept) fills ∙ ap (λ (v : Streaming). v.kept) all.same))

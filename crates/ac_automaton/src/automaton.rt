@@ -1,9 +1,9 @@
 //! What an engine offers, and the searches over any engine.
-ghost use Rattle.std.specs.Prelude.{◌≡◌, ◌≢◌, ◌↔◌, ◌⊎◌, ℕ, ◌<◌, Bool, List, [], length, option_map, slice_get, string_bytes, Some, None, IfSome, IsTrue, MatchResult};
+ghost use Rattle.std.specs.Prelude.{◌≡◌, ◌≢◌, ◌↔◌, ◌⊎◌, ℕ, ◌<◌, Bool, List, [], length, option_map, slice_get, string_bytes, Some, None, IfSome, IsTrue, MatchResult, ⊤};
 ghost use Rattle.std.specs.Iterator.Runs.{YieldsInOrder};
 ghost use Rattle.ac_util.specs.declared.search.Anchored.{Anchored};
 ghost use Rattle.ac_util.specs.Borrowed.{bytes_of};
-ghost use Rattle.ac_util.specs.Built.{Built, exchanged, exchanged_in_text, find_refusal, found, overlapping_iter_refusal, overlapping_refusal, replace_refusal, search_in};
+ghost use Rattle.ac_util.specs.Built.{Built, exchanged, exchanged_in_text, find_refusal, found, overlapping_iter_refusal, overlapping_refusal, replace_refusal, search_in, stream_refusal};
 ghost use Rattle.ac_util.specs.Inputs.{asked};
 ghost use Rattle.ac_util.specs.Counts.{more_looks};
 ghost use Rattle.ac_util.specs.Node.{Node};
@@ -12,17 +12,21 @@ ghost use Rattle.ac_util.specs.Refusal.{AnswersUnless, start_refusal};
 ghost use Rattle.ac_util.specs.Replaced.{replaced};
 ghost use Rattle.ac_util.specs.Replacing.{AnswersWhole, MakesSteps, StepsLead};
 ghost use Rattle.ac_util.specs.Search.{pattern_of};
+ghost use Rattle.ac_util.specs.StreamReplacing.{FailsToReplace, FailsToReplaceWith, IsRefused, ReplacesStream, ReplacesStreamWith};
 ghost use Rattle.ac_util.specs.Sizes.{longest_len, shortest_len};
 ghost use Rattle.ac_automaton.specs.Iterators.{GoesOn, begun};
 ghost use Rattle.ac_automaton.specs.Automata.{IsState, Lists, looks_of, step_of};
 ghost use Rattle.ac_automaton.specs.Overlaps.{GivesNext, IsPlaced, ListsNext, Takes, listing_begun};
+ghost use Rattle.ac_automaton.specs.Streams.{stream_begun};
 
-use ac_util::error::{MatchError, ReplaceError};
+use ac_util::device::{Sink, Source};
+use ac_util::error::{MatchError, ReplaceError, StreamError};
 use ac_util::looks::Looks;
 use ac_util::prefilter::Prefilter;
 use ac_util::primitives::{PatternID, StateID};
 use ac_util::search::{Anchored, Input, Match, MatchKind};
 use std::alloc::Allocator;
+use std::io;
 
 mod find;
 mod overlap;
@@ -369,5 +373,92 @@ pub trait Automaton {
             (destination.new ≡ destination.old) result }
     {
         replace::try_replace_all_with_bytes(self, haystack, destination, exchange)
+    }
+
+    /// Returns an iterator over the matches of what a reader gives: those of the walk over all its bytes, however it cuts
+    /// them. Offsets count from 0 over the whole stream. This ports `Automaton::try_stream_find_iter`. The law
+    /// `ac_util::laws::stream_goes_on` says that more bytes change no match of those before.
+    ///
+    /// # Errors
+    /// `StreamError::Match` with `InvalidInputUnanchored` where the automaton has no unanchored start, else with
+    /// `UnsupportedStream` where its match kind isn't `MatchKind::Standard`, else with `UnsupportedEmpty` where some pattern is
+    /// empty; else `StreamError::Memory` where the memory for the buffer is refused. Then nothing is read.
+    final fn try_stream_find_iter<'a, R: Source + Drop, Z: Allocator>(
+        &'a self,
+        alloc: Z,
+        reader: R,
+    ) -> Result<StreamFindIter<'a, Self, R, Z>, StreamError>
+    where
+        Self: Sized,
+        ensures { MatchResult result
+            (λ matches. (stream_refusal (built self.now) ≡ None)
+            × (matches ≡ record { stream = stream_begun (built self.now); reader = R.told reader }))
+            (IsRefused (stream_refusal (built self.now)) ⊤) }
+    {
+        StreamFindIter::new(self, alloc, reader)
+    }
+
+    /// Writes what a reader gives, with each match of the walk over it exchanged for the text of its pattern. It reads as it
+    /// goes and writes as it goes: before each read all of the replaced text was written but for the bytes that a match to
+    /// come may still need, at most one fewer than the longest pattern has. The writer isn't flushed. This ports
+    /// `Automaton::try_stream_replace_all`.
+    ///
+    /// There have to be as many texts as patterns.
+    ///
+    /// # Errors
+    /// Those of `try_stream_find_iter`: then nothing was read or written. `Io` where a read or a write failed, and `TooLong` where
+    /// more bytes came than a `usize` counts: what was written before that read stands. `WriteZero` where a write took no
+    /// byte. Where a write failed or took nothing, a beginning of the replaced text of what was read was written.
+    final fn try_stream_replace_all<R: Source, W: Sink, Z: Allocator>(
+        &self,
+        alloc: Z,
+        reader: &mut R,
+        writer: &mut W,
+        texts: &[&[u8]],
+    ) -> Result<(), StreamError>
+    where
+        Self: Sized,
+        requires texts { length texts.now ≡ length (built self.now).patterns }
+        ensures { MatchResult result
+            (λ _. (stream_refusal (built self.now) ≡ None)
+            × ReplacesStream (built self.now) (bytes_of texts.now) (W.told writer.old) (W.told writer.new)
+            R.empty_means_end (R.told reader.old) (R.told reader.new))
+            (λ e. IsRefused (stream_refusal (built self.now)) ((reader.new ≡ reader.old) × (writer.new ≡ writer.old)) e
+            ⊎ ((stream_refusal (built self.now) ≡ None)
+            × FailsToReplace (built self.now) (bytes_of texts.now) (W.told writer.old) (W.told writer.new)
+            R.empty_means_end (R.told reader.old) (R.told reader.new) e)) }
+    {
+        stream_replace::try_stream_replace_all(self, alloc, reader, writer, texts)
+    }
+
+    /// Does the same with a call of the closure at each match: it is handed the match, with offsets over the whole stream, the
+    /// slice that matched, and the writer, to which it writes what it exchanges the match for. This ports
+    /// `Automaton::try_stream_replace_all_with`.
+    ///
+    /// The closure may be called at each match and writer.
+    ///
+    /// # Errors
+    /// As `try_stream_replace_all`; and `Io` where the closure failed: what it wrote stands, and nothing follows.
+    final fn try_stream_replace_all_with<R: Source, W: Sink, Z: Allocator, F>(
+        &self,
+        alloc: Z,
+        reader: &mut R,
+        writer: &mut W,
+        closure: F,
+    ) -> Result<(), StreamError>
+    where
+        Self: Sized,
+        F: FnMut(&Match, &[u8], &mut W) -> io::Result<()>,
+        requires callable { F.IsAlwaysCallable closure }
+        ensures { MatchResult result
+            (λ _. (stream_refusal (built self.now) ≡ None)
+            × ReplacesStreamWith W.told F.FnMut (built self.now) closure writer.old R.empty_means_end
+            (R.told reader.old) (R.told reader.new) writer.new)
+            (λ e. IsRefused (stream_refusal (built self.now)) ((reader.new ≡ reader.old) × (writer.new ≡ writer.old)) e
+            ⊎ ((stream_refusal (built self.now) ≡ None)
+            × FailsToReplaceWith W.told F.FnMut (built self.now) closure writer.old R.empty_means_end
+            (R.told reader.old) (R.told reader.new) writer.new e)) }
+    {
+        stream_replace::try_stream_replace_all_with(self, alloc, reader, writer, closure)
     }
 }

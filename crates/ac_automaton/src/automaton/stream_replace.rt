@@ -4,7 +4,7 @@ ghost use Rattle.ac_util.specs.Borrowed.{bytes_of};
 ghost use Rattle.ac_util.specs.Built.{stream_refusal};
 ghost use Rattle.ac_util.specs.Occurrence.{Occurrence};
 ghost use Rattle.ac_util.specs.Replacement.{Replacing};
-ghost use Rattle.ac_util.specs.StreamReplacing.{IsRefused};
+ghost use Rattle.ac_util.specs.StreamReplacing.{FailsToReplace, FailsToReplaceWith, IsRefused, ReplacesStream, ReplacesStreamWith};
 ghost use Rattle.ac_util.specs.declared.error.StreamError.{StreamError};
 ghost use Rattle.ac_automaton.specs.Exchanges.{CallsBy, FailsBy, FailsToExchange, HasExchanged, ReplacesBy, WritesTexts};
 
@@ -15,6 +15,58 @@ use ac_util::error::StreamError;
 use ac_util::search::Match;
 use std::alloc::Allocator;
 use std::io;
+
+/// Does what `Automaton::try_stream_replace_all` does.
+pub(super) fn try_stream_replace_all<A: Automaton, Z: Allocator, R: Source, W: Sink>(
+    automaton: &A,
+    alloc: Z,
+    reader: &mut R,
+    writer: &mut W,
+    texts: &[&[u8]],
+) -> Result<(), StreamError>
+    requires texts { length texts.now ≡ length (A.built automaton.now).patterns }
+    ensures { MatchResult result
+        (λ _. (stream_refusal (A.built automaton.now) ≡ None)
+        × ReplacesStream (A.built automaton.now) (bytes_of texts.now) (W.told writer.old) (W.told writer.new)
+        R.empty_means_end (R.told reader.old) (R.told reader.new))
+        (λ e. IsRefused (stream_refusal (A.built automaton.now))
+        ((reader.new ≡ reader.old) × (writer.new ≡ writer.old)) e
+        ⊎ ((stream_refusal (A.built automaton.now) ≡ None)
+        × FailsToReplace (A.built automaton.now) (bytes_of texts.now) (W.told writer.old) (W.told writer.new)
+        R.empty_means_end (R.told reader.old) (R.told reader.new) e)) }
+{
+    let mut exchange = ByTexts { texts };
+    replace_stream(automaton, alloc, reader, writer, &mut exchange)
+}
+
+/// Does what `Automaton::try_stream_replace_all_with` does.
+pub(super) fn try_stream_replace_all_with<A, Z, R, W, F>(
+    automaton: &A,
+    alloc: Z,
+    reader: &mut R,
+    writer: &mut W,
+    closure: F,
+) -> Result<(), StreamError>
+where
+    A: Automaton,
+    Z: Allocator,
+    R: Source,
+    W: Sink,
+    F: FnMut(&Match, &[u8], &mut W) -> io::Result<()>,
+    requires callable { F.IsAlwaysCallable closure }
+    ensures { MatchResult result
+        (λ _. (stream_refusal (A.built automaton.now) ≡ None)
+        × ReplacesStreamWith W.told F.FnMut (A.built automaton.now) closure writer.old R.empty_means_end
+        (R.told reader.old) (R.told reader.new) writer.new)
+        (λ e. IsRefused (stream_refusal (A.built automaton.now))
+        ((reader.new ≡ reader.old) × (writer.new ≡ writer.old)) e
+        ⊎ ((stream_refusal (A.built automaton.now) ≡ None)
+        × FailsToReplaceWith W.told F.FnMut (A.built automaton.now) closure writer.old R.empty_means_end
+        (R.told reader.old) (R.told reader.new) writer.new e)) }
+{
+    let mut exchange = ByClosure { closure };
+    replace_stream(automaton, alloc, reader, writer, &mut exchange)
+}
 
 /// What writes in place of a match.
 pub(super) trait Exchange<W: Sink> {
@@ -36,6 +88,7 @@ pub(super) trait Exchange<W: Sink> {
 }
 
 /// Writes the text of a match's pattern.
+#[derive(Drop)]
 pub(super) struct ByTexts<'t> {
     pub(super) texts: &'t [&'t [u8]],
 }
@@ -52,6 +105,7 @@ impl<'t, W: Sink> Exchange<W> for ByTexts<'t> {
 }
 
 /// Calls a closure.
+#[derive(Drop)]
 pub(super) struct ByClosure<F> {
     pub(super) closure: F,
 }

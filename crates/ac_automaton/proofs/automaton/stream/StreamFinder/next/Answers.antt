@@ -1,9 +1,10 @@
 use Rattle.std.proofs.Common.{◌≡◌, ◌∙◌, ◌+◌, ◌-◌, ◌<◌, ◌≤◌, ◌++◌, ℕ, Bool, true, List, length, length-append, sym, subst, ap, arith}
 use Rattle.std.specs.Prelude.{MatchBool}
+use Rattle.std.proofs.KnownBytes.{Consumes-trans}
 use Rattle.ac_util.specs.Stream.{streamed}
 use Rattle.ac_util.proofs.Devices.{fails-on}
 use Rattle.ac_automaton.specs.Streams.{FillsMore, HasGivenAll, MeetsEnd, Streaming, matches_so_far}
-use Rattle.ac_automaton.proofs.StreamLoop.{failed-as}
+use Rattle.ac_automaton.proofs.StreamLoop.{failed-as, read-as}
 use Rattle.ac_automaton.proofs.automaton.stream.StreamFinder.next.Goals as goal
 
 pub loop-found-smaller : goal.loop-found-smaller
@@ -36,4 +37,27 @@ returns-in-Err g c =
       all = sym (ap (λ (v : Streaming). v.given) read.same) ∙ all.all
           ∙ ap (λ (v : Streaming). length (matches_so_far v)) read.same;
       same = failed-as c.args.self.now c.loop-found.self c.next_read.new.self c.fill.new.self more read.same all fails.same;
+    }
+
+pub loop-found-preserved : goal.loop-found-preserved
+loop-found-preserved g c =
+    let told = g.R.Source.told in
+    let read = c.loop-found.invariant in
+    let fills : FillsMore c.next_read.new.self c.fill.new.self (told c.loop-found.reader) (told c.fill.new.reader) =
+    subst (λ (more : Bool). MatchBool more
+    (FillsMore c.next_read.new.self c.fill.new.self (told c.loop-found.reader) (told c.fill.new.reader))
+    (MeetsEnd g.R.Source.empty_means_end c.next_read.new.self c.fill.new.self (told c.loop-found.reader)
+    (told c.fill.new.reader))) c.in-Ok-true.field-0-test c.in-Ok-true.ensures in
+    let all : HasGivenAll c.loop-found.self c.next_read.new.self = c.in_default.ensures in
+    record {
+      more = read.more ++ fills.more;
+      reads = record {
+        moved = Consumes-trans (told c.args.reader.now).left (told c.loop-found.reader).left (told c.fill.new.reader).left
+            read.more fills.more read.reads.moved fills.reads.moved;
+        failed = fills.reads.failed ∙ read.reads.failed;
+        empties = fills.reads.empties ∙ read.reads.empties;
+      };
+      goes_on = read.goes_on;
+      same = read-as c.args.self.now c.loop-found.self c.next_read.new.self c.fill.new.self read.more fills.more read.same all
+          fills.same;
     }
