@@ -376,8 +376,7 @@ pub trait Automaton {
     }
 
     /// Returns an iterator over the matches of what a reader gives: those of the walk over all its bytes, however it cuts
-    /// them. Offsets count from 0 over the whole stream. This ports `Automaton::try_stream_find_iter`. The law
-    /// `ac_util::laws::stream_goes_on` says that more bytes change no match of those before.
+    /// them. Offsets count from 0 over the whole stream. This ports `Automaton::try_stream_find_iter`.
     ///
     /// # Errors
     /// `StreamError::Match` with `InvalidInputUnanchored` where the automaton has no unanchored start, else with
