@@ -2,13 +2,16 @@
 use Rattle.std.proofs.Common.{◌≡◌, [], ◌∷◌, refl, ap, sym, ◌∙◌, Bool, Option, Some, None, inl, inr}
 use Rattle.std.specs.Prelude.{◌⊎◌, Result, Ok, Err}
 use Rattle.ac_util.specs.declared.error.MatchError.{MatchError}
+use Rattle.ac_util.specs.declared.search.Anchored.TheVariants.{No}
 use Rattle.ac_util.specs.declared.search.MatchKind.{MatchKind}
 use Rattle.ac_util.specs.declared.search.MatchKind.TheVariants.{Standard, LeftmostFirst, LeftmostLongest}
 use Rattle.ac_util.specs.declared.search.StartKind.{StartKind}
 use Rattle.ac_util.specs.declared.search.StartKind.TheVariants.{Both}
-use Rattle.ac_util.specs.Built.{Built, find_refusal, has_empty}
+use Rattle.ac_util.specs.Built.{Built, find_refusal, has_empty, stream_refusal}
 use Rattle.ac_util.specs.Asked.{Asked}
-use Rattle.ac_util.specs.Refusal.{AnswersUnless, Find, empty_refusal, first_refusal, form_refusal, kind_refusal, start_refusal}
+use Rattle.ac_util.specs.Refusal.{AnswersUnless, Find, Stream, empty_refusal, first_refusal, form_refusal, kind_refusal, start_refusal}
+use Rattle.ac_automaton.specs.Streams.{Streaming, stream_begun}
+use Rattle.ac_search.specs.StreamsBegun.{HasBegun}
 
 -- a find or a walk is refused for its start alone
 find-refusal : (built : Built) (asked : Asked)
@@ -42,3 +45,26 @@ module _ (engine : Built) (start_kind : StartKind) (asked : Asked)
       → AnswersUnless (find_refusal (record engine { start_kind = start_kind }) asked) x r
   served (Ok y) x h = (find-refusal (record engine { start_kind = start_kind }) asked ∙ free, h.1)
   served (Err e) x h = absurd (let none : None ≡ Some e = sym unrefused ∙ h in cc)
+
+-- a stream is refused for the match kind or an empty pattern, where there is an unanchored start
+stream-refusal : (built : Built) → start_refusal built.start_kind No ≡ None
+    → stream_refusal built
+    ≡ first_refusal (kind_refusal built.kind Stream ∷ form_refusal Stream ∷ empty_refusal Stream (has_empty built) ∷ [])
+stream-refusal built free =
+    ap (λ (r : Option MatchError). first_refusal
+    (r ∷ kind_refusal built.kind Stream ∷ form_refusal Stream ∷ empty_refusal Stream (has_empty built) ∷ [])) free
+
+-- so the search of a stream by an engine begins as that of its searcher
+pub stream-served : (engine : Built) (start_kind : StartKind)
+    → (engine.start_kind ≡ Both) ⊎ (engine.start_kind ≡ start_kind) → start_refusal start_kind No ≡ None
+    → (finder : Streaming) → stream_refusal engine ≡ None → finder ≡ stream_begun engine
+    → (stream_refusal (record engine { start_kind = start_kind }) ≡ None)
+    × HasBegun (record engine { start_kind = start_kind }) finder
+stream-served engine start_kind supports free finder none begun = (
+  stream-refusal (record engine { start_kind = start_kind }) free ∙ sym (stream-refusal engine (by supports)) ∙ none,
+  (engine.start_kind, begun),
+)
+  where
+    by : (engine.start_kind ≡ Both) ⊎ (engine.start_kind ≡ start_kind) → start_refusal engine.start_kind No ≡ None
+    by (inl both) = ap (λ (s : StartKind). start_refusal s No) both
+    by (inr same) = ap (λ (s : StartKind). start_refusal s No) same ∙ free

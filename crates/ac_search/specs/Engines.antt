@@ -1,10 +1,11 @@
--- What the engine of a searcher, and the iterators of an engine, are seen as.
+-- What the engine of a searcher, its iterators and its searches over streams are seen as.
 use Rattle.std.specs.Prelude.{◌≡◌, ◌⊎◌, Bool}
 use Rattle.ac_util.specs.declared.search.StartKind.{StartKind}
 use Rattle.ac_util.specs.declared.search.StartKind.TheVariants.{Both}
 use Rattle.ac_util.specs.Built.{Built}
 use Rattle.ac_automaton.specs.Iterators.{Walking}
 use Rattle.ac_automaton.specs.Overlaps.{Overlapping}
+use Rattle.ac_automaton.specs.Streams.{Streaming}
 use Rattle.ac_automaton.specs.Tries.{Trie}
 use Rattle.ac_search.specs.declared.ahocorasick.choice.AhoCorasickKind.{AhoCorasickKind}
 use Rattle.ac_search.specs.declared.ahocorasick.choice.AhoCorasickKind.TheVariants.{ContiguousNFA, DFA, NoncontiguousNFA}
@@ -14,6 +15,8 @@ use Rattle.ac_search.specs.declared.ahocorasick.engine.EngineFindIter.{EngineFin
 use Rattle.ac_search.specs.declared.ahocorasick.engine.EngineFindIter.TheVariants.{Contiguous as ByContiguous, Dfa as ByDfa, Noncontiguous as ByNoncontiguous}
 use Rattle.ac_search.specs.declared.ahocorasick.engine.EngineFindOverlappingIter.{EngineFindOverlappingIter}
 use Rattle.ac_search.specs.declared.ahocorasick.engine.EngineFindOverlappingIter.TheVariants.{Contiguous as ListedByContiguous, Dfa as ListedByDfa, Noncontiguous as ListedByNoncontiguous}
+use Rattle.ac_search.specs.declared.ahocorasick.engine.EngineStreamFinder.{EngineStreamFinder}
+use Rattle.ac_search.specs.declared.ahocorasick.engine.EngineStreamFinder.TheVariants.{Contiguous as StreamedByContiguous, Dfa as StreamedByDfa, Noncontiguous as StreamedByNoncontiguous}
 use Rattle.ac_search.specs.Searchers.{AreLaidOut, Searcher, Settings}
 use Rattle.ac_search.specs.States.{States, Contiguous as OfWords, Dfa as OfTable, Noncontiguous as OfTrie}
 
@@ -71,3 +74,8 @@ abbrev pub listing_in : {Z : Type 0} → EngineFindOverlappingIter Z → Overlap
 listing_in (ListedByNoncontiguous items) = items
 listing_in (ListedByContiguous items) = items
 listing_in (ListedByDfa items) = items
+
+abbrev pub streaming_in : {Y Z : Type 0} → EngineStreamFinder Y Z → Streaming
+streaming_in (StreamedByNoncontiguous finder) = finder
+streaming_in (StreamedByContiguous finder) = finder
+streaming_in (StreamedByDfa finder) = finder

@@ -6,6 +6,7 @@ pub mod Engines
 pub mod Places
 pub mod Searchers
 pub mod States
+pub mod StreamsBegun
 -- what is asked, what occurs, and what answers it
 pub use Rattle.ac_util.specs.Asked
 pub use Rattle.ac_util.specs.Inputs
@@ -22,6 +23,10 @@ pub use Rattle.ac_util.specs.Inside
 pub use Rattle.ac_util.specs.Replaced
 pub use Rattle.ac_util.specs.Replacement
 pub use Rattle.ac_util.specs.Replacing
+-- streams
+pub use Rattle.ac_util.specs.Stream
+pub use Rattle.ac_util.specs.StreamReplacing
+pub use Rattle.ac_automaton.specs.Streams
 -- texts
 pub use Rattle.ac_util.specs.Text
 pub use Rattle.ac_util.specs.Texts

@@ -28,11 +28,13 @@ mod engine;
 mod find;
 mod overlap;
 mod replace;
+mod stream;
 
 pub use builder::AhoCorasickBuilder;
 pub use choice::{AhoCorasickKind, choose_kind};
 pub use find::FindIter;
 pub use overlap::FindOverlappingIter;
+pub use stream::{StreamFindIter, StreamFinder};
 
 /// A searcher for many patterns.
 ///

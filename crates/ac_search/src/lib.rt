@@ -23,11 +23,15 @@ pub mod laws;
 pub mod nfa;
 
 pub use ac_automaton::automaton;
-pub use ac_automaton::automaton::{Automaton, Finder, MatchRest, OverlappingState, find_core};
+pub use ac_automaton::automaton::{
+    Automaton, Finder, MatchRest, OverlappingState, Phase, find_core,
+};
 pub use ac_engines::dfa;
 pub use ac_util::alphabet::ByteClasses;
-pub use ac_util::device::{Bytes, FromRead, IntoWrite, Sink, Source, Written};
-pub use ac_util::error::{BuildError, MatchError, ReplaceError};
+pub use ac_util::device::{
+    Bytes, FromRead, IntoWrite, Sink, Source, WriteError, Written, write_all,
+};
+pub use ac_util::error::{BuildError, MatchError, ReplaceError, StreamError};
 pub use ac_util::looks::{Looks, Tape, open};
 pub use ac_util::patterns::{Patterns, check_limits, plain_byte};
 pub use ac_util::plain;
@@ -38,7 +42,8 @@ pub use ac_util::primitives::{
 pub use ac_util::search::{Anchored, Input, Match, MatchKind, Span, StartKind};
 pub use ac_util::tally::Tally;
 pub use ahocorasick::{
-    AhoCorasick, AhoCorasickBuilder, AhoCorasickKind, FindIter, FindOverlappingIter, choose_kind,
+    AhoCorasick, AhoCorasickBuilder, AhoCorasickKind, FindIter, FindOverlappingIter,
+    StreamFindIter, StreamFinder, choose_kind,
 };
 
 #[cfg(test)]

@@ -1,15 +1,17 @@
 //! The engines of a searcher and their iterators. This file alone tells them apart.
-ghost use Rattle.std.specs.Prelude.{◌≡◌, IfOk, MatchResult, length, string_bytes};
+ghost use Rattle.std.specs.Prelude.{◌≡◌, IfOk, MatchResult, None, length, string_bytes, ⊤};
 ghost use Rattle.ac_util.specs.Borrowed.{bytes_of};
-ghost use Rattle.ac_util.specs.Built.{exchanged, exchanged_in_text, find_refusal, found, overlapping_iter_refusal, overlapping_refusal, replace_refusal, search_in};
+ghost use Rattle.ac_util.specs.Built.{exchanged, exchanged_in_text, find_refusal, found, overlapping_iter_refusal, overlapping_refusal, replace_refusal, search_in, stream_refusal};
 ghost use Rattle.ac_util.specs.Inputs.{asked};
 ghost use Rattle.ac_util.specs.Refusal.{AnswersUnless};
 ghost use Rattle.ac_util.specs.Replaced.{replaced};
 ghost use Rattle.ac_util.specs.Replacing.{AnswersWhole, MakesSteps, StepsLead};
 ghost use Rattle.ac_util.specs.Sizes.{longest_len, shortest_len};
+ghost use Rattle.ac_util.specs.StreamReplacing.{IsRefused};
 ghost use Rattle.ac_automaton.specs.Iterators.{GoesOn, begun};
 ghost use Rattle.ac_automaton.specs.Overlaps.{GivesNext, IsPlaced, ListsNext, listing_begun};
-ghost use Rattle.ac_search.specs.Engines.{built_of, filters_of, listing_in, name_of, states_of, walking_in};
+ghost use Rattle.ac_automaton.specs.Streams.{GivesRead, StreamsOn, stream_begun};
+ghost use Rattle.ac_search.specs.Engines.{built_of, filters_of, listing_in, name_of, states_of, streaming_in, walking_in};
 ghost use Rattle.ac_search.specs.Searchers.{looks_allowed};
 ghost use Rattle.ac_search.specs.States.{listed_in, stands_in};
 
@@ -18,7 +20,8 @@ use ac_automaton::automaton::{self, Automaton, OverlappingState};
 use ac_automaton::nfa::noncontiguous;
 use ac_engines::dfa;
 use ac_engines::nfa::contiguous;
-use ac_util::error::{MatchError, ReplaceError};
+use ac_util::device::Source;
+use ac_util::error::{MatchError, ReplaceError, StreamError};
 use ac_util::search::{Input, Match, MatchKind};
 use std::alloc::{AllocError, Allocator};
 use std::rc::Rc;
@@ -251,6 +254,32 @@ impl<A: Allocator> Engine<A> {
         }
     }
 
+    /// Returns what `StreamFinder::new` of `ac_automaton::automaton` does.
+    pub(super) fn try_stream_finder<Z: Allocator>(
+        &self,
+        alloc: Z,
+    ) -> Result<EngineStreamFinder<'_, A, Z>, StreamError>
+        ensures { MatchResult result
+            (λ finder. (stream_refusal (built_of self.now) ≡ None)
+            × (streaming_in finder ≡ stream_begun (built_of self.now)))
+            (IsRefused (stream_refusal (built_of self.now)) ⊤) }
+    {
+        match self {
+            Engine::Noncontiguous(nfa) => {
+                let finder = automaton::StreamFinder::new(nfa.as_ref(), alloc)?;
+                Ok(EngineStreamFinder::Noncontiguous(finder))
+            }
+            Engine::Contiguous(nfa) => {
+                let finder = automaton::StreamFinder::new(nfa.as_ref(), alloc)?;
+                Ok(EngineStreamFinder::Contiguous(finder))
+            }
+            Engine::Dfa(dfa) => {
+                let finder = automaton::StreamFinder::new(dfa.as_ref(), alloc)?;
+                Ok(EngineStreamFinder::Dfa(finder))
+            }
+        }
+    }
+
     /// Returns which of the occurrences in a span a search answers.
     pub(super) fn match_kind(&self) -> MatchKind
         ensures { result ≡ (built_of self.now).kind }
@@ -345,6 +374,53 @@ impl<'a, 'h, A: Allocator> EngineFindOverlappingIter<'a, 'h, A> {
             EngineFindOverlappingIter::Noncontiguous(items) => items.next(),
             EngineFindOverlappingIter::Contiguous(items) => items.next(),
             EngineFindOverlappingIter::Dfa(items) => items.next(),
+        }
+    }
+}
+
+/// The search of an engine over a stream.
+#[derive(Drop)]
+pub(super) enum EngineStreamFinder<'a, A: Allocator, Z: Allocator> {
+    Noncontiguous(automaton::StreamFinder<'a, noncontiguous::NFA<A>, Z>),
+    Contiguous(automaton::StreamFinder<'a, contiguous::NFA<A>, Z>),
+    Dfa(automaton::StreamFinder<'a, dfa::DFA<A>, Z>),
+}
+
+impl<'a, A: Allocator, Z: Allocator> EngineStreamFinder<'a, A, Z> {
+    /// Returns the next match of the stream, and reads more of it where that is needed.
+    ///
+    /// # Errors
+    /// As `StreamFinder::next` of `ac_automaton::automaton`.
+    pub(super) fn next<R: Source>(&mut self, reader: &mut R) -> Option<Result<Match, StreamError>>
+        ensures { StreamsOn R.empty_means_end (streaming_in self.old) result (streaming_in self.new)
+            (R.told reader.old) (R.told reader.new) }
+    {
+        match self {
+            EngineStreamFinder::Noncontiguous(finder) => finder.next(reader),
+            EngineStreamFinder::Contiguous(finder) => finder.next(reader),
+            EngineStreamFinder::Dfa(finder) => finder.next(reader),
+        }
+    }
+
+    /// Returns the next match of the bytes that were read, without reading more of them.
+    pub(super) fn next_read(&mut self) -> Option<Match>
+        ensures { GivesRead (streaming_in self.old) result (streaming_in self.new) }
+    {
+        match self {
+            EngineStreamFinder::Noncontiguous(finder) => finder.next_read(),
+            EngineStreamFinder::Contiguous(finder) => finder.next_read(),
+            EngineStreamFinder::Dfa(finder) => finder.next_read(),
+        }
+    }
+
+    /// Returns how many bytes the buffer has.
+    pub(super) fn buffer_len(&self) -> usize
+        ensures { result ≡ (streaming_in self.now).buffer }
+    {
+        match self {
+            EngineStreamFinder::Noncontiguous(finder) => finder.buffer_len(),
+            EngineStreamFinder::Contiguous(finder) => finder.buffer_len(),
+            EngineStreamFinder::Dfa(finder) => finder.buffer_len(),
         }
     }
 }

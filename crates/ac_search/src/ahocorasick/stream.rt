@@ -1,0 +1,200 @@
+//! The search of a stream by a searcher.
+ghost use Rattle.std.specs.Prelude.{◌≡◌, Err, IfErr, IfOk, MatchResult, None, Ok, ⊤};
+ghost use Rattle.std.specs.Iterator.{at_most};
+ghost use Rattle.ac_util.specs.Built.{stream_refusal};
+ghost use Rattle.ac_util.specs.StreamReplacing.{IsRefused};
+ghost use Rattle.ac_automaton.specs.Streams.{GivesItem, GivesRead, ReadsItem, StreamsOn, items_left};
+ghost use Rattle.ac_search.specs.StreamsBegun.{HasBegun, HasBegunOver};
+
+use super::engine::EngineStreamFinder;
+use super::{AhoCorasick, check_start};
+use ac_util::device::Source;
+use ac_util::error::StreamError;
+use ac_util::search::{Anchored, Match};
+use std::alloc::{AllocError, Allocator, Global};
+use std::marker::Model;
+
+impl<A: Allocator> AhoCorasick<A> {
+    /// Returns an iterator over the matches of all that a reader gives. They are those of `find_iter` over all its bytes,
+    /// however it cuts them. Offsets count bytes from 0 over the whole stream, and a match goes from its start up to, but
+    /// without, its end.
+    ///
+    /// Nothing is read before the first match is asked for. The allocator makes one buffer, which never grows. The searcher
+    /// has to support unanchored searches, its match kind to be `MatchKind::Standard`, and no pattern may be empty. This
+    /// ports `AhoCorasick::stream_find_iter`.
+    ///
+    /// ```
+    /// // a searcher over "append", "appendage" and "app", by `MatchKind::Standard`
+    /// for found in searcher.stream_find_iter(alloc, Bytes::new(b"append the app"))? {
+    ///     let found = found?; // pattern 2, 0..3; pattern 2, 11..14
+    /// }
+    /// ```
+    ///
+    /// # Errors
+    /// `AllocError` where the memory for the buffer is refused.
+    pub fn stream_find_iter<R: Source + Drop, Z: Allocator>(
+        &self,
+        alloc: Z,
+        reader: R,
+    ) -> Result<StreamFindIter<'_, R, A, Z>, AllocError>
+        requires supported { stream_refusal self.now.built ≡ None }
+        ensures { IfOk result (HasBegunOver self.now.built (R.told reader)) }
+    {
+        unrefused(self.try_stream_find_iter(alloc, reader))
+    }
+
+    /// Returns the same as `stream_find_iter`. This ports `AhoCorasick::try_stream_find_iter`.
+    ///
+    /// # Errors
+    /// `StreamError::Match` with `InvalidInputUnanchored` where the searcher doesn't support unanchored searches, else with
+    /// `UnsupportedStream` where its match kind isn't `MatchKind::Standard`, else with `UnsupportedEmpty` where some pattern
+    /// is empty; else `StreamError::Memory` where the memory for the buffer is refused. Nothing was read then.
+    pub fn try_stream_find_iter<R: Source + Drop, Z: Allocator>(
+        &self,
+        alloc: Z,
+        reader: R,
+    ) -> Result<StreamFindIter<'_, R, A, Z>, StreamError>
+        ensures { MatchResult result
+            (λ matches. (stream_refusal self.now.built ≡ None) × HasBegunOver self.now.built (R.told reader) matches)
+            (IsRefused (stream_refusal self.now.built) ⊤) }
+    {
+        let finder = self.try_stream_finder(alloc)?;
+        Ok(StreamFindIter { finder, reader })
+    }
+
+    /// Returns a search over a stream of which nothing was read yet: what `try_stream_find_iter` iterates by, but its reader
+    /// is handed to each call.
+    ///
+    /// # Errors
+    /// As `try_stream_find_iter`.
+    pub fn try_stream_finder<Z: Allocator>(
+        &self,
+        alloc: Z,
+    ) -> Result<StreamFinder<'_, A, Z>, StreamError>
+        ensures { MatchResult result
+            (λ finder. (stream_refusal self.now.built ≡ None) × HasBegun self.now.built finder)
+            (IsRefused (stream_refusal self.now.built) ⊤) }
+    {
+        check_start(self.start_kind, Anchored::No)?;
+        let finder = self.engine.try_stream_finder(alloc)?;
+        Ok(StreamFinder { finder })
+    }
+}
+
+/// A search over a stream by a searcher, whose reader is handed to each call, made by `AhoCorasick::try_stream_finder`.
+/// `StreamFindIter` is one with a reader of its own.
+///
+/// The matches are those of the walk over all bytes that the readers gave, however they cut them. Contracts see all bytes
+/// that were read, and how many of their matches were given.
+#[derive(Drop)]
+pub struct StreamFinder<'a, A: Allocator = Global, Z: Allocator = Global> {
+    finder: EngineStreamFinder<'a, A, Z>,
+}
+
+impl<'a, A: Allocator, Z: Allocator> Model for StreamFinder<'a, A, Z> {
+    ghost use Rattle.ac_automaton.specs.Streams.{Streaming};
+    ghost use Rattle.ac_search.specs.Engines.{streaming_in};
+
+    ghost Value = { Streaming };
+
+    ghost view = { λ s. streaming_in s.finder };
+}
+
+impl<'a, A: Allocator, Z: Allocator> StreamFinder<'a, A, Z> {
+    /// Returns the next match of the stream, and reads more of it where that is needed. After an error or the end it keeps
+    /// giving `None`, and the reader isn't asked again.
+    ///
+    /// # Errors
+    /// `Io` where a read failed, and `TooLong` where more bytes came than a `usize` counts. All matches of the bytes read
+    /// before were given then.
+    pub fn next<R: Source>(&mut self, reader: &mut R) -> Option<Result<Match, StreamError>>
+        ensures { StreamsOn R.empty_means_end self.old result self.new (R.told reader.old) (R.told reader.new) }
+    {
+        self.finder.next(reader)
+    }
+
+    /// Returns the next match of the bytes that were read, without reading more of them. `None` says that all their matches
+    /// were given.
+    pub fn next_read(&mut self) -> Option<Match>
+        ensures { GivesRead self.old result self.new }
+    {
+        self.finder.next_read()
+    }
+
+    /// Returns how many bytes the buffer has: 65,536, or eight times as many as the longest pattern if that is more.
+    pub fn buffer_len(&self) -> usize
+        ensures { result ≡ self.now.buffer }
+    {
+        self.finder.buffer_len()
+    }
+}
+
+/// An iterator over the matches of what a reader gives, made by `AhoCorasick::stream_find_iter`.
+///
+/// The matches are those of the walk over all bytes of the reader, however it cuts them; offsets count bytes from 0 over the
+/// whole stream. An item is `Io` where a read failed, and `TooLong` where more bytes came than a `usize` counts. The first
+/// error is the last item: after an error, as after the end, it keeps giving `None`, and the reader isn't asked again.
+/// Before each read all matches of the bytes read so far were given.
+#[derive(Drop)]
+pub struct StreamFindIter<'a, R: Source + Drop, A: Allocator = Global, Z: Allocator = Global> {
+    finder: StreamFinder<'a, A, Z>,
+    reader: R,
+}
+
+impl<'a, R: Source + Drop, A: Allocator, Z: Allocator> Model for StreamFindIter<'a, R, A, Z> {
+    ghost use Rattle.ac_automaton.specs.Streams.{StreamReading};
+
+    ghost Value = { StreamReading };
+
+    ghost view = { λ s. record { stream = s.finder; reader = R.told s.reader } };
+}
+
+impl<'a, R: Source + Drop, A: Allocator, Z: Allocator> StreamFindIter<'a, R, A, Z> {
+    /// Returns the next match of the bytes that were read, without reading more of them. `None` says that all their matches
+    /// were given.
+    pub fn next_read(&mut self) -> Option<Match>
+        ensures { ReadsItem self.old result self.new }
+    {
+        self.finder.next_read()
+    }
+
+    /// Returns how many bytes the buffer has: 65,536, or eight times as many as the longest pattern if that is more.
+    pub fn buffer_len(&self) -> usize
+        ensures { result ≡ self.now.stream.buffer }
+    {
+        self.finder.buffer_len()
+    }
+
+    /// Returns the next match of the stream, and reads more of it where that is needed.
+    #[inline]
+    fn advance(&mut self) -> Option<Result<Match, StreamError>>
+        ensures { GivesItem R.empty_means_end self.old result self.new }
+    {
+        self.finder.next(&mut self.reader)
+    }
+}
+
+impl<'a, R: Source + Drop, A: Allocator, Z: Allocator> Iterator for StreamFindIter<'a, R, A, Z> {
+    type Item = Result<Match, StreamError>;
+
+    ghost next_gives = { GivesItem R.empty_means_end };
+
+    ghost remaining = { λ s. at_most (items_left s) };
+
+    #[inline]
+    fn next(&mut self) -> Option<Result<Match, StreamError>> {
+        self.advance()
+    }
+}
+
+/// Returns what a search of a stream answers at first that nothing but want of memory can stop.
+fn unrefused<T: Drop>(outcome: Result<T, StreamError>) -> Result<T, AllocError>
+    requires { IfErr outcome (λ e. e ≡ StreamError.Memory) }
+    ensures { MatchResult result (λ value. outcome ≡ Ok value) (λ _. outcome ≡ Err StreamError.Memory) }
+{
+    match outcome {
+        Ok(value) => Ok(value),
+        Err(StreamError::Memory) => Err(AllocError),
+        Err(_) => unreachable!(),
+    }
+}
