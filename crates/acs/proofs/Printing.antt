@@ -6,7 +6,7 @@ use Rattle.std.specs.Io.KnownBytes.{Appends}
 use Rattle.std.proofs.lemmas.List.{append-nil, append_assoc, take-append-drop}
 use Rattle.std.proofs.Math.Seq.{take-append_seam}
 use Rattle.std.proofs.KnownBytes.{Appends-nil, Appends-trans}
-use Rattle.ac_util.specs.Device.{Writing}
+use Rattle.ac_util.specs.Device.{Writing, WritesAll}
 use Rattle.ac_util.specs.Occurrence.{Occurrence}
 use Rattle.acs.specs.declared.fault.Fault.{Fault}
 use Rattle.acs.specs.declared.fault.Fault.TheVariants.{Memory}
@@ -14,7 +14,7 @@ use Rattle.acs.specs.declared.run.Outcome.{Outcome}
 use Rattle.acs.specs.declared.run.Outcome.TheVariants.{Found, Nothing}
 use Rattle.acs.specs.Lines.{line, lines, outcome_of}
 use Rattle.acs.specs.Printed.{IsPrinting}
-use Rattle.acs.specs.Runs.{FailsToPrint, FailsToWrite, WritesAll}
+use Rattle.acs.specs.Runs.{FailsToPrint, FailsToWrite}
 
 -- the lines of two lists one after the other
 lines-append : (xs ys : List Occurrence) → lines (xs ++ ys) ≡ lines xs ++ lines ys

@@ -5,7 +5,7 @@ use Rattle.std.specs.Borrow.{Bor}
 use Rattle.std.specs.Prelude.{MatchResult, Result, Ok, Err, None, Bool}
 use Rattle.ac_util.specs.Borrowed.{bytes_of}
 use Rattle.ac_util.specs.Built.{Built, exchanged}
-use Rattle.ac_util.specs.Device.{Reading, Writing}
+use Rattle.ac_util.specs.Device.{Reading, ReadsAll, Writing, WritesAll}
 use Rattle.ac_util.specs.Replaced.{replaced}
 use Rattle.ac_search.specs.Searchers.{Searcher, IsBuildable, IsBuilt, built_by}
 use Rattle.acs.specs.declared.fault.Fault.{Fault}
@@ -16,7 +16,7 @@ use Rattle.acs.specs.declared.run.Outcome.{Outcome}
 use Rattle.acs.specs.declared.run.Outcome.TheVariants.{Found}
 use Rattle.acs.specs.Lines.{output_of}
 use Rattle.acs.specs.Requests.{patterns_in, request_refusal, seconds, settings_of, texts_in}
-use Rattle.acs.specs.Runs.{FailsToWrite, HasFailed, HasRun, IsServable, ReadsAll, WritesAll, answer}
+use Rattle.acs.specs.Runs.{FailsToWrite, HasFailed, HasRun, IsServable, answer}
 use Rattle.acs.proofs.Pairs.{length-seconds}
 
 -- the patterns and the texts of a request that replaces are gathered, and the searcher is built over the patterns

@@ -1,5 +1,7 @@
 -- Why the program fails, and what it says then.
 use Rattle.std.specs.Prelude.{◌≡◌, ℕ, List, codes}
+use Rattle.ac_util.specs.declared.device.WriteError.{WriteError}
+use Rattle.ac_util.specs.declared.device.WriteError.TheVariants.{Io as WriteFailed, WriteZero as WroteNothing}
 use Rattle.ac_util.specs.declared.error.BuildError.{BuildError}
 use Rattle.ac_util.specs.declared.error.BuildError.TheVariants.{Memory as NoMemory, PatternIdOverflow, PatternTooLong as TooLongPattern, StateIdOverflow}
 use Rattle.ac_search.specs.Searchers.{RefusesSearcher, Settings}
@@ -23,6 +25,11 @@ fault_of NoMemory = Memory
 fault_of (PatternIdOverflow max requested) = TooManyPatterns
 fault_of (TooLongPattern pattern len) = PatternTooLong
 fault_of (StateIdOverflow max requested) = TooManyStates
+
+-- the fault that a failed write is
+abbrev pub write_fault_of : WriteError → Fault
+write_fault_of (WriteFailed e) = Io
+write_fault_of WroteNothing = WriteZero
 
 -- the fault of a build over these patterns that was refused: a limit of the list is told before want of memory
 abbrev pub IsRefusal : Settings → List (List ℕ) → Fault → Type 0

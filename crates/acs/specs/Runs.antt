@@ -1,8 +1,7 @@
 -- What a run of the program does to its reader and its writer.
-use Rattle.std.specs.Prelude.{◌≡◌, ◌⊎◌, ℕ, ◌+◌, ◌++◌, ◌<◌, Bool, true, List, codes, length, MatchOption, MatchResult, None, Some, Result, Ok, Err}
-use Rattle.std.specs.Io.{StartsWith}
-use Rattle.std.specs.Io.KnownBytes.{Appends, Consumes, IsAtEnd}
-use Rattle.ac_util.specs.Device.{Reading, Writing}
+use Rattle.std.specs.Prelude.{◌≡◌, ◌⊎◌, ℕ, ◌+◌, ◌++◌, Bool, List, codes, MatchOption, MatchResult, None, Some, Result, Ok, Err}
+use Rattle.std.specs.Io.KnownBytes.{Consumes}
+use Rattle.ac_util.specs.Device.{Reading, ReadsAll, Writing, WritesAll, WritesSome}
 use Rattle.ac_search.specs.Searchers.{IsBuildable, built_by}
 use Rattle.acs.specs.declared.fault.Fault.{Fault}
 use Rattle.acs.specs.declared.fault.Fault.TheVariants.{Io, Memory, Usage, WriteZero}
@@ -13,27 +12,6 @@ use Rattle.acs.specs.declared.run.Outcome.{Outcome}
 use Rattle.acs.specs.Faults.{IsRefusal, line_of}
 use Rattle.acs.specs.Lines.{Output, output_of, status_of}
 use Rattle.acs.specs.Requests.{patterns_in, request_of, request_refusal, settings_of, texts_in, words_behind}
-
--- the bytes are all that the reader gave up to the first read that gave none, where it was asked no more, and
--- no read failed. Where `ends` is true they are all that it had left
-pub record ReadsAll (ends : Bool) (old new : Reading) (bytes : List ℕ) : Type 0 where
-  pub moved : Consumes old.left new.left bytes
-  pub ended : ends ≡ true → IsAtEnd new.left
-  pub failed : new.failed ≡ old.failed
-  pub empties : new.empties ≡ old.empties + 1
-
--- the bytes were all written: no write failed, and none took nothing
-pub record WritesAll (old new : Writing) (bytes : List ℕ) : Type 0 where
-  pub moved : Appends old.written new.written bytes
-  pub failed : new.failed ≡ old.failed
-  pub idles : new.idles ≡ old.idles
-
--- a beginning of the bytes was written, and not all of them
-pub record WritesSome (old new : Writing) (bytes : List ℕ) : Type 0 where
-  pub part : List ℕ
-  pub begins : StartsWith bytes part
-  pub left_out : length part < length bytes
-  pub moved : Appends old.written new.written part
 
 -- a read has failed, or memory was refused and no read has; each read before took something
 pub record FailsToRead (old new : Reading) (fault : Fault) : Type 0 where

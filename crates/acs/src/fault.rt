@@ -1,9 +1,9 @@
 //! Why a run fails.
 ghost use Rattle.std.specs.Prelude.{◌≡◌};
 ghost use Rattle.acs.specs.declared.fault.Fault.TheVariants.{Memory as OutOfMemory};
-ghost use Rattle.acs.specs.Faults.{fault_of, line_of};
+ghost use Rattle.acs.specs.Faults.{fault_of, line_of, write_fault_of};
 
-use ac_search::BuildError;
+use ac_search::{BuildError, WriteError};
 use std::alloc::{AllocError, AllocFailed};
 
 /// Why a run fails.
@@ -55,6 +55,17 @@ impl From<BuildError> for Fault {
             BuildError::PatternIdOverflow { .. } => Fault::TooManyPatterns,
             BuildError::PatternTooLong { .. } => Fault::PatternTooLong,
             BuildError::StateIdOverflow { .. } => Fault::TooManyStates,
+        }
+    }
+}
+
+impl From<WriteError> for Fault {
+    ghost from_gives = { λ e fault. fault ≡ write_fault_of e };
+
+    fn from(failure: WriteError) -> Fault {
+        match failure {
+            WriteError::Io(_) => Fault::Io,
+            WriteError::WriteZero => Fault::WriteZero,
         }
     }
 }

@@ -1,6 +1,7 @@
 //! All bytes of a reader.
 ghost use Rattle.std.specs.Prelude.{MatchResult};
-ghost use Rattle.acs.specs.Runs.{FailsToRead, ReadsAll};
+ghost use Rattle.ac_util.specs.Device.{ReadsAll};
+ghost use Rattle.acs.specs.Runs.{FailsToRead};
 
 use crate::fault::Fault;
 use ac_search::Source;

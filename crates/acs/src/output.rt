@@ -1,12 +1,12 @@
 //! Lines for matches, written in large pieces, and replaced texts.
 ghost use Rattle.std.specs.Prelude.{◌≡◌, ◌++◌, ◌∷◌, [], List, codes, MatchResult, OnOk, option_to_list, string_bytes};
-ghost use Rattle.ac_util.specs.Device.{Writing};
+ghost use Rattle.ac_util.specs.Device.{Writing, WritesAll};
 ghost use Rattle.ac_util.specs.Occurrence.{Occurrence};
 ghost use Rattle.acs.specs.declared.run.Outcome.{Outcome};
 ghost use Rattle.acs.specs.declared.run.Outcome.TheVariants.{Found};
 ghost use Rattle.acs.specs.Lines.{line, lines, outcome_of};
 ghost use Rattle.acs.specs.Printed.{IsPrinting};
-ghost use Rattle.acs.specs.Runs.{FailsToPrint, FailsToWrite, WritesAll};
+ghost use Rattle.acs.specs.Runs.{FailsToPrint, FailsToWrite};
 
 use crate::fault::Fault;
 use crate::run::Outcome;
@@ -36,14 +36,7 @@ fn write_all<W: Sink>(writer: &mut W, bytes: &[u8]) -> Result<(), Fault>
         (λ _. WritesAll (W.told writer.old) (W.told writer.new) bytes.now)
         (FailsToWrite (W.told writer.old) (W.told writer.new) bytes.now) }
 {
-    let mut at = 0;
-    while at < bytes.len() {
-        match writer.write_some(&bytes[at..]) {
-            Ok(0) => return Err(Fault::WriteZero),
-            Ok(n) => at += n,
-            Err(_) => return Err(Fault::Io),
-        }
-    }
+    ac_search::write_all(writer, bytes)?;
     Ok(())
 }
 

@@ -1,9 +1,10 @@
 use Rattle.std.proofs.Common.{◌≡◌, ℕ, List, ◌++◌, ◌∷◌, ◌∙◌, refl, subst}
 use Rattle.std.specs.Prelude.{string_bytes}
+use Rattle.ac_util.specs.Device.{WritesAll}
 use Rattle.acs.specs.declared.fault.Fault.TheVariants.{Memory}
 use Rattle.acs.specs.declared.run.Outcome.TheVariants.{Found}
 use Rattle.acs.specs.Lines.{line, lines}
-use Rattle.acs.specs.Runs.{FailsToPrint, FailsToWrite, WritesAll}
+use Rattle.acs.specs.Runs.{FailsToPrint, FailsToWrite}
 use Rattle.ac_automaton.proofs.Places.{refused-by}
 use Rattle.acs.proofs.Printing.{printing-adds, printing-fails, printing-wants, printing-writes}
 use Rattle.acs.proofs.output.print_line.Goals as goal
