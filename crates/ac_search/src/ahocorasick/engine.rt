@@ -1,5 +1,5 @@
 //! The engines of a searcher and their iterators. This file alone tells them apart.
-ghost use Rattle.std.specs.Prelude.{◌≡◌, IfOk, MatchResult, None, length, string_bytes, ⊤};
+ghost use Rattle.std.specs.Prelude.{◌≡◌, ◌⊎◌, IfOk, MatchResult, None, length, string_bytes, ⊤};
 ghost use Rattle.ac_util.specs.Borrowed.{bytes_of};
 ghost use Rattle.ac_util.specs.Built.{exchanged, exchanged_in_text, find_refusal, found, overlapping_iter_refusal, overlapping_refusal, replace_refusal, search_in, stream_refusal};
 ghost use Rattle.ac_util.specs.Inputs.{asked};
@@ -7,7 +7,7 @@ ghost use Rattle.ac_util.specs.Refusal.{AnswersUnless};
 ghost use Rattle.ac_util.specs.Replaced.{replaced};
 ghost use Rattle.ac_util.specs.Replacing.{AnswersWhole, MakesSteps, StepsLead};
 ghost use Rattle.ac_util.specs.Sizes.{longest_len, shortest_len};
-ghost use Rattle.ac_util.specs.StreamReplacing.{IsRefused};
+ghost use Rattle.ac_util.specs.StreamReplacing.{FailsToReplace, FailsToReplaceWith, IsRefused, ReplacesStream, ReplacesStreamWith};
 ghost use Rattle.ac_automaton.specs.Iterators.{GoesOn, begun};
 ghost use Rattle.ac_automaton.specs.Overlaps.{GivesNext, IsPlaced, ListsNext, listing_begun};
 ghost use Rattle.ac_automaton.specs.Streams.{GivesRead, StreamsOn, stream_begun};
@@ -20,10 +20,11 @@ use ac_automaton::automaton::{self, Automaton, OverlappingState};
 use ac_automaton::nfa::noncontiguous;
 use ac_engines::dfa;
 use ac_engines::nfa::contiguous;
-use ac_util::device::Source;
+use ac_util::device::{Sink, Source};
 use ac_util::error::{MatchError, ReplaceError, StreamError};
 use ac_util::search::{Input, Match, MatchKind};
 use std::alloc::{AllocError, Allocator};
+use std::io;
 use std::rc::Rc;
 
 /// The engine of a searcher, which its clones share.
@@ -251,6 +252,70 @@ impl<A: Allocator> Engine<A> {
             Engine::Dfa(dfa) => dfa
                 .as_ref()
                 .try_replace_all_with_bytes(haystack, destination, exchange),
+        }
+    }
+
+    /// Does what `Automaton::try_stream_replace_all` does.
+    pub(super) fn try_stream_replace_all<R: Source, W: Sink, Z: Allocator>(
+        &self,
+        alloc: Z,
+        reader: &mut R,
+        writer: &mut W,
+        texts: &[&[u8]],
+    ) -> Result<(), StreamError>
+        requires texts { length texts.now ≡ length (built_of self.now).patterns }
+        ensures { MatchResult result
+            (λ _. (stream_refusal (built_of self.now) ≡ None)
+            × ReplacesStream (built_of self.now) (bytes_of texts.now) (W.told writer.old) (W.told writer.new)
+            R.empty_means_end (R.told reader.old) (R.told reader.new))
+            (λ e. IsRefused (stream_refusal (built_of self.now)) ((reader.new ≡ reader.old) × (writer.new ≡ writer.old)) e
+            ⊎ ((stream_refusal (built_of self.now) ≡ None)
+            × FailsToReplace (built_of self.now) (bytes_of texts.now) (W.told writer.old) (W.told writer.new)
+            R.empty_means_end (R.told reader.old) (R.told reader.new) e)) }
+    {
+        match self {
+            Engine::Noncontiguous(nfa) => nfa
+                .as_ref()
+                .try_stream_replace_all(alloc, reader, writer, texts),
+            Engine::Contiguous(nfa) => nfa
+                .as_ref()
+                .try_stream_replace_all(alloc, reader, writer, texts),
+            Engine::Dfa(dfa) => dfa
+                .as_ref()
+                .try_stream_replace_all(alloc, reader, writer, texts),
+        }
+    }
+
+    /// Does what `Automaton::try_stream_replace_all_with` does.
+    pub(super) fn try_stream_replace_all_with<R: Source, W: Sink, Z: Allocator, F>(
+        &self,
+        alloc: Z,
+        reader: &mut R,
+        writer: &mut W,
+        closure: F,
+    ) -> Result<(), StreamError>
+    where
+        F: FnMut(&Match, &[u8], &mut W) -> io::Result<()>,
+        requires callable { F.IsAlwaysCallable closure }
+        ensures { MatchResult result
+            (λ _. (stream_refusal (built_of self.now) ≡ None)
+            × ReplacesStreamWith W.told F.FnMut (built_of self.now) closure writer.old R.empty_means_end
+            (R.told reader.old) (R.told reader.new) writer.new)
+            (λ e. IsRefused (stream_refusal (built_of self.now)) ((reader.new ≡ reader.old) × (writer.new ≡ writer.old)) e
+            ⊎ ((stream_refusal (built_of self.now) ≡ None)
+            × FailsToReplaceWith W.told F.FnMut (built_of self.now) closure writer.old R.empty_means_end
+            (R.told reader.old) (R.told reader.new) writer.new e)) }
+    {
+        match self {
+            Engine::Noncontiguous(nfa) => nfa
+                .as_ref()
+                .try_stream_replace_all_with(alloc, reader, writer, closure),
+            Engine::Contiguous(nfa) => nfa
+                .as_ref()
+                .try_stream_replace_all_with(alloc, reader, writer, closure),
+            Engine::Dfa(dfa) => dfa
+                .as_ref()
+                .try_stream_replace_all_with(alloc, reader, writer, closure),
         }
     }
 

@@ -1,17 +1,19 @@
 //! The search of a stream by a searcher.
-ghost use Rattle.std.specs.Prelude.{◌≡◌, Err, IfErr, IfOk, MatchResult, None, Ok, ⊤};
+ghost use Rattle.std.specs.Prelude.{◌≡◌, ◌⊎◌, Err, IfErr, IfOk, MatchResult, None, Ok, length, ⊤};
 ghost use Rattle.std.specs.Iterator.{at_most};
+ghost use Rattle.ac_util.specs.Borrowed.{bytes_of};
 ghost use Rattle.ac_util.specs.Built.{stream_refusal};
-ghost use Rattle.ac_util.specs.StreamReplacing.{IsRefused};
+ghost use Rattle.ac_util.specs.StreamReplacing.{FailsToReplace, FailsToReplaceWith, IsRefused, ReplacesStream, ReplacesStreamWith};
 ghost use Rattle.ac_automaton.specs.Streams.{GivesItem, GivesRead, ReadsItem, StreamsOn, items_left};
 ghost use Rattle.ac_search.specs.StreamsBegun.{HasBegun, HasBegunOver};
 
 use super::engine::EngineStreamFinder;
 use super::{AhoCorasick, check_start};
-use ac_util::device::Source;
+use ac_util::device::{Sink, Source};
 use ac_util::error::StreamError;
 use ac_util::search::{Anchored, Match};
 use std::alloc::{AllocError, Allocator, Global};
+use std::io;
 use std::marker::Model;
 
 impl<A: Allocator> AhoCorasick<A> {
@@ -60,6 +62,79 @@ impl<A: Allocator> AhoCorasick<A> {
     {
         let finder = self.try_stream_finder(alloc)?;
         Ok(StreamFindIter { finder, reader })
+    }
+
+    /// Writes what a reader gives, with each match of `find_iter` over all its bytes exchanged for the text of its pattern.
+    ///
+    /// It reads as it goes and writes as it goes: before each read all of the replaced text was written but for the bytes
+    /// that a match to come may still need, at most one fewer than the longest pattern has. The allocator makes one buffer,
+    /// which never grows; no other memory is taken. The writer isn't flushed. There have to be as many texts as patterns.
+    /// This ports `AhoCorasick::try_stream_replace_all`.
+    ///
+    /// ```
+    /// // a searcher over "fox", "brown" and "quick"
+    /// let mut reader = Bytes::new(b"The quick brown fox.");
+    /// let mut writer = Written::new(alloc);
+    /// searcher.try_stream_replace_all(alloc, &mut reader, &mut writer, &[b"sloth", b"grey", b"slow"])?;
+    /// // writes "The slow grey sloth."
+    /// ```
+    ///
+    /// # Errors
+    /// Those of `try_stream_find_iter`: then nothing was read or written. `Io` where a read or a write failed, and `TooLong`
+    /// where more bytes came than a `usize` counts: what was written before that read stands. `WriteZero` where a write took
+    /// no byte. Where a write failed or took nothing, a beginning of the replaced text of what was read was written.
+    pub fn try_stream_replace_all<R: Source, W: Sink, Z: Allocator>(
+        &self,
+        alloc: Z,
+        reader: &mut R,
+        writer: &mut W,
+        texts: &[&[u8]],
+    ) -> Result<(), StreamError>
+        requires texts { length texts.now ≡ length self.now.built.patterns }
+        ensures { MatchResult result
+            (λ _. (stream_refusal self.now.built ≡ None)
+            × ReplacesStream self.now.built (bytes_of texts.now) (W.told writer.old) (W.told writer.new)
+            R.empty_means_end (R.told reader.old) (R.told reader.new))
+            (λ e. IsRefused (stream_refusal self.now.built) ((reader.new ≡ reader.old) × (writer.new ≡ writer.old)) e
+            ⊎ ((stream_refusal self.now.built ≡ None)
+            × FailsToReplace self.now.built (bytes_of texts.now) (W.told writer.old) (W.told writer.new)
+            R.empty_means_end (R.told reader.old) (R.told reader.new) e)) }
+    {
+        check_start(self.start_kind, Anchored::No)?;
+        self.engine
+            .try_stream_replace_all(alloc, reader, writer, texts)
+    }
+
+    /// Does the same as `try_stream_replace_all` with a call of the closure at each match: it is handed the match, with
+    /// offsets over the whole stream, the slice that matched, and the writer, to which it writes what it exchanges the match
+    /// for. This ports `AhoCorasick::try_stream_replace_all_with`.
+    ///
+    /// The closure may be called at each match and writer.
+    ///
+    /// # Errors
+    /// As `try_stream_replace_all`; and `Io` where the closure failed: what it wrote stands, and nothing follows.
+    pub fn try_stream_replace_all_with<R: Source, W: Sink, Z: Allocator, F>(
+        &self,
+        alloc: Z,
+        reader: &mut R,
+        writer: &mut W,
+        closure: F,
+    ) -> Result<(), StreamError>
+    where
+        F: FnMut(&Match, &[u8], &mut W) -> io::Result<()>,
+        requires callable { F.IsAlwaysCallable closure }
+        ensures { MatchResult result
+            (λ _. (stream_refusal self.now.built ≡ None)
+            × ReplacesStreamWith W.told F.FnMut self.now.built closure writer.old R.empty_means_end
+            (R.told reader.old) (R.told reader.new) writer.new)
+            (λ e. IsRefused (stream_refusal self.now.built) ((reader.new ≡ reader.old) × (writer.new ≡ writer.old)) e
+            ⊎ ((stream_refusal self.now.built ≡ None)
+            × FailsToReplaceWith W.told F.FnMut self.now.built closure writer.old R.empty_means_end
+            (R.told reader.old) (R.told reader.new) writer.new e)) }
+    {
+        check_start(self.start_kind, Anchored::No)?;
+        self.engine
+            .try_stream_replace_all_with(alloc, reader, writer, closure)
     }
 
     /// Returns a search over a stream of which nothing was read yet: what `try_stream_find_iter` iterates by, but its reader
