@@ -19,6 +19,7 @@ use std::test::Fail;
 mod alone;
 mod engines;
 mod replace;
+mod stream;
 
 /// A pattern number, a start and an end.
 type Told = (usize, usize, usize);

@@ -1,0 +1,365 @@
+//! Streams by readers and writers that do little at once, and fail.
+use super::engines::KINDS;
+use super::same;
+use crate::MatchKind::{LeftmostFirst, Standard};
+use crate::{
+    AhoCorasick, AhoCorasickBuilder, AhoCorasickKind, MatchError, MatchKind, Sink, Source,
+    StartKind, StreamError,
+};
+use ac_util::tally::Tally;
+use std::io;
+use std::io::ErrorKind;
+use std::marker::Model;
+use std::test::Fail;
+
+const FOX: &[&[u8]] = &[b"fox", b"brown", b"quick"];
+
+const SLOTH: &[&[u8]] = &[b"sloth", b"grey", b"slow"];
+
+const SENTENCE: &[u8] = b"The quick brown fox.";
+
+/// How many calls of a reader are good that never fails.
+const ALWAYS: usize = 1_000_000;
+
+/// Gives so many bytes a call at most, and fails once so many calls were made.
+#[derive(Drop)]
+struct Pieces<'a> {
+    left: &'a [u8],
+    most: usize,
+    good: usize,
+    failed: Tally,
+    empties: Tally,
+}
+
+impl<'a> Model for Pieces<'a> {
+    ghost use Rattle.std.specs.Prelude.{None};
+    ghost use Rattle.ac_search.specs.Device.{Reading};
+
+    ghost Value = { Reading };
+
+    ghost view = { λ p. record { left = None; failed = p.failed.number; empties = p.empties.number } };
+}
+
+impl<'a> Pieces<'a> {
+    fn new(bytes: &'a [u8], most: usize, good: usize) -> Pieces<'a> {
+        Pieces {
+            left: bytes,
+            most,
+            good,
+            failed: Tally::zero(),
+            empties: Tally::zero(),
+        }
+    }
+}
+
+impl<'a> Source for Pieces<'a> {
+    ghost told = { λ p. p };
+
+    ghost empty_means_end = { false };
+
+    fn read_some(&mut self, into: &mut [u8]) -> io::Result<usize> {
+        if self.good == 0 {
+            self.failed = Tally::after(&self.failed);
+            return Err(io::Error::from(ErrorKind::BrokenPipe));
+        }
+        self.good -= 1;
+        let left = self.left;
+        let n = self.most.min(left.len()).min(into.len());
+        into[..n].copy_from_slice(&left[..n]);
+        if n == 0 && !into.is_empty() {
+            self.empties = Tally::after(&self.empties);
+        }
+        self.left = &left[n..];
+        Ok(n)
+    }
+}
+
+/// Takes so many bytes a call at most, and so many in all; then it fails, or takes none.
+#[derive(Drop)]
+struct Few {
+    text: Vec<u8>,
+    most: usize,
+    room: usize,
+    fails: bool,
+    failed: Tally,
+    idles: Tally,
+}
+
+impl Model for Few {
+    ghost use Rattle.std.specs.Prelude.{None};
+    ghost use Rattle.ac_search.specs.Device.{Writing};
+
+    ghost Value = { Writing };
+
+    ghost view = { λ w. record { written = None; failed = w.failed.number; idles = w.idles.number } };
+}
+
+impl Few {
+    fn new(rt: HostRuntime, most: usize, room: usize, fails: bool) -> Few {
+        Few {
+            text: Vec::new(rt.alloc()),
+            most,
+            room,
+            fails,
+            failed: Tally::zero(),
+            idles: Tally::zero(),
+        }
+    }
+}
+
+impl Sink for Few {
+    ghost told = { λ w. w };
+
+    fn write_some(&mut self, piece: &[u8]) -> io::Result<usize> {
+        let n = self.most.min(self.room).min(piece.len());
+        if n == 0 && self.fails {
+            self.failed = Tally::after(&self.failed);
+            return Err(io::Error::from(ErrorKind::BrokenPipe));
+        }
+        if let Err(e) = self.text.extend_from_slice(&piece[..n]) {
+            self.failed = Tally::after(&self.failed);
+            return Err(e.into());
+        }
+        if n == 0 && !piece.is_empty() {
+            self.idles = Tally::after(&self.idles);
+        }
+        self.room -= n;
+        Ok(n)
+    }
+}
+
+/// How a replacement ended, without what an `io::Error` tells more.
+#[derive(Clone, Copy, PartialEq, Eq, Debug)]
+enum End {
+    Whole,
+    Refused(MatchError),
+    Memory,
+    Io,
+    WriteZero,
+    TooLong,
+}
+
+fn end_of(ended: Result<(), StreamError>) -> End {
+    match ended {
+        Ok(()) => End::Whole,
+        Err(StreamError::Match(refusal)) => End::Refused(refusal),
+        Err(StreamError::Memory) => End::Memory,
+        Err(StreamError::Io(_)) => End::Io,
+        Err(StreamError::WriteZero) => End::WriteZero,
+        Err(StreamError::TooLong) => End::TooLong,
+    }
+}
+
+fn searcher_by(
+    rt: HostRuntime,
+    patterns: &[&[u8]],
+    kind: Option<AhoCorasickKind>,
+) -> Result<AhoCorasick, Fail> {
+    let mut builder = AhoCorasickBuilder::new();
+    builder.kind(kind);
+    Ok(builder.build(rt.alloc(), patterns)?)
+}
+
+/// How many bytes a reader gives a call, after how many calls it fails, what is written then, and how the call ends.
+type Read = (usize, usize, &'static [u8], End);
+
+const READS: &[Read] = &[
+    (1, ALWAYS, b"The slow grey sloth.", End::Whole),
+    (2, ALWAYS, b"The slow grey sloth.", End::Whole),
+    (3, ALWAYS, b"The slow grey sloth.", End::Whole),
+    (7, ALWAYS, b"The slow grey sloth.", End::Whole),
+    (65536, ALWAYS, b"The slow grey sloth.", End::Whole),
+    (1, 4, b"", End::Io),
+    (1, 5, b"T", End::Io),
+    (1, 9, b"The slow", End::Io),
+    (1, 14, b"The slow ", End::Io),
+    (1, 15, b"The slow grey", End::Io),
+    (1, 19, b"The slow grey sloth", End::Io),
+    (1, 20, b"The slow grey sloth", End::Io),
+    (12, 1, b"The slow", End::Io),
+    (1, 0, b"", End::Io),
+];
+
+#[test]
+fn reads_cut_a_stream_anywhere_and_fail_anywhere(rt: HostRuntime) -> Result<(), Fail> {
+    for kind in KINDS {
+        let searcher = searcher_by(rt, FOX, kind)?;
+        for (most, good, text, end) in READS {
+            let mut reader = Pieces::new(SENTENCE, *most, *good);
+            let mut writer = Few::new(rt, 1, ALWAYS, true);
+            let ended = searcher.try_stream_replace_all(rt.alloc(), &mut reader, &mut writer, SLOTH);
+            same(&rt, end_of(ended), *end);
+            same(&rt, writer.text.as_slice(), *text);
+        }
+    }
+    Ok(())
+}
+
+/// How many bytes a writer takes a call, how many in all, whether it fails then, what is written, and how the call ends.
+type Written = (usize, usize, bool, &'static [u8], End);
+
+const WRITES: &[Written] = &[
+    (1, ALWAYS, true, b"The slow grey sloth.", End::Whole),
+    (7, ALWAYS, true, b"The slow grey sloth.", End::Whole),
+    (1, 10, true, b"The slow g", End::Io),
+    (3, 3, true, b"The", End::Io),
+    (1, 5, false, b"The s", End::WriteZero),
+    (1, 0, false, b"", End::WriteZero),
+    (1, 19, true, b"The slow grey sloth", End::Io),
+];
+
+#[test]
+fn writes_fail_or_take_nothing_anywhere(rt: HostRuntime) -> Result<(), Fail> {
+    let searcher = AhoCorasick::new(rt.alloc(), FOX)?;
+    for (most, room, fails, text, end) in WRITES {
+        let mut reader = Pieces::new(SENTENCE, 1, ALWAYS);
+        let mut writer = Few::new(rt, *most, *room, *fails);
+        let ended = searcher.try_stream_replace_all(rt.alloc(), &mut reader, &mut writer, SLOTH);
+        same(&rt, end_of(ended), *end);
+        same(&rt, writer.text.as_slice(), *text);
+    }
+    Ok(())
+}
+
+#[test]
+fn closures_exchange_and_fail(rt: HostRuntime) -> Result<(), Fail> {
+    let numbers: [&[u8]; 3] = [b"0", b"1", b"2"];
+    for (failing, text, end) in [
+        (3, b"The 2 1 0.".as_slice(), End::Whole),
+        (1, b"The 2 1".as_slice(), End::Io),
+    ] {
+        let searcher = AhoCorasick::new(rt.alloc(), FOX)?;
+        let mut reader = Pieces::new(SENTENCE, 1, ALWAYS);
+        let mut writer = Few::new(rt, 1, ALWAYS, true);
+        let ended = searcher.try_stream_replace_all_with(
+            rt.alloc(),
+            &mut reader,
+            &mut writer,
+            |found, _, writer: &mut Few| {
+                let number = found.pattern().as_usize();
+                if let Some(digit) = numbers.get(number) {
+                    writer.write_some(digit)?;
+                }
+                if number == failing {
+                    return Err(io::Error::from(ErrorKind::Other));
+                }
+                Ok(())
+            },
+        );
+        same(&rt, end_of(ended), end);
+        same(&rt, writer.text.as_slice(), text);
+    }
+    Ok(())
+}
+
+#[test]
+fn iterators_give_matches_and_then_an_error(rt: HostRuntime) -> Result<(), Fail> {
+    for kind in KINDS {
+        let searcher = searcher_by(rt, FOX, kind)?;
+        let reader = Pieces::new(SENTENCE, 1, 12);
+        let mut matches = searcher.try_stream_find_iter(rt.alloc(), reader)?;
+        same(&rt, matches.buffer_len(), 65536);
+        same(&rt, told_of(matches.next()), Some(Some((2, 4, 9))));
+        same(&rt, told_of(matches.next()), Some(None));
+        same(&rt, told_of(matches.next()), None);
+        same(&rt, told_of(matches.next()), None);
+    }
+    Ok(())
+}
+
+/// An item of an iterator: none, an error, or a match as its number, start and end.
+fn told_of(
+    item: Option<Result<crate::Match, StreamError>>,
+) -> Option<Option<(usize, usize, usize)>> {
+    match item {
+        None => None,
+        Some(Err(_)) => Some(None),
+        Some(Ok(found)) => Some(Some((
+            found.pattern().as_usize(),
+            found.start(),
+            found.end(),
+        ))),
+    }
+}
+
+#[test]
+fn a_match_spans_two_buffers(rt: HostRuntime) -> Result<(), Fail> {
+    let searcher = AhoCorasick::new(rt.alloc(), &[b"abc"])?;
+    let mut stream = Vec::new(rt.alloc());
+    stream.resize(65535, b'x')?;
+    stream.extend_from_slice(b"abc")?;
+    for most in [1, 7, 65535, 65536, 65537] {
+        let reader = Pieces::new(&stream, most, ALWAYS);
+        let mut matches = searcher.try_stream_find_iter(rt.alloc(), reader)?;
+        same(&rt, told_of(matches.next()), Some(Some((0, 65535, 65538))));
+        same(&rt, told_of(matches.next()), None);
+    }
+    Ok(())
+}
+
+/// A start kind, a match kind, patterns, and why streams are refused.
+type Refusal = (StartKind, MatchKind, &'static [&'static [u8]], MatchError);
+
+const REFUSALS: &[Refusal] = &[
+    (
+        StartKind::Unanchored,
+        LeftmostFirst,
+        &[b"a"],
+        MatchError::UnsupportedStream { got: LeftmostFirst },
+    ),
+    (
+        StartKind::Unanchored,
+        LeftmostFirst,
+        &[b"", b"a"],
+        MatchError::UnsupportedStream { got: LeftmostFirst },
+    ),
+    (
+        StartKind::Unanchored,
+        Standard,
+        &[b"", b"a"],
+        MatchError::UnsupportedEmpty,
+    ),
+    (
+        StartKind::Anchored,
+        LeftmostFirst,
+        &[b"a"],
+        MatchError::InvalidInputUnanchored,
+    ),
+];
+
+#[test]
+fn a_refused_stream_is_not_read(rt: HostRuntime) -> Result<(), Fail> {
+    for (start, kind, patterns, refusal) in REFUSALS {
+        let mut builder = AhoCorasickBuilder::new();
+        builder.start_kind(*start);
+        builder.match_kind(*kind);
+        let searcher = builder.build(rt.alloc(), *patterns)?;
+        let mut reader = Pieces::new(SENTENCE, 1, ALWAYS);
+        let mut writer = Few::new(rt, 1, ALWAYS, true);
+        let ended = searcher.try_stream_replace_all_with(
+            rt.alloc(),
+            &mut reader,
+            &mut writer,
+            |_, _, _: &mut Few| Ok(()),
+        );
+        same(&rt, end_of(ended), End::Refused(*refusal));
+        same(&rt, reader.left.len(), SENTENCE.len());
+        let matches = searcher.try_stream_find_iter(rt.alloc(), reader);
+        match matches {
+            Ok(_) => same(&rt, true, false),
+            Err(e) => same(&rt, end_of(Err(e)), End::Refused(*refusal)),
+        }
+    }
+    Ok(())
+}
+
+#[test]
+fn a_stream_without_patterns_is_copied(rt: HostRuntime) -> Result<(), Fail> {
+    let searcher = AhoCorasick::new(rt.alloc(), &[])?;
+    let mut reader = Pieces::new(b"abc", 1, ALWAYS);
+    let mut writer = Few::new(rt, 1, ALWAYS, true);
+    let ended = searcher.try_stream_replace_all(rt.alloc(), &mut reader, &mut writer, &[]);
+    same(&rt, end_of(ended), End::Whole);
+    same(&rt, writer.text.as_slice(), b"abc".as_slice());
+    Ok(())
+}
