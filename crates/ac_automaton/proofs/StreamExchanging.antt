@@ -1,6 +1,6 @@
 -- The replacement of a stream: what was written so far and one piece more, one exchange more, and where it fails.
-use Rattle.std.proofs.Common.{◌≡◌, ◌≢◌, ◌⊎◌, ℕ, zero, suc, ◌+◌, ◌-◌, ◌<◌, ◌≤◌, Bool, List, [], ◌∷◌, ◌++◌, length, length-append, length-take, take, drop, inl, inr, refl, ap, sym, subst, ◌∙◌, arith, Option, Some, None, Result, Ok, Err}
-use Rattle.std.specs.Prelude.{slice_get, slice_range, ⊤}
+use Rattle.std.proofs.Common.{◌≡◌, ℕ, zero, suc, ◌+◌, ◌-◌, ◌≤◌, Bool, List, [], ◌∷◌, ◌++◌, length, length-append, length-take, take, drop, inl, inr, refl, ap, sym, subst, ◌∙◌, arith, Option, Some, None, Result, Ok, Err}
+use Rattle.std.specs.Prelude.{slice_get, slice_range}
 use Rattle.std.specs.Io.KnownBytes.{Consumes}
 use Rattle.std.proofs.KnownBytes.{Appends-nil, Appends-trans, Consumes-nil, Consumes-trans}
 use Rattle.std.proofs.Math.Seq.{take-add, take-append-add}
@@ -20,7 +20,7 @@ use Rattle.ac_automaton.specs.declared.automaton.stream.Phase.{Phase}
 use Rattle.ac_automaton.specs.declared.automaton.stream.Phase.TheVariants.{Ended, Failed, Open}
 use Rattle.ac_automaton.specs.Exchanges.{FailsBy, FailsToExchange, HasExchanged, HasReplaced, ReplacesBy, StartFrom, Steps}
 use Rattle.ac_automaton.proofs.Places.{take-next}
-use Rattle.ac_automaton.specs.Streams.{FailsToFill, FillsMore, GivesMatch, HasGivenAll, MeetsEnd, Streaming, matches_so_far, settled_in, settled_of, stream_begun}
+use Rattle.ac_automaton.specs.Streams.{FailsToFill, FillsMore, GivesMatch, MeetsEnd, Streaming, matches_so_far, settled_in, settled_of, stream_begun}
 
 -- a part of a list and then the next are a part
 part-join : {X : Type 0} (xs : List X) (a b c : ℕ) → a ≤ b → b ≤ c
@@ -83,20 +83,23 @@ module _ {E D : Type 0} (told : D → Writing)
       let failure = second.1.0 in
       let until = second.1.2 in
       let part = until.some.part in
-      let long = length-append xs part in
-      (
+      let long = length-append xs part in (
         second.0 ∙ first.0,
-        (failure, second.1.1, record {
-          some = record {
-            part = xs ++ part;
-            begins = ap (λ (n : ℕ). take n (xs ++ ys)) long ∙ take-append-add xs ys (length part)
-                ∙ ap (λ (zs : List ℕ). xs ++ zs) until.some.begins;
-            left_out = (let l = until.some.left_out in let w = length-append xs ys in omega arith);
-            moved = Appends-trans (told s.destination).written (told t.destination).written
-                (told u.destination).written xs part first.1.moved until.some.moved;
-          };
-          cause = caused failure until.cause;
-        }),
+        (
+          failure,
+          second.1.1,
+          record {
+            some = record {
+              part = xs ++ part;
+              begins = ap (λ (n : ℕ). take n (xs ++ ys)) long ∙ take-append-add xs ys (length part)
+                  ∙ ap (λ (zs : List ℕ). xs ++ zs) until.some.begins;
+              left_out = (let l = until.some.left_out in let w = length-append xs ys in omega arith);
+              moved = Appends-trans (told s.destination).written (told t.destination).written
+                  (told u.destination).written xs part first.1.moved until.some.moved;
+            };
+            cause = caused failure until.cause;
+          },
+        ),
       )
     where
       caused : (failure : WriteError) → HasCause (told t.destination) (told u.destination) failure
@@ -146,14 +149,19 @@ module _ {E D : Type 0} (told : D → Writing)
             )
             from (m ∷ ms) starts (inr turn) =
                 let here = turn.2 in
-                inr (turn.0, turn.1, record {
-                  at_match = here.at_match;
-                  gap = subst (λ (w : List ℕ). WritesPiece told w s None here.at_match)
-                      (part-join haystack v.kept place m.start onward starts)
-                      (piece-join (slice_range haystack v.kept place) (slice_range haystack place m.start) s t
-                      here.at_match None written here.gap);
-                  call = here.call;
-                }, turn.3)
+                inr (
+                  turn.0,
+                  turn.1,
+                  record {
+                    at_match = here.at_match;
+                    gap = subst (λ (w : List ℕ). WritesPiece told w s None here.at_match)
+                        (part-join haystack v.kept place m.start onward starts)
+                        (piece-join (slice_range haystack v.kept place) (slice_range haystack place m.start) s t
+                        here.at_match None written here.gap);
+                    call = here.call;
+                  },
+                  turn.3,
+                )
 
     -- all matches were exchanged, and what is settled could not be written
     pub settled-fails : (e : StreamError) (t : Replacing E D) → v.given ≡ length (matches_so_far v)
@@ -201,11 +209,16 @@ module _ {E D : Type 0} (told : D → Writing)
                 (done.steps haystack
                 (take-same haystack v.bytes m.end v.kept same (let a = gives.after in let o = gives.ordered in omega arith))
                 (m ∷ ms) gives.after end u
-                (inr (Ok tt, t, record {
-                  at_match = at_match;
-                  gap = turned haystack same;
-                  call = subst (λ (w : List ℕ). calls m w at_match (Ok tt) t) (sym (sliced haystack same)) call;
-                }, steps)))
+                (inr (
+                  Ok tt,
+                  t,
+                  record {
+                    at_match = at_match;
+                    gap = turned haystack same;
+                    call = subst (λ (w : List ℕ). calls m w at_match (Ok tt) t) (sym (sliced haystack same)) call;
+                  },
+                  steps,
+                )))
 
         -- or it could not be exchanged
         pub exchange-fails : (e : StreamError) (t : Replacing E D)
@@ -218,12 +231,17 @@ module _ {E D : Type 0} (told : D → Writing)
             subst (λ (ns : List Occurrence). Steps told calls (take (settled_of v) v.bytes) 0 ns first (Some e) t) cut.1
             (done.steps (take (settled_of v) v.bytes) (take-take v.kept (settled_of v) v.bytes (omega arith))
             (m ∷ cut.0) gives.after (Some e) t
-            (inr (Err e, t, record {
-              at_match = at_match;
-              gap = turned (take (settled_of v) v.bytes) same;
-              call = subst (λ (w : List ℕ). calls m w at_match (Err e) t)
-                  (sym (sliced (take (settled_of v) v.bytes) same)) call;
-            }, (refl, refl))))
+            (inr (
+              Err e,
+              t,
+              record {
+                at_match = at_match;
+                gap = turned (take (settled_of v) v.bytes) same;
+                call = subst (λ (w : List ℕ). calls m w at_match (Err e) t)
+                    (sym (sliced (take (settled_of v) v.bytes) same)) call;
+              },
+              (refl, refl),
+            )))
 
       -- or the bytes before it could not be written
       pub gap-fails : (e : StreamError) (t : Replacing E D)
@@ -404,9 +422,12 @@ module _ {E D : Type 0} (told : D → Writing)
         → FailsBy told calls ends built begun reader first e t
     fails-exchanging on e t fails = (
       v.bytes,
-      inr (settled built v.bytes, inl (on.reads, refl),
+      inr (
+        settled built v.bytes,
+        inl (on.reads, refl),
         steps-by v (settled_of v) (settled built v.bytes) (Some e) t on.built_is
-            (settled-open v on.built_is on.goes_on) (fails first on.replaced)),
+            (settled-open v on.built_is on.goes_on) (fails first on.replaced),
+      ),
     )
 
     -- at the end all was written
@@ -414,8 +435,7 @@ module _ {E D : Type 0} (told : D → Writing)
         → ReplacesBy told calls ends built begun reader first t
     replaces {new} {t} on done =
         let bytes = ap (λ (w : Streaming). w.bytes) done.same in
-        let is = ap (λ (w : Streaming). w.built) done.same ∙ on.built_is in
-        (
+        let is = ap (λ (w : Streaming). w.built) done.same ∙ on.built_is in (
           new.bytes,
           subst (ReadsAll ends begun reader) (sym bytes) on.reads,
           steps-by new (settled_of new) (length new.bytes) None t is
@@ -429,7 +449,10 @@ module _ {E D : Type 0} (told : D → Writing)
         → FailsBy told calls ends built begun reader first e t
     fails-at-last on e t fails = (
       v.bytes,
-      inr (length v.bytes, inr (on.reads, refl),
+      inr (
+        length v.bytes,
+        inr (on.reads, refl),
         steps-by v (settled_of v) (length v.bytes) (Some e) t on.built_is (settled-ended v on.ended)
-            (fails first on.replaced)),
+            (fails first on.replaced),
+      ),
     )

@@ -1,7 +1,6 @@
 -- The search of a stream from where it stands: what its tape shows, what is found next, and what is settled.
-use Rattle.std.proofs.Common.{◌≡◌, ◌≢◌, ◌⊎◌, ℕ, zero, suc, ◌+◌, ◌-◌, ◌<◌, ◌≤◌, Bool, true, false, List, [], ◌∷◌, ◌++◌, length, length-append, length-drop, length-take, get_or, take, drop, max, min, inl, inr, refl, ap, sym, subst, ◌∙◌, arith, Option, Some, None}
+use Rattle.std.proofs.Common.{◌≡◌, ◌≢◌, ◌⊎◌, ℕ, suc, ◌+◌, ◌-◌, ◌<◌, ◌≤◌, Bool, true, false, List, [], ◌∷◌, ◌++◌, length, length-append, length-drop, length-take, get_or, take, drop, max, inl, inr, refl, ap, sym, subst, ◌∙◌, arith, Option, Some, None}
 use Rattle.std.specs.Prelude.{AllPairs, option_map, slice_get, slice_range, ◌==◌, ⊤}
-use Rattle.std.specs.List.{list_any}
 use Rattle.std.proofs.lemmas.Bool.{cases_lt, and_parts, eqb-true}
 use Rattle.std.proofs.lemmas.List.{append-nil, append_assoc, drop-append-le, drop-drop, drop-take, length-take-le, take-append-drop}
 use Rattle.std.proofs.lemmas.List.Edits.{take-paste}
@@ -25,7 +24,7 @@ use Rattle.ac_util.specs.Pick.{pick}
 use Rattle.ac_util.specs.Refusal.{Stream, empty_refusal, refusal, start_refusal}
 use Rattle.ac_util.specs.Search.{Occurs, Search, from, pattern_of}
 use Rattle.ac_util.specs.Sizes.{longest_len, shortest_len}
-use Rattle.ac_util.specs.Stream.{buffer_len, held, last_end, reserve, streamed}
+use Rattle.ac_util.specs.Stream.{buffer_len, last_end, reserve, streamed}
 use Rattle.ac_util.specs.StreamReplacing.{settled}
 use Rattle.ac_util.specs.Text.{text}
 use Rattle.ac_util.specs.Walk.{IsAfter, next_match, repeats, unless_repeated, walk_after}
@@ -444,7 +443,7 @@ module _ (stands : ℕ → Node → Type 0) (listed : ℕ → List ℕ) (most : 
               settled-within Failed = let e = end-is in let k = inv.kept_within in omega arith
 
           gives-none : HasGivenAll v (record v {
-            kept = settled_in v.phase (max v.kept (v.front + cursor.at - i.reserve)) (v.front + cursor.at)
+            kept = settled_in v.phase (max v.kept (v.front + cursor.at - i.reserve)) (v.front + cursor.at);
           })
           gives-none =
               let on = onward-by v.phase refl in
@@ -522,14 +521,14 @@ module _ (stands : ℕ → Node → Type 0) (listed : ℕ → List ℕ) (most : 
         next-there : slice_get (streamed v.built v.bytes) v.given ≡ Some m
         next-there =
             subst (λ (w : List ℕ). slice_get (streamed v.built w) v.given ≡ Some m) (append-nil v.bytes)
-          (ap (λ (ms : List Occurrence). slice_get ms v.given)
-          (walks-on [] ∙ append_assoc inv.given.matches (m ∷ [])
-          (walk_after v.built.kind (stream_from v.built (v.bytes ++ []) m.end) (Some m.end)))
-          ∙ ap (slice_get (inv.given.matches ++ m
-          ∷ walk_after v.built.kind (stream_from v.built (v.bytes ++ []) m.end) (Some m.end)))
-          (sym inv.given.count)
-          ∙ get-behind inv.given.matches
-          (walk_after v.built.kind (stream_from v.built (v.bytes ++ []) m.end) (Some m.end)) m)
+            (ap (λ (ms : List Occurrence). slice_get ms v.given)
+            (walks-on [] ∙ append_assoc inv.given.matches (m ∷ [])
+            (walk_after v.built.kind (stream_from v.built (v.bytes ++ []) m.end) (Some m.end)))
+            ∙ ap (slice_get (inv.given.matches ++ m
+            ∷ walk_after v.built.kind (stream_from v.built (v.bytes ++ []) m.end) (Some m.end)))
+            (sym inv.given.count)
+            ∙ get-behind inv.given.matches
+            (walk_after v.built.kind (stream_from v.built (v.bytes ++ []) m.end) (Some m.end)) m)
 
         gives : GivesMatch v m (record v { given = v.given + 1; kept = m.end })
         gives =

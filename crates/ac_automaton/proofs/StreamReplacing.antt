@@ -1,25 +1,25 @@
 -- The steps of a stream's replacement, told of a closure alone, and of the text that a list of texts leaves.
-use Rattle.std.proofs.Common.{◌≡◌, ◌≢◌, ℕ, ◌+◌, ◌-◌, ◌<◌, ◌≤◌, Bool, List, [], ◌∷◌, ◌++◌, length, length-append, length-drop, length-take, take, drop, max, min, inl, inr, refl, ap, sym, subst, ◌∙◌, arith, Option, Some, None, Result, Ok, Err}
+use Rattle.std.proofs.Common.{◌≡◌, ◌≢◌, ℕ, ◌-◌, ◌≤◌, Bool, List, [], ◌∷◌, ◌++◌, length, length-append, length-drop, length-take, take, drop, inl, inr, refl, ap, sym, subst, ◌∙◌, arith, Option, Some, None, Result, Ok, Err}
 use Rattle.std.specs.Prelude.{MatchResult, slice_index_or, slice_range}
 use Rattle.std.specs.Borrow.{Bor, MutBor}
 use Rattle.std.specs.Fn.{Mut}
 use Rattle.std.specs.declared.io.Error.{Error}
-use Rattle.std.proofs.Math.Seq.{take-append-add, take-append_seam}
-use Rattle.std.proofs.lemmas.List.{append_assoc, drop-append-le, drop-drop, take-append-drop, take-append-le, take_all}
+use Rattle.std.proofs.Math.Seq.{take-append_seam}
+use Rattle.std.proofs.lemmas.List.{append_assoc, drop-append-le, take-append-drop, take-append-le, take_all}
 use Rattle.ac_util.specs.declared.error.StreamError.{StreamError}
 use Rattle.ac_util.specs.declared.error.StreamError.TheVariants.{Io}
 use Rattle.ac_util.specs.Built.{Built}
-use Rattle.ac_util.specs.Device.{Reading, ReadsAll, Writing, WritesAll, WritesUntilFailure}
+use Rattle.ac_util.specs.Device.{Reading, Writing, WritesAll}
 use Rattle.ac_util.specs.Occurrence.{Occurrence}
 use Rattle.ac_util.specs.Replaced.{replaced, replaced_from}
 use Rattle.ac_util.specs.Replacement.{Calls, MatchAnswer, Replacing, ReplacementSteps}
-use Rattle.ac_util.specs.Stream.{error_of, held, last_end, streamed, without_last}
-use Rattle.ac_util.specs.StreamReplacing.{FailsToReplace, FailsToReplaceWith, IsSettled, ReplacesStream, ReplacesStreamWith, WritesPiece, asked_by_result, settled}
+use Rattle.ac_util.specs.Stream.{held, last_end, streamed, without_last}
+use Rattle.ac_util.specs.StreamReplacing.{FailsToReplace, FailsToReplaceWith, ReplacesStream, ReplacesStreamWith, WritesPiece, asked_by_result, settled}
 use Rattle.ac_util.proofs.Exchanges.{AreInOrder, exchanged-in_order}
 use Rattle.ac_util.proofs.PiecesLemmas.{slice_range-append}
 use Rattle.ac_automaton.specs.declared.automaton.stream_replace.ByClosure.{ByClosure}
 use Rattle.ac_automaton.specs.Exchanges.{CallsBy, FailsBy, ReplacesBy, Steps, WritesTexts, asked_by_answer, error_in}
-use Rattle.ac_automaton.proofs.StreamExchanging.{piece-join, piece-none}
+use Rattle.ac_automaton.proofs.StreamExchanging.{piece-join}
 
 -- a closure and its writer, without what wraps the closure
 abbrev bare : {F D : Type 0} → Replacing (ByClosure F) D → Replacing F D
@@ -90,21 +90,34 @@ module _ {F D : Type 0} (told : D → Writing)
     replaces-with done = (
       done.0,
       done.1,
-      (t.closure.closure,
-        bare-steps (take (length done.0) done.0) 0 (streamed built done.0) first t None done.2),
+      (
+        t.closure.closure,
+        bare-steps (take (length done.0) done.0) 0 (streamed built done.0) first t None done.2,
+      ),
     )
 
     pub fails-with : (e : StreamError) → FailsBy told wrapped ends built reader new_reader first e t
         → FailsToReplaceWith told closures built closure old ends reader new_reader t.destination e
     fails-with e (bytes, inl fails) = (
       bytes,
-      inl (fails.0, (t.closure.closure,
-        bare-steps (take (settled built bytes) bytes) 0 (streamed built bytes) first t None fails.1)),
+      inl (
+        fails.0,
+        (
+          t.closure.closure,
+          bare-steps (take (settled built bytes) bytes) 0 (streamed built bytes) first t None fails.1,
+        ),
+      ),
     )
     fails-with e (bytes, inr fails) = (
       bytes,
-      inr (fails.0, fails.1, (t.closure.closure,
-        bare-steps (take fails.0 bytes) 0 (streamed built bytes) first t (Some e) fails.2)),
+      inr (
+        fails.0,
+        fails.1,
+        (
+          t.closure.closure,
+          bare-steps (take fails.0 bytes) 0 (streamed built bytes) first t (Some e) fails.2,
+        ),
+      ),
     )
 
 -- matches in order, of which none ends past a place: the haystack as far as there, with its matches exchanged, and then the
@@ -157,18 +170,21 @@ module _ {F D : Type 0} (told : D → Writing) where
       → WritesPiece told (xs ++ ys) s (Some e) t
   piece-begun xs ys s t e writes =
       let until = writes.1.2 in
-      let part = until.some.part in
-      (
+      let part = until.some.part in (
         writes.0,
-        (writes.1.0, writes.1.1, record {
-          some = record {
-            part = part;
-            begins = take-append-le (length part) xs ys (let l = until.some.left_out in omega arith) ∙ until.some.begins;
-            left_out = (let l = until.some.left_out in let n = length-append xs ys in omega arith);
-            moved = until.some.moved;
-          };
-          cause = until.cause;
-        }),
+        (
+          writes.1.0,
+          writes.1.1,
+          record {
+            some = record {
+              part = part;
+              begins = take-append-le (length part) xs ys (let l = until.some.left_out in omega arith) ∙ until.some.begins;
+              left_out = (let l = until.some.left_out in let n = length-append xs ys in omega arith);
+              moved = until.some.moved;
+            };
+            cause = until.cause;
+          },
+        ),
       )
 
   module _ (texts : F → List (List ℕ)) where
@@ -295,8 +311,11 @@ module _ {F D : Type 0} (told : D → Writing) where
           → FailsToReplace built list (told s.destination) (told t.destination) ends reader new_reader e
       fails-by e (bytes, inl fails) = (
         bytes,
-        inl (fails.0, subst (WritesAll (told s.destination) (told t.destination)) (settled-text bytes)
-            (text-steps (take (settled built bytes) bytes) 0 (streamed built bytes) s t None list same fails.1).1),
+        inl (
+          fails.0,
+          subst (WritesAll (told s.destination) (told t.destination)) (settled-text bytes)
+              (text-steps (take (settled built bytes) bytes) 0 (streamed built bytes) s t None list same fails.1).1,
+        ),
       )
       fails-by e (bytes, inr (place, inl (some, is), steps)) =
           let last = last-inside bytes in

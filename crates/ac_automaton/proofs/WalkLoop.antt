@@ -1,5 +1,5 @@
 -- A walk that finds match after match: what it has read and counted.
-use Rattle.std.proofs.Common.{◌≡◌, ℕ, zero, suc, ◌+◌, ◌-◌, ◌*◌, ◌<◌, ◌≤◌, true, List, [], ◌∷◌, length, inl, inr, refl, ap, sym, ◌∙◌, arith, Option, Some, None}
+use Rattle.std.proofs.Common.{◌≡◌, ℕ, ◌+◌, ◌-◌, ◌*◌, ◌<◌, ◌≤◌, true, [], ◌∷◌, inl, inr, refl, ap, sym, ◌∙◌, arith, Option, Some, None}
 use Rattle.std.specs.Prelude.{IfSome, MatchOption, ◌==◌, max, min}
 use Rattle.std.proofs.Math.Nat.{mul-sub}
 use Rattle.std.proofs.lemmas.Bool.{and_parts, cases_Bool, eqb-true}
@@ -9,7 +9,7 @@ use Rattle.ac_util.specs.declared.search.MatchKind.{MatchKind}
 use Rattle.ac_util.specs.declared.search.MatchKind.TheVariants.{Standard, LeftmostFirst, LeftmostLongest}
 use Rattle.ac_util.specs.Occurrence.{Occurrence}
 use Rattle.ac_util.specs.Pick.{pick}
-use Rattle.ac_util.specs.Search.{Search, from, pattern_of}
+use Rattle.ac_util.specs.Search.{Search, from}
 use Rattle.ac_util.specs.Sizes.{shortest_len}
 use Rattle.ac_util.specs.Walk.{next_match, repeats, unless_repeated, walk_after}
 use Rattle.ac_util.proofs.OneLonger.{none-past_end}

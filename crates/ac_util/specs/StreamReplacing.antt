@@ -11,7 +11,7 @@ use Rattle.ac_util.specs.Built.{Built}
 use Rattle.ac_util.specs.Device.{Reading, ReadsAll, ReadsSome, ReadsTooMany, ReadsUntilFailure, Writing, WritesAll, WritesUntilFailure}
 use Rattle.ac_util.specs.Occurrence.{Occurrence}
 use Rattle.ac_util.specs.Replaced.{replaced}
-use Rattle.ac_util.specs.Replacement.{Answer, CallsNoMore, Calls, Fails, GoesOn, Replacing, ReplacementSteps}
+use Rattle.ac_util.specs.Replacement.{Answer, Calls, Fails, GoesOn, Replacing, ReplacementSteps}
 use Rattle.ac_util.specs.Stream.{error_of, held, streamed, without_last}
 
 -- one of five things, by why a stream ended

@@ -94,22 +94,16 @@ impl<'a, A: Automaton> Scanner<'a, A> {
         ensures reads { ReadsOn (⟦<A as Scans>⟧.scan self.now.automaton.now self.now.anchored) tape.old.bytes cursor
             (work_of tape.old looks.old) result (work_of tape.new looks.new) }
     {
-        // A copy, whose fields the loop keeps in registers.
-        let scanner = Scanner {
-            automaton: self.automaton,
-            anchored: self.anchored,
-            span: self.span,
-        };
         let mut state = cursor.state;
-        for at in cursor.at..scanner.span.end {
-            state = scanner.read_byte(Cursor { state, at }, tape, looks);
-            if scanner.automaton.is_match_or_dead(state) {
+        for at in cursor.at..self.span.end {
+            state = self.read_byte(Cursor { state, at }, tape, looks);
+            if self.automaton.is_match_or_dead(state) {
                 return Cursor { state, at: at + 1 };
             }
         }
         Cursor {
             state,
-            at: scanner.span.end,
+            at: self.span.end,
         }
     }
 

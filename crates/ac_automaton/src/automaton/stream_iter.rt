@@ -34,7 +34,11 @@ impl<'a, A: Automaton, R: Source + Drop, Z: Allocator> Model for StreamFindIter<
 
 impl<'a, A: Automaton, R: Source + Drop, Z: Allocator> StreamFindIter<'a, A, R, Z> {
     /// Returns what `Automaton::try_stream_find_iter` does.
-    pub(super) fn new(automaton: &'a A, alloc: Z, reader: R) -> Result<StreamFindIter<'a, A, R, Z>, StreamError>
+    pub(super) fn new(
+        automaton: &'a A,
+        alloc: Z,
+        reader: R,
+    ) -> Result<StreamFindIter<'a, A, R, Z>, StreamError>
         ensures { MatchResult result
             (λ matches. (stream_refusal (A.built automaton.now) ≡ None)
             × (matches ≡ record { stream = stream_begun (A.built automaton.now); reader = R.told reader }))

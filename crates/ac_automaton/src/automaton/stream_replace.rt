@@ -98,7 +98,12 @@ impl<'t, W: Sink> Exchange<W> for ByTexts<'t> {
 
     ghost calls = { λ m slice s r t. WritesTexts W.told (bytes_of s.closure.texts.now) m s r t };
 
-    fn exchange(&mut self, found: &Match, _slice: &[u8], writer: &mut W) -> Result<(), StreamError> {
+    fn exchange(
+        &mut self,
+        found: &Match,
+        _slice: &[u8],
+        writer: &mut W,
+    ) -> Result<(), StreamError> {
         write_all(writer, self.texts[found.pattern().as_usize()])?;
         Ok(())
     }

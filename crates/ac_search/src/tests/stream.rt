@@ -187,7 +187,12 @@ fn reads_cut_a_stream_anywhere_and_fail_anywhere(rt: HostRuntime) -> Result<(), 
         for (most, good, text, end) in READS {
             let mut reader = Pieces::new(SENTENCE, *most, *good);
             let mut writer = Few::new(rt, 1, ALWAYS, true);
-            let ended = searcher.try_stream_replace_all(rt.alloc(), &mut reader, &mut writer, SLOTH);
+            let ended = searcher.try_stream_replace_all(
+                rt.alloc(),
+                &mut reader,
+                &mut writer,
+                SLOTH,
+            );
             same(&rt, end_of(ended), *end);
             same(&rt, writer.text.as_slice(), *text);
         }
@@ -274,11 +279,7 @@ fn told_of(
     match item {
         None => None,
         Some(Err(_)) => Some(None),
-        Some(Ok(found)) => Some(Some((
-            found.pattern().as_usize(),
-            found.start(),
-            found.end(),
-        ))),
+        Some(Ok(found)) => Some(Some((found.pattern().as_usize(), found.start(), found.end()))),
     }
 }
 

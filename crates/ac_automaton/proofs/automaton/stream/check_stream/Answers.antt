@@ -1,4 +1,4 @@
-use Rattle.std.proofs.Common.{◌≡◌, sym, ◌∙◌}
+use Rattle.std.proofs.Common.{sym, ◌∙◌}
 use Rattle.ac_automaton.proofs.StreamLoop.{not-refused, refused-empty}
 use Rattle.ac_automaton.proofs.automaton.stream.check_stream.Goals as goal
 

@@ -1,11 +1,9 @@
-use Rattle.std.proofs.Common.{◌≡◌, ◌∙◌, ◌+◌, ◌-◌, ◌<◌, ◌≤◌, ℕ, List, Option, Some, Ok, Err, Result, length, take, refl, sym, ap, subst, arith}
+use Rattle.std.proofs.Common.{◌≡◌, ◌∙◌, ◌+◌, ℕ, List, Some, Ok, Err, length, take, refl, sym, ap, subst, arith}
 use Rattle.std.specs.Prelude.{slice_range}
 use Rattle.std.proofs.lemmas.Option.{slice_get_within}
-use Rattle.ac_util.specs.declared.error.StreamError.{StreamError}
 use Rattle.ac_util.specs.Device.{WritesAll, WritesUntilFailure}
-use Rattle.ac_util.specs.Replacement.{Replacing}
 use Rattle.ac_util.specs.Stream.{error_of}
-use Rattle.ac_automaton.specs.Exchanges.{FailsToExchange, HasExchanged, HasReplaced, Steps}
+use Rattle.ac_automaton.specs.Exchanges.{HasReplaced, Steps}
 use Rattle.ac_automaton.specs.Streams.{GivesMatch, HasGivenAll, Streaming, matches_so_far, settled_of}
 use Rattle.ac_automaton.proofs.Places.{refused-by}
 use Rattle.ac_automaton.proofs.StreamExchanging.{exchange-fails, gap-fails, replaced-match, replaced-settled, settled-fails}

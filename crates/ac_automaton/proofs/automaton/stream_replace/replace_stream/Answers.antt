@@ -1,9 +1,5 @@
-use Rattle.std.proofs.Common.{◌≡◌, ◌∙◌, ◌-◌, ◌≤◌, ℕ, Bool, true, false, List, Option, Some, None, Ok, Err, Result, inl, inr, length, refl, sym, ap, subst, arith}
-use Rattle.std.specs.Prelude.{MatchBool, MatchResult}
-use Rattle.ac_util.specs.declared.error.StreamError.{StreamError}
-use Rattle.ac_util.specs.Built.{Built}
-use Rattle.ac_util.specs.Stream.{streamed}
-use Rattle.ac_automaton.specs.Exchanges.{FailsToExchange, HasExchanged}
+use Rattle.std.proofs.Common.{◌≡◌, ◌≤◌, ℕ, Bool, inr, length, sym, ap, subst, arith}
+use Rattle.std.specs.Prelude.{MatchBool}
 use Rattle.ac_automaton.specs.Streams.{FillsMore, MeetsEnd, Streaming, matches_so_far, settled_of, stream_begun}
 use Rattle.ac_automaton.proofs.Places.{match-by, refused-by}
 use Rattle.ac_automaton.proofs.StreamExchanging.{all-kept, begins, ends-there, fails-at-last, fails-exchanging, fails-reading, fills, goes-on, replaces, settled-within}

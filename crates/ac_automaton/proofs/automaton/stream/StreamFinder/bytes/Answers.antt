@@ -1,4 +1,4 @@
-use Rattle.std.proofs.Common.{◌≡◌, ◌∙◌, ◌-◌, ◌≤◌, List, ℕ, ap, drop, length, subst, sym, take}
+use Rattle.std.proofs.Common.{◌∙◌, ◌-◌, ◌≤◌, List, ℕ, ap, drop, length, subst, sym, take}
 use Rattle.std.specs.Prelude.{slice_range}
 use Rattle.ac_automaton.specs.Streams.{Streaming}
 use Rattle.ac_automaton.proofs.StreamLoop.{buffer-shows}

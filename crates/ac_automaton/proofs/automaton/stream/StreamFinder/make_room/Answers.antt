@@ -1,4 +1,4 @@
-use Rattle.std.proofs.Common.{◌≡◌, ◌∙◌, refl, sym, ap, subst, arith}
+use Rattle.std.proofs.Common.{◌∙◌, refl, sym}
 use Rattle.ac_automaton.proofs.StreamLoop.{streams-moved}
 use Rattle.ac_automaton.proofs.automaton.stream.StreamFinder.make_room.Goals as goal
 

@@ -1,4 +1,4 @@
-use Rattle.std.proofs.Common.{◌≡◌, ◌-◌, ◌*◌, ℕ, ◌∙◌, ap, arith, max, min, sym}
+use Rattle.std.proofs.Common.{◌*◌, ℕ, ◌∙◌, ap, arith, max, min, sym}
 use Rattle.ac_automaton.proofs.StreamLoop.{streams-begin}
 use Rattle.ac_automaton.proofs.automaton.stream.StreamFinder.new.Goals as goal
 

@@ -1,7 +1,6 @@
-use Rattle.std.proofs.Common.{◌≡◌, ◌∙◌, ◌+◌, ◌-◌, ◌<◌, ◌≤◌, ◌++◌, ℕ, Bool, true, List, length, length-append, sym, subst, ap, arith}
+use Rattle.std.proofs.Common.{◌≡◌, ◌∙◌, ◌+◌, ◌++◌, Bool, length, length-append, sym, subst, ap, arith}
 use Rattle.std.specs.Prelude.{MatchBool}
 use Rattle.std.proofs.KnownBytes.{Consumes-trans}
-use Rattle.ac_util.specs.Stream.{streamed}
 use Rattle.ac_util.proofs.Devices.{fails-on}
 use Rattle.ac_automaton.specs.Streams.{FillsMore, HasGivenAll, MeetsEnd, Streaming, matches_so_far}
 use Rattle.ac_automaton.proofs.StreamLoop.{failed-as, read-as}

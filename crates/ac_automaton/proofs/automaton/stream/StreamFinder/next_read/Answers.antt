@@ -1,4 +1,4 @@
-use Rattle.std.proofs.Common.{◌≡◌, ◌∙◌}
+use Rattle.std.proofs.Common.{◌∙◌}
 use Rattle.ac_util.specs.declared.search.Anchored.TheVariants.{No}
 use Rattle.ac_automaton.proofs.StreamLoop.{fits-there, gives-all, gives-next, may-read, read-all, stream_text, streams-anew, streams-on, tape-is}
 use Rattle.ac_automaton.proofs.automaton.stream.StreamFinder.next_read.Goals as goal
