@@ -1,4 +1,7 @@
 //! Streams by readers and writers that do little at once, and fail.
+ghost use Rattle.std.specs.Prelude.{◌≡◌, IfOk};
+ghost use Rattle.ac_util.specs.Borrowed.{bytes_of};
+
 use super::engines::KINDS;
 use super::same;
 use crate::MatchKind::{LeftmostFirst, Standard};
@@ -33,7 +36,7 @@ struct Pieces<'a> {
 
 impl<'a> Model for Pieces<'a> {
     ghost use Rattle.std.specs.Prelude.{None};
-    ghost use Rattle.ac_search.specs.Device.{Reading};
+    ghost use Rattle.ac_util.specs.Device.{Reading};
 
     ghost Value = { Reading };
 
@@ -53,6 +56,8 @@ impl<'a> Pieces<'a> {
 }
 
 impl<'a> Source for Pieces<'a> {
+    ghost use Rattle.std.specs.Prelude.{false};
+
     ghost told = { λ p. p };
 
     ghost empty_means_end = { false };
@@ -87,7 +92,7 @@ struct Few {
 
 impl Model for Few {
     ghost use Rattle.std.specs.Prelude.{None};
-    ghost use Rattle.ac_search.specs.Device.{Writing};
+    ghost use Rattle.ac_util.specs.Device.{Writing};
 
     ghost Value = { Writing };
 
@@ -154,7 +159,9 @@ fn searcher_by(
     rt: HostRuntime,
     patterns: &[&[u8]],
     kind: Option<AhoCorasickKind>,
-) -> Result<AhoCorasick, Fail> {
+) -> Result<AhoCorasick, Fail>
+    ensures { IfOk result (λ searcher. searcher.built.patterns ≡ bytes_of patterns.now) }
+{
     let mut builder = AhoCorasickBuilder::new();
     builder.kind(kind);
     Ok(builder.build(rt.alloc(), patterns)?)
