@@ -1,4 +1,4 @@
-use Rattle.std.proofs.Common.{◌∙◌, ◌≡◌, ◌++◌, List, ℕ, [], Result, Ok, Err, rules, sym, string_bytes}
+use Rattle.std.proofs.Common.{Result, Ok, Err, rules, string_bytes}
 use Rattle.std.specs.Prelude.{MatchResult}
 use Rattle.ac_search.specs.Built.{exchanged_in_text}
 use Rattle.ac_search.proofs.tests.replace.mark.Goals as goal

@@ -1,4 +1,4 @@
-use Rattle.std.proofs.Common.{◌∙◌, ◌≡◌, ◌++◌, List, [], Result, Ok, Err, rules, sym}
+use Rattle.std.proofs.Common.{[], Result, Ok, Err, rules}
 use Rattle.std.specs.Prelude.{IfOk, MatchResult}
 use Rattle.ac_search.specs.Built.{exchanged}
 use Rattle.ac_search.proofs.tests.replace.remove.Goals as goal
