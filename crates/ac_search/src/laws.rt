@@ -3,7 +3,7 @@
 ghost use Rattle.std.specs.Prelude.{◌≡◌, ◌≢◌, ◌+◌, ◌-◌, ◌≤◌, ◌↔◌, ℕ, IfSome, IsTrue, List, None, true, length};
 ghost use Rattle.std.specs.List.{AllByRecursion};
 ghost use Rattle.std.specs.Str.{IsUtf8};
-ghost use Rattle.ac_util.specs.Built.{Built, exchanged, exchanged_in_text, find_refusal, found, has_empty, overlapping_iter_refusal, overlapping_refusal, replace_refusal, search_in, walked};
+ghost use Rattle.ac_util.specs.Built.{Built, exchanged, exchanged_in_text, find_refusal, found, has_empty, overlapping_iter_refusal, overlapping_refusal, replace_refusal, search_in, stream_refusal, walked};
 ghost use Rattle.ac_util.specs.Asked.{Asked};
 ghost use Rattle.ac_util.specs.Inputs.{asked};
 ghost use Rattle.ac_util.specs.Inside.{LiesIn};
@@ -11,6 +11,7 @@ ghost use Rattle.ac_util.specs.Listing.{all};
 ghost use Rattle.ac_util.specs.Occurrence.{Occurrence};
 ghost use Rattle.ac_util.specs.Search.{Occurs};
 ghost use Rattle.ac_util.specs.Sizes.{shortest_len};
+ghost use Rattle.ac_util.specs.Stream.{held, streamed};
 ghost use Rattle.ac_util.specs.Texts.{AreTexts, IsBetweenCharacters};
 ghost use Rattle.ac_engines.specs.declared.nfa.contiguous.format.Format.{Format};
 ghost use Rattle.ac_search.specs.Searchers.{IsBuilt, Searcher, Settings};
@@ -26,9 +27,9 @@ pub use ac_util::laws::{
     listing_is_exact, looks_are_paid, matches_cut_no_character, matches_follow, matches_lie_inside,
     nodes_are_counted, numbers_compare_as_numbers, only_the_span_counts, pick_begins,
     pick_comes_first, pick_follows, sameness_is_by_letter, steps_follow, steps_replace,
-    strides_have_room, tests_decide, text_closure_exchanges, values_compare_by_their_fields,
-    values_hash_by_their_fields, walk_goes_on, walk_has_beginnings, walk_is_in_order,
-    walk_is_short,
+    stream_goes_on, strides_have_room, tests_decide, text_closure_exchanges,
+    values_compare_by_their_fields, values_hash_by_their_fields, walk_goes_on, walk_has_beginnings,
+    walk_is_in_order, walk_is_short,
 };
 use ac_util::search::Input;
 use std::alloc::Allocator;
@@ -82,7 +83,7 @@ pub fn shortest_is_empty()
 
 /// Two searchers over the same patterns, match kind, case setting and start kind answer every search equally, whatever
 /// their engines are, their dense depth and their classes of bytes, and whether they have a prefilter: what one refuses,
-/// finds, walks over, lists or exchanges, the other does too.
+/// finds, walks over, lists or exchanges, in memory or in a stream, the other does too.
 ///
 /// Their values differ in what serves them, so this speaks of the parts that decide.
 pub fn engines_agree<A: Allocator, B: Allocator>(one: &AhoCorasick<A>, other: &AhoCorasick<B>)
@@ -100,6 +101,9 @@ pub fn engines_agree<A: Allocator, B: Allocator>(one: &AhoCorasick<A>, other: &A
     ensures replacement { (haystack : List ℕ) → (replace_refusal one.now.built ≡ replace_refusal other.now.built)
         × (exchanged one.now.built haystack ≡ exchanged other.now.built haystack)
         × (exchanged_in_text one.now.built haystack ≡ exchanged_in_text other.now.built haystack) }
+    ensures streams { (bytes : List ℕ) → (stream_refusal one.now.built ≡ stream_refusal other.now.built)
+        × (streamed one.now.built bytes ≡ streamed other.now.built bytes)
+        × (held one.now.built bytes ≡ held other.now.built bytes) }
 {}
 
 /// Two builds over the same patterns, by settings with the same match kind, case setting and start kind, give searchers

@@ -1,6 +1,6 @@
 //! For users: what follows from the definitions of what a search answers.
 ghost use Rattle.std.specs.Prelude.{◌≡◌, ℕ, ◌+◌, ◌-◌, ◌<◌, ◌≤◌, ◌++◌, ◌↔◌, ◌⊎◌, nat_le, Bool, true, false};
-ghost use Rattle.std.specs.Prelude.{List, [], ◌∷◌, All, Contains, AllPairs, length, filter, slice_get};
+ghost use Rattle.std.specs.Prelude.{List, [], ◌∷◌, All, Contains, AllPairs, length, filter, slice_get, take};
 ghost use Rattle.std.specs.Prelude.{slice_index, Option, None, Some};
 ghost use Rattle.std.specs.Str.{IsCharBoundary, IsUtf8};
 ghost use Rattle.ac_util.specs.declared.search.MatchKind.{MatchKind};
@@ -15,6 +15,7 @@ ghost use Rattle.ac_util.specs.Sameness.{AreOneLetter, IsSame, same_byte, same_s
 ghost use Rattle.ac_util.specs.Search.{Occurs, Search, from, occurs, pattern_of};
 ghost use Rattle.ac_util.specs.declared.error.ReplaceError.{ReplaceError};
 ghost use Rattle.ac_util.specs.Replacement.{AlwaysWrites, AppendsAll, AppendsBeginning, Calls, OnlyAppends, Replacing, ReplacementSteps, WritesText, asked_by};
+ghost use Rattle.ac_util.specs.Stream.{streamed};
 ghost use Rattle.ac_util.specs.Text.{cut, outward};
 ghost use Rattle.ac_util.specs.Texts.{AreTexts, IsBetweenCharacters};
 ghost use Rattle.ac_util.specs.Walk.{IsAfter, next_match, walk, walk_after};
@@ -134,6 +135,13 @@ pub fn walk_has_beginnings()
     ensures { (q : Search) (end : ℕ) → end ≤ q.high
         → walk MatchKind.Standard (record q { high = end })
         ≡ filter (λ m. nat_le m.end end) (walk MatchKind.Standard q) }
+{}
+
+/// Under Standard the matches of a stream stay as more of it comes, and others follow: what was given before a read is right
+/// whatever the read brings.
+pub fn stream_goes_on()
+    ensures { (built : Built) (bytes more : List ℕ) → built.kind ≡ MatchKind.Standard
+        → take (length (streamed built bytes)) (streamed built (bytes ++ more)) ≡ streamed built bytes }
 {}
 
 /// Calls that append the text of each pattern and go on leave the replaced text after what was there, and a
