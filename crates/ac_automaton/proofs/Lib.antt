@@ -34,6 +34,7 @@ pub mod Starting
 pub mod StateCount
 pub mod StreamExchanging
 pub mod StreamLoop
+pub mod StreamFilling
 pub mod StreamReplacing
 pub mod Steps
 pub mod Tables

@@ -3,7 +3,7 @@ use Rattle.std.specs.Prelude.{MatchBool}
 use Rattle.ac_automaton.specs.Streams.{FillsMore, MeetsEnd, Streaming, matches_so_far, settled_of, stream_begun}
 use Rattle.ac_automaton.proofs.Places.{match-by, refused-by}
 use Rattle.ac_automaton.proofs.StreamExchanging.{all-kept, begins, ends-there, fails-at-last, fails-exchanging, fails-reading, fills, goes-on, replaces, settled-within}
-use Rattle.ac_automaton.proofs.StreamLoop.{streamed-nothing}
+use Rattle.ac_automaton.proofs.StreamFilling.{streamed-nothing}
 use Rattle.ac_automaton.proofs.automaton.stream_replace.replace_stream.Goals as goal
 
 pub loop-finder-init : goal.loop-finder-init

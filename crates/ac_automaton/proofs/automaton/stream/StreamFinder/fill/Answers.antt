@@ -5,7 +5,7 @@ use Rattle.ac_util.proofs.Devices.{not-idle, was-idle}
 use Rattle.ac_util.specs.Stream.{streamed}
 use Rattle.ac_automaton.specs.Streams.{Streaming, matches_so_far}
 use Rattle.ac_automaton.proofs.Places.{written-whole}
-use Rattle.ac_automaton.proofs.StreamLoop.{filled-as, given-stays, seen-as, streams-filled}
+use Rattle.ac_automaton.proofs.StreamFilling.{filled-as, given-stays, seen-as, streams-filled}
 use Rattle.ac_automaton.proofs.automaton.stream.StreamFinder.fill.Goals as goal
 
 pub invariant_of-self-then-self-n : goal.invariant_of-self-then-self-n

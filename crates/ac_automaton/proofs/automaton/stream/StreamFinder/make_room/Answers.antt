@@ -1,5 +1,5 @@
 use Rattle.std.proofs.Common.{◌∙◌, refl, sym}
-use Rattle.ac_automaton.proofs.StreamLoop.{streams-moved}
+use Rattle.ac_automaton.proofs.StreamFilling.{streams-moved}
 use Rattle.ac_automaton.proofs.automaton.stream.StreamFinder.make_room.Goals as goal
 
 pub invariant_of-self : goal.invariant_of-self

@@ -1,5 +1,5 @@
 use Rattle.std.proofs.Common.{◌*◌, ℕ, ◌∙◌, ap, arith, max, min, sym}
-use Rattle.ac_automaton.proofs.StreamLoop.{streams-begin}
+use Rattle.ac_automaton.proofs.StreamFilling.{streams-begin}
 use Rattle.ac_automaton.proofs.automaton.stream.StreamFinder.new.Goals as goal
 
 pub invariant_of-result : goal.invariant_of-result

@@ -3,7 +3,7 @@ use Rattle.std.specs.Prelude.{MatchBool}
 use Rattle.std.proofs.KnownBytes.{Consumes-trans}
 use Rattle.ac_util.proofs.Devices.{fails-on}
 use Rattle.ac_automaton.specs.Streams.{FillsMore, HasGivenAll, MeetsEnd, Streaming, matches_so_far}
-use Rattle.ac_automaton.proofs.StreamLoop.{failed-as, read-as}
+use Rattle.ac_automaton.proofs.StreamFilling.{failed-as, read-as}
 use Rattle.ac_automaton.proofs.automaton.stream.StreamFinder.next.Goals as goal
 
 pub loop-found-smaller : goal.loop-found-smaller
