@@ -1,16 +1,9 @@
 -- The shortest and the longest of a list of patterns, found one pattern at a time.
 use Rattle.std.proofs.Common.{◌≡◌, ℕ, ◌+◌, ◌≤◌, List, [], ◌∷◌, length, drop, min, max, Some, ◌∙◌, ap, arith}
-use Rattle.std.proofs.lemmas.List.{drop_all, drop_more}
-use Rattle.std.proofs.lemmas.Option.{get_or_from_slice_get, slice_get_within}
+use Rattle.std.proofs.lemmas.List.{drop_all}
 use Rattle.std.specs.Prelude.{slice_get}
 use Rattle.ac_util.specs.Sizes.{longest_len, shortest_len}
-
--- what is left of a list from a place on begins with the element there
-drop-slice_get : {X : Type 0} (xs : List X) (i : ℕ) (x : X) → slice_get xs i ≡ Some x
-    → drop i xs ≡ x ∷ drop (i + 1) xs
-drop-slice_get xs i x at =
-    drop_more xs i x (slice_get_within xs i x at)
-    ∙ ap (λ y. y ∷ drop (i + 1) xs) (get_or_from_slice_get xs i x x at)
+use Rattle.ac_util.proofs.Lists.{drop-slice_get}
 
 -- the shortest of no list of patterns passes the greatest usize
 pub shortest_len-le : (ps : List (List ℕ)) → shortest_len ps ≤ 18446744073709551615

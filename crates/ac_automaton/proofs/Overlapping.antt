@@ -18,6 +18,7 @@ use Rattle.ac_util.specs.Search.{Search}
 use Rattle.ac_util.specs.Refusal.{OverlappingByState, OverlappingIterator, first_refusal, form_refusal, kind_refusal, start_refusal}
 use Rattle.ac_util.specs.Text.{plain_patterns, text}
 use Rattle.ac_util.proofs.ListingBeginning.{all-past_end, item-none, item-some}
+use Rattle.ac_util.proofs.Lists.{drop-slice_get}
 use Rattle.ac_util.proofs.Reached.{reached-alive}
 use Rattle.ac_automaton.specs.declared.automaton.overlap.OverlappingState.{OverlappingState}
 use Rattle.ac_automaton.specs.declared.automaton.overlap.Reached.{Reached}
@@ -122,13 +123,6 @@ gives-moved s t state here found new_reached as_many moved = record {
   placed = moved.leaves;
 }
 
--- an element of a list, and what stands behind it
-drop-item : {X : Type 0} (xs : List X) (k : ℕ) (x : X) → slice_get xs k ≡ Some x → drop k xs ≡ x ∷ drop (k + 1) xs
-drop-item [] k x e = absurd (cc)
-drop-item (y ∷ xs) zero x e = let same : y ≡ x = cc in ap (λ (z : _). z ∷ xs) same
-drop-item (y ∷ xs) (suc k) x e =
-    drop-item xs k x e ∙ ap (λ (n : ℕ). x ∷ drop n (y ∷ xs)) (let s : suc (k + 1) ≡ suc k + 1 = omega arith in s)
-
 -- what is left of a list past its end
 drop-none : {X : Type 0} (xs : List X) (k : ℕ) → slice_get xs k ≡ None → drop k xs ≡ []
 drop-none [] k e = drop-nil k
@@ -143,7 +137,7 @@ left-after q given None is =
     let none = drop-none (all q) given (sym is) in
     (none, subst (λ (n : ℕ). drop n (all q) ≡ []) (sym (item-none q given (sym is)).1) none)
 left-after q given (Some m) is =
-    drop-item (all q) given m (sym is)
+    drop-slice_get (all q) given m (sym is)
     ∙ ap (λ (n : ℕ). m ∷ drop n (all q)) (sym (item-some q given m (sym is)).1)
 
 module _ (s : Scan) (bytes : List ℕ) (span : Span) where

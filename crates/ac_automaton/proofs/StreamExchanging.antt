@@ -1,8 +1,7 @@
 -- The replacement of a stream: what was written so far and one piece more, one exchange more, and where it fails.
 use Rattle.std.proofs.Common.{◌≡◌, ℕ, zero, suc, ◌+◌, ◌-◌, ◌≤◌, Bool, List, [], ◌∷◌, ◌++◌, length, length-append, length-take, take, drop, inl, inr, refl, ap, sym, subst, ◌∙◌, arith, Option, Some, None, Result, Ok, Err}
 use Rattle.std.specs.Prelude.{slice_get, slice_range}
-use Rattle.std.specs.Io.KnownBytes.{Consumes}
-use Rattle.std.proofs.KnownBytes.{Appends-nil, Appends-trans, Consumes-nil, Consumes-trans}
+use Rattle.std.proofs.KnownBytes.{Appends-nil, Appends-trans, Consumes-nil}
 use Rattle.std.proofs.Math.Seq.{take-add, take-append-add}
 use Rattle.std.proofs.lemmas.List.{append-nil, append_assoc, drop-drop, drop-take, drop_all, take-append-drop, take-append-le, take-take, take_all}
 use Rattle.ac_util.specs.declared.device.WriteError.{WriteError}
@@ -14,7 +13,7 @@ use Rattle.ac_util.specs.Occurrence.{Occurrence}
 use Rattle.ac_util.specs.Replacement.{Replacing}
 use Rattle.ac_util.specs.Stream.{streamed}
 use Rattle.ac_util.specs.StreamReplacing.{WritesPiece, settled}
-use Rattle.ac_util.proofs.Devices.{fails-on}
+use Rattle.ac_util.proofs.Devices.{fails-on, reads-on, reads-out}
 use Rattle.ac_util.proofs.Spans.{take_drop_take}
 use Rattle.ac_automaton.specs.declared.automaton.stream.Phase.{Phase}
 use Rattle.ac_automaton.specs.declared.automaton.stream.Phase.TheVariants.{Ended, Failed, Open}
@@ -349,11 +348,8 @@ module _ {E D : Type 0} (told : D → Writing)
     fills more = record {
       built_is = ap (λ (w : Streaming). w.built) more.same ∙ on.built_is;
       goes_on = ap (λ (w : Streaming). w.phase) more.same ∙ on.goes_on;
-      reads = subst (ReadsSome begun new_reader) (sym (ap (λ (w : Streaming). w.bytes) more.same)) (record {
-        moved = Consumes-trans begun.left reader.left new_reader.left v.bytes more.more on.reads.moved more.reads.moved;
-        failed = more.reads.failed ∙ on.reads.failed;
-        empties = more.reads.empties ∙ on.reads.empties;
-      });
+      reads = subst (ReadsSome begun new_reader) (sym (ap (λ (w : Streaming). w.bytes) more.same))
+          (reads-on on.reads more.reads);
       replaced = replaced-filled told calls v new first s on.replaced (ap (λ (w : Streaming). w.kept) more.same)
           (ap (λ (w : Streaming). w.given) more.same)
           (ap (take v.kept) (ap (λ (w : Streaming). w.bytes) more.same)
@@ -367,13 +363,8 @@ module _ {E D : Type 0} (told : D → Writing)
         record {
           built_is = ap (λ (w : Streaming). w.built) met.same ∙ on.built_is;
           ended = ap (λ (w : Streaming). w.phase) met.same;
-          reads = subst (ReadsAll ends begun new_reader) (sym bytes) (record {
-            moved = subst (Consumes begun.left new_reader.left) (append-nil v.bytes)
-                (Consumes-trans begun.left reader.left new_reader.left v.bytes [] on.reads.moved met.reads.moved);
-            ended = met.reads.ended;
-            failed = met.reads.failed ∙ on.reads.failed;
-            empties = (let e = met.reads.empties in let r = on.reads.empties in omega arith);
-          });
+          reads = subst (ReadsAll ends begun new_reader) (sym bytes)
+              (subst (ReadsAll ends begun new_reader) (append-nil v.bytes) (reads-out on.reads met.reads));
           replaced = replaced-filled told calls v new first s on.replaced (ap (λ (w : Streaming). w.kept) met.same)
               (ap (λ (w : Streaming). w.given) met.same) (ap (take v.kept) bytes)
               (ap (λ (w : Streaming). take v.given (matches_so_far w)) met.same);

@@ -1,7 +1,7 @@
 -- Reading on, and writing on.
-use Rattle.std.proofs.Common.{◌≡◌, ◌≢◌, ◌+◌, ◌<◌, ℕ, zero, suc, List, [], ◌∷◌, ◌++◌, length, length-drop, take, drop, ap, sym, refl, ◌∙◌, subst, arith, Bool, Option}
+use Rattle.std.proofs.Common.{◌≡◌, ◌≢◌, ◌+◌, ◌<◌, ℕ, zero, suc, List, [], ◌∷◌, ◌++◌, length, length-append, length-drop, take, drop, ap, sym, refl, ◌∙◌, subst, arith, Bool, Option}
 use Rattle.std.proofs.lemmas.Bool.Decides.{nat_tests}
-use Rattle.std.proofs.lemmas.List.{append-nil, length-take-le}
+use Rattle.std.proofs.lemmas.List.{append-nil, append_assoc, length-take-le}
 use Rattle.std.specs.Prelude.{slice_range}
 use Rattle.std.specs.Io.{StartsWith}
 use Rattle.std.specs.Io.KnownBytes.{Appends, Consumes}
@@ -9,7 +9,7 @@ use Rattle.std.proofs.Math.Seq.{take-add, take-length}
 use Rattle.std.proofs.KnownBytes.{Appends-trans, Consumes-trans}
 use Rattle.ac_util.specs.declared.error.StreamError.{StreamError}
 use Rattle.ac_util.specs.declared.error.StreamError.TheVariants.{Io, Match, Memory, TooLong, WriteZero}
-use Rattle.ac_util.specs.Device.{Reading, ReadsSome, Took, idle}
+use Rattle.ac_util.specs.Device.{Reading, ReadsAll, ReadsSome, Took, idle}
 use Rattle.ac_util.specs.StreamReplacing.{FailsToRead}
 
 -- what was read so far with what a read has taken
@@ -52,23 +52,49 @@ pub rest-range : (at : ℕ) (bytes : List ℕ) → slice_range bytes at (length 
 rest-range at bytes =
     ap (λ (n : ℕ). take n (drop at bytes)) (sym (length-drop at bytes)) ∙ take-length (drop at bytes)
 
+module _ {old between new : Reading} {bytes more : List ℕ} (reads : ReadsSome old between bytes) where
+  -- some bytes came, and then some more
+  pub reads-on : ReadsSome between new more → ReadsSome old new (bytes ++ more)
+  reads-on later = record {
+    moved = Consumes-trans old.left between.left new.left bytes more reads.moved later.moved;
+    failed = later.failed ∙ reads.failed;
+    empties = later.empties ∙ reads.empties;
+  }
+
+  -- or all that there were
+  pub reads-out : {ends : Bool} → ReadsAll ends between new more → ReadsAll ends old new (bytes ++ more)
+  reads-out later = record {
+    moved = Consumes-trans old.left between.left new.left bytes more reads.moved later.moved;
+    ended = later.ended;
+    failed = later.failed ∙ reads.failed;
+    empties = (let l = later.empties in let r = reads.empties in omega arith);
+  }
+
+-- some bytes came, and behind them a read has failed, or brought more than usize counts
+pub fails-after : {old between : Reading} {bytes : List ℕ} (new : Reading) (more : List ℕ) → ReadsSome old between bytes
+    → (seen total : ℕ) → total ≡ seen + length bytes → (e : StreamError) → FailsToRead total between new more e
+    → FailsToRead seen old new (bytes ++ more) e
+fails-after new more reads seen total sum (Match m) fails = fails
+fails-after new more reads seen total sum Memory fails = fails
+fails-after {old} {between} {bytes} new more reads seen total sum (Io e) fails = record {
+  moved = Consumes-trans old.left between.left new.left bytes more reads.moved fails.moved;
+  failed = (let f = fails.failed in let r = reads.failed in omega arith);
+  empties = fails.empties ∙ reads.empties;
+}
+fails-after new more reads seen total sum WriteZero fails = fails
+fails-after {old} {between} {bytes} new more reads seen total sum TooLong fails = record {
+  lost = fails.lost;
+  too_many = (let l = fails.too_many in let n = length-append bytes more in omega arith);
+  moved = subst (Consumes old.left new.left) (sym (append_assoc bytes more fails.lost))
+      (Consumes-trans old.left between.left new.left bytes (more ++ fails.lost) reads.moved fails.moved);
+  failed = fails.failed ∙ reads.failed;
+  empties = fails.empties ∙ reads.empties;
+}
+
 -- bytes came, and then a read has failed, or brought more than usize counts
 pub fails-on : {old between : Reading} (new : Reading) (seen total : ℕ) (bytes : List ℕ) → total ≡ seen + length bytes
     → ReadsSome old between bytes → (e : StreamError) → FailsToRead total between new [] e
     → FailsToRead seen old new bytes e
-fails-on new seen total bytes sum reads (Match m) fails = fails
-fails-on new seen total bytes sum reads Memory fails = fails
-fails-on {old} {between} new seen total bytes sum reads (Io e) fails = record {
-  moved = subst (Consumes old.left new.left) (append-nil bytes)
-      (Consumes-trans old.left between.left new.left bytes [] reads.moved fails.moved);
-  failed = (let f = fails.failed in let r = reads.failed in omega arith);
-  empties = fails.empties ∙ reads.empties;
-}
-fails-on new seen total bytes sum reads WriteZero fails = fails
-fails-on {old} {between} new seen total bytes sum reads TooLong fails = record {
-  lost = fails.lost;
-  too_many = (let l = fails.too_many in omega arith);
-  moved = Consumes-trans old.left between.left new.left bytes fails.lost reads.moved fails.moved;
-  failed = fails.failed ∙ reads.failed;
-  empties = fails.empties ∙ reads.empties;
-}
+fails-on {old} {between} new seen total bytes sum reads e fails =
+    subst (λ (bs : List ℕ). FailsToRead seen old new bs e) (append-nil bytes)
+    (fails-after new [] reads seen total sum e fails)

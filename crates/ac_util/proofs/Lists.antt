@@ -1,10 +1,12 @@
 -- Membership and strict order of lists by recursion, and how they pass through `map`, `flat_map` and `filter`.
 use Rattle.std.proofs.Common.{◌≡◌, ℕ, zero, suc, ◌+◌, ◌<◌, ◌≤◌, Bool, true, false, cond, List, [], ◌∷◌, ◌++◌, map, length, get_or, ◌⊎◌, inl, inr, refl, ap, sym, ◌∙◌, subst, arith}
-use Rattle.std.specs.Prelude.{⊤, filter, flat_map, Contains, All, AllPairs}
+use Rattle.std.specs.Prelude.{⊤, Some, drop, filter, flat_map, slice_get, Contains, All, AllPairs}
 use Rattle.std.specs.List.{range_with_len}
+use Rattle.std.proofs.lemmas.List.{drop_more}
 use Rattle.std.proofs.lemmas.List.Kept.{AllPairs-cons}
 use Rattle.std.proofs.lemmas.List.Elements.{All-cons, All-nil}
 use Rattle.std.proofs.lemmas.Bool.{cases_lt, cond-false}
+use Rattle.std.proofs.lemmas.Option.{get_or_from_slice_get, slice_get_within}
 
 -- y is an element
 abbrev pub IsIn : {X : Type 0} → X → List X → Type 0
@@ -217,3 +219,10 @@ nil-from_none (x ∷ xs) none = absurd (none x (inl refl))
 pub none-from_nil : {X : Type 0} (x : X) (xs : List X) → xs ≡ [] → IsIn x xs → ⊥
 none-from_nil x [] e h = h
 none-from_nil x (y ∷ ys) e h = absurd (cc)
+
+-- what is left of a list from a place on begins with the element there
+pub drop-slice_get : {X : Type 0} (xs : List X) (i : ℕ) (x : X) → slice_get xs i ≡ Some x
+    → drop i xs ≡ x ∷ drop (i + 1) xs
+drop-slice_get xs i x at =
+    drop_more xs i x (slice_get_within xs i x at)
+    ∙ ap (λ (y : _). y ∷ drop (i + 1) xs) (get_or_from_slice_get xs i x x at)

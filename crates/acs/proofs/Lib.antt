@@ -1,4 +1,6 @@
+pub mod ModeEnds
 pub mod PairLimits
 pub mod Pairs
 pub mod Printing
-pub mod Replacing
+pub mod Serving
+pub mod Streaming

@@ -1,6 +1,6 @@
 -- Words in pairs: how the first of them, and the second, are gathered pair by pair.
 use Rattle.std.proofs.Common.{◌≡◌, ℕ, suc, List, [], ◌∷◌, ◌++◌, length, get_or, ap, refl, sym, ◌∙◌, arith}
-use Rattle.std.proofs.lemmas.List.{append_assoc, map-append}
+use Rattle.std.proofs.lemmas.List.{append_assoc, length-map, map-append}
 use Rattle.std.specs.Borrow.{Bor}
 use Rattle.ac_util.specs.Borrowed.{bytes_of}
 use Rattle.acs.specs.Requests.{firsts, seconds}
@@ -31,3 +31,10 @@ gathered-more old new word rest later all is first so_far =
     ∙ append_assoc (bytes_of old) (word.now ∷ []) later
     ∙ ap (λ (xs : List (List ℕ)). bytes_of old ++ xs) (sym first)
     ∙ so_far
+
+-- there is a text for each pattern
+pub texts-fit : (words over : List (List ℕ)) (texts : List (Bor (List ℕ))) → bytes_of texts ≡ seconds words
+    → over ≡ firsts words → length texts ≡ length over
+texts-fit words over texts are is =
+    sym (length-map texts (λ (t : Bor (List ℕ)). t.now)) ∙ ap (λ (ts : List (List ℕ)). length ts) are
+    ∙ length-seconds words ∙ ap (λ (ps : List (List ℕ)). length ps) (sym is)

@@ -14,7 +14,7 @@ use Rattle.acs.specs.declared.run.Outcome.{Outcome}
 use Rattle.acs.specs.declared.run.Outcome.TheVariants.{Found, Nothing}
 use Rattle.acs.specs.Lines.{line, lines, outcome_of}
 use Rattle.acs.specs.Printed.{IsPrinting}
-use Rattle.acs.specs.Runs.{FailsToPrint, FailsToWrite}
+use Rattle.acs.specs.Modes.{FailsToPrint, FailsToWrite}
 
 -- the lines of two lists one after the other
 lines-append : (xs ys : List Occurrence) → lines (xs ++ ys) ≡ lines xs ++ lines ys

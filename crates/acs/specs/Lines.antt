@@ -5,8 +5,9 @@ use Rattle.ac_util.specs.Asked.{asked_whole}
 use Rattle.ac_util.specs.Listing.{all}
 use Rattle.ac_util.specs.Occurrence.{Occurrence}
 use Rattle.ac_util.specs.Replaced.{replaced}
+use Rattle.ac_util.specs.Stream.{streamed}
 use Rattle.acs.specs.declared.request.Mode.{Mode}
-use Rattle.acs.specs.declared.request.Mode.TheVariants.{Find, Walk, Overlap, Replace}
+use Rattle.acs.specs.declared.request.Mode.TheVariants.{Find, Walk, Overlap, Stream, Replace, StreamReplace}
 use Rattle.acs.specs.declared.run.Outcome.{Outcome}
 use Rattle.acs.specs.declared.run.Outcome.TheVariants.{Found, Nothing}
 
@@ -31,14 +32,19 @@ pub record Output : Type 0 where
 abbrev pub lines_of : List Occurrence → Output
 lines_of ms = record { text = lines ms; outcome = outcome_of ms }
 
--- what each mode writes for a haystack: the match that a find answers, those of a walk, all occurrences; or the
--- haystack itself with each match exchanged for the text of its pattern, whether there is one or not
+-- what each mode writes for a haystack: the match that a find answers, those of a walk, all occurrences, those of a
+-- stream; or the haystack itself with each match exchanged for the text of its pattern, whether there is one or not
 abbrev pub output_of : Mode → Built → List (List ℕ) → List ℕ → Output
 output_of Find built texts haystack = lines_of (option_to_list (found built (asked_whole haystack)))
 output_of Walk built texts haystack = lines_of (walked built (asked_whole haystack))
 output_of Overlap built texts haystack = lines_of (all (search_in built (asked_whole haystack)))
+output_of Stream built texts haystack = lines_of (streamed built haystack)
 output_of Replace built texts haystack = record {
   text = replaced haystack texts (exchanged built haystack);
+  outcome = Found;
+}
+output_of StreamReplace built texts haystack = record {
+  text = replaced haystack texts (streamed built haystack);
   outcome = Found;
 }
 

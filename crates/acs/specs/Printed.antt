@@ -1,10 +1,16 @@
 -- How far the printing of matches has come.
-use Rattle.std.specs.Prelude.{◌≡◌, ℕ, List, ◌++◌}
+use Rattle.std.specs.Prelude.{◌≡◌, ℕ, Bool, List, [], ◌++◌, drop, length}
 use Rattle.std.specs.Io.KnownBytes.{Appends}
-use Rattle.ac_util.specs.Device.{Writing}
+use Rattle.ac_util.specs.Built.{Built}
+use Rattle.ac_util.specs.Device.{Reading, ReadsAll, Writing, WritesAll}
 use Rattle.ac_util.specs.Occurrence.{Occurrence}
+use Rattle.ac_util.specs.Stream.{streamed}
+use Rattle.ac_automaton.specs.Streams.{Streaming, matches_so_far}
+use Rattle.acs.specs.declared.fault.Fault.{Fault}
+use Rattle.acs.specs.declared.request.Mode.TheVariants.{Stream}
 use Rattle.acs.specs.declared.run.Outcome.{Outcome}
 use Rattle.acs.specs.Lines.{lines, outcome_of}
+use Rattle.acs.specs.Modes.{FailsOnStream}
 
 -- of all the matches some are printed and the rest is not: the lines of the first are written, but for the text
 pub record IsPrinting (all rest : List Occurrence) (old new : Writing) (text : List ℕ)
@@ -17,3 +23,26 @@ pub record IsPrinting (all rest : List Occurrence) (old new : Writing) (text : L
   pub failed : new.failed ≡ old.failed
   pub idles : new.idles ≡ old.idles
   pub outcome_is : outcome ≡ outcome_of done
+
+-- the matches of the bytes read so far that weren't given yet are not printed either
+abbrev pub PrintsSoFar : Streaming → Writing → Writing → List ℕ → Outcome → Type 0
+PrintsSoFar v old new text outcome =
+    IsPrinting (matches_so_far v) (drop v.given (matches_so_far v)) old new text outcome
+
+-- all matches of the bytes read so far were given, and their lines are written
+pub record HasPrintedRead (v new_v : Streaming) (old new : Writing) (text : List ℕ) (outcome : Outcome) : Type 0 where
+  pub same : new_v ≡ record v { given = length (matches_so_far v); kept = new_v.kept }
+  pub nothing : text ≡ []
+  pub printing : PrintsSoFar new_v old new [] outcome
+
+module _ (ends : Bool) (built : Built) (reader new_reader : Reading) (writer new_writer : Writing) where
+  -- a stream was read to its end, and the lines of all its matches are written
+  pub record PrintsStream (outcome : Outcome) : Type 0 where
+    pub bytes : List ℕ
+    pub reads : ReadsAll ends reader new_reader bytes
+    pub writes : WritesAll writer new_writer (lines (streamed built bytes))
+    pub outcome_is : outcome ≡ outcome_of (streamed built bytes)
+
+  -- or it couldn't be read, or the lines couldn't be written
+  abbrev pub FailsToPrintStream : Fault → Type 0
+  FailsToPrintStream fault = FailsOnStream ends reader new_reader writer new_writer Stream built [] fault

@@ -5,11 +5,10 @@ use Rattle.ac_util.specs.declared.search.MatchKind.TheVariants.{Standard, Leftmo
 use Rattle.ac_util.specs.declared.search.StartKind.TheVariants.{Unanchored}
 use Rattle.ac_search.specs.declared.ahocorasick.choice.AhoCorasickKind.{AhoCorasickKind}
 use Rattle.ac_search.specs.declared.ahocorasick.choice.AhoCorasickKind.TheVariants.{ContiguousNFA, DFA, NoncontiguousNFA}
-use Rattle.ac_search.specs.Searchers.{Settings}
-use Rattle.acs.specs.declared.fault.Fault.{Fault}
-use Rattle.acs.specs.declared.fault.Fault.TheVariants.{OverlappingKind}
+use Rattle.ac_util.specs.Built.{Built}
+use Rattle.ac_search.specs.Searchers.{Settings, built_by}
 use Rattle.acs.specs.declared.request.Mode.{Mode}
-use Rattle.acs.specs.declared.request.Mode.TheVariants.{Find, Walk, Overlap, Replace}
+use Rattle.acs.specs.declared.request.Mode.TheVariants.{Find, Walk, Overlap, Stream, Replace, StreamReplace}
 use Rattle.acs.specs.declared.request.Request.{Request}
 
 -- the names of modes, match kinds and engines
@@ -18,7 +17,9 @@ mode_of word =
     if bytes_eq word (codes "find") then Some Find
     else if bytes_eq word (codes "walk") then Some Walk
     else if bytes_eq word (codes "overlap") then Some Overlap
+    else if bytes_eq word (codes "stream") then Some Stream
     else if bytes_eq word (codes "replace") then Some Replace
+    else if bytes_eq word (codes "sreplace") then Some StreamReplace
     else None
 
 abbrev pub kind_of : List ℕ → Option MatchKind
@@ -37,9 +38,10 @@ engine_of word =
     else if bytes_eq word (codes "dfa") then Some (Some DFA)
     else None
 
--- whether a mode allows so many words behind these three: for `replace` they stand in pairs
+-- whether a mode allows so many words behind these three: for the replacing modes they stand in pairs
 abbrev pub allows_count : Mode → ℕ → Bool
 allows_count Replace count = count % 2 == 0
+allows_count StreamReplace count = count % 2 == 0
 allows_count mode count = true
 
 -- a mode, a kind and an engine, and so many words as the mode allows; anything else is no request
@@ -71,24 +73,16 @@ abbrev pub seconds : List (List ℕ) → List (List ℕ)
 seconds (first ∷ second ∷ words) = second ∷ seconds words
 seconds words = []
 
--- which of the words are patterns, and which are texts: for `replace` they are pattern and text in turn
+-- which of the words are patterns, and which are texts: for the replacing modes they are pattern and text in turn
 abbrev pub patterns_in : Mode → List (List ℕ) → List (List ℕ)
 patterns_in Replace words = firsts words
+patterns_in StreamReplace words = firsts words
 patterns_in mode words = words
 
 abbrev pub texts_in : Mode → List (List ℕ) → List (List ℕ)
 texts_in Replace words = seconds words
+texts_in StreamReplace words = seconds words
 texts_in mode words = []
-
--- why a mode is refused by a match kind, if it is: the overlapping search needs Standard
-abbrev pub mode_refusal : Mode → MatchKind → Option Fault
-mode_refusal mode Standard = None
-mode_refusal Overlap kind = Some OverlappingKind
-mode_refusal mode kind = None
-
--- why a request is refused whose searcher was built, if it is
-abbrev pub request_refusal : Request → Option Fault
-request_refusal request = mode_refusal request.mode request.kind
 
 -- what the searcher is built by
 abbrev pub settings_of : Request → Settings
@@ -101,3 +95,7 @@ settings_of request = record {
   byte_classes = true;
   prefilter = true;
 }
+
+-- what the searcher for a request with these words was built from
+abbrev pub built_for : Request → List (List ℕ) → Built
+built_for request words = built_by (settings_of request) (patterns_in request.mode words)

@@ -1,9 +1,9 @@
 //! Why a run fails.
 ghost use Rattle.std.specs.Prelude.{◌≡◌};
 ghost use Rattle.acs.specs.declared.fault.Fault.TheVariants.{Memory as OutOfMemory};
-ghost use Rattle.acs.specs.Faults.{fault_of, line_of, write_fault_of};
+ghost use Rattle.acs.specs.Faults.{fault_of, line_of, refusal_fault_of, stream_fault_of, write_fault_of};
 
-use ac_search::{BuildError, WriteError};
+use ac_search::{BuildError, MatchError, StreamError, WriteError};
 use std::alloc::{AllocError, AllocFailed};
 
 /// Why a run fails.
@@ -22,10 +22,16 @@ pub enum Fault {
     TooManyStates,
     /// An overlapping search is asked for by a leftmost kind.
     OverlappingKind,
+    /// A stream search is asked for by a leftmost kind.
+    StreamKind,
+    /// A stream search is asked for with an empty pattern.
+    StreamEmpty,
     /// A read or a write failed.
     Io,
     /// A write took no byte.
     WriteZero,
+    /// A stream has more bytes than a `usize` counts.
+    TooLong,
 }
 
 impl Fault {
@@ -40,8 +46,11 @@ impl Fault {
             Fault::PatternTooLong => "acs: pattern too long",
             Fault::TooManyStates => "acs: too many states",
             Fault::OverlappingKind => "acs: overlapping search needs std",
+            Fault::StreamKind => "acs: stream search needs std",
+            Fault::StreamEmpty => "acs: stream search refuses an empty pattern",
             Fault::Io => "acs: input or output failed",
             Fault::WriteZero => "acs: output took no byte",
+            Fault::TooLong => "acs: stream too long",
         }
     }
 }
@@ -55,6 +64,33 @@ impl From<BuildError> for Fault {
             BuildError::PatternIdOverflow { .. } => Fault::TooManyPatterns,
             BuildError::PatternTooLong { .. } => Fault::PatternTooLong,
             BuildError::StateIdOverflow { .. } => Fault::TooManyStates,
+        }
+    }
+}
+
+impl From<MatchError> for Fault {
+    ghost from_gives = { λ e fault. fault ≡ refusal_fault_of e };
+
+    fn from(refusal: MatchError) -> Fault {
+        match refusal {
+            MatchError::InvalidInputAnchored | MatchError::InvalidInputUnanchored => Fault::Usage,
+            MatchError::UnsupportedOverlapping { .. } => Fault::OverlappingKind,
+            MatchError::UnsupportedStream { .. } => Fault::StreamKind,
+            MatchError::UnsupportedEmpty => Fault::StreamEmpty,
+        }
+    }
+}
+
+impl From<StreamError> for Fault {
+    ghost from_gives = { λ e fault. fault ≡ stream_fault_of e };
+
+    fn from(failure: StreamError) -> Fault {
+        match failure {
+            StreamError::Match(refusal) => Fault::from(refusal),
+            StreamError::Memory => Fault::Memory,
+            StreamError::Io(_) => Fault::Io,
+            StreamError::WriteZero => Fault::WriteZero,
+            StreamError::TooLong => Fault::TooLong,
         }
     }
 }

@@ -1,7 +1,7 @@
 //! All bytes of a reader.
 ghost use Rattle.std.specs.Prelude.{MatchResult};
 ghost use Rattle.ac_util.specs.Device.{ReadsAll};
-ghost use Rattle.acs.specs.Runs.{FailsToRead};
+ghost use Rattle.acs.specs.Modes.{FailsToReadAll};
 
 use crate::fault::Fault;
 use ac_search::Source;
@@ -20,7 +20,7 @@ pub(crate) fn read_all<A: Allocator + Clone, R: Source>(
 ) -> Result<Vec<u8, A>, Fault>
     ensures { MatchResult result
         (λ bytes. ReadsAll R.empty_means_end (R.told reader.old) (R.told reader.new) bytes.items)
-        (FailsToRead (R.told reader.old) (R.told reader.new)) }
+        (FailsToReadAll (R.told reader.old) (R.told reader.new)) }
 {
     let mut bytes = Vec::new(alloc.clone()?);
     let mut piece = Vec::new(alloc);

@@ -10,6 +10,7 @@ use std::{env, io};
 mod fault;
 mod input;
 mod laws;
+mod modes;
 mod output;
 mod request;
 mod run;

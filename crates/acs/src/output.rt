@@ -1,16 +1,18 @@
 //! Lines for matches, written in large pieces, and replaced texts.
 ghost use Rattle.std.specs.Prelude.{◌≡◌, ◌++◌, ◌∷◌, [], List, codes, MatchResult, OnOk, option_to_list, string_bytes};
+ghost use Rattle.ac_util.specs.declared.search.MatchKind.TheVariants.{Standard};
 ghost use Rattle.ac_util.specs.Device.{Writing, WritesAll};
 ghost use Rattle.ac_util.specs.Occurrence.{Occurrence};
+ghost use Rattle.ac_automaton.specs.Streams.{matches_so_far, stream_begun};
 ghost use Rattle.acs.specs.declared.run.Outcome.{Outcome};
 ghost use Rattle.acs.specs.declared.run.Outcome.TheVariants.{Found};
 ghost use Rattle.acs.specs.Lines.{line, lines, outcome_of};
-ghost use Rattle.acs.specs.Printed.{IsPrinting};
-ghost use Rattle.acs.specs.Runs.{FailsToPrint, FailsToWrite};
+ghost use Rattle.acs.specs.Modes.{FailsToPrint, FailsToWrite};
+ghost use Rattle.acs.specs.Printed.{FailsToPrintStream, HasPrintedRead, IsPrinting, PrintsSoFar, PrintsStream};
 
 use crate::fault::Fault;
 use crate::run::Outcome;
-use ac_search::{FindIter, FindOverlappingIter, Match, Sink};
+use ac_search::{FindIter, FindOverlappingIter, Match, Sink, Source, StreamFinder};
 use std::alloc::{AllocError, Allocator};
 
 /// From how many bytes on the lines are written.
@@ -136,6 +138,65 @@ pub(crate) fn print_listing<A: Allocator + Clone, B: Allocator, W: Sink>(
         print_line(&mut text, &item, writer)?;
     }
     print_end(text.as_bytes(), writer)?;
+    Ok(outcome)
+}
+
+/// Adds the lines of all matches that need no further read, and writes the text.
+///
+/// # Errors
+/// As `print_walk`, of the matches of what was read.
+fn print_read<A: Allocator + Clone, B: Allocator, Z: Allocator, W: Sink>(
+    text: &mut String<A>,
+    finder: &mut StreamFinder<'_, B, Z>,
+    writer: &mut W,
+) -> Result<(), Fault>
+    ensures { (old : Writing) → PrintsSoFar finder.old old (W.told writer.old) (string_bytes text.old) Found
+        → MatchResult result
+        (λ _. HasPrintedRead finder.old finder.new old (W.told writer.new) (string_bytes text.new) Found)
+        (FailsToPrint old (W.told writer.new) (lines (matches_so_far finder.old))) }
+{
+    while let Some(m) = finder.next_read() {
+        print_line(text, &m, writer)?;
+    }
+    write_all(writer, text.as_bytes())?;
+    text.clear();
+    Ok(())
+}
+
+/// Writes a line for each match of a stream of which nothing was read yet. Before each read the lines of all matches so far
+/// were written.
+///
+/// # Errors
+/// `Io` where a read fails and `TooLong` where more bytes come than a `usize` counts: the lines of all matches so far were
+/// written then. Those of `print_walk`: a beginning of these lines was written then, and not all of them.
+pub(crate) fn print_stream<
+    A: Allocator + Clone,
+    B: Allocator,
+    Z: Allocator,
+    R: Source,
+    W: Sink,
+>(
+    alloc: A,
+    finder: &mut StreamFinder<'_, B, Z>,
+    reader: &mut R,
+    writer: &mut W,
+) -> Result<Outcome, Fault>
+    requires begun { finder.old ≡ stream_begun finder.old.built }
+    requires standard { finder.old.built.kind ≡ Standard }
+    ensures { MatchResult result
+        (PrintsStream R.empty_means_end finder.old.built (R.told reader.old) (R.told reader.new)
+        (W.told writer.old) (W.told writer.new))
+        (FailsToPrintStream R.empty_means_end finder.old.built (R.told reader.old) (R.told reader.new)
+        (W.told writer.old) (W.told writer.new)) }
+{
+    let mut text = String::new(alloc);
+    let mut outcome = Outcome::Nothing;
+    while let Some(item) = finder.next(reader) {
+        let m = item?;
+        outcome = Outcome::Found;
+        print_line(&mut text, &m, writer)?;
+        print_read(&mut text, finder, writer)?;
+    }
     Ok(outcome)
 }
 

@@ -18,8 +18,12 @@ pub(crate) enum Mode {
     Walk,
     /// All occurrences, also those that overlap.
     Overlap,
+    /// The matches of a walk, while the input is read.
+    Stream,
     /// The input with each match exchanged for the text of its pattern.
     Replace,
+    /// The same, while the input is read.
+    StreamReplace,
 }
 
 /// What is asked for, without the patterns and texts.
@@ -74,7 +78,9 @@ fn mode_of(word: &str) -> Option<Mode>
         "find" => Some(Mode::Find),
         "walk" => Some(Mode::Walk),
         "overlap" => Some(Mode::Overlap),
+        "stream" => Some(Mode::Stream),
         "replace" => Some(Mode::Replace),
+        "sreplace" => Some(Mode::StreamReplace),
         _ => None,
     }
 }
@@ -104,13 +110,13 @@ fn engine_of(word: &str) -> Option<Option<AhoCorasickKind>>
     }
 }
 
-/// Returns whether a mode allows so many words behind the first three: for `replace` they stand in pairs.
+/// Returns whether a mode allows so many words behind the first three: for the replacing modes they stand in pairs.
 fn allows_count(mode: Mode, count: usize) -> bool
     ensures { result ≡ allows_count mode count }
 {
     match mode {
-        Mode::Find | Mode::Walk | Mode::Overlap => true,
-        Mode::Replace => count % 2 == 0,
+        Mode::Find | Mode::Walk | Mode::Overlap | Mode::Stream => true,
+        Mode::Replace | Mode::StreamReplace => count % 2 == 0,
     }
 }
 
@@ -124,8 +130,8 @@ pub(crate) fn check_patterns(mode: Mode, words: &[&str]) -> Result<(), Fault>
         (λ refusal. result ≡ Err (fault_of refusal)) }
 {
     match mode {
-        Mode::Find | Mode::Walk | Mode::Overlap => Ok(check_limits(words)?),
-        Mode::Replace => check_firsts(words),
+        Mode::Find | Mode::Walk | Mode::Overlap | Mode::Stream => Ok(check_limits(words)?),
+        Mode::Replace | Mode::StreamReplace => check_firsts(words),
     }
 }
 
@@ -159,8 +165,8 @@ pub(crate) fn patterns_of<'w, A: Allocator>(
     ensures { IfOk result (λ patterns. bytes_of patterns.items ≡ patterns_in mode (bytes_of words.now)) }
 {
     match mode {
-        Mode::Find | Mode::Walk | Mode::Overlap => all_of(alloc, words),
-        Mode::Replace => firsts_of(alloc, words),
+        Mode::Find | Mode::Walk | Mode::Overlap | Mode::Stream => all_of(alloc, words),
+        Mode::Replace | Mode::StreamReplace => firsts_of(alloc, words),
     }
 }
 

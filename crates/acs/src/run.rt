@@ -1,5 +1,5 @@
 //! The program over any reader and writer.
-ghost use Rattle.std.specs.Prelude.{◌≡◌, IfErr, IfOk, List, MatchResult, None, Some, String};
+ghost use Rattle.std.specs.Prelude.{◌≡◌, IfErr, IfOk, List, MatchResult, String};
 ghost use Rattle.std.specs.declared.alloc.Global.{Global};
 ghost use Rattle.std.specs.Iterator.{Drains, IsFinite};
 ghost use Rattle.ac_util.specs.Borrowed.{bytes_of};
@@ -8,16 +8,14 @@ ghost use Rattle.acs.specs.declared.fault.Fault;
 ghost use Rattle.acs.specs.declared.fault.Fault.TheVariants.{Memory};
 ghost use Rattle.acs.specs.Lines.{status_of};
 ghost use Rattle.acs.specs.Faults.{IsRefusal};
-ghost use Rattle.acs.specs.Requests.{request_refusal, settings_of, words_among};
+ghost use Rattle.acs.specs.Requests.{settings_of, words_among};
 ghost use Rattle.acs.specs.Runs.{HasAnswered, HasEnded, HasFailed, HasRun, HasTold};
 
 use crate::fault::Fault;
-use crate::input::read_all;
-use crate::output::{print_found, print_listing, print_text, print_walk, write_line};
-use crate::request::{
-    Mode, Request, check_patterns, patterns_of, request_of, texts_of, words_among,
-};
-use ac_search::{AhoCorasick, AhoCorasickBuilder, Input, MatchKind, Sink, Source};
+use crate::modes::{find, overlap, replace, replace_stream, stream, walk};
+use crate::output::write_line;
+use crate::request::{Mode, Request, check_patterns, patterns_of, request_of, words_among};
+use ac_search::{AhoCorasick, AhoCorasickBuilder, Sink, Source};
 use std::alloc::Allocator;
 
 /// How a run ends that meets no fault.
@@ -30,26 +28,31 @@ pub enum Outcome {
 }
 
 /// Searches all that a reader gives for what the words ask for, and writes a line for each match: its pattern's
-/// number, its start and its end. In the mode `replace` it writes all that the reader gave with each match exchanged
-/// for the text of its pattern, and nothing else.
+/// number, its start and its end. In the modes `replace` and `sreplace` it writes all that the reader gave with each match
+/// exchanged for the text of its pattern, and nothing else.
 ///
-/// The words are tested first, then the searcher is built, then it is tested that the match kind allows the mode,
-/// then the input is read up to the first read that gives no byte, and only then something is written.
+/// The words are tested first, then the searcher is built, then it is tested that it allows the mode. Only then the input
+/// is read, up to the first read that gives no byte. The modes `stream` and `sreplace` write while they read: before each
+/// read the lines of all matches so far were written, or the replaced text but for the bytes that a match to come may still
+/// need. In the other modes nothing is written before all was read.
 ///
 /// # Errors
-/// - `Usage` exactly where the words ask for nothing that there is, or the last pattern of the mode `replace` has no
-///   text.
+/// - `Usage` exactly where the words ask for nothing that there is, or the last pattern of the modes `replace` and `sreplace`
+///   has no text.
 /// - `TooManyPatterns` and `PatternTooLong` exactly where that limit of the list is passed.
 /// - `TooManyStates` only where the engine that serves would be too large for the numbers of states.
-/// - `OverlappingKind` exactly where a leftmost kind is asked for in the mode `overlap`, and no limit or want of
-///   memory refused the searcher.
-/// - `Io` where a read or a write failed, and `WriteZero` where a write took no byte.
+/// - `OverlappingKind` exactly where a leftmost kind is asked for in the mode `overlap`, `StreamKind` exactly where one is in
+///   the modes `stream` and `sreplace`, and `StreamEmpty` exactly where some pattern is empty in these under `std`; if no
+///   limit or want of memory refused the searcher.
+/// - `Io` where a read or a write failed, `WriteZero` where a write took no byte, and `TooLong` where more bytes came in the
+///   modes `stream` and `sreplace` than a `usize` counts.
 /// - `Memory` where a request for memory was refused. A contract cannot count such requests; it says that none
 ///   of the causes above was there.
 ///
-/// Before the first read nothing is written, nor while the input is read. Where a run fails after that, a beginning
-/// of the lines or of the replaced text was written, and not all of it; where memory was refused for a replaced text,
-/// nothing was.
+/// Before the first read nothing is written. Where a read fails in the modes `stream` and `sreplace`, all stands written that
+/// has to be before a read; in the other modes nothing is. Where a run fails otherwise after its first read, a beginning of
+/// the lines or of the replaced text was written, and not all of it; where memory was refused for a replaced text, nothing
+/// was.
 pub fn run<A: Allocator + Clone, R: Source, W: Sink>(
     alloc: A,
     words: &[&str],
@@ -138,18 +141,13 @@ fn search<A: Allocator + Clone, R: Source, W: Sink>(
     check_patterns(request.mode, words)?;
     let patterns = patterns_of(alloc.clone()?, request.mode, words)?;
     let searcher = searcher_for(alloc.clone()?, request, &patterns)?;
-    check_request(request)?;
-    let haystack = read_all(alloc.clone()?, reader)?;
-    let input = Input::new(&haystack);
     match request.mode {
-        Mode::Find => print_found(alloc, searcher.find(input), writer),
-        Mode::Walk => print_walk(alloc, searcher.find_iter(input), writer),
-        Mode::Overlap => print_listing(alloc, searcher.find_overlapping_iter(input), writer),
-        Mode::Replace => {
-            let texts = texts_of(alloc.clone()?, words)?;
-            let whole = searcher.replace_all_bytes(alloc, &haystack, &texts)?;
-            print_text(&whole, writer)
-        }
+        Mode::Find => find(alloc, &searcher, reader, writer),
+        Mode::Walk => walk(alloc, &searcher, reader, writer),
+        Mode::Overlap => overlap(alloc, &searcher, reader, writer),
+        Mode::Stream => stream(alloc, &searcher, reader, writer),
+        Mode::Replace => replace(alloc, &searcher, words, reader, writer),
+        Mode::StreamReplace => replace_stream(alloc, &searcher, words, reader, writer),
     }
 }
 
@@ -170,23 +168,6 @@ fn searcher_for<A: Allocator + Clone>(
     builder.match_kind(request.kind);
     builder.kind(request.engine);
     Ok(builder.build(alloc, patterns)?)
-}
-
-/// Tests that the match kind allows the mode.
-///
-/// # Errors
-/// `OverlappingKind` where a leftmost kind is asked for in the mode `overlap`.
-fn check_request(request: Request) -> Result<(), Fault>
-    ensures { MatchResult result
-        (λ _. request_refusal request ≡ None)
-        (λ fault. request_refusal request ≡ Some fault) }
-{
-    match (request.mode, request.kind) {
-        (Mode::Overlap, MatchKind::LeftmostFirst | MatchKind::LeftmostLongest) => {
-            Err(Fault::OverlappingKind)
-        }
-        _ => Ok(()),
-    }
 }
 
 /// Returns the exit status: 0 where a line or a whole replaced text was written, 1 where no line was, 2 after a fault.

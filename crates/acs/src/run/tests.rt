@@ -233,6 +233,152 @@ const RUNS: &[Row] = &[
         "urs",
         Ok(Outcome::Found),
     ),
+    (
+        "stream of append, appendage, app",
+        &[
+            "stream",
+            "std",
+            "noncontiguous",
+            "append",
+            "appendage",
+            "app",
+        ],
+        "append the app to the appendage",
+        "2 0 3\n2 11 14\n2 22 25\n",
+        Ok(Outcome::Found),
+    ),
+    (
+        "stream for apple, maple, Snapple",
+        &[
+            "stream",
+            "std",
+            "noncontiguous",
+            "apple",
+            "maple",
+            "Snapple",
+        ],
+        "Nobody likes maple in their apple flavored Snapple.",
+        "1 13 18\n0 28 33\n2 43 50\n",
+        Ok(Outcome::Found),
+    ),
+    (
+        "stream of what does not occur",
+        &["stream", "std", "noncontiguous", "abc"],
+        "xyz",
+        "",
+        Ok(Outcome::Nothing),
+    ),
+    (
+        "stream of nothing",
+        &["stream", "std", "noncontiguous", "abc"],
+        "",
+        "",
+        Ok(Outcome::Nothing),
+    ),
+    (
+        "stream for no word",
+        &["stream", "std", "noncontiguous"],
+        "abc",
+        "",
+        Ok(Outcome::Nothing),
+    ),
+    (
+        "stream by first",
+        &["stream", "first", "noncontiguous", "a"],
+        "a",
+        "",
+        Err(Fault::StreamKind),
+    ),
+    (
+        "stream by longest, and an empty word",
+        &["stream", "longest", "noncontiguous", ""],
+        "a",
+        "",
+        Err(Fault::StreamKind),
+    ),
+    (
+        "stream for an empty word",
+        &["stream", "std", "noncontiguous", "a", ""],
+        "a",
+        "",
+        Err(Fault::StreamEmpty),
+    ),
+    (
+        "replace fox, brown and quick in a stream",
+        &[
+            "sreplace",
+            "std",
+            "noncontiguous",
+            "fox",
+            "sloth",
+            "brown",
+            "grey",
+            "quick",
+            "slow",
+        ],
+        "The quick brown fox.",
+        "The slow grey sloth.",
+        Ok(Outcome::Found),
+    ),
+    (
+        "replace fox, brown and quick in a stream by nothing",
+        &[
+            "sreplace",
+            "std",
+            "noncontiguous",
+            "fox",
+            "",
+            "brown",
+            "",
+            "quick",
+            "",
+        ],
+        "The quick brown fox.",
+        "The   .",
+        Ok(Outcome::Found),
+    ),
+    (
+        "replace no word in a stream",
+        &["sreplace", "std", "noncontiguous"],
+        "ushers\n",
+        "ushers\n",
+        Ok(Outcome::Found),
+    ),
+    (
+        "replace no word in an empty stream",
+        &["sreplace", "std", "noncontiguous"],
+        "",
+        "",
+        Ok(Outcome::Found),
+    ),
+    (
+        "replace in a stream what does not occur",
+        &["sreplace", "std", "noncontiguous", "she", "he"],
+        "h, e and s",
+        "h, e and s",
+        Ok(Outcome::Found),
+    ),
+    (
+        "replace in a stream by longest",
+        &["sreplace", "longest", "noncontiguous", "a", "b"],
+        "a",
+        "",
+        Err(Fault::StreamKind),
+    ),
+    (
+        "replace an empty word in a stream",
+        &["sreplace", "std", "noncontiguous", "", "-"],
+        "ab",
+        "",
+        Err(Fault::StreamEmpty),
+    ),
+    (
+        "replace a word by no text in a stream",
+        &["sreplace", "std", "noncontiguous", "a", "b", "c"],
+        "ushers",
+        "",
+        Err(Fault::Usage),
+    ),
     ("no word", &[], "ushers", "", Err(Fault::Usage)),
     (
         "two words",
@@ -296,8 +442,15 @@ const ENDINGS: &[(Ending, u8, &str)] = &[
         2,
         "acs: overlapping search needs std",
     ),
+    (Err(Fault::StreamKind), 2, "acs: stream search needs std"),
+    (
+        Err(Fault::StreamEmpty),
+        2,
+        "acs: stream search refuses an empty pattern",
+    ),
     (Err(Fault::Io), 2, "acs: input or output failed"),
     (Err(Fault::WriteZero), 2, "acs: output took no byte"),
+    (Err(Fault::TooLong), 2, "acs: stream too long"),
 ];
 
 /// The words of a walk, its input and its lines.
@@ -307,13 +460,31 @@ const INPUT: &[u8] = b"abcxab";
 
 const LINES: &[u8] = b"0 0 2\n1 2 3\n0 4 6\n";
 
-/// The words of a walk and of a replacement over this input, and what each writes.
+/// The words of a walk and of a replacement over this input, which is read whole first, and what each writes.
 const WRITTEN: &[(&[&str], &[u8])] = &[
     (WORDS, LINES),
     (
         &["replace", "std", "noncontiguous", "ab", "-", "c", "+"],
         b"-+x-",
     ),
+];
+
+/// The words of the same in a stream.
+const STREAMED: &[(&[&str], &[u8])] = &[
+    (&["stream", "std", "auto", "ab", "c"], LINES),
+    (&["sreplace", "std", "auto", "ab", "-", "c", "+"], b"-+x-"),
+];
+
+/// What was written of either when the first bytes of the input, so many as the place here, were read and no more came: the
+/// lines of the matches so far, and the replaced text but for an `a` that may be the first byte of a match.
+const SO_FAR: &[(&[u8], &[u8])] = &[
+    (b"", b""),
+    (b"", b""),
+    (b"0 0 2\n", b"-"),
+    (b"0 0 2\n1 2 3\n", b"-+"),
+    (b"0 0 2\n1 2 3\n", b"-+"),
+    (b"0 0 2\n1 2 3\n", b"-+x"),
+    (LINES, b"-+x-"),
 ];
 
 /// Gives its bytes one a call, and behind them the end or a failure.
@@ -537,6 +708,41 @@ fn a_failed_read_is_told(rt: HostRuntime) -> Result<(), Fail> {
     Ok(())
 }
 
+/// Before each read of a stream all is written that is settled: it stands where the read fails.
+#[test]
+fn a_failed_read_leaves_what_is_settled(rt: HostRuntime) -> Result<(), Fail> {
+    for (k, &(lines, replaced)) in SO_FAR.iter().enumerate() {
+        for (&(words, _), so_far) in STREAMED.iter().zip([lines, replaced]) {
+            let mut reader = FromRead::new(Drops {
+                left: &INPUT[..k],
+                fails: true,
+            });
+            let mut writer = Written::new(rt.alloc());
+            let answer = run(rt.alloc(), words, &mut reader, &mut writer);
+            assert_eq!(rt; answer, Err(Fault::Io), "behind {k} bytes");
+            assert_eq!(rt; writer.bytes(), so_far, "behind {k} bytes");
+        }
+    }
+    Ok(())
+}
+
+/// A reader fails in the middle of a word that may be exchanged.
+#[test]
+fn a_failed_read_holds_back_what_may_match(rt: HostRuntime) -> Result<(), Fail> {
+    let words = [
+        "sreplace", "std", "auto", "fox", "sloth", "brown", "grey", "quick", "slow",
+    ];
+    let mut reader = FromRead::new(Drops {
+        left: b"The quick br",
+        fails: true,
+    });
+    let mut writer = Written::new(rt.alloc());
+    let answer = run(rt.alloc(), &words, &mut reader, &mut writer);
+    assert_eq!(rt; answer, Err(Fault::Io));
+    assert_eq!(rt; writer.bytes(), b"The slow".as_slice());
+    Ok(())
+}
+
 #[test]
 fn a_read_of_nothing_is_the_end(rt: HostRuntime) -> Result<(), Fail> {
     let mut left = Vec::new(rt.alloc());
@@ -554,9 +760,20 @@ fn a_read_of_nothing_is_the_end(rt: HostRuntime) -> Result<(), Fail> {
     Ok(())
 }
 
+/// Words of modes that a kind or an empty word refuses, and the fault.
+const REFUSED: &[(&[&str], Fault)] = &[
+    (&["overlap", "first", "auto", "a"], Fault::OverlappingKind),
+    (&["overlap", "longest", "auto", "a"], Fault::OverlappingKind),
+    (&["stream", "first", "auto", "a"], Fault::StreamKind),
+    (&["stream", "longest", "auto", "a", ""], Fault::StreamKind),
+    (&["stream", "std", "auto", "a", ""], Fault::StreamEmpty),
+    (&["sreplace", "first", "auto", "a", "b"], Fault::StreamKind),
+    (&["sreplace", "std", "auto", "", "b"], Fault::StreamEmpty),
+];
+
 #[test]
-fn overlap_by_a_leftmost_kind_reads_and_writes_nothing(rt: HostRuntime) -> Result<(), Fail> {
-    for kind in ["first", "longest"] {
+fn a_refused_mode_reads_and_writes_nothing(rt: HostRuntime) -> Result<(), Fail> {
+    for &(words, fault) in REFUSED {
         let mut left = Vec::new(rt.alloc());
         left.extend_from_slice(INPUT)?;
         let mut reader = FromRead::new(Pauses {
@@ -564,20 +781,19 @@ fn overlap_by_a_leftmost_kind_reads_and_writes_nothing(rt: HostRuntime) -> Resul
             until: usize::MAX,
         });
         let mut writer = Written::new(rt.alloc());
-        let words = ["overlap", kind, "auto", "a"];
-        let answer = run(rt.alloc(), &words, &mut reader, &mut writer);
+        let answer = run(rt.alloc(), words, &mut reader, &mut writer);
         drop(reader);
-        assert_eq!(rt; answer, Err(Fault::OverlappingKind), "{kind}");
-        assert_eq!(rt; status(&answer), 2, "{kind}");
-        assert!(rt; writer.bytes().is_empty(), "{kind}");
-        assert_eq!(rt; left.as_slice(), INPUT, "{kind}");
+        assert_eq!(rt; answer, Err(fault), "{words:?}");
+        assert_eq!(rt; status(&answer), 2, "{words:?}");
+        assert!(rt; writer.bytes().is_empty(), "{words:?}");
+        assert_eq!(rt; left.as_slice(), INPUT, "{words:?}");
     }
     Ok(())
 }
 
 #[test]
 fn a_failed_write_is_told(rt: HostRuntime) -> Result<(), Fail> {
-    for &(words, wanted) in WRITTEN {
+    for &(words, wanted) in WRITTEN.iter().chain(STREAMED) {
         for room in 0..wanted.len() {
             for (fails, fault) in [(true, Fault::Io), (false, Fault::WriteZero)] {
                 let mut held = Vec::new(rt.alloc());
@@ -599,7 +815,7 @@ fn a_failed_write_is_told(rt: HostRuntime) -> Result<(), Fail> {
 
 #[test]
 fn short_reads_and_writes_change_nothing(rt: HostRuntime) -> Result<(), Fail> {
-    for &(words, wanted) in WRITTEN {
+    for &(words, wanted) in WRITTEN.iter().chain(STREAMED) {
         let mut held = Vec::new(rt.alloc());
         let mut reader = FromRead::new(Drops {
             left: INPUT,
@@ -675,7 +891,7 @@ fn run_large(rt: HostRuntime, mode: &str, input: &[u8], wanted: &[u8]) -> Result
     let more = many_words(rt.alloc())?;
     for kind in ["std", "first", "longest"] {
         for engine in ["noncontiguous", "contiguous", "dfa", "auto"] {
-            if mode == "overlap" && kind != "std" {
+            if kind != "std" && ["overlap", "stream", "sreplace"].contains(&mode) {
                 continue;
             }
             let words = words_of(rt.alloc(), mode, kind, engine, &more)?;
@@ -702,7 +918,9 @@ fn large_runs_are_answered(rt: HostRuntime) -> Result<(), Fail> {
     }
     run_large(rt, "walk", &input, lines.as_bytes())?;
     run_large(rt, "overlap", &input, lines.as_bytes())?;
+    run_large(rt, "stream", &input, lines.as_bytes())?;
     let mut replaced = Vec::new(rt.alloc());
     replaced.resize(LONG, b'b')?;
-    run_large(rt, "replace", &input, &replaced)
+    run_large(rt, "replace", &input, &replaced)?;
+    run_large(rt, "sreplace", &input, &replaced)
 }

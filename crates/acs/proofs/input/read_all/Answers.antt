@@ -1,7 +1,7 @@
 use Rattle.std.proofs.lemmas.List.{length-take-le}
 use Rattle.std.proofs.Common.{length-append, ◌≡◌, ℕ, List, ◌++◌, length, take, ap, sym, ◌∙◌, subst, refl, arith, inr}
 use Rattle.std.specs.Io.KnownBytes.{Consumes}
-use Rattle.acs.specs.Runs.{FailsToRead}
+use Rattle.acs.specs.Modes.{FailsToReadAll}
 use Rattle.ac_util.proofs.Devices.{not-empty, read-more}
 use Rattle.ac_automaton.proofs.Places.{refused-by, written-whole}
 use Rattle.acs.proofs.input.read_all.Goals as goal
@@ -10,7 +10,7 @@ pub returns-in_err-extend_from_slice-in-Ok : goal.returns-in_err-extend_from_sli
 returns-in_err-extend_from_slice-in-Ok g c =
     let told = g.R.Source.told in
     refused-by c.from_residual-in_err-extend_from_slice-in-Ok.result _ _
-    (FailsToRead (told c.args.reader.now) (told c.read_some.new.self))
+    (FailsToReadAll (told c.args.reader.now) (told c.read_some.new.self))
     c.from_residual-in_err-extend_from_slice-in-Ok.ensures.1
     (record {
       bytes = c.loop.bytes.items ++ take c.in-Ok.n c.read_some.new.into;

@@ -4,7 +4,7 @@ use Rattle.std.proofs.KnownBytes.{Appends-nil}
 use Rattle.ac_util.specs.Occurrence.{Occurrence}
 use Rattle.acs.specs.declared.fault.Fault.TheVariants.{Memory}
 use Rattle.acs.specs.Lines.{line, lines}
-use Rattle.acs.specs.Runs.{FailsToPrint}
+use Rattle.acs.specs.Modes.{FailsToPrint}
 use Rattle.ac_automaton.proofs.Places.{refused-by}
 use Rattle.acs.proofs.Printing.{line-some}
 use Rattle.acs.proofs.output.print_found.Goals as goal

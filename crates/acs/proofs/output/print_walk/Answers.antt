@@ -1,6 +1,6 @@
 use Rattle.std.proofs.Common.{sym}
 use Rattle.acs.specs.Lines.{lines}
-use Rattle.acs.specs.Runs.{FailsToPrint}
+use Rattle.acs.specs.Modes.{FailsToPrint}
 use Rattle.ac_automaton.proofs.Places.{refused-by}
 use Rattle.acs.proofs.Printing.{printing-begins}
 use Rattle.acs.proofs.output.print_walk.Goals as goal

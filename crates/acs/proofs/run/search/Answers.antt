@@ -1,30 +1,52 @@
 use Rattle.ac_util.specs.Borrowed.{bytes_of}
-use Rattle.acs.proofs.Replacing.{replaced-ends, texts-fit}
+use Rattle.acs.proofs.Serving.{run-by, serves}
 use Rattle.acs.proofs.run.search.Goals as goal
 
--- there is a text for each pattern
-pub replace_all_bytes-requires-clause-texts : goal.replace_all_bytes-requires-clause-texts
-replace_all_bytes-requires-clause-texts g c =
-    rw c.deref-in-Replace-2.ensures.value
-    (texts-fit {request = c.args.request} {words = bytes_of c.args.words.now} (record {
-      replacing = c.in-Replace.is;
-      patterns_are = c.in_ok-patterns.ensures;
-      texts_are = c.in_ok-texts-in-Replace.ensures;
-      built = rw c.deref.ensures.value at c.in_ok-searcher.ensures;
-    }))
+-- in each mode: what the mode answers the run does
+pub returns-in-Find : goal.returns-in-Find
+returns-in-Find g c =
+    run-by {words = bytes_of c.args.words.now}
+    (serves c.in_ok-patterns.patterns.items c.in-Find.is c.in_ok-patterns.ensures
+    (rw c.deref.ensures.value at c.in_ok-searcher.ensures))
+    g.R.Source.empty_means_end (g.R.Source.told c.args.reader.now) (g.R.Source.told c.find.new.reader)
+    (g.W.Sink.told c.args.writer.now) (g.W.Sink.told c.find.new.writer) c.find.result c.find.ensures
 
--- the replaced text was written, or could not be
+pub returns-in-Walk : goal.returns-in-Walk
+returns-in-Walk g c =
+    run-by {words = bytes_of c.args.words.now}
+    (serves c.in_ok-patterns.patterns.items c.in-Walk.is c.in_ok-patterns.ensures
+    (rw c.deref.ensures.value at c.in_ok-searcher.ensures))
+    g.R.Source.empty_means_end (g.R.Source.told c.args.reader.now) (g.R.Source.told c.walk.new.reader)
+    (g.W.Sink.told c.args.writer.now) (g.W.Sink.told c.walk.new.writer) c.walk.result c.walk.ensures
+
+pub returns-in-Overlap : goal.returns-in-Overlap
+returns-in-Overlap g c =
+    run-by {words = bytes_of c.args.words.now}
+    (serves c.in_ok-patterns.patterns.items c.in-Overlap.is c.in_ok-patterns.ensures
+    (rw c.deref.ensures.value at c.in_ok-searcher.ensures))
+    g.R.Source.empty_means_end (g.R.Source.told c.args.reader.now) (g.R.Source.told c.overlap.new.reader)
+    (g.W.Sink.told c.args.writer.now) (g.W.Sink.told c.overlap.new.writer) c.overlap.result c.overlap.ensures
+
+pub returns-in-Stream : goal.returns-in-Stream
+returns-in-Stream g c =
+    run-by {words = bytes_of c.args.words.now}
+    (serves c.in_ok-patterns.patterns.items c.in-Stream.is c.in_ok-patterns.ensures
+    (rw c.deref.ensures.value at c.in_ok-searcher.ensures))
+    g.R.Source.empty_means_end (g.R.Source.told c.args.reader.now) (g.R.Source.told c.stream.new.reader)
+    (g.W.Sink.told c.args.writer.now) (g.W.Sink.told c.stream.new.writer) c.stream.result c.stream.ensures
+
+pub returns-in-Replace : goal.returns-in-Replace
+returns-in-Replace g c =
+    run-by {words = bytes_of c.args.words.now}
+    (serves c.in_ok-patterns.patterns.items c.in-Replace.is c.in_ok-patterns.ensures
+    (rw c.deref.ensures.value at c.in_ok-searcher.ensures))
+    g.R.Source.empty_means_end (g.R.Source.told c.args.reader.now) (g.R.Source.told c.replace.new.reader)
+    (g.W.Sink.told c.args.writer.now) (g.W.Sink.told c.replace.new.writer) c.replace.result c.replace.ensures
+
 pub returns : goal.returns
 returns g c =
-    let read = g.R.Source.told in
-    let wrote = g.W.Sink.told in
-    replaced-ends {request = c.args.request} {words = bytes_of c.args.words.now} (record {
-      replacing = c.in-Replace.is;
-      patterns_are = c.in_ok-patterns.ensures;
-      texts_are = c.in_ok-texts-in-Replace.ensures;
-      built = rw c.deref.ensures.value at c.in_ok-searcher.ensures;
-    }) c.in_ok-haystack.haystack.items c.in_ok-whole-in-Replace.whole.items
-    (rw (c.deref-in-Replace.ensures.value, c.deref-in-Replace-2.ensures.value) at c.in_ok-whole-in-Replace.ensures)
-    g.R.Source.empty_means_end (read c.args.reader.now) (read c.read_all.new.reader) (wrote c.args.writer.now)
-    (wrote c.print_text.new.writer) c.print_text.result c.in_ok-check_request.ensures c.in_ok-haystack.ensures
-    (rw c.deref-in-Replace-3.ensures.value at c.print_text.ensures)
+    run-by {words = bytes_of c.args.words.now}
+    (serves c.in_ok-patterns.patterns.items c.in-StreamReplace.is c.in_ok-patterns.ensures
+    (rw c.deref.ensures.value at c.in_ok-searcher.ensures))
+    g.R.Source.empty_means_end (g.R.Source.told c.args.reader.now) (g.R.Source.told c.replace_stream.new.reader)
+    (g.W.Sink.told c.args.writer.now) (g.W.Sink.told c.replace_stream.new.writer) c.replace_stream.result c.replace_stream.ensures

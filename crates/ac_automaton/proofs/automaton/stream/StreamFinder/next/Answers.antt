@@ -1,7 +1,6 @@
 use Rattle.std.proofs.Common.{◌≡◌, ◌∙◌, ◌+◌, ◌++◌, Bool, length, length-append, sym, subst, ap, arith}
 use Rattle.std.specs.Prelude.{MatchBool}
-use Rattle.std.proofs.KnownBytes.{Consumes-trans}
-use Rattle.ac_util.proofs.Devices.{fails-on}
+use Rattle.ac_util.proofs.Devices.{fails-on, reads-on}
 use Rattle.ac_automaton.specs.Streams.{FillsMore, HasGivenAll, MeetsEnd, Streaming, matches_so_far}
 use Rattle.ac_automaton.proofs.StreamFilling.{failed-as, read-as}
 use Rattle.ac_automaton.proofs.automaton.stream.StreamFinder.next.Goals as goal
@@ -50,12 +49,7 @@ loop-found-preserved g c =
     let all : HasGivenAll c.loop-found.self c.next_read.new.self = c.in_default.ensures in
     record {
       more = read.more ++ fills.more;
-      reads = record {
-        moved = Consumes-trans (told c.args.reader.now).left (told c.loop-found.reader).left (told c.fill.new.reader).left
-            read.more fills.more read.reads.moved fills.reads.moved;
-        failed = fills.reads.failed ∙ read.reads.failed;
-        empties = fills.reads.empties ∙ read.reads.empties;
-      };
+      reads = reads-on read.reads fills.reads;
       goes_on = read.goes_on;
       same = read-as c.args.self.now c.loop-found.self c.next_read.new.self c.fill.new.self read.more fills.more read.same all
           fills.same;

@@ -1,0 +1,89 @@
+-- How modes end: a replacement in memory, and the modes on a stream.
+use Rattle.std.proofs.Common.{◌≡◌, ℕ, List, ap, sym, ◌∙◌, subst, refl, inl, inr, Bool, None, Some}
+use Rattle.std.specs.Prelude.{MatchResult, Result, Ok, Err}
+use Rattle.ac_util.specs.declared.device.WriteError.{WriteError}
+use Rattle.ac_util.specs.declared.device.WriteError.TheVariants.{Io as WriteFailed, WriteZero as WroteNothing}
+use Rattle.ac_util.specs.declared.error.StreamError.{StreamError}
+use Rattle.ac_util.specs.declared.error.StreamError.TheVariants.{Io as DeviceFailed, Match as Refused, Memory as NoBuffer, TooLong as StreamTooLong, WriteZero as TookNothing}
+use Rattle.ac_util.specs.Built.{Built, exchanged, stream_refusal}
+use Rattle.ac_util.specs.Device.{Reading, ReadsAll, Writing, WritesAll, WritesUntilFailure}
+use Rattle.ac_util.specs.Replaced.{replaced}
+use Rattle.ac_util.specs.Stream.{error_of}
+use Rattle.ac_util.specs.StreamReplacing.{FailsToReplace, IsRefused}
+use Rattle.ac_automaton.specs.Streams.{Streaming}
+use Rattle.ac_search.specs.StreamsBegun.{HasBegun}
+use Rattle.acs.specs.declared.fault.Fault.{Fault}
+use Rattle.acs.specs.declared.request.Mode.{Mode}
+use Rattle.acs.specs.declared.request.Mode.TheVariants.{Replace, Stream, StreamReplace}
+use Rattle.acs.specs.declared.run.Outcome.{Outcome}
+use Rattle.acs.specs.declared.run.Outcome.TheVariants.{Found}
+use Rattle.acs.specs.Faults.{stream_fault_of}
+use Rattle.acs.specs.Modes.{Answers, AnswersOrFails, FailsAtFirst, FailsOnStream, FailsToAnswer, FailsToWrite, mode_refusal}
+use Rattle.acs.specs.Printed.{FailsToPrintStream, PrintsStream}
+
+-- the fault of a write that has failed, or took nothing
+write-fails : {old new : Writing} {bytes : List ℕ} {fault : Fault} (failure : WriteError)
+    → fault ≡ stream_fault_of (error_of failure) → WritesUntilFailure old new bytes failure
+    → FailsToWrite old new bytes fault
+write-fails (WriteFailed e) is fails =
+    record { some = fails.some; cause = inl (is, fails.cause.0, fails.cause.1) }
+write-fails WroteNothing is fails =
+    record { some = fails.some; cause = inr (is, fails.cause.0, fails.cause.1) }
+
+module _ (built : Built) (texts : List (List ℕ)) (ends : Bool) (reader new_reader : Reading) (writer new_writer : Writing) where
+  -- the replaced text of a haystack was written, or could not be
+  pub replaced-ends : (haystack whole : List ℕ) (r : Result Outcome Fault)
+      → whole ≡ replaced haystack texts (exchanged built haystack) → ReadsAll ends reader new_reader haystack
+      → MatchResult r (λ outcome. WritesAll writer new_writer whole × (outcome ≡ Found)) (FailsToWrite writer new_writer whole)
+      → AnswersOrFails ends Replace built texts reader new_reader writer new_writer r
+  replaced-ends haystack whole (Ok outcome) is reads w =
+      record { served = refl; haystack = haystack; reads = reads; writes = rw (sym is) w.0; outcome_is = w.1 }
+  replaced-ends haystack whole (Err fault) is reads f =
+      inr (inr (record { served = refl; haystack = haystack; reads = reads; writes = rw (sym is) (inl f) }))
+
+  -- the searcher refuses the mode, or memory was refused
+  pub refused-first : (mode : Mode) (unchanged : Type 0) (e : StreamError) (fault : Fault) → fault ≡ stream_fault_of e
+      → (unchanged → (new_reader ≡ reader) × (new_writer ≡ writer)) → IsRefused (mode_refusal mode built) unchanged e
+      → FailsAtFirst ends mode built texts reader new_reader writer new_writer fault
+  refused-first mode unchanged (Refused m) fault is same refusal = (
+    inl (rw refusal.0 (ap (λ (f : Fault). Some f) (sym is))),
+    (same refusal.1).0,
+    (same refusal.1).1,
+  )
+  refused-first mode unchanged NoBuffer fault is same refusal =
+      (inr is, (same refusal.1).0, (same refusal.1).1)
+  refused-first mode unchanged (DeviceFailed e) fault is same refusal = absurd refusal
+  refused-first mode unchanged TookNothing fault is same refusal = absurd refusal
+  refused-first mode unchanged StreamTooLong fault is same refusal = absurd refusal
+
+  -- the lines of a stream were printed, or a read or a write has failed
+  pub stream-printed : (begun : Streaming) (r : Result Outcome Fault) → stream_refusal built ≡ None → HasBegun built begun
+      → MatchResult r (PrintsStream ends begun.built reader new_reader writer new_writer)
+      (FailsToPrintStream ends begun.built reader new_reader writer new_writer)
+      → AnswersOrFails ends Stream built texts reader new_reader writer new_writer r
+  stream-printed begun (Ok outcome) served is prints =
+      let p = subst (λ (b : Built). PrintsStream ends b reader new_reader writer new_writer outcome)
+      (ap (λ (v : Streaming). v.built) is.1) prints in
+      record { served = served; haystack = p.bytes; reads = p.reads; writes = p.writes; outcome_is = p.outcome_is }
+  stream-printed begun (Err fault) served is fails =
+      let f = subst (λ (b : Built). FailsToPrintStream ends b reader new_reader writer new_writer fault)
+      (ap (λ (v : Streaming). v.built) is.1) fails in
+      inr (served, record { bytes = f.bytes; cause = f.cause })
+
+  -- a read or a write has failed while a stream was replaced
+  pub replacing-fails : (e : StreamError) (fault : Fault) → fault ≡ stream_fault_of e → stream_refusal built ≡ None
+      → FailsToReplace built texts writer new_writer ends reader new_reader e
+      → FailsToAnswer ends StreamReplace built texts reader new_reader writer new_writer fault
+  replacing-fails e fault is served fails = inr (
+    served,
+    record {
+      bytes = fails.0;
+      cause = elim fails.1 [
+        | inl read ↦ inl (e, is, read.0, read.1)
+        | inr write ↦ inr (
+          write.0,
+          write-fails write.1.0 (is ∙ ap stream_fault_of write.1.1) write.1.2,
+        )
+      ];
+    },
+  )

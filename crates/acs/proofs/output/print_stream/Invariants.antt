@@ -1,0 +1,13 @@
+use Rattle.std.proofs.Common.{◌-◌}
+use Rattle.std.specs.Prelude.{string_bytes}
+use Rattle.acs.proofs.Streaming.{IsPrintingStream}
+use Rattle.acs.proofs.output.print_stream.Given as goal
+
+-- the lines of all matches so far are written
+abbrev pub invariant-loop-item : goal.invariant-loop-item
+invariant-loop-item g l =
+    IsPrintingStream l.fn.finder.built l.finder (g.R.Source.told l.fn.reader) (g.R.Source.told l.reader)
+    (g.W.Sink.told l.fn.writer) (g.W.Sink.told l.writer) (string_bytes l.text) l.outcome
+
+abbrev pub decreases-loop-item : goal.decreases-loop-item
+decreases-loop-item g l = 18446744073709551615 - l.finder.given

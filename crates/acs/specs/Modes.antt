@@ -1,0 +1,116 @@
+-- What a mode does to the reader and the writer of a run, by a searcher that is built.
+use Rattle.std.specs.Prelude.{◌≡◌, ◌⊎◌, ℕ, ◌+◌, Bool, List, [], MatchResult, Option, None, Some, Result, option_map}
+use Rattle.std.specs.Io.KnownBytes.{Consumes}
+use Rattle.ac_util.specs.declared.error.MatchError.{MatchError}
+use Rattle.ac_util.specs.declared.error.StreamError.{StreamError}
+use Rattle.ac_util.specs.Asked.{asked_whole}
+use Rattle.ac_util.specs.Built.{Built, overlapping_iter_refusal, stream_refusal}
+use Rattle.ac_util.specs.Device.{Reading, ReadsAll, ReadsSome, Writing, WritesAll, WritesSome}
+use Rattle.ac_util.specs.Stream.{held, without_last}
+use Rattle.ac_util.specs.StreamReplacing.{FailsToRead}
+use Rattle.acs.specs.declared.fault.Fault.{Fault}
+use Rattle.acs.specs.declared.fault.Fault.TheVariants.{Io, Memory, WriteZero}
+use Rattle.acs.specs.declared.request.Mode.{Mode}
+use Rattle.acs.specs.declared.request.Mode.TheVariants.{Overlap, Replace, Stream, StreamReplace}
+use Rattle.acs.specs.declared.run.Outcome.{Outcome}
+use Rattle.acs.specs.Faults.{refusal_fault_of, stream_fault_of}
+use Rattle.acs.specs.Lines.{output_of}
+
+-- why a searcher refuses a mode, if it does
+abbrev pub mode_refusal : Mode → Built → Option MatchError
+mode_refusal Overlap built = overlapping_iter_refusal built (asked_whole [])
+mode_refusal Stream built = stream_refusal built
+mode_refusal StreamReplace built = stream_refusal built
+mode_refusal mode built = None
+
+-- a read has failed, or memory was refused and no read has; each read before took something
+pub record FailsToReadAll (old new : Reading) (fault : Fault) : Type 0 where
+  pub bytes : List ℕ
+  pub moved : Consumes old.left new.left bytes
+  pub empties : new.empties ≡ old.empties
+  pub cause : ((fault ≡ Io) × (new.failed ≡ old.failed + 1)) ⊎ ((fault ≡ Memory) × (new.failed ≡ old.failed))
+
+-- a beginning of the bytes was written, and then a write has failed or took nothing
+pub record FailsToWrite (old new : Writing) (bytes : List ℕ) (fault : Fault) : Type 0 where
+  pub some : WritesSome old new bytes
+  pub cause : ((fault ≡ Io) × (new.failed ≡ old.failed + 1) × (new.idles ≡ old.idles))
+      ⊎ ((fault ≡ WriteZero) × (new.failed ≡ old.failed) × (new.idles ≡ old.idles + 1))
+
+-- the same, or memory was refused and each write took something
+abbrev pub FailsToPrint : Writing → Writing → List ℕ → Fault → Type 0
+FailsToPrint old new bytes fault =
+    FailsToWrite old new bytes fault
+    ⊎ ((fault ≡ Memory) × WritesSome old new bytes × (new.failed ≡ old.failed) × (new.idles ≡ old.idles))
+
+-- the same for what a mode writes: lines are written while others are made, but a replaced text is whole before its
+-- first byte is written, so nothing was written where memory was refused for it. For a replaced stream none is asked for
+abbrev pub FailsToWriteFor : Mode → Writing → Writing → List ℕ → Fault → Type 0
+FailsToWriteFor Replace old new bytes fault = FailsToWrite old new bytes fault ⊎ ((fault ≡ Memory) × (new ≡ old))
+FailsToWriteFor StreamReplace old new bytes fault = FailsToWrite old new bytes fault
+FailsToWriteFor mode old new bytes fault = FailsToPrint old new bytes fault
+
+-- what a mode has written at a read, when a stream has given these bytes: the lines of all their matches; of their
+-- replaced text all but the bytes held back
+abbrev pub settled_text : Mode → Built → List (List ℕ) → List ℕ → List ℕ
+settled_text StreamReplace built texts bytes =
+    without_last (held built bytes) (output_of StreamReplace built texts bytes).text
+settled_text mode built texts bytes = (output_of mode built texts bytes).text
+
+-- some bytes of a stream came, and then a read has failed, or brought more than usize counts: what is settled was written.
+-- Or they came, with the end or without it, and what the mode writes for them couldn't be written
+pub record FailsOnStream (ends : Bool) (reader new_reader : Reading) (writer new_writer : Writing)
+    (mode : Mode) (built : Built) (texts : List (List ℕ)) (fault : Fault) : Type 0 where
+  pub bytes : List ℕ
+  pub cause : ((e : StreamError) × (fault ≡ stream_fault_of e) × FailsToRead 0 reader new_reader bytes e
+          × WritesAll writer new_writer (settled_text mode built texts bytes))
+      ⊎ ((ReadsSome reader new_reader bytes ⊎ ReadsAll ends reader new_reader bytes)
+          × FailsToWriteFor mode writer new_writer (output_of mode built texts bytes).text fault)
+
+module _ (ends : Bool) (mode : Mode) (built : Built) (texts : List (List ℕ)) (reader new_reader : Reading)
+    (writer new_writer : Writing) where
+  -- the searcher doesn't refuse the mode; all that the reader gave was read, what the mode writes for it was written, and the
+  -- run ends as that does. `ends` is whether the reader's bytes are at their end where it gives none
+  pub record Answers (outcome : Outcome) : Type 0 where
+    pub served : mode_refusal mode built ≡ None
+    pub haystack : List ℕ
+    pub reads : ReadsAll ends reader new_reader haystack
+    pub writes : WritesAll writer new_writer (output_of mode built texts haystack).text
+    pub outcome_is : outcome ≡ (output_of mode built texts haystack).outcome
+
+  -- the searcher refuses the mode, or memory was refused: reader and writer are as they were
+  abbrev pub FailsAtFirst : Fault → Type 0
+  FailsAtFirst fault =
+      ((option_map refusal_fault_of (mode_refusal mode built) ≡ Some fault) ⊎ (fault ≡ Memory))
+      × (new_reader ≡ reader)
+      × (new_writer ≡ writer)
+
+  -- the mode wasn't refused, and has failed while it read, with nothing written
+  abbrev pub FailsReading : Fault → Type 0
+  FailsReading fault =
+      (mode_refusal mode built ≡ None) × FailsToReadAll reader new_reader fault × (new_writer ≡ writer)
+
+  -- or while it wrote, with all read that the reader gave
+  pub record FailsPrinting (fault : Fault) : Type 0 where
+    pub served : mode_refusal mode built ≡ None
+    pub haystack : List ℕ
+    pub reads : ReadsAll ends reader new_reader haystack
+    pub writes : FailsToWriteFor mode writer new_writer (output_of mode built texts haystack).text fault
+
+  -- or while it read and wrote in turn
+  abbrev pub FailsStreaming : Fault → Type 0
+  FailsStreaming fault =
+      (mode_refusal mode built ≡ None) × FailsOnStream ends reader new_reader writer new_writer mode built texts fault
+
+  -- a mode on a stream reads and writes in turn, the others read first
+  abbrev pub FailsLater : Mode → Fault → Type 0
+  FailsLater Stream fault = FailsStreaming fault
+  FailsLater StreamReplace fault = FailsStreaming fault
+  FailsLater other fault = FailsReading fault ⊎ FailsPrinting fault
+
+  -- the mode has failed for its cause: before the first read, or later
+  abbrev pub FailsToAnswer : Fault → Type 0
+  FailsToAnswer fault = FailsAtFirst fault ⊎ FailsLater mode fault
+
+  -- it has answered, or failed
+  abbrev pub AnswersOrFails : Result Outcome Fault → Type 0
+  AnswersOrFails result = MatchResult result Answers FailsToAnswer
