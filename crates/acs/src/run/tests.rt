@@ -891,7 +891,8 @@ fn run_large(rt: HostRuntime, mode: &str, input: &[u8], wanted: &[u8]) -> Result
     let more = many_words(rt.alloc())?;
     for kind in ["std", "first", "longest"] {
         for engine in ["noncontiguous", "contiguous", "dfa", "auto"] {
-            if kind != "std" && ["overlap", "stream", "sreplace"].contains(&mode) {
+            let wants_standard = matches!(mode, "overlap" | "stream" | "sreplace");
+            if wants_standard && kind != "std" {
                 continue;
             }
             let words = words_of(rt.alloc(), mode, kind, engine, &more)?;
