@@ -62,9 +62,9 @@ pub record FailsOnStream (ends : Bool) (reader new_reader : Reading) (writer new
     (mode : Mode) (built : Built) (texts : List (List ℕ)) (fault : Fault) : Type 0 where
   pub bytes : List ℕ
   pub cause : ((e : StreamError) × (fault ≡ stream_fault_of e) × FailsToRead 0 reader new_reader bytes e
-          × WritesAll writer new_writer (settled_text mode built texts bytes))
+      × WritesAll writer new_writer (settled_text mode built texts bytes))
       ⊎ ((ReadsSome reader new_reader bytes ⊎ ReadsAll ends reader new_reader bytes)
-          × FailsToWriteFor mode writer new_writer (output_of mode built texts bytes).text fault)
+      × FailsToWriteFor mode writer new_writer (output_of mode built texts bytes).text fault)
 
 module _ (ends : Bool) (mode : Mode) (built : Built) (texts : List (List ℕ)) (reader new_reader : Reading)
     (writer new_writer : Writing) where

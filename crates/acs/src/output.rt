@@ -169,13 +169,7 @@ fn print_read<A: Allocator + Clone, B: Allocator, Z: Allocator, W: Sink>(
 /// # Errors
 /// `Io` where a read fails and `TooLong` where more bytes come than a `usize` counts: the lines of all matches so far were
 /// written then. Those of `print_walk`: a beginning of these lines was written then, and not all of them.
-pub(crate) fn print_stream<
-    A: Allocator + Clone,
-    B: Allocator,
-    Z: Allocator,
-    R: Source,
-    W: Sink,
->(
+pub(crate) fn print_stream<A: Allocator + Clone, B: Allocator, Z: Allocator, R: Source, W: Sink>(
     alloc: A,
     finder: &mut StreamFinder<'_, B, Z>,
     reader: &mut R,

@@ -1,3 +1,4 @@
-//! What holds of searchers for every engine and setting, by runs: over small lists, and past large sizes.
+//! What holds of searchers for every engine and setting, by runs: over small lists and streams, and past large sizes.
 mod large;
 mod small;
+mod streams;

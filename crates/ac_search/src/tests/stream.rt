@@ -305,6 +305,41 @@ fn a_match_spans_two_buffers(rt: HostRuntime) -> Result<(), Fail> {
     Ok(())
 }
 
+/// How long a pattern is, and how many bytes a buffer for it has.
+const BUFFERS: [(usize, usize); 4] = [
+    (3, 65_536),
+    (8_192, 65_536),
+    (8_193, 65_544),
+    (70_000, 560_000),
+];
+
+/// How many bytes stand before the first of two matches in a stream.
+const BEFORE: usize = 100_000;
+
+#[test]
+fn long_patterns_have_long_buffers(rt: HostRuntime) -> Result<(), Fail> {
+    for (len, buffer) in BUFFERS {
+        let mut pattern = Vec::new(rt.alloc());
+        pattern.resize(len.saturating_sub(1), b'a')?;
+        pattern.push(b'b')?;
+        let searcher = AhoCorasick::new(rt.alloc(), &[pattern.as_slice()])?;
+        let mut stream = Vec::new(rt.alloc());
+        stream.resize(BEFORE, b'x')?;
+        stream.extend_from_slice(&pattern)?;
+        stream.extend_from_slice(&pattern)?;
+        let (first, second) = (BEFORE.saturating_add(len), stream.len());
+        for most in [1, 65_537, ALWAYS] {
+            let reader = Pieces::new(&stream, most, ALWAYS);
+            let mut matches = searcher.try_stream_find_iter(rt.alloc(), reader)?;
+            same(&rt, matches.buffer_len(), buffer);
+            same(&rt, told_of(matches.next()), Some(Some((0, BEFORE, first))));
+            same(&rt, told_of(matches.next()), Some(Some((0, first, second))));
+            same(&rt, told_of(matches.next()), None);
+        }
+    }
+    Ok(())
+}
+
 /// A start kind, a match kind, patterns, and why streams are refused.
 type Refusal = (StartKind, MatchKind, &'static [&'static [u8]], MatchError);
 

@@ -15,7 +15,7 @@ const PATTERNS: usize = 15;
 const HAYSTACKS: usize = 127;
 
 /// The engines that are compared.
-const ENGINES: [AhoCorasickKind; 3] = [
+pub(super) const ENGINES: [AhoCorasickKind; 3] = [
     AhoCorasickKind::NoncontiguousNFA,
     AhoCorasickKind::ContiguousNFA,
     AhoCorasickKind::DFA,
@@ -43,7 +43,11 @@ fn word(alloc: Global, letters: [u8; 2], number: usize) -> Result<Vec<u8>, Alloc
 }
 
 /// Returns the first words over two letters, shorter ones first.
-fn words(alloc: Global, letters: [u8; 2], count: usize) -> Result<Vec<Vec<u8>>, AllocError> {
+pub(super) fn words(
+    alloc: Global,
+    letters: [u8; 2],
+    count: usize,
+) -> Result<Vec<Vec<u8>>, AllocError> {
     let mut found = Vec::new(alloc);
     for number in 0..count {
         found.push(word(alloc, letters, number)?)?;

@@ -14,7 +14,7 @@ pub try_stream_replace_all-requires : goal.try_stream_replace_all-requires
 try_stream_replace_all-requires g c = record {
   texts = rw c.deref.ensures.value
       (texts-fit (bytes_of c.args.words.now) c.args.searcher.now.built.patterns c.in_ok-texts.texts.items
-    c.in_ok-texts.ensures c.requires.patterns);
+      c.in_ok-texts.ensures c.requires.patterns);
 }
 
 -- the searcher refuses streams, or a read or a write has failed
@@ -33,8 +33,8 @@ returns-in_err-try_stream_replace_all g c =
     c.from_residual-in_err-try_stream_replace_all.ensures.1
     (elim c.in_err-try_stream_replace_all.ensures [
       | inl refused ↦ inl (refused-first built texts ends reader new_reader writer new_writer StreamReplace _ e
-        (stream_fault_of e) refl
-        (λ same. (ap g.R.Source.told same.0, ap g.W.Sink.told same.1)) refused)
+          (stream_fault_of e) refl
+          (λ same. (ap g.R.Source.told same.0, ap g.W.Sink.told same.1)) refused)
       | inr fails ↦ replacing-fails built texts ends reader new_reader writer new_writer e (stream_fault_of e) refl
-        fails.0 (rw (c.deref.ensures.value, c.in_ok-texts.ensures) at fails.1)
+          fails.0 (rw (c.deref.ensures.value, c.in_ok-texts.ensures) at fails.1)
     ])

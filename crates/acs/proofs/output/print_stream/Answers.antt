@@ -54,7 +54,7 @@ loop-item-smaller g c =
     let gives : GivesNext c.loop-item.finder c.in_ok-m.m w (read c.loop-item.reader) (read c.next.new.reader) =
     rw c.in_ok-m.was at c.in-Some.ensures in
     let printed : HasPrintedRead w c.print_read.new.finder (wrote c.args.writer.now) (wrote c.print_read.new.writer)
-        (string_bytes c.print_read.new.text) Found =
+    (string_bytes c.print_read.new.text) Found =
     c.in_ok-print_read.ensures (wrote c.args.writer.now)
     (c.in_ok-print_line.ensures (matches_so_far w) (drop w.given (matches_so_far w)) (wrote c.args.writer.now)
     c.loop-item.outcome (next-printing c.loop-item.invariant gives)) in
