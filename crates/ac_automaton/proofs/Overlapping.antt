@@ -1,5 +1,5 @@
 -- Overlapping search by a state, and by an iterator: how it begins, and what a call leaves.
-use Rattle.std.proofs.Common.{◌≡◌, ℕ, zero, suc, drop, ◌+◌, ◌<◌, ◌≤◌, List, [], ◌∷◌, length, inl, inr, refl, ap, sym, subst, ◌∙◌, arith, Option, Some, None}
+use Rattle.std.proofs.Common.{◌≡◌, ℕ, zero, suc, drop, ◌<◌, ◌≤◌, List, [], ◌∷◌, length, inl, inr, refl, ap, sym, subst, ◌∙◌, arith, Option, Some, None}
 use Rattle.std.specs.Prelude.{◌⊎◌, IfSome, MatchOption, max, slice_get}
 use Rattle.std.proofs.Math.Seq.{drop-nil}
 use Rattle.ac_util.specs.declared.error.MatchError.{MatchError}

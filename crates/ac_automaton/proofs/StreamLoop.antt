@@ -20,9 +20,9 @@ use Rattle.ac_util.specs.Node.{Node, is_leftmost, reached}
 use Rattle.ac_util.specs.Occurrence.{Occurrence}
 use Rattle.ac_util.specs.Pick.{pick}
 use Rattle.ac_util.specs.Refusal.{Stream, empty_refusal, refusal, start_refusal}
-use Rattle.ac_util.specs.Search.{Occurs, Search, from, pattern_of}
+use Rattle.ac_util.specs.Search.{Occurs, Search, pattern_of}
 use Rattle.ac_util.specs.Sizes.{shortest_len}
-use Rattle.ac_util.specs.Stream.{last_end, reserve, streamed}
+use Rattle.ac_util.specs.Stream.{last_end, streamed}
 use Rattle.ac_util.specs.StreamReplacing.{settled}
 use Rattle.ac_util.specs.Text.{text}
 use Rattle.ac_util.specs.Walk.{IsAfter, next_match, repeats, unless_repeated, walk_after}

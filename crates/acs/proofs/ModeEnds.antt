@@ -18,7 +18,7 @@ use Rattle.acs.specs.declared.request.Mode.TheVariants.{Replace, Stream, StreamR
 use Rattle.acs.specs.declared.run.Outcome.{Outcome}
 use Rattle.acs.specs.declared.run.Outcome.TheVariants.{Found}
 use Rattle.acs.specs.Faults.{stream_fault_of}
-use Rattle.acs.specs.Modes.{Answers, AnswersOrFails, FailsAtFirst, FailsOnStream, FailsToAnswer, FailsToWrite, mode_refusal}
+use Rattle.acs.specs.Modes.{AnswersOrFails, FailsAtFirst, FailsToAnswer, FailsToWrite, mode_refusal}
 use Rattle.acs.specs.Printed.{FailsToPrintStream, PrintsStream}
 
 -- the fault of a write that has failed, or took nothing

@@ -1,15 +1,14 @@
 -- Printing the matches of a stream while it is read.
-use Rattle.std.proofs.Common.{◌≡◌, ◌+◌, ◌≤◌, ◌<◌, ◌-◌, ℕ, List, [], ◌∷◌, ◌++◌, length, length-append, drop, ap, sym, refl, ◌∙◌, subst, arith, inl, inr, Bool}
+use Rattle.std.proofs.Common.{◌≡◌, ◌≤◌, ◌<◌, ◌-◌, ℕ, List, [], ◌∷◌, ◌++◌, length, length-append, drop, ap, sym, refl, ◌∙◌, subst, arith, inl, inr, Bool}
 use Rattle.std.proofs.lemmas.List.{append_assoc, drop-append-le, drop_all}
 use Rattle.std.proofs.lemmas.Option.{slice_get_within}
 use Rattle.std.proofs.KnownBytes.{Appends-nil, Consumes-nil}
 use Rattle.ac_util.specs.declared.error.StreamError.{StreamError}
 use Rattle.ac_util.specs.declared.search.MatchKind.TheVariants.{Standard}
 use Rattle.ac_util.specs.Built.{Built}
-use Rattle.ac_util.specs.Device.{Reading, ReadsAll, ReadsSome, Writing, WritesAll}
+use Rattle.ac_util.specs.Device.{Reading, ReadsSome, Writing, WritesAll}
 use Rattle.ac_util.specs.Occurrence.{Occurrence}
 use Rattle.ac_util.specs.Stream.{streamed}
-use Rattle.ac_util.specs.StreamReplacing.{FailsToRead}
 use Rattle.ac_util.proofs.Devices.{fails-after, reads-on, reads-out}
 use Rattle.ac_util.proofs.GoesOn.{streamed-begins}
 use Rattle.ac_util.proofs.Lists.{drop-slice_get}
