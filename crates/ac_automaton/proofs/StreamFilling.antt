@@ -19,7 +19,7 @@ use Rattle.ac_util.specs.StreamReplacing.{settled}
 use Rattle.ac_util.specs.Walk.{walk_after}
 use Rattle.ac_util.proofs.Longer.{pick-extended, text-extended}
 use Rattle.ac_util.proofs.Spans.{take_drop_take}
-use Rattle.ac_util.proofs.Walks.{walk_after-None}
+use Rattle.ac_util.proofs.Walks.{next-none, walk_after-None}
 use Rattle.ac_automaton.specs.declared.automaton.stream.Phase.{Phase}
 use Rattle.ac_automaton.specs.declared.automaton.stream.Phase.TheVariants.{Failed, Open}
 use Rattle.ac_automaton.specs.Automata.{plain_of}
@@ -29,7 +29,7 @@ use Rattle.ac_automaton.specs.Scans.{Scan, in_memory}
 use Rattle.ac_automaton.specs.Streams.{HasGiven, HasGivenAll, Inside, IsStreaming, Streaming, settled_in, settled_of, stream_begun, stream_from}
 use Rattle.ac_automaton.proofs.FindLoop.{picked-start}
 use Rattle.ac_automaton.proofs.ReadOn.{at-start}
-use Rattle.ac_automaton.proofs.StreamLoop.{allowed-kind, allowed-some, next-none, picked-nothing, scan}
+use Rattle.ac_automaton.proofs.StreamLoop.{allowed-kind, allowed-some, picked-nothing, scan}
 
 -- a search over a stream of which nothing was read
 module _ (stands : ℕ → Node → Type 0) (built : Built) (allowed : stream_refusal built ≡ None) (start : ℕ)

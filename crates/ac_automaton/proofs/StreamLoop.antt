@@ -1,7 +1,7 @@
 -- The search of a stream from where it stands: what its tape shows, what is found next, and what is settled.
 use Rattle.std.proofs.Common.{◌≡◌, ◌≢◌, ◌⊎◌, ℕ, suc, ◌+◌, ◌-◌, ◌<◌, ◌≤◌, Bool, true, false, List, [], ◌∷◌, ◌++◌, length, length-append, length-take, get_or, take, drop, max, inl, inr, refl, ap, sym, subst, ◌∙◌, arith, Option, Some, None}
 use Rattle.std.specs.Prelude.{AllPairs, option_map, slice_get, ◌==◌}
-use Rattle.std.proofs.lemmas.Bool.{cases_lt, and_parts, eqb-true}
+use Rattle.std.proofs.lemmas.Bool.{cases_lt}
 use Rattle.std.proofs.lemmas.List.{append-nil, append_assoc, take-append-drop}
 use Rattle.std.proofs.lemmas.Option.{get_or_from_slice_get, slice_get_within}
 use Rattle.ac_util.specs.declared.error.MatchError.TheVariants.{UnsupportedEmpty}
@@ -25,11 +25,11 @@ use Rattle.ac_util.specs.Sizes.{shortest_len}
 use Rattle.ac_util.specs.Stream.{last_end, streamed}
 use Rattle.ac_util.specs.StreamReplacing.{settled}
 use Rattle.ac_util.specs.Text.{text}
-use Rattle.ac_util.specs.Walk.{IsAfter, next_match, repeats, unless_repeated, walk_after}
+use Rattle.ac_util.specs.Walk.{IsAfter, next_match, walk_after}
 use Rattle.ac_util.proofs.Longer.{pick-extended, text-extended}
 use Rattle.ac_util.proofs.Reached.{reached-alive}
 use Rattle.ac_util.proofs.Shortest.{longest-most, none-empty, shortest-empty}
-use Rattle.ac_util.proofs.Walks.{pick-Occurs, walk-ordered, walk_after-None, walk_after-Some}
+use Rattle.ac_util.proofs.Walks.{next-none, next-some, pick-Occurs, walk-ordered, walk_after-None, walk_after-Some}
 use Rattle.ac_automaton.specs.declared.automaton.scan.Cursor.{Cursor}
 use Rattle.ac_automaton.specs.declared.automaton.stream.Phase.{Phase}
 use Rattle.ac_automaton.specs.declared.automaton.stream.Phase.TheVariants.{Ended, Failed, Open}
@@ -93,25 +93,6 @@ allowed-kind built allowed = (refused-unless built.start_kind built.kind (has_em
 
 pub allowed-some : (built : Built) → stream_refusal built ≡ None → has_empty built ≡ false
 allowed-some built allowed = (refused-unless built.start_kind built.kind (has_empty built) allowed).1
-
--- a pick that isn't empty is the next match
-next-some : (kind : MatchKind) (q : Search) (last : Option ℕ) (m : Occurrence) → pick kind q ≡ Some m → m.start < m.end
-    → next_match kind q last ≡ Some m
-next-some kind q last m is some =
-    ap (λ (r : Option Occurrence). unless_repeated kind q r (repeats r last)) is ∙ by (repeats (Some m) last) refl
-  where
-    repeats-not : (last : Option ℕ) → repeats (Some m) last ≡ true → ⊥
-    repeats-not None e = absurd (cc)
-    repeats-not (Some l) e =
-        let same = eqb-true m.start m.end (and_parts (m.start == m.end) (m.end == l) e).0 in omega arith
-
-    by : (t : Bool) → repeats (Some m) last ≡ t → unless_repeated kind q (Some m) t ≡ Some m
-    by false e = refl
-    by true e = absurd (repeats-not last e)
-
--- without a pick there is none
-pub next-none : (kind : MatchKind) (q : Search) (last : Option ℕ) → pick kind q ≡ None → next_match kind q last ≡ None
-next-none kind q last is = ap (λ (r : Option Occurrence). unless_repeated kind q r (repeats r last)) is
 
 -- the last of the matches with one more
 last_end-more : (ms : List Occurrence) (m : Occurrence) → last_end (ms ++ m ∷ []) ≡ m.end

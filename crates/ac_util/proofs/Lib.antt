@@ -30,6 +30,7 @@ mod ClassRows
 pub mod ReplacementLemmas
 pub mod SearchLoop
 pub mod Shortest
+pub mod Settled
 pub mod Longer
 pub mod GoesOn
 mod SearchRows

@@ -10,6 +10,7 @@ pub mod Replacing
 pub mod Refusal
 pub mod Stream
 pub mod StreamReplacing
+pub mod Settled
 pub mod Node
 pub mod Matches
 pub mod Looks

@@ -1,13 +1,14 @@
 //! For users: what follows from the definitions of what a search answers.
 ghost use Rattle.std.specs.Prelude.{◌≡◌, ℕ, ◌+◌, ◌-◌, ◌<◌, ◌≤◌, ◌++◌, ◌↔◌, ◌⊎◌, nat_le, Bool, true, false};
-ghost use Rattle.std.specs.Prelude.{List, [], ◌∷◌, All, Contains, AllPairs, length, filter, slice_get, take};
+ghost use Rattle.std.specs.Prelude.{List, [], ◌∷◌, All, Contains, AllPairs, drop, length, filter, slice_get, take};
 ghost use Rattle.std.specs.Prelude.{slice_index, Option, None, Some};
 ghost use Rattle.std.specs.Str.{IsCharBoundary, IsUtf8};
 ghost use Rattle.ac_util.specs.declared.search.MatchKind.{MatchKind};
-ghost use Rattle.ac_util.specs.Built.{Built, found, search_in, walked};
+ghost use Rattle.ac_util.specs.Built.{Built, found, has_empty, search_in, walked};
 ghost use Rattle.ac_util.specs.Asked.{Asked};
 ghost use Rattle.ac_util.specs.Inside.{LiesIn};
 ghost use Rattle.ac_util.specs.Listing.{all, IsBefore, item_at, place_after};
+ghost use Rattle.ac_util.specs.Node.{is_leftmost};
 ghost use Rattle.ac_util.specs.Occurrence.{Occurrence};
 ghost use Rattle.ac_util.specs.Pick.{IsPick, order_of, pick};
 ghost use Rattle.ac_util.specs.Replaced.{exchanged_from, is_char_boundary, replaced};
@@ -15,6 +16,7 @@ ghost use Rattle.ac_util.specs.Sameness.{AreOneLetter, IsSame, same_byte, same_s
 ghost use Rattle.ac_util.specs.Search.{Occurs, Search, from, occurs, pattern_of};
 ghost use Rattle.ac_util.specs.declared.error.ReplaceError.{ReplaceError};
 ghost use Rattle.ac_util.specs.Replacement.{AlwaysWrites, AppendsAll, AppendsBeginning, Calls, OnlyAppends, Replacing, ReplacementSteps, WritesText, asked_by};
+ghost use Rattle.ac_util.specs.Settled.{IsSettledAt};
 ghost use Rattle.ac_util.specs.Stream.{streamed};
 ghost use Rattle.ac_util.specs.Text.{cut, outward};
 ghost use Rattle.ac_util.specs.Texts.{AreTexts, IsBetweenCharacters};
@@ -142,6 +144,15 @@ pub fn walk_has_beginnings()
 pub fn stream_goes_on()
     ensures { (built : Built) (bytes more : List ℕ) → built.kind ≡ MatchKind.Standard
         → take (length (streamed built bytes)) (streamed built (bytes ++ more)) ≡ streamed built bytes }
+{}
+
+/// Under a leftmost kind without an empty pattern the matches by which a stream is settled stay as more of it comes, and no
+/// other starts before the place up to which it is.
+pub fn settled_stays()
+    ensures { (built : Built) (bytes more : List ℕ) (given place : ℕ) → is_leftmost built.kind ≡ true
+        → has_empty built ≡ false → IsSettledAt built bytes given place
+        → (take given (streamed built (bytes ++ more)) ≡ take given (streamed built bytes))
+        × All (λ m. place ≤ m.start) (drop given (streamed built (bytes ++ more))) }
 {}
 
 /// Calls that append the text of each pattern and go on leave the replaced text after what was there, and a
