@@ -298,6 +298,12 @@ failed-as old between searched new more read all failed =
     ∙ ap (λ (k : ℕ). record old { bytes = old.bytes ++ more; front = new.front; kept = k; phase = Failed })
     (sym (ap (λ (v : Streaming). v.kept) failed ∙ ap (λ (v : Streaming). v.kept) all.same))
 
+-- of a stream that goes on, at most as many bytes aren't settled as the longest pattern has
+pub settled-near : (v : Streaming) → v.phase ≡ Open → length v.bytes ≤ settled_of v + longest_len v.built.patterns
+settled-near v goes_on =
+    subst (λ (phase : Phase). length v.bytes ≤ settled_in phase (settled v.built v.bytes) (length v.bytes) + longest_len v.built.patterns)
+    (sym goes_on) (let n : length v.bytes ≤ settled v.built v.bytes + longest_len v.built.patterns = omega arith in n)
+
 -- bytes of the stream as they stand in the buffer
 pub buffer-shows : (bytes buffer : List ℕ) (front filled start end : ℕ) → length bytes ≡ front + filled
     → take filled buffer ≡ drop front bytes → front ≤ start → start ≤ end → end ≤ length bytes

@@ -9,6 +9,7 @@ use Rattle.ac_util.specs.Node.{Node}
 use Rattle.ac_util.specs.Occurrence.{Occurrence}
 use Rattle.ac_util.specs.Pick.{pick}
 use Rattle.ac_util.specs.Search.{Search}
+use Rattle.ac_util.specs.Sizes.{longest_len}
 use Rattle.ac_util.specs.Stream.{buffer_len, last_end, reserve, streamed}
 use Rattle.ac_util.specs.StreamReplacing.{FailsToRead, settled}
 use Rattle.ac_util.specs.Walk.{walk_after}
@@ -115,13 +116,19 @@ pub record GivesNext (old : Streaming) (m : Occurrence) (new : Streaming) (reade
     kept = new.kept;
   }
 
--- all matches of what was read were given, and then a read has failed, or brought more than usize counts
+-- how many bytes of a stream are kept
+abbrev pub kept_len : Streaming → ℕ
+kept_len v = length v.bytes - v.kept
+
+-- all matches of what was read were given, and then a read has failed, or brought more than usize counts; no more bytes are
+-- kept than the longest pattern has
 pub record GivesError (old : Streaming) (e : StreamError) (new : Streaming) (reader new_reader : Reading)
     : Type 0 where
   pub open' : old.phase ≡ Open
   pub more : List ℕ
   pub reads : FailsToRead (length old.bytes) reader new_reader more e
   pub all : old.given ≡ length (streamed old.built (old.bytes ++ more))
+  pub few : kept_len new ≤ longest_len old.built.patterns
   pub same : new ≡ record old { bytes = old.bytes ++ more; front = new.front; kept = new.kept; phase = Failed }
 
 -- all matches of what was read were given, and then the end was met

@@ -6,7 +6,7 @@ ghost use Rattle.ac_util.specs.Device.{Reads};
 ghost use Rattle.ac_util.specs.Refusal.{start_refusal};
 ghost use Rattle.ac_util.specs.StreamReplacing.{IsRefused};
 ghost use Rattle.ac_automaton.specs.declared.automaton.stream.Phase.TheVariants.{Open};
-ghost use Rattle.ac_automaton.specs.Streams.{Fills, GivesRead, StreamsOn, settled_in, settled_of, stream_begun};
+ghost use Rattle.ac_automaton.specs.Streams.{Fills, GivesRead, StreamsOn, kept_len, settled_in, settled_of, stream_begun};
 
 use super::Automaton;
 use super::scan::{Cursor, Scanner};
@@ -146,6 +146,15 @@ impl<'a, A: Automaton, Z: Allocator> StreamFinder<'a, A, Z> {
         ensures { result ≡ self.now.buffer }
     {
         self.buffer.len()
+    }
+
+    /// Returns how many bytes of the stream are kept: those from the end of the last match given on; or of these, once all
+    /// matches of what was read were given, as many as a match to come may need. After an error they are no more than the
+    /// longest pattern has.
+    pub fn kept_len(&self) -> usize
+        ensures { result ≡ kept_len self.now }
+    {
+        self.front + self.filled - self.kept
     }
 
     /// Returns from where in the stream on bytes are kept: the end of the last match that was given, or further on.

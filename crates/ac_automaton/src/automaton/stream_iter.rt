@@ -3,7 +3,7 @@ ghost use Rattle.std.specs.Prelude.{◌≡◌, MatchResult, None, ⊤};
 ghost use Rattle.std.specs.Iterator.{at_most};
 ghost use Rattle.ac_util.specs.Built.{stream_refusal};
 ghost use Rattle.ac_util.specs.StreamReplacing.{IsRefused};
-ghost use Rattle.ac_automaton.specs.Streams.{GivesItem, ReadsItem, items_left, stream_begun};
+ghost use Rattle.ac_automaton.specs.Streams.{GivesItem, ReadsItem, items_left, kept_len, stream_begun};
 
 use super::Automaton;
 use super::stream::StreamFinder;
@@ -53,6 +53,15 @@ impl<'a, A: Automaton, R: Source + Drop, Z: Allocator> StreamFindIter<'a, A, R, 
         ensures { result ≡ self.now.stream.buffer }
     {
         self.finder.buffer_len()
+    }
+
+    /// Returns how many bytes of the stream are kept: those from the end of the last match given on; or of these, once all
+    /// matches of what was read were given, as many as a match to come may need. After an error they are no more than the
+    /// longest pattern has.
+    pub fn kept_len(&self) -> usize
+        ensures { result ≡ kept_len self.now.stream }
+    {
+        self.finder.kept_len()
     }
 
     /// Returns the next match of the bytes that were read, without reading more of them. `None` says that all their matches

@@ -10,7 +10,7 @@ ghost use Rattle.ac_util.specs.Sizes.{longest_len, shortest_len};
 ghost use Rattle.ac_util.specs.StreamReplacing.{FailsToReplace, FailsToReplaceWith, IsRefused, ReplacesStream, ReplacesStreamWith};
 ghost use Rattle.ac_automaton.specs.Iterators.{GoesOn, begun};
 ghost use Rattle.ac_automaton.specs.Overlaps.{GivesNext, IsPlaced, ListsNext, listing_begun};
-ghost use Rattle.ac_automaton.specs.Streams.{GivesRead, StreamsOn, stream_begun};
+ghost use Rattle.ac_automaton.specs.Streams.{GivesRead, StreamsOn, kept_len, stream_begun};
 ghost use Rattle.ac_search.specs.Engines.{built_of, filters_of, listing_in, name_of, states_of, streaming_in, walking_in};
 ghost use Rattle.ac_search.specs.Searchers.{looks_allowed};
 ghost use Rattle.ac_search.specs.States.{listed_in, stands_in};
@@ -475,6 +475,17 @@ impl<'a, A: Allocator, Z: Allocator> EngineStreamFinder<'a, A, Z> {
             EngineStreamFinder::Noncontiguous(finder) => finder.next_read(),
             EngineStreamFinder::Contiguous(finder) => finder.next_read(),
             EngineStreamFinder::Dfa(finder) => finder.next_read(),
+        }
+    }
+
+    /// Returns how many bytes of the stream are kept.
+    pub(super) fn kept_len(&self) -> usize
+        ensures { result ≡ kept_len (streaming_in self.now) }
+    {
+        match self {
+            EngineStreamFinder::Noncontiguous(finder) => finder.kept_len(),
+            EngineStreamFinder::Contiguous(finder) => finder.kept_len(),
+            EngineStreamFinder::Dfa(finder) => finder.kept_len(),
         }
     }
 

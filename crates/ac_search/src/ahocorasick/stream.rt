@@ -4,7 +4,7 @@ ghost use Rattle.std.specs.Iterator.{at_most};
 ghost use Rattle.ac_util.specs.Borrowed.{bytes_of};
 ghost use Rattle.ac_util.specs.Built.{stream_refusal};
 ghost use Rattle.ac_util.specs.StreamReplacing.{FailsToReplace, FailsToReplaceWith, IsRefused, ReplacesStream, ReplacesStreamWith};
-ghost use Rattle.ac_automaton.specs.Streams.{GivesItem, GivesRead, ReadsItem, StreamsOn, items_left};
+ghost use Rattle.ac_automaton.specs.Streams.{GivesItem, GivesRead, ReadsItem, StreamsOn, items_left, kept_len};
 ghost use Rattle.ac_search.specs.StreamsBegun.{HasBegun, HasBegunOver};
 
 use super::engine::EngineStreamFinder;
@@ -196,6 +196,15 @@ impl<'a, A: Allocator, Z: Allocator> StreamFinder<'a, A, Z> {
         self.finder.next_read()
     }
 
+    /// Returns how many bytes of the stream are kept: those from the end of the last match given on; or of these, once all
+    /// matches of what was read were given, as many as a match to come may need. After an error they are no more than the
+    /// longest pattern has.
+    pub fn kept_len(&self) -> usize
+        ensures { result ≡ kept_len self.now }
+    {
+        self.finder.kept_len()
+    }
+
     /// Returns how many bytes the buffer has: 65,536, or eight times as many as the longest pattern if that is more.
     pub fn buffer_len(&self) -> usize
         ensures { result ≡ self.now.buffer }
@@ -231,6 +240,15 @@ impl<'a, R: Source + Drop, A: Allocator, Z: Allocator> StreamFindIter<'a, R, A, 
         ensures { ReadsItem self.old result self.new }
     {
         self.finder.next_read()
+    }
+
+    /// Returns how many bytes of the stream are kept: those from the end of the last match given on; or of these, once all
+    /// matches of what was read were given, as many as a match to come may need. After an error they are no more than the
+    /// longest pattern has.
+    pub fn kept_len(&self) -> usize
+        ensures { result ≡ kept_len self.now.stream }
+    {
+        self.finder.kept_len()
     }
 
     /// Returns how many bytes the buffer has: 65,536, or eight times as many as the longest pattern if that is more.

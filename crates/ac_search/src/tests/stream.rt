@@ -273,6 +273,7 @@ fn iterators_give_matches_and_then_an_error(rt: HostRuntime) -> Result<(), Fail>
         same(&rt, matches.buffer_len(), 65536);
         same(&rt, told_of(matches.next()), Some(Some((2, 4, 9))));
         same(&rt, told_of(matches.next()), Some(None));
+        same(&rt, matches.kept_len(), 3);
         same(&rt, told_of(matches.next()), None);
         same(&rt, told_of(matches.next()), None);
     }

@@ -1,8 +1,9 @@
 use Rattle.std.proofs.Common.{◌≡◌, ◌∙◌, ◌+◌, ◌++◌, Bool, length, length-append, sym, subst, ap, arith}
 use Rattle.std.specs.Prelude.{MatchBool}
+use Rattle.ac_util.specs.Sizes.{longest_len}
 use Rattle.ac_util.proofs.Devices.{fails-on, reads-on}
 use Rattle.ac_automaton.specs.Streams.{FillsMore, HasGivenAll, MeetsEnd, Streaming, matches_so_far}
-use Rattle.ac_automaton.proofs.StreamFilling.{failed-as, read-as}
+use Rattle.ac_automaton.proofs.StreamFilling.{failed-as, read-as, settled-near}
 use Rattle.ac_automaton.proofs.automaton.stream.StreamFinder.next.Goals as goal
 
 pub loop-found-smaller : goal.loop-found-smaller
@@ -34,6 +35,14 @@ returns-in-Err g c =
           ∙ length-append c.args.self.now.bytes more) read.reads _ fails.reads;
       all = sym (ap (λ (v : Streaming). v.given) read.same) ∙ all.all
           ∙ ap (λ (v : Streaming). length (matches_so_far v)) read.same;
+      few =
+          (let near = settled-near c.loop-found.self
+              (ap (λ (v : Streaming). v.phase) read.same ∙ read.goes_on) in
+          let kept = ap (λ (v : Streaming). v.kept) fails.same ∙ ap (λ (v : Streaming). v.kept) all.same in
+          let bytes = ap (λ (v : Streaming). length v.bytes) fails.same
+          ∙ ap (λ (v : Streaming). length v.bytes) all.same in
+          let longest = ap (λ (v : Streaming). longest_len v.built.patterns) read.same in
+          omega arith);
       same = failed-as c.args.self.now c.loop-found.self c.next_read.new.self c.fill.new.self more read.same all fails.same;
     }
 
