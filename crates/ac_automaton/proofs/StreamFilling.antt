@@ -26,7 +26,7 @@ use Rattle.ac_automaton.specs.Automata.{plain_of}
 use Rattle.ac_automaton.specs.Finds.{found_at}
 use Rattle.ac_automaton.specs.Progress.{Reaches, node_at, search_of}
 use Rattle.ac_automaton.specs.Scans.{Scan, in_memory}
-use Rattle.ac_automaton.specs.Streams.{HasGiven, HasGivenAll, Inside, IsStreaming, Streaming, settled_in, settled_of, stream_begun, stream_from}
+use Rattle.ac_automaton.specs.Streams.{HasGiven, HasGivenAll, Inside, IsStreaming, KeepsGiven, Streaming, matches_so_far, settled_in, settled_of, stream_begun, stream_from}
 use Rattle.ac_automaton.proofs.FindLoop.{picked-start}
 use Rattle.ac_automaton.proofs.ReadOn.{at-start}
 use Rattle.ac_automaton.proofs.StreamLoop.{allowed-kind, allowed-some, picked-nothing, scan}
@@ -297,6 +297,18 @@ failed-as old between searched new more read all failed =
     ∙ ap (λ (v : Streaming). record v { front = new.front; kept = settled_of between; phase = Failed }) read
     ∙ ap (λ (k : ℕ). record old { bytes = old.bytes ++ more; front = new.front; kept = k; phase = Failed })
     (sym (ap (λ (v : Streaming). v.kept) failed ∙ ap (λ (v : Streaming). v.kept) all.same))
+
+-- matches that stay as some bytes are read, and stay as others follow, stay as all of these are read
+pub stays-given : (old between new : Streaming) (bytes all : List ℕ) {front kept new_front new_kept : ℕ}
+    → between ≡ record old { bytes = bytes; front = front; kept = kept }
+    → new ≡ record old { bytes = all; front = new_front; kept = new_kept }
+    → take between.given (matches_so_far new) ≡ take between.given (matches_so_far between) → KeepsGiven old bytes
+    → KeepsGiven old all
+stays-given old between new bytes all is is_new later before =
+    ap (take old.given) (sym (ap matches_so_far is_new))
+    ∙ subst (λ (n : ℕ). take n (matches_so_far new) ≡ take n (matches_so_far between)) (ap (λ (v : Streaming). v.given) is)
+    later
+    ∙ ap (take old.given) (ap matches_so_far is) ∙ before
 
 -- of a stream that goes on, at most as many bytes aren't settled as the longest pattern has
 pub settled-near : (v : Streaming) → v.phase ≡ Open → length v.bytes ≤ settled_of v + longest_len v.built.patterns

@@ -76,6 +76,10 @@ pub record HasGivenAll (old new : Streaming) : Type 0 where
 abbrev pub GivesRead : Streaming → Option Occurrence → Streaming → Type 0
 GivesRead old result new = MatchOption result (HasGivenAll old new) (λ m. GivesMatch old m new)
 
+-- of all these bytes of a stream, the matches that were given are still the first ones
+abbrev pub KeepsGiven : Streaming → List ℕ → Type 0
+KeepsGiven v bytes = take v.given (streamed v.built bytes) ≡ take v.given (matches_so_far v)
+
 -- some bytes more were read: the matches that were given stay as they are
 pub record FillsMore (old new : Streaming) (reader new_reader : Reading) : Type 0 where
   pub more : List ℕ
@@ -102,11 +106,12 @@ Fills ends old result new reader new_reader =
     (λ more. MatchBool more (FillsMore old new reader new_reader) (MeetsEnd ends old new reader new_reader))
     (FailsToFill old new reader new_reader)
 
--- the next match of all that was read was given, once more was read where that was needed
+-- the next match of all that was read was given, once more was read where that was needed; those given before stay
 pub record GivesNext (old : Streaming) (m : Occurrence) (new : Streaming) (reader new_reader : Reading) : Type 0 where
   pub open' : old.phase ≡ Open
   pub more : List ℕ
   pub reads : ReadsSome reader new_reader more
+  pub given : KeepsGiven old (old.bytes ++ more)
   pub next : slice_get (streamed old.built (old.bytes ++ more)) old.given ≡ Some m
   pub counted : new.given ≤ 18446744073709551615
   pub same : new ≡ record old {
@@ -127,6 +132,7 @@ pub record GivesError (old : Streaming) (e : StreamError) (new : Streaming) (rea
   pub open' : old.phase ≡ Open
   pub more : List ℕ
   pub reads : FailsToRead (length old.bytes) reader new_reader more e
+  pub given : KeepsGiven old (old.bytes ++ more)
   pub all : old.given ≡ length (streamed old.built (old.bytes ++ more))
   pub few : kept_len new ≤ longest_len old.built.patterns
   pub same : new ≡ record old { bytes = old.bytes ++ more; front = new.front; kept = new.kept; phase = Failed }
@@ -135,6 +141,7 @@ pub record GivesError (old : Streaming) (e : StreamError) (new : Streaming) (rea
 pub record EndsNow (ends : Bool) (old new : Streaming) (reader new_reader : Reading) : Type 0 where
   pub more : List ℕ
   pub reads : ReadsAll ends reader new_reader more
+  pub given : KeepsGiven old (old.bytes ++ more)
   pub all : old.given ≡ length (streamed old.built (old.bytes ++ more))
   pub same : new ≡ record old { bytes = old.bytes ++ more; front = new.front; kept = new.kept; phase = Ended }
 
