@@ -1,19 +1,17 @@
 -- Printing the matches of a stream while it is read.
-use Rattle.std.proofs.Common.{◌≡◌, ◌≤◌, ◌<◌, ◌-◌, ℕ, List, [], ◌∷◌, ◌++◌, length, length-append, drop, ap, sym, refl, ◌∙◌, subst, arith, inl, inr, Bool}
-use Rattle.std.proofs.lemmas.List.{append_assoc, drop-append-le, drop_all}
+use Rattle.std.proofs.Common.{◌≡◌, ◌<◌, ◌-◌, ℕ, List, [], ◌∷◌, ◌++◌, length, drop, take, ap, sym, refl, ◌∙◌, subst, arith, inl, inr, Bool}
+use Rattle.std.proofs.lemmas.List.{append_cancel_right, drop_all, take-append-drop}
 use Rattle.std.proofs.lemmas.Option.{slice_get_within}
 use Rattle.std.proofs.KnownBytes.{Appends-nil, Consumes-nil}
 use Rattle.ac_util.specs.declared.error.StreamError.{StreamError}
-use Rattle.ac_util.specs.declared.search.MatchKind.TheVariants.{Standard}
 use Rattle.ac_util.specs.Built.{Built}
 use Rattle.ac_util.specs.Device.{Reading, ReadsSome, Writing, WritesAll}
 use Rattle.ac_util.specs.Occurrence.{Occurrence}
 use Rattle.ac_util.specs.Stream.{streamed}
 use Rattle.ac_util.proofs.Devices.{fails-after, reads-on, reads-out}
-use Rattle.ac_util.proofs.GoesOn.{streamed-begins}
 use Rattle.ac_util.proofs.Lists.{drop-slice_get}
 use Rattle.ac_automaton.specs.declared.automaton.stream.Phase.TheVariants.{Open}
-use Rattle.ac_automaton.specs.Streams.{EndsNow, GivesError, GivesMatch, GivesNext, HasGivenAll, Streaming, matches_so_far, settled_of, stream_begun}
+use Rattle.ac_automaton.specs.Streams.{EndsNow, GivesError, GivesMatch, GivesNext, HasGivenAll, KeepsGiven, Streaming, matches_so_far, settled_of, stream_begun}
 use Rattle.acs.specs.declared.fault.Fault.{Fault}
 use Rattle.acs.specs.declared.run.Outcome.{Outcome}
 use Rattle.acs.specs.declared.run.Outcome.TheVariants.{Found, Nothing}
@@ -23,13 +21,16 @@ use Rattle.acs.specs.Printed.{FailsToPrintStream, HasPrintedRead, IsPrinting, Pr
 use Rattle.acs.specs.Modes.{FailsToPrint}
 use Rattle.acs.proofs.Printing.{printing-begins, printing-ends, printing-writes}
 
--- other matches may follow
-printing-on : {all rest : List Occurrence} {old new : Writing} {text : List ℕ} {outcome : Outcome}
-    (more : List Occurrence) → IsPrinting all rest old new text outcome
-    → IsPrinting (all ++ more) (rest ++ more) old new text outcome
-printing-on {all} {rest} more h = record {
+-- of another list that begins with the matches given, the same lines are written
+printing-longer : (n : ℕ) (all others : List Occurrence) {old new : Writing} {text : List ℕ} {outcome : Outcome}
+    → take n others ≡ take n all → IsPrinting all (drop n all) old new text outcome
+    → IsPrinting others (drop n others) old new text outcome
+printing-longer n all others same h = record {
   done = h.done;
-  parted = sym (append_assoc h.done rest more) ∙ ap (λ (ms : List Occurrence). ms ++ more) h.parted;
+  parted =
+      ap (λ (ms : List Occurrence). ms ++ drop n others)
+      (append_cancel_right h.done (take n all) (drop n all) (h.parted ∙ sym (take-append-drop n all)) ∙ sym same)
+      ∙ take-append-drop n others;
   out = h.out;
   moved = h.moved;
   written = h.written;
@@ -44,12 +45,6 @@ printed-all : {all rest : List Occurrence} {old new : Writing} {outcome : Outcom
 printed-all {all} {rest} {old} {new} {outcome} none h =
     printing-ends all rest old new [] outcome h new none
     (record { moved = Appends-nil new.written; failed = refl; idles = refl })
-
--- where a list has as many elements as its beginning, nothing follows
-nothing-follows : (ms rest : List Occurrence) (n : ℕ) → n ≤ length ms → n ≡ length (ms ++ rest)
-    → (rest ≡ []) × (length ms ≤ n)
-nothing-follows ms [] n few all = (refl, (let l = length-append ms [] in omega arith))
-nothing-follows ms (m ∷ rest) n few all = (let l = length-append ms (m ∷ rest) in absurd (omega arith))
 
 -- of the bytes read so far the next match is given
 pub read-printing : {v w : Streaming} {m : Occurrence} {old new : Writing} {text : List ℕ} {outcome : Outcome}
@@ -81,23 +76,19 @@ read-printed {v} {w} {first} {old} {new} {later} {text} same all h writes none =
 pub record IsPrintingStream (built : Built) (v : Streaming) (reader new_reader : Reading) (writer new_writer : Writing)
     (text : List ℕ) (outcome : Outcome) : Type 0 where
   pub built_is : v.built ≡ built
-  pub standard : built.kind ≡ Standard
   pub goes_on : v.phase ≡ Open
   pub reads : ReadsSome reader new_reader v.bytes
-  pub few : v.given ≤ length (matches_so_far v)
   pub nothing : text ≡ []
   pub printing : PrintsSoFar v writer new_writer [] outcome
 
 -- at first none was given
 pub print-begins : (v : Streaming) (reader : Reading) (writer : Writing) → v ≡ stream_begun v.built
-    → v.built.kind ≡ Standard → IsPrintingStream v.built v reader reader writer writer [] Nothing
-print-begins v reader writer begun standard = record {
+    → IsPrintingStream v.built v reader reader writer writer [] Nothing
+print-begins v reader writer begun = record {
   built_is = refl;
-  standard = standard;
   goes_on = ap (λ (w : Streaming). w.phase) begun;
   reads = subst (λ (w : Streaming). ReadsSome reader reader w.bytes) (sym begun)
       (record { moved = Consumes-nil reader.left; failed = refl; empties = refl });
-  few = (let none = ap (λ (w : Streaming). w.given) begun in omega arith);
   nothing = refl;
   printing =
       subst (λ (n : ℕ). IsPrinting (matches_so_far v) (drop n (matches_so_far v)) writer writer [] Nothing)
@@ -106,35 +97,18 @@ print-begins v reader writer begun standard = record {
 
 module _ {built : Built} {v : Streaming} {reader new_reader : Reading} {writer new_writer : Writing} {text : List ℕ}
     {outcome : Outcome} (h : IsPrintingStream built v reader new_reader writer new_writer text outcome) where
-  -- the matches of the bytes so far stay when more come
-  longer : (more : List ℕ) → (rest : List Occurrence)
-      × (streamed v.built (v.bytes ++ more) ≡ matches_so_far v ++ rest)
-  longer more =
-      streamed-begins v.built (ap (λ (b : Built). b.kind) h.built_is ∙ h.standard) v.bytes more
-
-  -- those that weren't given stay too
-  left-longer : (more : List ℕ) → drop v.given (streamed v.built (v.bytes ++ more))
-      ≡ drop v.given (matches_so_far v) ++ (longer more).0
-  left-longer more =
-      ap (λ (ms : List Occurrence). drop v.given ms) (longer more).1
-      ∙ drop-append-le v.given (matches_so_far v) (longer more).0 h.few
-
-  printing-longer : (more : List ℕ) → IsPrinting (streamed v.built (v.bytes ++ more))
-      (drop v.given (streamed v.built (v.bytes ++ more))) writer new_writer [] outcome
-  printing-longer more =
-      subst (λ (ms : List Occurrence). IsPrinting ms (drop v.given (streamed v.built (v.bytes ++ more))) writer new_writer [] outcome)
-      (sym (longer more).1)
-      (subst (λ (ms : List Occurrence). IsPrinting (matches_so_far v ++ (longer more).0) ms writer new_writer [] outcome)
-      (sym (left-longer more)) (printing-on (longer more).0 h.printing))
+  -- of more bytes the same lines are written
+  longer : (bytes : List ℕ) → KeepsGiven v bytes
+      → IsPrinting (streamed v.built bytes) (drop v.given (streamed v.built bytes)) writer new_writer [] outcome
+  longer bytes keeps = printing-longer v.given (matches_so_far v) (streamed v.built bytes) keeps h.printing
 
   -- where all were given, all lines are written
-  all-written : (more : List ℕ) → v.given ≡ length (streamed v.built (v.bytes ++ more))
-      → WritesAll writer new_writer (lines (streamed built (v.bytes ++ more)))
-      × (outcome ≡ outcome_of (streamed built (v.bytes ++ more)))
-  all-written more all =
-      subst (λ (b : Built). WritesAll writer new_writer (lines (streamed b (v.bytes ++ more)))
-      × (outcome ≡ outcome_of (streamed b (v.bytes ++ more)))) h.built_is
-      (printed-all (drop_all v.given (streamed v.built (v.bytes ++ more)) (omega arith)) (printing-longer more))
+  all-written : (bytes : List ℕ) → KeepsGiven v bytes → v.given ≡ length (streamed v.built bytes)
+      → WritesAll writer new_writer (lines (streamed built bytes)) × (outcome ≡ outcome_of (streamed built bytes))
+  all-written bytes keeps all =
+      subst (λ (b : Built). WritesAll writer new_writer (lines (streamed b bytes))
+      × (outcome ≡ outcome_of (streamed b bytes))) h.built_is
+      (printed-all (drop_all v.given (streamed v.built bytes) (omega arith)) (longer bytes keeps))
 
   -- a read has failed, or brought more than usize counts
   pub read-stops : {ends : Bool} {later : Reading} {e : StreamError} {w : Streaming} {fault : Fault}
@@ -146,7 +120,7 @@ module _ {built : Built} {v : Streaming} {reader new_reader : Reading} {writer n
       e,
       is,
       fails-after later gives.more h.reads 0 (length v.bytes) (omega arith) e gives.reads,
-      (all-written gives.more gives.all).0,
+      (all-written (v.bytes ++ gives.more) gives.given gives.all).0,
     );
   }
 
@@ -156,8 +130,8 @@ module _ {built : Built} {v : Streaming} {reader new_reader : Reading} {writer n
   stream-ends {ends} {later} gives = record {
     bytes = v.bytes ++ gives.more;
     reads = reads-out h.reads gives.reads;
-    writes = (all-written gives.more gives.all).0;
-    outcome_is = (all-written gives.more gives.all).1;
+    writes = (all-written (v.bytes ++ gives.more) gives.given gives.all).0;
+    outcome_is = (all-written (v.bytes ++ gives.more) gives.given gives.all).1;
   }
 
   module _ {later : Reading} {m : Occurrence} {w : Streaming} (gives : GivesNext v m w new_reader later) where
@@ -168,7 +142,7 @@ module _ {built : Built} {v : Streaming} {reader new_reader : Reading} {writer n
         (subst (λ (u : Streaming). IsPrinting (matches_so_far u) (m ∷ drop u.given (matches_so_far u)) writer new_writer [] outcome)
         (sym gives.same)
         (subst (λ (rest : List Occurrence). IsPrinting (streamed v.built (v.bytes ++ gives.more)) rest writer new_writer [] outcome)
-        (drop-slice_get (streamed v.built (v.bytes ++ gives.more)) v.given m gives.next) (printing-longer gives.more)))
+        (drop-slice_get (streamed v.built (v.bytes ++ gives.more)) v.given m gives.next) (longer (v.bytes ++ gives.more) gives.given)))
 
     next-reads : ReadsSome reader later w.bytes
     next-reads =
@@ -194,11 +168,8 @@ module _ {built : Built} {v : Streaming} {reader new_reader : Reading} {writer n
         → IsPrintingStream built x reader later writer new left Found
     printed-more {x} {new} printed = record {
       built_is = ap (λ (u : Streaming). u.built) printed.same ∙ next-built;
-      standard = h.standard;
       goes_on = ap (λ (u : Streaming). u.phase) printed.same ∙ ap (λ (u : Streaming). u.phase) gives.same ∙ h.goes_on;
       reads = subst (λ (u : Streaming). ReadsSome reader later u.bytes) (sym printed.same) next-reads;
-      few = (let given = ap (λ (u : Streaming). u.given) printed.same in
-          let long = ap (λ (u : Streaming). length (matches_so_far u)) printed.same in omega arith);
       nothing = printed.nothing;
       printing = printed.printing;
     }

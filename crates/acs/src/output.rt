@@ -1,6 +1,5 @@
 //! Lines for matches, written in large pieces, and replaced texts.
 ghost use Rattle.std.specs.Prelude.{◌≡◌, ◌++◌, ◌∷◌, [], List, codes, MatchResult, OnOk, option_to_list, string_bytes};
-ghost use Rattle.ac_util.specs.declared.search.MatchKind.TheVariants.{Standard};
 ghost use Rattle.ac_util.specs.Device.{Writing, WritesAll};
 ghost use Rattle.ac_util.specs.Occurrence.{Occurrence};
 ghost use Rattle.ac_automaton.specs.Streams.{matches_so_far, stream_begun};
@@ -175,8 +174,7 @@ pub(crate) fn print_stream<A: Allocator + Clone, B: Allocator, Z: Allocator, R: 
     reader: &mut R,
     writer: &mut W,
 ) -> Result<Outcome, Fault>
-    requires begun { finder.old ≡ stream_begun finder.old.built }
-    requires standard { finder.old.built.kind ≡ Standard }
+    requires { finder.old ≡ stream_begun finder.old.built }
     ensures { MatchResult result
         (PrintsStream R.empty_means_end finder.old.built (R.told reader.old) (R.told reader.new)
         (W.told writer.old) (W.told writer.new))

@@ -14,7 +14,7 @@ pub loop-item-init : goal.loop-item-init
 loop-item-init g c =
     rw c.new-text.ensures.bytes
     (print-begins c.args.finder.now (g.R.Source.told c.args.reader.now) (g.W.Sink.told c.args.writer.now)
-    c.requires.begun c.requires.standard)
+    c.requires)
 
 -- a read has failed
 pub returns-in_err-m : goal.returns-in_err-m
