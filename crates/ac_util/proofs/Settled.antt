@@ -1,10 +1,10 @@
 -- A stream under a leftmost kind: the matches that are decided stay as more of it comes, and no other starts before them.
-use Rattle.std.proofs.Common.{◌≡◌, ℕ, zero, suc, ◌+◌, ◌-◌, ◌<◌, ◌≤◌, true, false, List, [], ◌∷◌, ◌++◌, length, get_or, length-append, length-drop, take, drop, inl, inr, refl, ap, sym, ◌∙◌, subst, arith, Option, None, Some}
+use Rattle.std.proofs.Common.{◌≡◌, ℕ, zero, suc, ◌+◌, ◌-◌, ◌<◌, ◌≤◌, true, false, List, [], ◌∷◌, ◌++◌, length, get_or, map, length-append, length-drop, take, drop, inl, inr, refl, ap, sym, ◌∙◌, subst, arith, Option, None, Some}
 use Rattle.std.specs.Prelude.{◌==◌, All, nat_eq, slice_range}
 use Rattle.std.specs.List.{starts_with}
-use Rattle.std.proofs.Math.Seq.{drop-append_seam, take-append_seam}
+use Rattle.std.proofs.Math.Seq.{drop-append_seam, take-append_seam, take-length}
 use Rattle.std.proofs.lemmas.Bool.{and_parts, cases_lt, eq-eqb, eqb-true, false_from_ne_true, false≢true}
-use Rattle.std.proofs.lemmas.List.{drop-append-le, get_or-map, get_or-take, length-map, length-take-le, take-append-drop, take-map}
+use Rattle.std.proofs.lemmas.List.{drop-append-le, get_or-map, get_or-take, length-map, length-take-le, map-append, take-append-drop, take-map}
 use Rattle.std.proofs.lemmas.List.Elements.{All-cons, All-nil}
 use Rattle.ac_util.specs.declared.search.MatchKind.{MatchKind}
 use Rattle.ac_util.specs.declared.search.MatchKind.TheVariants.{Standard, LeftmostFirst, LeftmostLongest}
@@ -20,10 +20,10 @@ use Rattle.ac_util.specs.Stream.{streamed}
 use Rattle.ac_util.specs.Text.{plain_patterns}
 use Rattle.ac_util.specs.Walk.{continued, next_match, walk_after}
 use Rattle.ac_util.proofs.Lists.{IsIn-at}
-use Rattle.ac_util.proofs.Participants.{takes_part}
+use Rattle.ac_util.proofs.Participants.{participant-least, takes_part}
 use Rattle.ac_util.proofs.Picks.{first_unique, pick-IsPick}
 use Rattle.ac_util.proofs.PiecesLemmas.{slice_range-append}
-use Rattle.ac_util.proofs.Prefixes.{IsFirstAny, first_any, list_any-from_IsIn, starts_with-length}
+use Rattle.ac_util.proofs.Prefixes.{IsFirstAny, first_any, list_any-from_IsIn, starts_with-length, starts_with-take}
 use Rattle.ac_util.proofs.Walks.{later, next-none, next-some, pick-Occurs, walk_after-None, walk_after-Some}
 
 -- what is preferred under a leftmost kind starts no later
@@ -52,39 +52,39 @@ take-take (suc n) (suc k) (x ∷ xs) le = ap (λ (w : List ℕ). x ∷ w) (take-
 -- where a pattern stands, each of its prefixes among the patterns stands too
 module _ (q : Search) (m : Occurrence) (o : Occurs q m) (number : ℕ) (numbered : number < length q.patterns)
     (front : starts_with nat_eq (plain q.fold (pattern_of q.patterns m.pattern)) (plain q.fold (pattern_of q.patterns number)) ≡ true)
-    where
-  abbrev prefix : Occurrence
-  prefix = occurrence number m.start (m.start + length (pattern_of q.patterns number))
+  where
+    abbrev prefix : Occurrence
+    prefix = occurrence number m.start (m.start + length (pattern_of q.patterns number))
 
-  shorter-prefix : length (pattern_of q.patterns number) ≤ length (pattern_of q.patterns m.pattern)
-  shorter-prefix =
-      let whole = length-map (pattern_of q.patterns m.pattern) (plain_byte q.fold) in
-      let part = length-map (pattern_of q.patterns number) (plain_byte q.fold) in
-      let less = starts_with-length (plain q.fold (pattern_of q.patterns m.pattern)) (plain q.fold (pattern_of q.patterns number)) front in
-      omega arith
+    shorter-prefix : length (pattern_of q.patterns number) ≤ length (pattern_of q.patterns m.pattern)
+    shorter-prefix =
+        let whole = length-map (pattern_of q.patterns m.pattern) (plain_byte q.fold) in
+        let part = length-map (pattern_of q.patterns number) (plain_byte q.fold) in
+        let less = starts_with-length (plain q.fold (pattern_of q.patterns m.pattern)) (plain q.fold (pattern_of q.patterns number)) front in
+        omega arith
 
-  prefix-occurs : Occurs q prefix
-  prefix-occurs =
-      let as_long = o.as_long in
-      let to_high = o.to_high in
-      let less = shorter-prefix in
-      let len = length (pattern_of q.patterns number) in
-      record {
-        numbered = numbered;
-        from_low = o.from_low;
-        as_long = refl;
-        to_high = omega arith;
-        reads =
-            sym (prefix-take (plain q.fold (pattern_of q.patterns m.pattern)) (plain q.fold (pattern_of q.patterns number)) front)
-            ∙ ap (λ (k : ℕ). take k (plain q.fold (pattern_of q.patterns m.pattern)))
-            (length-map (pattern_of q.patterns number) (plain_byte q.fold))
-            ∙ ap (take len) o.reads
-            ∙ take-map (plain_byte q.fold) len (slice_range q.haystack m.start m.end)
-            ∙ ap (plain q.fold)
-            (take-take len (m.end - m.start) (drop m.start q.haystack) (omega arith)
-            ∙ ap (λ (k : ℕ). take k (drop m.start q.haystack)) (let k : len ≡ m.start + len - m.start = omega arith in k));
-        at_low = o.at_low;
-      }
+    prefix-occurs : Occurs q prefix
+    prefix-occurs =
+        let as_long = o.as_long in
+        let to_high = o.to_high in
+        let less = shorter-prefix in
+        let len = length (pattern_of q.patterns number) in
+        record {
+          numbered = numbered;
+          from_low = o.from_low;
+          as_long = refl;
+          to_high = omega arith;
+          reads =
+              sym (prefix-take (plain q.fold (pattern_of q.patterns m.pattern)) (plain q.fold (pattern_of q.patterns number)) front)
+              ∙ ap (λ (k : ℕ). take k (plain q.fold (pattern_of q.patterns m.pattern)))
+              (length-map (pattern_of q.patterns number) (plain_byte q.fold))
+              ∙ ap (take len) o.reads
+              ∙ take-map (plain_byte q.fold) len (slice_range q.haystack m.start m.end)
+              ∙ ap (plain q.fold)
+              (take-take len (m.end - m.start) (drop m.start q.haystack) (omega arith)
+              ∙ ap (λ (k : ℕ). take k (drop m.start q.haystack)) (let k : len ≡ m.start + len - m.start = omega arith in k));
+          at_low = o.at_low;
+        }
 
 -- the pick takes part
 pick-takes_part : (kind : MatchKind) (q : Search) (m : Occurrence) → is_leftmost kind ≡ true → pick kind q ≡ Some m
@@ -358,3 +358,117 @@ module _ (built : Built) (leftmost : is_leftmost built.kind ≡ true) (bytes mor
               (sym (drop-append_seam ms stays.0) ∙ ap (λ (n : ℕ). drop n (ms ++ stays.0)) many ∙ ap (drop given) (sym stays.1))
               stays.2,
         )
+
+-- the converse: where a match stays the pick whatever follows, no place up to its start is open
+module _ (built : Built) (leftmost : is_leftmost built.kind ≡ true) (bytes : List ℕ) (low : ℕ) (m : Occurrence)
+    (ends : m.end ≤ length bytes)
+    (stays : (more : List ℕ) → pick built.kind (there built leftmost bytes more low) ≡ Some m) where
+  module _ (place : ℕ) (from_low : low ≤ place) (before : place < m.start + 1) (open' : IsOpen built bytes place) where
+    -- the pattern that may come of it, and its bytes that would have to follow
+    abbrev pattern : List ℕ
+    pattern = pattern_of built.patterns open'.number
+
+    abbrev known : ℕ
+    known = length bytes - place
+
+    abbrev rest : List ℕ
+    rest = drop known pattern
+
+    abbrev then' : Search
+    then' = there built leftmost bytes rest low
+
+    abbrev comes : Occurrence
+    comes = occurrence open'.number place (place + length pattern)
+
+    shown : slice_range (bytes ++ rest) place (place + length pattern) ≡ drop place bytes ++ rest
+    shown =
+        let inside = open'.inside in
+        let behind = length-drop place bytes in
+        let left = length-drop known pattern in
+        let longer = open'.longer in
+        let all = length-append (drop place bytes) rest in
+        ap (λ (k : ℕ). take k (drop place (bytes ++ rest)))
+        (let k : place + length pattern - place ≡ length pattern = omega arith in k)
+        ∙ ap (take (length pattern)) (drop-append-le place bytes rest (omega arith))
+        ∙ ap (λ (k : ℕ). take k (drop place bytes ++ rest)) (let k : length pattern ≡ length (drop place bytes ++ rest) = omega arith in k)
+        ∙ take-length (drop place bytes ++ rest)
+
+    comes-there : Occurs then' comes
+    comes-there =
+        let inside = open'.inside in
+        let longer = open'.longer in
+        let left = length-drop known pattern in
+        let all = length-append bytes rest in
+        record {
+          numbered = open'.numbered;
+          from_low = from_low;
+          as_long = refl;
+          to_high = omega arith;
+          reads =
+              ap (plain built.fold) (sym (take-append-drop known pattern))
+              ∙ map-append (plain_byte built.fold) (take known pattern) rest
+              ∙ ap (λ (w : List ℕ). w ++ plain built.fold rest) open'.begins
+              ∙ sym (map-append (plain_byte built.fold) (drop place bytes) rest)
+              ∙ ap (plain built.fold) (sym shown);
+          at_low = λ yes. absurd (cc);
+        }
+
+    occurs-then : Occurs then' m
+    occurs-then = pick-Occurs built.kind then' m (stays rest)
+
+    preferred : IsFirst built.kind m comes
+    preferred = (subst (IsPick built.kind then') (stays rest) (pick-IsPick built.kind then')).1 comes comes-there
+
+    at-start : place ≡ m.start
+    at-start = let starts = first-starts built.kind m comes leftmost preferred in omega arith
+
+    -- it would begin with the pattern of the match
+    fronts : starts_with nat_eq (plain built.fold pattern) (plain built.fold (pattern_of built.patterns m.pattern)) ≡ true
+    fronts =
+        let o = occurs-then in
+        let as_long = o.as_long in
+        let longer = open'.longer in
+        let start = at-start in
+        let len = length (pattern_of built.patterns m.pattern) in
+        let slice : slice_range (bytes ++ rest) m.start m.end ≡ take len (slice_range (bytes ++ rest) place (place + length pattern)) =
+        ap (λ (k : ℕ). take k (drop m.start (bytes ++ rest))) (let k : m.end - m.start ≡ len = omega arith in k)
+        ∙ ap (λ (k : ℕ). take len (drop k (bytes ++ rest))) (sym start)
+        ∙ sym (take-take len (place + length pattern - place) (drop place (bytes ++ rest)) (omega arith)) in
+        let part : plain built.fold (pattern_of built.patterns m.pattern) ≡ take len (plain built.fold pattern) =
+        o.reads ∙ ap (plain built.fold) slice
+        ∙ sym (take-map (plain_byte built.fold) len (slice_range (bytes ++ rest) place (place + length pattern)))
+        ∙ ap (take len) (sym comes-there.reads) in
+        ap (starts_with nat_eq (plain built.fold pattern)) part ∙ starts_with-take len (plain built.fold pattern)
+
+    closed-by : (kind : MatchKind) → built.kind ≡ kind → ⊥
+    closed-by Standard is = let no = sym leftmost ∙ ap is_leftmost is in absurd (cc)
+    closed-by LeftmostLongest is =
+        let first : IsFirst LeftmostLongest m comes = subst (λ (k : MatchKind). IsFirst k m comes) is preferred in
+        let longest = first.ends (sym at-start) in
+        let longer = open'.longer in absurd (omega arith)
+    closed-by LeftmostFirst is =
+        let first : IsFirst LeftmostFirst m comes = subst (λ (k : MatchKind). IsFirst k m comes) is preferred in
+        let least = first.patterns (sym at-start) in
+        let ps = map (plain built.fold) built.patterns in
+        let numbered = occurs-then.numbered in
+        let its = open'.numbered in
+        let all = length-map built.patterns (plain built.fold) in
+        let pattern_is : pattern_of ps open'.number ≡ plain built.fold pattern =
+        get_or-map (plain built.fold) built.patterns open'.number [] [] its in
+        let match_is : pattern_of ps m.pattern ≡ plain built.fold (pattern_of built.patterns m.pattern) =
+        get_or-map (plain built.fold) built.patterns m.pattern [] [] numbered in
+        let no_earlier : open'.number ≤ m.pattern =
+        participant-least ps (plain built.fold pattern) open'.number m.pattern (omega arith)
+        (ap (λ (k : MatchKind). participates k ps open'.number) (sym is) ∙ open'.takes_part) pattern_is
+        (record {
+          numbered = omega arith;
+          front = ap (starts_with nat_eq (plain built.fold pattern)) match_is ∙ fronts;
+        }) in
+        let same : m.pattern ≡ open'.number = omega arith in
+        let len = ap (λ (n : ℕ). length (pattern_of built.patterns n)) same in
+        let as_long = occurs-then.as_long in
+        let longer = open'.longer in
+        let start = at-start in absurd (omega arith)
+
+  pub stays-closed : NoneOpen built bytes low (m.start + 1)
+  stays-closed place from_low before open' = closed-by place from_low before open' built.kind refl

@@ -5,7 +5,7 @@ ghost use Rattle.std.specs.Prelude.{slice_index, Option, None, Some};
 ghost use Rattle.std.specs.Str.{IsCharBoundary, IsUtf8};
 ghost use Rattle.ac_util.specs.declared.search.MatchKind.{MatchKind};
 ghost use Rattle.ac_util.specs.Built.{Built, found, has_empty, search_in, walked};
-ghost use Rattle.ac_util.specs.Asked.{Asked};
+ghost use Rattle.ac_util.specs.Asked.{Asked, asked_whole};
 ghost use Rattle.ac_util.specs.Inside.{LiesIn};
 ghost use Rattle.ac_util.specs.Listing.{all, IsBefore, item_at, place_after};
 ghost use Rattle.ac_util.specs.Node.{is_leftmost};
@@ -16,7 +16,7 @@ ghost use Rattle.ac_util.specs.Sameness.{AreOneLetter, IsSame, same_byte, same_s
 ghost use Rattle.ac_util.specs.Search.{Occurs, Search, from, occurs, pattern_of};
 ghost use Rattle.ac_util.specs.declared.error.ReplaceError.{ReplaceError};
 ghost use Rattle.ac_util.specs.Replacement.{AlwaysWrites, AppendsAll, AppendsBeginning, Calls, OnlyAppends, Replacing, ReplacementSteps, WritesText, asked_by};
-ghost use Rattle.ac_util.specs.Settled.{IsSettledAt};
+ghost use Rattle.ac_util.specs.Settled.{IsSettledAt, NoneOpen};
 ghost use Rattle.ac_util.specs.Stream.{streamed};
 ghost use Rattle.ac_util.specs.Text.{cut, outward};
 ghost use Rattle.ac_util.specs.Texts.{AreTexts, IsBetweenCharacters};
@@ -147,12 +147,17 @@ pub fn stream_goes_on()
 {}
 
 /// Under a leftmost kind without an empty pattern the matches by which a stream is settled stay as more of it comes, and no
-/// other starts before the place up to which it is.
+/// other starts before the place up to which it is. And a match that stays the next one whatever follows is decided: no place
+/// up to and with its start is open.
 pub fn settled_stays()
-    ensures { (built : Built) (bytes more : List ℕ) (given place : ℕ) → is_leftmost built.kind ≡ true
+    ensures stays { (built : Built) (bytes more : List ℕ) (given place : ℕ) → is_leftmost built.kind ≡ true
         → has_empty built ≡ false → IsSettledAt built bytes given place
         → (take given (streamed built (bytes ++ more)) ≡ take given (streamed built bytes))
         × All (λ m. place ≤ m.start) (drop given (streamed built (bytes ++ more))) }
+    ensures decided { (built : Built) (bytes : List ℕ) (low : ℕ) (m : Occurrence) → is_leftmost built.kind ≡ true
+        → m.end ≤ length bytes
+        → ((more : List ℕ) → pick built.kind (from (search_in built (asked_whole (bytes ++ more))) low) ≡ Some m)
+        → NoneOpen built bytes low (m.start + 1) }
 {}
 
 /// Calls that append the text of each pattern and go on leave the replaced text after what was there, and a

@@ -53,7 +53,7 @@ returns-in-Err g c =
           ∙ ap (λ (v : Streaming). length (matches_so_far v)) read.same;
       few =
           (let near = settled-near c.loop-found.self
-              (ap (λ (v : Streaming). v.phase) read.same ∙ read.goes_on) in
+          (ap (λ (v : Streaming). v.phase) read.same ∙ read.goes_on) in
           let kept = ap (λ (v : Streaming). v.kept) fails.same ∙ ap (λ (v : Streaming). v.kept) all.same in
           let bytes = ap (λ (v : Streaming). length v.bytes) fails.same
           ∙ ap (λ (v : Streaming). length v.bytes) all.same in
