@@ -31,6 +31,7 @@ pub mod ReplacementLemmas
 pub mod SearchLoop
 pub mod Shortest
 pub mod Settled
+pub mod Living
 pub mod Longer
 pub mod GoesOn
 mod SearchRows

@@ -15,7 +15,7 @@ pub use answers::{
 pub use layers::{
     classes_are_lawful, classes_set_apart, dead_is_the_end, failures_step_alike,
     first_pick_follows, listing_follows, looks_are_paid, matches_follow, nodes_are_counted,
-    pick_begins, pick_follows, steps_follow, strides_have_room,
+    nodes_begin_early, pick_begins, pick_follows, steps_follow, strides_have_room,
 };
 pub use values::{
     clones_are_equal, clones_take_no_memory, defaults_are_told, equal_values_hash_equally,

@@ -1,13 +1,13 @@
 //! Between the layers: how an automaton and its answers go on with one more byte.
 ghost use Rattle.std.specs.Prelude.{◌≡◌, ◌≢◌, ℕ, ◌+◌, ◌^◌, ◌<◌, ◌≤◌, ◌++◌, ◌↔◌, Bool, true, false, List, [], ◌∷◌};
-ghost use Rattle.std.specs.Prelude.{Contains, AllPairs, length, map, None, Some};
+ghost use Rattle.std.specs.Prelude.{Contains, AllPairs, drop, length, map, None, Some};
 ghost use Rattle.ac_util.specs.declared.search.Anchored.{Anchored};
 ghost use Rattle.ac_util.specs.declared.search.MatchKind.{MatchKind};
 ghost use Rattle.ac_util.specs.Classes.{AreClasses, IsLawful, SetsApart, alphabet_len, class_at, class_of, classes_of, singletons, stands_in, stride, stride2};
 ghost use Rattle.ac_util.specs.Listing.{all};
 ghost use Rattle.ac_util.specs.Looks.{looks};
 ghost use Rattle.ac_util.specs.Matches.{equal_to, matches, matches_at};
-ghost use Rattle.ac_util.specs.Node.{Node, depth, failure, is_leftmost, is_node, least_start, reached, step};
+ghost use Rattle.ac_util.specs.Node.{Node, begins_with_pattern, depth, failure, is_leftmost, is_node, least_start, reached, step};
 ghost use Rattle.ac_util.specs.Pick.{order_of, pick};
 ghost use Rattle.ac_util.specs.Sameness.{plain, plain_byte};
 ghost use Rattle.ac_util.specs.Search.{Search};
@@ -33,6 +33,14 @@ pub fn failures_step_alike()
         → is_node kind patterns (x ∷ u ++ b ∷ []) ≡ false
         → step kind patterns Anchored.No (Some (x ∷ u)) b
         ≡ step kind patterns Anchored.No (failure kind patterns (x ∷ u)) b }
+{}
+
+/// Under a leftmost kind the node that an unanchored automaton has reached begins no later in what was read than any pattern
+/// that occurs there. So all that has begun before it is given up, and what comes needs no byte before it.
+pub fn nodes_begin_early()
+    ensures { (kind : MatchKind) (patterns : List (List ℕ)) (w u : List ℕ) (place : ℕ) → is_leftmost kind ≡ true
+        → reached kind patterns Anchored.No w ≡ Some u → place ≤ length w
+        → begins_with_pattern patterns (drop place w) ≡ true → length w ≤ place + length u }
 {}
 
 /// The looks of a step are paid by the length of the node: they and the new node's length are at most the old
