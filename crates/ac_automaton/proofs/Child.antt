@@ -17,9 +17,9 @@ use Rattle.ac_automaton.specs.Tries.{miss}
 use Rattle.ac_automaton.proofs.Grown.{AreStates-more, IsInner, nodes-cases, nodes-inner, nodes-more}
 use Rattle.ac_automaton.proofs.Leading.{leading-apart, leading-has, leading-length, leading-plain, leading-small}
 use Rattle.ac_automaton.proofs.Orders.{rank}
-use Rattle.ac_util.proofs.Prefixes.{starts_with-length}
+use Rattle.ac_util.proofs.Prefixes.{front-is, starts_with-length}
 use Rattle.ac_automaton.proofs.Places.{get-append, get-added, get-added_cases, get-same}
-use Rattle.ac_automaton.proofs.Prefixes.{front-is, push-injective}
+use Rattle.ac_automaton.proofs.Prefixes.{push-injective}
 use Rattle.ac_automaton.proofs.Branching.{GoesOnBy, HasTransition, IsBranching, IsRun, Site, Waits-more, below, child-range, front, greater, long, next_byte, pushed, string, word-length}
 
 module _ (site : Site) {place end b : ℕ} {transitions : List Transition} {queue : List QueuedState}

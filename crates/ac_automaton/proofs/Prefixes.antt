@@ -86,10 +86,6 @@ push-injective (x ∷ u) (y ∷ w) a b e =
     let r = push-injective u w a b tail in
     ((λ i. head i ∷ r.0 i), r.1)
 
--- a prefix of a string is its first bytes
-pub front-is : (w v : List ℕ) → starts_with nat_eq w v ≡ true → take (length v) w ≡ v
-front-is w v h = sym ((bytes_eq-Decides v (take (length v) w)).0 h)
-
 -- where two numbers and then the rest compare as no greater and the two are equal, the rest compares so
 rest-no_greater : (x y : ℕ) (o rest : Ordering) → MatchOrdering o (x < y) (x ≡ y) (y < x) → x ≡ y
     → is_gt (ordering_then o rest) ≡ false → is_gt rest ≡ false

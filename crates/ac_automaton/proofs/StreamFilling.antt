@@ -14,7 +14,7 @@ use Rattle.ac_util.specs.Occurrence.{Occurrence}
 use Rattle.ac_util.specs.Pick.{pick}
 use Rattle.ac_util.specs.Search.{from}
 use Rattle.ac_util.specs.Sizes.{longest_len}
-use Rattle.ac_util.specs.Stream.{buffer_len, reserve, streamed}
+use Rattle.ac_util.specs.Stream.{buffer_len, held, reserve, streamed}
 use Rattle.ac_util.specs.StreamReplacing.{settled}
 use Rattle.ac_util.specs.Walk.{walk_after}
 use Rattle.ac_util.proofs.Longer.{pick-extended, text-extended}
@@ -26,7 +26,7 @@ use Rattle.ac_automaton.specs.Automata.{plain_of}
 use Rattle.ac_automaton.specs.Finds.{found_at}
 use Rattle.ac_automaton.specs.Progress.{Reaches, node_at, search_of}
 use Rattle.ac_automaton.specs.Scans.{Scan, in_memory}
-use Rattle.ac_automaton.specs.Streams.{HasGiven, HasGivenAll, Inside, IsStreaming, KeepsGiven, Streaming, matches_so_far, settled_in, settled_of, stream_begun, stream_from}
+use Rattle.ac_automaton.specs.Streams.{HasGiven, HasGivenAll, Inside, IsStreaming, KeepsGiven, Streaming, kept_len, matches_so_far, settled_in, settled_of, stream_begun, stream_from}
 use Rattle.ac_automaton.proofs.FindLoop.{picked-start}
 use Rattle.ac_automaton.proofs.ReadOn.{at-start}
 use Rattle.ac_automaton.proofs.StreamLoop.{allowed-kind, allowed-some, picked-nothing, scan}
@@ -310,11 +310,14 @@ stays-given old between new bytes all is is_new later before =
     later
     ∙ ap (take old.given) (ap matches_so_far is) ∙ before
 
--- of a stream that goes on, at most as many bytes aren't settled as the longest pattern has
-pub settled-near : (v : Streaming) → v.phase ≡ Open → length v.bytes ≤ settled_of v + longest_len v.built.patterns
-settled-near v goes_on =
-    subst (λ (phase : Phase). length v.bytes ≤ settled_in phase (settled v.built v.bytes) (length v.bytes) + longest_len v.built.patterns)
-    (sym goes_on) (let n : length v.bytes ≤ settled v.built v.bytes + longest_len v.built.patterns = omega arith in n)
+-- where all that is settled of a stream that goes on is kept no more, the bytes held back are
+pub keeps-held : (v new : Streaming) → v.phase ≡ Open → new.kept ≡ settled_of v → new.bytes ≡ v.bytes
+    → kept_len new ≡ held v.built v.bytes
+keeps-held v new goes_on kept same =
+    let settles : settled_of v ≡ settled v.built v.bytes =
+    ap (λ (phase : Phase). settled_in phase (settled v.built v.bytes) (length v.bytes)) goes_on in
+    let long = ap (λ (bytes : List ℕ). length bytes) same in
+    omega arith
 
 -- bytes of the stream as they stand in the buffer
 pub buffer-shows : (bytes buffer : List ℕ) (front filled start end : ℕ) → length bytes ≡ front + filled

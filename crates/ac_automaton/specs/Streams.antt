@@ -10,7 +10,7 @@ use Rattle.ac_util.specs.Occurrence.{Occurrence}
 use Rattle.ac_util.specs.Pick.{pick}
 use Rattle.ac_util.specs.Search.{Search}
 use Rattle.ac_util.specs.Sizes.{longest_len}
-use Rattle.ac_util.specs.Stream.{buffer_len, last_end, reserve, streamed}
+use Rattle.ac_util.specs.Stream.{buffer_len, held, last_end, reserve, streamed}
 use Rattle.ac_util.specs.StreamReplacing.{FailsToRead, settled}
 use Rattle.ac_util.specs.Walk.{walk_after}
 use Rattle.ac_automaton.specs.declared.automaton.stream.Phase.{Phase}
@@ -106,7 +106,8 @@ Fills ends old result new reader new_reader =
     (λ more. MatchBool more (FillsMore old new reader new_reader) (MeetsEnd ends old new reader new_reader))
     (FailsToFill old new reader new_reader)
 
--- the next match of all that was read was given, once more was read where that was needed; those given before stay
+-- the next match of all that was read was given, once more was read where that was needed; those given before stay, and
+-- bytes are kept from its end on
 pub record GivesNext (old : Streaming) (m : Occurrence) (new : Streaming) (reader new_reader : Reading) : Type 0 where
   pub open' : old.phase ≡ Open
   pub more : List ℕ
@@ -118,15 +119,15 @@ pub record GivesNext (old : Streaming) (m : Occurrence) (new : Streaming) (reade
     bytes = old.bytes ++ more;
     given = old.given + 1;
     front = new.front;
-    kept = new.kept;
+    kept = m.end;
   }
 
 -- how many bytes of a stream are kept
 abbrev pub kept_len : Streaming → ℕ
 kept_len v = length v.bytes - v.kept
 
--- all matches of what was read were given, and then a read has failed, or brought more than usize counts; no more bytes are
--- kept than the longest pattern has
+-- all matches of what was read were given, and then a read has failed, or brought more than usize counts; what is kept are the
+-- bytes held back, no more than the longest pattern has
 pub record GivesError (old : Streaming) (e : StreamError) (new : Streaming) (reader new_reader : Reading)
     : Type 0 where
   pub open' : old.phase ≡ Open
@@ -134,15 +135,17 @@ pub record GivesError (old : Streaming) (e : StreamError) (new : Streaming) (rea
   pub reads : FailsToRead (length old.bytes) reader new_reader more e
   pub given : KeepsGiven old (old.bytes ++ more)
   pub all : old.given ≡ length (streamed old.built (old.bytes ++ more))
+  pub kept : kept_len new ≡ held old.built (old.bytes ++ more)
   pub few : kept_len new ≤ longest_len old.built.patterns
   pub same : new ≡ record old { bytes = old.bytes ++ more; front = new.front; kept = new.kept; phase = Failed }
 
--- all matches of what was read were given, and then the end was met
+-- all matches of what was read were given, and then the end was met; what is kept are the bytes held back
 pub record EndsNow (ends : Bool) (old new : Streaming) (reader new_reader : Reading) : Type 0 where
   pub more : List ℕ
   pub reads : ReadsAll ends reader new_reader more
   pub given : KeepsGiven old (old.bytes ++ more)
   pub all : old.given ≡ length (streamed old.built (old.bytes ++ more))
+  pub kept : kept_len new ≡ held old.built (old.bytes ++ more)
   pub same : new ≡ record old { bytes = old.bytes ++ more; front = new.front; kept = new.kept; phase = Ended }
 
 -- there is no match any more: the end was met now; or it or an error was met before, and nothing changes

@@ -3,6 +3,7 @@ use Rattle.std.proofs.Common.{◌≡◌, ℕ, zero, suc, ◌<◌, ◌≤◌, Boo
 use Rattle.std.specs.Prelude.{nat_eq}
 use Rattle.std.specs.List.{list_any, starts_with}
 use Rattle.std.proofs.lemmas.Bool.{or_cases, or_left, or_right, and_parts, and_from, eqb-true, eq-eqb, false≢true, false_from_ne_true}
+use Rattle.std.proofs.lemmas.Slice.Eq.{bytes_eq-Decides}
 use Rattle.ac_util.proofs.Lists.{IsIn}
 
 -- a string is a prefix of itself
@@ -63,6 +64,10 @@ starts_with-equal (x ∷ w) (y ∷ p) h l =
     let e = eqb-true y x parts.0 in
     let rest = starts_with-equal w p parts.1 (omega arith) in
     λ i. e i ∷ rest i
+
+-- a prefix of a string is its first bytes
+pub front-is : (w v : List ℕ) → starts_with nat_eq w v ≡ true → take (length v) w ≡ v
+front-is w v h = sym ((bytes_eq-Decides v (take (length v) w)).0 h)
 
 -- a prefix of a prefix is a prefix
 pub starts_with-trans : (w p r : List ℕ)

@@ -1,15 +1,15 @@
 -- A stream under a leftmost kind: the matches that are decided stay as more of it comes, and no other starts before them.
-use Rattle.std.proofs.Common.{◌≡◌, ℕ, zero, suc, ◌+◌, ◌-◌, ◌<◌, ◌≤◌, true, false, List, [], ◌∷◌, ◌++◌, length, get_or, map, length-append, length-drop, take, drop, inl, inr, refl, ap, sym, ◌∙◌, subst, arith, Option, None, Some}
-use Rattle.std.specs.Prelude.{◌==◌, All, nat_eq, slice_range}
+use Rattle.std.proofs.Common.{◌≡◌, ℕ, ◌+◌, ◌-◌, ◌<◌, ◌≤◌, true, List, [], ◌∷◌, ◌++◌, length, get_or, map, length-append, length-drop, take, drop, inl, inr, refl, ap, sym, ◌∙◌, subst, arith, Option, None, Some}
+use Rattle.std.specs.Prelude.{All, nat_eq, slice_range}
 use Rattle.std.specs.List.{starts_with}
-use Rattle.std.proofs.Math.Seq.{drop-append_seam, take-append_seam, take-length}
-use Rattle.std.proofs.lemmas.Bool.{and_parts, cases_lt, eq-eqb, eqb-true, false_from_ne_true, false≢true}
+use Rattle.std.proofs.Math.Seq.{drop-append_seam, take-append_seam, take-length, take-take}
+use Rattle.std.proofs.lemmas.Bool.{cases_lt, false_from_ne_true}
 use Rattle.std.proofs.lemmas.List.{drop-append-le, get_or-map, get_or-take, length-map, length-take-le, map-append, take-append-drop, take-map}
 use Rattle.std.proofs.lemmas.List.Elements.{All-cons, All-nil}
 use Rattle.ac_util.specs.declared.search.MatchKind.{MatchKind}
 use Rattle.ac_util.specs.declared.search.MatchKind.TheVariants.{Standard, LeftmostFirst, LeftmostLongest}
 use Rattle.ac_util.specs.Asked.{asked_whole}
-use Rattle.ac_util.specs.Built.{Built, has_empty, search_in}
+use Rattle.ac_util.specs.Built.{Built, search_in}
 use Rattle.ac_util.specs.Node.{is_leftmost, participates}
 use Rattle.ac_util.specs.Occurrence.{Occurrence, occurrence}
 use Rattle.ac_util.specs.Pick.{IsFirst, IsPick, pick}
@@ -23,7 +23,7 @@ use Rattle.ac_util.proofs.Lists.{IsIn-at}
 use Rattle.ac_util.proofs.Participants.{participant-least, takes_part}
 use Rattle.ac_util.proofs.Picks.{first_unique, pick-IsPick}
 use Rattle.ac_util.proofs.PiecesLemmas.{slice_range-append}
-use Rattle.ac_util.proofs.Prefixes.{IsFirstAny, first_any, list_any-from_IsIn, starts_with-length, starts_with-take}
+use Rattle.ac_util.proofs.Prefixes.{IsFirstAny, first_any, front-is, starts_with-length, starts_with-take}
 use Rattle.ac_util.proofs.Walks.{later, next-none, next-some, pick-Occurs, walk_after-None, walk_after-Some}
 
 -- what is preferred under a leftmost kind starts no later
@@ -31,23 +31,6 @@ first-starts : (kind : MatchKind) (a b : Occurrence) → is_leftmost kind ≡ tr
 first-starts Standard a b leftmost h = absurd (cc)
 first-starts LeftmostFirst a b leftmost h = h.starts
 first-starts LeftmostLongest a b leftmost h = h.starts
-
--- a prefix is the beginning of its length
-prefix-take : (w p : List ℕ) → starts_with nat_eq w p ≡ true → take (length p) w ≡ p
-prefix-take w [] h = refl
-prefix-take [] (y ∷ p) h = absurd (false≢true h)
-prefix-take (x ∷ w) (y ∷ p) h =
-    let parts = and_parts _ _ h in
-    let e = eqb-true y x parts.0 in
-    let rest = prefix-take w p parts.1 in
-    λ i. sym e i ∷ rest i
-
--- of the first bytes the first ones are those of the whole
-take-take : (n k : ℕ) (xs : List ℕ) → n ≤ k → take n (take k xs) ≡ take n xs
-take-take zero k xs le = refl
-take-take (suc n) zero xs le = absurd (omega arith)
-take-take (suc n) (suc k) [] le = refl
-take-take (suc n) (suc k) (x ∷ xs) le = ap (λ (w : List ℕ). x ∷ w) (take-take n k xs (omega arith))
 
 -- where a pattern stands, each of its prefixes among the patterns stands too
 module _ (q : Search) (m : Occurrence) (o : Occurs q m) (number : ℕ) (numbered : number < length q.patterns)
@@ -75,7 +58,7 @@ module _ (q : Search) (m : Occurrence) (o : Occurs q m) (number : ℕ) (numbered
           as_long = refl;
           to_high = omega arith;
           reads =
-              sym (prefix-take (plain q.fold (pattern_of q.patterns m.pattern)) (plain q.fold (pattern_of q.patterns number)) front)
+              sym (front-is (plain q.fold (pattern_of q.patterns m.pattern)) (plain q.fold (pattern_of q.patterns number)) front)
               ∙ ap (λ (k : ℕ). take k (plain q.fold (pattern_of q.patterns m.pattern)))
               (length-map (pattern_of q.patterns number) (plain_byte q.fold))
               ∙ ap (take len) o.reads
@@ -118,18 +101,6 @@ pick-takes_part LeftmostFirst q m leftmost is =
         (prefix-occurs q m o i (omega arith) front) in
         let least = first.patterns refl in
         absurd (omega arith)
-
--- no pattern is empty
-pub none-empty : (built : Built) → has_empty built ≡ false → (n : ℕ) → n < length built.patterns
-    → 0 < length (pattern_of built.patterns n)
-none-empty built none n within = elim (cases_lt 0 (length (pattern_of built.patterns n))) [
-  | inl some ↦ some
-  | inr empty ↦
-      let p = pattern_of built.patterns n in
-      absurd (false≢true (sym none
-      ∙ list_any-from_IsIn (λ (w : List ℕ). length w == 0) p built.patterns (IsIn-at p [] built.patterns n within refl)
-      (eq-eqb (length p) 0 (omega arith))))
-]
 
 module _ (built : Built) (leftmost : is_leftmost built.kind ≡ true) (bytes more : List ℕ) where
   -- the search from a place on, and the same once more bytes have come

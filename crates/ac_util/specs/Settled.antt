@@ -28,8 +28,8 @@ abbrev pub AreDecided : Built → List ℕ → ℕ → List Occurrence → ℕ �
 AreDecided built bytes from [] to = NoneOpen built bytes from to
 AreDecided built bytes from (m ∷ ms) to = NoneOpen built bytes from (m.start + 1) × AreDecided built bytes m.end ms to
 
--- a stream of which these bytes came is settled up to a place by the first of their matches, so many: these end by there and
--- are decided, no other starts before it, and no more bytes follow it than the longest pattern has
+-- these bytes of a stream came, and so many of their matches were given: the stream is settled up to a place where these end
+-- by there and are decided, no other match starts before it, and no more bytes follow it than the longest pattern has
 pub record IsSettledAt (built : Built) (bytes : List ℕ) (given place : ℕ) : Type 0 where
   pub few : given ≤ length (streamed built bytes)
   pub within : place ≤ length bytes

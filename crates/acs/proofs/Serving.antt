@@ -31,11 +31,6 @@ serves {request} patterns mode_is are made = record {
 
 module _ {request : Request} {words : List (List ℕ)} {mode : Mode} {built : Built} (h : IsServing request words mode built)
     (ends : Bool) (reader new_reader : Reading) (writer new_writer : Writing) where
-  -- the searcher is over the patterns among the words
-  pub patterns-are : built.patterns ≡ patterns_in mode words
-  patterns-are =
-      ap (λ (b : Built). b.patterns) h.built_is ∙ ap (λ (m : Mode). patterns_in m words) h.mode_is
-
   -- what the mode answers the run does
   pub run-by : (r : Result Outcome Fault)
       → AnswersOrFails ends mode built (texts_in mode words) reader new_reader writer new_writer r

@@ -1,12 +1,12 @@
-use Rattle.std.proofs.Common.{◌≡◌, ◌∙◌, ◌+◌, ◌++◌, ℕ, List, [], Bool, length, refl, rules, take, length-append, sym, subst, ap, arith}
+use Rattle.std.proofs.Common.{◌≡◌, ◌∙◌, ◌+◌, ◌++◌, ◌≤◌, ℕ, List, [], Bool, length, refl, rules, take, length-append, sym, subst, ap, arith}
 use Rattle.std.specs.Prelude.{MatchBool}
 use Rattle.std.proofs.KnownBytes.{Consumes-nil}
 use Rattle.std.proofs.lemmas.List.{append-nil}
 use Rattle.ac_util.specs.Sizes.{longest_len}
-use Rattle.ac_util.specs.Stream.{streamed}
+use Rattle.ac_util.specs.Stream.{held, streamed}
 use Rattle.ac_util.proofs.Devices.{fails-on, reads-on}
-use Rattle.ac_automaton.specs.Streams.{FillsMore, HasGivenAll, MeetsEnd, Streaming, matches_so_far, settled_of}
-use Rattle.ac_automaton.proofs.StreamFilling.{failed-as, read-as, settled-near, stays-given}
+use Rattle.ac_automaton.specs.Streams.{FillsMore, HasGivenAll, MeetsEnd, Streaming, kept_len, matches_so_far, settled_of}
+use Rattle.ac_automaton.proofs.StreamFilling.{failed-as, keeps-held, read-as, stays-given}
 use Rattle.ac_automaton.proofs.automaton.stream.StreamFinder.next.Goals as goal
 
 -- at first nothing was read
@@ -42,6 +42,11 @@ returns-in-Err g c =
     let all : HasGivenAll c.loop-found.self c.next_read.new.self = c.in_default.ensures in
     let read = c.loop-found.invariant in
     let more = read.more in
+    let kept : kept_len c.fill.new.self ≡ held c.args.self.now.built (c.args.self.now.bytes ++ more) =
+    keeps-held c.loop-found.self c.fill.new.self (ap (λ (v : Streaming). v.phase) read.same ∙ read.goes_on)
+    (ap (λ (v : Streaming). v.kept) fails.same ∙ ap (λ (v : Streaming). v.kept) all.same)
+    (ap (λ (v : Streaming). v.bytes) fails.same ∙ ap (λ (v : Streaming). v.bytes) all.same)
+    ∙ ap (λ (v : Streaming). held v.built v.bytes) read.same in
     record {
       open' = read.goes_on;
       more = more;
@@ -51,14 +56,9 @@ returns-in-Err g c =
       given = read.given;
       all = sym (ap (λ (v : Streaming). v.given) read.same) ∙ all.all
           ∙ ap (λ (v : Streaming). length (matches_so_far v)) read.same;
-      few =
-          (let near = settled-near c.loop-found.self
-          (ap (λ (v : Streaming). v.phase) read.same ∙ read.goes_on) in
-          let kept = ap (λ (v : Streaming). v.kept) fails.same ∙ ap (λ (v : Streaming). v.kept) all.same in
-          let bytes = ap (λ (v : Streaming). length v.bytes) fails.same
-          ∙ ap (λ (v : Streaming). length v.bytes) all.same in
-          let longest = ap (λ (v : Streaming). longest_len v.built.patterns) read.same in
-          omega arith);
+      kept = kept;
+      few = (let n : held c.args.self.now.built (c.args.self.now.bytes ++ more) ≤ longest_len c.args.self.now.built.patterns =
+          omega arith in omega arith);
       same = failed-as c.args.self.now c.loop-found.self c.next_read.new.self c.fill.new.self more read.same all fails.same;
     }
 
