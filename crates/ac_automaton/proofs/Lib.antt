@@ -32,6 +32,7 @@ pub mod Sorting
 pub mod Stacks
 pub mod Starting
 pub mod StateCount
+pub mod StreamEnds
 pub mod StreamExchanging
 pub mod StreamLoop
 pub mod StreamFilling

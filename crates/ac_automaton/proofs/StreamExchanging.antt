@@ -1,5 +1,5 @@
 -- The replacement of a stream: what was written so far and one piece more, one exchange more, and where it fails.
-use Rattle.std.proofs.Common.{◌≡◌, ℕ, zero, suc, ◌+◌, ◌-◌, ◌≤◌, Bool, List, [], ◌∷◌, ◌++◌, length, length-append, length-take, take, drop, inl, inr, refl, ap, sym, subst, ◌∙◌, arith, Option, Some, None, Result, Ok, Err}
+use Rattle.std.proofs.Common.{◌≡◌, ℕ, zero, suc, ◌+◌, ◌-◌, ◌<◌, ◌≤◌, Bool, List, [], ◌∷◌, ◌++◌, length, length-append, length-take, take, drop, inl, inr, refl, ap, sym, subst, ◌∙◌, arith, Option, Some, None, Result, Ok, Err}
 use Rattle.std.specs.Prelude.{slice_get, slice_range}
 use Rattle.std.proofs.KnownBytes.{Appends-nil, Appends-trans, Consumes-nil}
 use Rattle.std.proofs.Math.Seq.{take-add, take-append-add}
@@ -12,17 +12,17 @@ use Rattle.ac_util.specs.Device.{HasCause, Reading, ReadsAll, ReadsSome, Writing
 use Rattle.ac_util.specs.Occurrence.{Occurrence}
 use Rattle.ac_util.specs.Replacement.{Replacing}
 use Rattle.ac_util.specs.Stream.{streamed}
-use Rattle.ac_util.specs.StreamReplacing.{WritesPiece, settled}
+use Rattle.ac_util.specs.StreamReplacing.{IsNear, IsSettledBy, WritesPiece}
 use Rattle.ac_util.proofs.Devices.{fails-on, reads-on, reads-out}
 use Rattle.ac_util.proofs.Spans.{take_drop_take}
 use Rattle.ac_automaton.specs.declared.automaton.stream.Phase.{Phase}
-use Rattle.ac_automaton.specs.declared.automaton.stream.Phase.TheVariants.{Ended, Failed, Open}
+use Rattle.ac_automaton.specs.declared.automaton.stream.Phase.TheVariants.{Ended, Open}
 use Rattle.ac_automaton.specs.Exchanges.{FailsBy, FailsToExchange, HasExchanged, HasReplaced, ReplacesBy, StartFrom, Steps}
 use Rattle.ac_automaton.proofs.Places.{take-next}
-use Rattle.ac_automaton.specs.Streams.{FailsToFill, FillsMore, GivesMatch, MeetsEnd, Streaming, matches_so_far, settled_in, settled_of, stream_begun}
+use Rattle.ac_automaton.specs.Streams.{FailsToFill, FillsMore, GivesMatch, IsSettledIn, MeetsEnd, Streaming, matches_so_far, stream_begun}
 
 -- a part of a list and then the next are a part
-part-join : {X : Type 0} (xs : List X) (a b c : ℕ) → a ≤ b → b ≤ c
+pub part-join : {X : Type 0} (xs : List X) (a b c : ℕ) → a ≤ b → b ≤ c
     → slice_range xs a b ++ slice_range xs b c ≡ slice_range xs a c
 part-join xs a b c first second =
     ap (λ (ys : _). slice_range xs a b ++ take (c - b) ys)
@@ -44,6 +44,13 @@ part-same xs ys k a b same ordered within =
     sym (take_drop_take (b - a) a k xs (omega arith))
     ∙ ap (λ (zs : _). take (b - a) (drop a zs)) same
     ∙ take_drop_take (b - a) a k ys (omega arith)
+
+-- an element among the first ones
+taken-get : {X : Type 0} (xs : List X) (n k : ℕ) (x : X) → k < n → slice_get xs k ≡ Some x → slice_get (take n xs) k ≡ Some x
+taken-get xs zero k x below at = absurd (omega arith)
+taken-get [] (suc n) k x below at = absurd (cc)
+taken-get (y ∷ xs) (suc n) zero x below at = at
+taken-get (y ∷ xs) (suc n) (suc k) x below at = taken-get xs n k x (omega arith) at
 
 -- and those that begin alike so far do so less far
 take-same : {X : Type 0} (xs ys : List X) (k n : ℕ) → take k xs ≡ take k ys → n ≤ k → take n xs ≡ take n ys
@@ -162,24 +169,50 @@ module _ {E D : Type 0} (told : D → Writing)
                   turn.3,
                 )
 
-    -- all matches were exchanged, and what is settled could not be written
-    pub settled-fails : (e : StreamError) (t : Replacing E D) → v.given ≡ length (matches_so_far v)
-        → v.kept ≤ settled_of v → WritesPiece told (slice_range v.bytes v.kept (settled_of v)) s (Some e) t
-        → Steps told calls (take (settled_of v) v.bytes) 0 (matches_so_far v) first (Some e) t
-    settled-fails e t all onward writes =
-        subst (λ (ms : List Occurrence). Steps told calls (take (settled_of v) v.bytes) 0 ms first (Some e) t)
-        (append-nil (take v.given (matches_so_far v)) ∙ take_all v.given (matches_so_far v) (omega arith))
-        (done.steps (take (settled_of v) v.bytes) (take-take v.kept (settled_of v) v.bytes onward) [] tt (Some e) t
+    -- all that is settled was exchanged, and the bytes behind the last match could not be written
+    pub settled-fails : (place : ℕ) (e : StreamError) (t : Replacing E D) → v.kept ≤ place
+        → WritesPiece told (slice_range v.bytes v.kept place) s (Some e) t
+        → Steps told calls (take place v.bytes) 0 (take v.given (matches_so_far v)) first (Some e) t
+    settled-fails place e t onward writes =
+        subst (λ (ms : List Occurrence). Steps told calls (take place v.bytes) 0 ms first (Some e) t)
+        (append-nil (take v.given (matches_so_far v)))
+        (done.steps (take place v.bytes) (take-take v.kept place v.bytes onward) [] tt (Some e) t
         (subst (λ (w : List ℕ). WritesPiece told w s (Some e) t) range writes))
       where
-        range : slice_range v.bytes v.kept (settled_of v) ≡ drop v.kept (take (settled_of v) v.bytes)
+        range : slice_range v.bytes v.kept place ≡ drop v.kept (take place v.bytes)
         range =
-            sym (drop-take v.kept (settled_of v - v.kept) v.bytes)
+            sym (drop-take v.kept (place - v.kept) v.bytes)
             ∙ ap (λ (n : ℕ). drop v.kept (take n v.bytes))
-            (let e : v.kept + (settled_of v - v.kept) ≡ settled_of v = omega arith in e)
+            (let e : v.kept + (place - v.kept) ≡ place = omega arith in e)
 
     -- the next match
     module _ (m : Occurrence) (new : Streaming) (gives : GivesMatch v m new) where
+      -- by how many matches the stream is settled, and as far as where
+      abbrev given : ℕ
+      given = gives.settled.given
+
+      abbrev place : ℕ
+      place = gives.settled.place
+
+      -- it is one of these
+      cut : (later : List Occurrence) × (take v.given (matches_so_far v) ++ m ∷ later ≡ take given (matches_so_far v))
+      cut =
+          let among = gives.settled.among in
+          let later = cut-at (take given (matches_so_far v)) v.given m
+          (taken-get (matches_so_far v) given v.given m among gives.next) in (
+            later.0,
+            ap (λ (ms : List Occurrence). ms ++ m ∷ later.0)
+                (sym (take-take v.given given (matches_so_far v) (omega arith))) ∙ later.1,
+          )
+
+      alike : take m.end (take place v.bytes) ≡ take m.end v.bytes
+      alike = take-take m.end place v.bytes gives.settled.ended
+
+      kept-alike : take v.kept (take place v.bytes) ≡ take v.kept v.bytes
+      kept-alike =
+          let a = gives.after in let o = gives.ordered in let e = gives.settled.ended in
+          take-take v.kept place v.bytes (omega arith)
+
       -- the bytes before it were written, and it was exchanged
       module _ (at_match : Replacing E D) (gap : WritesPiece told (slice_range v.bytes v.kept m.start) s None at_match) where
         turned : (haystack : List ℕ) → take m.end haystack ≡ take m.end v.bytes
@@ -222,22 +255,17 @@ module _ {E D : Type 0} (told : D → Writing)
         -- or it could not be exchanged
         pub exchange-fails : (e : StreamError) (t : Replacing E D)
             → calls m (slice_range v.bytes m.start m.end) at_match (Err e) t
-            → Steps told calls (take (settled_of v) v.bytes) 0 (matches_so_far v) first (Some e) t
+            → Steps told calls (take gives.settled.place v.bytes) 0 (take gives.settled.given (matches_so_far v)) first (Some e) t
         exchange-fails e t call =
-            let cut = cut-at (matches_so_far v) v.given m gives.next in
-            let a = gives.after in let o = gives.ordered in let w = gives.settled in
-            let same = take-take m.end (settled_of v) v.bytes w in
-            subst (λ (ns : List Occurrence). Steps told calls (take (settled_of v) v.bytes) 0 ns first (Some e) t) cut.1
-            (done.steps (take (settled_of v) v.bytes) (take-take v.kept (settled_of v) v.bytes (omega arith))
-            (m ∷ cut.0) gives.after (Some e) t
+            subst (λ (ns : List Occurrence). Steps told calls (take place v.bytes) 0 ns first (Some e) t) cut.1
+            (done.steps (take place v.bytes) kept-alike (m ∷ cut.0) gives.after (Some e) t
             (inr (
               Err e,
               t,
               record {
                 at_match = at_match;
-                gap = turned (take (settled_of v) v.bytes) same;
-                call = subst (λ (w : List ℕ). calls m w at_match (Err e) t)
-                    (sym (sliced (take (settled_of v) v.bytes) same)) call;
+                gap = turned (take place v.bytes) alike;
+                call = subst (λ (w : List ℕ). calls m w at_match (Err e) t) (sym (sliced (take place v.bytes) alike)) call;
               },
               (refl, refl),
             )))
@@ -245,19 +273,14 @@ module _ {E D : Type 0} (told : D → Writing)
       -- or the bytes before it could not be written
       pub gap-fails : (e : StreamError) (t : Replacing E D)
           → WritesPiece told (slice_range v.bytes v.kept m.start) s (Some e) t
-          → Steps told calls (take (settled_of v) v.bytes) 0 (matches_so_far v) first (Some e) t
+          → Steps told calls (take gives.settled.place v.bytes) 0 (take gives.settled.given (matches_so_far v)) first (Some e) t
       gap-fails e t gap =
-          let cut = cut-at (matches_so_far v) v.given m gives.next in
-          let a = gives.after in let o = gives.ordered in let w = gives.settled in
-          let same = take-take m.end (settled_of v) v.bytes w in
-          subst (λ (ns : List Occurrence). Steps told calls (take (settled_of v) v.bytes) 0 ns first (Some e) t) cut.1
-          (done.steps (take (settled_of v) v.bytes) (take-take v.kept (settled_of v) v.bytes (omega arith))
-          (m ∷ cut.0) gives.after (Some e) t
+          subst (λ (ns : List Occurrence). Steps told calls (take place v.bytes) 0 ns first (Some e) t) cut.1
+          (done.steps (take place v.bytes) kept-alike (m ∷ cut.0) gives.after (Some e) t
           (inl (
             (λ none. absurd (cc)),
             subst (λ (w : List ℕ). WritesPiece told w s (Some e) t)
-                (sym (part-same (take (settled_of v) v.bytes) v.bytes m.end v.kept m.start same gives.after gives.ordered))
-                gap,
+                (sym (part-same (take place v.bytes) v.bytes m.end v.kept m.start alike gives.after gives.ordered)) gap,
           )))
 
 module _ {E D : Type 0} (told : D → Writing)
@@ -283,13 +306,12 @@ module _ {E D : Type 0} (told : D → Writing)
         (subst (λ (k : ℕ). Steps told calls haystack k ms s end t) kept steps));
   }
 
-  -- all matches were exchanged: these are the steps as far as bytes are settled
-  pub replaced-all : (v : Streaming) (first s : Replacing E D) (place : ℕ) → HasReplaced told calls v first s
-      → v.given ≡ length (matches_so_far v) → v.kept ≡ place
-      → Steps told calls (take place v.bytes) 0 (matches_so_far v) first None s
-  replaced-all v first s place done all kept =
+  -- the matches given were exchanged: these are the steps as far as bytes are kept no more
+  pub replaced-all : (v : Streaming) (first s : Replacing E D) (place : ℕ) → HasReplaced told calls v first s → v.kept ≡ place
+      → Steps told calls (take place v.bytes) 0 (take v.given (matches_so_far v)) first None s
+  replaced-all v first s place done kept =
       subst (λ (ms : List Occurrence). Steps told calls (take place v.bytes) 0 ms first None s)
-      (append-nil (take v.given (matches_so_far v)) ∙ take_all v.given (matches_so_far v) (omega arith))
+      (append-nil (take v.given (matches_so_far v)))
       (done.steps (take place v.bytes)
       (ap (λ (k : ℕ). take k (take place v.bytes)) kept ∙ take-take place place v.bytes (omega arith)
       ∙ ap (λ (k : ℕ). take k v.bytes) (sym kept)) [] tt None s
@@ -315,22 +337,26 @@ module _ {E D : Type 0} (told : D → Writing)
     pub reads : ReadsAll ends begun reader v.bytes
     pub replaced : HasReplaced told calls v first s
 
-  -- as far as where all is settled, by the phase
-  settled-open : (v : Streaming) → v.built ≡ built → v.phase ≡ Open → settled_of v ≡ settled built v.bytes
-  settled-open v is open' =
-      ap (λ (p : Phase). settled_in p (settled v.built v.bytes) (length v.bytes)) open'
-      ∙ ap (λ (b : Built). settled b v.bytes) is
-
-  settled-ended : (v : Streaming) → v.phase ≡ Ended → settled_of v ≡ length v.bytes
-  settled-ended v ended = ap (λ (p : Phase). settled_in p (settled v.built v.bytes) (length v.bytes)) ended
-
   -- steps told by what the search was built from
-  steps-by : (v : Streaming) (from to : ℕ) (end : Option StreamError) (t : Replacing E D) → v.built ≡ built → from ≡ to
-      → Steps told calls (take from v.bytes) 0 (matches_so_far v) first end t
-      → Steps told calls (take to v.bytes) 0 (streamed built v.bytes) first end t
-  steps-by v from to end t is place steps =
-      subst (λ (n : ℕ). Steps told calls (take n v.bytes) 0 (streamed built v.bytes) first end t) place
-      (subst (λ (b : Built). Steps told calls (take from v.bytes) 0 (streamed b v.bytes) first end t) is steps)
+  steps-by : (v : Streaming) (given place : ℕ) (end : Option StreamError) (t : Replacing E D) → v.built ≡ built
+      → Steps told calls (take place v.bytes) 0 (take given (matches_so_far v)) first end t
+      → Steps told calls (take place v.bytes) 0 (take given (streamed built v.bytes)) first end t
+  steps-by v given place end t is steps =
+      subst (λ (b : Built). Steps told calls (take place v.bytes) 0 (take given (streamed b v.bytes)) first end t) is steps
+
+  -- how far a stream is settled that goes on, and one whose end was met
+  settled-open : (v : Streaming) (given place : ℕ) → v.built ≡ built → v.phase ≡ Open
+      → IsSettledIn v.phase v.built v.bytes given place → IsSettledBy built.kind built v.bytes given place
+  settled-open v given place is open' h =
+      subst (λ (b : Built). IsSettledBy b.kind b v.bytes given place) is
+      (subst (λ (p : Phase). IsSettledIn p v.built v.bytes given place) open' h)
+
+  settled-ended : (v : Streaming) (given place : ℕ) → v.built ≡ built → v.phase ≡ Ended
+      → IsSettledIn v.phase v.built v.bytes given place
+      → (given ≡ length (streamed built v.bytes)) × (place ≡ length v.bytes)
+  settled-ended v given place is ended h =
+      subst (λ (b : Built). (given ≡ length (streamed b v.bytes)) × (place ≡ length v.bytes)) is
+      (subst (λ (p : Phase). IsSettledIn p v.built v.bytes given place) ended h)
 
   pub begins : (v : Streaming) → v ≡ stream_begun built → IsReplacing begun v first
   begins v is =
@@ -371,31 +397,19 @@ module _ {E D : Type 0} (told : D → Writing)
         }
 
     -- or a read has failed
-    pub fails-reading : v.given ≡ length (matches_so_far v) → v.kept ≡ settled_of v → (e : StreamError)
+    pub fails-reading : IsSettledIn v.phase v.built v.bytes v.given v.kept → IsNear v.built v.bytes v.kept → (e : StreamError)
         → FailsToFill v new reader new_reader e → FailsBy told calls ends built begun new_reader first e s
-    fails-reading all kept e fails = (
+    fails-reading settled near e fails = (
       v.bytes,
-      inl (
-        fails-on new_reader 0 (length v.bytes) v.bytes (omega arith) on.reads e fails.reads,
-        steps-by v (settled_of v) (settled built v.bytes) None s on.built_is (settled-open v on.built_is on.goes_on)
-            (replaced-all told calls v first s (settled_of v) on.replaced all kept),
-      ),
+      inl (record {
+        given = v.given;
+        place = v.kept;
+        reads = fails-on new_reader 0 (length v.bytes) v.bytes (omega arith) on.reads e fails.reads;
+        settled = settled-open v v.given v.kept on.built_is on.goes_on settled;
+        near = subst (λ (b : Built). IsNear b v.bytes v.kept) on.built_is near;
+        steps = steps-by v v.given v.kept None s on.built_is (replaced-all told calls v first s v.kept on.replaced refl);
+      }),
     )
-
-  -- all that is settled was written
-  pub all-kept : {v new : Streaming} {s t : Replacing E D} → HasExchanged told calls v new s t
-      → new.kept ≡ settled_of new
-  all-kept done =
-      ap (λ (w : Streaming). w.kept) done.same ∙ sym (ap (λ (w : Streaming). settled_of w) done.same)
-
-  -- nothing is settled past the bytes read
-  pub settled-within : (v : Streaming) → settled_of v ≤ length v.bytes
-  settled-within v = by v.phase
-    where
-      by : (p : Phase) → settled_in p (settled v.built v.bytes) (length v.bytes) ≤ length v.bytes
-      by Open = omega arith
-      by Ended = omega arith
-      by Failed = omega arith
 
   module _ {reader : Reading} {v : Streaming} {s : Replacing E D} where
     -- what was found in what was read was exchanged
@@ -411,39 +425,44 @@ module _ {E D : Type 0} (told : D → Writing)
     -- or that has failed
     pub fails-exchanging : IsReplacing reader v s → (e : StreamError) (t : Replacing E D) → FailsToExchange told calls v s e t
         → FailsBy told calls ends built begun reader first e t
-    fails-exchanging on e t fails = (
-      v.bytes,
-      inr (
-        settled built v.bytes,
-        inl (on.reads, refl),
-        steps-by v (settled_of v) (settled built v.bytes) (Some e) t on.built_is
-            (settled-open v on.built_is on.goes_on) (fails first on.replaced),
-      ),
-    )
+    fails-exchanging on e t fails =
+        let made = fails first on.replaced in (
+          v.bytes,
+          inr (
+            made.0,
+            made.1,
+            inl (on.reads, settled-open v made.0 made.1 on.built_is on.goes_on made.2),
+            steps-by v made.0 made.1 (Some e) t on.built_is made.3,
+          ),
+        )
 
     -- at the end all was written
     pub replaces : {new : Streaming} {t : Replacing E D} → IsEnding reader v s → HasExchanged told calls v new s t
         → ReplacesBy told calls ends built begun reader first t
     replaces {new} {t} on done =
         let bytes = ap (λ (w : Streaming). w.bytes) done.same in
-        let is = ap (λ (w : Streaming). w.built) done.same ∙ on.built_is in (
+        let is = ap (λ (w : Streaming). w.built) done.same ∙ on.built_is in
+        let all = settled-ended new new.given new.kept is (ap (λ (w : Streaming). w.phase) done.same ∙ on.ended) done.settled in (
           new.bytes,
           subst (ReadsAll ends begun reader) (sym bytes) on.reads,
-          steps-by new (settled_of new) (length new.bytes) None t is
-              (settled-ended new (ap (λ (w : Streaming). w.phase) done.same ∙ on.ended))
-              (replaced-all told calls new first t (settled_of new) (done.replaced first on.replaced) done.all
-              (all-kept done)),
+          subst (λ (ms : List Occurrence). Steps told calls (take (length new.bytes) new.bytes) 0 ms first None t)
+              (take_all new.given (streamed built new.bytes) (let n = all.0 in omega arith))
+              (subst (λ (n : ℕ). Steps told calls (take n new.bytes) 0 (take new.given (streamed built new.bytes)) first None t)
+              all.1
+              (steps-by new new.given new.kept None t is
+              (replaced-all told calls new first t new.kept (done.replaced first on.replaced) refl))),
         )
 
     -- or that has failed
     pub fails-at-last : IsEnding reader v s → (e : StreamError) (t : Replacing E D) → FailsToExchange told calls v s e t
         → FailsBy told calls ends built begun reader first e t
-    fails-at-last on e t fails = (
-      v.bytes,
-      inr (
-        length v.bytes,
-        inr (on.reads, refl),
-        steps-by v (settled_of v) (length v.bytes) (Some e) t on.built_is (settled-ended v on.ended)
-            (fails first on.replaced),
-      ),
-    )
+    fails-at-last on e t fails =
+        let made = fails first on.replaced in (
+          v.bytes,
+          inr (
+            made.0,
+            made.1,
+            inr (let all = settled-ended v made.0 made.1 on.built_is on.ended made.2 in (on.reads, all.0, all.1)),
+            steps-by v made.0 made.1 (Some e) t on.built_is made.3,
+          ),
+        )

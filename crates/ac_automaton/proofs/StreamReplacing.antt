@@ -1,25 +1,28 @@
 -- The steps of a stream's replacement, told of a closure alone, and of the text that a list of texts leaves.
-use Rattle.std.proofs.Common.{◌≡◌, ◌≢◌, ℕ, ◌-◌, ◌≤◌, Bool, List, [], ◌∷◌, ◌++◌, length, length-append, length-drop, length-take, take, drop, inl, inr, refl, ap, sym, subst, ◌∙◌, arith, Option, Some, None, Result, Ok, Err}
-use Rattle.std.specs.Prelude.{MatchResult, slice_index_or, slice_range}
+use Rattle.std.proofs.Common.{◌≡◌, ◌≢◌, ℕ, suc, ◌+◌, ◌-◌, ◌≤◌, Bool, List, [], ◌∷◌, ◌++◌, length, length-append, length-drop, length-take, take, drop, inl, inr, refl, ap, sym, subst, ◌∙◌, arith, Option, Some, None, Result, Ok, Err}
+use Rattle.std.specs.Prelude.{All, MatchResult, slice_index_or, slice_range}
 use Rattle.std.specs.Borrow.{Bor, MutBor}
 use Rattle.std.specs.Fn.{Mut}
 use Rattle.std.specs.declared.io.Error.{Error}
 use Rattle.std.proofs.Math.Seq.{take-append_seam}
-use Rattle.std.proofs.lemmas.List.{append_assoc, drop-append-le, take-append-drop, take-append-le, take_all}
+use Rattle.std.proofs.lemmas.List.{append_assoc, drop-append-le, drop-take, drop_all, take-append-drop, take-append-le, take_all}
 use Rattle.ac_util.specs.declared.error.StreamError.{StreamError}
 use Rattle.ac_util.specs.declared.error.StreamError.TheVariants.{Io}
+use Rattle.ac_util.specs.declared.search.MatchKind.{MatchKind}
+use Rattle.ac_util.specs.declared.search.MatchKind.TheVariants.{LeftmostFirst, LeftmostLongest, Standard}
 use Rattle.ac_util.specs.Built.{Built}
 use Rattle.ac_util.specs.Device.{Reading, Writing, WritesAll}
 use Rattle.ac_util.specs.Occurrence.{Occurrence}
 use Rattle.ac_util.specs.Replaced.{replaced, replaced_from}
 use Rattle.ac_util.specs.Replacement.{Calls, MatchAnswer, Replacing, ReplacementSteps}
+use Rattle.ac_util.specs.Settled.{IsSettledAt}
 use Rattle.ac_util.specs.Stream.{held, last_end, streamed, without_last}
-use Rattle.ac_util.specs.StreamReplacing.{FailsToReplace, FailsToReplaceWith, ReplacesStream, ReplacesStreamWith, WritesPiece, asked_by_result, settled}
+use Rattle.ac_util.specs.StreamReplacing.{FailsToReplace, FailsToReplaceWith, IsSettledBy, ReplacesStream, ReplacesStreamWith, StepsAreSettled, TextIsSettled, WritesPiece, asked_by_result, settled}
 use Rattle.ac_util.proofs.Exchanges.{AreInOrder, exchanged-in_order}
 use Rattle.ac_util.proofs.PiecesLemmas.{slice_range-append}
 use Rattle.ac_automaton.specs.declared.automaton.stream_replace.ByClosure.{ByClosure}
-use Rattle.ac_automaton.specs.Exchanges.{CallsBy, FailsBy, ReplacesBy, Steps, WritesTexts, asked_by_answer, error_in}
-use Rattle.ac_automaton.proofs.StreamExchanging.{piece-join}
+use Rattle.ac_automaton.specs.Exchanges.{CallsBy, FailsBy, ReplacesBy, StartFrom, Steps, WritesTexts, asked_by_answer, error_in}
+use Rattle.ac_automaton.proofs.StreamExchanging.{part-join, piece-join}
 
 -- a closure and its writer, without what wraps the closure
 abbrev bare : {F D : Type 0} → Replacing (ByClosure F) D → Replacing F D
@@ -98,47 +101,78 @@ module _ {F D : Type 0} (told : D → Writing)
 
     pub fails-with : (e : StreamError) → FailsBy told wrapped ends built reader new_reader first e t
         → FailsToReplaceWith told closures built closure old ends reader new_reader t.destination e
-    fails-with e (bytes, inl fails) = (
-      bytes,
-      inl (
-        fails.0,
-        (
+    fails-with e (bytes, inl fails) = (bytes, inl (fails.reads, by built.kind fails.settled))
+      where
+        bare-made : ReplacementSteps (WritesPiece told) (Calls closures) asked_by_result (take fails.place bytes) 0
+            (take fails.given (streamed built bytes)) (bare first) None (bare t)
+        bare-made = bare-steps (take fails.place bytes) 0 (take fails.given (streamed built bytes)) first t None fails.steps
+
+        by : (kind : MatchKind) → IsSettledBy kind built bytes fails.given fails.place
+            → StepsAreSettled told closures built closure old kind bytes t.destination
+        by Standard all = (
           t.closure.closure,
-          bare-steps (take (settled built bytes) bytes) 0 (streamed built bytes) first t None fails.1,
-        ),
-      ),
-    )
+          subst (λ (ms : List Occurrence). ReplacementSteps (WritesPiece told) (Calls closures) asked_by_result
+              (take (settled built bytes) bytes) 0 ms (bare first) None (bare t))
+              (take_all fails.given (streamed built bytes) (let n = all.0 in omega arith))
+              (subst (λ (k : ℕ). ReplacementSteps (WritesPiece told) (Calls closures) asked_by_result (take k bytes) 0
+              (take fails.given (streamed built bytes)) (bare first) None (bare t)) all.1 bare-made),
+        )
+        by LeftmostFirst some = (fails.given, fails.place, some, fails.near, (t.closure.closure, bare-made))
+        by LeftmostLongest some = (fails.given, fails.place, some, fails.near, (t.closure.closure, bare-made))
     fails-with e (bytes, inr fails) = (
       bytes,
       inr (
         fails.0,
         fails.1,
+        fails.2,
         (
           t.closure.closure,
-          bare-steps (take fails.0 bytes) 0 (streamed built bytes) first t (Some e) fails.2,
+          bare-steps (take fails.1 bytes) 0 (take fails.0 (streamed built bytes)) first t (Some e) fails.3,
         ),
       ),
     )
 
--- matches in order, of which none ends past a place: the haystack as far as there, with its matches exchanged, and then the
--- rest of it
-replaced-cut : (haystack : List ℕ) (texts : List (List ℕ)) (many place end : ℕ) (ms : List Occurrence)
-    → AreInOrder end many place ms → end ≤ length haystack
-    → replaced_from haystack texts place ms ≡ replaced_from (take end haystack) texts place ms ++ drop end haystack
-replaced-cut haystack texts many place end [] order within =
+-- matches in order, of which the first ones end by a place and the others start no earlier: the haystack as far as there, with
+-- the first ones exchanged, and then the rest of it with the others
+replaced-cut : (haystack : List ℕ) (texts : List (List ℕ)) (many place end : ℕ) (ms others : List Occurrence)
+    → AreInOrder end many place ms → StartFrom end others → end ≤ length haystack
+    → replaced_from haystack texts place (ms ++ others)
+    ≡ replaced_from (take end haystack) texts place ms ++ replaced_from haystack texts end others
+replaced-cut haystack texts many place end [] [] order starts within =
     ap (drop place) (sym (take-append-drop end haystack))
     ∙ drop-append-le place (take end haystack) (drop end haystack)
     (let l = length-take end haystack in omega arith)
-replaced-cut haystack texts many place end (m ∷ ms) order within =
+replaced-cut haystack texts many place end [] (n ∷ others) order starts within =
+    let text = slice_index_or texts n.pattern [] in
+    let parts : slice_range haystack place n.start ≡ drop place (take end haystack) ++ slice_range haystack end n.start =
+    sym (part-join haystack place end n.start order starts)
+    ∙ ap (λ (w : List ℕ). w ++ slice_range haystack end n.start)
+    (sym (drop-take place (end - place) haystack)
+    ∙ ap (λ (k : ℕ). drop place (take k haystack)) (let e : place + (end - place) ≡ end = omega arith in e)) in
+    ap (λ (w : List ℕ). w ++ text ++ replaced_from haystack texts n.end others) parts
+    ∙ ap (λ (w : List ℕ). w ++ replaced_from haystack texts n.end others)
+    (append_assoc (drop place (take end haystack)) (slice_range haystack end n.start) text)
+    ∙ append_assoc (drop place (take end haystack)) (slice_range haystack end n.start ++ text)
+    (replaced_from haystack texts n.end others)
+replaced-cut haystack texts many place end (m ∷ ms) others order starts within =
     let text = slice_index_or texts m.pattern [] in
     let part = ap (λ (w : List ℕ). slice_range w place m.start) (sym (take-append-drop end haystack))
     ∙ slice_range-append (take end haystack) (drop end haystack) place m.start order.0
     (let l = length-take end haystack in let a = order.1 in let b = order.2 in omega arith) in
-    ap (λ (w : List ℕ). w ++ text ++ replaced_from haystack texts m.end ms) part
+    ap (λ (w : List ℕ). w ++ text ++ replaced_from haystack texts m.end (ms ++ others)) part
     ∙ ap (λ (w : List ℕ). slice_range (take end haystack) place m.start ++ text ++ w)
-    (replaced-cut haystack texts many m.end end ms order.4 within)
+    (replaced-cut haystack texts many m.end end ms others order.4 starts within)
     ∙ sym (append_assoc (slice_range (take end haystack) place m.start ++ text)
-    (replaced_from (take end haystack) texts m.end ms) (drop end haystack))
+    (replaced_from (take end haystack) texts m.end ms) (replaced_from haystack texts end others))
+
+-- the first of matches in order are in order
+order-front : (bytes many place : ℕ) (ms others : List Occurrence) → AreInOrder bytes many place (ms ++ others)
+    → AreInOrder bytes many place ms
+order-front bytes many place [] [] order = order
+order-front bytes many place [] (n ∷ others) order =
+    let a = order.0 in let b = order.1 in let c = order.2 in omega arith
+order-front bytes many place (m ∷ ms) others order =
+    (order.0, order.1, order.2, order.3, order-front bytes many m.end ms others order.4)
 
 -- matches in order are in order as far as the last of them ends
 order-within : (bytes many place end : ℕ) (ms : List Occurrence) → AreInOrder bytes many place ms → place ≤ end
@@ -163,6 +197,38 @@ order-last : (bytes many place : ℕ) (ms : List Occurrence) → AreInOrder byte
 order-last bytes many place [] order = omega arith
 order-last bytes many place (m ∷ []) order = order.2
 order-last bytes many place (m ∷ n ∷ ms) order = order-last bytes many m.end (n ∷ ms) order.4
+
+-- matches all of which end by a place
+ends-by : (ms : List Occurrence) (place : ℕ) → All (λ (m : Occurrence). m.end ≤ place) ms → last_end ms ≤ place
+ends-by [] place all = omega arith
+ends-by (m ∷ []) place all = all 0 m (omega arith)
+ends-by (m ∷ n ∷ ms) place all = ends-by (n ∷ ms) place (λ k d within. all (suc k) d (omega arith))
+
+-- the first of the matches that settle a stream as far as a place end by there, and the others start no earlier
+record AreApart (built : Built) (bytes : List ℕ) (given place : ℕ) : Type 0 where
+  within : place ≤ length bytes
+  last : last_end (take given (streamed built bytes)) ≤ place
+  starts : StartFrom place (drop given (streamed built bytes))
+
+all-apart : (built : Built) (bytes : List ℕ) (given place : ℕ) → given ≡ length (streamed built bytes)
+    → place ≤ length bytes → last_end (streamed built bytes) ≤ place → AreApart built bytes given place
+all-apart built bytes given place all within last = record {
+  within = within;
+  last = subst (λ (ms : List Occurrence). last_end ms ≤ place) (sym (take_all given (streamed built bytes) (omega arith))) last;
+  starts = subst (StartFrom place) (sym (drop_all given (streamed built bytes) (omega arith))) tt;
+}
+
+some-apart : (built : Built) (bytes : List ℕ) (given place : ℕ) → IsSettledAt built bytes given place
+    → AreApart built bytes given place
+some-apart built bytes given place h = record {
+  within = h.within;
+  last = ends-by (take given (streamed built bytes)) place h.ended;
+  starts = by (drop given (streamed built bytes)) h.later;
+}
+  where
+    by : (ms : List Occurrence) → All (λ (m : Occurrence). place ≤ m.start) ms → StartFrom place ms
+    by [] all = tt
+    by (m ∷ ms) all = all 0 m (omega arith)
 
 module _ {F D : Type 0} (told : D → Writing) where
   -- a piece of which not all was written, and more
@@ -259,13 +325,20 @@ module _ {F D : Type 0} (told : D → Writing) where
       abbrev whole-of : List ℕ → List ℕ
       whole-of bytes = replaced bytes list (streamed built bytes)
 
-      -- what is settled, and then the bytes held back
-      cut-of : (bytes : List ℕ) (end : ℕ) → end ≤ length bytes → last_end (streamed built bytes) ≤ end
-          → whole-of bytes ≡ replaced (take end bytes) list (streamed built bytes) ++ drop end bytes
-      cut-of bytes end within last =
-          replaced-cut bytes list (length built.patterns) 0 end (streamed built bytes)
-          (order-within (length bytes) (length built.patterns) 0 end (streamed built bytes)
-          (exchanged-in_order built bytes (length built.patterns) refl) (omega arith) last) within
+      -- what is settled, and then the rest
+      cut-of : (bytes : List ℕ) (given place : ℕ) → AreApart built bytes given place
+          → whole-of bytes
+          ≡ replaced (take place bytes) list (take given (streamed built bytes))
+          ++ replaced_from bytes list place (drop given (streamed built bytes))
+      cut-of bytes given place apart =
+          ap (replaced bytes list) (sym (take-append-drop given (streamed built bytes)))
+          ∙ replaced-cut bytes list (length built.patterns) 0 place (take given (streamed built bytes))
+          (drop given (streamed built bytes))
+          (order-within (length bytes) (length built.patterns) 0 place (take given (streamed built bytes))
+          (order-front (length bytes) (length built.patterns) 0 (take given (streamed built bytes))
+          (drop given (streamed built bytes))
+          (subst (AreInOrder (length bytes) (length built.patterns) 0) (sym (take-append-drop given (streamed built bytes)))
+          (exchanged-in_order built bytes (length built.patterns) refl))) (omega arith) apart.last) apart.starts apart.within
 
       pub replaces-by : ReplacesBy told exchanges ends built reader new_reader s t
           → ReplacesStream built list (told s.destination) (told t.destination) ends reader new_reader
@@ -282,13 +355,22 @@ module _ {F D : Type 0} (told : D → Writing) where
           order-last (length bytes) (length built.patterns) 0 (streamed built bytes)
           (exchanged-in_order built bytes (length built.patterns) refl)
 
-      -- the replaced text of what is settled is that of all without the bytes held back
+      -- the replaced text of what is settled under Standard is that of all without the bytes held back
       settled-text : (bytes : List ℕ)
           → replaced (take (settled built bytes) bytes) list (streamed built bytes)
           ≡ without_last (held built bytes) (whole-of bytes)
       settled-text bytes =
           let last = last-inside bytes in
-          let cut = cut-of bytes (settled built bytes) (omega arith) (omega arith) in
+          let many = length (streamed built bytes) in
+          let apart = all-apart built bytes many (settled built bytes) refl (omega arith) (omega arith) in
+          let whole = take_all many (streamed built bytes) (omega arith) in
+          let cut : whole-of bytes
+          ≡ replaced (take (settled built bytes) bytes) list (streamed built bytes) ++ drop (settled built bytes) bytes =
+          cut-of bytes many (settled built bytes) apart
+          ∙ ap (λ (ms : List Occurrence). replaced (take (settled built bytes) bytes) list ms
+          ++ replaced_from bytes list (settled built bytes) (drop many (streamed built bytes))) whole
+          ∙ ap (λ (ms : List Occurrence). replaced (take (settled built bytes) bytes) list (streamed built bytes)
+          ++ replaced_from bytes list (settled built bytes) ms) (drop_all many (streamed built bytes) (omega arith)) in
           let written = replaced (take (settled built bytes) bytes) list (streamed built bytes) in
           let size = ap length cut ∙ length-append written (drop (settled built bytes) bytes) in
           let left = length-drop (settled built bytes) bytes in
@@ -298,28 +380,44 @@ module _ {F D : Type 0} (told : D → Writing) where
           ∙ take-append_seam written (drop (settled built bytes) bytes))
 
       -- a beginning of the replaced text as far as a place is one of all of it
-      begun-text : (bytes : List ℕ) (place : ℕ) (e : StreamError) → place ≤ length bytes
-          → last_end (streamed built bytes) ≤ place
-          → Steps told exchanges (take place bytes) 0 (streamed built bytes) s (Some e) t
+      begun-text : (bytes : List ℕ) (given place : ℕ) (e : StreamError) → AreApart built bytes given place
+          → Steps told exchanges (take place bytes) 0 (take given (streamed built bytes)) s (Some e) t
           → WritesPiece told (whole-of bytes) s (Some e) t
-      begun-text bytes place e within last steps =
-          subst (λ (w : List ℕ). WritesPiece told w s (Some e) t) (sym (cut-of bytes place within last))
-          (piece-begun (replaced (take place bytes) list (streamed built bytes)) (drop place bytes) s t e
-          (text-steps (take place bytes) 0 (streamed built bytes) s t (Some e) list same steps))
+      begun-text bytes given place e apart steps =
+          subst (λ (w : List ℕ). WritesPiece told w s (Some e) t) (sym (cut-of bytes given place apart))
+          (piece-begun (replaced (take place bytes) list (take given (streamed built bytes)))
+          (replaced_from bytes list place (drop given (streamed built bytes))) s t e
+          (text-steps (take place bytes) 0 (take given (streamed built bytes)) s t (Some e) list same steps))
+
+      apart-by : (bytes : List ℕ) (given place : ℕ) (kind : MatchKind) → IsSettledBy kind built bytes given place
+          → AreApart built bytes given place
+      apart-by bytes given place Standard all =
+          let last = last-inside bytes in let is = all.1 in all-apart built bytes given place all.0 (omega arith) (omega arith)
+      apart-by bytes given place LeftmostFirst some = some-apart built bytes given place some
+      apart-by bytes given place LeftmostLongest some = some-apart built bytes given place some
 
       pub fails-by : (e : StreamError) → FailsBy told exchanges ends built reader new_reader s e t
           → FailsToReplace built list (told s.destination) (told t.destination) ends reader new_reader e
-      fails-by e (bytes, inl fails) = (
-        bytes,
-        inl (
-          fails.0,
-          subst (WritesAll (told s.destination) (told t.destination)) (settled-text bytes)
-              (text-steps (take (settled built bytes) bytes) 0 (streamed built bytes) s t None list same fails.1).1,
-        ),
-      )
-      fails-by e (bytes, inr (place, inl (some, is), steps)) =
+      fails-by e (bytes, inl fails) = (bytes, inl (fails.reads, by built.kind fails.settled))
+        where
+          written : WritesAll (told s.destination) (told t.destination)
+              (replaced (take fails.place bytes) list (take fails.given (streamed built bytes)))
+          written =
+              (text-steps (take fails.place bytes) 0 (take fails.given (streamed built bytes)) s t None list same fails.steps).1
+
+          by : (kind : MatchKind) → IsSettledBy kind built bytes fails.given fails.place
+              → TextIsSettled built list (told s.destination) (told t.destination) kind bytes
+          by Standard all =
+              subst (WritesAll (told s.destination) (told t.destination))
+              (ap (λ (n : ℕ). replaced (take n bytes) list (take fails.given (streamed built bytes))) all.1
+              ∙ ap (replaced (take (settled built bytes) bytes) list)
+              (take_all fails.given (streamed built bytes) (let n = all.0 in omega arith))
+              ∙ settled-text bytes) written
+          by LeftmostFirst some = (fails.given, fails.place, some, fails.near, written)
+          by LeftmostLongest some = (fails.given, fails.place, some, fails.near, written)
+      fails-by e (bytes, inr (given, place, inl (some, is), steps)) =
+          (bytes, inr (inl some, (begun-text bytes given place e (apart-by bytes given place built.kind is) steps).1))
+      fails-by e (bytes, inr (given, place, inr (all, many, is), steps)) =
           let last = last-inside bytes in
-          (bytes, inr (inl some, (begun-text bytes place e (omega arith) (omega arith) steps).1))
-      fails-by e (bytes, inr (place, inr (all, is), steps)) =
-          let last = last-inside bytes in
-          (bytes, inr (inr all, (begun-text bytes place e (omega arith) (omega arith) steps).1))
+          (bytes, inr (inr all, (begun-text bytes given place e
+          (all-apart built bytes given place many (omega arith) (omega arith)) steps).1))

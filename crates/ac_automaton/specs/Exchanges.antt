@@ -10,8 +10,8 @@ use Rattle.ac_util.specs.Device.{Reading, ReadsAll, Writing}
 use Rattle.ac_util.specs.Occurrence.{Occurrence}
 use Rattle.ac_util.specs.Replacement.{Answer, Calls, Fails, GoesOn, Replacing, ReplacementSteps}
 use Rattle.ac_util.specs.Stream.{streamed}
-use Rattle.ac_util.specs.StreamReplacing.{FailsToRead, IsSettled, WritesPiece, settled}
-use Rattle.ac_automaton.specs.Streams.{Streaming, matches_so_far, settled_of}
+use Rattle.ac_util.specs.StreamReplacing.{FailsToRead, IsNear, IsSettled, IsSettledBy, WritesPiece}
+use Rattle.ac_automaton.specs.Streams.{IsSettledIn, Streaming, matches_so_far}
 
 -- the error in an answer, if there is one
 abbrev pub error_in : Result (Unit {0}) StreamError → Option StreamError
@@ -57,17 +57,21 @@ module _ {E D : Type 0} (told : D → Writing)
         → Steps haystack v.kept ms s end t
         → Steps haystack 0 (take v.given (matches_so_far v) ++ ms) first end t
 
-  -- all matches of what was read were exchanged, and all that is settled was written: whatever was done before
+  -- all matches of what was read that are settled were exchanged, and all that is settled was written: whatever was done
+  -- before
   pub record HasExchanged (old new : Streaming) (s t : Replacing E D) : Type 0 where
-    pub all : new.given ≡ length (matches_so_far new)
-    pub same : new ≡ record old { given = new.given; kept = settled_of old }
+    pub settled : IsSettledIn new.phase new.built new.bytes new.given new.kept
+    pub near : IsNear new.built new.bytes new.kept
+    pub within : new.kept ≤ length new.bytes
+    pub same : new ≡ record old { given = new.given; kept = new.kept }
     pub replaced : (first : Replacing E D) → HasReplaced old first s → HasReplaced new first t
 
   -- a write, or an exchange, has failed: the steps were made up to it
   abbrev pub FailsToExchange : Streaming → Replacing E D → StreamError → Replacing E D → Type 0
   FailsToExchange old s e t =
       (first : Replacing E D) → HasReplaced old first s
-      → Steps (take (settled_of old) old.bytes) 0 (matches_so_far old) first (Some e) t
+      → (given place : ℕ) × IsSettledIn old.phase old.built old.bytes given place
+      × Steps (take place old.bytes) 0 (take given (matches_so_far old)) first (Some e) t
 
   -- the stream was read to its end, and all of its steps were made
   abbrev pub ReplacesBy : Bool → Built → Reading → Reading → Replacing E D → Replacing E D → Type 0
@@ -75,12 +79,20 @@ module _ {E D : Type 0} (told : D → Writing)
       (bytes : List ℕ) × ReadsAll ends reader new_reader bytes
       × Steps (take (length bytes) bytes) 0 (streamed built bytes) s None t
 
-  -- a read has failed, or brought more than usize counts: the steps were made as far as the stream was settled. Or a
-  -- write, or an exchange, has failed: no step was made after that
+  -- a read has failed, or brought more than usize counts: the steps were made as far as the stream was settled
+  pub record FailsAtRead (built : Built) (reader new_reader : Reading) (s : Replacing E D) (e : StreamError)
+      (t : Replacing E D) (bytes : List ℕ) : Type 0 where
+    pub given : ℕ
+    pub place : ℕ
+    pub reads : FailsToRead 0 reader new_reader bytes e
+    pub settled : IsSettledBy built.kind built bytes given place
+    pub near : IsNear built bytes place
+    pub steps : Steps (take place bytes) 0 (take given (streamed built bytes)) s None t
+
+  -- that; or a write, or an exchange, has failed: no step was made after that
   abbrev pub FailsBy : Bool → Built → Reading → Reading → Replacing E D → StreamError → Replacing E D → Type 0
   FailsBy ends built reader new_reader s e t =
       (bytes : List ℕ)
-      × ((FailsToRead 0 reader new_reader bytes e
-      × Steps (take (settled built bytes) bytes) 0 (streamed built bytes) s None t)
-      ⊎ ((place : ℕ) × IsSettled ends built reader new_reader bytes place
-      × Steps (take place bytes) 0 (streamed built bytes) s (Some e) t))
+      × (FailsAtRead built reader new_reader s e t bytes
+      ⊎ ((given place : ℕ) × IsSettled ends built reader new_reader bytes given place
+      × Steps (take place bytes) 0 (take given (streamed built bytes)) s (Some e) t))

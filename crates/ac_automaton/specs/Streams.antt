@@ -1,22 +1,21 @@
 -- What is seen of a search over a stream, and what its calls do.
-use Rattle.std.specs.Prelude.{◌≡◌, ◌⊎◌, ℕ, ◌+◌, ◌-◌, ◌<◌, ◌≤◌, Bool, List, [], ◌++◌, Option, None, Some, Result, MatchBool, MatchOption, MatchResult, length, max, slice_get, take, drop}
+use Rattle.std.specs.Prelude.{◌≡◌, ◌⊎◌, ℕ, ◌+◌, ◌-◌, ◌<◌, ◌≤◌, Bool, not, List, [], ◌++◌, Option, None, Some, IfSome, Result, MatchBool, MatchOption, MatchResult, if◌then◌else◌, length, max, slice_get, take, drop}
 use Rattle.ac_util.specs.declared.error.StreamError.{StreamError}
 use Rattle.ac_util.specs.declared.search.Anchored.TheVariants.{No}
 use Rattle.ac_util.specs.declared.search.MatchKind.TheVariants.{Standard}
 use Rattle.ac_util.specs.Built.{Built, stream_refusal}
 use Rattle.ac_util.specs.Device.{Reading, ReadsAll, ReadsSome}
-use Rattle.ac_util.specs.Node.{Node}
+use Rattle.ac_util.specs.Node.{Node, is_leftmost}
 use Rattle.ac_util.specs.Occurrence.{Occurrence}
 use Rattle.ac_util.specs.Pick.{pick}
 use Rattle.ac_util.specs.Search.{Search}
 use Rattle.ac_util.specs.Sizes.{longest_len}
-use Rattle.ac_util.specs.Stream.{buffer_len, held, last_end, reserve, streamed}
-use Rattle.ac_util.specs.StreamReplacing.{FailsToRead, settled}
+use Rattle.ac_util.specs.Stream.{buffer_len, last_end, reserve, streamed}
+use Rattle.ac_util.specs.StreamReplacing.{FailsToRead, IsNear, IsSettledBy}
 use Rattle.ac_util.specs.Walk.{walk_after}
 use Rattle.ac_automaton.specs.declared.automaton.stream.Phase.{Phase}
 use Rattle.ac_automaton.specs.declared.automaton.stream.Phase.TheVariants.{Open, Ended, Failed}
-use Rattle.ac_automaton.specs.Finds.{found_at}
-use Rattle.ac_automaton.specs.Progress.{Reaches, node_at, search_of}
+use Rattle.ac_automaton.specs.Progress.{Reaches, search_of}
 
 -- what its automaton was built from; all bytes that were read so far; how many of their matches were given; where in the
 -- stream the buffer begins, and from where on its bytes are kept; whether the stream goes on; how many bytes the buffer has
@@ -45,15 +44,24 @@ stream_begun built = record {
 abbrev pub matches_so_far : Streaming → List Occurrence
 matches_so_far v = streamed v.built v.bytes
 
--- as far as which place nothing is kept once all of these matches were given: all but the bytes held back, or all where the
--- end was met
-abbrev pub settled_in : Phase → ℕ → ℕ → ℕ
-settled_in Open place all = place
-settled_in Ended place all = all
-settled_in Failed place all = place
+-- how many bytes of a stream are kept
+abbrev pub kept_len : Streaming → ℕ
+kept_len v = length v.bytes - v.kept
 
-abbrev pub settled_of : Streaming → ℕ
-settled_of v = settled_in v.phase (settled v.built v.bytes) (length v.bytes)
+-- a stream of which these bytes came is settled as far as a place by so many of their matches: by all of them once its end
+-- was met
+abbrev pub IsSettledIn : Phase → Built → List ℕ → ℕ → ℕ → Type 0
+IsSettledIn Ended built bytes given place = (given ≡ length (streamed built bytes)) × (place ≡ length bytes)
+IsSettledIn Open built bytes given place = IsSettledBy built.kind built bytes given place
+IsSettledIn Failed built bytes given place = IsSettledBy built.kind built bytes given place
+
+-- so many of the matches settle the stream as far as a place: one of them was to be given, and ends by there
+pub record IsSettling (v : Streaming) (m : Occurrence) : Type 0 where
+  pub given : ℕ
+  pub place : ℕ
+  pub settled : IsSettledIn v.phase v.built v.bytes given place
+  pub among : v.given < given
+  pub ended : m.end ≤ place
 
 -- the next match of the bytes read so far was given. It stands behind what isn't kept any more, and is settled
 pub record GivesMatch (old : Streaming) (m : Occurrence) (new : Streaming) : Type 0 where
@@ -63,18 +71,20 @@ pub record GivesMatch (old : Streaming) (m : Occurrence) (new : Streaming) : Typ
   pub after : old.kept ≤ m.start
   pub ordered : m.start ≤ m.end
   pub within : m.end ≤ length old.bytes
-  pub settled : m.end ≤ settled_of old
+  pub settled : IsSettling old m
   pub counted : new.given ≤ 18446744073709551615
 
--- all matches of the bytes read so far were given, and what is settled is kept no more
-pub record HasGivenAll (old new : Streaming) : Type 0 where
-  pub all : old.given ≡ length (matches_so_far old)
-  pub same : new ≡ record old { kept = settled_of old }
-  pub onward : old.kept ≤ settled_of old
+-- all matches of the bytes read so far that are settled were given, and what is settled is kept no more
+pub record HasGivenSettled (old new : Streaming) : Type 0 where
+  pub settled : IsSettledIn old.phase old.built old.bytes old.given new.kept
+  pub near : IsNear old.built old.bytes new.kept
+  pub same : new ≡ record old { kept = new.kept }
+  pub onward : old.kept ≤ new.kept
+  pub within : new.kept ≤ length old.bytes
 
--- the next match without a read, or None where there is none
+-- the next match without a read, or None where none is settled
 abbrev pub GivesRead : Streaming → Option Occurrence → Streaming → Type 0
-GivesRead old result new = MatchOption result (HasGivenAll old new) (λ m. GivesMatch old m new)
+GivesRead old result new = MatchOption result (HasGivenSettled old new) (λ m. GivesMatch old m new)
 
 -- of all these bytes of a stream, the matches that were given are still the first ones
 abbrev pub KeepsGiven : Streaming → List ℕ → Type 0
@@ -106,12 +116,21 @@ Fills ends old result new reader new_reader =
     (λ more. MatchBool more (FillsMore old new reader new_reader) (MeetsEnd ends old new reader new_reader))
     (FailsToFill old new reader new_reader)
 
+-- what a call has read that a stream goes on by, and its phase then: some bytes more, or also its end; or nothing, where the end
+-- was met before
+abbrev pub GoesOnBy : Bool → Phase → Phase → Reading → Reading → List ℕ → Type 0
+GoesOnBy ends Open Open reader new_reader more = ReadsSome reader new_reader more
+GoesOnBy ends Open Ended reader new_reader more = ReadsAll ends reader new_reader more
+GoesOnBy ends Ended Ended reader new_reader more = (more ≡ []) × (new_reader ≡ reader)
+GoesOnBy ends phase new_phase reader new_reader more = ⊥
+
 -- the next match of all that was read was given, once more was read where that was needed; those given before stay, and
--- bytes are kept from its end on
-pub record GivesNext (old : Streaming) (m : Occurrence) (new : Streaming) (reader new_reader : Reading) : Type 0 where
-  pub open' : old.phase ≡ Open
+-- bytes are kept from its end on. Under Standard it was given before the end was met
+pub record GivesNext (ends : Bool) (old : Streaming) (m : Occurrence) (new : Streaming) (reader new_reader : Reading)
+    : Type 0 where
   pub more : List ℕ
-  pub reads : ReadsSome reader new_reader more
+  pub reads : GoesOnBy ends old.phase new.phase reader new_reader more
+  pub early : old.built.kind ≡ Standard → old.phase ≡ Open → new.phase ≡ Open
   pub given : KeepsGiven old (old.bytes ++ more)
   pub next : slice_get (streamed old.built (old.bytes ++ more)) old.given ≡ Some m
   pub counted : new.given ≤ 18446744073709551615
@@ -120,90 +139,116 @@ pub record GivesNext (old : Streaming) (m : Occurrence) (new : Streaming) (reade
     given = old.given + 1;
     front = new.front;
     kept = m.end;
+    phase = new.phase;
   }
 
--- how many bytes of a stream are kept
-abbrev pub kept_len : Streaming → ℕ
-kept_len v = length v.bytes - v.kept
-
--- all matches of what was read were given, and then a read has failed, or brought more than usize counts; what is kept are the
--- bytes held back, no more than the longest pattern has
+-- all matches of what was read that are settled were given, and then a read has failed, or brought more than usize counts; no
+-- more bytes are kept than the longest pattern has
 pub record GivesError (old : Streaming) (e : StreamError) (new : Streaming) (reader new_reader : Reading)
     : Type 0 where
   pub open' : old.phase ≡ Open
   pub more : List ℕ
   pub reads : FailsToRead (length old.bytes) reader new_reader more e
   pub given : KeepsGiven old (old.bytes ++ more)
-  pub all : old.given ≡ length (streamed old.built (old.bytes ++ more))
-  pub kept : kept_len new ≡ held old.built (old.bytes ++ more)
+  pub settled : IsSettledBy old.built.kind old.built (old.bytes ++ more) old.given new.kept
   pub few : kept_len new ≤ longest_len old.built.patterns
   pub same : new ≡ record old { bytes = old.bytes ++ more; front = new.front; kept = new.kept; phase = Failed }
 
--- all matches of what was read were given, and then the end was met; what is kept are the bytes held back
+-- all matches of the stream were given, and its end was met; no byte is kept
 pub record EndsNow (ends : Bool) (old new : Streaming) (reader new_reader : Reading) : Type 0 where
   pub more : List ℕ
-  pub reads : ReadsAll ends reader new_reader more
+  pub reads : GoesOnBy ends old.phase Ended reader new_reader more
   pub given : KeepsGiven old (old.bytes ++ more)
   pub all : old.given ≡ length (streamed old.built (old.bytes ++ more))
-  pub kept : kept_len new ≡ held old.built (old.bytes ++ more)
-  pub same : new ≡ record old { bytes = old.bytes ++ more; front = new.front; kept = new.kept; phase = Ended }
+  pub same : new ≡ record old {
+    bytes = old.bytes ++ more;
+    front = new.front;
+    kept = length (old.bytes ++ more);
+    phase = Ended;
+  }
 
--- there is no match any more: the end was met now; or it or an error was met before, and nothing changes
+-- there is no match any more: the end was met, now or before; or an error was, and nothing changes
 abbrev pub GivesNone : Phase → Bool → Streaming → Streaming → Reading → Reading → Type 0
 GivesNone Open ends old new reader new_reader = EndsNow ends old new reader new_reader
-GivesNone Ended ends old new reader new_reader = (new ≡ old) × (new_reader ≡ reader)
+GivesNone Ended ends old new reader new_reader = EndsNow ends old new reader new_reader
 GivesNone Failed ends old new reader new_reader = (new ≡ old) × (new_reader ≡ reader)
 
 -- what a call answers that gives the next match of the stream
 abbrev pub StreamsOn : Bool → Streaming → Option (Result Occurrence StreamError) → Streaming → Reading → Reading → Type 0
 StreamsOn ends old result new reader new_reader =
     MatchOption result (GivesNone old.phase ends old new reader new_reader)
-    (λ item. MatchResult item (λ m. GivesNext old m new reader new_reader)
+    (λ item. MatchResult item (λ m. GivesNext ends old m new reader new_reader)
     (λ e. GivesError old e new reader new_reader))
 
--- inside: the start state, and how many bytes may be kept back; the buffer, and how many of its bytes are filled; the
--- automaton's state, and up to where the buffer was searched; where in the stream the last match given ended
+-- once the end was met there is nothing to read: the next match was given, or there is none any more
+abbrev pub GivesLast : Streaming → Option (Result Occurrence StreamError) → Streaming → Type 0
+GivesLast old result new =
+    MatchOption result (HasGivenSettled old new) (λ item. MatchResult item (λ m. GivesMatch old m new) (λ e. ⊥))
+
+-- as far as which place nothing is kept, all where the end was met
+abbrev pub kept_from : Phase → ℕ → ℕ → ℕ
+kept_from Open place all = place
+kept_from Ended place all = all
+kept_from Failed place all = place
+
+-- inside: the start state, whether the first match found is given, and how many bytes may be kept back; the buffer, and how
+-- many of its bytes are filled; the automaton's state, up to where the buffer was searched, and what is picked so far; where in
+-- the stream the last match given ended
 pub record Inside : Type 0 where
   pub start : ℕ
+  pub stops : Bool
   pub reserve : ℕ
   pub buffer : List ℕ
   pub filled : ℕ
   pub state : ℕ
   pub at : ℕ
+  pub picked : Option Occurrence
   pub begun : ℕ
+
+-- how many bytes may be kept back: under a leftmost kind one more than under Standard, since a match that was found may still
+-- change
+abbrev pub most_kept : Built → ℕ
+most_kept built = if is_leftmost built.kind then longest_len built.patterns else reserve built
 
 -- the search over bytes of a stream from a place on
 abbrev pub stream_from : Built → List ℕ → ℕ → Search
 stream_from built bytes begun = search_of built No bytes begun (length bytes)
 
--- so many matches were given, the last of which ended at a place: whichever bytes follow, the walk over all of them is
--- these matches, and then what the walk gives from there on
-pub record HasGiven (built : Built) (bytes : List ℕ) (given begun : ℕ) : Type 0 where
+-- so many matches were given, the last of which ended at a place: whichever bytes follow, or none once the end was met, the
+-- walk over all of them is these matches, and then what the walk gives from there on
+pub record HasGiven (phase : Phase) (built : Built) (bytes : List ℕ) (given begun : ℕ) : Type 0 where
   pub matches : List Occurrence
   pub count : length matches ≡ given
   pub end : last_end matches ≡ begun
   pub last : Option ℕ
-  pub walks : (more : List ℕ)
+  pub walks : (more : List ℕ) → (phase ≡ Ended → more ≡ [])
       → streamed built (bytes ++ more) ≡ matches ++ walk_after built.kind (stream_from built (bytes ++ more) begun) last
+
+-- a search that picks has read on in the buffer to a place: its state there, and what it picks so far, which starts behind what
+-- isn't kept any more
+pub record HasReadOn (stands : ℕ → Node → Type 0) (i : Inside) (v : Streaming) (state at : ℕ) (picked : Option Occurrence)
+    : Type 0 where
+  pub within : at ≤ i.filled
+  pub onward : i.at ≤ at
+  pub is_at : Reaches stands v.built.kind (stream_from v.built v.bytes i.begun) state (v.front + at)
+  pub picks : picked ≡ pick v.built.kind (record (stream_from v.built v.bytes i.begun) { high = v.front + at })
+  pub after : IfSome picked (λ m. v.kept ≤ m.start)
 
 -- a search over a stream as it is kept between two calls
 pub record IsStreaming (stands : ℕ → Node → Type 0) (i : Inside) (v : Streaming) : Type 0 where
   pub allowed : stream_refusal v.built ≡ None
   pub starts : stands i.start (Some [])
-  pub reserve : i.reserve ≡ reserve v.built
+  pub stops : i.stops ≡ not (is_leftmost v.built.kind)
+  pub reserve : i.reserve ≡ most_kept v.built
   pub size : v.buffer ≡ length i.buffer
   pub long : length i.buffer ≡ buffer_len v.built.patterns
-  pub fits : i.reserve < length i.buffer
+  pub fits : longest_len v.built.patterns < length i.buffer
   pub filled : i.filled ≤ length i.buffer
   pub counted : length v.bytes ≡ v.front + i.filled
   pub small : length v.bytes ≤ 18446744073709551615
   pub holds : take i.filled i.buffer ≡ drop v.front v.bytes
-  pub within : i.at ≤ i.filled
-  pub is_at : Reaches stands v.built.kind (stream_from v.built v.bytes i.begun) i.state (v.front + i.at)
-  pub quiet : found_at v.built No (node_at v.built.kind (stream_from v.built v.bytes i.begun) (v.front + i.at))
-      (v.front + i.at) ≡ None
-  pub none : pick Standard (record (stream_from v.built v.bytes i.begun) { high = v.front + i.at }) ≡ None
-  pub given : HasGiven v.built v.bytes v.given i.begun
+  pub searched : HasReadOn stands i v i.state i.at i.picked
+  pub given : HasGiven v.phase v.built v.bytes v.given i.begun
   pub few : v.given ≤ i.begun
   pub in_buffer : v.front ≤ v.kept
   pub after : i.begun ≤ v.kept
@@ -226,7 +271,7 @@ ReadsItem old found new = GivesRead old.stream found new.stream × (new.reader �
 -- how many items may follow at most: each match has a byte, and an error is the last one
 abbrev pub items_in : Phase → ℕ → ℕ
 items_in Open given = 18446744073709551615 - given + 1
-items_in Ended given = 0
+items_in Ended given = 18446744073709551615 - given
 items_in Failed given = 0
 
 abbrev pub items_left : StreamReading → ℕ

@@ -12,7 +12,7 @@ ghost use Rattle.ac_util.specs.Refusal.{AnswersUnless, start_refusal};
 ghost use Rattle.ac_util.specs.Replaced.{replaced};
 ghost use Rattle.ac_util.specs.Replacing.{AnswersWhole, MakesSteps, StepsLead};
 ghost use Rattle.ac_util.specs.Search.{pattern_of};
-ghost use Rattle.ac_util.specs.StreamReplacing.{FailsToReplace, FailsToReplaceWith, IsRefused, ReplacesStream, ReplacesStreamWith};
+ghost use Rattle.ac_util.specs.StreamReplacing.{FailsToReplace, FailsToReplaceWith, IsStreamRefused, ReplacesStream, ReplacesStreamWith};
 ghost use Rattle.ac_util.specs.Sizes.{longest_len, shortest_len};
 ghost use Rattle.ac_automaton.specs.Iterators.{GoesOn, begun};
 ghost use Rattle.ac_automaton.specs.Automata.{IsState, Lists, looks_of, step_of};
@@ -380,8 +380,7 @@ pub trait Automaton {
     ///
     /// # Errors
     /// `StreamError::Match` with `InvalidInputUnanchored` where the automaton has no unanchored start, else with
-    /// `UnsupportedStream` where its match kind isn't `MatchKind::Standard`, else with `UnsupportedEmpty` where some pattern is
-    /// empty; else `StreamError::Memory` where the memory for the buffer is refused. Then nothing is read.
+    /// `UnsupportedEmpty` where some pattern is empty; else `StreamError::Memory` where the memory for the buffer is refused. Then nothing is read.
     final fn try_stream_find_iter<'a, R: Source + Drop, Z: Allocator>(
         &'a self,
         alloc: Z,
@@ -392,14 +391,14 @@ pub trait Automaton {
         ensures { MatchResult result
             (λ matches. (stream_refusal (built self.now) ≡ None)
             × (matches ≡ record { stream = stream_begun (built self.now); reader = R.told reader }))
-            (IsRefused (stream_refusal (built self.now)) ⊤) }
+            (IsStreamRefused (stream_refusal (built self.now)) ⊤) }
     {
         StreamFindIter::new(self, alloc, reader)
     }
 
     /// Writes what a reader gives, with each match of the walk over it exchanged for the text of its pattern. It reads as it
     /// goes and writes as it goes: before each read all of the replaced text was written but for the bytes that a match to
-    /// come may still need, at most one fewer than the longest pattern has. The writer isn't flushed. This ports
+    /// come may still need, no more than the longest pattern has. The writer isn't flushed. This ports
     /// `Automaton::try_stream_replace_all`.
     ///
     /// There have to be as many texts as patterns.
@@ -422,7 +421,7 @@ pub trait Automaton {
             (λ _. (stream_refusal (built self.now) ≡ None)
             × ReplacesStream (built self.now) (bytes_of texts.now) (W.told writer.old) (W.told writer.new)
             R.empty_means_end (R.told reader.old) (R.told reader.new))
-            (λ e. IsRefused (stream_refusal (built self.now)) ((reader.new ≡ reader.old) × (writer.new ≡ writer.old)) e
+            (λ e. IsStreamRefused (stream_refusal (built self.now)) ((reader.new ≡ reader.old) × (writer.new ≡ writer.old)) e
             ⊎ ((stream_refusal (built self.now) ≡ None)
             × FailsToReplace (built self.now) (bytes_of texts.now) (W.told writer.old) (W.told writer.new)
             R.empty_means_end (R.told reader.old) (R.told reader.new) e)) }
@@ -453,7 +452,7 @@ pub trait Automaton {
             (λ _. (stream_refusal (built self.now) ≡ None)
             × ReplacesStreamWith W.told F.FnMut (built self.now) closure writer.old R.empty_means_end
             (R.told reader.old) (R.told reader.new) writer.new)
-            (λ e. IsRefused (stream_refusal (built self.now)) ((reader.new ≡ reader.old) × (writer.new ≡ writer.old)) e
+            (λ e. IsStreamRefused (stream_refusal (built self.now)) ((reader.new ≡ reader.old) × (writer.new ≡ writer.old)) e
             ⊎ ((stream_refusal (built self.now) ≡ None)
             × FailsToReplaceWith W.told F.FnMut (built self.now) closure writer.old R.empty_means_end
             (R.told reader.old) (R.told reader.new) writer.new e)) }

@@ -1,12 +1,28 @@
 -- Where a leftmost automaton is alive: its node begins no later than anything that occurs in what was read.
-use Rattle.std.proofs.Common.{◌≡◌, ℕ, zero, suc, ◌+◌, ◌≤◌, Bool, true, false, List, [], ◌∷◌, length, take, drop, inl, inr, refl, ap, sym, ◌∙◌, subst, arith, Option, None, Some}
-use Rattle.std.specs.Prelude.{find, option_map, if◌then◌else◌}
+use Rattle.std.proofs.Common.{◌≡◌, ◌≢◌, ℕ, zero, suc, ◌+◌, ◌-◌, ◌≤◌, Bool, true, false, cond, List, [], ◌∷◌, length, take, drop, inl, inr, refl, ap, sym, ◌∙◌, subst, arith, Option, None, Some}
+use Rattle.std.specs.Prelude.{◌&&◌, find, nat_eq, option_map, if◌then◌else◌}
+use Rattle.std.specs.List.{range_with_len, starts_with}
 use Rattle.std.proofs.Math.Seq.{drop-nil}
-use Rattle.std.proofs.lemmas.Bool.{false≢true}
+use Rattle.std.proofs.lemmas.Bool.{and_parts, false≢true}
+use Rattle.std.proofs.lemmas.List.{length-map}
 use Rattle.ac_util.specs.declared.search.Anchored.TheVariants.{No}
 use Rattle.ac_util.specs.declared.search.MatchKind.{MatchKind}
-use Rattle.ac_util.specs.Node.{begins_with_pattern, is_leftmost, is_node, last_start, least_start, reached, starting_by, suffixes}
-use Rattle.ac_util.proofs.Lists.{IsIn}
+use Rattle.ac_util.specs.Node.{begins_with_pattern, is_leftmost, is_node, last_start, least_start, open_suffixes, participants, participates, reached, starting_by, suffixes}
+use Rattle.ac_util.specs.Occurrence.{Occurrence}
+use Rattle.ac_util.specs.Pick.{pick}
+use Rattle.ac_util.specs.Sameness.{plain}
+use Rattle.ac_util.specs.Search.{Search, pattern_of}
+use Rattle.ac_util.specs.Sizes.{longest_len}
+use Rattle.ac_util.specs.Text.{plain_patterns, text}
+use Rattle.ac_util.proofs.Lists.{IsIn, IsIn-from_filter, IsIn-from_range}
+use Rattle.ac_util.proofs.NodeCount.{any_passes}
+use Rattle.ac_util.proofs.Participants.{begins-from_Prefixes, leader}
+use Rattle.ac_util.proofs.Prefixes.{starts_with-length}
+use Rattle.ac_util.proofs.Reached.{reached-cons, reached-nil}
+use Rattle.ac_util.proofs.Shortest.{longest-most}
+use Rattle.ac_util.proofs.Spans.{Stands-from_Occurs, inward, pattern_length, pick-in_text, text_length}
+use Rattle.ac_util.proofs.Standing.{IsPickIn}
+use Rattle.ac_util.proofs.Walks.{pick-Occurs}
 
 -- what is found is one of them
 find-in : (f : List ℕ → Bool) (ws : List (List ℕ)) (u : List ℕ) → find f ws ≡ Some u → IsIn u ws
@@ -72,3 +88,90 @@ module _ (patterns : List (List ℕ)) where
       (find-in (is_node kind patterns) (take (suc first.start) (suffixes w)) u
       (subst (λ (l : Option ℕ). find (is_node kind patterns) (starting_by l (suffixes w)) ≡ Some u) last stands)) in
       let early = first.early in omega arith
+
+-- where it is dead, a pattern has occurred
+module _ (kind : MatchKind) (patterns : List (List ℕ)) where
+  pub record BeginsIn (w : List ℕ) : Type 0 where
+    pub place : ℕ
+    pub within : place ≤ length w
+    pub begins : begins_with_pattern patterns (drop place w) ≡ true
+
+  dead-begins : (w : List ℕ) → reached kind patterns No w ≡ None → BeginsIn w
+  dead-begins [] dead = let start = reached-nil kind patterns No in absurd (cc)
+  dead-begins (x ∷ w) dead =
+      by (is_node kind patterns (x ∷ w)) (sym (reached-cons kind patterns x w) ∙ dead) (λ gone. dead-begins w gone)
+    where
+      rest : (t : Bool) → is_leftmost kind && begins_with_pattern patterns (x ∷ w) ≡ t
+          → cond t None (reached kind patterns No w) ≡ None → (reached kind patterns No w ≡ None → BeginsIn w)
+          → BeginsIn (x ∷ w)
+      rest true e gone on = record {
+        place = 0;
+        within = omega arith;
+        begins = (and_parts (is_leftmost kind) (begins_with_pattern patterns (x ∷ w)) e).1;
+      }
+      rest false e gone on =
+          let later = on gone in
+          record { place = suc later.place; within = (let l = later.within in omega arith); begins = later.begins }
+
+      by : (t : Bool)
+          → cond t (Some (x ∷ w))
+          (cond (is_leftmost kind && begins_with_pattern patterns (x ∷ w)) None (reached kind patterns No w)) ≡ None
+          → (reached kind patterns No w ≡ None → BeginsIn w) → BeginsIn (x ∷ w)
+      by true gone on = absurd (cc)
+      by false gone on = rest (is_leftmost kind && begins_with_pattern patterns (x ∷ w)) refl gone on
+
+-- what is found passes
+find-passes : (f : List ℕ → Bool) (ws : List (List ℕ)) (u : List ℕ) → find f ws ≡ Some u → f u ≡ true
+find-passes f [] u e = absurd (cc)
+find-passes f (x ∷ ws) u e = by (f x) refl e (λ h. find-passes f ws u h)
+  where
+    by : (t : Bool) → f x ≡ t → (if t then Some x else find f ws) ≡ Some u → (find f ws ≡ Some u → f u ≡ true)
+        → f u ≡ true
+    by true is h on = let same : x ≡ u = cc in ap f (sym same) ∙ is
+    by false is h on = on h
+
+-- an automaton that has read the text of a search, unanchored
+module _ (kind : MatchKind) (q : Search) (free : q.anchored ≡ No) (ordered : q.low ≤ q.high)
+    (inside : q.high ≤ length q.haystack) where
+  -- where it is dead something is picked
+  pub dead-picked : reached kind (plain_patterns q) No (text q) ≡ None → (order : MatchKind) → pick order q ≢ None
+  dead-picked dead order none =
+      let begins = dead-begins kind (plain_patterns q) (text q) dead in
+      let first = leader (plain_patterns q) (drop begins.place (text q)) begins.begins in
+      let nothing = subst (λ (r : Option Occurrence). IsPickIn order (plain_patterns q) q.anchored (text q)
+      (option_map (inward q.low) r)) none (pick-in_text q ordered inside order) in
+      nothing first.0 begins.place (record {
+        within = begins.within;
+        prefixes = first.1.prefixes;
+        at_front = λ anchored. absurd (let no = sym free ∙ anchored in cc);
+      })
+
+  -- under a leftmost kind its node begins no later than what is picked
+  pub pick-behind : is_leftmost kind ≡ true → (u : List ℕ) → reached kind (plain_patterns q) No (text q) ≡ Some u
+      → (order : MatchKind) (m : Occurrence) → pick order q ≡ Some m → q.high ≤ m.start + length u
+  pick-behind leftmost u stands order m is =
+      let o = pick-Occurs order q m is in
+      let s = Stands-from_Occurs q ordered inside m o in
+      let early = begins-early (plain_patterns q) kind (text q) u (m.start - q.low) leftmost stands s.within
+      (begins-from_Prefixes (plain_patterns q) (drop (m.start - q.low) (text q)) m.pattern s.prefixes) in
+      let long = text_length q ordered inside in
+      let low = o.from_low in
+      omega arith
+
+  -- and its node is no longer than the longest pattern
+  pub node-short : (u : List ℕ) → reached kind (plain_patterns q) No (text q) ≡ Some u → length u ≤ longest_len q.patterns
+  node-short u stands =
+      by u (find-passes (is_node kind (plain_patterns q)) (open_suffixes kind (plain_patterns q) (text q)) u stands)
+    where
+      by : (u : List ℕ) → is_node kind (plain_patterns q) u ≡ true → length u ≤ longest_len q.patterns
+      by [] h = omega arith
+      by (b ∷ v) h =
+          let some = any_passes (λ (n : ℕ). starts_with nat_eq (pattern_of (plain_patterns q) n) (b ∷ v))
+          (participants kind (plain_patterns q)) h in
+          let numbered = IsIn-from_range some.0 0 (length (plain_patterns q))
+          (IsIn-from_filter (participates kind (plain_patterns q)) some.0 (range_with_len 0 (length (plain_patterns q))) some.1).0 in
+          let front = starts_with-length (pattern_of (plain_patterns q) some.0) (b ∷ v) some.2 in
+          let long = pattern_length q ordered inside some.0 in
+          let all = length-map q.patterns (plain q.fold) in
+          let most = longest-most q.patterns some.0 (omega arith) in
+          omega arith

@@ -1,10 +1,10 @@
 -- A stream under a leftmost kind: the matches that are decided stay as more of it comes, and no other starts before them.
-use Rattle.std.proofs.Common.{◌≡◌, ℕ, ◌+◌, ◌-◌, ◌<◌, ◌≤◌, true, List, [], ◌∷◌, ◌++◌, length, get_or, map, length-append, length-drop, take, drop, inl, inr, refl, ap, sym, ◌∙◌, subst, arith, Option, None, Some}
+use Rattle.std.proofs.Common.{◌≡◌, ℕ, suc, ◌+◌, ◌-◌, ◌<◌, ◌≤◌, true, List, [], ◌∷◌, ◌++◌, length, get_or, map, length-append, length-drop, take, drop, inl, inr, refl, ap, sym, ◌∙◌, subst, arith, Option, None, Some}
 use Rattle.std.specs.Prelude.{All, nat_eq, slice_range}
 use Rattle.std.specs.List.{starts_with}
 use Rattle.std.proofs.Math.Seq.{drop-append_seam, take-append_seam, take-length, take-take}
 use Rattle.std.proofs.lemmas.Bool.{cases_lt, false_from_ne_true}
-use Rattle.std.proofs.lemmas.List.{drop-append-le, get_or-map, get_or-take, length-map, length-take-le, map-append, take-append-drop, take-map}
+use Rattle.std.proofs.lemmas.List.{append-nil, drop-append-le, get_or-map, get_or-take, length-map, length-take-le, map-append, take-append-drop, take-map}
 use Rattle.std.proofs.lemmas.List.Elements.{All-cons, All-nil}
 use Rattle.ac_util.specs.declared.search.MatchKind.{MatchKind}
 use Rattle.ac_util.specs.declared.search.MatchKind.TheVariants.{Standard, LeftmostFirst, LeftmostLongest}
@@ -16,7 +16,7 @@ use Rattle.ac_util.specs.Pick.{IsFirst, IsPick, pick}
 use Rattle.ac_util.specs.Sameness.{plain, plain_byte}
 use Rattle.ac_util.specs.Search.{Occurs, Search, from, pattern_of}
 use Rattle.ac_util.specs.Settled.{AreDecided, IsOpen, IsSettledAt, NoneOpen}
-use Rattle.ac_util.specs.Stream.{streamed}
+use Rattle.ac_util.specs.Stream.{last_end, streamed}
 use Rattle.ac_util.specs.Text.{plain_patterns}
 use Rattle.ac_util.specs.Walk.{continued, next_match, walk_after}
 use Rattle.ac_util.proofs.Lists.{IsIn-at}
@@ -264,32 +264,39 @@ module _ (built : Built) (leftmost : is_leftmost built.kind ≡ true) (bytes mor
         (later built.kind q n r (get_or (continued built.kind q n r) k d) refl
         (IsIn-at (get_or (continued built.kind q n r) k d) d (continued built.kind q n r) k within refl)).0
 
+    -- where the next match starts no earlier than a place, none does
+    walk-from : (q : Search) (place : ℕ) (last : Option ℕ) → q.patterns ≡ built.patterns
+        → ((m : Occurrence) → pick built.kind q ≡ Some m → place ≤ m.start)
+        → All (λ (m : Occurrence). place ≤ m.start) (walk_after built.kind q last)
+    walk-from q place last same first = by (next_match built.kind q last) refl
+      where
+        by : (r : Option Occurrence) → next_match built.kind q last ≡ r
+            → All (λ (m : Occurrence). place ≤ m.start) (walk_after built.kind q last)
+        by None e =
+            subst (All (λ (m : Occurrence). place ≤ m.start)) (sym (walk_after-None built.kind q last e)) (All-nil _)
+        by (Some n) e =
+            let is = next-picks q last n same e in
+            let starts = first n is in
+            let long = some-bytes q n same is in
+            let behind = walk-behind (from q n.end) in
+            let rest = walk_after built.kind (from q n.end) (Some n.end) in
+            let far : All (λ (m : Occurrence). place ≤ m.start) rest =
+            λ k d at. (let far = behind k d at in let end : place ≤ (get_or rest k d).start = omega arith in end) in
+            subst (All (λ (m : Occurrence). place ≤ m.start)) (sym (walk_after-Some built.kind q last n e))
+            (All-cons (λ (m : Occurrence). place ≤ m.start) n rest starts far)
+
     -- where none starts before a place and none is open up to there, none starts before it later
     later-behind : (low place : ℕ) (last : Option ℕ) → place ≤ length bytes → NoneOpen built bytes low place
         → All (λ (m : Occurrence). place ≤ m.start) (walk_after built.kind (here low) last)
         → All (λ (m : Occurrence). place ≤ m.start) (walk_after built.kind (there low) last)
-    later-behind low place last within closed all = by (next_match built.kind (there low) last) refl
+    later-behind low place last within closed all =
+        walk-from (there low) place last refl (pick-later low place within closed none)
       where
         none : (m : Occurrence) → pick built.kind (here low) ≡ Some m → place ≤ m.start
         none m is =
             let walks = walk_after-Some built.kind (here low) last m
             (next-some built.kind (here low) last m is (some-bytes (here low) m refl is)) in
             subst (All (λ (n : Occurrence). place ≤ n.start)) walks all 0 m (omega arith)
-
-        by : (r : Option Occurrence) → next_match built.kind (there low) last ≡ r
-            → All (λ (m : Occurrence). place ≤ m.start) (walk_after built.kind (there low) last)
-        by None e =
-            subst (All (λ (m : Occurrence). place ≤ m.start)) (sym (walk_after-None built.kind (there low) last e)) (All-nil _)
-        by (Some n) e =
-            let is = next-picks (there low) last n refl e in
-            let starts = pick-later low place within closed none n is in
-            let long = some-bytes (there low) n refl is in
-            let behind = walk-behind (there n.end) in
-            let rest = walk_after built.kind (there n.end) (Some n.end) in
-            let far : All (λ (m : Occurrence). place ≤ m.start) rest =
-            λ k d at. (let far = behind k d at in let end : place ≤ (get_or rest k d).start = omega arith in end) in
-            subst (All (λ (m : Occurrence). place ≤ m.start)) (sym (walk_after-Some built.kind (there low) last n e))
-            (All-cons (λ (m : Occurrence). place ≤ m.start) n rest starts far)
 
     -- the matches that are decided stay, and no other starts before the place
     decided-stays : (ms rest : List Occurrence) (low place : ℕ) (last : Option ℕ) → place ≤ length bytes
@@ -443,3 +450,95 @@ module _ (built : Built) (leftmost : is_leftmost built.kind ≡ true) (bytes : L
 
   pub stays-closed : NoneOpen built bytes low (m.start + 1)
   stays-closed place from_low before open' = closed-by place from_low before open' built.kind refl
+
+-- where matches end that follow a place
+abbrev ends_at : ℕ → List Occurrence → ℕ
+ends_at low [] = low
+ends_at low (m ∷ ms) = ends_at m.end ms
+
+ends_at-last : (low : ℕ) (m : Occurrence) (ms : List Occurrence) → ends_at low (m ∷ ms) ≡ last_end (m ∷ ms)
+ends_at-last low m [] = refl
+ends_at-last low m (n ∷ ms) = ends_at-last m.end n ms
+
+ends_at-start : (ms : List Occurrence) → ends_at 0 ms ≡ last_end ms
+ends_at-start [] = refl
+ends_at-start (m ∷ ms) = ends_at-last 0 m ms
+
+-- matches that the walk begins with, whatever follows these bytes
+module _ (built : Built) (leftmost : is_leftmost built.kind ≡ true) (bytes : List ℕ)
+    (some : (n : ℕ) → n < length built.patterns → 0 < length (pattern_of built.patterns n)) where
+  abbrev walk-on : List ℕ → ℕ → Option ℕ → List Occurrence
+  walk-on more low last = walk_after built.kind (there built leftmost bytes more low) last
+
+  -- none ends behind the last of them
+  ends-rise : (ms rest : List Occurrence) (low : ℕ) (last : Option ℕ)
+      → walk_after built.kind (here built leftmost bytes [] low) last ≡ ms ++ rest
+      → All (λ (m : Occurrence). m.end ≤ ends_at low ms) ms × (low ≤ ends_at low ms)
+  ends-rise [] rest low last walks = (All-nil _, omega arith)
+  ends-rise (m ∷ ms) rest low last walks =
+      let first = walk-first built leftmost bytes [] some (here built leftmost bytes [] low) last m (ms ++ rest) walks in
+      let is = next-picks built leftmost bytes [] some (here built leftmost bytes [] low) last m refl first.0 in
+      let o = pick-Occurs built.kind (here built leftmost bytes [] low) m is in
+      let later = ends-rise ms rest m.end (Some m.end) first.1 in
+      let as_long = o.as_long in
+      let from_low = o.from_low in
+      let on = later.1 in
+      (All-cons (λ (n : Occurrence). n.end ≤ ends_at m.end ms) m ms later.1 later.0, omega arith)
+
+  -- they are decided
+  walks-decided : (ms : List Occurrence) (low begun place : ℕ) (last next : Option ℕ)
+      → ((more : List ℕ) → walk-on more low last ≡ ms ++ walk-on more begun next)
+      → All (λ (m : Occurrence). m.end ≤ length bytes) ms → ends_at low ms ≡ begun → NoneOpen built bytes begun place
+      → AreDecided built bytes low ms place
+  walks-decided [] low begun place last next walks ends end closed =
+      subst (λ (k : ℕ). NoneOpen built bytes k place) (sym end) closed
+  walks-decided (m ∷ ms) low begun place last next walks ends end closed = (
+    stays-closed built leftmost bytes low m (ends 0 m (omega arith)) (λ more.
+        next-picks built leftmost bytes more some (there built leftmost bytes more low) last m refl (first more).0),
+    walks-decided ms m.end begun place (Some m.end) next (λ more. (first more).1)
+        (λ k d at. ends (suc k) d (omega arith)) end closed,
+  )
+    where
+      first : (more : List ℕ) → (next_match built.kind (there built leftmost bytes more low) last ≡ Some m)
+          × (walk_after built.kind (from (there built leftmost bytes more low) m.end) (Some m.end)
+          ≡ ms ++ walk-on more begun next)
+      first more =
+          walk-first built leftmost bytes more some (there built leftmost bytes more low) last m
+          (ms ++ walk-on more begun next) (walks more)
+
+  -- so the stream is settled by them up to a place behind their end, where none is open and no other starts before it
+  pub settled-at : (ms : List Occurrence) (begun place : ℕ) (next : Option ℕ)
+      → ((more : List ℕ) → streamed built (bytes ++ more) ≡ ms ++ walk-on more begun next)
+      → last_end ms ≡ begun → begun ≤ place → place ≤ length bytes → NoneOpen built bytes begun place
+      → ((m : Occurrence) → pick built.kind (here built leftmost bytes [] begun) ≡ Some m → place ≤ m.start)
+      → IsSettledAt built bytes (length ms) place
+  settled-at ms begun place next walks end behind within closed first = record {
+    few = (let n = ap length whole in let a = length-append ms rest in omega arith);
+    within = within;
+    ended = subst (All (λ (m : Occurrence). m.end ≤ place)) (sym taken) (λ k d at.
+        let e = rises.0 k d at in let l = ends_at-start ms in let up : (get_or ms k d).end ≤ place = omega arith in up);
+    later = subst (All (λ (m : Occurrence). place ≤ m.start)) (sym left)
+        (walk-from built leftmost bytes [] some (here built leftmost bytes [] begun) place next refl first);
+    decided = subst (λ (ns : List Occurrence). AreDecided built bytes 0 ns place) (sym taken)
+        (walks-decided ms 0 begun place None next walks (λ k d at.
+        let e = rises.0 k d at in let l = ends_at-start ms in let up : (get_or ms k d).end ≤ length bytes = omega arith in up)
+        (ends_at-start ms ∙ end) closed);
+  }
+    where
+      rest : List Occurrence
+      rest = walk_after built.kind (here built leftmost bytes [] begun) next
+
+      whole : streamed built bytes ≡ ms ++ rest
+      whole =
+          subst (λ (w : List ℕ). streamed built w
+          ≡ ms ++ walk_after built.kind (record (search_in built (asked_whole w)) { low = begun }) next)
+          (append-nil bytes) (walks [])
+
+      taken : take (length ms) (streamed built bytes) ≡ ms
+      taken = ap (take (length ms)) whole ∙ take-append_seam ms rest
+
+      left : drop (length ms) (streamed built bytes) ≡ rest
+      left = ap (drop (length ms)) whole ∙ drop-append_seam ms rest
+
+      rises : All (λ (m : Occurrence). m.end ≤ ends_at 0 ms) ms × (0 ≤ ends_at 0 ms)
+      rises = ends-rise ms rest 0 None whole

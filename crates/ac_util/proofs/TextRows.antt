@@ -9,7 +9,7 @@ use Rattle.ac_util.specs.declared.search.StartKind.TheVariants.{Both, Unanchored
 use Rattle.ac_util.specs.declared.search.Anchored.TheVariants.{No, Yes}
 use Rattle.ac_util.specs.declared.error.MatchError.{MatchError}
 use Rattle.ac_util.specs.declared.error.MatchError.TheVariants.{InvalidInputAnchored, InvalidInputUnanchored}
-use Rattle.ac_util.specs.declared.error.MatchError.TheVariants.{UnsupportedOverlapping, UnsupportedStream}
+use Rattle.ac_util.specs.declared.error.MatchError.TheVariants.{UnsupportedOverlapping}
 use Rattle.ac_util.specs.declared.error.MatchError.TheVariants.{UnsupportedEmpty}
 use Rattle.ac_util.specs.Sameness.{same_byte, same_string}
 use Rattle.ac_util.specs.Occurrence.{Occurrence, occurrence}
@@ -172,13 +172,14 @@ overlapping-wants-standard : AreRefusals (
     ∷ [])
 overlapping-wants-standard = refl
 
--- a stream wants the kind Standard, which is asked first, and no empty pattern
-stream-wants-standard : AreRefusals (
-    (Unanchored, LeftmostFirst, Stream, false, Some (UnsupportedStream LeftmostFirst))
-    ∷ (Unanchored, LeftmostFirst, Stream, true, Some (UnsupportedStream LeftmostFirst))
+-- a stream wants no empty pattern, and takes every match kind
+stream-wants-bytes : AreRefusals (
+    (Unanchored, LeftmostFirst, Stream, false, None)
+    ∷ (Both, LeftmostLongest, Stream, false, None)
+    ∷ (Unanchored, LeftmostFirst, Stream, true, Some UnsupportedEmpty)
     ∷ (Unanchored, Standard, Stream, true, Some UnsupportedEmpty)
     ∷ [])
-stream-wants-standard = refl
+stream-wants-bytes = refl
 
 -- the start is asked before the kind, and the iterator has no anchored form
 start-wanted-first : AreRefusals (

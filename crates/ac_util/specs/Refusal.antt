@@ -7,7 +7,7 @@ use Rattle.ac_util.specs.declared.search.StartKind.TheVariants.{Both, Unanchored
 use Rattle.ac_util.specs.declared.search.Anchored.{Anchored}
 use Rattle.ac_util.specs.declared.search.Anchored.TheVariants.{No, Yes}
 use Rattle.ac_util.specs.declared.error.MatchError.{MatchError}
-use Rattle.ac_util.specs.declared.error.MatchError.TheVariants.{InvalidInputAnchored, InvalidInputUnanchored, UnsupportedOverlapping, UnsupportedStream, UnsupportedEmpty}
+use Rattle.ac_util.specs.declared.error.MatchError.TheVariants.{InvalidInputAnchored, InvalidInputUnanchored, UnsupportedOverlapping, UnsupportedEmpty}
 
 -- a call answers the value where nothing refuses it, and else why it is refused
 abbrev pub AnswersUnless : {A : Type 0} → Option MatchError → A → Result A MatchError → Type 0
@@ -39,14 +39,14 @@ start_refusal Unanchored Yes = Some InvalidInputAnchored
 start_refusal AnchoredAlone No = Some InvalidInputUnanchored
 start_refusal AnchoredAlone Yes = None
 
--- the match kind isn't Standard, which an overlapping search and a stream need
+-- the match kind isn't Standard, which an overlapping search needs
 abbrev pub kind_refusal : MatchKind → Call → Option MatchError
 kind_refusal Standard call = None
 kind_refusal kind (Find anchored) = None
 kind_refusal kind Replace = None
 kind_refusal kind (OverlappingByState anchored) = Some (UnsupportedOverlapping kind)
 kind_refusal kind (OverlappingIterator anchored) = Some (UnsupportedOverlapping kind)
-kind_refusal kind Stream = Some (UnsupportedStream kind)
+kind_refusal kind Stream = None
 
 -- the search is anchored, and the overlapping iterator has no anchored form
 abbrev pub form_refusal : Call → Option MatchError

@@ -5,7 +5,6 @@ use Rattle.ac_util.specs.Node.{participates}
 use Rattle.ac_util.specs.Occurrence.{Occurrence}
 use Rattle.ac_util.specs.Sameness.{IsSame, plain}
 use Rattle.ac_util.specs.Search.{pattern_of}
-use Rattle.ac_util.specs.Sizes.{longest_len}
 use Rattle.ac_util.specs.Stream.{streamed}
 
 -- a place is open where some bytes follow it, and a pattern that takes part begins with them and is longer: a match may
@@ -29,11 +28,10 @@ AreDecided built bytes from [] to = NoneOpen built bytes from to
 AreDecided built bytes from (m ∷ ms) to = NoneOpen built bytes from (m.start + 1) × AreDecided built bytes m.end ms to
 
 -- these bytes of a stream came, and so many of their matches were given: the stream is settled up to a place where these end
--- by there and are decided, no other match starts before it, and no more bytes follow it than the longest pattern has
+-- by there and are decided, and no other match starts before it
 pub record IsSettledAt (built : Built) (bytes : List ℕ) (given place : ℕ) : Type 0 where
   pub few : given ≤ length (streamed built bytes)
   pub within : place ≤ length bytes
-  pub near : length bytes ≤ place + longest_len built.patterns
   pub ended : All (λ m. m.end ≤ place) (take given (streamed built bytes))
   pub later : All (λ m. place ≤ m.start) (drop given (streamed built bytes))
   pub decided : AreDecided built bytes 0 (take given (streamed built bytes)) place

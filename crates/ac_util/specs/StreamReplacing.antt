@@ -1,5 +1,5 @@
 -- What the replacement of a stream leaves in a writer, and when each error comes.
-use Rattle.std.specs.Prelude.{◌≡◌, ◌⊎◌, ℕ, ◌-◌, Bool, List, Option, None, Some, Result, Ok, Err, length, take}
+use Rattle.std.specs.Prelude.{◌≡◌, ◌⊎◌, ℕ, ◌+◌, ◌-◌, ◌≤◌, Bool, List, Option, None, Some, Result, Ok, Err, length, take}
 use Rattle.std.specs.Borrow.{Bor, MutBor}
 use Rattle.std.specs.Fn.{Mut}
 use Rattle.std.specs.declared.io.Error.{Error}
@@ -7,11 +7,15 @@ use Rattle.ac_util.specs.declared.device.WriteError.{WriteError}
 use Rattle.ac_util.specs.declared.error.MatchError.{MatchError}
 use Rattle.ac_util.specs.declared.error.StreamError.{StreamError}
 use Rattle.ac_util.specs.declared.error.StreamError.TheVariants.{Io, Match, Memory, TooLong, WriteZero}
+use Rattle.ac_util.specs.declared.search.MatchKind.{MatchKind}
+use Rattle.ac_util.specs.declared.search.MatchKind.TheVariants.{LeftmostFirst, LeftmostLongest, Standard}
 use Rattle.ac_util.specs.Built.{Built}
 use Rattle.ac_util.specs.Device.{Reading, ReadsAll, ReadsSome, ReadsTooMany, ReadsUntilFailure, Writing, WritesAll, WritesUntilFailure}
 use Rattle.ac_util.specs.Occurrence.{Occurrence}
 use Rattle.ac_util.specs.Replaced.{replaced}
 use Rattle.ac_util.specs.Replacement.{Answer, Calls, Fails, GoesOn, Replacing, ReplacementSteps}
+use Rattle.ac_util.specs.Settled.{IsSettledAt}
+use Rattle.ac_util.specs.Sizes.{longest_len}
 use Rattle.ac_util.specs.Stream.{error_of, held, streamed, without_last}
 
 -- one of five things, by why a stream ended
@@ -23,8 +27,8 @@ MatchStreamError WriteZero refused memory io zero long = zero
 MatchStreamError TooLong refused memory io zero long = long
 
 -- a refused call changes nothing; it is refused for want of memory only where the settings don't refuse it
-abbrev pub IsRefused : Option MatchError → Type 0 → StreamError → Type 0
-IsRefused refusal unchanged e =
+abbrev pub IsStreamRefused : Option MatchError → Type 0 → StreamError → Type 0
+IsStreamRefused refusal unchanged e =
     MatchStreamError e (λ m. (refusal ≡ Some m) × unchanged) ((refusal ≡ None) × unchanged) ⊥ ⊥ ⊥
 
 -- after so many bytes of a stream these came, and then a read has failed, or brought more than usize counts
@@ -32,15 +36,27 @@ abbrev pub FailsToRead : ℕ → Reading → Reading → List ℕ → StreamErro
 FailsToRead seen old new bytes e =
     MatchStreamError e (λ _. ⊥) ⊥ (ReadsUntilFailure old new bytes) ⊥ (ReadsTooMany seen old new bytes)
 
--- as far as which place a stream is settled, of which these bytes came: all of it once its end was met, and else all
--- but the bytes held back
+-- as far as which place a stream is settled under Standard, of which these bytes came: all but the bytes held back
 abbrev pub settled : Built → List ℕ → ℕ
 settled built bytes = length bytes - held built bytes
 
--- the bytes came, with the end or without it, and the stream is settled as far as a place
-abbrev pub IsSettled : Bool → Built → Reading → Reading → List ℕ → ℕ → Type 0
-IsSettled ends built old new bytes place =
-    (ReadsSome old new bytes × (place ≡ settled built bytes)) ⊎ (ReadsAll ends old new bytes × (place ≡ length bytes))
+-- these bytes of a stream came, and it is settled as far as a place by so many of their matches: under Standard by all of
+-- them, and under a leftmost kind by those that no longer stream changes
+abbrev pub IsSettledBy : MatchKind → Built → List ℕ → ℕ → ℕ → Type 0
+IsSettledBy Standard built bytes given place = (given ≡ length (streamed built bytes)) × (place ≡ settled built bytes)
+IsSettledBy LeftmostFirst built bytes given place = IsSettledAt built bytes given place
+IsSettledBy LeftmostLongest built bytes given place = IsSettledAt built bytes given place
+
+-- no more bytes follow the place than the longest pattern has
+abbrev pub IsNear : Built → List ℕ → ℕ → Type 0
+IsNear built bytes place = length bytes ≤ place + longest_len built.patterns
+
+-- the bytes came, with the end or without it, and the stream is settled as far as a place by so many of their matches: by all
+-- of them once its end was met
+abbrev pub IsSettled : Bool → Built → Reading → Reading → List ℕ → ℕ → ℕ → Type 0
+IsSettled ends built old new bytes given place =
+    (ReadsSome old new bytes × IsSettledBy built.kind built bytes given place)
+    ⊎ (ReadsAll ends old new bytes × (given ≡ length (streamed built bytes)) × (place ≡ length bytes))
 
 module _ {F D : Type 0} (told : D → Writing) where
   -- the bytes are written, all of them; or a beginning of them, and then a write has failed or took nothing
@@ -60,25 +76,35 @@ asked_by_result (Err e) = Fails (Io e)
 module _ {F D : Type 0} (told : D → Writing)
     (closures : Mut F (Bor Occurrence × (Bor (List ℕ) × (MutBor D × Unit {0})))
     (Result (Unit {0}) Error × (MutBor D × Unit {0}))) (built : Built) (closure : F) (old : D) where
-  -- the steps that exchange the matches of these bytes by a closure, as far as a place, lead a writer from `old` to `new`
-  abbrev pub StreamStepsLead : List ℕ → ℕ → Option StreamError → D → Type 0
-  StreamStepsLead bytes place end new =
+  -- the steps that exchange these matches of some bytes by a closure, as far as a place, lead a writer from `old` to `new`
+  abbrev pub StreamStepsLead : List ℕ → List Occurrence → ℕ → Option StreamError → D → Type 0
+  StreamStepsLead bytes ms place end new =
       (left : F) × ReplacementSteps (WritesPiece told) (Calls closures) asked_by_result (take place bytes) 0
-      (streamed built bytes) (record { closure = closure; destination = old }) end
+      ms (record { closure = closure; destination = old }) end
       (record { closure = left; destination = new })
 
   -- the stream was read to its end, and all of its steps were made
   abbrev pub ReplacesStreamWith : Bool → Reading → Reading → D → Type 0
   ReplacesStreamWith ends reader new_reader new =
-      (bytes : List ℕ) × ReadsAll ends reader new_reader bytes × StreamStepsLead bytes (length bytes) None new
+      (bytes : List ℕ) × ReadsAll ends reader new_reader bytes
+      × StreamStepsLead bytes (streamed built bytes) (length bytes) None new
 
-  -- a read has failed, or brought more than usize counts: the steps were made as far as the stream was settled. Or a
+  -- the steps were made as far as the stream is settled, of which these bytes came: under Standard to all but the bytes held
+  -- back, and under a leftmost kind to all but at most as many as the longest pattern has
+  abbrev pub StepsAreSettled : MatchKind → List ℕ → D → Type 0
+  StepsAreSettled Standard bytes new = StreamStepsLead bytes (streamed built bytes) (settled built bytes) None new
+  StepsAreSettled kind bytes new =
+      (given place : ℕ) × IsSettledAt built bytes given place × IsNear built bytes place
+      × StreamStepsLead bytes (take given (streamed built bytes)) place None new
+
+  -- a read has failed, or brought more than usize counts: the steps were made as far as the stream is settled. Or a
   -- write has failed, or took nothing, or the closure has failed: no step was made after that
   abbrev pub FailsToReplaceWith : Bool → Reading → Reading → D → StreamError → Type 0
   FailsToReplaceWith ends reader new_reader new e =
       (bytes : List ℕ)
-      × ((FailsToRead 0 reader new_reader bytes e × StreamStepsLead bytes (settled built bytes) None new)
-      ⊎ ((place : ℕ) × IsSettled ends built reader new_reader bytes place × StreamStepsLead bytes place (Some e) new))
+      × ((FailsToRead 0 reader new_reader bytes e × StepsAreSettled built.kind bytes new)
+      ⊎ ((given place : ℕ) × IsSettled ends built reader new_reader bytes given place
+      × StreamStepsLead bytes (take given (streamed built bytes)) place (Some e) new))
 
 module _ (built : Built) (texts : List (List ℕ)) (old new : Writing) where
   -- all bytes of the stream with their matches exchanged for texts
@@ -90,13 +116,20 @@ module _ (built : Built) (texts : List (List ℕ)) (old new : Writing) where
   ReplacesStream ends reader new_reader =
       (bytes : List ℕ) × ReadsAll ends reader new_reader bytes × WritesAll old new (stream_replaced bytes)
 
-  -- a read has failed, or brought more than usize counts: the replaced text of what was read was written but for the
-  -- bytes held back. Or a write has failed, or took nothing: a beginning of the replaced text of what was read was written
+  -- the replaced text was written as far as the stream is settled, of which these bytes came: under Standard but for the bytes
+  -- held back, and under a leftmost kind but for at most as many as the longest pattern has
+  abbrev pub TextIsSettled : MatchKind → List ℕ → Type 0
+  TextIsSettled Standard bytes = WritesAll old new (without_last (held built bytes) (stream_replaced bytes))
+  TextIsSettled kind bytes =
+      (given place : ℕ) × IsSettledAt built bytes given place × IsNear built bytes place
+      × WritesAll old new (replaced (take place bytes) texts (take given (streamed built bytes)))
+
+  -- a read has failed, or brought more than usize counts: the replaced text was written as far as the stream is settled.
+  -- Or a write has failed, or took nothing: a beginning of the replaced text of what was read was written
   abbrev pub FailsToReplace : Bool → Reading → Reading → StreamError → Type 0
   FailsToReplace ends reader new_reader e =
       (bytes : List ℕ)
-      × ((FailsToRead 0 reader new_reader bytes e
-      × WritesAll old new (without_last (held built bytes) (stream_replaced bytes)))
+      × ((FailsToRead 0 reader new_reader bytes e × TextIsSettled built.kind bytes)
       ⊎ ((ReadsSome reader new_reader bytes ⊎ ReadsAll ends reader new_reader bytes)
       × ((failure : WriteError) × (e ≡ error_of failure)
       × WritesUntilFailure old new (stream_replaced bytes) failure)))

@@ -260,7 +260,7 @@ impl<'a, A: Automaton> Scanner<'a, A> {
     /// Returns whether the last match found is the answer: nothing is left to read, nothing more is found, or the
     /// first match counts.
     #[inline]
-    fn is_decided(&self, stops: bool, cursor: Cursor, last: &Option<Match>) -> bool
+    pub(super) fn is_decided(&self, stops: bool, cursor: Cursor, last: &Option<Match>) -> bool
         requires state { IsState (⟦<A as Scans>⟧.scan self.now.automaton.now self.now.anchored).stands cursor.state }
         ensures { (u : Node) → (⟦<A as Scans>⟧.scan self.now.automaton.now self.now.anchored).stands cursor.state u
             → IsTrue result ↔ IsAnswered stops self.now.span.end cursor.at u last.now }

@@ -1,12 +1,10 @@
 //! The search of a stream: what a reader gives is read into a buffer, and its matches are given one after another.
-ghost use Rattle.std.specs.Prelude.{◌≡◌, ◌≤◌, ◌<◌, ◌+◌, ◌-◌, ◌*◌, MatchResult, None, Some, drop, length, max, min, slice_range, take, ⊤};
-ghost use Rattle.ac_util.specs.declared.search.Anchored.TheVariants.{No};
+ghost use Rattle.std.specs.Prelude.{◌≡◌, ◌≤◌, ◌<◌, ◌+◌, ◌-◌, ◌*◌, MatchResult, None, drop, if◌then◌else◌, length, max, min, slice_range, take, ⊤};
 ghost use Rattle.ac_util.specs.Built.{stream_refusal};
 ghost use Rattle.ac_util.specs.Device.{Reads};
-ghost use Rattle.ac_util.specs.Refusal.{start_refusal};
-ghost use Rattle.ac_util.specs.StreamReplacing.{IsRefused};
-ghost use Rattle.ac_automaton.specs.declared.automaton.stream.Phase.TheVariants.{Open};
-ghost use Rattle.ac_automaton.specs.Streams.{Fills, GivesRead, StreamsOn, kept_len, settled_in, settled_of, stream_begun};
+ghost use Rattle.ac_util.specs.StreamReplacing.{IsNear, IsStreamRefused};
+ghost use Rattle.ac_automaton.specs.declared.automaton.stream.Phase.TheVariants.{Ended, Open};
+ghost use Rattle.ac_automaton.specs.Streams.{Fills, GivesLast, GivesRead, StreamsOn, kept_from, kept_len, stream_begun};
 
 use super::Automaton;
 use super::scan::{Cursor, Scanner};
@@ -41,15 +39,20 @@ pub enum Phase {
 
 /// A search over a stream, whose reader is handed to each call. `StreamFindIter` is one with a reader of its own.
 ///
-/// The matches are those of the walk over all bytes that the readers gave, however they cut them. What was read stands in one
-/// buffer, which is made at first and never grows: it is read into as far as it has room, and the bytes that a match to come
-/// may need are moved to its front only when it is full. Contracts see all bytes that were read, and how many of their
-/// matches were given.
+/// The matches are those of the walk over all bytes that the readers gave, however they cut them. A match is given as soon as no
+/// byte to come can change it. Under a leftmost kind some bytes behind it may have been read by then: these are searched again,
+/// at most as many for each match as the longest pattern has.
+///
+/// What was read stands in one buffer, which is made at first and never grows: it is read into as far as it has room, and the
+/// bytes that a match to come may need are moved to its front only when it is full. Contracts see all bytes that were read, and
+/// how many of their matches were given.
 #[derive(Drop)]
 pub struct StreamFinder<'a, A: Automaton, Z: Allocator> {
     automaton: &'a A,
     /// The state at which a search begins.
     start: StateID,
+    /// Whether the first match found is given.
+    stops: bool,
     /// How many bytes may be kept back.
     reserve: usize,
     buffer: Vec<u8, Z>,
@@ -62,6 +65,8 @@ pub struct StreamFinder<'a, A: Automaton, Z: Allocator> {
     state: StateID,
     /// Up to where the buffer was searched.
     at: usize,
+    /// The match that is picked so far, which more bytes may still change.
+    picked: Option<Match>,
     phase: Phase,
     /// Where in the stream the last match given ended.
     begun: Snapshot<usize>,
@@ -89,11 +94,13 @@ impl<'a, A: Automaton, Z: Allocator> Model for StreamFinder<'a, A, Z> {
     ghost invariant = { λ f. IsStreaming (A.stands f.automaton.now No)
         (record {
           start = f.start;
+          stops = f.stops;
           reserve = f.reserve;
           buffer = f.buffer.items;
           filled = f.filled;
           state = f.state;
           at = f.at;
+          picked = f.picked;
           begun = f.begun.value;
         })
         (record {
@@ -112,28 +119,32 @@ impl<'a, A: Automaton, Z: Allocator> StreamFinder<'a, A, Z> {
     ///
     /// # Errors
     /// `StreamError::Match` with `InvalidInputUnanchored` where the automaton has no unanchored start, else with
-    /// `UnsupportedStream` where its match kind isn't `MatchKind::Standard`, else with `UnsupportedEmpty` where some pattern is
-    /// empty; else `StreamError::Memory` where the memory for the buffer is refused.
+    /// `UnsupportedEmpty` where some pattern is empty; else `StreamError::Memory` where the memory for the buffer is refused.
     pub fn new(automaton: &'a A, alloc: Z) -> Result<StreamFinder<'a, A, Z>, StreamError>
         ensures { MatchResult result
             (λ finder. (stream_refusal (A.built automaton.now) ≡ None) × (finder ≡ stream_begun (A.built automaton.now)))
-            (IsRefused (stream_refusal (A.built automaton.now)) ⊤) }
+            (IsStreamRefused (stream_refusal (A.built automaton.now)) ⊤) }
     {
         let start = automaton.start_state(Anchored::No)?;
-        check_stream(automaton)?;
+        if automaton.min_pattern_len() == 0 {
+            return Err(StreamError::Match(MatchError::UnsupportedEmpty));
+        }
         let longest = automaton.max_pattern_len();
+        let stops = matches!(automaton.match_kind(), MatchKind::Standard);
         let mut buffer = Vec::new(alloc);
         buffer.resize(buffer_len(longest), 0)?;
         Ok(StreamFinder {
             automaton,
             start,
-            reserve: longest.max(1) - 1,
+            stops,
+            reserve: most_kept(stops, longest),
             buffer,
             filled: 0,
             front: 0,
             kept: 0,
             state: start,
             at: 0,
+            picked: None,
             phase: Phase::Open,
             begun: Snapshot::of(&0),
             given: Tally::zero(),
@@ -149,8 +160,8 @@ impl<'a, A: Automaton, Z: Allocator> StreamFinder<'a, A, Z> {
     }
 
     /// Returns how many bytes of the stream are kept: those from the end of the last match given on; or of these, once all
-    /// matches of what was read were given, as many as a match to come may need. After an error they are no more than the
-    /// longest pattern has.
+    /// matches of what was read that are settled were given, as many as a match to come may need. After an error they are no more
+    /// than the longest pattern has, and after the end there are none.
     pub fn kept_len(&self) -> usize
         ensures { result ≡ kept_len self.now }
     {
@@ -177,7 +188,7 @@ impl<'a, A: Automaton, Z: Allocator> StreamFinder<'a, A, Z> {
     }
 
     /// Returns the next match of the bytes that were read, without reading more of them. `None` says that all their matches
-    /// were given.
+    /// were given that no byte to come can change.
     pub fn next_read(&mut self) -> Option<Match>
         ensures { GivesRead self.old result self.new }
     {
@@ -190,41 +201,46 @@ impl<'a, A: Automaton, Z: Allocator> StreamFinder<'a, A, Z> {
             },
         };
         let (mut tape, mut looks) = open(&Input::new(&self.buffer));
-        let begun = Cursor {
-            state: self.state,
-            at: self.at,
-        };
-        let cursor = scanner.read_ahead(begun, &mut tape, &mut looks);
-        let read = self.front + cursor.at;
-        let found = scanner.match_at(Cursor {
-            state: cursor.state,
-            at: read,
-        });
-        self.at = cursor.at;
-        match found {
-            None => {
-                self.state = cursor.state;
-                self.kept = settled_from(self.phase, self.kept, read, self.reserve);
-                None
+        let (mut state, mut at, mut picked) = (self.state, self.at, self.picked);
+        while !scanner.is_decided(self.stops, Cursor { state, at }, &picked) {
+            let ahead = scanner.read_ahead(Cursor { state, at }, &mut tape, &mut looks);
+            (state, at) = (ahead.state, ahead.at);
+            let read = self.front + at;
+            let found = scanner.match_at(Cursor { state, at: read });
+            if found.is_some() {
+                picked = found;
             }
+        }
+        let settled = self.stops
+            || matches!(self.phase, Phase::Ended)
+            || self.automaton.is_dead(state);
+        let given = if settled { picked } else { None };
+        match given {
             Some(found) => {
                 self.state = self.start;
+                self.at = found.end() - self.front;
+                self.picked = None;
                 self.begun = Snapshot::of(&found.end());
                 self.given = Tally::after(&self.given);
                 self.kept = found.end();
                 Some(found)
             }
+            None => {
+                (self.state, self.at, self.picked) = (state, at, picked);
+                self.kept = settled_from(self.phase, self.kept, self.front + at, self.reserve);
+                None
+            }
         }
     }
 
-    /// Reads more bytes into the buffer, and returns whether some came: else the end was met. All matches of those that were
-    /// read before have to be given.
+    /// Reads more bytes into the buffer, and returns whether some came: else the end was met. No more bytes may be kept than the
+    /// longest pattern has.
     ///
     /// # Errors
     /// `Io` where the read failed, and `TooLong` where more bytes have come than a `usize` counts: its bytes aren't searched.
     pub(super) fn fill<R: Source>(&mut self, reader: &mut R) -> Result<bool, StreamError>
         requires goes_on { self.old.phase ≡ Open }
-        requires settled { settled_of self.old ≤ self.old.kept }
+        requires near { IsNear self.old.built self.old.bytes self.old.kept }
         ensures { Fills R.empty_means_end self.old result self.new (R.told reader.old) (R.told reader.new) }
     {
         self.make_room();
@@ -253,7 +269,7 @@ impl<'a, A: Automaton, Z: Allocator> StreamFinder<'a, A, Z> {
     /// Moves the bytes that are kept to the front of the buffer where it is full.
     fn make_room(&mut self)
         requires goes_on { self.old.phase ≡ Open }
-        requires settled { settled_of self.old ≤ self.old.kept }
+        requires near { IsNear self.old.built self.old.bytes self.old.kept }
         ensures same { self.new ≡ record self.old { front = self.new.front } }
         ensures room { length self.new.bytes < self.new.front + self.new.buffer }
     {
@@ -267,17 +283,19 @@ impl<'a, A: Automaton, Z: Allocator> StreamFinder<'a, A, Z> {
         self.front = self.kept;
     }
 
-    /// Returns the next match of the stream, and reads more of it where that is needed. After an error or the end it keeps
-    /// giving `None`, and the reader isn't asked again.
+    /// Returns the next match of the stream, and reads more of it where that is needed. After an error it keeps giving `None`,
+    /// and so it does after the end once all matches were given; the reader isn't asked again.
     ///
     /// # Errors
     /// `Io` where a read failed, and `TooLong` where more bytes came than a `usize` counts. All matches of the bytes read before
-    /// were given then.
+    /// were given then that no byte to come could change.
     pub fn next<R: Source>(&mut self, reader: &mut R) -> Option<Result<Match, StreamError>>
         ensures { StreamsOn R.empty_means_end self.old result self.new (R.told reader.old) (R.told reader.new) }
     {
-        if self.phase != Phase::Open {
-            return None;
+        match self.phase {
+            Phase::Open => {}
+            Phase::Ended => return self.next_at_end(),
+            Phase::Failed => return None,
         }
         loop {
             if let Some(found) = self.next_read() {
@@ -285,9 +303,20 @@ impl<'a, A: Automaton, Z: Allocator> StreamFinder<'a, A, Z> {
             }
             match self.fill(reader) {
                 Ok(true) => {}
-                Ok(false) => return None,
+                Ok(false) => return self.next_at_end(),
                 Err(e) => return Some(Err(e)),
             }
+        }
+    }
+
+    /// Returns the next match once the end was met: nothing is left to read.
+    fn next_at_end(&mut self) -> Option<Result<Match, StreamError>>
+        requires ended { self.old.phase ≡ Ended }
+        ensures { GivesLast self.old result self.new }
+    {
+        match self.next_read() {
+            Some(found) => Some(Ok(found)),
+            None => None,
         }
     }
 }
@@ -302,9 +331,9 @@ fn read_behind<R: Source>(reader: &mut R, buffer: &mut [u8], filled: usize) -> i
     reader.read_some(&mut buffer[filled..])
 }
 
-/// Returns as far as where nothing is kept once all matches of the bytes read were given.
+/// Returns as far as where nothing is kept once all matches of the bytes read that are settled were given.
 fn settled_from(phase: Phase, kept: usize, read: usize, reserve: usize) -> usize
-    ensures { result ≡ settled_in phase (max kept (read - reserve)) read }
+    ensures { result ≡ kept_from phase (max kept (read - reserve)) read }
 {
     match phase {
         Phase::Ended => read,
@@ -319,21 +348,10 @@ fn buffer_len(longest: usize) -> usize
     longest.saturating_mul(BUFFER_FACTOR).max(LEAST_BUFFER)
 }
 
-/// Tests that an automaton may search streams.
-///
-/// # Errors
-/// As `StreamFinder::new`, but for its start.
-fn check_stream<A: Automaton>(automaton: &A) -> Result<(), MatchError>
-    ensures { MatchResult result
-        (λ _. start_refusal (A.built automaton.now).start_kind No ≡ None → stream_refusal (A.built automaton.now) ≡ None)
-        (λ e. start_refusal (A.built automaton.now).start_kind No ≡ None → stream_refusal (A.built automaton.now) ≡ Some e) }
+/// Returns how many bytes of a stream may be kept back: one fewer than the longest pattern has where the first match found is
+/// given, and else, since a match that was found may still change, as many.
+fn most_kept(stops: bool, longest: usize) -> usize
+    ensures { result ≡ if stops then max 1 longest - 1 else longest }
 {
-    match automaton.match_kind() {
-        MatchKind::Standard => {}
-        got => return Err(MatchError::UnsupportedStream { got }),
-    }
-    if automaton.min_pattern_len() == 0 {
-        return Err(MatchError::UnsupportedEmpty);
-    }
-    Ok(())
+    if stops { longest.max(1) - 1 } else { longest }
 }

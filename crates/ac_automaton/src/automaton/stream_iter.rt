@@ -2,7 +2,7 @@
 ghost use Rattle.std.specs.Prelude.{◌≡◌, MatchResult, None, ⊤};
 ghost use Rattle.std.specs.Iterator.{at_most};
 ghost use Rattle.ac_util.specs.Built.{stream_refusal};
-ghost use Rattle.ac_util.specs.StreamReplacing.{IsRefused};
+ghost use Rattle.ac_util.specs.StreamReplacing.{IsStreamRefused};
 ghost use Rattle.ac_automaton.specs.Streams.{GivesItem, ReadsItem, items_left, kept_len, stream_begun};
 
 use super::Automaton;
@@ -42,7 +42,7 @@ impl<'a, A: Automaton, R: Source + Drop, Z: Allocator> StreamFindIter<'a, A, R, 
         ensures { MatchResult result
             (λ matches. (stream_refusal (A.built automaton.now) ≡ None)
             × (matches ≡ record { stream = stream_begun (A.built automaton.now); reader = R.told reader }))
-            (IsRefused (stream_refusal (A.built automaton.now)) ⊤) }
+            (IsStreamRefused (stream_refusal (A.built automaton.now)) ⊤) }
     {
         let finder = StreamFinder::new(automaton, alloc)?;
         Ok(StreamFindIter { finder, reader })

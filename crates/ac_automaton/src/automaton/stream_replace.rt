@@ -4,7 +4,7 @@ ghost use Rattle.ac_util.specs.Borrowed.{bytes_of};
 ghost use Rattle.ac_util.specs.Built.{stream_refusal};
 ghost use Rattle.ac_util.specs.Occurrence.{Occurrence};
 ghost use Rattle.ac_util.specs.Replacement.{Replacing};
-ghost use Rattle.ac_util.specs.StreamReplacing.{FailsToReplace, FailsToReplaceWith, IsRefused, ReplacesStream, ReplacesStreamWith};
+ghost use Rattle.ac_util.specs.StreamReplacing.{FailsToReplace, FailsToReplaceWith, IsStreamRefused, ReplacesStream, ReplacesStreamWith};
 ghost use Rattle.ac_util.specs.declared.error.StreamError.{StreamError};
 ghost use Rattle.ac_automaton.specs.Exchanges.{CallsBy, FailsBy, FailsToExchange, HasExchanged, ReplacesBy, WritesTexts};
 
@@ -29,7 +29,7 @@ pub(super) fn try_stream_replace_all<A: Automaton, Z: Allocator, R: Source, W: S
         (λ _. (stream_refusal (A.built automaton.now) ≡ None)
         × ReplacesStream (A.built automaton.now) (bytes_of texts.now) (W.told writer.old) (W.told writer.new)
         R.empty_means_end (R.told reader.old) (R.told reader.new))
-        (λ e. IsRefused (stream_refusal (A.built automaton.now))
+        (λ e. IsStreamRefused (stream_refusal (A.built automaton.now))
         ((reader.new ≡ reader.old) × (writer.new ≡ writer.old)) e
         ⊎ ((stream_refusal (A.built automaton.now) ≡ None)
         × FailsToReplace (A.built automaton.now) (bytes_of texts.now) (W.told writer.old) (W.told writer.new)
@@ -58,7 +58,7 @@ where
         (λ _. (stream_refusal (A.built automaton.now) ≡ None)
         × ReplacesStreamWith W.told F.FnMut (A.built automaton.now) closure writer.old R.empty_means_end
         (R.told reader.old) (R.told reader.new) writer.new)
-        (λ e. IsRefused (stream_refusal (A.built automaton.now))
+        (λ e. IsStreamRefused (stream_refusal (A.built automaton.now))
         ((reader.new ≡ reader.old) × (writer.new ≡ writer.old)) e
         ⊎ ((stream_refusal (A.built automaton.now) ≡ None)
         × FailsToReplaceWith W.told F.FnMut (A.built automaton.now) closure writer.old R.empty_means_end
@@ -175,7 +175,7 @@ fn replace_stream<A: Automaton, Z: Allocator, R: Source, W: Sink, E: Exchange<W>
         × ReplacesBy W.told E.calls R.empty_means_end (A.built automaton.now) (R.told reader.old) (R.told reader.new)
         (record { closure = exchange.old; destination = writer.old })
         (record { closure = exchange.new; destination = writer.new }))
-        (λ e. IsRefused (stream_refusal (A.built automaton.now))
+        (λ e. IsStreamRefused (stream_refusal (A.built automaton.now))
         ((reader.new ≡ reader.old) × (writer.new ≡ writer.old)) e
         ⊎ ((stream_refusal (A.built automaton.now) ≡ None)
         × FailsBy W.told E.calls R.empty_means_end (A.built automaton.now) (R.told reader.old) (R.told reader.new)

@@ -7,7 +7,7 @@ ghost use Rattle.ac_util.specs.Refusal.{AnswersUnless};
 ghost use Rattle.ac_util.specs.Replaced.{replaced};
 ghost use Rattle.ac_util.specs.Replacing.{AnswersWhole, MakesSteps, StepsLead};
 ghost use Rattle.ac_util.specs.Sizes.{longest_len, shortest_len};
-ghost use Rattle.ac_util.specs.StreamReplacing.{FailsToReplace, FailsToReplaceWith, IsRefused, ReplacesStream, ReplacesStreamWith};
+ghost use Rattle.ac_util.specs.StreamReplacing.{FailsToReplace, FailsToReplaceWith, IsStreamRefused, ReplacesStream, ReplacesStreamWith};
 ghost use Rattle.ac_automaton.specs.Iterators.{GoesOn, begun};
 ghost use Rattle.ac_automaton.specs.Overlaps.{GivesNext, IsPlaced, ListsNext, listing_begun};
 ghost use Rattle.ac_automaton.specs.Streams.{GivesRead, StreamsOn, kept_len, stream_begun};
@@ -268,7 +268,7 @@ impl<A: Allocator> Engine<A> {
             (λ _. (stream_refusal (built_of self.now) ≡ None)
             × ReplacesStream (built_of self.now) (bytes_of texts.now) (W.told writer.old) (W.told writer.new)
             R.empty_means_end (R.told reader.old) (R.told reader.new))
-            (λ e. IsRefused (stream_refusal (built_of self.now)) ((reader.new ≡ reader.old) × (writer.new ≡ writer.old)) e
+            (λ e. IsStreamRefused (stream_refusal (built_of self.now)) ((reader.new ≡ reader.old) × (writer.new ≡ writer.old)) e
             ⊎ ((stream_refusal (built_of self.now) ≡ None)
             × FailsToReplace (built_of self.now) (bytes_of texts.now) (W.told writer.old) (W.told writer.new)
             R.empty_means_end (R.told reader.old) (R.told reader.new) e)) }
@@ -301,7 +301,7 @@ impl<A: Allocator> Engine<A> {
             (λ _. (stream_refusal (built_of self.now) ≡ None)
             × ReplacesStreamWith W.told F.FnMut (built_of self.now) closure writer.old R.empty_means_end
             (R.told reader.old) (R.told reader.new) writer.new)
-            (λ e. IsRefused (stream_refusal (built_of self.now)) ((reader.new ≡ reader.old) × (writer.new ≡ writer.old)) e
+            (λ e. IsStreamRefused (stream_refusal (built_of self.now)) ((reader.new ≡ reader.old) × (writer.new ≡ writer.old)) e
             ⊎ ((stream_refusal (built_of self.now) ≡ None)
             × FailsToReplaceWith W.told F.FnMut (built_of self.now) closure writer.old R.empty_means_end
             (R.told reader.old) (R.told reader.new) writer.new e)) }
@@ -327,7 +327,7 @@ impl<A: Allocator> Engine<A> {
         ensures { MatchResult result
             (λ finder. (stream_refusal (built_of self.now) ≡ None)
             × (streaming_in finder ≡ stream_begun (built_of self.now)))
-            (IsRefused (stream_refusal (built_of self.now)) ⊤) }
+            (IsStreamRefused (stream_refusal (built_of self.now)) ⊤) }
     {
         match self {
             Engine::Noncontiguous(nfa) => {

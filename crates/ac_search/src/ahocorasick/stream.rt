@@ -3,7 +3,7 @@ ghost use Rattle.std.specs.Prelude.{◌≡◌, ◌⊎◌, Err, IfErr, IfOk, Matc
 ghost use Rattle.std.specs.Iterator.{at_most};
 ghost use Rattle.ac_util.specs.Borrowed.{bytes_of};
 ghost use Rattle.ac_util.specs.Built.{stream_refusal};
-ghost use Rattle.ac_util.specs.StreamReplacing.{FailsToReplace, FailsToReplaceWith, IsRefused, ReplacesStream, ReplacesStreamWith};
+ghost use Rattle.ac_util.specs.StreamReplacing.{FailsToReplace, FailsToReplaceWith, IsStreamRefused, ReplacesStream, ReplacesStreamWith};
 ghost use Rattle.ac_automaton.specs.Streams.{GivesItem, GivesRead, ReadsItem, StreamsOn, items_left, kept_len};
 ghost use Rattle.ac_search.specs.StreamsBegun.{HasBegun, HasBegunOver};
 
@@ -58,7 +58,7 @@ impl<A: Allocator> AhoCorasick<A> {
     ) -> Result<StreamFindIter<'_, R, A, Z>, StreamError>
         ensures { MatchResult result
             (λ matches. (stream_refusal self.now.built ≡ None) × HasBegunOver self.now.built (R.told reader) matches)
-            (IsRefused (stream_refusal self.now.built) ⊤) }
+            (IsStreamRefused (stream_refusal self.now.built) ⊤) }
     {
         let finder = self.try_stream_finder(alloc)?;
         Ok(StreamFindIter { finder, reader })
@@ -95,7 +95,7 @@ impl<A: Allocator> AhoCorasick<A> {
             (λ _. (stream_refusal self.now.built ≡ None)
             × ReplacesStream self.now.built (bytes_of texts.now) (W.told writer.old) (W.told writer.new)
             R.empty_means_end (R.told reader.old) (R.told reader.new))
-            (λ e. IsRefused (stream_refusal self.now.built) ((reader.new ≡ reader.old) × (writer.new ≡ writer.old)) e
+            (λ e. IsStreamRefused (stream_refusal self.now.built) ((reader.new ≡ reader.old) × (writer.new ≡ writer.old)) e
             ⊎ ((stream_refusal self.now.built ≡ None)
             × FailsToReplace self.now.built (bytes_of texts.now) (W.told writer.old) (W.told writer.new)
             R.empty_means_end (R.told reader.old) (R.told reader.new) e)) }
@@ -127,7 +127,7 @@ impl<A: Allocator> AhoCorasick<A> {
             (λ _. (stream_refusal self.now.built ≡ None)
             × ReplacesStreamWith W.told F.FnMut self.now.built closure writer.old R.empty_means_end
             (R.told reader.old) (R.told reader.new) writer.new)
-            (λ e. IsRefused (stream_refusal self.now.built) ((reader.new ≡ reader.old) × (writer.new ≡ writer.old)) e
+            (λ e. IsStreamRefused (stream_refusal self.now.built) ((reader.new ≡ reader.old) × (writer.new ≡ writer.old)) e
             ⊎ ((stream_refusal self.now.built ≡ None)
             × FailsToReplaceWith W.told F.FnMut self.now.built closure writer.old R.empty_means_end
             (R.told reader.old) (R.told reader.new) writer.new e)) }
@@ -148,7 +148,7 @@ impl<A: Allocator> AhoCorasick<A> {
     ) -> Result<StreamFinder<'_, A, Z>, StreamError>
         ensures { MatchResult result
             (λ finder. (stream_refusal self.now.built ≡ None) × HasBegun self.now.built finder)
-            (IsRefused (stream_refusal self.now.built) ⊤) }
+            (IsStreamRefused (stream_refusal self.now.built) ⊤) }
     {
         check_start(self.start_kind, Anchored::No)?;
         let finder = self.engine.try_stream_finder(alloc)?;

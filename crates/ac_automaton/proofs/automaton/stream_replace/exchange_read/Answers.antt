@@ -1,10 +1,11 @@
-use Rattle.std.proofs.Common.{◌≡◌, ◌∙◌, ◌+◌, ℕ, List, Some, Ok, Err, length, take, refl, sym, ap, subst, arith}
+use Rattle.std.proofs.Common.{◌≡◌, ◌∙◌, ◌+◌, ◌≤◌, ℕ, List, Some, Ok, Err, length, take, refl, sym, ap, subst, arith}
 use Rattle.std.specs.Prelude.{slice_range}
 use Rattle.std.proofs.lemmas.Option.{slice_get_within}
 use Rattle.ac_util.specs.Device.{WritesAll, WritesUntilFailure}
 use Rattle.ac_util.specs.Stream.{error_of}
+use Rattle.ac_util.specs.StreamReplacing.{IsNear}
 use Rattle.ac_automaton.specs.Exchanges.{HasReplaced, Steps}
-use Rattle.ac_automaton.specs.Streams.{GivesMatch, HasGivenAll, Streaming, matches_so_far, settled_of}
+use Rattle.ac_automaton.specs.Streams.{GivesMatch, HasGivenSettled, IsSettledIn, Streaming, matches_so_far}
 use Rattle.ac_automaton.proofs.Places.{refused-by}
 use Rattle.ac_automaton.proofs.StreamExchanging.{exchange-fails, gap-fails, replaced-match, replaced-settled, settled-fails}
 use Rattle.ac_automaton.proofs.automaton.stream_replace.exchange_read.Goals as goal
@@ -14,22 +15,25 @@ returns-in_default-clause-exchanged g c =
     let told = g.W.Sink.told in
     let calls = g.E.Exchange.calls in
     let v = c.loop-found.finder in
-    let all : HasGivenAll v c.next_read.new.self = c.in_default.ensures in
-    let shown : c.bytes.result.now ≡ slice_range v.bytes v.kept (settled_of v) =
+    let all : HasGivenSettled v c.next_read.new.self = c.in_default.ensures in
+    let kept = c.next_read.new.self.kept in
+    let shown : c.bytes.result.now ≡ slice_range v.bytes v.kept kept =
     c.bytes.ensures ∙ ap (λ (w : Streaming). slice_range w.bytes c.kept-from.result c.kept.result) all.same
     ∙ ap (λ (k : ℕ). slice_range v.bytes k c.kept.result) c.kept-from.ensures.kept
-    ∙ ap (λ (k : ℕ). slice_range v.bytes v.kept k) (c.kept.ensures.kept ∙ ap (λ (w : Streaming). w.kept) all.same) in
+    ∙ ap (λ (k : ℕ). slice_range v.bytes v.kept k) c.kept.ensures.kept in
     let writes = subst (λ (w : List ℕ). WritesAll (told c.loop-found.writer) (told c.write_all.new.writer) w) shown
     c.in_ok-write_all.ensures in
     record {
-      all = subst (λ (w : Streaming). w.given ≡ length (matches_so_far w)) (sym all.same) all.all;
-      same = all.same ∙ ap (λ (w : Streaming). record w { kept = settled_of w }) c.loop-found.invariant.same
-          ∙ ap (λ (n : ℕ). record c.args.finder.now { given = n; kept = settled_of c.args.finder.now })
+      settled = subst (λ (w : Streaming). IsSettledIn w.phase w.built w.bytes w.given kept) (sym all.same) all.settled;
+      near = subst (λ (w : Streaming). IsNear w.built w.bytes kept) (sym all.same) all.near;
+      within = subst (λ (w : Streaming). kept ≤ length w.bytes) (sym all.same) all.within;
+      same = all.same ∙ ap (λ (w : Streaming). record w { kept = kept }) c.loop-found.invariant.same
+          ∙ ap (λ (n : ℕ). record c.args.finder.now { given = n; kept = kept })
           (sym (ap (λ (w : Streaming). w.given) all.same));
       replaced = λ first done.
           subst (λ (w : Streaming). HasReplaced told calls w first
           (record { closure = c.loop-found.exchange; destination = c.write_all.new.writer })) (sym all.same)
-          (replaced-settled told calls v first _ (c.loop-found.invariant.replaced first done) (settled_of v) _ all.onward
+          (replaced-settled told calls v first _ (c.loop-found.invariant.replaced first done) kept _ all.onward
           (refl, writes));
     }
 
@@ -39,20 +43,25 @@ returns-in_err-write_all-clause-exchanged g c =
     let calls = g.E.Exchange.calls in
     let v = c.loop-found.finder in
     let failure = c.in_err-write_all.field-0.0 in
-    let all : HasGivenAll v c.next_read.new.self = c.in_default.ensures in
-    let shown : c.bytes.result.now ≡ slice_range v.bytes v.kept (settled_of v) =
+    let all : HasGivenSettled v c.next_read.new.self = c.in_default.ensures in
+    let kept = c.next_read.new.self.kept in
+    let shown : c.bytes.result.now ≡ slice_range v.bytes v.kept kept =
     c.bytes.ensures ∙ ap (λ (w : Streaming). slice_range w.bytes c.kept-from.result c.kept.result) all.same
     ∙ ap (λ (k : ℕ). slice_range v.bytes k c.kept.result) c.kept-from.ensures.kept
-    ∙ ap (λ (k : ℕ). slice_range v.bytes v.kept k) (c.kept.ensures.kept ∙ ap (λ (w : Streaming). w.kept) all.same) in
+    ∙ ap (λ (k : ℕ). slice_range v.bytes v.kept k) c.kept.ensures.kept in
     let writes = subst (λ (w : List ℕ). WritesUntilFailure (told c.loop-found.writer) (told c.write_all.new.writer) w failure)
     shown c.in_err-write_all.ensures in
     refused-by c.from_residual.result (error_of failure) _ _ c.from_residual.ensures.1
     (λ first done.
-    subst (λ (w : Streaming). Steps told calls (take (settled_of w) w.bytes) 0 (matches_so_far w) first
-    (Some (error_of failure)) (record { closure = c.loop-found.exchange; destination = c.write_all.new.writer }))
-    c.loop-found.invariant.same
-    (settled-fails told calls v first _ (c.loop-found.invariant.replaced first done) (error_of failure) _ all.all all.onward
-    (refl, (failure, refl, writes))))
+    subst (λ (w : Streaming). (given place : ℕ) × IsSettledIn w.phase w.built w.bytes given place
+    × Steps told calls (take place w.bytes) 0 (take given (matches_so_far w)) first (Some (error_of failure))
+    (record { closure = c.loop-found.exchange; destination = c.write_all.new.writer })) c.loop-found.invariant.same (
+      v.given,
+      kept,
+      all.settled,
+      settled-fails told calls v first _ (c.loop-found.invariant.replaced first done) kept (error_of failure) _ all.onward
+          (refl, (failure, refl, writes)),
+    ))
 
 pub returns-in_err-write_all-2-clause-exchanged : goal.returns-in_err-write_all-2-clause-exchanged
 returns-in_err-write_all-2-clause-exchanged g c =
@@ -72,12 +81,16 @@ returns-in_err-write_all-2-clause-exchanged g c =
     refused-by c.from_residual-in_err-write_all-2.result (error_of failure) _ _
     c.from_residual-in_err-write_all-2.ensures.1
     (λ first done.
-    subst (λ (w : Streaming). Steps told calls (take (settled_of w) w.bytes) 0 (matches_so_far w) first
-    (Some (error_of failure))
+    subst (λ (w : Streaming). (given place : ℕ) × IsSettledIn w.phase w.built w.bytes given place
+    × Steps told calls (take place w.bytes) 0 (take given (matches_so_far w)) first (Some (error_of failure))
     (record { closure = c.loop-found.exchange; destination = c.write_all-in-loop-found.new.writer }))
-    c.loop-found.invariant.same
-    (gap-fails told calls v first _ (c.loop-found.invariant.replaced first done) m _ gives (error_of failure) _
-    (refl, (failure, refl, writes))))
+    c.loop-found.invariant.same (
+      gives.settled.given,
+      gives.settled.place,
+      gives.settled.settled,
+      gap-fails told calls v first _ (c.loop-found.invariant.replaced first done) m _ gives (error_of failure) _
+          (refl, (failure, refl, writes)),
+    ))
 
 pub loop-found-smaller : goal.loop-found-smaller
 loop-found-smaller g c =
@@ -148,12 +161,17 @@ returns-in_err-exchange-clause-exchanged g c =
     (told c.write_all-in-loop-found.new.writer) w) shown c.in_ok-write_all-2.ensures in
     refused-by c.from_residual-in_err-exchange.result e _ _ c.from_residual-in_err-exchange.ensures.1
     (λ first done.
-    subst (λ (w : Streaming). Steps told calls (take (settled_of w) w.bytes) 0 (matches_so_far w) first (Some e)
-    (record { closure = c.exchange.new.self; destination = c.exchange.new.writer })) c.loop-found.invariant.same
-    (exchange-fails told calls v first _ (c.loop-found.invariant.replaced first done) m _ gives
-    (record { closure = c.loop-found.exchange; destination = c.write_all-in-loop-found.new.writer })
-    (refl, writes) e _
-    (subst (λ (w : List ℕ). calls m w
-    (record { closure = c.loop-found.exchange; destination = c.write_all-in-loop-found.new.writer }) (Err e)
-    (record { closure = c.exchange.new.self; destination = c.exchange.new.writer })) slice
-    c.in_err-exchange.ensures.calls)))
+    subst (λ (w : Streaming). (given place : ℕ) × IsSettledIn w.phase w.built w.bytes given place
+    × Steps told calls (take place w.bytes) 0 (take given (matches_so_far w)) first (Some e)
+    (record { closure = c.exchange.new.self; destination = c.exchange.new.writer })) c.loop-found.invariant.same (
+      gives.settled.given,
+      gives.settled.place,
+      gives.settled.settled,
+      exchange-fails told calls v first _ (c.loop-found.invariant.replaced first done) m _ gives
+          (record { closure = c.loop-found.exchange; destination = c.write_all-in-loop-found.new.writer })
+          (refl, writes) e _
+          (subst (λ (w : List ℕ). calls m w
+          (record { closure = c.loop-found.exchange; destination = c.write_all-in-loop-found.new.writer }) (Err e)
+          (record { closure = c.exchange.new.self; destination = c.exchange.new.writer })) slice
+          c.in_err-exchange.ensures.calls),
+    ))

@@ -1,9 +1,10 @@
 use Rattle.std.proofs.Common.{◌≡◌, ◌≤◌, ℕ, Bool, inr, length, sym, ap, subst, arith}
 use Rattle.std.specs.Prelude.{MatchBool}
-use Rattle.ac_automaton.specs.Streams.{FillsMore, MeetsEnd, Streaming, matches_so_far, settled_of, stream_begun}
+use Rattle.ac_util.specs.StreamReplacing.{IsNear}
+use Rattle.ac_automaton.specs.Streams.{FillsMore, IsSettledIn, MeetsEnd, Streaming}
 use Rattle.ac_automaton.proofs.Places.{match-by, refused-by}
-use Rattle.ac_automaton.proofs.StreamExchanging.{all-kept, begins, ends-there, fails-at-last, fails-exchanging, fails-reading, fills, goes-on, replaces, settled-within}
-use Rattle.ac_automaton.proofs.StreamFilling.{streamed-nothing}
+use Rattle.ac_automaton.proofs.StreamExchanging.{begins, ends-there, fails-at-last, fails-exchanging, fails-reading, fills, goes-on, replaces}
+use Rattle.ac_automaton.proofs.StreamFilling.{settled-begun}
 use Rattle.ac_automaton.proofs.automaton.stream_replace.replace_stream.Goals as goal
 
 pub loop-finder-init : goal.loop-finder-init
@@ -13,10 +14,9 @@ loop-finder-init g c =
     record {
       accepted = λ m accepts. accepts;
       on = begins g.W.Sink.told g.E.Exchange.calls _ built _ _ c.in_ok-finder.finder begun.1;
-      all = subst (λ (v : Streaming). v.given ≡ length (matches_so_far v)) (sym begun.1)
-          (sym (ap length (streamed-nothing built begun.0)));
-      kept = subst (λ (v : Streaming). v.kept ≡ settled_of v) (sym begun.1)
-          (let e : 0 ≡ settled_of (stream_begun built) = omega arith in e);
+      settled = subst (λ (v : Streaming). IsSettledIn v.phase v.built v.bytes v.given v.kept) (sym begun.1)
+          (settled-begun built begun.0);
+      near = subst (λ (v : Streaming). IsNear v.built v.bytes v.kept) (sym begun.1) (omega arith);
       within = subst (λ (v : Streaming). v.kept ≤ length v.bytes) (sym begun.1) (omega arith);
     }
 
@@ -27,7 +27,7 @@ returns-in_err-fill g c =
     (inr (
       c.in_ok-finder.ensures.0,
       fails-reading g.W.Sink.told g.E.Exchange.calls _ (g.A.Automaton.built c.args.automaton.now) _ _ inv.on inv.within
-          inv.all inv.kept c.in_err-fill.field-0.0 c.in_err-fill.ensures,
+          inv.settled inv.near c.in_err-fill.field-0.0 c.in_err-fill.ensures,
     ))
 
 pub loop-finder-preserved : goal.loop-finder-preserved
@@ -42,17 +42,12 @@ loop-finder-preserved g c =
     c.if-branch.true c.in_ok-fill.ensures in
     let done = c.in_ok-exchange_read.ensures.exchanged in
     let on = fills g.W.Sink.told g.E.Exchange.calls g.R.Source.empty_means_end _ _ _ inv.on inv.within filled in
-    let kept = all-kept g.W.Sink.told g.E.Exchange.calls g.R.Source.empty_means_end (g.A.Automaton.built c.args.automaton.now)
-    (told c.args.reader.now) (record { closure = c.args.exchange.now; destination = c.args.writer.now }) done in
     record {
       accepted = λ m accepts. c.exchange_read.ensures.accepted m (inv.accepted m accepts);
       on = goes-on g.W.Sink.told g.E.Exchange.calls g.R.Source.empty_means_end _ _ _ on done;
-      all = done.all;
-      kept = kept;
-      within = subst (λ (k : ℕ). k ≤ length c.exchange_read.new.finder.bytes) (sym kept)
-          (settled-within g.W.Sink.told g.E.Exchange.calls g.R.Source.empty_means_end
-          (g.A.Automaton.built c.args.automaton.now) (told c.args.reader.now)
-          (record { closure = c.args.exchange.now; destination = c.args.writer.now }) c.exchange_read.new.finder);
+      settled = done.settled;
+      near = done.near;
+      within = done.within;
     }
 
 pub returns-in_err-exchange_read : goal.returns-in_err-exchange_read

@@ -1,10 +1,11 @@
-use Rattle.std.proofs.Common.{◌≡◌, ◌-◌, ◌≤◌, length}
+use Rattle.std.proofs.Common.{◌-◌, ◌≤◌, length}
 use Rattle.ac_util.specs.Occurrence.{Occurrence}
-use Rattle.ac_automaton.specs.Streams.{matches_so_far, settled_of}
+use Rattle.ac_util.specs.StreamReplacing.{IsNear}
+use Rattle.ac_automaton.specs.Streams.{IsSettledIn}
 use Rattle.ac_automaton.proofs.StreamExchanging.{IsReplacing}
 use Rattle.ac_automaton.proofs.automaton.stream_replace.replace_stream.Given as goal
 
--- all matches of what was read were exchanged, and all that is settled was written
+-- all matches of what was read that are settled were exchanged, and all that is settled was written
 abbrev pub invariant-loop-finder : goal.invariant-loop-finder
 invariant-loop-finder g l =
     let R = g.R.Source in let E = g.E.Exchange in record {
@@ -12,8 +13,8 @@ invariant-loop-finder g l =
       on : IsReplacing g.W.Sink.told E.calls R.empty_means_end (g.A.Automaton.built l.automaton) (R.told l.fn.reader)
           (record { closure = l.fn.exchange; destination = l.fn.writer }) (R.told l.reader) l.finder
           (record { closure = l.exchange; destination = l.writer });
-      all : l.finder.given ≡ length (matches_so_far l.finder);
-      kept : l.finder.kept ≡ settled_of l.finder;
+      settled : IsSettledIn l.finder.phase l.finder.built l.finder.bytes l.finder.given l.finder.kept;
+      near : IsNear l.finder.built l.finder.bytes l.finder.kept;
       within : l.finder.kept ≤ length l.finder.bytes;
     }
 

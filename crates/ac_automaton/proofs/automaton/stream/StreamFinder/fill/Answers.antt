@@ -92,6 +92,8 @@ returns-in-Ok g c =
     (ap (λ (k : ℕ). take k (drop at c.deref.result.now)) (let e : at + n - at ≡ n = omega arith in e)
     ∙ ap (λ (b : List ℕ). take n (drop at b)) (c.deref.ensures.value ∙ whole)) in
     let e = c.self.view_is ∙ c.make_room.ensures.same in
+    let open' = ap (λ (v : Streaming). v.phase) c.self.view_is ∙ ap (λ (v : Streaming). v.phase) c.make_room.ensures.same
+    ∙ c.requires.goes_on in
     record {
       more = more;
       some = omega arith;
@@ -110,6 +112,6 @@ returns-in-Ok g c =
           (sym (ap (λ (v : Streaming). v.given) e))
           ∙ ap (λ (w : List ℕ). take c.self.inside.given.number
           (streamed (g.A.Automaton.built c.self.inside.automaton.now) w)) added
-          ∙ given-stays _ _ _ c.self.invariant more
+          ∙ given-stays _ _ _ c.self.invariant more (λ ended. absurd (let no' = sym open' ∙ ended in cc))
           ∙ ap (λ (v : Streaming). take v.given (matches_so_far v)) e;
     }

@@ -1,84 +1,324 @@
-use Rattle.std.proofs.Common.{◌∙◌}
+use Rattle.std.proofs.Common.{◌≡◌, ◌≢◌, ◌⊎◌, ◌∙◌, ◌+◌, ◌-◌, ◌<◌, ◌≤◌, Bool, true, false, List, ℕ, Some, None, inl, inr, refl, length, sym, ap, subst, arith}
+use Rattle.std.proofs.lemmas.Bool.{false≢true}
 use Rattle.ac_util.specs.declared.search.Anchored.TheVariants.{No}
-use Rattle.ac_automaton.proofs.StreamLoop.{fits-there, gives-all, gives-next, may-read, read-all, stream_text, streams-anew, streams-on, tape-is}
+use Rattle.ac_util.specs.Node.{Node}
+use Rattle.ac_util.specs.Pick.{order_of}
+use Rattle.ac_util.proofs.SearchLoop.{GoesOn}
+use Rattle.ac_automaton.specs.declared.automaton.stream.Phase.TheVariants.{Ended}
+use Rattle.ac_automaton.specs.Finds.{FitsIn, IsAnswered}
+use Rattle.ac_automaton.specs.Scans.{IsAlive, ScanText, node}
+use Rattle.ac_automaton.specs.Streams.{HasReadOn, Inside, IsStreaming, Streaming}
+use Rattle.ac_automaton.proofs.FindAhead.{IsUnanswered, unanswered-unless}
+use Rattle.ac_automaton.proofs.StreamLoop.{fits-there, found-on, gives-next, gives-settled, goes-on-with, may-read, node_here, stays-on, stream_scan, stream_text, streams-anew, streams-on, tape-is}
+use Rattle.ac_automaton.proofs.automaton.stream.StreamFinder.next_read.Given.{Over}
+use Rattle.ac_automaton.proofs.automaton.stream.StreamFinder.next_read.Goals.{After-is_decided, else-matches, else-self+in-Ended, else-self+in_default, else-settled, then-matches, then-self, then-settled}
 use Rattle.ac_automaton.proofs.automaton.stream.StreamFinder.next_read.Goals as goal
 
-pub read_ahead-cursor-requires-clause-alive : goal.read_ahead-cursor-requires-clause-alive
-read_ahead-cursor-requires-clause-alive g c =
-    let automaton = c.self.inside.automaton.now in let A = g.A.Automaton in (
-      stream_text (A.stands automaton No) (A.listed automaton) A.LOOKS (A.filters automaton) _ _ c.self.invariant,
-      tape-is _ _ c.new.result _ c.deref.ensures.value c.new.ensures.value c.open-tape.ensures.tape,
-      may-read _ _ _ _ _ _ c.self.invariant,
+pub is_decided-requires : goal.is_decided-requires
+is_decided-requires g c =
+    let on = c.loop-scanner.invariant.reads _ _ c.self.view_is c.self.invariant
+    (tape-is _ _ c.new.result _ c.deref.ensures.value c.new.ensures.value c.open-tape.ensures.tape) refl refl refl refl in
+    record { state = (_, on.is_at.there) }
+
+-- where the loop stands, by what the search is and has read
+module _ (g : Over) (c : After-is_decided g) where
+  abbrev stands : ℕ → Node → Type 0
+  stands = g.A.Automaton.stands c.self.inside.automaton.now No
+
+  abbrev listed : ℕ → List ℕ
+  listed = g.A.Automaton.listed c.self.inside.automaton.now
+
+  abbrev filters : Bool
+  filters = g.A.Automaton.filters c.self.inside.automaton.now
+
+  abbrev seen : Streaming
+  seen = record {
+    built = g.A.Automaton.built c.self.inside.automaton.now;
+    bytes = c.self.inside.history.bytes;
+    given = c.self.inside.given.number;
+    front = c.self.inside.front;
+    kept = c.self.inside.kept;
+    phase = c.self.inside.phase;
+    buffer = length c.self.inside.buffer.items;
+  }
+
+  abbrev inside : Inside
+  inside = record {
+    start = c.self.inside.start;
+    stops = c.self.inside.stops;
+    reserve = c.self.inside.reserve;
+    buffer = c.self.inside.buffer.items;
+    filled = c.self.inside.filled;
+    state = c.self.inside.state;
+    at = c.self.inside.at;
+    picked = c.self.inside.picked;
+    begun = c.self.inside.begun.value;
+  }
+
+  bytes-are : c.self.inside.buffer.items ≡ c.open-tape.result.0.bytes
+  bytes-are = tape-is _ _ c.new.result _ c.deref.ensures.value c.new.ensures.value c.open-tape.ensures.tape
+
+  on-now : HasReadOn stands inside seen c.loop-scanner.state c.loop-scanner.at c.loop-scanner.picked
+  on-now = c.loop-scanner.invariant.reads inside seen c.self.view_is c.self.invariant bytes-are refl refl refl refl
+
+  module _ (i : Inside) (inv : IsStreaming stands i seen) (buffer : i.buffer ≡ c.open-tape.result.0.bytes)
+      (on : HasReadOn stands i seen c.loop-scanner.state c.loop-scanner.at c.loop-scanner.picked) where
+    abbrev t : ScanText
+    t = stream_text stands listed g.A.Automaton.LOOKS filters i seen inv
+
+    abbrev here : Node
+    here = node_here stands listed g.A.Automaton.LOOKS filters i seen inv (c.self.inside.front + c.loop-scanner.at)
+
+    bytes-there : t.bytes ≡ c.loop-scanner.tape.bytes
+    bytes-there = buffer ∙ sym c.loop-scanner.invariant.bytes
+
+    -- where it isn't decided it may read on
+    module _ (undecided : c.is_decided.result ≡ false) where
+      unanswered : IsUnanswered c.self.inside.stops c.self.inside.filled c.loop-scanner.at here c.loop-scanner.picked
+      unanswered =
+          unanswered-unless c.self.inside.stops c.self.inside.filled c.loop-scanner.at here c.loop-scanner.picked
+          (λ answered. false≢true (sym undecided ∙ (c.is_decided.ensures _ on.is_at.there).1 answered))
+
+      goes : GoesOn seen.built.kind (order_of seen.built.kind i.stops) c.loop-scanner.picked
+      goes =
+          goes-on-with stands listed g.A.Automaton.LOOKS filters i seen inv c.loop-scanner.picked
+          (λ first. unanswered.none (sym (inv.stops ∙ sym c.self.invariant.stops) ∙ first))
+
+      alive : IsAlive (stream_scan stands listed g.A.Automaton.LOOKS filters i seen inv) t
+          (record { state = c.loop-scanner.state; at = c.loop-scanner.at })
+      alive =
+          may-read stands listed g.A.Automaton.LOOKS filters i seen inv c.loop-scanner.state c.loop-scanner.at
+          c.loop-scanner.picked on unanswered.living
+
+pub read_ahead-ahead-requires-clause-alive : goal.read_ahead-ahead-requires-clause-alive
+read_ahead-ahead-requires-clause-alive g c =
+    let d = (goal.at.read_ahead-ahead-requires-clause-alive g c).After-is_decided in (
+      t g d (inside g d) c.self.invariant (bytes-are g d) (on-now g d),
+      bytes-there g d (inside g d) c.self.invariant (bytes-are g d) (on-now g d),
+      alive g d (inside g d) c.self.invariant (bytes-are g d) (on-now g d) c.loop-scanner-test.true,
     )
 
 pub match_at-found-requires : goal.match_at-found-requires
 match_at-found-requires g c =
-    let automaton = c.self.inside.automaton.now in let A = g.A.Automaton in
-    let read = c.read_ahead-cursor.ensures in
-    let passes = read.reads
-    (stream_text (A.stands automaton No) (A.listed automaton) A.LOOKS (A.filters automaton) _ _ c.self.invariant)
-    (tape-is _ _ c.new.result _ c.deref.ensures.value c.new.ensures.value c.open-tape.ensures.tape)
-    (may-read _ _ _ _ _ _ c.self.invariant) in
-    let fits = fits-there _ _ _ _ _ _ c.self.invariant c.read_ahead-cursor.result passes read.within in
-    record { state = (_, passes.is_at.there, fits) }
+    let d = (goal.at.match_at-found-requires g c).After-is_decided in
+    let i = inside g d in
+    let passes = c.read_ahead-ahead.ensures.reads (t g d i c.self.invariant (bytes-are g d) (on-now g d))
+    (bytes-there g d i c.self.invariant (bytes-are g d) (on-now g d))
+    (alive g d i c.self.invariant (bytes-are g d) (on-now g d) c.loop-scanner-test.true) in
+    record {
+      state = (
+        _,
+        passes.is_at.there,
+        fits-there _ _ _ _ _ _ c.self.invariant _ _ _ (on-now g d) c.read_ahead-ahead.result passes
+            c.read_ahead-ahead.ensures.within,
+      );
+    }
+
+-- what is read ahead to
+module _ (g : Over) (c : After-is_decided g) (undecided : c.is_decided.result ≡ false) where
+  room : c.loop-scanner.at < c.self.inside.filled
+  room = (unanswered g c (inside g c) c.self.invariant (bytes-are g c) (on-now g c) undecided).room
+
+pub loop-scanner-smaller-then-is_some : goal.loop-scanner-smaller-then-is_some
+loop-scanner-smaller-then-is_some g c =
+    let d = (goal.at.loop-scanner-smaller-then-is_some g c).After-is_decided in
+    let further = c.read_ahead-ahead.ensures.moved (room g d c.loop-scanner-test.true) in
+    let within = c.read_ahead-ahead.ensures.within in omega arith
+
+pub loop-scanner-preserved-then-is_some : goal.loop-scanner-preserved-then-is_some
+loop-scanner-preserved-then-is_some g c =
+    let d = (goal.at.loop-scanner-preserved-then-is_some g c).After-is_decided in
+    let undecided = c.loop-scanner-test.true in
+    let inv = c.loop-scanner.invariant in
+    let ahead = c.read_ahead-ahead in
+    record {
+      bytes = ahead.ensures.bytes ∙ inv.bytes;
+      unread = (ahead.ensures.reads (t g d (inside g d) c.self.invariant (bytes-are g d) (on-now g d))
+          (bytes-there g d (inside g d) c.self.invariant (bytes-are g d) (on-now g d))
+          (alive g d (inside g d) c.self.invariant (bytes-are g d) (on-now g d) undecided)).scans.unread;
+      within = ahead.ensures.within;
+      reads = λ i v is h buffer filled state at picked.
+          subst (λ (w : Streaming). IsStreaming (stands g d) i w
+          → HasReadOn (stands g d) i w c.loop-scanner.state c.loop-scanner.at c.loop-scanner.picked
+          → HasReadOn (stands g d) i w ahead.result.state ahead.result.at c.match_at-found.result) (c.self.view_is ∙ sym is)
+          (λ h on.
+          let passes = ahead.ensures.reads (t g d i h buffer on) (bytes-there g d i h buffer on)
+          (alive g d i h buffer on undecided) in
+          let within : ahead.result.at ≤ i.filled = let w = ahead.ensures.within in omega arith in
+          found-on _ _ _ _ _ _ h _ _ _ on ahead.result passes within
+          (ahead.ensures.moved (room g d undecided)) (goes g d i h buffer on undecided) c.match_at-found.result
+          (c.match_at-found.ensures _ passes.is_at.there (fits-there _ _ _ _ _ _ h _ _ _ on ahead.result passes within))
+          (sym c.is_some.ensures ∙ c.if-is_some.true))
+          h (inv.reads i v is h buffer filled state at picked);
+    }
+
+pub loop-scanner-smaller : goal.loop-scanner-smaller
+loop-scanner-smaller g c =
+    let d = (goal.at.loop-scanner-smaller g c).After-is_decided in
+    let further = c.read_ahead-ahead.ensures.moved (room g d c.loop-scanner-test.true) in
+    let within = c.read_ahead-ahead.ensures.within in omega arith
+
+pub loop-scanner-preserved : goal.loop-scanner-preserved
+loop-scanner-preserved g c =
+    let d = (goal.at.loop-scanner-preserved g c).After-is_decided in
+    let undecided = c.loop-scanner-test.true in
+    let inv = c.loop-scanner.invariant in
+    let ahead = c.read_ahead-ahead in
+    record {
+      bytes = ahead.ensures.bytes ∙ inv.bytes;
+      unread = (ahead.ensures.reads (t g d (inside g d) c.self.invariant (bytes-are g d) (on-now g d))
+          (bytes-there g d (inside g d) c.self.invariant (bytes-are g d) (on-now g d))
+          (alive g d (inside g d) c.self.invariant (bytes-are g d) (on-now g d) undecided)).scans.unread;
+      within = ahead.ensures.within;
+      reads = λ i v is h buffer filled state at picked.
+          subst (λ (w : Streaming). IsStreaming (stands g d) i w
+          → HasReadOn (stands g d) i w c.loop-scanner.state c.loop-scanner.at c.loop-scanner.picked
+          → HasReadOn (stands g d) i w ahead.result.state ahead.result.at c.loop-scanner.picked) (c.self.view_is ∙ sym is)
+          (λ h on.
+          let passes = ahead.ensures.reads (t g d i h buffer on) (bytes-there g d i h buffer on)
+          (alive g d i h buffer on undecided) in
+          let within : ahead.result.at ≤ i.filled = let w = ahead.ensures.within in omega arith in
+          stays-on _ _ _ _ _ _ h _ _ _ on ahead.result passes within
+          (ahead.ensures.moved (room g d undecided)) (goes g d i h buffer on undecided) c.match_at-found.result
+          (c.match_at-found.ensures _ passes.is_at.there (fits-there _ _ _ _ _ _ h _ _ _ on ahead.result passes within))
+          (sym c.is_some.ensures ∙ c.if-is_some.false))
+          h (inv.reads i v is h buffer filled state at picked);
+    }
+
+pub is_dead-settled-requires : goal.is_dead-settled-requires
+is_dead-settled-requires g c =
+    let d = (goal.at.is_dead-settled-requires g c).After-is_decided in
+    record { state = (No, (_, (on-now g d).is_at.there)) }
+
+-- where the search has its answer in what was read
+module _ (g : Over) (c : After-is_decided g) where
+  abbrev node_now : Node
+  node_now =
+      node_here (stands g c) (listed g c) g.A.Automaton.LOOKS (filters g c) (inside g c) (seen g c) c.self.invariant
+      (c.self.inside.front + c.loop-scanner.at)
+
+  answered : c.is_decided.result ≡ true
+      → IsAnswered c.self.inside.stops c.self.inside.filled c.loop-scanner.at node_now c.loop-scanner.picked
+  answered decided = (c.is_decided.ensures _ (on-now g c).is_at.there).0 decided
+
+  -- why a match that is picked is settled, and why none is
+  abbrev IsCause : Type 0
+  IsCause = (c.self.inside.stops ≡ true) ⊎ ((node_now ≡ None) ⊎ (c.self.inside.phase ≡ Ended))
+
+  abbrev IsOpen : Type 0
+  IsOpen = (c.self.inside.stops ≡ false) × (node_now ≢ None) × (c.self.inside.phase ≢ Ended)
+
+pub overflow_sub-self : goal.overflow_sub-self
+overflow_sub-self g c =
+    let d = (goal.at.overflow_sub-self g c).After-is_decided in
+    let is : c.loop-scanner.picked ≡ Some c.in-Some.found = elim c.if-settled.branch [
+      | then-settled w ↦ sym w.given-is ∙ c.in-Some.is
+      | else-settled w ↦ absurd (let none : None ≡ Some c.in-Some.found = sym w.given-is ∙ c.in-Some.is in cc)
+    ] in
+    let cause : IsCause g d = elim c.if-settled.branch [
+      | else-settled w ↦ absurd (let none : None ≡ Some c.in-Some.found = sym w.given-is ∙ c.in-Some.is in cc)
+      | then-settled w ↦ elim c.if-matches.branch [
+        | then-matches x ↦ elim c.if-self.branch [
+          | then-self y ↦ inl y.if-self.true
+          | else-self+in-Ended y ↦ inr (inr y.in-Ended.is)
+          | else-self+in_default y ↦ absurd (false≢true (sym y.value-is ∙ x.if-matches.true))
+        ]
+        | else-matches x ↦
+            inr (inl ((x.is_dead-settled.ensures No _ (on-now g d).is_at.there).0 (sym x.settled-is ∙ w.if-settled.true)))
+      ]
+    ] in
+    let gives = gives-next (stands g d) (listed g d) g.A.Automaton.LOOKS (filters g d) (inside g d) (seen g d) c.self.invariant _ _ _ (on-now g d) (answered g d c.loop-scanner-test.false)
+    c.in-Some.found is cause _ _ _ _ refl refl refl refl in
+    let after = gives.after in let ordered = gives.ordered in let front = c.self.invariant.in_buffer in
+    let end = c.end.ensures in omega arith
 
 pub invariant_of-self : goal.invariant_of-self
 invariant_of-self g c =
-    let automaton = c.self.inside.automaton.now in let A = g.A.Automaton in
-    let read = c.read_ahead-cursor.ensures in
-    let passes = read.reads
-    (stream_text (A.stands automaton No) (A.listed automaton) A.LOOKS (A.filters automaton) _ _ c.self.invariant)
-    (tape-is _ _ c.new.result _ c.deref.ensures.value c.new.ensures.value c.open-tape.ensures.tape)
-    (may-read _ _ _ _ _ _ c.self.invariant) in
-    let fits = fits-there _ _ _ _ _ _ c.self.invariant c.read_ahead-cursor.result passes read.within in
-    let finds = c.match_at-found.ensures _ passes.is_at.there fits in
-    let all = read-all _ _ _ _ _ _ c.self.invariant c.read_ahead-cursor.result passes read.within c.match_at-found.result
-    finds c.in-None.is read.stops
-    (λ u stands. g.met.A.Automaton.lists automaton No c.read_ahead-cursor.result.state u stands) in
-    streams-on _ _ _ _ _ _ c.self.invariant c.read_ahead-cursor.result passes read.within c.match_at-found.result finds
-    c.in-None.is all c.settled_from-self-inside.result c.settled_from-self-inside.ensures
+    let d = (goal.at.invariant_of-self g c).After-is_decided in
+    let is : c.loop-scanner.picked ≡ Some c.in-Some.found = elim c.if-settled.branch [
+      | then-settled w ↦ sym w.given-is ∙ c.in-Some.is
+      | else-settled w ↦ absurd (let none : None ≡ Some c.in-Some.found = sym w.given-is ∙ c.in-Some.is in cc)
+    ] in
+    let cause : IsCause g d = elim c.if-settled.branch [
+      | else-settled w ↦ absurd (let none : None ≡ Some c.in-Some.found = sym w.given-is ∙ c.in-Some.is in cc)
+      | then-settled w ↦ elim c.if-matches.branch [
+        | then-matches x ↦ elim c.if-self.branch [
+          | then-self y ↦ inl y.if-self.true
+          | else-self+in-Ended y ↦ inr (inr y.in-Ended.is)
+          | else-self+in_default y ↦ absurd (false≢true (sym y.value-is ∙ x.if-matches.true))
+        ]
+        | else-matches x ↦
+            inr (inl ((x.is_dead-settled.ensures No _ (on-now g d).is_at.there).0 (sym x.settled-is ∙ w.if-settled.true)))
+      ]
+    ] in
+    streams-anew (stands g d) (listed g d) g.A.Automaton.LOOKS (filters g d) (inside g d) (seen g d) c.self.invariant _ _ _ (on-now g d) (answered g d c.loop-scanner-test.false) c.in-Some.found is
+    cause _ _ _ _ (ap (λ (n : ℕ). n - c.self.inside.front) c.end.ensures) (c.of.ensures ∙ c.end-in-Some.ensures)
+    c.end-self-inside.ensures c.after-self-inside.ensures
 
-pub returns-in-None : goal.returns-in-None
-returns-in-None g c =
-    let automaton = c.self.inside.automaton.now in let A = g.A.Automaton in
-    let read = c.read_ahead-cursor.ensures in
-    let passes = read.reads
-    (stream_text (A.stands automaton No) (A.listed automaton) A.LOOKS (A.filters automaton) _ _ c.self.invariant)
-    (tape-is _ _ c.new.result _ c.deref.ensures.value c.new.ensures.value c.open-tape.ensures.tape)
-    (may-read _ _ _ _ _ _ c.self.invariant) in
-    let fits = fits-there _ _ _ _ _ _ c.self.invariant c.read_ahead-cursor.result passes read.within in
-    let finds = c.match_at-found.ensures _ passes.is_at.there fits in
-    let all = read-all _ _ _ _ _ _ c.self.invariant c.read_ahead-cursor.result passes read.within c.match_at-found.result
-    finds c.in-None.is read.stops
-    (λ u stands. g.met.A.Automaton.lists automaton No c.read_ahead-cursor.result.state u stands) in
-    rw (← c.self.view_is) (gives-all _ _ _ _ _ _ c.self.invariant c.read_ahead-cursor.result passes read.within
-    c.match_at-found.result finds c.in-None.is all c.settled_from-self-inside.result c.settled_from-self-inside.ensures)
+pub returns-in-Some : goal.returns-in-Some
+returns-in-Some g c =
+    let d = (goal.at.returns-in-Some g c).After-is_decided in
+    let is : c.loop-scanner.picked ≡ Some c.in-Some.found = elim c.if-settled.branch [
+      | then-settled w ↦ sym w.given-is ∙ c.in-Some.is
+      | else-settled w ↦ absurd (let none : None ≡ Some c.in-Some.found = sym w.given-is ∙ c.in-Some.is in cc)
+    ] in
+    let cause : IsCause g d = elim c.if-settled.branch [
+      | else-settled w ↦ absurd (let none : None ≡ Some c.in-Some.found = sym w.given-is ∙ c.in-Some.is in cc)
+      | then-settled w ↦ elim c.if-matches.branch [
+        | then-matches x ↦ elim c.if-self.branch [
+          | then-self y ↦ inl y.if-self.true
+          | else-self+in-Ended y ↦ inr (inr y.in-Ended.is)
+          | else-self+in_default y ↦ absurd (false≢true (sym y.value-is ∙ x.if-matches.true))
+        ]
+        | else-matches x ↦
+            inr (inl ((x.is_dead-settled.ensures No _ (on-now g d).is_at.there).0 (sym x.settled-is ∙ w.if-settled.true)))
+      ]
+    ] in
+    rw (← c.self.view_is) (gives-next (stands g d) (listed g d) g.A.Automaton.LOOKS (filters g d) (inside g d) (seen g d) c.self.invariant _ _ _ (on-now g d)
+    (answered g d c.loop-scanner-test.false) c.in-Some.found is cause _ _ _ _
+    (ap (λ (n : ℕ). n - c.self.inside.front) c.end.ensures) (c.of.ensures ∙ c.end-in-Some.ensures)
+    c.end-self-inside.ensures c.after-self-inside.ensures)
 
 pub invariant_of-self-2 : goal.invariant_of-self-2
 invariant_of-self-2 g c =
-    let automaton = c.self.inside.automaton.now in let A = g.A.Automaton in
-    let read = c.read_ahead-cursor.ensures in
-    let passes = read.reads
-    (stream_text (A.stands automaton No) (A.listed automaton) A.LOOKS (A.filters automaton) _ _ c.self.invariant)
-    (tape-is _ _ c.new.result _ c.deref.ensures.value c.new.ensures.value c.open-tape.ensures.tape)
-    (may-read _ _ _ _ _ _ c.self.invariant) in
-    let fits = fits-there _ _ _ _ _ _ c.self.invariant c.read_ahead-cursor.result passes read.within in
-    let finds = c.match_at-found.ensures _ passes.is_at.there fits in
-    streams-anew _ _ _ _ _ _ c.self.invariant c.read_ahead-cursor.result passes read.within c.match_at-found.result finds
-    c.in-Some.found c.in-Some.is c.of.result.value c.end-self-inside.result c.after-self-inside.result.number
-    (c.of.ensures ∙ c.end.ensures) c.end-self-inside.ensures c.after-self-inside.ensures
+    let d = (goal.at.invariant_of-self-2 g c).After-is_decided in
+    let open-pick : (c.loop-scanner.picked ≡ None) ⊎ IsOpen g d = elim c.if-settled.branch [
+      | then-settled w ↦ inl (sym w.given-is ∙ c.in-None.is)
+      | else-settled w ↦ inr (elim c.if-matches.branch [
+        | then-matches x ↦ absurd (false≢true (sym w.if-settled.false ∙ x.settled-is ∙ x.if-matches.true))
+        | else-matches x ↦ elim c.if-self.branch [
+          | then-self y ↦ absurd (false≢true (sym x.if-matches.false ∙ y.value-is ∙ y.if-self.true))
+          | else-self+in-Ended y ↦ absurd (false≢true (sym x.if-matches.false ∙ y.value-is))
+          | else-self+in_default y ↦ (
+            y.if-self.false,
+            (λ dead. false≢true (sym w.if-settled.false ∙ x.settled-is
+                ∙ (x.is_dead-settled.ensures No _ (on-now g d).is_at.there).1 dead)),
+            y.in_default.not-Ended,
+          )
+        ]
+      ])
+    ] in
+    streams-on (stands g d) (listed g d) g.A.Automaton.LOOKS (filters g d) (inside g d) (seen g d) c.self.invariant _ _ _ (on-now g d) (answered g d c.loop-scanner-test.false) open-pick _
+    c.settled_from-self-inside.ensures
 
 pub returns : goal.returns
 returns g c =
-    let automaton = c.self.inside.automaton.now in let A = g.A.Automaton in
-    let read = c.read_ahead-cursor.ensures in
-    let passes = read.reads
-    (stream_text (A.stands automaton No) (A.listed automaton) A.LOOKS (A.filters automaton) _ _ c.self.invariant)
-    (tape-is _ _ c.new.result _ c.deref.ensures.value c.new.ensures.value c.open-tape.ensures.tape)
-    (may-read _ _ _ _ _ _ c.self.invariant) in
-    let fits = fits-there _ _ _ _ _ _ c.self.invariant c.read_ahead-cursor.result passes read.within in
-    let finds = c.match_at-found.ensures _ passes.is_at.there fits in
-    rw (← c.self.view_is) (gives-next _ _ _ _ _ _ c.self.invariant c.read_ahead-cursor.result passes read.within
-    c.match_at-found.result finds c.in-Some.found c.in-Some.is c.of.result.value c.end-self-inside.result
-    c.after-self-inside.result.number (c.of.ensures ∙ c.end.ensures) c.end-self-inside.ensures
-    c.after-self-inside.ensures)
+    let d = (goal.at.returns g c).After-is_decided in
+    let open-pick : (c.loop-scanner.picked ≡ None) ⊎ IsOpen g d = elim c.if-settled.branch [
+      | then-settled w ↦ inl (sym w.given-is ∙ c.in-None.is)
+      | else-settled w ↦ inr (elim c.if-matches.branch [
+        | then-matches x ↦ absurd (false≢true (sym w.if-settled.false ∙ x.settled-is ∙ x.if-matches.true))
+        | else-matches x ↦ elim c.if-self.branch [
+          | then-self y ↦ absurd (false≢true (sym x.if-matches.false ∙ y.value-is ∙ y.if-self.true))
+          | else-self+in-Ended y ↦ absurd (false≢true (sym x.if-matches.false ∙ y.value-is))
+          | else-self+in_default y ↦ (
+            y.if-self.false,
+            (λ dead. false≢true (sym w.if-settled.false ∙ x.settled-is
+                ∙ (x.is_dead-settled.ensures No _ (on-now g d).is_at.there).1 dead)),
+            y.in_default.not-Ended,
+          )
+        ]
+      ])
+    ] in
+    rw (← c.self.view_is) (gives-settled (stands g d) (listed g d) g.A.Automaton.LOOKS (filters g d) (inside g d) (seen g d) c.self.invariant _ _ _ (on-now g d)
+    (answered g d c.loop-scanner-test.false) open-pick _ c.settled_from-self-inside.ensures)
