@@ -1,5 +1,5 @@
 -- Prefixes of strings: what a test of one looks at, and strings between others in order.
-use Rattle.std.proofs.Common.{◌≡◌, ◌≢◌, ℕ, zero, suc, ◌+◌, ◌<◌, ◌≤◌, true, false, ◌&&◌, List, [], ◌∷◌, ◌++◌, map, length, drop, take, get_or, inl, inr, refl, ap, sym, ◌∙◌, arith, add-one, Some, None}
+use Rattle.std.proofs.Common.{◌≡◌, ◌≢◌, ℕ, zero, suc, ◌+◌, ◌<◌, ◌≤◌, true, false, ◌&&◌, List, [], ◌∷◌, ◌++◌, map, length, drop, get_or, inl, inr, refl, ap, sym, ◌∙◌, arith, add-one, Some, None}
 use Rattle.std.specs.Prelude.{nat_eq, slice_get}
 use Rattle.std.specs.List.{starts_with}
 use Rattle.std.specs.Cmp.Lexicographic.{slice_cmp}
@@ -11,7 +11,6 @@ use Rattle.std.proofs.lemmas.Cmp.{ranked}
 use Rattle.ac_util.proofs.Prefixes.{starts_with-length, starts_with-equal}
 use Rattle.ac_automaton.proofs.Orders.{head-no_greater}
 use Rattle.std.proofs.lemmas.Option.{slice_get-get_or, slice_get_past}
-use Rattle.std.proofs.lemmas.Slice.Eq.{bytes_eq-Decides}
 
 -- a test of a prefix compares the bytes at one place, and then those behind it
 starts_with-step : (f : ℕ → ℕ) (w p : List ℕ) (k : ℕ) → k < length w → k < length p

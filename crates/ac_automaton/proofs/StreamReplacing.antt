@@ -418,6 +418,11 @@ module _ {F D : Type 0} (told : D → Writing) where
       fails-by e (bytes, inr (given, place, inl (some, is), steps)) =
           (bytes, inr (inl some, (begun-text bytes given place e (apart-by bytes given place built.kind is) steps).1))
       fails-by e (bytes, inr (given, place, inr (all, many, is), steps)) =
-          let last = last-inside bytes in
-          (bytes, inr (inr all, (begun-text bytes given place e
-          (all-apart built bytes given place many (omega arith) (omega arith)) steps).1))
+          let last = last-inside bytes in (
+            bytes,
+            inr (
+              inr all,
+              (begun-text bytes given place e
+                  (all-apart built bytes given place many (omega arith) (omega arith)) steps).1,
+            ),
+          )

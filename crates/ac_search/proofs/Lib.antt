@@ -1,4 +1,5 @@
 pub mod Fitting
 pub mod Named
 pub mod Served
+pub mod StreamsServed
 pub mod SomeMatch

@@ -46,7 +46,7 @@ module _ (engine : Built) (start_kind : StartKind) (asked : Asked)
   served (Ok y) x h = (find-refusal (record engine { start_kind = start_kind }) asked ∙ free, h.1)
   served (Err e) x h = absurd (let none : None ≡ Some e = sym unrefused ∙ h in cc)
 
--- a stream is refused for the match kind or an empty pattern, where there is an unanchored start
+-- a stream is refused for an empty pattern alone, where there is an unanchored start
 stream-refusal : (built : Built) → start_refusal built.start_kind No ≡ None
     → stream_refusal built
     ≡ first_refusal (kind_refusal built.kind Stream ∷ form_refusal Stream ∷ empty_refusal Stream (has_empty built) ∷ [])
@@ -54,17 +54,22 @@ stream-refusal built free =
     ap (λ (r : Option MatchError). first_refusal
     (r ∷ kind_refusal built.kind Stream ∷ form_refusal Stream ∷ empty_refusal Stream (has_empty built) ∷ [])) free
 
+-- so an engine refuses a stream as its searcher does
+pub stream-refusals : (engine : Built) (start_kind : StartKind)
+    → (engine.start_kind ≡ Both) ⊎ (engine.start_kind ≡ start_kind) → start_refusal start_kind No ≡ None
+    → stream_refusal (record engine { start_kind = start_kind }) ≡ stream_refusal engine
+stream-refusals engine start_kind supports free =
+    stream-refusal (record engine { start_kind = start_kind }) free ∙ sym (stream-refusal engine (by supports))
+  where
+    by : (engine.start_kind ≡ Both) ⊎ (engine.start_kind ≡ start_kind) → start_refusal engine.start_kind No ≡ None
+    by (inl both) = ap (λ (s : StartKind). start_refusal s No) both
+    by (inr same) = ap (λ (s : StartKind). start_refusal s No) same ∙ free
+
 -- so the search of a stream by an engine begins as that of its searcher
 pub stream-served : (engine : Built) (start_kind : StartKind)
     → (engine.start_kind ≡ Both) ⊎ (engine.start_kind ≡ start_kind) → start_refusal start_kind No ≡ None
     → (finder : Streaming) → stream_refusal engine ≡ None → finder ≡ stream_begun engine
     → (stream_refusal (record engine { start_kind = start_kind }) ≡ None)
     × HasBegun (record engine { start_kind = start_kind }) finder
-stream-served engine start_kind supports free finder none begun = (
-  stream-refusal (record engine { start_kind = start_kind }) free ∙ sym (stream-refusal engine (by supports)) ∙ none,
-  (engine.start_kind, begun),
-)
-  where
-    by : (engine.start_kind ≡ Both) ⊎ (engine.start_kind ≡ start_kind) → start_refusal engine.start_kind No ≡ None
-    by (inl both) = ap (λ (s : StartKind). start_refusal s No) both
-    by (inr same) = ap (λ (s : StartKind). start_refusal s No) same ∙ free
+stream-served engine start_kind supports free finder none begun =
+    (stream-refusals engine start_kind supports free ∙ none, (engine.start_kind, begun))

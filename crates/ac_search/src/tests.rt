@@ -18,6 +18,7 @@ use std::test::Fail;
 
 mod alone;
 mod engines;
+mod leftmost_stream;
 mod replace;
 mod stream;
 

@@ -66,7 +66,8 @@ pub enum MatchError {
         /// The match kind of the searcher.
         got: MatchKind,
     },
-    /// The search is that of a stream, which needs `MatchKind::Standard`.
+    /// The search is that of a stream, by a match kind that has none. Each has one here, so no call answers it; upstream's
+    /// streams need `MatchKind::Standard`.
     UnsupportedStream {
         /// The match kind of the searcher.
         got: MatchKind,

@@ -1,24 +1,28 @@
 -- How modes end: a replacement in memory, and the modes on a stream.
-use Rattle.std.proofs.Common.{◌≡◌, ℕ, List, ap, sym, ◌∙◌, subst, refl, inl, inr, Bool, None, Some}
+use Rattle.std.proofs.Common.{◌≡◌, ℕ, List, [], ap, sym, ◌∙◌, subst, refl, inl, inr, Bool, None, Some}
 use Rattle.std.specs.Prelude.{MatchResult, Result, Ok, Err}
 use Rattle.ac_util.specs.declared.device.WriteError.{WriteError}
 use Rattle.ac_util.specs.declared.device.WriteError.TheVariants.{Io as WriteFailed, WriteZero as WroteNothing}
 use Rattle.ac_util.specs.declared.error.StreamError.{StreamError}
 use Rattle.ac_util.specs.declared.error.StreamError.TheVariants.{Io as DeviceFailed, Match as Refused, Memory as NoBuffer, TooLong as StreamTooLong, WriteZero as TookNothing}
+use Rattle.ac_util.specs.declared.search.MatchKind.{MatchKind}
+use Rattle.ac_util.specs.declared.search.MatchKind.TheVariants.{LeftmostFirst, LeftmostLongest, Standard}
+use Rattle.ac_util.specs.declared.search.StartKind.{StartKind}
 use Rattle.ac_util.specs.Built.{Built, exchanged, stream_refusal}
 use Rattle.ac_util.specs.Device.{Reading, ReadsAll, Writing, WritesAll, WritesUntilFailure}
 use Rattle.ac_util.specs.Replaced.{replaced}
 use Rattle.ac_util.specs.Stream.{error_of}
-use Rattle.ac_util.specs.StreamReplacing.{FailsToReplace, IsRefused}
+use Rattle.ac_util.specs.StreamReplacing.{FailsToReplace, IsStreamRefused, TextIsSettled}
 use Rattle.ac_automaton.specs.Streams.{Streaming}
 use Rattle.ac_search.specs.StreamsBegun.{HasBegun}
+use Rattle.ac_search.proofs.StreamsServed.{settled-at}
 use Rattle.acs.specs.declared.fault.Fault.{Fault}
 use Rattle.acs.specs.declared.request.Mode.{Mode}
 use Rattle.acs.specs.declared.request.Mode.TheVariants.{Replace, Stream, StreamReplace}
 use Rattle.acs.specs.declared.run.Outcome.{Outcome}
 use Rattle.acs.specs.declared.run.Outcome.TheVariants.{Found}
 use Rattle.acs.specs.Faults.{stream_fault_of}
-use Rattle.acs.specs.Modes.{AnswersOrFails, FailsAtFirst, FailsToAnswer, FailsToWrite, mode_refusal}
+use Rattle.acs.specs.Modes.{AnswersOrFails, FailsAtFirst, FailsToAnswer, FailsToWrite, WritesSettled, mode_refusal}
 use Rattle.acs.specs.Printed.{FailsToPrintStream, PrintsStream}
 
 -- the fault of a write that has failed, or took nothing
@@ -43,7 +47,7 @@ module _ (built : Built) (texts : List (List ℕ)) (ends : Bool) (reader new_rea
 
   -- the searcher refuses the mode, or memory was refused
   pub refused-first : (mode : Mode) (unchanged : Type 0) (e : StreamError) (fault : Fault) → fault ≡ stream_fault_of e
-      → (unchanged → (new_reader ≡ reader) × (new_writer ≡ writer)) → IsRefused (mode_refusal mode built) unchanged e
+      → (unchanged → (new_reader ≡ reader) × (new_writer ≡ writer)) → IsStreamRefused (mode_refusal mode built) unchanged e
       → FailsAtFirst ends mode built texts reader new_reader writer new_writer fault
   refused-first mode unchanged (Refused m) fault is same refusal = (
     inl (rw refusal.0 (ap (λ (f : Fault). Some f) (sym is))),
@@ -55,6 +59,16 @@ module _ (built : Built) (texts : List (List ℕ)) (ends : Bool) (reader new_rea
   refused-first mode unchanged (DeviceFailed e) fault is same refusal = absurd refusal
   refused-first mode unchanged TookNothing fault is same refusal = absurd refusal
   refused-first mode unchanged StreamTooLong fault is same refusal = absurd refusal
+
+  -- lines ask for no texts, and for no start
+  lines-settled : (begun : StartKind) (kind : MatchKind) (bytes : List ℕ)
+      → WritesSettled kind Stream (record built { start_kind = begun }) [] bytes writer new_writer
+      → WritesSettled kind Stream built texts bytes writer new_writer
+  lines-settled begun Standard bytes h = h
+  lines-settled begun LeftmostFirst bytes h =
+      (h.0, h.1, settled-at (record built { start_kind = begun }) built.start_kind bytes h.0 h.1 h.2, h.3, h.4)
+  lines-settled begun LeftmostLongest bytes h =
+      (h.0, h.1, settled-at (record built { start_kind = begun }) built.start_kind bytes h.0 h.1 h.2, h.3, h.4)
 
   -- the lines of a stream were printed, or a read or a write has failed
   pub stream-printed : (begun : Streaming) (r : Result Outcome Fault) → stream_refusal built ≡ None → HasBegun built begun
@@ -68,7 +82,23 @@ module _ (built : Built) (texts : List (List ℕ)) (ends : Bool) (reader new_rea
   stream-printed begun (Err fault) served is fails =
       let f = subst (λ (b : Built). FailsToPrintStream ends b reader new_reader writer new_writer fault)
       (ap (λ (v : Streaming). v.built) is.1) fails in
-      inr (served, record { bytes = f.bytes; cause = f.cause })
+      inr (
+        served,
+        record {
+          bytes = f.bytes;
+          cause = elim f.cause [
+            | inl read ↦ inl (read.0, read.1, read.2, lines-settled is.0 built.kind f.bytes read.3)
+            | inr write ↦ inr write
+          ];
+        },
+      )
+
+  -- the replaced text is written as far as the stream is settled
+  settled-written : (kind : MatchKind) (bytes : List ℕ) → TextIsSettled built texts writer new_writer kind bytes
+      → WritesSettled kind StreamReplace built texts bytes writer new_writer
+  settled-written Standard bytes written = written
+  settled-written LeftmostFirst bytes written = written
+  settled-written LeftmostLongest bytes written = written
 
   -- a read or a write has failed while a stream was replaced
   pub replacing-fails : (e : StreamError) (fault : Fault) → fault ≡ stream_fault_of e → stream_refusal built ≡ None
@@ -79,7 +109,7 @@ module _ (built : Built) (texts : List (List ℕ)) (ends : Bool) (reader new_rea
     record {
       bytes = fails.0;
       cause = elim fails.1 [
-        | inl read ↦ inl (e, is, read.0, read.1)
+        | inl read ↦ inl (e, is, read.0, settled-written built.kind fails.0 read.1)
         | inr write ↦ inr (
           write.0,
           write-fails write.1.0 (is ∙ ap stream_fault_of write.1.1) write.1.2,

@@ -1,25 +1,30 @@
 -- Printing the matches of a stream while it is read.
-use Rattle.std.proofs.Common.{◌≡◌, ◌<◌, ◌-◌, ℕ, List, [], ◌∷◌, ◌++◌, length, drop, take, ap, sym, refl, ◌∙◌, subst, arith, inl, inr, Bool}
-use Rattle.std.proofs.lemmas.List.{append_cancel_right, drop_all, take-append-drop}
-use Rattle.std.proofs.lemmas.Option.{slice_get_within}
-use Rattle.std.proofs.KnownBytes.{Appends-nil, Consumes-nil}
+use Rattle.std.proofs.Common.{◌≡◌, ◌⊎◌, ◌<◌, ◌≤◌, ◌-◌, ℕ, List, [], ◌∷◌, ◌++◌, length, drop, take, ap, sym, refl, ◌∙◌, subst, arith, inl, inr, Bool}
+use Rattle.std.specs.Io.KnownBytes.{Appends}
+use Rattle.std.proofs.lemmas.List.{append-nil, append_cancel_right, take-append-drop, take_all}
+use Rattle.std.proofs.KnownBytes.{Consumes-nil}
 use Rattle.ac_util.specs.declared.error.StreamError.{StreamError}
+use Rattle.ac_util.specs.declared.search.MatchKind.{MatchKind}
+use Rattle.ac_util.specs.declared.search.MatchKind.TheVariants.{LeftmostFirst, LeftmostLongest, Standard}
 use Rattle.ac_util.specs.Built.{Built}
-use Rattle.ac_util.specs.Device.{Reading, ReadsSome, Writing, WritesAll}
+use Rattle.ac_util.specs.Device.{Reading, ReadsAll, ReadsSome, Writing, WritesAll}
 use Rattle.ac_util.specs.Occurrence.{Occurrence}
 use Rattle.ac_util.specs.Stream.{streamed}
+use Rattle.ac_util.specs.StreamReplacing.{IsNear, IsSettledBy}
 use Rattle.ac_util.proofs.Devices.{fails-after, reads-on, reads-out}
 use Rattle.ac_util.proofs.Lists.{drop-slice_get}
-use Rattle.ac_automaton.specs.declared.automaton.stream.Phase.TheVariants.{Open}
-use Rattle.ac_automaton.specs.Streams.{EndsNow, GivesError, GivesMatch, GivesNext, HasGivenAll, KeepsGiven, Streaming, matches_so_far, settled_of, stream_begun}
+use Rattle.ac_automaton.specs.declared.automaton.stream.Phase.{Phase}
+use Rattle.ac_automaton.specs.declared.automaton.stream.Phase.TheVariants.{Ended, Failed, Open}
+use Rattle.ac_automaton.specs.Streams.{EndsNow, GivesError, GivesMatch, GivesNext, GivesNone, GoesOnBy, HasGivenSettled, KeepsGiven, Streaming, matches_so_far, stream_begun}
 use Rattle.acs.specs.declared.fault.Fault.{Fault}
+use Rattle.acs.specs.declared.request.Mode.TheVariants.{Stream}
 use Rattle.acs.specs.declared.run.Outcome.{Outcome}
 use Rattle.acs.specs.declared.run.Outcome.TheVariants.{Found, Nothing}
 use Rattle.acs.specs.Faults.{stream_fault_of}
 use Rattle.acs.specs.Lines.{lines, outcome_of}
 use Rattle.acs.specs.Printed.{FailsToPrintStream, HasPrintedRead, IsPrinting, PrintsSoFar, PrintsStream}
-use Rattle.acs.specs.Modes.{FailsToPrint}
-use Rattle.acs.proofs.Printing.{printing-begins, printing-ends, printing-writes}
+use Rattle.acs.specs.Modes.{FailsToPrint, WritesSettled}
+use Rattle.acs.proofs.Printing.{printing-begins, printing-writes}
 
 -- of another list that begins with the matches given, the same lines are written
 printing-longer : (n : ℕ) (all others : List Occurrence) {old new : Writing} {text : List ℕ} {outcome : Outcome}
@@ -39,12 +44,21 @@ printing-longer n all others same h = record {
   outcome_is = h.outcome_is;
 }
 
--- with no match and no text left all lines are written
-printed-all : {all rest : List Occurrence} {old new : Writing} {outcome : Outcome} → rest ≡ []
-    → IsPrinting all rest old new [] outcome → WritesAll old new (lines all) × (outcome ≡ outcome_of all)
-printed-all {all} {rest} {old} {new} {outcome} none h =
-    printing-ends all rest old new [] outcome h new none
-    (record { moved = Appends-nil new.written; failed = refl; idles = refl })
+-- with no text left the lines of all matches but the rest are written
+printed-so-far : (n : ℕ) (all : List Occurrence) {old new : Writing} {outcome : Outcome}
+    → IsPrinting all (drop n all) old new [] outcome
+    → WritesAll old new (lines (take n all)) × (outcome ≡ outcome_of (take n all))
+printed-so-far n all {old} {new} {outcome} h =
+    let done : h.done ≡ take n all = append_cancel_right h.done (take n all) (drop n all)
+    (h.parted ∙ sym (take-append-drop n all)) in (
+      record {
+        moved = subst (Appends old.written new.written)
+            (sym (append-nil h.out) ∙ h.written ∙ ap lines done) h.moved;
+        failed = h.failed;
+        idles = h.idles;
+      },
+      h.outcome_is ∙ ap outcome_of done,
+    )
 
 -- of the bytes read so far the next match is given
 pub read-printing : {v w : Streaming} {m : Occurrence} {old new : Writing} {text : List ℕ} {outcome : Outcome}
@@ -56,38 +70,55 @@ read-printing {v} {w} {m} {old} {new} {text} {outcome} gives h =
     (subst (λ (rest : List Occurrence). IsPrinting (matches_so_far v) rest old new text outcome)
     (drop-slice_get (matches_so_far v) v.given m gives.next) h)
 
--- all of them were given, and the text is written
+-- all of them that are settled were given, and the text is written
 pub read-printed : {v w first : Streaming} {old new later : Writing} {text left : List ℕ}
-    → v ≡ record first { given = v.given; kept = v.kept } → HasGivenAll v w → PrintsSoFar v old new text Found
-    → WritesAll new later text → left ≡ [] → HasPrintedRead first w old later left Found
-read-printed {v} {w} {first} {old} {new} {later} {text} same all h writes none = record {
-  same = all.same ∙ ap (λ (u : Streaming). record u { kept = settled_of v }) same
-      ∙ ap (λ (n : ℕ). record first { given = n; kept = settled_of v })
-      (all.all ∙ ap (λ (u : Streaming). length (matches_so_far u)) same)
-      ∙ ap (λ (k : ℕ). record first { given = length (matches_so_far first); kept = k })
-      (sym (ap (λ (u : Streaming). u.kept) all.same));
+    → v ≡ record first { given = v.given; kept = v.kept } → first.given ≤ v.given → HasGivenSettled v w
+    → PrintsSoFar v old new text Found → WritesAll new later text → left ≡ [] → HasPrintedRead first w old later left Found
+read-printed {v} {w} {first} {old} {new} {later} {text} same onward all h writes none = record {
+  same = all.same ∙ ap (λ (u : Streaming). record u { kept = w.kept }) same
+      ∙ ap (λ (n : ℕ). record first { given = n; kept = w.kept }) (sym (ap (λ (u : Streaming). u.given) all.same));
+  onward = (let e = ap (λ (u : Streaming). u.given) all.same in omega arith);
   nothing = none;
   printing =
       subst (λ (u : Streaming). PrintsSoFar u old later [] Found) (sym all.same)
       (printing-writes (matches_so_far v) (drop v.given (matches_so_far v)) old new text Found h later writes);
 }
 
+-- what was read up to a call, and what the call has read
+reads-further : (ends : Bool) (mid last : Phase) (reader now later : Reading) (bytes more : List ℕ)
+    → GoesOnBy ends Open mid reader now bytes → GoesOnBy ends mid last now later more
+    → GoesOnBy ends Open last reader later (bytes ++ more)
+reads-further ends Open Open reader now later bytes more so_far further = reads-on so_far further
+reads-further ends Open Ended reader now later bytes more so_far further = reads-out so_far further
+reads-further ends Open Failed reader now later bytes more so_far further = absurd further
+reads-further ends Ended Ended reader now later bytes more so_far further =
+    subst (λ (r : Reading). ReadsAll ends reader r (bytes ++ more)) (sym further.1)
+    (subst (ReadsAll ends reader now) (sym (append-nil bytes) ∙ ap (λ (w : List ℕ). bytes ++ w) (sym further.0)) so_far)
+reads-further ends Ended Open reader now later bytes more so_far further = absurd further
+reads-further ends Ended Failed reader now later bytes more so_far further = absurd further
+reads-further ends Failed last reader now later bytes more so_far further = absurd so_far
+
+-- so some bytes came, or all of them
+reads-either : (ends : Bool) (phase : Phase) (reader now : Reading) (bytes : List ℕ) → GoesOnBy ends Open phase reader now bytes
+    → ReadsSome reader now bytes ⊎ ReadsAll ends reader now bytes
+reads-either ends Open reader now bytes reads = inl reads
+reads-either ends Ended reader now bytes reads = inr reads
+reads-either ends Failed reader now bytes reads = absurd reads
+
 -- before a read the lines of the matches that were given are written
-pub record IsPrintingStream (built : Built) (v : Streaming) (reader new_reader : Reading) (writer new_writer : Writing)
-    (text : List ℕ) (outcome : Outcome) : Type 0 where
+pub record IsPrintingStream (ends : Bool) (built : Built) (v : Streaming) (reader new_reader : Reading)
+    (writer new_writer : Writing) (text : List ℕ) (outcome : Outcome) : Type 0 where
   pub built_is : v.built ≡ built
-  pub goes_on : v.phase ≡ Open
-  pub reads : ReadsSome reader new_reader v.bytes
+  pub reads : GoesOnBy ends Open v.phase reader new_reader v.bytes
   pub nothing : text ≡ []
   pub printing : PrintsSoFar v writer new_writer [] outcome
 
 -- at first none was given
-pub print-begins : (v : Streaming) (reader : Reading) (writer : Writing) → v ≡ stream_begun v.built
-    → IsPrintingStream v.built v reader reader writer writer [] Nothing
-print-begins v reader writer begun = record {
+pub print-begins : (ends : Bool) (v : Streaming) (reader : Reading) (writer : Writing) → v ≡ stream_begun v.built
+    → IsPrintingStream ends v.built v reader reader writer writer [] Nothing
+print-begins ends v reader writer begun = record {
   built_is = refl;
-  goes_on = ap (λ (w : Streaming). w.phase) begun;
-  reads = subst (λ (w : Streaming). ReadsSome reader reader w.bytes) (sym begun)
+  reads = subst (λ (w : Streaming). GoesOnBy ends Open w.phase reader reader w.bytes) (sym begun)
       (record { moved = Consumes-nil reader.left; failed = refl; empties = refl });
   nothing = refl;
   printing =
@@ -95,46 +126,84 @@ print-begins v reader writer begun = record {
       (sym (ap (λ (w : Streaming). w.given) begun)) (printing-begins (matches_so_far v) writer);
 }
 
-module _ {built : Built} {v : Streaming} {reader new_reader : Reading} {writer new_writer : Writing} {text : List ℕ}
-    {outcome : Outcome} (h : IsPrintingStream built v reader new_reader writer new_writer text outcome) where
+module _ {ends : Bool} {built : Built} {v : Streaming} {reader new_reader : Reading} {writer new_writer : Writing}
+    {text : List ℕ} {outcome : Outcome}
+    (h : IsPrintingStream ends built v reader new_reader writer new_writer text outcome) where
   -- of more bytes the same lines are written
   longer : (bytes : List ℕ) → KeepsGiven v bytes
       → IsPrinting (streamed v.built bytes) (drop v.given (streamed v.built bytes)) writer new_writer [] outcome
   longer bytes keeps = printing-longer v.given (matches_so_far v) (streamed v.built bytes) keeps h.printing
 
-  -- where all were given, all lines are written
-  all-written : (bytes : List ℕ) → KeepsGiven v bytes → v.given ≡ length (streamed v.built bytes)
+  -- these are the lines of the matches that were given
+  given-written : (bytes : List ℕ) → KeepsGiven v bytes
+      → WritesAll writer new_writer (lines (take v.given (streamed built bytes)))
+      × (outcome ≡ outcome_of (take v.given (streamed built bytes)))
+  given-written bytes keeps =
+      subst (λ (b : Built). WritesAll writer new_writer (lines (take v.given (streamed b bytes)))
+      × (outcome ≡ outcome_of (take v.given (streamed b bytes)))) h.built_is
+      (printed-so-far v.given (streamed v.built bytes) (longer bytes keeps))
+
+  -- and of all of them where all were given
+  all-written : (bytes : List ℕ) → KeepsGiven v bytes → v.given ≡ length (streamed built bytes)
       → WritesAll writer new_writer (lines (streamed built bytes)) × (outcome ≡ outcome_of (streamed built bytes))
   all-written bytes keeps all =
-      subst (λ (b : Built). WritesAll writer new_writer (lines (streamed b bytes))
-      × (outcome ≡ outcome_of (streamed b bytes))) h.built_is
-      (printed-all (drop_all v.given (streamed v.built bytes) (omega arith)) (longer bytes keeps))
+      subst (λ (ms : List Occurrence). WritesAll writer new_writer (lines ms) × (outcome ≡ outcome_of ms))
+      (take_all v.given (streamed built bytes) (omega arith)) (given-written bytes keeps)
+
+  -- what is settled is written
+  settled-written : (bytes : List ℕ) (place : ℕ) → KeepsGiven v bytes → IsNear built bytes place
+      → (kind : MatchKind) → IsSettledBy kind built bytes v.given place
+      → WritesSettled kind Stream built [] bytes writer new_writer
+  settled-written bytes place keeps near Standard settled = (all-written bytes keeps settled.0).0
+  settled-written bytes place keeps near LeftmostFirst settled =
+      (v.given, place, settled, near, (given-written bytes keeps).0)
+  settled-written bytes place keeps near LeftmostLongest settled =
+      (v.given, place, settled, near, (given-written bytes keeps).0)
 
   -- a read has failed, or brought more than usize counts
-  pub read-stops : {ends : Bool} {later : Reading} {e : StreamError} {w : Streaming} {fault : Fault}
+  pub read-stops : {later : Reading} {e : StreamError} {w : Streaming} {fault : Fault}
       → GivesError v e w new_reader later → fault ≡ stream_fault_of e
       → FailsToPrintStream ends built reader later writer new_writer fault
-  read-stops {ends} {later} {e} gives is = record {
-    bytes = v.bytes ++ gives.more;
-    cause = inl (
-      e,
-      is,
-      fails-after later gives.more h.reads 0 (length v.bytes) (omega arith) e gives.reads,
-      (all-written (v.bytes ++ gives.more) gives.given gives.all).0,
-    );
-  }
+  read-stops {later} {e} {w} gives is =
+      let bytes = v.bytes ++ gives.more in
+      let long : length w.bytes ≡ length bytes = ap (λ (u : Streaming). length u.bytes) gives.same in
+      let few = gives.few in
+      let near : IsNear v.built bytes w.kept = omega arith in
+      let read = subst (λ (p : Phase). GoesOnBy ends Open p reader new_reader v.bytes) gives.open' h.reads in
+      record {
+        bytes = bytes;
+        cause = inl (
+          e,
+          is,
+          fails-after later gives.more read 0 (length v.bytes) (omega arith) e gives.reads,
+          settled-written bytes w.kept gives.given (subst (λ (b : Built). IsNear b bytes w.kept) h.built_is near) built.kind
+              (subst (λ (b : Built). IsSettledBy b.kind b bytes v.given w.kept) h.built_is gives.settled),
+        );
+      }
 
   -- the end was met
-  pub stream-ends : {ends : Bool} {later : Reading} {w : Streaming} → EndsNow ends v w new_reader later
+  ends-there : {later : Reading} {w : Streaming} → EndsNow ends v w new_reader later
       → PrintsStream ends built reader later writer new_writer outcome
-  stream-ends {ends} {later} gives = record {
-    bytes = v.bytes ++ gives.more;
-    reads = reads-out h.reads gives.reads;
-    writes = (all-written (v.bytes ++ gives.more) gives.given gives.all).0;
-    outcome_is = (all-written (v.bytes ++ gives.more) gives.given gives.all).1;
-  }
+  ends-there {later} gives =
+      let all = subst (λ (b : Built). v.given ≡ length (streamed b (v.bytes ++ gives.more))) h.built_is gives.all in
+      record {
+        bytes = v.bytes ++ gives.more;
+        reads = reads-further ends v.phase Ended reader new_reader later v.bytes gives.more h.reads gives.reads;
+        writes = (all-written (v.bytes ++ gives.more) gives.given all).0;
+        outcome_is = (all-written (v.bytes ++ gives.more) gives.given all).1;
+      }
 
-  module _ {later : Reading} {m : Occurrence} {w : Streaming} (gives : GivesNext v m w new_reader later) where
+  pub stream-ends : (later : Reading) (w : Streaming) → GivesNone v.phase ends v w new_reader later
+      → PrintsStream ends built reader later writer new_writer outcome
+  stream-ends later w none = by v.phase h.reads none
+    where
+      by : (p : Phase) → GoesOnBy ends Open p reader new_reader v.bytes → GivesNone p ends v w new_reader later
+          → PrintsStream ends built reader later writer new_writer outcome
+      by Open reads gives = ends-there gives
+      by Ended reads gives = ends-there gives
+      by Failed reads gives = absurd reads
+
+  module _ {later : Reading} {m : Occurrence} {w : Streaming} (gives : GivesNext ends v m w new_reader later) where
     -- the next match is the first one whose line isn't written
     pub next-printing : IsPrinting (matches_so_far w) (m ∷ drop w.given (matches_so_far w)) writer new_writer text outcome
     next-printing =
@@ -144,32 +213,31 @@ module _ {built : Built} {v : Streaming} {reader new_reader : Reading} {writer n
         (subst (λ (rest : List Occurrence). IsPrinting (streamed v.built (v.bytes ++ gives.more)) rest writer new_writer [] outcome)
         (drop-slice_get (streamed v.built (v.bytes ++ gives.more)) v.given m gives.next) (longer (v.bytes ++ gives.more) gives.given)))
 
-    next-reads : ReadsSome reader later w.bytes
+    next-reads : GoesOnBy ends Open w.phase reader later w.bytes
     next-reads =
-        subst (λ (u : Streaming). ReadsSome reader later u.bytes) (sym gives.same) (reads-on h.reads gives.reads)
+        subst (GoesOnBy ends Open w.phase reader later) (sym (ap (λ (u : Streaming). u.bytes) gives.same))
+        (reads-further ends v.phase w.phase reader new_reader later v.bytes gives.more h.reads gives.reads)
 
     next-built : w.built ≡ built
     next-built = ap (λ (u : Streaming). u.built) gives.same ∙ h.built_is
 
     -- a line couldn't be written
-    pub print-stops : {ends : Bool} {new : Writing} {fault : Fault}
-        → FailsToPrint writer new (lines (matches_so_far w)) fault
+    pub print-stops : {new : Writing} {fault : Fault} → FailsToPrint writer new (lines (matches_so_far w)) fault
         → FailsToPrintStream ends built reader later writer new fault
-    print-stops {ends} {new} {fault} fails = record {
+    print-stops {new} {fault} fails = record {
       bytes = w.bytes;
       cause = inr (
-        inl next-reads,
+        reads-either ends w.phase reader later w.bytes next-reads,
         subst (λ (b : Built). FailsToPrint writer new (lines (streamed b w.bytes)) fault) next-built fails,
       );
     }
 
     -- the lines of all matches so far were written
     pub printed-more : {x : Streaming} {new : Writing} {left : List ℕ} → HasPrintedRead w x writer new left Found
-        → IsPrintingStream built x reader later writer new left Found
+        → IsPrintingStream ends built x reader later writer new left Found
     printed-more {x} {new} printed = record {
       built_is = ap (λ (u : Streaming). u.built) printed.same ∙ next-built;
-      goes_on = ap (λ (u : Streaming). u.phase) printed.same ∙ ap (λ (u : Streaming). u.phase) gives.same ∙ h.goes_on;
-      reads = subst (λ (u : Streaming). ReadsSome reader later u.bytes) (sym printed.same) next-reads;
+      reads = subst (λ (u : Streaming). GoesOnBy ends Open u.phase reader later u.bytes) (sym printed.same) next-reads;
       nothing = printed.nothing;
       printing = printed.printing;
     }
@@ -178,8 +246,6 @@ module _ {built : Built} {v : Streaming} {reader new_reader : Reading} {writer n
     pub given-more : {x : Streaming} {new : Writing} {left : List ℕ} → HasPrintedRead w x writer new left Found
         → 18446744073709551615 - x.given < 18446744073709551615 - v.given
     given-more printed = (
-        let within = slice_get_within (streamed v.built (v.bytes ++ gives.more)) v.given m gives.next in
         let one = ap (λ (u : Streaming). u.given) gives.same in
         let counted = gives.counted in
-        let long = ap (λ (u : Streaming). length (matches_so_far u)) gives.same in
-        let given = ap (λ (u : Streaming). u.given) printed.same in omega arith)
+        let onward = printed.onward in omega arith)

@@ -1,20 +1,24 @@
 -- What a mode does to the reader and the writer of a run, by a searcher that is built.
-use Rattle.std.specs.Prelude.{◌≡◌, ◌⊎◌, ℕ, ◌+◌, Bool, List, [], MatchResult, Option, None, Some, Result, option_map}
+use Rattle.std.specs.Prelude.{◌≡◌, ◌⊎◌, ℕ, ◌+◌, Bool, List, [], MatchResult, Option, None, Some, Result, option_map, take}
 use Rattle.std.specs.Io.KnownBytes.{Consumes}
 use Rattle.ac_util.specs.declared.error.MatchError.{MatchError}
 use Rattle.ac_util.specs.declared.error.StreamError.{StreamError}
+use Rattle.ac_util.specs.declared.search.MatchKind.{MatchKind}
+use Rattle.ac_util.specs.declared.search.MatchKind.TheVariants.{Standard}
 use Rattle.ac_util.specs.Asked.{asked_whole}
 use Rattle.ac_util.specs.Built.{Built, overlapping_iter_refusal, stream_refusal}
 use Rattle.ac_util.specs.Device.{Reading, ReadsAll, ReadsSome, Writing, WritesAll, WritesSome}
-use Rattle.ac_util.specs.Stream.{held, without_last}
-use Rattle.ac_util.specs.StreamReplacing.{FailsToRead}
+use Rattle.ac_util.specs.Replaced.{replaced}
+use Rattle.ac_util.specs.Settled.{IsSettledAt}
+use Rattle.ac_util.specs.Stream.{held, streamed, without_last}
+use Rattle.ac_util.specs.StreamReplacing.{FailsToRead, IsNear}
 use Rattle.acs.specs.declared.fault.Fault.{Fault}
 use Rattle.acs.specs.declared.fault.Fault.TheVariants.{Io, Memory, WriteZero}
 use Rattle.acs.specs.declared.request.Mode.{Mode}
 use Rattle.acs.specs.declared.request.Mode.TheVariants.{Overlap, Replace, Stream, StreamReplace}
 use Rattle.acs.specs.declared.run.Outcome.{Outcome}
 use Rattle.acs.specs.Faults.{refusal_fault_of, stream_fault_of}
-use Rattle.acs.specs.Lines.{output_of}
+use Rattle.acs.specs.Lines.{lines, output_of}
 
 -- why a searcher refuses a mode, if it does
 abbrev pub mode_refusal : Mode → Built → Option MatchError
@@ -43,28 +47,33 @@ FailsToPrint old new bytes fault =
     ⊎ ((fault ≡ Memory) × WritesSome old new bytes × (new.failed ≡ old.failed) × (new.idles ≡ old.idles))
 
 -- the same for what a mode writes: lines are written while others are made, but a replaced text is whole before its
--- first byte is written, so nothing was written where memory was refused for it. For a replaced stream none is asked for
+-- first byte is written, so nothing was written where memory was refused for it. A stream that is replaced asks for no memory
+-- after its first read
 abbrev pub FailsToWriteFor : Mode → Writing → Writing → List ℕ → Fault → Type 0
 FailsToWriteFor Replace old new bytes fault = FailsToWrite old new bytes fault ⊎ ((fault ≡ Memory) × (new ≡ old))
 FailsToWriteFor StreamReplace old new bytes fault = FailsToWrite old new bytes fault
 FailsToWriteFor mode old new bytes fault = FailsToPrint old new bytes fault
 
--- what a mode has written at a read, when a stream has given these bytes: the lines of all their matches; of their
--- replaced text all but the bytes held back
+-- what a mode has written under Standard at a read, when a stream has given these bytes: the lines of all their matches; of
+-- their replaced text all but the bytes held back
 abbrev pub settled_text : Mode → Built → List (List ℕ) → List ℕ → List ℕ
 settled_text StreamReplace built texts bytes =
     without_last (held built bytes) (output_of StreamReplace built texts bytes).text
 settled_text mode built texts bytes = (output_of mode built texts bytes).text
 
--- some bytes of a stream came, and then a read has failed, or brought more than usize counts: what is settled was written.
--- Or they came, with the end or without it, and what the mode writes for them couldn't be written
-pub record FailsOnStream (ends : Bool) (reader new_reader : Reading) (writer new_writer : Writing)
-    (mode : Mode) (built : Built) (texts : List (List ℕ)) (fault : Fault) : Type 0 where
-  pub bytes : List ℕ
-  pub cause : ((e : StreamError) × (fault ≡ stream_fault_of e) × FailsToRead 0 reader new_reader bytes e
-      × WritesAll writer new_writer (settled_text mode built texts bytes))
-      ⊎ ((ReadsSome reader new_reader bytes ⊎ ReadsAll ends reader new_reader bytes)
-      × FailsToWriteFor mode writer new_writer (output_of mode built texts bytes).text fault)
+-- what it writes for so many of the matches, as far as a place
+abbrev pub text_as_far : Mode → Built → List (List ℕ) → List ℕ → ℕ → ℕ → List ℕ
+text_as_far StreamReplace built texts bytes given place =
+    replaced (take place bytes) texts (take given (streamed built bytes))
+text_as_far mode built texts bytes given place = lines (take given (streamed built bytes))
+
+-- what is settled at a read was written: under a leftmost kind for the matches that no longer stream changes, and as far as at
+-- most as many bytes follow as the longest pattern has
+abbrev pub WritesSettled : MatchKind → Mode → Built → List (List ℕ) → List ℕ → Writing → Writing → Type 0
+WritesSettled Standard mode built texts bytes old new = WritesAll old new (settled_text mode built texts bytes)
+WritesSettled kind mode built texts bytes old new =
+    (given place : ℕ) × IsSettledAt built bytes given place × IsNear built bytes place
+    × WritesAll old new (text_as_far mode built texts bytes given place)
 
 module _ (ends : Bool) (mode : Mode) (built : Built) (texts : List (List ℕ)) (reader new_reader : Reading)
     (writer new_writer : Writing) where
@@ -96,10 +105,18 @@ module _ (ends : Bool) (mode : Mode) (built : Built) (texts : List (List ℕ)) (
     pub reads : ReadsAll ends reader new_reader haystack
     pub writes : FailsToWriteFor mode writer new_writer (output_of mode built texts haystack).text fault
 
+  -- some bytes of a stream came, and then a read has failed, or brought more than usize counts: what is settled was written.
+  -- Or they came, with the end or without it, and what the mode writes for them couldn't be written
+  pub record FailsOnStream (fault : Fault) : Type 0 where
+    pub bytes : List ℕ
+    pub cause : ((e : StreamError) × (fault ≡ stream_fault_of e) × FailsToRead 0 reader new_reader bytes e
+        × WritesSettled built.kind mode built texts bytes writer new_writer)
+        ⊎ ((ReadsSome reader new_reader bytes ⊎ ReadsAll ends reader new_reader bytes)
+        × FailsToWriteFor mode writer new_writer (output_of mode built texts bytes).text fault)
+
   -- or while it read and wrote in turn
   abbrev pub FailsStreaming : Fault → Type 0
-  FailsStreaming fault =
-      (mode_refusal mode built ≡ None) × FailsOnStream ends reader new_reader writer new_writer mode built texts fault
+  FailsStreaming fault = (mode_refusal mode built ≡ None) × FailsOnStream fault
 
   -- a mode on a stream reads and writes in turn, the others read first
   abbrev pub FailsLater : Mode → Fault → Type 0

@@ -1,5 +1,5 @@
 -- How far the printing of matches has come.
-use Rattle.std.specs.Prelude.{◌≡◌, ℕ, Bool, List, [], ◌++◌, drop, length}
+use Rattle.std.specs.Prelude.{◌≡◌, ◌≤◌, ℕ, Bool, List, [], ◌++◌, drop}
 use Rattle.std.specs.Io.KnownBytes.{Appends}
 use Rattle.ac_util.specs.Built.{Built}
 use Rattle.ac_util.specs.Device.{Reading, ReadsAll, Writing, WritesAll}
@@ -29,9 +29,10 @@ abbrev pub PrintsSoFar : Streaming → Writing → Writing → List ℕ → Outc
 PrintsSoFar v old new text outcome =
     IsPrinting (matches_so_far v) (drop v.given (matches_so_far v)) old new text outcome
 
--- all matches of the bytes read so far were given, and their lines are written
+-- all matches of the bytes read so far that are settled were given, and their lines are written
 pub record HasPrintedRead (v new_v : Streaming) (old new : Writing) (text : List ℕ) (outcome : Outcome) : Type 0 where
-  pub same : new_v ≡ record v { given = length (matches_so_far v); kept = new_v.kept }
+  pub same : new_v ≡ record v { given = new_v.given; kept = new_v.kept }
+  pub onward : v.given ≤ new_v.given
   pub nothing : text ≡ []
   pub printing : PrintsSoFar new_v old new [] outcome
 
@@ -45,4 +46,4 @@ module _ (ends : Bool) (built : Built) (reader new_reader : Reading) (writer new
 
   -- or it couldn't be read, or the lines couldn't be written
   abbrev pub FailsToPrintStream : Fault → Type 0
-  FailsToPrintStream fault = FailsOnStream ends reader new_reader writer new_writer Stream built [] fault
+  FailsToPrintStream fault = FailsOnStream ends Stream built [] reader new_reader writer new_writer fault

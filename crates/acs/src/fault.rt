@@ -22,7 +22,7 @@ pub enum Fault {
     TooManyStates,
     /// An overlapping search is asked for by a leftmost kind.
     OverlappingKind,
-    /// A stream search is asked for by a leftmost kind.
+    /// A stream search is asked for by a match kind that has none. Each has one, so no run answers it.
     StreamKind,
     /// A stream search is asked for with an empty pattern.
     StreamEmpty,

@@ -163,11 +163,11 @@ fn print_read<A: Allocator + Clone, B: Allocator, Z: Allocator, W: Sink>(
 }
 
 /// Writes a line for each match of a stream of which nothing was read yet. Before each read the lines of all matches so far
-/// were written.
+/// were written that no byte to come can change.
 ///
 /// # Errors
-/// `Io` where a read fails and `TooLong` where more bytes come than a `usize` counts: the lines of all matches so far were
-/// written then. Those of `print_walk`: a beginning of these lines was written then, and not all of them.
+/// `Io` where a read fails and `TooLong` where more bytes come than a `usize` counts: these lines were written then. Those of
+/// `print_walk`: a beginning of the lines of all matches so far was written then, and not all of them.
 pub(crate) fn print_stream<A: Allocator + Clone, B: Allocator, Z: Allocator, R: Source, W: Sink>(
     alloc: A,
     finder: &mut StreamFinder<'_, B, Z>,

@@ -33,25 +33,25 @@ pub enum Outcome {
 ///
 /// The words are tested first, then the searcher is built, then it is tested that it allows the mode. Only then the input
 /// is read, up to the first read that gives no byte. The modes `stream` and `sreplace` write while they read: before each
-/// read the lines of all matches so far were written, or the replaced text but for the bytes that a match to come may still
-/// need. In the other modes nothing is written before all was read.
+/// read the lines of all matches so far were written that no byte to come can change, or the replaced text but for the bytes
+/// that a match to come may still need. In the other modes nothing is written before all was read.
 ///
 /// # Errors
 /// - `Usage` exactly where the words ask for nothing that there is, or the last pattern of the modes `replace` and `sreplace`
 ///   has no text.
 /// - `TooManyPatterns` and `PatternTooLong` exactly where that limit of the list is passed.
 /// - `TooManyStates` only where the engine that serves would be too large for the numbers of states.
-/// - `OverlappingKind` exactly where a leftmost kind is asked for in the mode `overlap`, `StreamKind` exactly where one is in
-///   the modes `stream` and `sreplace`, and `StreamEmpty` exactly where some pattern is empty in these under `std`; if no
-///   limit or want of memory refused the searcher.
+/// - `OverlappingKind` exactly where a leftmost kind is asked for in the mode `overlap`, and `StreamEmpty` exactly where some
+///   pattern is empty in the modes `stream` and `sreplace`; if no limit or want of memory refused the searcher. `StreamKind`
+///   never.
 /// - `Io` where a read or a write failed, `WriteZero` where a write took no byte, and `TooLong` where more bytes came in the
 ///   modes `stream` and `sreplace` than a `usize` counts.
 /// - `Memory` where a request for memory was refused. A contract cannot count such requests; it says that none
 ///   of the causes above was there.
 ///
-/// Before the first read nothing is written. Where a read fails in the modes `stream` and `sreplace`, all stands written that
-/// has to be before a read; in the other modes nothing is. Where a run fails otherwise after its first read, a beginning of
-/// the lines or of the replaced text was written, and not all of it; where memory was refused for a replaced text, nothing
+/// Before the first read nothing is written. Where a read fails in the modes `stream` and `sreplace`, so much was written as
+/// has to be before each read; in the other modes nothing was. Where a run fails otherwise after its first read, a beginning
+/// of the lines or of the replaced text was written, and not all of it; where memory was refused for a replaced text, nothing
 /// was.
 pub fn run<A: Allocator + Clone, R: Source, W: Sink>(
     alloc: A,

@@ -17,7 +17,7 @@ use std::marker::Model;
 ///
 /// The matches are those of the walk over all bytes of the reader, however it cuts them; offsets count from 0 over the whole
 /// stream. Its first error is its last item: after an error, as after the end, it keeps giving `None`, and the reader isn't
-/// asked again. Before each read all matches of the bytes read so far were given.
+/// asked again. Before each read all matches of the bytes read so far were given that no byte to come can change.
 #[derive(Drop)]
 pub struct StreamFindIter<'a, A: Automaton, R: Source + Drop, Z: Allocator> {
     finder: StreamFinder<'a, A, Z>,
@@ -56,8 +56,8 @@ impl<'a, A: Automaton, R: Source + Drop, Z: Allocator> StreamFindIter<'a, A, R, 
     }
 
     /// Returns how many bytes of the stream are kept: those from the end of the last match given on; or of these, once all
-    /// matches of what was read were given, as many as a match to come may need. After an error they are no more than the
-    /// longest pattern has.
+    /// matches of what was read that are settled were given, as many as a match to come may need. After an error they are no
+    /// more than the longest pattern has, and after the end there are none.
     pub fn kept_len(&self) -> usize
         ensures { result ≡ kept_len self.now.stream }
     {
@@ -65,7 +65,7 @@ impl<'a, A: Automaton, R: Source + Drop, Z: Allocator> StreamFindIter<'a, A, R, 
     }
 
     /// Returns the next match of the bytes that were read, without reading more of them. `None` says that all their matches
-    /// were given.
+    /// were given that no byte to come can change.
     pub fn next_read(&mut self) -> Option<Match>
         ensures { ReadsItem self.old result self.new }
     {

@@ -21,9 +21,10 @@ impl<A: Allocator> AhoCorasick<A> {
     /// however it cuts them. Offsets count bytes from 0 over the whole stream, and a match goes from its start up to, but
     /// without, its end.
     ///
-    /// Nothing is read before the first match is asked for. The allocator makes one buffer, which never grows. The searcher
-    /// has to support unanchored searches, its match kind to be `MatchKind::Standard`, and no pattern may be empty. This
-    /// ports `AhoCorasick::stream_find_iter`.
+    /// A match is given once no byte to come can change it: under `MatchKind::Standard` as soon as it is found, under a
+    /// leftmost kind once the bytes behind it have told, or the end. Nothing is read before the first match is asked for. The
+    /// allocator makes one buffer, which never grows. The searcher has to support unanchored searches, and no pattern may be
+    /// empty. This ports `AhoCorasick::stream_find_iter`, which takes `MatchKind::Standard` alone.
     ///
     /// ```
     /// // a searcher over "append", "appendage" and "app", by `MatchKind::Standard`
@@ -49,8 +50,8 @@ impl<A: Allocator> AhoCorasick<A> {
     ///
     /// # Errors
     /// `StreamError::Match` with `InvalidInputUnanchored` where the searcher doesn't support unanchored searches, else with
-    /// `UnsupportedStream` where its match kind isn't `MatchKind::Standard`, else with `UnsupportedEmpty` where some pattern
-    /// is empty; else `StreamError::Memory` where the memory for the buffer is refused. Nothing was read then.
+    /// `UnsupportedEmpty` where some pattern is empty; else `StreamError::Memory` where the memory for the buffer is refused.
+    /// Nothing was read then.
     pub fn try_stream_find_iter<R: Source + Drop, Z: Allocator>(
         &self,
         alloc: Z,
@@ -67,8 +68,8 @@ impl<A: Allocator> AhoCorasick<A> {
     /// Writes what a reader gives, with each match of `find_iter` over all its bytes exchanged for the text of its pattern.
     ///
     /// It reads as it goes and writes as it goes: before each read all of the replaced text was written but for the bytes
-    /// that a match to come may still need, at most one fewer than the longest pattern has. The allocator makes one buffer,
-    /// which never grows; no other memory is taken. The writer isn't flushed. There have to be as many texts as patterns.
+    /// that a match to come may still need, no more than the longest pattern has. The allocator makes one buffer, which never
+    /// grows; no other memory is taken. The writer isn't flushed. There have to be as many texts as patterns.
     /// This ports `AhoCorasick::try_stream_replace_all`.
     ///
     /// ```
@@ -176,12 +177,12 @@ impl<'a, A: Allocator, Z: Allocator> Model for StreamFinder<'a, A, Z> {
 }
 
 impl<'a, A: Allocator, Z: Allocator> StreamFinder<'a, A, Z> {
-    /// Returns the next match of the stream, and reads more of it where that is needed. After an error or the end it keeps
-    /// giving `None`, and the reader isn't asked again.
+    /// Returns the next match of the stream, and reads more of it where that is needed. After an error it keeps giving `None`,
+    /// and so it does after the end once all matches were given; the reader isn't asked again.
     ///
     /// # Errors
     /// `Io` where a read failed, and `TooLong` where more bytes came than a `usize` counts. All matches of the bytes read
-    /// before were given then.
+    /// before were given then that no byte to come could change.
     pub fn next<R: Source>(&mut self, reader: &mut R) -> Option<Result<Match, StreamError>>
         ensures { StreamsOn R.empty_means_end self.old result self.new (R.told reader.old) (R.told reader.new) }
     {
@@ -189,7 +190,7 @@ impl<'a, A: Allocator, Z: Allocator> StreamFinder<'a, A, Z> {
     }
 
     /// Returns the next match of the bytes that were read, without reading more of them. `None` says that all their matches
-    /// were given.
+    /// were given that no byte to come can change.
     pub fn next_read(&mut self) -> Option<Match>
         ensures { GivesRead self.old result self.new }
     {
@@ -197,8 +198,8 @@ impl<'a, A: Allocator, Z: Allocator> StreamFinder<'a, A, Z> {
     }
 
     /// Returns how many bytes of the stream are kept: those from the end of the last match given on; or of these, once all
-    /// matches of what was read were given, as many as a match to come may need. After an error they are no more than the
-    /// longest pattern has.
+    /// matches of what was read that are settled were given, as many as a match to come may need. After an error they are no
+    /// more than the longest pattern has, and after the end there are none.
     pub fn kept_len(&self) -> usize
         ensures { result ≡ kept_len self.now }
     {
@@ -218,7 +219,7 @@ impl<'a, A: Allocator, Z: Allocator> StreamFinder<'a, A, Z> {
 /// The matches are those of the walk over all bytes of the reader, however it cuts them; offsets count bytes from 0 over the
 /// whole stream. An item is `Io` where a read failed, and `TooLong` where more bytes came than a `usize` counts. The first
 /// error is the last item: after an error, as after the end, it keeps giving `None`, and the reader isn't asked again.
-/// Before each read all matches of the bytes read so far were given.
+/// Before each read all matches of the bytes read so far were given that no byte to come can change.
 #[derive(Drop)]
 pub struct StreamFindIter<'a, R: Source + Drop, A: Allocator = Global, Z: Allocator = Global> {
     finder: StreamFinder<'a, A, Z>,
@@ -235,7 +236,7 @@ impl<'a, R: Source + Drop, A: Allocator, Z: Allocator> Model for StreamFindIter<
 
 impl<'a, R: Source + Drop, A: Allocator, Z: Allocator> StreamFindIter<'a, R, A, Z> {
     /// Returns the next match of the bytes that were read, without reading more of them. `None` says that all their matches
-    /// were given.
+    /// were given that no byte to come can change.
     pub fn next_read(&mut self) -> Option<Match>
         ensures { ReadsItem self.old result self.new }
     {
@@ -243,8 +244,8 @@ impl<'a, R: Source + Drop, A: Allocator, Z: Allocator> StreamFindIter<'a, R, A, 
     }
 
     /// Returns how many bytes of the stream are kept: those from the end of the last match given on; or of these, once all
-    /// matches of what was read were given, as many as a match to come may need. After an error they are no more than the
-    /// longest pattern has.
+    /// matches of what was read that are settled were given, as many as a match to come may need. After an error they are no
+    /// more than the longest pattern has, and after the end there are none.
     pub fn kept_len(&self) -> usize
         ensures { result ≡ kept_len self.now.stream }
     {

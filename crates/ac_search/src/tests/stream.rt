@@ -22,11 +22,11 @@ const SLOTH: &[&[u8]] = &[b"sloth", b"grey", b"slow"];
 const SENTENCE: &[u8] = b"The quick brown fox.";
 
 /// How many calls of a reader are good that never fails.
-const ALWAYS: usize = 1_000_000;
+pub(super) const ALWAYS: usize = 1_000_000;
 
 /// Gives so many bytes a call at most, and fails once so many calls were made.
 #[derive(Drop)]
-struct Pieces<'a> {
+pub(super) struct Pieces<'a> {
     left: &'a [u8],
     most: usize,
     good: usize,
@@ -44,7 +44,7 @@ impl<'a> Model for Pieces<'a> {
 }
 
 impl<'a> Pieces<'a> {
-    fn new(bytes: &'a [u8], most: usize, good: usize) -> Pieces<'a> {
+    pub(super) fn new(bytes: &'a [u8], most: usize, good: usize) -> Pieces<'a> {
         Pieces {
             left: bytes,
             most,
@@ -81,8 +81,8 @@ impl<'a> Source for Pieces<'a> {
 
 /// Takes so many bytes a call at most, and so many in all; then it fails, or takes none.
 #[derive(Drop)]
-struct Few {
-    text: Vec<u8>,
+pub(super) struct Few {
+    pub(super) text: Vec<u8>,
     most: usize,
     room: usize,
     fails: bool,
@@ -100,7 +100,7 @@ impl Model for Few {
 }
 
 impl Few {
-    fn new(rt: HostRuntime, most: usize, room: usize, fails: bool) -> Few {
+    pub(super) fn new(rt: HostRuntime, most: usize, room: usize, fails: bool) -> Few {
         Few {
             text: Vec::new(rt.alloc()),
             most,
@@ -135,7 +135,7 @@ impl Sink for Few {
 
 /// How a replacement ended, without what an `io::Error` tells more.
 #[derive(Clone, Copy, PartialEq, Eq, Debug)]
-enum End {
+pub(super) enum End {
     Whole,
     Refused(MatchError),
     Memory,
@@ -144,7 +144,7 @@ enum End {
     TooLong,
 }
 
-fn end_of(ended: Result<(), StreamError>) -> End {
+pub(super) fn end_of(ended: Result<(), StreamError>) -> End {
     match ended {
         Ok(()) => End::Whole,
         Err(StreamError::Match(refusal)) => End::Refused(refusal),
@@ -281,7 +281,7 @@ fn iterators_give_matches_and_then_an_error(rt: HostRuntime) -> Result<(), Fail>
 }
 
 /// An item of an iterator: none, an error, or a match as its number, start and end.
-fn told_of(
+pub(super) fn told_of(
     item: Option<Result<crate::Match, StreamError>>,
 ) -> Option<Option<(usize, usize, usize)>> {
     match item {
@@ -348,14 +348,8 @@ const REFUSALS: &[Refusal] = &[
     (
         StartKind::Unanchored,
         LeftmostFirst,
-        &[b"a"],
-        MatchError::UnsupportedStream { got: LeftmostFirst },
-    ),
-    (
-        StartKind::Unanchored,
-        LeftmostFirst,
         &[b"", b"a"],
-        MatchError::UnsupportedStream { got: LeftmostFirst },
+        MatchError::UnsupportedEmpty,
     ),
     (
         StartKind::Unanchored,

@@ -257,11 +257,10 @@ fn a_read_of_nothing_is_the_end(rt: HostRuntime) -> Result<(), Fail> {
 const REFUSED: &[(&[&str], Fault)] = &[
     (&["overlap", "first", "auto", "a"], Fault::OverlappingKind),
     (&["overlap", "longest", "auto", "a"], Fault::OverlappingKind),
-    (&["stream", "first", "auto", "a"], Fault::StreamKind),
-    (&["stream", "longest", "auto", "a", ""], Fault::StreamKind),
     (&["stream", "std", "auto", "a", ""], Fault::StreamEmpty),
-    (&["sreplace", "first", "auto", "a", "b"], Fault::StreamKind),
+    (&["stream", "longest", "auto", "a", ""], Fault::StreamEmpty),
     (&["sreplace", "std", "auto", "", "b"], Fault::StreamEmpty),
+    (&["sreplace", "first", "auto", "", "b"], Fault::StreamEmpty),
 ];
 
 #[test]

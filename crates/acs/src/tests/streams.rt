@@ -1,9 +1,10 @@
 //! Streams over all lists of at most two short patterns, cut in every way, and the plain search beside them.
 use super::small::{ENGINES, words};
-use ac_search::MatchKind::Standard;
+use ac_search::MatchKind::{LeftmostFirst, LeftmostLongest, Standard};
 use ac_search::plain::{Query, replace_walk, walk};
 use ac_search::{
-    AhoCorasick, AhoCorasickBuilder, Anchored, FromRead, Match, Span, StreamError, Written,
+    AhoCorasick, AhoCorasickBuilder, Anchored, FromRead, Match, MatchKind, Span, StreamError,
+    Written,
 };
 use std::alloc::Global;
 use std::io;
@@ -46,21 +47,23 @@ impl<'a> Read for Cut<'a> {
     }
 }
 
-/// What the plain search gives for a whole stream, and how many bytes of it are held back before a read.
+/// A list of patterns and a match kind, a stream, and what the plain search gives for all of it.
 #[derive(Drop)]
-struct Wanted {
+struct Wanted<'a> {
+    patterns: &'a [&'a [u8]],
+    kind: MatchKind,
+    stream: &'a [u8],
     walk: Vec<Match>,
     replaced: Vec<u8>,
-    held: usize,
 }
 
-/// Returns what the plain search gives for a list of patterns of which the longest has so many bytes.
+/// Returns what the plain search gives for a list of patterns.
 fn wanted_for<'a>(
     alloc: Global,
     patterns: &'a [&'a [u8]],
+    kind: MatchKind,
     stream: &'a [u8],
-    longest: usize,
-) -> Result<Wanted, Fail> {
+) -> Result<Wanted<'a>, Fail> {
     let Some(texts) = TEXTS.get(..patterns.len()) else {
         return Err(Fail::new("no list is so long here"));
     };
@@ -69,46 +72,130 @@ fn wanted_for<'a>(
         end: stream.len(),
     };
     let query = Query::new(patterns, false, stream, Anchored::No, span);
-    let walk = walk(alloc, Standard, &query)?;
-    let ended = walk.last().map_or(0, |m| m.end());
-    let behind = stream.len().saturating_sub(ended);
     Ok(Wanted {
-        replaced: replace_walk(alloc, Standard, &query, texts)?,
-        walk,
-        held: longest.saturating_sub(1).min(behind),
+        patterns,
+        kind,
+        stream,
+        walk: walk(alloc, kind, &query)?,
+        replaced: replace_walk(alloc, kind, &query, texts)?,
     })
 }
 
-/// Returns whether a stream has these matches, and ends or fails behind them.
+/// Returns how many bytes the longest of the patterns has.
+fn longest_of(patterns: &[&[u8]]) -> usize {
+    let mut longest = 0;
+    for pattern in patterns {
+        longest = pattern.len().max(longest);
+    }
+    longest
+}
+
+impl<'a> Wanted<'a> {
+    /// Returns whether some pattern that takes part begins with what follows a place, and is longer.
+    fn is_open(&self, place: usize) -> bool {
+        let rest = self.stream.get(place..).unwrap_or(&[]);
+        let mut open = false;
+        for (number, pattern) in self.patterns.iter().enumerate() {
+            let mut takes_part = true;
+            if self.kind == LeftmostFirst {
+                for earlier in self.patterns.iter().take(number) {
+                    takes_part = takes_part && !pattern.starts_with(earlier);
+                }
+            }
+            open = open || takes_part && pattern.len() > rest.len() && pattern.starts_with(rest);
+        }
+        open && !rest.is_empty()
+    }
+
+    /// Returns whether a place from one up to another is open.
+    fn is_open_between(&self, from: usize, to: usize) -> bool {
+        let mut open = false;
+        for place in from..to {
+            open = open || self.is_open(place);
+        }
+        open
+    }
+
+    /// Returns how many matches settle the stream up to a place, if they do: no byte to come can change that these are its
+    /// first ones, and that no other starts before the place.
+    fn settled_at(&self, place: usize) -> Option<usize> {
+        if self.kind == Standard {
+            let ended = self.walk.last().map_or(0, |m| m.end());
+            let behind = self.stream.len().saturating_sub(ended);
+            let held = longest_of(self.patterns).saturating_sub(1).min(behind);
+            let settled = self.stream.len().saturating_sub(held);
+            return (place == settled).then_some(self.walk.len());
+        }
+        let (mut given, mut ended) = (0_usize, 0);
+        for m in self.walk.iter().take_while(|m| m.end() <= place) {
+            if self.is_open_between(ended, m.start().saturating_add(1)) {
+                return None;
+            }
+            (given, ended) = (given.saturating_add(1), m.end());
+        }
+        let later = self.walk.get(given).map_or(place, |m| m.start());
+        let near = self.stream.len() <= place.saturating_add(longest_of(self.patterns));
+        (near && later >= place && !self.is_open_between(ended, place)).then_some(given)
+    }
+
+    /// Returns whether this is the replaced text up to a place, with so many matches exchanged.
+    fn is_text_up_to(&self, mut text: &[u8], given: usize, place: usize) -> bool {
+        let mut from = 0;
+        for m in self.walk.iter().take(given) {
+            let gap = self.stream.get(from..m.start()).unwrap_or(&[]);
+            let exchanged = TEXTS.get(m.pattern().as_usize()).copied().unwrap_or(&[]);
+            let Some(behind) = text.strip_prefix(gap) else {
+                return false;
+            };
+            let Some(rest) = behind.strip_prefix(exchanged) else {
+                return false;
+            };
+            (text, from) = (rest, m.end());
+        }
+        Some(text) == self.stream.get(from..place)
+    }
+}
+
+/// Returns whether a stream has these matches to its end; or where it fails, so many of them as settle it up to where bytes are
+/// kept.
 fn gives(
     alloc: Global,
     searcher: &AhoCorasick,
     reader: Cut<'_>,
-    wanted: &Wanted,
+    wanted: &Wanted<'_>,
 ) -> Result<bool, Fail> {
     let fails = reader.fails;
     let mut matches = searcher.try_stream_find_iter(alloc, FromRead::new(reader))?;
-    for m in &wanted.walk {
+    let mut given = 0_usize;
+    let ended = loop {
         match matches.next() {
-            Some(Ok(found)) if found == *m => {}
-            _ => return Ok(false),
+            None => break true,
+            Some(Err(_)) => break false,
+            Some(Ok(found)) => {
+                if Some(&found) != wanted.walk.get(given) {
+                    return Ok(false);
+                }
+                given = given.saturating_add(1);
+            }
         }
-    }
-    let ends_so = match matches.next() {
-        None => !fails,
-        Some(Err(StreamError::Io(_))) => fails,
-        Some(_) => false,
+    };
+    let kept = matches.kept_len();
+    let ends_so = if fails {
+        let place = wanted.stream.len().saturating_sub(kept);
+        !ended && wanted.settled_at(place) == Some(given)
+    } else {
+        ended && given == wanted.walk.len() && kept == 0
     };
     Ok(ends_so && matches.next().is_none())
 }
 
-/// Returns whether this is written in place of a stream, or so much of it where the stream fails.
+/// Returns whether this is written in place of a stream, or so much of it as is settled where the stream fails.
 fn writes(
     alloc: Global,
     searcher: &AhoCorasick,
     reader: Cut<'_>,
     texts: &[&[u8]],
-    wanted: &Wanted,
+    wanted: &Wanted<'_>,
 ) -> Result<bool, Fail> {
     let Some(texts) = texts.get(..searcher.patterns_len()) else {
         return Err(Fail::new("no list is so long here"));
@@ -121,23 +208,27 @@ fn writes(
         &mut writer,
         texts,
     );
-    let held = if fails { wanted.held } else { 0 };
-    let settled = wanted.replaced.len().saturating_sub(held);
-    let ends_so = match ended {
-        Ok(()) => !fails,
-        Err(StreamError::Io(_)) => fails,
+    Ok(match ended {
+        Ok(()) => !fails && writer.bytes() == wanted.replaced.as_slice(),
+        Err(StreamError::Io(_)) => fails && is_settled_text(wanted, writer.bytes()),
         Err(_) => false,
-    };
-    Ok(ends_so && Some(writer.bytes()) == wanted.replaced.get(..settled))
+    })
+}
+
+/// Returns whether this is the replaced text up to a place up to which the stream is settled.
+fn is_settled_text(wanted: &Wanted<'_>, text: &[u8]) -> bool {
+    let mut settled = false;
+    for place in 0..wanted.stream.len().saturating_add(1) {
+        if let Some(given) = wanted.settled_at(place) {
+            settled = settled || wanted.is_text_up_to(text, given, place);
+        }
+    }
+    settled
 }
 
 /// Compares a searcher with the plain search over a stream that is cut in every way, and ends or fails.
-fn compare_cuts(
-    alloc: Global,
-    searcher: &AhoCorasick,
-    stream: &[u8],
-    wanted: &Wanted,
-) -> Result<(), Fail> {
+fn compare_cuts(alloc: Global, searcher: &AhoCorasick, wanted: &Wanted<'_>) -> Result<(), Fail> {
+    let stream = wanted.stream;
     for cuts in 0..16 {
         for fails in [false, true] {
             let reader = Cut {
@@ -160,21 +251,22 @@ fn compare_cuts(
     Ok(())
 }
 
-/// Compares one of the engines for a list of patterns, another one from list to list.
+/// Compares one of the engines under each match kind for a list of patterns, another one from list to list.
 fn compare<'a>(
     alloc: Global,
     number: usize,
     patterns: &'a [&'a [u8]],
     streams: &'a [Vec<u8>],
 ) -> Result<(), Fail> {
-    let mut builder = AhoCorasickBuilder::new();
-    builder.kind(Some(ENGINES[number % 3]));
-    builder.prefilter(number % 2 == 0).dense_depth(number % 5);
-    let searcher = builder.build(alloc, patterns)?;
-    let longest = searcher.max_pattern_len();
-    for stream in streams {
-        let wanted = wanted_for(alloc, patterns, stream, longest)?;
-        compare_cuts(alloc, &searcher, stream, &wanted)?;
+    for kind in [Standard, LeftmostFirst, LeftmostLongest] {
+        let mut builder = AhoCorasickBuilder::new();
+        builder.kind(Some(ENGINES[number % 3])).match_kind(kind);
+        builder.prefilter(number % 2 == 0).dense_depth(number % 5);
+        let searcher = builder.build(alloc, patterns)?;
+        for stream in streams {
+            let wanted = wanted_for(alloc, patterns, kind, stream)?;
+            compare_cuts(alloc, &searcher, &wanted)?;
+        }
     }
     Ok(())
 }

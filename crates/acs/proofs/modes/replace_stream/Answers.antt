@@ -1,5 +1,6 @@
-use Rattle.std.proofs.Common.{ap, inl, inr, refl}
+use Rattle.std.proofs.Common.{◌∙◌, ℕ, List, ap, inl, inr, refl, subst}
 use Rattle.ac_util.specs.Borrowed.{bytes_of}
+use Rattle.ac_util.specs.StreamReplacing.{FailsToReplace}
 use Rattle.acs.specs.declared.request.Mode.TheVariants.{StreamReplace}
 use Rattle.acs.specs.Faults.{stream_fault_of}
 use Rattle.acs.specs.Modes.{FailsToAnswer}
@@ -36,5 +37,7 @@ returns-in_err-try_stream_replace_all g c =
           (stream_fault_of e) refl
           (λ same. (ap g.R.Source.told same.0, ap g.W.Sink.told same.1)) refused)
       | inr fails ↦ replacing-fails built texts ends reader new_reader writer new_writer e (stream_fault_of e) refl
-          fails.0 (rw (c.deref.ensures.value, c.in_ok-texts.ensures) at fails.1)
+          fails.0
+          (subst (λ (ts : List (List ℕ)). FailsToReplace built ts writer new_writer ends reader new_reader e)
+          (ap bytes_of c.deref.ensures.value ∙ c.in_ok-texts.ensures) fails.1)
     ])

@@ -2,7 +2,7 @@ use Rattle.std.proofs.Common.{◌≡◌, ◌∙◌, ◌+◌, ℕ, List, ap, arit
 use Rattle.std.specs.Prelude.{string_bytes}
 use Rattle.std.proofs.lemmas.Option.{slice_get_within}
 use Rattle.ac_util.specs.Device.{WritesAll}
-use Rattle.ac_automaton.specs.Streams.{GivesMatch, HasGivenAll, Streaming, matches_so_far}
+use Rattle.ac_automaton.specs.Streams.{GivesMatch, HasGivenSettled, Streaming, matches_so_far}
 use Rattle.acs.specs.declared.run.Outcome.TheVariants.{Found}
 use Rattle.acs.specs.Lines.{lines}
 use Rattle.acs.specs.Modes.{FailsToPrint, FailsToWrite}
@@ -23,6 +23,7 @@ loop-m-preserved g c =
           (sym (ap (λ (u : Streaming). u.given) gives.same))
           ∙ ap (λ (k : ℕ). record c.args.finder.now { given = c.next_read.new.self.given; kept = k })
           (sym (ap (λ (u : Streaming). u.kept) gives.same));
+      onward = (let one = ap (λ (u : Streaming). u.given) gives.same in let o = c.loop-m.invariant.onward in omega arith);
       printing = λ old h.
           c.in_ok-print_line.ensures (matches_so_far c.next_read.new.self)
           (drop c.next_read.new.self.given (matches_so_far c.next_read.new.self)) old Found
@@ -76,7 +77,7 @@ returns-in_err-write_all g c old h =
 pub returns : goal.returns
 returns g c old h =
     let told = g.W.Sink.told in
-    let all : HasGivenAll c.loop-m.finder c.next_read.new.self = c.in_default.ensures in
-    read-printed c.loop-m.invariant.same all (c.loop-m.invariant.printing old h)
+    let all : HasGivenSettled c.loop-m.finder c.next_read.new.self = c.in_default.ensures in
+    read-printed c.loop-m.invariant.same c.loop-m.invariant.onward all (c.loop-m.invariant.printing old h)
     (subst (λ (bytes : List ℕ). WritesAll (told c.loop-m.writer) (told c.write_all.new.writer) bytes)
     c.as_bytes.ensures.value c.in_ok-write_all.ensures) c.clear.ensures.bytes

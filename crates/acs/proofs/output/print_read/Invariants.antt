@@ -1,4 +1,4 @@
-use Rattle.std.proofs.Common.{◌≡◌, ◌-◌, length}
+use Rattle.std.proofs.Common.{◌≡◌, ◌-◌, ◌≤◌, length}
 use Rattle.std.specs.Prelude.{string_bytes}
 use Rattle.ac_util.specs.Device.{Writing}
 use Rattle.ac_automaton.specs.Streams.{matches_so_far}
@@ -12,6 +12,7 @@ invariant-loop-m g l =
     let told = g.W.Sink.told in
     record {
       same : l.finder ≡ record l.fn.finder { given = l.finder.given; kept = l.finder.kept };
+      onward : l.fn.finder.given ≤ l.finder.given;
       printing : (old : Writing) → PrintsSoFar l.fn.finder old (told l.fn.writer) (string_bytes l.fn.text) Found
           → PrintsSoFar l.finder old (told l.writer) (string_bytes l.text) Found;
     }

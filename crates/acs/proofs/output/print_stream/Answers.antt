@@ -1,7 +1,6 @@
-use Rattle.std.proofs.Common.{drop, refl, subst}
+use Rattle.std.proofs.Common.{drop, refl}
 use Rattle.std.specs.Prelude.{string_bytes}
-use Rattle.ac_automaton.specs.Streams.{GivesError, GivesNext, GivesNone, matches_so_far}
-use Rattle.ac_automaton.specs.declared.automaton.stream.Phase.{Phase}
+use Rattle.ac_automaton.specs.Streams.{GivesError, GivesNext, matches_so_far}
 use Rattle.acs.specs.declared.run.Outcome.TheVariants.{Found}
 use Rattle.acs.specs.Faults.{stream_fault_of}
 use Rattle.acs.specs.Printed.{FailsToPrintStream, HasPrintedRead}
@@ -13,7 +12,7 @@ use Rattle.acs.proofs.output.print_stream.Goals as goal
 pub loop-item-init : goal.loop-item-init
 loop-item-init g c =
     rw c.new-text.ensures.bytes
-    (print-begins c.args.finder.now (g.R.Source.told c.args.reader.now) (g.W.Sink.told c.args.writer.now)
+    (print-begins g.R.Source.empty_means_end c.args.finder.now (g.R.Source.told c.args.reader.now) (g.W.Sink.told c.args.writer.now)
     c.requires)
 
 -- a read has failed
@@ -35,7 +34,7 @@ returns-in_err-print_line g c =
     let read = g.R.Source.told in
     let wrote = g.W.Sink.told in
     let w = c.next.new.self in
-    let gives : GivesNext c.loop-item.finder c.in_ok-m.m w (read c.loop-item.reader) (read c.next.new.reader) =
+    let gives : GivesNext g.R.Source.empty_means_end c.loop-item.finder c.in_ok-m.m w (read c.loop-item.reader) (read c.next.new.reader) =
     rw c.in_ok-m.was at c.in-Some.ensures in
     refused-by c.from_residual-in_err-print_line.result c.in_err-print_line.field-0.0 _
     (FailsToPrintStream g.R.Source.empty_means_end c.args.finder.now.built (read c.args.reader.now)
@@ -51,7 +50,7 @@ loop-item-smaller g c =
     let read = g.R.Source.told in
     let wrote = g.W.Sink.told in
     let w = c.next.new.self in
-    let gives : GivesNext c.loop-item.finder c.in_ok-m.m w (read c.loop-item.reader) (read c.next.new.reader) =
+    let gives : GivesNext g.R.Source.empty_means_end c.loop-item.finder c.in_ok-m.m w (read c.loop-item.reader) (read c.next.new.reader) =
     rw c.in_ok-m.was at c.in-Some.ensures in
     let printed : HasPrintedRead w c.print_read.new.finder (wrote c.args.writer.now) (wrote c.print_read.new.writer)
     (string_bytes c.print_read.new.text) Found =
@@ -65,7 +64,7 @@ loop-item-preserved g c =
     let read = g.R.Source.told in
     let wrote = g.W.Sink.told in
     let w = c.next.new.self in
-    let gives : GivesNext c.loop-item.finder c.in_ok-m.m w (read c.loop-item.reader) (read c.next.new.reader) =
+    let gives : GivesNext g.R.Source.empty_means_end c.loop-item.finder c.in_ok-m.m w (read c.loop-item.reader) (read c.next.new.reader) =
     rw c.in_ok-m.was at c.in-Some.ensures in
     printed-more c.loop-item.invariant gives
     (c.in_ok-print_read.ensures (wrote c.args.writer.now)
@@ -78,7 +77,7 @@ returns-in_err-print_read g c =
     let read = g.R.Source.told in
     let wrote = g.W.Sink.told in
     let w = c.next.new.self in
-    let gives : GivesNext c.loop-item.finder c.in_ok-m.m w (read c.loop-item.reader) (read c.next.new.reader) =
+    let gives : GivesNext g.R.Source.empty_means_end c.loop-item.finder c.in_ok-m.m w (read c.loop-item.reader) (read c.next.new.reader) =
     rw c.in_ok-m.was at c.in-Some.ensures in
     refused-by c.from_residual-in_err-print_read.result c.in_err-print_read.field-0.0 _
     (FailsToPrintStream g.R.Source.empty_means_end c.args.finder.now.built (read c.args.reader.now)
@@ -91,8 +90,4 @@ returns-in_err-print_read g c =
 
 -- the end was met
 pub returns : goal.returns
-returns g c =
-    let read = g.R.Source.told in
-    stream-ends c.loop-item.invariant
-    (subst (λ (phase : Phase). GivesNone phase g.R.Source.empty_means_end c.loop-item.finder c.next.new.self
-    (read c.loop-item.reader) (read c.next.new.reader)) c.loop-item.invariant.goes_on c.in_default.ensures)
+returns g c = stream-ends c.loop-item.invariant _ _ c.in_default.ensures

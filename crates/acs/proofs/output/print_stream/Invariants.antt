@@ -6,7 +6,7 @@ use Rattle.acs.proofs.output.print_stream.Given as goal
 -- the lines of all matches so far are written
 abbrev pub invariant-loop-item : goal.invariant-loop-item
 invariant-loop-item g l =
-    IsPrintingStream l.fn.finder.built l.finder (g.R.Source.told l.fn.reader) (g.R.Source.told l.reader)
+    IsPrintingStream g.R.Source.empty_means_end l.fn.finder.built l.finder (g.R.Source.told l.fn.reader) (g.R.Source.told l.reader)
     (g.W.Sink.told l.fn.writer) (g.W.Sink.told l.writer) (string_bytes l.text) l.outcome
 
 abbrev pub decreases-loop-item : goal.decreases-loop-item

@@ -5,8 +5,8 @@ use Rattle.ac_util.specs.Node.{Node}
 use Rattle.ac_util.specs.Pick.{order_of}
 use Rattle.ac_util.proofs.SearchLoop.{GoesOn}
 use Rattle.ac_automaton.specs.declared.automaton.stream.Phase.TheVariants.{Ended}
-use Rattle.ac_automaton.specs.Finds.{FitsIn, IsAnswered}
-use Rattle.ac_automaton.specs.Scans.{IsAlive, ScanText, node}
+use Rattle.ac_automaton.specs.Finds.{IsAnswered}
+use Rattle.ac_automaton.specs.Scans.{IsAlive, ScanText}
 use Rattle.ac_automaton.specs.Streams.{HasReadOn, Inside, IsStreaming, Streaming}
 use Rattle.ac_automaton.proofs.FindAhead.{IsUnanswered, unanswered-unless}
 use Rattle.ac_automaton.proofs.StreamLoop.{fits-there, found-on, gives-next, gives-settled, goes-on-with, may-read, node_here, stays-on, stream_scan, stream_text, streams-anew, streams-on, tape-is}

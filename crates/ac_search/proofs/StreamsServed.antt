@@ -1,0 +1,158 @@
+-- The replacement of a stream by an engine that supports some starts of its searcher: what it leaves is the searcher's.
+use Rattle.std.proofs.Common.{◌≡◌, ◌∙◌, ◌+◌, ℕ, Bool, List, [], ◌∷◌, ap, sym, subst, inl, inr, Option, Some, None, Result, Ok, Err}
+use Rattle.std.specs.Prelude.{◌⊎◌, MatchResult, take}
+use Rattle.std.specs.Borrow.{Bor, MutBor}
+use Rattle.std.specs.Fn.{Mut}
+use Rattle.std.specs.declared.io.Error.{Error}
+use Rattle.ac_util.specs.declared.error.MatchError.{MatchError}
+use Rattle.ac_util.specs.declared.error.StreamError.{StreamError}
+use Rattle.ac_util.specs.declared.search.Anchored.TheVariants.{No}
+use Rattle.ac_util.specs.declared.search.MatchKind.{MatchKind}
+use Rattle.ac_util.specs.declared.search.MatchKind.TheVariants.{Standard, LeftmostFirst, LeftmostLongest}
+use Rattle.ac_util.specs.declared.search.StartKind.{StartKind}
+use Rattle.ac_util.specs.declared.search.StartKind.TheVariants.{Both}
+use Rattle.ac_util.specs.Built.{Built, stream_refusal}
+use Rattle.ac_util.specs.Device.{Reading, Writing}
+use Rattle.ac_util.specs.Occurrence.{Occurrence}
+use Rattle.ac_util.specs.Refusal.{start_refusal}
+use Rattle.ac_util.specs.Settled.{AreDecided, IsOpen, IsSettledAt, NoneOpen}
+use Rattle.ac_util.specs.StreamReplacing.{FailsToReplace, FailsToReplaceWith, IsSettledBy, IsStreamRefused, ReplacesStream, ReplacesStreamWith, StepsAreSettled, TextIsSettled}
+use Rattle.ac_search.proofs.Served.{stream-refusals}
+
+-- what a replacement with a closure leaves, by what the engine is known to be built from
+pub exchanged-as : {F D : Type 0} (told : D → Writing)
+    (closures : Mut F (Bor Occurrence × (Bor (List ℕ) × (MutBor D × Unit {0})))
+    (Result (Unit {0}) Error × (MutBor D × Unit {0}))) (closure : F) (writer new_writer : D) (unchanged : Type 0) (ends : Bool)
+    (reader new_reader : Reading) (r : Result (Unit {0}) StreamError) {built same : Built} → built ≡ same
+    → MatchResult r (λ _. (stream_refusal built ≡ None)
+    × ReplacesStreamWith told closures built closure writer ends reader new_reader new_writer)
+    (λ e. IsStreamRefused (stream_refusal built) unchanged e
+    ⊎ ((stream_refusal built ≡ None)
+    × FailsToReplaceWith told closures built closure writer ends reader new_reader new_writer e))
+    → MatchResult r (λ _. (stream_refusal same ≡ None)
+    × ReplacesStreamWith told closures same closure writer ends reader new_reader new_writer)
+    (λ e. IsStreamRefused (stream_refusal same) unchanged e
+    ⊎ ((stream_refusal same ≡ None)
+    × FailsToReplaceWith told closures same closure writer ends reader new_reader new_writer e))
+exchanged-as told closures closure writer new_writer unchanged ends reader new_reader r is h =
+    subst (λ (b : Built). MatchResult r (λ _. (stream_refusal b ≡ None)
+    × ReplacesStreamWith told closures b closure writer ends reader new_reader new_writer)
+    (λ e. IsStreamRefused (stream_refusal b) unchanged e
+    ⊎ ((stream_refusal b ≡ None)
+    × FailsToReplaceWith told closures b closure writer ends reader new_reader new_writer e))) is h
+
+module _ (engine : Built) (start_kind : StartKind) where
+  -- the searcher over the engine
+  abbrev searcher : Built
+  searcher = record engine { start_kind = start_kind }
+
+  none-open : (bytes : List ℕ) (from to : ℕ) → NoneOpen engine bytes from to → NoneOpen searcher bytes from to
+  none-open bytes from to none place onward before open' = none place onward before (record {
+    inside = open'.inside;
+    number = open'.number;
+    numbered = open'.numbered;
+    takes_part = open'.takes_part;
+    longer = open'.longer;
+    begins = open'.begins;
+  })
+
+  decided : (bytes : List ℕ) (from : ℕ) (ms : List Occurrence) (to : ℕ) → AreDecided engine bytes from ms to
+      → AreDecided searcher bytes from ms to
+  decided bytes from [] to none = none-open bytes from to none
+  decided bytes from (m ∷ ms) to all = (none-open bytes from (m.start + 1) all.0, decided bytes m.end ms to all.1)
+
+  -- the same settles a stream of either
+  pub settled-at : (bytes : List ℕ) (given place : ℕ) → IsSettledAt engine bytes given place → IsSettledAt searcher bytes given place
+  settled-at bytes given place h = record {
+    few = h.few;
+    within = h.within;
+    ended = h.ended;
+    later = h.later;
+    decided = decided bytes 0 _ place h.decided;
+  }
+
+  settled-by : (kind : MatchKind) (bytes : List ℕ) (given place : ℕ) → IsSettledBy kind engine bytes given place
+      → IsSettledBy kind searcher bytes given place
+  settled-by Standard bytes given place h = h
+  settled-by LeftmostFirst bytes given place h = settled-at bytes given place h
+  settled-by LeftmostLongest bytes given place h = settled-at bytes given place h
+
+  module _ (supports : (engine.start_kind ≡ Both) ⊎ (engine.start_kind ≡ start_kind))
+      (free : start_refusal start_kind No ≡ None) (unchanged : Type 0) (ends : Bool) (reader new_reader : Reading) where
+    refusals : stream_refusal searcher ≡ stream_refusal engine
+    refusals = stream-refusals engine start_kind supports free
+
+    -- with a list of texts
+    module _ (texts : List (List ℕ)) (writer new_writer : Writing) where
+      text : (kind : MatchKind) (bytes : List ℕ) → TextIsSettled engine texts writer new_writer kind bytes
+          → TextIsSettled searcher texts writer new_writer kind bytes
+      text Standard bytes h = h
+      text LeftmostFirst bytes h = (h.0, h.1, settled-at bytes h.0 h.1 h.2, h.3, h.4)
+      text LeftmostLongest bytes h = (h.0, h.1, settled-at bytes h.0 h.1 h.2, h.3, h.4)
+
+      pub replaced-served : (r : Result (Unit {0}) StreamError)
+          → MatchResult r (λ _. (stream_refusal engine ≡ None)
+          × ReplacesStream engine texts writer new_writer ends reader new_reader)
+          (λ e. IsStreamRefused (stream_refusal engine) unchanged e
+          ⊎ ((stream_refusal engine ≡ None) × FailsToReplace engine texts writer new_writer ends reader new_reader e))
+          → MatchResult r (λ _. (stream_refusal searcher ≡ None)
+          × ReplacesStream searcher texts writer new_writer ends reader new_reader)
+          (λ e. IsStreamRefused (stream_refusal searcher) unchanged e
+          ⊎ ((stream_refusal searcher ≡ None) × FailsToReplace searcher texts writer new_writer ends reader new_reader e))
+      replaced-served (Ok done) h = (refusals ∙ h.0, h.1)
+      replaced-served (Err e) (inl refused) =
+          inl (subst (λ (refusal : Option MatchError). IsStreamRefused refusal unchanged e) (sym refusals) refused)
+      replaced-served (Err e) (inr fails) = inr (
+        refusals ∙ fails.0,
+        (
+          fails.1.0,
+          elim fails.1.1 [
+            | inl read ↦ inl (read.0, text engine.kind fails.1.0 read.1)
+            | inr write ↦ inr write
+          ],
+        ),
+      )
+
+    -- with a closure
+    module _ {F D : Type 0} (told : D → Writing)
+        (closures : Mut F (Bor Occurrence × (Bor (List ℕ) × (MutBor D × Unit {0})))
+        (Result (Unit {0}) Error × (MutBor D × Unit {0}))) (closure : F) (writer new_writer : D) where
+      steps : (kind : MatchKind) (bytes : List ℕ)
+          → StepsAreSettled told closures engine closure writer kind bytes new_writer
+          → StepsAreSettled told closures searcher closure writer kind bytes new_writer
+      steps Standard bytes h = h
+      steps LeftmostFirst bytes h = (h.0, h.1, settled-at bytes h.0 h.1 h.2, h.3, h.4)
+      steps LeftmostLongest bytes h = (h.0, h.1, settled-at bytes h.0 h.1 h.2, h.3, h.4)
+
+      pub exchanged-served : (r : Result (Unit {0}) StreamError)
+          → MatchResult r (λ _. (stream_refusal engine ≡ None)
+          × ReplacesStreamWith told closures engine closure writer ends reader new_reader new_writer)
+          (λ e. IsStreamRefused (stream_refusal engine) unchanged e
+          ⊎ ((stream_refusal engine ≡ None)
+          × FailsToReplaceWith told closures engine closure writer ends reader new_reader new_writer e))
+          → MatchResult r (λ _. (stream_refusal searcher ≡ None)
+          × ReplacesStreamWith told closures searcher closure writer ends reader new_reader new_writer)
+          (λ e. IsStreamRefused (stream_refusal searcher) unchanged e
+          ⊎ ((stream_refusal searcher ≡ None)
+          × FailsToReplaceWith told closures searcher closure writer ends reader new_reader new_writer e))
+      exchanged-served (Ok done) h = (refusals ∙ h.0, h.1)
+      exchanged-served (Err e) (inl refused) =
+          inl (subst (λ (refusal : Option MatchError). IsStreamRefused refusal unchanged e) (sym refusals) refused)
+      exchanged-served (Err e) (inr fails) = inr (
+        refusals ∙ fails.0,
+        (
+          fails.1.0,
+          elim fails.1.1 [
+            | inl read ↦ inl (read.0, steps engine.kind fails.1.0 read.1)
+            | inr stopped ↦ inr (
+              stopped.0,
+              stopped.1,
+              elim stopped.2 [
+                | inl some ↦ inl (some.0, settled-by engine.kind fails.1.0 stopped.0 stopped.1 some.1)
+                | inr whole ↦ inr whole
+              ],
+              stopped.3,
+            )
+          ],
+        ),
+      )
