@@ -1,4 +1,7 @@
 //! Streams under the leftmost kinds: what is given, what is kept, and what is written where a reader fails.
+ghost use Rattle.std.specs.Prelude.{◌≡◌, IfOk};
+ghost use Rattle.ac_util.specs.Borrowed.{bytes_of};
+
 use super::engines::KINDS;
 use super::same;
 use super::stream::{ALWAYS, End, Few, Pieces, end_of, told_of};
@@ -24,7 +27,9 @@ fn searcher_by(
     patterns: &[&[u8]],
     match_kind: MatchKind,
     engine: Option<AhoCorasickKind>,
-) -> Result<AhoCorasick, Fail> {
+) -> Result<AhoCorasick, Fail>
+    ensures { IfOk result (λ searcher. searcher.built.patterns ≡ bytes_of patterns.now) }
+{
     let mut builder = AhoCorasickBuilder::new();
     builder.match_kind(match_kind).kind(engine);
     Ok(builder.build(rt.alloc(), patterns)?)
@@ -131,7 +136,7 @@ fn what_is_settled_is_written(rt: HostRuntime) -> Result<(), Fail> {
                 rt.alloc(),
                 &mut reader,
                 &mut writer,
-                TEXTS.get(..searcher.patterns_len()).unwrap_or(&[]),
+                &TEXTS,
             );
             same(
                 &rt,

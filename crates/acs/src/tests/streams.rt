@@ -138,21 +138,19 @@ impl<'a> Wanted<'a> {
         (near && later >= place && !self.is_open_between(ended, place)).then_some(given)
     }
 
-    /// Returns whether this is the replaced text up to a place, with so many matches exchanged.
-    fn is_text_up_to(&self, mut text: &[u8], given: usize, place: usize) -> bool {
+    /// Returns the replaced text up to a place, with so many matches exchanged.
+    fn text_up_to(&self, alloc: Global, given: usize, place: usize) -> Result<Vec<u8>, Fail> {
+        let mut text = Vec::new(alloc);
         let mut from = 0;
         for m in self.walk.iter().take(given) {
-            let gap = self.stream.get(from..m.start()).unwrap_or(&[]);
-            let exchanged = TEXTS.get(m.pattern().as_usize()).copied().unwrap_or(&[]);
-            let Some(behind) = text.strip_prefix(gap) else {
-                return false;
-            };
-            let Some(rest) = behind.strip_prefix(exchanged) else {
-                return false;
-            };
-            (text, from) = (rest, m.end());
+            text.extend_from_slice(self.stream.get(from..m.start()).unwrap_or(&[]))?;
+            if let Some(exchanged) = TEXTS.get(m.pattern().as_usize()) {
+                text.extend_from_slice(exchanged)?;
+            }
+            from = m.end();
         }
-        Some(text) == self.stream.get(from..place)
+        text.extend_from_slice(self.stream.get(from..place).unwrap_or(&[]))?;
+        Ok(text)
     }
 }
 
@@ -210,20 +208,20 @@ fn writes(
     );
     Ok(match ended {
         Ok(()) => !fails && writer.bytes() == wanted.replaced.as_slice(),
-        Err(StreamError::Io(_)) => fails && is_settled_text(wanted, writer.bytes()),
+        Err(StreamError::Io(_)) => fails && is_settled_text(alloc, wanted, writer.bytes())?,
         Err(_) => false,
     })
 }
 
 /// Returns whether this is the replaced text up to a place up to which the stream is settled.
-fn is_settled_text(wanted: &Wanted<'_>, text: &[u8]) -> bool {
+fn is_settled_text(alloc: Global, wanted: &Wanted<'_>, text: &[u8]) -> Result<bool, Fail> {
     let mut settled = false;
     for place in 0..wanted.stream.len().saturating_add(1) {
         if let Some(given) = wanted.settled_at(place) {
-            settled = settled || wanted.is_text_up_to(text, given, place);
+            settled = settled || wanted.text_up_to(alloc, given, place)?.as_slice() == text;
         }
     }
-    settled
+    Ok(settled)
 }
 
 /// Compares a searcher with the plain search over a stream that is cut in every way, and ends or fails.
