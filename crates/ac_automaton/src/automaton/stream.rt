@@ -1,5 +1,5 @@
 //! The search of a stream: what a reader gives is read into a buffer, and its matches are given one after another.
-ghost use Rattle.std.specs.Prelude.{◌≡◌, ◌≤◌, ◌<◌, ◌+◌, ◌-◌, ◌*◌, MatchResult, None, drop, if◌then◌else◌, length, max, min, slice_range, take, ⊤};
+ghost use Rattle.std.specs.Prelude.{◌≡◌, ◌≢◌, ◌⊎◌, ◌≤◌, ◌<◌, ◌+◌, ◌-◌, ◌*◌, MatchOption, MatchResult, None, Some, drop, false, true, if◌then◌else◌, length, max, min, slice_range, take, ⊤};
 ghost use Rattle.ac_util.specs.Built.{stream_refusal};
 ghost use Rattle.ac_util.specs.Device.{Reads};
 ghost use Rattle.ac_util.specs.StreamReplacing.{IsNear, IsStreamRefused};
@@ -211,11 +211,8 @@ impl<'a, A: Automaton, Z: Allocator> StreamFinder<'a, A, Z> {
                 picked = found;
             }
         }
-        let settled = self.stops
-            || matches!(self.phase, Phase::Ended)
-            || self.automaton.is_dead(state);
-        let given = if settled { picked } else { None };
-        match given {
+        let dead = self.automaton.is_dead(state);
+        match settled_match(picked, self.stops, dead, self.phase) {
             Some(found) => {
                 self.state = self.start;
                 self.at = found.end() - self.front;
@@ -329,6 +326,20 @@ fn read_behind<R: Source>(reader: &mut R, buffer: &mut [u8], filled: usize) -> i
     ensures reads { Reads R.empty_means_end (R.told reader.old) (R.told reader.new) result (drop filled buffer.new) }
 {
     reader.read_some(&mut buffer[filled..])
+}
+
+/// Returns what a search picks so far, where it is settled: the first match found counts, nothing more is found, or the end was
+/// met.
+fn settled_match(picked: Option<Match>, stops: bool, dead: bool, phase: Phase) -> Option<Match>
+    ensures { MatchOption result
+        ((picked ≡ None) ⊎ ((stops ≡ false) × (dead ≡ false) × (phase ≢ Ended)))
+        (λ m. (picked ≡ Some m) × ((stops ≡ true) ⊎ ((dead ≡ true) ⊎ (phase ≡ Ended)))) }
+{
+    if stops || dead || matches!(phase, Phase::Ended) {
+        picked
+    } else {
+        None
+    }
 }
 
 /// Returns as far as where nothing is kept once all matches of the bytes read that are settled were given.

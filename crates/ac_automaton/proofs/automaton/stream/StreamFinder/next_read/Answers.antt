@@ -1,4 +1,4 @@
-use Rattle.std.proofs.Common.{◌≡◌, ◌≢◌, ◌⊎◌, ◌∙◌, ◌+◌, ◌-◌, ◌<◌, ◌≤◌, Bool, true, false, List, ℕ, Some, None, inl, inr, refl, length, sym, ap, subst, arith}
+use Rattle.std.proofs.Common.{◌≡◌, ◌≢◌, ◌⊎◌, ◌↔◌, ◌∙◌, ◌+◌, ◌-◌, ◌<◌, ◌≤◌, Bool, true, false, List, ℕ, None, inl, inr, refl, length, sym, ap, subst, arith}
 use Rattle.std.proofs.lemmas.Bool.{false≢true}
 use Rattle.ac_util.specs.declared.search.Anchored.TheVariants.{No}
 use Rattle.ac_util.specs.Node.{Node}
@@ -11,7 +11,7 @@ use Rattle.ac_automaton.specs.Streams.{HasReadOn, Inside, IsStreaming, Streaming
 use Rattle.ac_automaton.proofs.FindAhead.{IsUnanswered, unanswered-unless}
 use Rattle.ac_automaton.proofs.StreamLoop.{fits-there, found-on, gives-next, gives-settled, goes-on-with, may-read, node_here, stays-on, stream_scan, stream_text, streams-anew, streams-on, tape-is}
 use Rattle.ac_automaton.proofs.automaton.stream.StreamFinder.next_read.Given.{Over}
-use Rattle.ac_automaton.proofs.automaton.stream.StreamFinder.next_read.Goals.{After-is_decided, else-matches, else-self+in-Ended, else-self+in_default, else-settled, then-matches, then-self, then-settled}
+use Rattle.ac_automaton.proofs.automaton.stream.StreamFinder.next_read.Goals.{After-is_decided}
 use Rattle.ac_automaton.proofs.automaton.stream.StreamFinder.next_read.Goals as goal
 
 pub is_decided-requires : goal.is_decided-requires
@@ -185,9 +185,9 @@ loop-scanner-preserved g c =
           h (inv.reads i v is h buffer filled state at picked);
     }
 
-pub is_dead-settled-requires : goal.is_dead-settled-requires
-is_dead-settled-requires g c =
-    let d = (goal.at.is_dead-settled-requires g c).After-is_decided in
+pub is_dead-dead-requires : goal.is_dead-dead-requires
+is_dead-dead-requires g c =
+    let d = (goal.at.is_dead-dead-requires g c).After-is_decided in
     record { state = (No, (_, (on-now g d).is_at.there)) }
 
 -- where the search has its answer in what was read
@@ -201,124 +201,63 @@ module _ (g : Over) (c : After-is_decided g) where
       → IsAnswered c.self.inside.stops c.self.inside.filled c.loop-scanner.at node_now c.loop-scanner.picked
   answered decided = (c.is_decided.ensures _ (on-now g c).is_at.there).0 decided
 
-  -- why a match that is picked is settled, and why none is
-  abbrev IsCause : Type 0
-  IsCause = (c.self.inside.stops ≡ true) ⊎ ((node_now ≡ None) ⊎ (c.self.inside.phase ≡ Ended))
+  module _ (dead : Bool) (tells : (u : Node) → stands g c c.loop-scanner.state u → (dead ≡ true) ↔ (u ≡ None)) where
+    -- why a match that is picked is settled, and why none is, by the node
+    cause : (c.self.inside.stops ≡ true) ⊎ ((dead ≡ true) ⊎ (c.self.inside.phase ≡ Ended))
+        → (c.self.inside.stops ≡ true) ⊎ ((node_now ≡ None) ⊎ (c.self.inside.phase ≡ Ended))
+    cause (inl first) = inl first
+    cause (inr (inl gone)) = inr (inl ((tells _ (on-now g c).is_at.there).0 gone))
+    cause (inr (inr ended)) = inr (inr ended)
 
-  abbrev IsOpen : Type 0
-  IsOpen = (c.self.inside.stops ≡ false) × (node_now ≢ None) × (c.self.inside.phase ≢ Ended)
+    open-still : (c.loop-scanner.picked ≡ None)
+        ⊎ ((c.self.inside.stops ≡ false) × (dead ≡ false) × (c.self.inside.phase ≢ Ended))
+        → (c.loop-scanner.picked ≡ None)
+        ⊎ ((c.self.inside.stops ≡ false) × (node_now ≢ None) × (c.self.inside.phase ≢ Ended))
+    open-still (inl none) = inl none
+    open-still (inr still) = inr (
+      still.0,
+      (λ gone. false≢true (sym still.1 ∙ (tells _ (on-now g c).is_at.there).1 gone)),
+      still.2,
+    )
 
 pub overflow_sub-self : goal.overflow_sub-self
 overflow_sub-self g c =
     let d = (goal.at.overflow_sub-self g c).After-is_decided in
-    let is : c.loop-scanner.picked ≡ Some c.in-Some.found = elim c.if-settled.branch [
-      | then-settled w ↦ sym w.given-is ∙ c.in-Some.is
-      | else-settled w ↦ absurd (let none : None ≡ Some c.in-Some.found = sym w.given-is ∙ c.in-Some.is in cc)
-    ] in
-    let cause : IsCause g d = elim c.if-settled.branch [
-      | else-settled w ↦ absurd (let none : None ≡ Some c.in-Some.found = sym w.given-is ∙ c.in-Some.is in cc)
-      | then-settled w ↦ elim c.if-matches.branch [
-        | then-matches x ↦ elim c.if-self.branch [
-          | then-self y ↦ inl y.if-self.true
-          | else-self+in-Ended y ↦ inr (inr y.in-Ended.is)
-          | else-self+in_default y ↦ absurd (false≢true (sym y.value-is ∙ x.if-matches.true))
-        ]
-        | else-matches x ↦
-            inr (inl ((x.is_dead-settled.ensures No _ (on-now g d).is_at.there).0 (sym x.settled-is ∙ w.if-settled.true)))
-      ]
-    ] in
-    let gives = gives-next (stands g d) (listed g d) g.A.Automaton.LOOKS (filters g d) (inside g d) (seen g d) c.self.invariant _ _ _ (on-now g d) (answered g d c.loop-scanner-test.false)
-    c.in-Some.found is cause _ _ _ _ refl refl refl refl in
+    let gives = gives-next (stands g d) (listed g d) g.A.Automaton.LOOKS (filters g d) (inside g d) (seen g d) c.self.invariant
+    _ _ _ (on-now g d) (answered g d c.loop-scanner-test.false) c.in-Some.found c.in-Some.ensures.0
+    (cause g d c.is_dead-dead.result (c.is_dead-dead.ensures No) c.in-Some.ensures.1) _ _ _ _ refl refl refl refl in
     let after = gives.after in let ordered = gives.ordered in let front = c.self.invariant.in_buffer in
     let end = c.end.ensures in omega arith
 
 pub invariant_of-self : goal.invariant_of-self
 invariant_of-self g c =
     let d = (goal.at.invariant_of-self g c).After-is_decided in
-    let is : c.loop-scanner.picked ≡ Some c.in-Some.found = elim c.if-settled.branch [
-      | then-settled w ↦ sym w.given-is ∙ c.in-Some.is
-      | else-settled w ↦ absurd (let none : None ≡ Some c.in-Some.found = sym w.given-is ∙ c.in-Some.is in cc)
-    ] in
-    let cause : IsCause g d = elim c.if-settled.branch [
-      | else-settled w ↦ absurd (let none : None ≡ Some c.in-Some.found = sym w.given-is ∙ c.in-Some.is in cc)
-      | then-settled w ↦ elim c.if-matches.branch [
-        | then-matches x ↦ elim c.if-self.branch [
-          | then-self y ↦ inl y.if-self.true
-          | else-self+in-Ended y ↦ inr (inr y.in-Ended.is)
-          | else-self+in_default y ↦ absurd (false≢true (sym y.value-is ∙ x.if-matches.true))
-        ]
-        | else-matches x ↦
-            inr (inl ((x.is_dead-settled.ensures No _ (on-now g d).is_at.there).0 (sym x.settled-is ∙ w.if-settled.true)))
-      ]
-    ] in
-    streams-anew (stands g d) (listed g d) g.A.Automaton.LOOKS (filters g d) (inside g d) (seen g d) c.self.invariant _ _ _ (on-now g d) (answered g d c.loop-scanner-test.false) c.in-Some.found is
-    cause _ _ _ _ (ap (λ (n : ℕ). n - c.self.inside.front) c.end.ensures) (c.of.ensures ∙ c.end-in-Some.ensures)
+    streams-anew (stands g d) (listed g d) g.A.Automaton.LOOKS (filters g d) (inside g d) (seen g d) c.self.invariant _ _ _
+    (on-now g d) (answered g d c.loop-scanner-test.false) c.in-Some.found c.in-Some.ensures.0
+    (cause g d c.is_dead-dead.result (c.is_dead-dead.ensures No) c.in-Some.ensures.1) _ _ _ _
+    (ap (λ (n : ℕ). n - c.self.inside.front) c.end.ensures) (c.of.ensures ∙ c.end-in-Some.ensures)
     c.end-self-inside.ensures c.after-self-inside.ensures
 
 pub returns-in-Some : goal.returns-in-Some
 returns-in-Some g c =
     let d = (goal.at.returns-in-Some g c).After-is_decided in
-    let is : c.loop-scanner.picked ≡ Some c.in-Some.found = elim c.if-settled.branch [
-      | then-settled w ↦ sym w.given-is ∙ c.in-Some.is
-      | else-settled w ↦ absurd (let none : None ≡ Some c.in-Some.found = sym w.given-is ∙ c.in-Some.is in cc)
-    ] in
-    let cause : IsCause g d = elim c.if-settled.branch [
-      | else-settled w ↦ absurd (let none : None ≡ Some c.in-Some.found = sym w.given-is ∙ c.in-Some.is in cc)
-      | then-settled w ↦ elim c.if-matches.branch [
-        | then-matches x ↦ elim c.if-self.branch [
-          | then-self y ↦ inl y.if-self.true
-          | else-self+in-Ended y ↦ inr (inr y.in-Ended.is)
-          | else-self+in_default y ↦ absurd (false≢true (sym y.value-is ∙ x.if-matches.true))
-        ]
-        | else-matches x ↦
-            inr (inl ((x.is_dead-settled.ensures No _ (on-now g d).is_at.there).0 (sym x.settled-is ∙ w.if-settled.true)))
-      ]
-    ] in
-    rw (← c.self.view_is) (gives-next (stands g d) (listed g d) g.A.Automaton.LOOKS (filters g d) (inside g d) (seen g d) c.self.invariant _ _ _ (on-now g d)
-    (answered g d c.loop-scanner-test.false) c.in-Some.found is cause _ _ _ _
+    rw (← c.self.view_is) (gives-next (stands g d) (listed g d) g.A.Automaton.LOOKS (filters g d) (inside g d) (seen g d)
+    c.self.invariant _ _ _ (on-now g d) (answered g d c.loop-scanner-test.false) c.in-Some.found c.in-Some.ensures.0
+    (cause g d c.is_dead-dead.result (c.is_dead-dead.ensures No) c.in-Some.ensures.1) _ _ _ _
     (ap (λ (n : ℕ). n - c.self.inside.front) c.end.ensures) (c.of.ensures ∙ c.end-in-Some.ensures)
     c.end-self-inside.ensures c.after-self-inside.ensures)
 
 pub invariant_of-self-2 : goal.invariant_of-self-2
 invariant_of-self-2 g c =
     let d = (goal.at.invariant_of-self-2 g c).After-is_decided in
-    let open-pick : (c.loop-scanner.picked ≡ None) ⊎ IsOpen g d = elim c.if-settled.branch [
-      | then-settled w ↦ inl (sym w.given-is ∙ c.in-None.is)
-      | else-settled w ↦ inr (elim c.if-matches.branch [
-        | then-matches x ↦ absurd (false≢true (sym w.if-settled.false ∙ x.settled-is ∙ x.if-matches.true))
-        | else-matches x ↦ elim c.if-self.branch [
-          | then-self y ↦ absurd (false≢true (sym x.if-matches.false ∙ y.value-is ∙ y.if-self.true))
-          | else-self+in-Ended y ↦ absurd (false≢true (sym x.if-matches.false ∙ y.value-is))
-          | else-self+in_default y ↦ (
-            y.if-self.false,
-            (λ dead. false≢true (sym w.if-settled.false ∙ x.settled-is
-                ∙ (x.is_dead-settled.ensures No _ (on-now g d).is_at.there).1 dead)),
-            y.in_default.not-Ended,
-          )
-        ]
-      ])
-    ] in
-    streams-on (stands g d) (listed g d) g.A.Automaton.LOOKS (filters g d) (inside g d) (seen g d) c.self.invariant _ _ _ (on-now g d) (answered g d c.loop-scanner-test.false) open-pick _
-    c.settled_from-self-inside.ensures
+    streams-on (stands g d) (listed g d) g.A.Automaton.LOOKS (filters g d) (inside g d) (seen g d) c.self.invariant _ _ _
+    (on-now g d) (answered g d c.loop-scanner-test.false)
+    (open-still g d c.is_dead-dead.result (c.is_dead-dead.ensures No) c.in-None.ensures) _ c.settled_from-self-inside.ensures
 
 pub returns : goal.returns
 returns g c =
     let d = (goal.at.returns g c).After-is_decided in
-    let open-pick : (c.loop-scanner.picked ≡ None) ⊎ IsOpen g d = elim c.if-settled.branch [
-      | then-settled w ↦ inl (sym w.given-is ∙ c.in-None.is)
-      | else-settled w ↦ inr (elim c.if-matches.branch [
-        | then-matches x ↦ absurd (false≢true (sym w.if-settled.false ∙ x.settled-is ∙ x.if-matches.true))
-        | else-matches x ↦ elim c.if-self.branch [
-          | then-self y ↦ absurd (false≢true (sym x.if-matches.false ∙ y.value-is ∙ y.if-self.true))
-          | else-self+in-Ended y ↦ absurd (false≢true (sym x.if-matches.false ∙ y.value-is))
-          | else-self+in_default y ↦ (
-            y.if-self.false,
-            (λ dead. false≢true (sym w.if-settled.false ∙ x.settled-is
-                ∙ (x.is_dead-settled.ensures No _ (on-now g d).is_at.there).1 dead)),
-            y.in_default.not-Ended,
-          )
-        ]
-      ])
-    ] in
-    rw (← c.self.view_is) (gives-settled (stands g d) (listed g d) g.A.Automaton.LOOKS (filters g d) (inside g d) (seen g d) c.self.invariant _ _ _ (on-now g d)
-    (answered g d c.loop-scanner-test.false) open-pick _ c.settled_from-self-inside.ensures)
+    rw (← c.self.view_is) (gives-settled (stands g d) (listed g d) g.A.Automaton.LOOKS (filters g d) (inside g d) (seen g d)
+    c.self.invariant _ _ _ (on-now g d) (answered g d c.loop-scanner-test.false)
+    (open-still g d c.is_dead-dead.result (c.is_dead-dead.ensures No) c.in-None.ensures) _
+    c.settled_from-self-inside.ensures)
