@@ -1,6 +1,6 @@
 -- The replacement of a stream by an engine that supports some starts of its searcher: what it leaves is the searcher's.
-use Rattle.std.proofs.Common.{◌≡◌, ◌∙◌, ◌+◌, ℕ, Bool, List, [], ◌∷◌, ap, sym, subst, inl, inr, Option, Some, None, Result, Ok, Err}
-use Rattle.std.specs.Prelude.{◌⊎◌, MatchResult, take}
+use Rattle.std.proofs.Common.{◌≡◌, ◌∙◌, ◌+◌, ℕ, Bool, List, [], ◌∷◌, sym, subst, inl, inr, Option, None, Result, Ok, Err}
+use Rattle.std.specs.Prelude.{◌⊎◌, MatchResult}
 use Rattle.std.specs.Borrow.{Bor, MutBor}
 use Rattle.std.specs.Fn.{Mut}
 use Rattle.std.specs.declared.io.Error.{Error}
@@ -15,7 +15,7 @@ use Rattle.ac_util.specs.Built.{Built, stream_refusal}
 use Rattle.ac_util.specs.Device.{Reading, Writing}
 use Rattle.ac_util.specs.Occurrence.{Occurrence}
 use Rattle.ac_util.specs.Refusal.{start_refusal}
-use Rattle.ac_util.specs.Settled.{AreDecided, IsOpen, IsSettledAt, NoneOpen}
+use Rattle.ac_util.specs.Settled.{AreDecided, IsSettledAt, NoneOpen}
 use Rattle.ac_util.specs.StreamReplacing.{FailsToReplace, FailsToReplaceWith, IsSettledBy, IsStreamRefused, ReplacesStream, ReplacesStreamWith, StepsAreSettled, TextIsSettled}
 use Rattle.ac_search.proofs.Served.{stream-refusals}
 
