@@ -16,7 +16,7 @@ module _ (ends : Bool) (old between new : Streaming) (reader new_reader : Readin
     (read : between
     ≡ record old { bytes = old.bytes ++ more; front = between.front; kept = between.kept; phase = Ended })
     (reads : GoesOnBy ends old.phase Ended reader new_reader more) (keeps : KeepsGiven old (old.bytes ++ more))
-    (early : old.built.kind ≡ Standard → old.phase ≡ Open → old.given ≡ length (streamed old.built (old.bytes ++ more))) where
+    (early : old.built.kind ≡ Standard → old.given ≡ length (streamed old.built (old.bytes ++ more))) where
   -- all matches were given
   ends-now : HasGivenSettled between new → EndsNow ends old new reader new_reader
   ends-now done =
@@ -46,9 +46,9 @@ module _ (ends : Bool) (old between new : Streaming) (reader new_reader : Readin
       record {
         more = more;
         reads = subst (λ (p : Phase). GoesOnBy ends old.phase p reader new_reader more) (sym ended) reads;
-        early = λ standard open'.
+        early = λ standard.
             let within = slice_get_within (streamed old.built (old.bytes ++ more)) old.given m next in
-            let all = early standard open' in absurd (omega arith);
+            let all = early standard in absurd (omega arith);
         given = keeps;
         next = next;
         counted = gives.counted;

@@ -24,7 +24,7 @@ use Rattle.ac_automaton.specs.declared.automaton.stream.Phase.{Phase}
 use Rattle.ac_automaton.specs.declared.automaton.stream.Phase.TheVariants.{Ended, Failed, Open}
 use Rattle.ac_automaton.specs.Progress.{Reaches}
 use Rattle.ac_automaton.specs.Scans.{Scan, in_memory}
-use Rattle.ac_automaton.specs.Streams.{HasGiven, HasGivenSettled, Inside, IsStreaming, KeepsGiven, Streaming, matches_so_far, most_kept, stream_begun, stream_from}
+use Rattle.ac_automaton.specs.Streams.{GivesEarly, HasGiven, HasGivenSettled, Inside, IsStreaming, KeepsGiven, Streaming, matches_so_far, most_kept, stream_begun, stream_from}
 use Rattle.ac_automaton.proofs.ReadOn.{at-start}
 use Rattle.ac_automaton.proofs.StreamLoop.{allowed-some, node-longer, picked-nothing, scan}
 
@@ -72,6 +72,7 @@ module _ (stands : ℕ → Node → Type 0) (built : Built) (allowed : stream_re
       after = tt;
     };
     given = record { matches = []; count = refl; end = refl; last = None; walks = λ more last. refl };
+    all = λ ended. absurd (cc);
     few = omega arith;
     in_buffer = omega arith;
     after = omega arith;
@@ -184,6 +185,7 @@ module _ (stands : ℕ → Node → Type 0) (i : Inside) (v : Streaming) (inv : 
           after = inv.searched.after;
         };
         given = inv.given;
+        all = inv.all;
         few = inv.few;
         in_buffer = omega arith;
         after = inv.after;
@@ -223,9 +225,9 @@ module _ (stands : ℕ → Node → Type 0) (i : Inside) (v : Streaming) (inv : 
     back-open : v.kept ≤ max i.begun (v.front + i.at - i.reserve)
     back-open = elim inv.back [ inl back ↦ back | inr ended ↦ absurd (goes-on ended.0) ]
 
-    pub streams-as : (phase : Phase) → IsStreaming stands (record i { buffer = buffer })
+    pub streams-as : (phase : Phase) → (phase ≡ Ended → GivesEarly v) → IsStreaming stands (record i { buffer = buffer })
         (record v { phase = phase; buffer = length buffer })
-    streams-as phase = record {
+    streams-as phase early = record {
       allowed = inv.allowed;
       starts = inv.starts;
       stops = inv.stops;
@@ -251,6 +253,7 @@ module _ (stands : ℕ → Node → Type 0) (i : Inside) (v : Streaming) (inv : 
         last = inv.given.last;
         walks = λ more last. inv.given.walks more (λ ended. absurd (goes-on ended));
       };
+      all = early;
       few = inv.few;
       in_buffer = inv.in_buffer;
       after = inv.after;
@@ -295,6 +298,7 @@ module _ (stands : ℕ → Node → Type 0) (i : Inside) (v : Streaming) (inv : 
               after = inv.searched.after;
             };
             given = given-longer stands v.built v.bytes more i.begun v.phase v.given goes-on inv.given;
+            all = λ ended. absurd (goes-on ended);
             few = inv.few;
             in_buffer = inv.in_buffer;
             after = inv.after;

@@ -656,6 +656,9 @@ module _ (stands : ℕ → Node → Type 0) (listed : ℕ → List ℕ) (most : 
                 last = Some m.end;
                 walks = walks-on;
               };
+              all = λ ended standard.
+                  let none = inv.all ended standard in
+                  let within = slice_get_within (streamed v.built v.bytes) v.given m next-there in absurd (omega arith);
               few = (let f = inv.few in let l = occurs.from_low in let o = occurs.as_long in let s = some-bytes in
                   omega arith);
               in_buffer = (let k = inv.in_buffer in omega arith);
@@ -865,6 +868,7 @@ module _ (stands : ℕ → Node → Type 0) (listed : ℕ → List ℕ) (most : 
                     after = so.after;
                   };
                   given = inv.given;
+                  all = inv.all;
                   few = inv.few;
                   in_buffer = (let b = inv.in_buffer in let o = so.onward in omega arith);
                   after = (let b = inv.after in let o = so.onward in omega arith);

@@ -130,7 +130,7 @@ pub record GivesNext (ends : Bool) (old : Streaming) (m : Occurrence) (new : Str
     : Type 0 where
   pub more : List ℕ
   pub reads : GoesOnBy ends old.phase new.phase reader new_reader more
-  pub early : old.built.kind ≡ Standard → old.phase ≡ Open → new.phase ≡ Open
+  pub early : old.built.kind ≡ Standard → new.phase ≡ Open
   pub given : KeepsGiven old (old.bytes ++ more)
   pub next : slice_get (streamed old.built (old.bytes ++ more)) old.given ≡ Some m
   pub counted : new.given ≤ 18446744073709551615
@@ -224,6 +224,10 @@ pub record HasGiven (phase : Phase) (built : Built) (bytes : List ℕ) (given be
   pub walks : (more : List ℕ) → (phase ≡ Ended → more ≡ [])
       → streamed built (bytes ++ more) ≡ matches ++ walk_after built.kind (stream_from built (bytes ++ more) begun) last
 
+-- under Standard all matches of what was read were given
+abbrev pub GivesEarly : Streaming → Type 0
+GivesEarly v = v.built.kind ≡ Standard → v.given ≡ length (matches_so_far v)
+
 -- a search that picks has read on in the buffer to a place: its state there, and what it picks so far, which starts behind what
 -- isn't kept any more
 pub record HasReadOn (stands : ℕ → Node → Type 0) (i : Inside) (v : Streaming) (state at : ℕ) (picked : Option Occurrence)
@@ -249,6 +253,7 @@ pub record IsStreaming (stands : ℕ → Node → Type 0) (i : Inside) (v : Stre
   pub holds : take i.filled i.buffer ≡ drop v.front v.bytes
   pub searched : HasReadOn stands i v i.state i.at i.picked
   pub given : HasGiven v.phase v.built v.bytes v.given i.begun
+  pub all : v.phase ≡ Ended → GivesEarly v
   pub few : v.given ≤ i.begun
   pub in_buffer : v.front ≤ v.kept
   pub after : i.begun ≤ v.kept

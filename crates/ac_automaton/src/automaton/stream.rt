@@ -4,7 +4,7 @@ ghost use Rattle.ac_util.specs.Built.{stream_refusal};
 ghost use Rattle.ac_util.specs.Device.{Reads};
 ghost use Rattle.ac_util.specs.StreamReplacing.{IsNear, IsStreamRefused};
 ghost use Rattle.ac_automaton.specs.declared.automaton.stream.Phase.TheVariants.{Ended, Open};
-ghost use Rattle.ac_automaton.specs.Streams.{Fills, GivesLast, GivesRead, StreamsOn, kept_from, kept_len, stream_begun};
+ghost use Rattle.ac_automaton.specs.Streams.{Fills, GivesEarly, GivesLast, GivesRead, StreamsOn, kept_from, kept_len, stream_begun};
 
 use super::Automaton;
 use super::scan::{Cursor, Scanner};
@@ -231,13 +231,14 @@ impl<'a, A: Automaton, Z: Allocator> StreamFinder<'a, A, Z> {
     }
 
     /// Reads more bytes into the buffer, and returns whether some came: else the end was met. No more bytes may be kept than the
-    /// longest pattern has.
+    /// longest pattern has, and under `MatchKind::Standard` all matches of what was read have to be given.
     ///
     /// # Errors
     /// `Io` where the read failed, and `TooLong` where more bytes have come than a `usize` counts: its bytes aren't searched.
     pub(super) fn fill<R: Source>(&mut self, reader: &mut R) -> Result<bool, StreamError>
         requires goes_on { self.old.phase ≡ Open }
         requires near { IsNear self.old.built self.old.bytes self.old.kept }
+        requires early { GivesEarly self.old }
         ensures { Fills R.empty_means_end self.old result self.new (R.told reader.old) (R.told reader.new) }
     {
         self.make_room();

@@ -7,7 +7,7 @@ use Rattle.ac_util.specs.StreamReplacing.{IsNear}
 use Rattle.ac_util.proofs.Devices.{fails-on, reads-on}
 use Rattle.ac_automaton.specs.declared.automaton.stream.Phase.{Phase}
 use Rattle.ac_automaton.specs.declared.automaton.stream.Phase.TheVariants.{Ended, Open}
-use Rattle.ac_automaton.specs.Streams.{FillsMore, GoesOnBy, HasGivenSettled, IsSettledIn, MeetsEnd, Streaming}
+use Rattle.ac_automaton.specs.Streams.{FillsMore, GivesEarly, GoesOnBy, HasGivenSettled, IsSettledIn, MeetsEnd, Streaming}
 use Rattle.ac_automaton.proofs.StreamEnds.{gives-last}
 use Rattle.ac_automaton.proofs.StreamFilling.{failed-as, read-as, stays-given}
 use Rattle.ac_automaton.proofs.automaton.stream.StreamFinder.next.Goals as goal
@@ -35,7 +35,9 @@ returns-in-Ended g c =
     (subst (λ (p : Phase). GoesOnBy g.R.Source.empty_means_end p Ended (g.R.Source.told c.args.reader.now)
     (g.R.Source.told c.args.reader.now) []) (sym ended) (refl, refl))
     (ap (λ (bytes : List ℕ). take v.given (streamed v.built bytes)) (append-nil v.bytes))
-    (λ standard open'. absurd (let never = sym ended ∙ open' in cc)) c.next_at_end.result c.next_at_end.ensures
+    (λ standard. subst GivesEarly c.self.view_is (c.self.invariant.all c.in-Ended.is) standard
+    ∙ ap (λ (bytes : List ℕ). length (streamed v.built bytes)) (sym (append-nil v.bytes)))
+    c.next_at_end.result c.next_at_end.ensures
 
 pub loop-found-smaller : goal.loop-found-smaller
 loop-found-smaller g c =
