@@ -34,7 +34,12 @@ pub mod Starting
 pub mod StateCount
 pub mod StreamEnds
 pub mod StreamExchanging
+pub mod StreamGiving
+pub mod StreamKeeping
+pub mod StreamReserves
 pub mod StreamLoop
+pub mod StreamRefusals
+pub mod StreamText
 pub mod StreamFilling
 pub mod StreamReplacing
 pub mod Steps

@@ -26,7 +26,8 @@ use Rattle.ac_automaton.specs.Progress.{Reaches}
 use Rattle.ac_automaton.specs.Scans.{Scan, in_memory}
 use Rattle.ac_automaton.specs.Streams.{GivesEarly, HasGiven, HasGivenSettled, Inside, IsStreaming, KeepsGiven, Streaming, matches_so_far, most_kept, stream_begun, stream_from}
 use Rattle.ac_automaton.proofs.ReadOn.{at-start}
-use Rattle.ac_automaton.proofs.StreamLoop.{allowed-some, node-longer, picked-nothing, scan}
+use Rattle.ac_automaton.proofs.StreamRefusals.{allowed-some}
+use Rattle.ac_automaton.proofs.StreamText.{node-longer, picked-nothing, scan}
 
 -- a search over a stream of which nothing was read
 module _ (stands : ℕ → Node → Type 0) (built : Built) (allowed : stream_refusal built ≡ None) (start : ℕ)

@@ -14,7 +14,7 @@ use Rattle.ac_util.specs.Sizes.{shortest_len}
 use Rattle.ac_util.specs.Walk.{next_match, repeats, unless_repeated, walk_after}
 use Rattle.ac_util.proofs.OneLonger.{none-past_end}
 use Rattle.ac_util.proofs.Shortest.{shortest-least}
-use Rattle.ac_util.proofs.Walks.{next-in_span, pick-in_span, pick-Occurs, walk_after-None, walk_after-Some}
+use Rattle.ac_util.proofs.Walks.{pick-in_span, pick-Occurs, walk_after-None, walk_after-Some}
 use Rattle.ac_automaton.specs.Finders.{Picking}
 use Rattle.ac_automaton.specs.Finds.{HasSearched}
 use Rattle.ac_automaton.specs.Iterators.{Finds, GoesOn, HasFound, IsUnderWay, Walking, after, kept_place, last_after}
@@ -57,12 +57,6 @@ repeated {picking = picking} {q = q} {r = Some m} (Some e) found behind again =
       place = λ standard. omega (arith, (found.stops standard).place);
       calls = λ standard. omega (arith, (found.stops standard).calls);
     }
-
--- what is found ends within the span
-pub after-within : (order : MatchKind) (q : Search) (last : Option ℕ) (r : Option Occurrence)
-    → r ≡ next_match order q last → after q.high r ≤ q.high + 1
-after-within order q last None e = omega arith
-after-within order q last (Some m) e = let h = next-in_span order q last m (sym e) in omega arith
 
 -- a walk that goes on at a place, after a match that ended at `last`
 abbrev pub going_on : Walking → ℕ → Option ℕ → Work → Walking

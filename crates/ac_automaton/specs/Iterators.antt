@@ -4,7 +4,8 @@ use Rattle.std.specs.Iterator.{YieldsFirst}
 use Rattle.ac_util.specs.declared.search.MatchKind.{MatchKind}
 use Rattle.ac_util.specs.declared.search.MatchKind.TheVariants.{Standard, LeftmostFirst, LeftmostLongest}
 use Rattle.ac_util.specs.Occurrence.{Occurrence}
-use Rattle.ac_util.specs.Built.{Built, search_in}
+use Rattle.ac_util.specs.declared.search.Span.{Span}
+use Rattle.ac_util.specs.Built.{Built}
 use Rattle.ac_util.specs.Search.{Search, from}
 use Rattle.ac_util.specs.Sizes.{shortest_len}
 use Rattle.ac_util.specs.Walk.{next_match, repeats, walk_after}
@@ -13,7 +14,7 @@ use Rattle.ac_util.specs.Pick.{pick}
 use Rattle.ac_util.specs.Prefilters.{may_skip}
 use Rattle.ac_automaton.specs.Finders.{Finding, Picking, picking_of}
 use Rattle.ac_automaton.specs.Finds.{HasSearched}
-use Rattle.ac_automaton.specs.Progress.{Work, most_looks, nothing_done}
+use Rattle.ac_automaton.specs.Progress.{Work, most_looks, nothing_done, search_of}
 
 -- the matches still to come; the finds that it makes; the search that is left, and where the match before it ended, if
 -- there was one; where the whole span began; and what was done so far
@@ -25,12 +26,12 @@ pub record Walking : Type 0 where
   pub start : ℕ
   pub work : Work
 
--- a walk by these finds, which has come to this input after a match that ended at `last`
-abbrev pub walking_of : Finding → Asked → Option ℕ → ℕ → Work → Walking
-walking_of finding asked last start work = record {
-  rest = walk_after finding.picking.order (search_in finding.built asked) last;
+-- a walk by these finds, which has come to this span of some bytes after a match that ended at `last`
+abbrev pub walking_of : Finding → List ℕ → Span → Option ℕ → ℕ → Work → Walking
+walking_of finding bytes span last start work = record {
+  rest = walk_after finding.picking.order (search_of finding.built finding.anchored bytes span.start span.end) last;
   picking = finding.picking;
-  left = search_in finding.built asked;
+  left = search_of finding.built finding.anchored bytes span.start span.end;
   last = last;
   start = start;
   work = work;
@@ -43,7 +44,7 @@ begun most built filters asked =
       built = built;
       anchored = asked.anchored;
       picking = picking_of most built.kind filters asked.earliest;
-    }) asked None asked.start nothing_done
+    }) asked.haystack (record { start = asked.start; end = asked.end }) None asked.start nothing_done
 
 -- where a walk in a span with this end goes on once a find has answered: at the end of the match, or past that of
 -- the span
@@ -56,8 +57,8 @@ abbrev pub last_after : Option ℕ → Option Occurrence → Option ℕ
 last_after last None = last
 last_after last (Some m) = Some m.end
 
--- from where a find of a walk reads: under Standard it goes on with the same tape; else it takes a new one, since
--- a leftmost search may have read on past its match
+-- from where a find of a walk reads: under Standard it goes on from there; else the tape is rewound, since a
+-- leftmost search may have read on past its match
 abbrev pub kept_place : MatchKind → ℕ → ℕ
 kept_place Standard place = place
 kept_place LeftmostFirst place = 0

@@ -30,6 +30,7 @@ mod ClassRows
 pub mod ReplacementLemmas
 pub mod SearchLoop
 pub mod Shortest
+pub mod Decided
 pub mod Settled
 pub mod Living
 pub mod Longer

@@ -98,6 +98,14 @@ impl<'h> Tape<'h> {
         }
     }
 
+    /// Goes back to the first byte, so that all may be read again.
+    #[inline]
+    pub fn rewind(&mut self)
+        ensures { self.new ≡ record { bytes = self.old.bytes; place = 0 } }
+    {
+        self.place = Snapshot::of(&0);
+    }
+
     /// Returns the byte at a place, and counts it as read.
     ///
     /// The place has to lie in the haystack, and not before the one after the last read.

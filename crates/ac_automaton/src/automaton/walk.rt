@@ -1,15 +1,14 @@
 //! The matches of a walk, one after another.
-ghost use Rattle.std.specs.Prelude.{◌≡◌, ◌+◌, ◌≤◌, ℕ, IfSome};
+ghost use Rattle.std.specs.Prelude.{◌≡◌, ◌+◌, ◌<◌, ◌≤◌, ℕ, IfSome, length};
 ghost use Rattle.std.specs.Iterator.{item_count};
 ghost use Rattle.ac_util.specs.declared.search.MatchKind.TheVariants.{Standard};
-ghost use Rattle.ac_util.specs.Built.{find_refusal, search_in};
+ghost use Rattle.ac_util.specs.Built.{find_refusal};
 ghost use Rattle.ac_util.specs.Inputs.{asked};
-ghost use Rattle.ac_util.specs.Pick.{pick};
 ghost use Rattle.ac_util.specs.Refusal.{AnswersUnless};
 ghost use Rattle.ac_util.specs.Walk.{next_match, repeats};
 ghost use Rattle.ac_automaton.specs.Finds.{HasSearched};
 ghost use Rattle.ac_automaton.specs.Iterators.{Finds, GoesOn, after, begun, kept_place, walking_of};
-ghost use Rattle.ac_automaton.specs.Progress.{work_of};
+ghost use Rattle.ac_automaton.specs.Progress.{search_of, work_of};
 
 use super::Automaton;
 use super::find::Finder;
@@ -29,8 +28,8 @@ use std::snapshot::Snapshot;
 #[derive(Drop)]
 pub struct FindIter<'a, 'h, A: Automaton> {
     finder: Finder<'a, A>,
-    /// The input with the span that is left.
-    input: Input<'h>,
+    /// What is left of the span.
+    span: Span,
     /// Where the match before this ended.
     last: Option<usize>,
     tape: Tape<'h>,
@@ -40,19 +39,18 @@ pub struct FindIter<'a, 'h, A: Automaton> {
 }
 
 impl<'a, 'h, A: Automaton> Model for FindIter<'a, 'h, A> {
-    ghost use Rattle.std.specs.Prelude.{◌≡◌};
-    ghost use Rattle.ac_util.specs.Inputs.{asked};
+    ghost use Rattle.std.specs.Prelude.{◌<◌, ◌≤◌, length};
     ghost use Rattle.ac_automaton.specs.Iterators.{IsUnderWay, Walking, walking_of};
     ghost use Rattle.ac_automaton.specs.Progress.{work_of};
 
     ghost Value = { Walking };
 
-    ghost view = { λ s. walking_of s.finder (asked s.input) s.last s.from.value (work_of s.tape s.looks) };
+    ghost view = { λ s. walking_of s.finder s.tape.bytes s.span s.last s.from.value (work_of s.tape s.looks) };
 
     ghost invariant = { λ s. record {
-      anchored : s.finder.anchored ≡ s.input.anchored;
-      bytes : s.tape.bytes ≡ s.input.haystack.now;
-      under_way : IsUnderWay (walking_of s.finder (asked s.input) s.last s.from.value (work_of s.tape s.looks));
+      inside : s.span.end ≤ length s.tape.bytes;
+      small : s.span.end < 18446744073709551615;
+      under_way : IsUnderWay (walking_of s.finder s.tape.bytes s.span s.last s.from.value (work_of s.tape s.looks));
     } };
 }
 
@@ -65,13 +63,14 @@ impl<'a, 'h, A: Automaton> FindIter<'a, 'h, A> {
     {
         let finder = Finder::new(automaton, input.get_anchored(), input.get_earliest())?;
         let (tape, looks) = open(&input);
+        let span = input.get_span();
         Ok(FindIter {
             finder,
-            input,
+            span,
             last: None,
             tape,
             looks,
-            from: Snapshot::of(&input.start()),
+            from: Snapshot::of(&span.start),
         })
     }
 
@@ -82,12 +81,12 @@ impl<'a, 'h, A: Automaton> FindIter<'a, 'h, A> {
     {
         let found = next_left(
             &mut self.finder,
-            &self.input,
+            self.span,
             self.last,
             &mut self.tape,
             &mut self.looks,
         );
-        go_on(&mut self.input, &found);
+        self.span.start = after(self.span, &found);
         if let Some(found) = &found {
             self.last = Some(found.end());
         }
@@ -95,44 +94,49 @@ impl<'a, 'h, A: Automaton> FindIter<'a, 'h, A> {
     }
 }
 
-/// Returns the next match of a walk in an input, after one that ended at `last`.
+/// Returns the next match of a walk in a span, after one that ended at `last`.
 #[inline]
-fn next_left<'h, A: Automaton>(
+fn next_left<A: Automaton>(
     finder: &mut Finder<'_, A>,
-    input: &Input<'h>,
+    span: Span,
     last: Option<usize>,
-    tape: &mut Tape<'h>,
+    tape: &mut Tape<'_>,
     looks: &mut Looks,
 ) -> Option<Match>
-    requires anchored { finder.old.anchored ≡ (asked input.now).anchored }
-    requires bytes { tape.old.bytes ≡ (asked input.now).haystack }
-    requires unread { finder.old.picking.order ≡ Standard → tape.old.place ≤ (asked input.now).start }
-    requires behind { IfSome last (λ e. e ≤ (asked input.now).start) }
-    ensures next { result ≡ next_match finder.old.picking.order (search_in finder.old.built (asked input.now)) last }
-    ensures bytes { tape.new.bytes ≡ (asked input.now).haystack }
+    requires inside { span.end ≤ length tape.old.bytes }
+    requires small { span.end < 18446744073709551615 }
+    requires legal { span.start ≤ span.end + 1 }
+    requires unread { finder.old.picking.order ≡ Standard → tape.old.place ≤ span.start }
+    requires behind { IfSome last (λ e. e ≤ span.start) }
+    ensures next { result ≡ next_match finder.old.picking.order
+        (search_of finder.old.built finder.old.anchored tape.old.bytes span.start span.end) last }
+    ensures bytes { tape.new.bytes ≡ tape.old.bytes }
     ensures same { finder.new ≡ finder.old }
-    ensures finds { (start : ℕ) → Finds (walking_of finder.old (asked input.now) last start
+    ensures finds { (start : ℕ) → Finds (walking_of finder.old tape.old.bytes span last start
         (work_of tape.old looks.old)) (work_of tape.new looks.new) }
 {
-    let first = find_left(finder, input, tape, looks);
+    let first = find_left(finder, span, tape, looks);
     if !repeats(&first, last) {
         return first;
     }
-    let further = input.range(input.start() + 1..input.end());
-    find_left(finder, &further, tape, looks)
+    let further = Span {
+        start: span.start + 1,
+        end: span.end,
+    };
+    find_left(finder, further, tape, looks)
 }
 
-/// Moves the span on to the end of a match that was found in it, or past its own end where there is none.
+/// Returns where a walk in a span goes on: at the end of the match that was found in it, or past its own end where there is
+/// none.
 #[inline]
-fn go_on(input: &mut Input<'_>, found: &Option<Match>)
-    requires within { after (asked input.old).end found.now ≤ (asked input.old).end + 1 }
-    ensures { asked input.new ≡ record (asked input.old) { start = after (asked input.old).end found.now } }
+fn after(span: Span, found: &Option<Match>) -> usize
+    requires small { span.end < 18446744073709551615 }
+    ensures { result ≡ after span.end found.now }
 {
-    let start = match found {
+    match found {
         Some(found) => found.end(),
-        None => input.end() + 1,
-    };
-    input.set_start(start);
+        None => span.end + 1,
+    }
 }
 
 /// Returns whether a match is empty and ends where the one before it did.
@@ -146,32 +150,27 @@ fn repeats(found: &Option<Match>, last: Option<usize>) -> bool
     }
 }
 
-/// Returns the pick of an input, with a new tape where the find before may have read past its match.
+/// Returns the pick of a span. It reads from the first byte again where the find before may have read past its match.
 #[inline]
-fn find_left<'h, A: Automaton>(
+fn find_left<A: Automaton>(
     finder: &mut Finder<'_, A>,
-    input: &Input<'h>,
-    tape: &mut Tape<'h>,
+    span: Span,
+    tape: &mut Tape<'_>,
     looks: &mut Looks,
 ) -> Option<Match>
-    requires anchored { finder.old.anchored ≡ (asked input.now).anchored }
-    requires bytes { tape.old.bytes ≡ (asked input.now).haystack }
-    requires unread { finder.old.picking.order ≡ Standard → tape.old.place ≤ (asked input.now).start }
-    ensures pick { result ≡ pick finder.old.picking.order (search_in finder.old.built (asked input.now)) }
-    ensures bytes { tape.new.bytes ≡ (asked input.now).haystack }
+    requires inside { span.end ≤ length tape.old.bytes }
+    requires legal { span.start ≤ span.end + 1 }
+    requires unread { finder.old.picking.order ≡ Standard → tape.old.place ≤ span.start }
+    ensures bytes { tape.new.bytes ≡ tape.old.bytes }
     ensures same { finder.new ≡ finder.old }
-    ensures found { HasSearched finder.old.picking (search_in finder.old.built (asked input.now)) result
+    ensures found { HasSearched finder.old.picking
+        (search_of finder.old.built finder.old.anchored tape.old.bytes span.start span.end) result
         (record { place = kept_place finder.old.picking.order tape.old.place; counts = looks.old })
         (work_of tape.new looks.new) }
 {
     if !finder.stops_at_match() {
-        let (anew, _looks) = open(input);
-        *tape = anew;
+        tape.rewind();
     }
-    let span = Span {
-        start: input.start(),
-        end: input.end(),
-    };
     finder.find(span, tape, looks)
 }
 

@@ -4,8 +4,8 @@
 //! patterns that equal the string; behind them each run of patterns with one more byte in common is a child. So
 //! each byte of each pattern is looked at a few times, and no pattern is moved: only a state's transitions are
 //! sorted, since those by capitals come before those by small letters. A child's failure target is a step from
-//! that of its parent; along a pattern each byte makes the target at most one byte longer and each failure link
-//! makes it shorter, so n bytes of patterns take at most 2n looks.
+//! that of its parent: along a pattern each byte makes the target at most one byte longer, and each failure link
+//! makes it shorter, so a build follows few of them. It counts none.
 ghost use Rattle.std.specs.Prelude.{◌≡◌, ◌≢◌, ◌++◌, ◌∷◌, [], ℕ, ◌+◌, ◌<◌, ◌≤◌, Bool, List, IfOk, MatchResult, None, Some, length, map, slice_get};
 ghost use Rattle.ac_util.specs.declared.primitives.TheConstants.{GREATEST};
 ghost use Rattle.ac_util.specs.Sameness.{plain};

@@ -3,8 +3,14 @@ use Rattle.ac_automaton.proofs.WalkLoop.{repeated}
 use Rattle.ac_automaton.proofs.automaton.walk.next_left.Goals as goal
 
 -- a match that repeats lies in the span, so there is a place after it
-pub range-further-requires : goal.range-further-requires
-range-further-requires g c =
+pub overflow_add-further : goal.overflow_add-further
+overflow_add-further g c =
     let again = repeated c.args.last c.find_left-first.ensures.found c.requires.behind
     (sym c.repeats.ensures ∙ c.if-not-repeats.false) in
-    record { legal = record { end_within = omega (arith, c.args.input.now.end_within); start_within = omega arith } }
+    omega (arith, c.requires.small)
+
+pub find_left-requires-clause-legal : goal.find_left-requires-clause-legal
+find_left-requires-clause-legal g c =
+    let again = repeated c.args.last c.find_left-first.ensures.found c.requires.behind
+    (sym c.repeats.ensures ∙ c.if-not-repeats.false) in
+    omega arith

@@ -1,4 +1,5 @@
-use Rattle.ac_util.proofs.Settled.{settled-stays, stays-closed}
+use Rattle.ac_util.proofs.Decided.{stays-closed}
+use Rattle.ac_util.proofs.Settled.{settled-stays}
 use Rattle.ac_util.proofs.Shortest.{none-empty}
 use Rattle.ac_util.proofs.laws.answers.settled_stays.Goals as goal
 

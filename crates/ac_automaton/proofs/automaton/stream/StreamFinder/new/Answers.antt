@@ -8,7 +8,7 @@ use Rattle.ac_util.specs.Stream.{buffer_len}
 use Rattle.ac_automaton.specs.Streams.{stream_begun}
 use Rattle.ac_automaton.proofs.Places.{refused-by}
 use Rattle.ac_automaton.proofs.StreamFilling.{most-kept, streams-begin}
-use Rattle.ac_automaton.proofs.StreamLoop.{not-refused, refused-empty}
+use Rattle.ac_automaton.proofs.StreamRefusals.{not-refused, refused-empty}
 use Rattle.ac_automaton.proofs.automaton.stream.StreamFinder.new.Given.{Over}
 use Rattle.ac_automaton.proofs.automaton.stream.StreamFinder.new.Goals.{After-empty, in-Standard, in_default}
 use Rattle.ac_automaton.proofs.automaton.stream.StreamFinder.new.Goals as goal

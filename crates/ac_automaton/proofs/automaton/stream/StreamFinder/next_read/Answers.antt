@@ -9,7 +9,10 @@ use Rattle.ac_automaton.specs.Finds.{IsAnswered}
 use Rattle.ac_automaton.specs.Scans.{IsAlive, ScanText}
 use Rattle.ac_automaton.specs.Streams.{HasReadOn, Inside, IsStreaming, Streaming}
 use Rattle.ac_automaton.proofs.FindAhead.{IsUnanswered, unanswered-unless}
-use Rattle.ac_automaton.proofs.StreamLoop.{fits-there, found-on, gives-next, gives-settled, goes-on-with, may-read, node_here, stays-on, stream_scan, stream_text, streams-anew, streams-on, tape-is}
+use Rattle.ac_automaton.proofs.StreamGiving.{gives-next, streams-anew}
+use Rattle.ac_automaton.proofs.StreamKeeping.{gives-settled, streams-on}
+use Rattle.ac_automaton.proofs.StreamLoop.{fits-there, found-on, goes-on-with, may-read, node_here, stays-on, stream_scan, stream_text}
+use Rattle.ac_automaton.proofs.StreamText.{tape-is}
 use Rattle.ac_automaton.proofs.automaton.stream.StreamFinder.next_read.Given.{Over}
 use Rattle.ac_automaton.proofs.automaton.stream.StreamFinder.next_read.Goals.{After-is_decided}
 use Rattle.ac_automaton.proofs.automaton.stream.StreamFinder.next_read.Goals as goal

@@ -1,0 +1,249 @@
+-- The search of a stream gives no match: as far as which place it is settled, and from where on bytes are kept.
+use Rattle.std.proofs.Common.{◌≡◌, ◌≢◌, ◌⊎◌, ℕ, ◌+◌, ◌-◌, ◌≤◌, Bool, true, false, List, [], ◌++◌, length, max, inl, inr, refl, ap, sym, subst, ◌∙◌, arith, Option, Some, None}
+use Rattle.std.specs.Prelude.{IfSome}
+use Rattle.std.proofs.lemmas.Bool.{false≢true}
+use Rattle.std.proofs.lemmas.List.{append-nil}
+use Rattle.ac_util.specs.declared.search.MatchKind.{MatchKind}
+use Rattle.ac_util.specs.declared.search.MatchKind.TheVariants.{LeftmostFirst, LeftmostLongest, Standard}
+use Rattle.ac_util.specs.Node.{Node, is_leftmost}
+use Rattle.ac_util.specs.Occurrence.{Occurrence}
+use Rattle.ac_util.specs.Pick.{pick}
+use Rattle.ac_util.specs.Search.{Search}
+use Rattle.ac_util.specs.Settled.{IsSettledAt}
+use Rattle.ac_util.specs.Sizes.{longest_len}
+use Rattle.ac_util.specs.Stream.{last_end, streamed}
+use Rattle.ac_util.specs.StreamReplacing.{IsNear, IsSettledBy, settled}
+use Rattle.ac_util.specs.Walk.{walk_after}
+use Rattle.ac_util.proofs.Living.{dead-picked, node-short, pick-behind}
+use Rattle.ac_util.proofs.Decided.{settled-at}
+use Rattle.ac_util.proofs.Shortest.{longest-most, none-empty}
+use Rattle.ac_util.proofs.Walks.{next-none, walk_after-None}
+use Rattle.ac_automaton.specs.declared.automaton.stream.Phase.{Phase}
+use Rattle.ac_automaton.specs.declared.automaton.stream.Phase.TheVariants.{Ended, Failed, Open}
+use Rattle.ac_automaton.specs.Finds.{IsAnswered}
+use Rattle.ac_automaton.specs.Streams.{HasGivenSettled, HasReadOn, Inside, IsSettledIn, IsStreaming, Streaming, kept_from, stream_from}
+use Rattle.ac_automaton.proofs.StreamGiving.{settled-kind}
+use Rattle.ac_automaton.proofs.StreamReserves.{most-few, most-leftmost, most-standard}
+use Rattle.ac_automaton.proofs.StreamLoop.{leftmost-by}
+use Rattle.ac_automaton.proofs.StreamRefusals.{allowed-some}
+use Rattle.ac_automaton.proofs.StreamText.{node_there}
+
+-- a search over a stream has its answer in what was read
+module _ (stands : ℕ → Node → Type 0) (listed : ℕ → List ℕ) (most : ℕ) (filters : Bool) (i : Inside) (v : Streaming)
+    (inv : IsStreaming stands i v) (state at : ℕ) (picked : Option Occurrence) (on : HasReadOn stands i v state at picked)
+    (answered : IsAnswered i.stops i.filled at
+    (node_there stands listed v.built most filters v.bytes i.begun (v.front + at)) picked) where
+  -- the node that is reached
+  abbrev here : Node
+  here = node_there stands listed v.built most filters v.bytes i.begun (v.front + at)
+
+  -- the search as far as a place
+  abbrev up_to : ℕ → Search
+  up_to place = record (stream_from v.built v.bytes i.begun) { high = place }
+
+  inside-bytes : v.front + at ≤ length v.bytes
+  inside-bytes = let w = on.within in let n = inv.counted in omega arith
+
+  -- nothing is picked, or that may still change
+  module _ (open-pick : (picked ≡ None) ⊎ ((i.stops ≡ false) × (here ≢ None) × (v.phase ≢ Ended)))
+    where
+      alive : here ≢ None
+      alive = elim open-pick [
+        | inl none ↦ λ dead.
+            dead-picked v.built.kind (up_to (v.front + at)) refl on.is_at.onward inside-bytes dead v.built.kind
+            (sym on.picks ∙ none)
+        | inr open' ↦ open'.1
+      ]
+
+      all : at ≡ i.filled
+      all = elim answered [
+        | inl end ↦ let w = on.within in omega arith
+        | inr rest ↦ elim rest [
+          | inl dead ↦ absurd (alive dead)
+          | inr first ↦ elim open-pick [
+            | inl none ↦ absurd (first.1 none)
+            | inr open' ↦ absurd (false≢true (sym open'.0 ∙ first.0))
+          ]
+        ]
+      ]
+
+      end-is : v.front + at ≡ length v.bytes
+      end-is = let e = inv.counted in let a = all in omega arith
+
+      -- as far as which place nothing is kept then
+      abbrev kept_now : ℕ
+      kept_now = kept_from v.phase (max v.kept (v.front + at - i.reserve)) (v.front + at)
+
+      picks-whole : picked ≡ pick v.built.kind (stream_from v.built v.bytes i.begun)
+      picks-whole = on.picks ∙ ap (λ (k : ℕ). pick v.built.kind (up_to k)) end-is
+
+      -- where nothing is picked all matches were given
+      whole-given : picked ≡ None → streamed v.built v.bytes ≡ inv.given.matches
+      whole-given none =
+          subst (λ (w : List ℕ). streamed v.built w
+          ≡ inv.given.matches ++ walk_after v.built.kind (stream_from v.built w i.begun) inv.given.last)
+          (append-nil v.bytes) (inv.given.walks [] (λ ended. refl))
+          ∙ ap (λ (ms : List Occurrence). inv.given.matches ++ ms)
+          (walk_after-None v.built.kind (stream_from v.built v.bytes i.begun) inv.given.last
+          (next-none v.built.kind (stream_from v.built v.bytes i.begun) inv.given.last (sym picks-whole ∙ none)))
+          ∙ append-nil inv.given.matches
+
+      given-all : picked ≡ None → v.given ≡ length (streamed v.built v.bytes)
+      given-all none = sym (ap length (whole-given none) ∙ inv.given.count)
+
+      -- of a stream that goes on no byte was given up that isn't far behind
+      back-open : (v.phase ≡ Ended → ⊥) → v.kept ≤ max i.begun (v.front + i.at - i.reserve)
+      back-open open' = elim inv.back [ inl back ↦ back | inr ended ↦ absurd (open' ended.0) ]
+
+      abbrev kept_open : ℕ
+      kept_open = max v.kept (v.front + at - i.reserve)
+
+      settles-standard : v.built.kind ≡ Standard → (v.phase ≡ Ended → ⊥)
+          → IsSettledBy v.built.kind v.built v.bytes v.given kept_open
+      settles-standard standard open' =
+          let none : picked ≡ None = elim open-pick [
+            | inl none ↦ none
+            | inr still ↦ absurd (false≢true (sym (ap is_leftmost standard) ∙ leftmost-by v.built.kind i.stops inv.stops still.0))
+          ] in
+          let last = ap last_end (whole-given none) ∙ inv.given.end in
+          let r = inv.reserve ∙ most-standard v.built standard in let e = end-is in
+          let b = back-open open' in let a = inv.after in let f = on.onward in
+          let place : kept_open ≡ settled v.built v.bytes = omega arith in
+          subst (λ (k : MatchKind). IsSettledBy k v.built v.bytes v.given kept_open) (sym standard)
+          (given-all none, place)
+
+      -- under a leftmost kind what is picked starts no earlier than the automaton's node
+      near-picked : is_leftmost v.built.kind ≡ true → (m : Occurrence) → picked ≡ Some m
+          → length v.bytes ≤ m.start + longest_len v.built.patterns
+      near-picked first m is = by (here) refl
+        where
+          by : (u : Node) → here ≡ u → length v.bytes ≤ m.start + longest_len v.built.patterns
+          by None dead = absurd (alive dead)
+          by (Some u) stands' =
+              let behind = pick-behind v.built.kind (up_to (v.front + at)) refl on.is_at.onward inside-bytes first u
+              stands' v.built.kind m (sym on.picks ∙ is) in
+              let short = node-short v.built.kind (up_to (v.front + at)) refl on.is_at.onward inside-bytes u stands' in
+              let e = end-is in
+              omega arith
+
+      starts-behind-kept : is_leftmost v.built.kind ≡ true → (m : Occurrence) → picked ≡ Some m → kept_open ≤ m.start
+      starts-behind-kept first m is =
+          let near = near-picked first m is in let e = end-is in
+          let r = inv.reserve ∙ most-leftmost v.built first in
+          let after = subst (λ (p : Option Occurrence). IfSome p (λ n. v.kept ≤ n.start)) is on.after in
+          omega arith
+
+      settles-leftmost : is_leftmost v.built.kind ≡ true → (v.phase ≡ Ended → ⊥)
+          → IsSettledBy v.built.kind v.built v.bytes v.given kept_open
+      settles-leftmost first open' =
+          let r = inv.reserve ∙ most-leftmost v.built first in let e = end-is in let k = inv.kept_within in
+          let b = back-open open' in let a = inv.after in let f = on.onward in
+          settled-kind v.built v.bytes v.given kept_open v.built.kind first
+          (subst (λ (n : ℕ). IsSettledAt v.built v.bytes n kept_open) inv.given.count
+          (settled-at v.built first v.bytes
+          (λ n numbered. none-empty v.built.patterns n (allowed-some v.built inv.allowed) numbered)
+          inv.given.matches i.begun kept_open inv.given.last
+          (λ more. inv.given.walks more (λ ended. absurd (open' ended))) inv.given.end (omega arith) (omega arith)
+          (λ place from_begun before opens.
+          let long = longest-most v.built.patterns opens.number opens.numbered in let longer = opens.longer in
+          absurd (omega arith))
+          (λ m is. starts-behind-kept first m (picks-whole ∙ is))))
+
+      settles : (v.phase ≡ Ended → ⊥) → IsSettledBy v.built.kind v.built v.bytes v.given kept_open
+      settles open' = by v.built.kind refl
+        where
+          by : (k : MatchKind) → v.built.kind ≡ k → IsSettledBy v.built.kind v.built v.bytes v.given kept_open
+          by Standard is = settles-standard is open'
+          by LeftmostFirst is = settles-leftmost (ap is_leftmost is) open'
+          by LeftmostLongest is = settles-leftmost (ap is_leftmost is) open'
+
+      -- by what its phase asks for
+      pub record IsKept (p : Phase) (kept : ℕ) : Type 0 where
+        pub settled : IsSettledIn p v.built v.bytes v.given kept
+        pub near : IsNear v.built v.bytes kept
+        pub onward : v.kept ≤ kept
+        pub within : kept ≤ length v.bytes
+        pub after : IfSome picked (λ m. kept ≤ m.start)
+        pub back : (kept ≤ max i.begun (v.front + at - i.reserve)) ⊎ ((p ≡ Ended) × (at ≡ i.filled))
+
+      is-kept-open : (p : Phase) → v.phase ≡ p → (p ≡ Ended → ⊥)
+          → IsSettledIn p v.built v.bytes v.given kept_open → IsKept p kept_open
+      is-kept-open p is open' settled' =
+          let e = end-is in let few = most-few v.built in let r = inv.reserve in let k = inv.kept_within in
+          let b = back-open (λ ended. open' (sym is ∙ ended)) in let f = on.onward in
+          record {
+            settled = settled';
+            near = omega arith;
+            onward = omega arith;
+            within = omega arith;
+            after = behind picked refl;
+            back = inl (omega arith);
+          }
+        where
+          behind : (q : Option Occurrence) → picked ≡ q → IfSome q (λ m. kept_open ≤ m.start)
+          behind None is = tt
+          behind (Some m) is = elim open-pick [
+            | inl none ↦ absurd (let no = sym is ∙ none in cc)
+            | inr still ↦ starts-behind-kept (leftmost-by v.built.kind i.stops inv.stops still.0) m is
+          ]
+
+      is-kept : IsKept v.phase kept_now
+      is-kept = by v.phase refl
+        where
+          by : (p : Phase) → v.phase ≡ p → IsKept p (kept_from p kept_open (v.front + at))
+          by Open is =
+              is-kept-open Open is (λ no. absurd (cc)) (settles (λ ended. absurd (let no = sym is ∙ ended in cc)))
+          by Failed is =
+              is-kept-open Failed is (λ no. absurd (cc)) (settles (λ ended. absurd (let no = sym is ∙ ended in cc)))
+          by Ended is =
+              let none : picked ≡ None = elim open-pick [ inl none ↦ none | inr still ↦ absurd (still.2 is) ] in
+              let e = end-is in let k = inv.kept_within in
+              record {
+                settled = (given-all none, end-is);
+                near = omega arith;
+                onward = omega arith;
+                within = omega arith;
+                after = subst (λ (q : Option Occurrence). IfSome q (λ m. v.front + at ≤ m.start)) (sym none) tt;
+                back = inr (refl, all);
+              }
+
+      -- told by the place from which on bytes are kept then
+      module _ (kept : ℕ) (is : kept ≡ kept_now) where
+        kept-so : IsKept v.phase kept
+        kept-so = subst (IsKept v.phase) (sym is) is-kept
+
+        pub streams-on : IsStreaming stands (record i { state = state; at = at; picked = picked }) (record v { kept = kept })
+        streams-on =
+            let so = kept-so in
+            record {
+              allowed = inv.allowed;
+              starts = inv.starts;
+              stops = inv.stops;
+              reserve = inv.reserve;
+              size = inv.size;
+              long = inv.long;
+              fits = inv.fits;
+              filled = inv.filled;
+              counted = inv.counted;
+              small = inv.small;
+              holds = inv.holds;
+              searched = record {
+                within = on.within;
+                onward = omega arith;
+                is_at = on.is_at;
+                picks = on.picks;
+                after = so.after;
+              };
+              given = inv.given;
+              all = inv.all;
+              few = inv.few;
+              in_buffer = (let b = inv.in_buffer in let o = so.onward in omega arith);
+              after = (let b = inv.after in let o = so.onward in omega arith);
+              kept_within = so.within;
+              back = so.back;
+            }
+
+        pub gives-settled : HasGivenSettled v (record v { kept = kept })
+        gives-settled =
+            let so = kept-so in
+            record { settled = so.settled; near = so.near; same = refl; onward = so.onward; within = so.within }

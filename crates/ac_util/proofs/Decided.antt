@@ -1,0 +1,230 @@
+-- A stream under a leftmost kind: matches that stay whatever follows are decided, and so settle it.
+use Rattle.std.proofs.Common.{◌≡◌, ℕ, suc, ◌+◌, ◌-◌, ◌<◌, ◌≤◌, true, List, [], ◌∷◌, ◌++◌, length, get_or, map, length-append, length-drop, take, drop, refl, ap, sym, ◌∙◌, subst, arith, Option, None, Some}
+use Rattle.std.specs.Prelude.{All, nat_eq, slice_range}
+use Rattle.std.specs.List.{starts_with}
+use Rattle.std.proofs.Math.Seq.{drop-append_seam, take-append_seam, take-length, take-take}
+use Rattle.std.proofs.lemmas.List.{append-nil, drop-append-le, get_or-map, length-map, map-append, take-append-drop, take-map}
+use Rattle.std.proofs.lemmas.List.Elements.{All-cons, All-nil}
+use Rattle.ac_util.specs.declared.search.MatchKind.{MatchKind}
+use Rattle.ac_util.specs.declared.search.MatchKind.TheVariants.{Standard, LeftmostFirst, LeftmostLongest}
+use Rattle.ac_util.specs.Asked.{asked_whole}
+use Rattle.ac_util.specs.Built.{Built, search_in}
+use Rattle.ac_util.specs.Node.{is_leftmost, participates}
+use Rattle.ac_util.specs.Occurrence.{Occurrence, occurrence}
+use Rattle.ac_util.specs.Pick.{IsFirst, IsPick, pick}
+use Rattle.ac_util.specs.Sameness.{plain, plain_byte}
+use Rattle.ac_util.specs.Search.{Occurs, Search, from, pattern_of}
+use Rattle.ac_util.specs.Settled.{AreDecided, IsOpen, IsSettledAt, NoneOpen}
+use Rattle.ac_util.specs.Stream.{last_end, streamed}
+use Rattle.ac_util.specs.Walk.{next_match, walk_after}
+use Rattle.ac_util.proofs.Participants.{participant-least}
+use Rattle.ac_util.proofs.Picks.{pick-IsPick}
+use Rattle.ac_util.proofs.Prefixes.{starts_with-take}
+use Rattle.ac_util.proofs.Walks.{pick-Occurs}
+use Rattle.ac_util.proofs.Settled.{first-starts, here, next-picks, there, walk-first, walk-from}
+
+-- where a match stays the pick whatever follows, no place up to its start is open
+module _ (built : Built) (leftmost : is_leftmost built.kind ≡ true) (bytes : List ℕ) (low : ℕ) (m : Occurrence)
+    (ends : m.end ≤ length bytes)
+    (stays : (more : List ℕ) → pick built.kind (there built leftmost bytes more low) ≡ Some m) where
+  module _ (place : ℕ) (from_low : low ≤ place) (before : place < m.start + 1) (open' : IsOpen built bytes place) where
+    -- the pattern that may come of it, and its bytes that would have to follow
+    abbrev pattern : List ℕ
+    pattern = pattern_of built.patterns open'.number
+
+    abbrev known : ℕ
+    known = length bytes - place
+
+    abbrev rest : List ℕ
+    rest = drop known pattern
+
+    abbrev then' : Search
+    then' = there built leftmost bytes rest low
+
+    abbrev comes : Occurrence
+    comes = occurrence open'.number place (place + length pattern)
+
+    shown : slice_range (bytes ++ rest) place (place + length pattern) ≡ drop place bytes ++ rest
+    shown =
+        let inside = open'.inside in
+        let behind = length-drop place bytes in
+        let left = length-drop known pattern in
+        let longer = open'.longer in
+        let all = length-append (drop place bytes) rest in
+        ap (λ (k : ℕ). take k (drop place (bytes ++ rest)))
+        (let k : place + length pattern - place ≡ length pattern = omega arith in k)
+        ∙ ap (take (length pattern)) (drop-append-le place bytes rest (omega arith))
+        ∙ ap (λ (k : ℕ). take k (drop place bytes ++ rest)) (let k : length pattern ≡ length (drop place bytes ++ rest) = omega arith in k)
+        ∙ take-length (drop place bytes ++ rest)
+
+    comes-there : Occurs then' comes
+    comes-there =
+        let inside = open'.inside in
+        let longer = open'.longer in
+        let left = length-drop known pattern in
+        let all = length-append bytes rest in
+        record {
+          numbered = open'.numbered;
+          from_low = from_low;
+          as_long = refl;
+          to_high = omega arith;
+          reads =
+              ap (plain built.fold) (sym (take-append-drop known pattern))
+              ∙ map-append (plain_byte built.fold) (take known pattern) rest
+              ∙ ap (λ (w : List ℕ). w ++ plain built.fold rest) open'.begins
+              ∙ sym (map-append (plain_byte built.fold) (drop place bytes) rest)
+              ∙ ap (plain built.fold) (sym shown);
+          at_low = λ yes. absurd (cc);
+        }
+
+    occurs-then : Occurs then' m
+    occurs-then = pick-Occurs built.kind then' m (stays rest)
+
+    preferred : IsFirst built.kind m comes
+    preferred = (subst (IsPick built.kind then') (stays rest) (pick-IsPick built.kind then')).1 comes comes-there
+
+    at-start : place ≡ m.start
+    at-start = let starts = first-starts built.kind m comes leftmost preferred in omega arith
+
+    -- it would begin with the pattern of the match
+    fronts : starts_with nat_eq (plain built.fold pattern) (plain built.fold (pattern_of built.patterns m.pattern)) ≡ true
+    fronts =
+        let o = occurs-then in
+        let as_long = o.as_long in
+        let longer = open'.longer in
+        let start = at-start in
+        let len = length (pattern_of built.patterns m.pattern) in
+        let slice : slice_range (bytes ++ rest) m.start m.end ≡ take len (slice_range (bytes ++ rest) place (place + length pattern)) =
+        ap (λ (k : ℕ). take k (drop m.start (bytes ++ rest))) (let k : m.end - m.start ≡ len = omega arith in k)
+        ∙ ap (λ (k : ℕ). take len (drop k (bytes ++ rest))) (sym start)
+        ∙ sym (take-take len (place + length pattern - place) (drop place (bytes ++ rest)) (omega arith)) in
+        let part : plain built.fold (pattern_of built.patterns m.pattern) ≡ take len (plain built.fold pattern) =
+        o.reads ∙ ap (plain built.fold) slice
+        ∙ sym (take-map (plain_byte built.fold) len (slice_range (bytes ++ rest) place (place + length pattern)))
+        ∙ ap (take len) (sym comes-there.reads) in
+        ap (starts_with nat_eq (plain built.fold pattern)) part ∙ starts_with-take len (plain built.fold pattern)
+
+    closed-by : (kind : MatchKind) → built.kind ≡ kind → ⊥
+    closed-by Standard is = let no = sym leftmost ∙ ap is_leftmost is in absurd (cc)
+    closed-by LeftmostLongest is =
+        let first : IsFirst LeftmostLongest m comes = subst (λ (k : MatchKind). IsFirst k m comes) is preferred in
+        let longest = first.ends (sym at-start) in
+        let longer = open'.longer in absurd (omega arith)
+    closed-by LeftmostFirst is =
+        let first : IsFirst LeftmostFirst m comes = subst (λ (k : MatchKind). IsFirst k m comes) is preferred in
+        let least = first.patterns (sym at-start) in
+        let ps = map (plain built.fold) built.patterns in
+        let numbered = occurs-then.numbered in
+        let its = open'.numbered in
+        let all = length-map built.patterns (plain built.fold) in
+        let pattern_is : pattern_of ps open'.number ≡ plain built.fold pattern =
+        get_or-map (plain built.fold) built.patterns open'.number [] [] its in
+        let match_is : pattern_of ps m.pattern ≡ plain built.fold (pattern_of built.patterns m.pattern) =
+        get_or-map (plain built.fold) built.patterns m.pattern [] [] numbered in
+        let no_earlier : open'.number ≤ m.pattern =
+        participant-least ps (plain built.fold pattern) open'.number m.pattern (omega arith)
+        (ap (λ (k : MatchKind). participates k ps open'.number) (sym is) ∙ open'.takes_part) pattern_is
+        (record {
+          numbered = omega arith;
+          front = ap (starts_with nat_eq (plain built.fold pattern)) match_is ∙ fronts;
+        }) in
+        let same : m.pattern ≡ open'.number = omega arith in
+        let len = ap (λ (n : ℕ). length (pattern_of built.patterns n)) same in
+        let as_long = occurs-then.as_long in
+        let longer = open'.longer in
+        let start = at-start in absurd (omega arith)
+
+  pub stays-closed : NoneOpen built bytes low (m.start + 1)
+  stays-closed place from_low before open' = closed-by place from_low before open' built.kind refl
+
+-- where matches end that follow a place
+abbrev ends_at : ℕ → List Occurrence → ℕ
+ends_at low [] = low
+ends_at low (m ∷ ms) = ends_at m.end ms
+
+ends_at-last : (low : ℕ) (m : Occurrence) (ms : List Occurrence) → ends_at low (m ∷ ms) ≡ last_end (m ∷ ms)
+ends_at-last low m [] = refl
+ends_at-last low m (n ∷ ms) = ends_at-last m.end n ms
+
+ends_at-start : (ms : List Occurrence) → ends_at 0 ms ≡ last_end ms
+ends_at-start [] = refl
+ends_at-start (m ∷ ms) = ends_at-last 0 m ms
+
+-- matches that the walk begins with, whatever follows these bytes
+module _ (built : Built) (leftmost : is_leftmost built.kind ≡ true) (bytes : List ℕ)
+    (some : (n : ℕ) → n < length built.patterns → 0 < length (pattern_of built.patterns n)) where
+  abbrev walk-on : List ℕ → ℕ → Option ℕ → List Occurrence
+  walk-on more low last = walk_after built.kind (there built leftmost bytes more low) last
+
+  -- none ends behind the last of them
+  ends-rise : (ms rest : List Occurrence) (low : ℕ) (last : Option ℕ)
+      → walk_after built.kind (here built leftmost bytes [] low) last ≡ ms ++ rest
+      → All (λ (m : Occurrence). m.end ≤ ends_at low ms) ms × (low ≤ ends_at low ms)
+  ends-rise [] rest low last walks = (All-nil _, omega arith)
+  ends-rise (m ∷ ms) rest low last walks =
+      let first = walk-first built leftmost bytes [] some (here built leftmost bytes [] low) last m (ms ++ rest) walks in
+      let is = next-picks built leftmost bytes [] some (here built leftmost bytes [] low) last m refl first.0 in
+      let o = pick-Occurs built.kind (here built leftmost bytes [] low) m is in
+      let later = ends-rise ms rest m.end (Some m.end) first.1 in
+      let as_long = o.as_long in
+      let from_low = o.from_low in
+      let on = later.1 in
+      (All-cons (λ (n : Occurrence). n.end ≤ ends_at m.end ms) m ms later.1 later.0, omega arith)
+
+  -- they are decided
+  walks-decided : (ms : List Occurrence) (low begun place : ℕ) (last next : Option ℕ)
+      → ((more : List ℕ) → walk-on more low last ≡ ms ++ walk-on more begun next)
+      → All (λ (m : Occurrence). m.end ≤ length bytes) ms → ends_at low ms ≡ begun → NoneOpen built bytes begun place
+      → AreDecided built bytes low ms place
+  walks-decided [] low begun place last next walks ends end closed =
+      subst (λ (k : ℕ). NoneOpen built bytes k place) (sym end) closed
+  walks-decided (m ∷ ms) low begun place last next walks ends end closed = (
+    stays-closed built leftmost bytes low m (ends 0 m (omega arith)) (λ more.
+        next-picks built leftmost bytes more some (there built leftmost bytes more low) last m refl (first more).0),
+    walks-decided ms m.end begun place (Some m.end) next (λ more. (first more).1)
+        (λ k d at. ends (suc k) d (omega arith)) end closed,
+  )
+    where
+      first : (more : List ℕ) → (next_match built.kind (there built leftmost bytes more low) last ≡ Some m)
+          × (walk_after built.kind (from (there built leftmost bytes more low) m.end) (Some m.end)
+          ≡ ms ++ walk-on more begun next)
+      first more =
+          walk-first built leftmost bytes more some (there built leftmost bytes more low) last m
+          (ms ++ walk-on more begun next) (walks more)
+
+  -- so the stream is settled by them up to a place behind their end, where none is open and no other starts before it
+  pub settled-at : (ms : List Occurrence) (begun place : ℕ) (next : Option ℕ)
+      → ((more : List ℕ) → streamed built (bytes ++ more) ≡ ms ++ walk-on more begun next)
+      → last_end ms ≡ begun → begun ≤ place → place ≤ length bytes → NoneOpen built bytes begun place
+      → ((m : Occurrence) → pick built.kind (here built leftmost bytes [] begun) ≡ Some m → place ≤ m.start)
+      → IsSettledAt built bytes (length ms) place
+  settled-at ms begun place next walks end behind within closed first = record {
+    few = (let n = ap length whole in let a = length-append ms rest in omega arith);
+    within = within;
+    ended = subst (All (λ (m : Occurrence). m.end ≤ place)) (sym taken) (λ k d at.
+        let e = rises.0 k d at in let l = ends_at-start ms in let up : (get_or ms k d).end ≤ place = omega arith in up);
+    later = subst (All (λ (m : Occurrence). place ≤ m.start)) (sym left)
+        (walk-from built leftmost bytes [] some (here built leftmost bytes [] begun) place next refl first);
+    decided = subst (λ (ns : List Occurrence). AreDecided built bytes 0 ns place) (sym taken)
+        (walks-decided ms 0 begun place None next walks (λ k d at.
+        let e = rises.0 k d at in let l = ends_at-start ms in let up : (get_or ms k d).end ≤ length bytes = omega arith in up)
+        (ends_at-start ms ∙ end) closed);
+  }
+    where
+      rest : List Occurrence
+      rest = walk_after built.kind (here built leftmost bytes [] begun) next
+
+      whole : streamed built bytes ≡ ms ++ rest
+      whole =
+          subst (λ (w : List ℕ). streamed built w
+          ≡ ms ++ walk_after built.kind (record (search_in built (asked_whole w)) { low = begun }) next)
+          (append-nil bytes) (walks [])
+
+      taken : take (length ms) (streamed built bytes) ≡ ms
+      taken = ap (take (length ms)) whole ∙ take-append_seam ms rest
+
+      left : drop (length ms) (streamed built bytes) ≡ rest
+      left = ap (drop (length ms)) whole ∙ drop-append_seam ms rest
+
+      rises : All (λ (m : Occurrence). m.end ≤ ends_at 0 ms) ms × (0 ≤ ends_at 0 ms)
+      rises = ends-rise ms rest 0 None whole
