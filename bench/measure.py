@@ -1,7 +1,7 @@
 #!/usr/bin/env python3
 """measure.py --acs PATH [options] runs the program acs over haystacks and prints Markdown tables of what it takes.
 
-Each figure is the best of several runs of a whole process, and what is compared was run turn about. README.md beside
+Each figure is the best of several runs of a whole process, and what is compared was run alternately. README.md beside
 this file says how to read them. It needs Linux.
 """
 import argparse
@@ -105,7 +105,7 @@ def peak_of(command):
 
 
 def best_of(commands, times, look=None):
-    """Runs the commands turn about, and returns the best run of each. `look` is called after each first run."""
+    """Runs the commands alternately, and returns the best run of each. `look` is called after each first run."""
     best = {}
     for turn in range(times):
         for name, command in commands.items():

@@ -60,7 +60,7 @@ module _ (site : Site) {unsorted : List Transition} {queue : List QueuedState}
   long : length (string site) ≡ site.queued.depth
   long = word-length h.waits
 
-  -- the transitions behind the old ones are the new ones, sorted
+  -- the transitions after the old ones are the new ones, sorted
   split : transitions ≡ site.transitions ++ s.sorted
   split =
       s.split ∙ ap (λ (ts : List Transition). ts ++ s.sorted)
@@ -107,7 +107,7 @@ module _ (site : Site) {unsorted : List Transition} {queue : List QueuedState}
       (sorted-ascends h.added s.sorted
       (AllPairs-from_IsOrdered (λ (a b : Transition). a.byte ≢ b.byte) h.added h.apart) sorted-from s.order)
 
-  -- the patterns before the end of the string have no byte behind it
+  -- the patterns before the end of the string have no byte after it
   whole' : (k : ℕ) → site.queued.from ≤ k → k < site.patterns_end
       → byte_at site.sorted (length (string site)) k ≡ None
   whole' k a c = subst (λ (n : ℕ). byte_at site.sorted n k ≡ None) (sym long) (site.ends.whole k a c)

@@ -1,4 +1,4 @@
--- How the children of a state are put behind the queue, one run of patterns after another.
+-- How the children of a state are put after the queue, one run of patterns after another.
 use Rattle.std.proofs.Common.{◌≡◌, ◌≢◌, ℕ, suc, ◌+◌, ◌<◌, ◌≤◌, true, Bool, List, [], ◌∷◌, ◌++◌, length, take, inl, inr, refl, ap, sym, subst, arith, Option, Some, None}
 use Rattle.std.specs.Prelude.{nat_eq, slice_get}
 use Rattle.std.specs.List.{starts_with}
@@ -70,14 +70,14 @@ pub record Site : Type 0 where
   pub ends : EndsPatterns sorted queued patterns_end
 
 module _ (site : Site) where
-  -- the string of the state, and the byte with which a pattern goes on behind it
+  -- the string of the state, and the byte with which a pattern goes on after it
   abbrev pub string : List ℕ
   string = word site.sorted site.queued
 
   abbrev pub next_byte : ℕ → Option ℕ
   next_byte k = byte_at site.sorted site.queued.depth k
 
-  -- a pattern before the place goes on behind the string with the byte
+  -- a pattern before the place goes on after the string with the byte
   pub record GoesOnBy (place b : ℕ) : Type 0 where
     pub at : ℕ
     pub low : site.patterns_end ≤ at
@@ -122,7 +122,7 @@ module _ (site : Site) where
   rank-some None some = absurd (some refl)
   rank-some (Some b) some = omega arith
 
-  -- it begins behind the patterns that are the string
+  -- it begins after the patterns that are the string
   pub branching-begins : IsBranching site.patterns_end site.transitions site.queue
   branching-begins = record {
     grown = IsGrown-later (omega arith) (omega arith) site.ready.grown;
@@ -147,7 +147,7 @@ module _ (site : Site) where
         omega (arith, rank-some (next_byte site.patterns_end) (site.ends.other more));
   }
 
-  -- behind the patterns that are the string each pattern has a further byte
+  -- after the patterns that are the string each pattern has a further byte
   pub goes-on : {place : ℕ} {transitions : List Transition} {queue : List QueuedState}
       → IsBranching place transitions queue
       → place < site.queued.to → next_byte place ≢ None
@@ -200,7 +200,7 @@ module _ (site : Site) where
         (λ l. subst (λ (n : ℕ). byte_at site.sorted n end ≢ byte_at site.sorted n place) (sym long)
         (run.other l))
 
-    -- the pattern behind the run has a greater one
+    -- the pattern after the run has a greater one
     pub greater : end < site.queued.to → suc b < rank (next_byte end)
     greater l =
         subst (λ (n : ℕ). suc b < rank (byte_at site.sorted n end)) long

@@ -1,4 +1,4 @@
--- The child of a run of patterns, which is put behind the queue.
+-- The child of a run of patterns, which is put after the queue.
 use Rattle.std.proofs.Common.{◌≡◌, ◌≢◌, ℕ, suc, ◌+◌, ◌-◌, ◌<◌, ◌≤◌, List, [], ◌∷◌, ◌++◌, length, length-append, take, ◌⊎◌, inl, inr, refl, ap, sym, ◌∙◌, subst, arith, Some, get_or}
 use Rattle.std.specs.Prelude.{slice_get}
 use Rattle.std.proofs.lemmas.Bool.{cases_lt}
@@ -281,7 +281,7 @@ module _ (site : Site) {place end b : ℕ} {transitions : List Transition} {queu
         | inr le ↦ let r : rank (next_byte site k) ≡ suc b = ap rank (run.same k le m ∙ run.byte) in omega arith
       ]
 
-  -- with the child behind the queue the children up to the end of its run have come
+  -- with the child after the queue the children up to the end of its run have come
   pub branching-goes_on : fail ≢ ANCHORED_START → FIRST_INNER + length queue < GREATEST + 1
       → IsBranching site end (transitions ++ more_transitions) (queue ++ child ∷ [])
   branching-goes_on unanchored few = record {

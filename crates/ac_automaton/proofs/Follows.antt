@@ -193,7 +193,7 @@ module _ (g : Meaning) (states : List State) (b : ℕ) (u : Node) (old : Counts)
             looks = counted-last Yes now new s o refl more;
           }
 
-      -- an unanchored one ends behind the start and the dead state
+      -- an unanchored one ends after the start and the dead state
       pub ends-outer : (anchored : Anchored) → anchored ≡ No → s < FIRST_INNER
           → Onward g states anchored b u old now s → Ended g anchored b u old new t.fail
       ends-outer Yes is_no small o = absurd (cc)

@@ -100,7 +100,7 @@ module _ (fold : Bool) (patterns : List (List ℕ)) (all : List SortedPattern)
   last-in some = IsIn-map (keyed_one fold) (get_or new (length new - 1) pattern) new
       (IsIn-at (get_or new (length new - 1) pattern) pattern new (length new - 1) (omega arith) refl)
 
-  -- behind a lesser number a pattern takes no part
+  -- a pattern after one of a lesser number takes no part
   shadowed-part : (0 < length new)
       × HoldsAt (λ p. (is_prefix fold pattern p ≡ true) × (p.number < pattern.number)) new (length new - 1)
       → participates LeftmostFirst patterns pattern.number ≡ false
@@ -201,7 +201,7 @@ module _ (fold : Bool) (all sorted : List SortedPattern) (kept at : ℕ) (old ne
         unmoved (λ m. participates LeftmostFirst patterns m.number) all sorted kept at pattern
         (keeps.first patterns order) is
 
-  -- a pattern that is behind a lesser number is passed over
+  -- a pattern that stands after one of a lesser number is passed over
   pub Keeps-skip : (0 < length new)
       × HoldsAt (λ p. (is_prefix fold pattern p ≡ true) × (p.number < pattern.number)) new (length new - 1)
       → Keeps fold all sorted kept (at + 1) new

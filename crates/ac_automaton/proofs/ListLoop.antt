@@ -28,12 +28,12 @@ use Rattle.ac_automaton.specs.Scans.{IsAt, PassesNoMatch, Scan, ScanText, in_mem
 use Rattle.ac_automaton.proofs.Due.{counts, listed-due, listed-numbered}
 use Rattle.ac_automaton.proofs.ReadOn.{node-fits}
 
--- the element behind a list in two lists put together
+-- the element after a list in two lists put together
 pub get-behind : {X : Type 0} (xs ys : List X) (y : X) → slice_get (xs ++ y ∷ ys) (length xs) ≡ Some y
 get-behind [] ys y = refl
 get-behind (x ∷ xs) ys y = get-behind xs ys y
 
--- the item of a listing that stands behind so many, and the place after it
+-- the item of a listing that stands after so many, and the place after it
 pub record IsItem (q : Search) (place : ℕ) (m : Occurrence) : Type 0 where
   pub item : item_at q place ≡ Some m
   pub after : place_after q place ≡ place + 1
@@ -44,7 +44,7 @@ item-behind q before later m e =
     let item = ap (λ (ms : List Occurrence). slice_get ms (length before)) e ∙ get-behind before later m in
     record { item = item; after = (item-some q (length before) m item).1 }
 
--- behind the last item there is none, and the place stays
+-- after the last item there is none, and the place stays
 pub record IsPast (q : Search) (place : ℕ) : Type 0 where
   pub item : item_at q place ≡ None
   pub after : place_after q place ≡ place
@@ -201,7 +201,7 @@ module _ (s : Scan) (bytes : List ℕ) (span : Span) where
         nothing-due (due-first n rest e
         ∙ ap (λ (t : Bool). cond t (n ∷ due_in s.listed q (record reached { rest = rest })) []) short)
 
-    -- the listing of the whole span goes on behind what is listed so far
+    -- the listing of the whole span goes on after what is listed so far
     goes_on : span.end ≤ length bytes → ListsMore here q
     goes_on legal =
         let order = on.reaches.onward in

@@ -31,7 +31,7 @@ rest-ascends x y Less rest m same e = absurd (omega arith)
 rest-ascends x y Equal rest m same e = e
 rest-ascends x y Greater rest m same e = absurd (omega arith)
 
--- of two strings with one prefix, the lesser has no greater byte behind it
+-- of two strings with one prefix, the lesser has no greater byte after it
 rank-ascends : (u a b : List ℕ) → slice_cmp nat_cmp a b ≡ Less → starts_with nat_eq a u ≡ true
     → starts_with nat_eq b u ≡ true
     → rank (slice_get a (length u)) ≤ rank (slice_get b (length u))
@@ -50,7 +50,7 @@ rank-ascends (z ∷ u) (x ∷ a) (y ∷ b) less p q =
     rest-ascends x y (nat_cmp x y) (slice_cmp nat_cmp a b) (ranked x y (nat_cmp x y) refl) same less in
     rank-ascends u a b later left.1 right.1
 
--- the patterns that begin with u have ascending bytes behind it, those that are u first
+-- the patterns that begin with u have ascending bytes after it, those that are u first
 pub byte_at-ascends : (kind : MatchKind) (patterns : List (List ℕ)) (sorted : List Keyed)
     → IsOrder kind patterns sorted
     → (u : List ℕ) (j k : ℕ) → j ≤ k → k < length sorted

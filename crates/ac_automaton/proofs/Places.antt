@@ -49,7 +49,7 @@ get-take (suc n) [] k l = refl
 get-take (suc n) (x ∷ xs) zero l = refl
 get-take (suc n) (x ∷ xs) (suc k) l = get-take n xs k (omega arith)
 
--- what stands behind n elements
+-- what stands after n elements
 get-drop : {X : Type 0} (n : ℕ) (xs : List X) (k : ℕ) → slice_get (drop n xs) k ≡ slice_get xs (n + k)
 get-drop zero xs k = ap (slice_get xs) (omega arith)
 get-drop (suc n) [] k = refl

@@ -12,7 +12,7 @@ use Rattle.ac_util.proofs.Prefixes.{starts_with-length, starts_with-equal}
 use Rattle.ac_automaton.proofs.Orders.{head-no_greater}
 use Rattle.std.proofs.lemmas.Option.{slice_get-get_or, slice_get_past}
 
--- a test of a prefix compares the bytes at one place, and then those behind it
+-- a test of a prefix compares the bytes at one place, and then those after it
 starts_with-step : (f : ℕ → ℕ) (w p : List ℕ) (k : ℕ) → k < length w → k < length p
     → starts_with nat_eq (drop k (map f w)) (drop k (map f p))
     ≡ (nat_eq (f (get_or p k 0)) (f (get_or w k 0)) && starts_with nat_eq (drop (suc k) (map f w))
@@ -52,7 +52,7 @@ starts_with-push (x ∷ w) (y ∷ u) b h e =
     let parts = and_parts (nat_eq y x) (starts_with nat_eq w u) h in
     and_from _ _ parts.0 (starts_with-push w u b parts.1 e)
 
--- the last byte of a prefix stands behind the rest of it
+-- the last byte of a prefix stands after the rest of it
 pub starts_with-last : (w u : List ℕ) (b : ℕ) → starts_with nat_eq w (u ++ b ∷ []) ≡ true
     → slice_get w (length u) ≡ Some b
 starts_with-last [] [] b h = absurd (false≢true h)
@@ -61,14 +61,14 @@ starts_with-last (x ∷ w) [] b h = ap (λ (z : ℕ). Some z) (sym (eqb-true b x
 starts_with-last (x ∷ w) (y ∷ u) b h =
     starts_with-last w u b (and_parts (nat_eq y x) (starts_with nat_eq w (u ++ b ∷ [])) h).1
 
--- a string without a byte behind a prefix is that prefix
+-- a string without a byte after a prefix is that prefix
 pub starts_with-ended : (w u : List ℕ) → starts_with nat_eq w u ≡ true → slice_get w (length u) ≡ None → w ≡ u
 starts_with-ended w u h e = elim (cases_lt (length u) (length w)) [
   | inl more ↦ absurd (let byte = slice_get-get_or w (length u) 0 more in cc)
   | inr le ↦ let l = starts_with-length w u h in sym (starts_with-equal w u h (omega arith))
 ]
 
--- nothing stands behind a whole string
+-- nothing stands after a whole string
 pub ended : (u : List ℕ) → slice_get u (length u) ≡ None
 ended u = slice_get_past u (length u) (omega arith)
 

@@ -118,7 +118,7 @@ module _ (kind : MatchKind) (patterns : List (List ℕ)) (sorted : List Keyed)
     begins : (k : ℕ) → from ≤ k → k < to → starts_with nat_eq (key_at sorted k) u ≡ true
     begins k low high = (range.begins k (omega (arith, range.within))).0 (low, high)
 
-    -- where one in the range has a byte behind the string, all later ones have one that isn't less
+    -- where one in the range has a byte after the string, all later ones have one that isn't less
     pub range-ascends : (j k : ℕ) → from ≤ j → j ≤ k → k < to
         → rank (byte_at sorted (length u) j) ≤ rank (byte_at sorted (length u) k)
     range-ascends j k low le high =
@@ -236,7 +236,7 @@ module _ (kind : MatchKind) (patterns : List (List ℕ)) (sorted : List Keyed)
         (smaller : (k : ℕ) → from ≤ k → k < place → rank (byte_at sorted (length u) k) < suc b)
         (same : (k : ℕ) → place ≤ k → k < end → byte_at sorted (length u) k ≡ byte_at sorted (length u) place)
         (other : end < to → byte_at sorted (length u) end ≢ byte_at sorted (length u) place) where
-      -- the byte behind the run is greater
+      -- the byte after the run is greater
       pub next-greater : end < to → suc b < rank (byte_at sorted (length u) end)
       next-greater more = elim (cases_lt (suc b) (rank (byte_at sorted (length u) end))) [
         | inl above ↦ above

@@ -11,7 +11,7 @@ use Rattle.ac_automaton.specs.declared.automaton.stream.Phase.{Phase}
 use Rattle.ac_automaton.specs.declared.automaton.stream.Phase.TheVariants.{Ended, Failed, Open}
 use Rattle.ac_automaton.specs.Streams.{EndsNow, GivesLast, GivesMatch, GivesNext, GivesNone, GoesOnBy, HasGivenSettled, IsSettledIn, KeepsGiven, Streaming, StreamsOn, matches_so_far}
 
--- the end was met behind some bytes more, or before; under Standard all matches were given before it was
+-- the end was met after some bytes more, or before; under Standard all matches were given before it was
 module _ (ends : Bool) (old between new : Streaming) (reader new_reader : Reading) (more : List ℕ)
     (read : between
     ≡ record old { bytes = old.bytes ++ more; front = between.front; kept = between.kept; phase = Ended })

@@ -169,7 +169,7 @@ module _ {E D : Type 0} (told : D → Writing)
                   turn.3,
                 )
 
-    -- all that is settled was exchanged, and the bytes behind the last match could not be written
+    -- all that is settled was exchanged, and the bytes after the last match could not be written
     pub settled-fails : (place : ℕ) (e : StreamError) (t : Replacing E D) → v.kept ≤ place
         → WritesPiece told (slice_range v.bytes v.kept place) s (Some e) t
         → Steps told calls (take place v.bytes) 0 (take v.given (matches_so_far v)) first (Some e) t

@@ -217,7 +217,7 @@ module _ (stands : ℕ → Node → Type 0) (i : Inside) (v : Streaming) (inv : 
           ∙ ap (λ (n : ℕ). take n (inv.given.matches ++ rest)) (sym inv.given.count)
           ∙ take-append_seam inv.given.matches rest
 
-  -- what stands behind the bytes read has changed
+  -- what stands after the bytes read has changed
   module _ (open' : v.phase ≡ Open) (buffer : List ℕ) (long : length buffer ≡ length i.buffer)
       (keeps : take i.filled buffer ≡ take i.filled i.buffer) where
     goes-on : v.phase ≡ Ended → ⊥

@@ -1,4 +1,4 @@
--- The search of a stream gives a match: it is the next one whatever follows, and the search begins anew behind it.
+-- The search of a stream gives a match: it is the next one whatever follows, and the search begins anew after it.
 use Rattle.std.proofs.Common.{◌≡◌, ◌⊎◌, ℕ, suc, ◌+◌, ◌-◌, ◌<◌, ◌≤◌, Bool, true, false, List, [], ◌∷◌, ◌++◌, length, length-append, get_or, inl, inr, refl, ap, sym, subst, ◌∙◌, arith, Option, Some, None}
 use Rattle.std.specs.Prelude.{AllPairs, IfSome, slice_get}
 use Rattle.std.proofs.lemmas.Bool.{cases_lt, false≢true}

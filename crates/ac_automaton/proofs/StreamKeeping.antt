@@ -91,7 +91,7 @@ module _ (stands : ℕ → Node → Type 0) (listed : ℕ → List ℕ) (most : 
       given-all : picked ≡ None → v.given ≡ length (streamed v.built v.bytes)
       given-all none = sym (ap length (whole-given none) ∙ inv.given.count)
 
-      -- of a stream that goes on no byte was given up that isn't far behind
+      -- of a stream that goes on no byte was given up that isn't far back
       back-open : (v.phase ≡ Ended → ⊥) → v.kept ≤ max i.begun (v.front + i.at - i.reserve)
       back-open open' = elim inv.back [ inl back ↦ back | inr ended ↦ absurd (open' ended.0) ]
 

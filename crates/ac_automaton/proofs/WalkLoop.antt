@@ -129,7 +129,7 @@ under_way-further {walking = walking} way found again =
       told = λ _ some. absurd (omega arith);
     })
 
--- and it may go on behind what was found
+-- and it may go on after what was found
 under_way-found : {walking : Walking} {work : Work} {r : Option Occurrence} → IsUnderWay walking
     → HasFound walking walking.left r walking.work work → IsUnderWay (next walking r work)
 under_way-found {walking = walking} {r = None} way found =

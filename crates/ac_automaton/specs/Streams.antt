@@ -63,7 +63,7 @@ pub record IsSettling (v : Streaming) (m : Occurrence) : Type 0 where
   pub among : v.given < given
   pub ended : m.end ≤ place
 
--- the next match of the bytes read so far was given. It stands behind what isn't kept any more, and is settled
+-- the next match of the bytes read so far was given. It stands after what isn't kept any more, and is settled
 pub record GivesMatch (old : Streaming) (m : Occurrence) (new : Streaming) : Type 0 where
   pub next : slice_get (matches_so_far old) old.given ≡ Some m
   pub same : new ≡ record old { given = old.given + 1; kept = m.end }
@@ -228,7 +228,7 @@ pub record HasGiven (phase : Phase) (built : Built) (bytes : List ℕ) (given be
 abbrev pub GivesEarly : Streaming → Type 0
 GivesEarly v = v.built.kind ≡ Standard → v.given ≡ length (matches_so_far v)
 
--- a search that picks has read on in the buffer to a place: its state there, and what it picks so far, which starts behind what
+-- a search that picks has read on in the buffer to a place: its state there, and what it picks so far, which starts after what
 -- isn't kept any more
 pub record HasReadOn (stands : ℕ → Node → Type 0) (i : Inside) (v : Streaming) (state at : ℕ) (picked : Option Occurrence)
     : Type 0 where

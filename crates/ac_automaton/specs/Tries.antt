@@ -169,7 +169,7 @@ pub record IsRoot (transitions : List Transition) (states : List State) (root : 
   pub whole : length root ≡ 256
   pub told : (b : ℕ) → b < 256 → RootTells transitions states b (slice_index root b)
 
--- r is one of a node's matches, that behind so many, and where the matches after it stand in the list of a state;
+-- r is one of a node's matches, that after so many, and where the matches after it stand in the list of a state;
 -- or None where there are no more
 abbrev pub TakesFrom : Meaning → List State → Node → ℕ → Option (ℕ × MatchRest) → Type 0
 TakesFrom g states u index r =

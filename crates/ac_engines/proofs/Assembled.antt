@@ -132,7 +132,7 @@ module _ (trie : Trie) (start_kind : StartKind) (classes : List ℕ) (exponent :
         (inner_nodes-has trie.built.kind (plain_of trie.built) (x ∷ w) node (λ e. absurd cc)) in
         (state.0, record { may = may; named = state.1.named; place = inr state.1.inner })
 
-    -- its first row stands behind whole rows
+    -- its first row stands after whole rows
     first-row : (s : ℕ) (w : List ℕ) → HasRow filling nodes size s w
         → (row : ℕ) × (slice_index_or numbers s 0 ≡ row * 2 ^ exponent)
     first-row s w h = elim h.place [

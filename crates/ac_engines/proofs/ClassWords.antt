@@ -40,7 +40,7 @@ miss targets missing = record {
 abbrev pub first_true : Bool → Bool → Bool → Bool → ℕ
 first_true t u v w = cond t 0 (cond u 1 (cond v 2 (cond w 3 4)))
 
--- the first test that holds picks its target, of four and of fewer, where the last test stands in for those behind it
+-- the first test that holds picks its target, of four and of fewer, where the last test stands in for those after it
 picks-four : (t u v w : Bool) (a b c d : ℕ) (more : List ℕ) (missing : ℕ)
     → Picks (a ∷ b ∷ c ∷ d ∷ more) (first_true t u v w)
     (cond t a (cond u b (cond v c (cond w d missing)))) missing
@@ -69,7 +69,7 @@ picks-one false a missing = miss (a ∷ []) missing
 
 module _ (class : ℕ) where
   -- what the first class word of transitions tells of where a class leads: its four classes are those of the first
-  -- transitions, and the words behind it are those of the other transitions
+  -- transitions, and the words after it are those of the other transitions
   pub record Tells (es : List Edge) (word : ℕ) (words : List ℕ) : Type 0 where
     pub a : ℕ
     pub b : ℕ
@@ -165,7 +165,7 @@ module _ (class : ℕ) where
       let four : 4 * suc index ≡ suc (suc (suc (suc (4 * index)))) = omega arith in
       rw four (drop-class_words es index)
 
-  -- each class word tells of the transitions that it stands for and of those behind
+  -- each class word tells of the transitions that it stands for and of those after
   pub tells-at : (es : List Edge) (index : ℕ) → All (λ e. e.class < 256) es
       → index < length (class_words (classes_of es))
       → Tells (drop (4 * index) es) (slice_index_or (class_words (classes_of es)) index 0)
@@ -184,7 +184,7 @@ length-class_words (a ∷ b ∷ c ∷ []) = refl
 length-class_words (a ∷ b ∷ c ∷ d ∷ classes) = let more = length-class_words classes in omega arith
 
 module _ (es : List Edge) (front : List ℕ) (is : front ≡ class_words (classes_of es)) (class index : ℕ) where
-  -- behind the last class word there are no transitions
+  -- after the last class word there are no transitions
   pub none-left : length front ≤ index → target_by FAIL (drop (4 * index) es) class ≡ FAIL
   unfolding target_by
   none-left past =
@@ -222,7 +222,7 @@ module _ (es : List Edge) (front : List ℕ) (is : front ≡ class_words (classe
         ∙ ap (λ (ns : List ℕ). slice_index_or ns place 0) (sym (drop-map (λ e. e.target) (4 * index) es))
         ∙ get_or-drop (4 * index) (targets_of es) place 0
 
-    -- or it leads where the transitions behind these lead it
+    -- or it leads where the transitions after these lead it
     pub place-missed : 4 ≤ place
         → target_by FAIL (drop (4 * index) es) class ≡ target_by FAIL (drop (4 * (index + 1)) es) class
     place-missed not =

@@ -40,7 +40,7 @@ module _ (words : List ℕ) (classes : ℕ) (s : Spelling) (format : Format) (h 
   counts : (low : ℕ) → (low + 3) / 4 ≡ div_ceil low 4
   counts low = let times = div_ceil_times low 4 (omega arith) in omega (arith, times.0, times.1)
 
-  -- the matches stand behind the transitions
+  -- the matches stand after the transitions
   behind-targets : drop (words_before_matches (form words classes s) classes) words ≡ match_spelling s.matches ++ h.rest
   behind-targets = by (form words classes s == DENSE) refl
     where

@@ -1,4 +1,4 @@
--- The states behind the starts, and the strings that they stand for.
+-- The states after the starts, and the strings that they stand for.
 use Rattle.std.proofs.Common.{◌≡◌, ◌≢◌, ℕ, ◌≤◌, List, [], ◌∷◌, Some, refl, ◌∙◌}
 use Rattle.std.specs.Prelude.{slice_get}
 use Rattle.std.proofs.lemmas.Option.{slice_get_within}
@@ -18,7 +18,7 @@ long-string : (w : List ℕ) → w ≢ [] → IsLong (Some w)
 long-string [] some = absurd (some refl)
 long-string (x ∷ w) some = record { first = x; rest = w; node = refl }
 
--- a state behind the starts stands for a string that isn't empty
+-- a state after the starts stands for a string that isn't empty
 pub inner-long : (trie : Trie) (nodes : List Node) (s : ℕ) (u : Node) → AreNodes trie nodes → 4 ≤ s
     → slice_get nodes s ≡ Some u → IsLong u
 inner-long trie nodes s u h inner named =

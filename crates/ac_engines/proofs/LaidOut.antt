@@ -79,7 +79,7 @@ module _ (p : Plan) where
                 ∙ sym (side.none (Some w) anchored named)
           ]
 
-    -- a state's rows stand behind those of the start
+    -- a state's rows stand after those of the start
     inner-number : (s : ℕ) → 4 ≤ s → s < length p.nodes → 4 * p.stride ≤ slice_index_or numbers s 0
     inner-number s inner within =
         let rows = h.rows s inner within in

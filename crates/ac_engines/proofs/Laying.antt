@@ -123,7 +123,7 @@ module _ (p : Plan) where
       old-number t before =
           let c = h.count in get_or_append_left numbers (row * p.stride ∷ []) 0 t (omega (arith, c, before))
 
-      -- and its own is behind them
+      -- and its own is after them
       new-number : slice_index_or (numbers ++ row * p.stride ∷ []) s 0 ≡ row * p.stride
       new-number =
           subst (λ k. slice_index_or (numbers ++ row * p.stride ∷ []) k 0 ≡ row * p.stride) h.count

@@ -42,7 +42,7 @@ module _ (trie : Trie) where
         };
       }
 
-  -- what was listed behind the old matches, and those in front of the rest that count, are the matches of the node
+  -- what was listed after the old matches, and those in front of the rest that count, are the matches of the node
   abbrev pub HasListed : Anchored → ℕ → Node → List ℕ → List ℕ → MatchRest → Type 0
   HasListed anchored deep u old now rest =
       now ++ take_while (counts trie.built anchored deep) (rest_of rest) ≡ old ++ matches_of trie.built anchored u

@@ -10,7 +10,7 @@ use Rattle.ac_engines.specs.Filling.{Filling, HasRow, place_in}
 use Rattle.ac_engines.proofs.Places.{place-at}
 
 module _ (trie : Trie) (nodes : List Node) (h : AreNodes trie nodes) where
-  -- the state of a string that isn't empty stands behind the starts, and is the only one
+  -- the state of a string that isn't empty stands after the starts, and is the only one
   pub inner-string : (s : ℕ) (w : List ℕ) → 4 ≤ s → slice_get nodes s ≡ Some (Some w) → w ≢ []
   inner-string s w inner named =
       (inner_nodes-only trie.built.kind (plain_of trie.built) w
@@ -44,7 +44,7 @@ module _ (trie : Trie) (nodes : List Node) (h : AreNodes trie nodes) where
       first (suc zero) before same = let dead = h.unreached in absurd cc
       first (suc (suc t)) before same = absurd (omega arith)
 
--- a string that isn't empty stands behind the starts
+-- a string that isn't empty stands after the starts
 pub behind-starts : (trie : Trie) (nodes : List Node) → AreNodes trie nodes → (s : ℕ) (w : List ℕ) → w ≢ []
     → slice_get nodes s ≡ Some (Some w) → 4 ≤ s
 behind-starts trie nodes h zero w some named = let dead = h.dead in absurd cc

@@ -38,7 +38,7 @@ pub failure-node : (kind : MatchKind) (patterns : List (List ℕ)) (x : ℕ) (w 
     → IsNode kind patterns (failure kind patterns (x ∷ w))
 failure-node kind patterns x w = first_node-node kind patterns (drop 1 (open_suffixes kind patterns (x ∷ w)))
 
--- an anchored row stands at most one row behind
+-- an anchored row stands at most one row after
 pub behind-small : (start_kind : StartKind) (anchored : Anchored) (stride : ℕ)
     → behind start_kind anchored stride ≤ stride
 behind-small Both No stride = omega arith

@@ -32,7 +32,7 @@ numbered-below trie nodes s u h named =
     let count = h.numbered.count in
     omega arith
 
--- no row stands further behind than the anchored one
+-- no row stands further back than the anchored one
 pub behind-most : (start_kind : StartKind) (anchored : Anchored) (stride : ℕ)
     → behind start_kind anchored stride ≤ behind start_kind Yes stride
 behind-most Both No stride = omega arith

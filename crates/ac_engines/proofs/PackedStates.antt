@@ -1,4 +1,4 @@
--- Packed states, as they stand behind one another, mean what they should.
+-- Packed states, as they stand after one another, mean what they should.
 use Rattle.std.proofs.Common.{◌≡◌, ◌≢◌, ℕ, ◌+◌, ◌<◌, ◌≤◌, ◌↔◌, inl, inr, Bool, true, false, List, [], ◌∷◌, ◌++◌, length, drop, None, Some, refl, ap, subst, sym, ◌∙◌, arith}
 use Rattle.std.specs.Prelude.{slice_get, slice_index_or}
 use Rattle.std.proofs.lemmas.Bool.{cases_lt, ltb-false, ltb-true}
@@ -93,7 +93,7 @@ words-some One classes transitions matches = omega arith
 words-some Sparse classes transitions matches = omega arith
 
 module _ (f : Packer) (nodes : List Node) (ready : AreReady f nodes) where
-  -- where a state is placed: in front or behind, and no other state has a place before its words end
+  -- where a state is placed: in front or after, and no other state has a place before its words end
   record IsPlacedAt (s : ℕ) (u : Node) (t : Bool) : Type 0 where
     front : t ≡ true → place_at f.plan nodes s ≡ size_of f.plan nodes None + before f.plan nodes true s
     front_ends : t ≡ true → place_at f.plan nodes s < size_of f.plan nodes None + before f.plan nodes true (s + 1)

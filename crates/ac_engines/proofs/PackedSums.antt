@@ -99,12 +99,12 @@ module _ (trie : Trie) (nodes : List Node) (h : AreNodes trie nodes) where
   abbrev inner : List (List ℕ)
   inner = inner_nodes trie.built.kind (plain_of trie.built)
 
-  -- a state behind the starts stands for its string
+  -- a state after the starts stands for its string
   string-named : (s : ℕ) → 4 ≤ s → s < length nodes → slice_get nodes s ≡ Some (Some (string_at s))
   string-named s behind within =
       let named = (h.numbered.node s behind within).1.named in named ∙ ap (λ w. Some (Some (string_of w))) (sym named)
 
-  -- different states behind the starts stand for different strings
+  -- different states after the starts stand for different strings
   strings-apart : (a n : ℕ) → 4 ≤ a → a + n ≤ length nodes
       → IsOrdered (λ (v w : List ℕ). v ≢ w) (map string_at (range_with_len a n))
   strings-apart a zero behind within = tt

@@ -113,7 +113,7 @@ module _ (q : PackPlan) (nodes : List Node) where
         ≤ packed_words q.trie.built q.dense_depth (alphabet_len q.classes)
     front-within s le = omega (arith, total-grows (size_at q nodes true) s (length nodes) le, sizes-whole)
 
-    -- and so does what stands behind it
+    -- and so does what stands after it
     pub back-within : (s : ℕ) → s ≤ length nodes → front_end q nodes + before q nodes false s
         ≤ packed_words q.trie.built q.dense_depth (alphabet_len q.classes)
     back-within s le = omega (arith, total-grows (size_at q nodes false) s (length nodes) le, sizes-whole)

@@ -13,7 +13,7 @@ use Rattle.ac_engines.specs.Formats.{match_words, words_of_state}
 use Rattle.ac_engines.specs.Words.{BeginsWith, Fits, Spelling, class_words, match_spelling, one_spelling, spelled, target_by}
 use Rattle.ac_engines.proofs.ClassWords.{length-class_words}
 
--- two words stand before what is pushed behind them
+-- two words stand before what is pushed after them
 pub two-pushed : (words behind : List ℕ) (a b : ℕ) → words ++ a ∷ [] ++ b ∷ [] ++ behind ≡ words ++ a ∷ b ∷ behind
 two-pushed words behind a b =
     append_assoc (words ++ a ∷ []) (b ∷ []) behind ∙ append_assoc words (a ∷ []) (b ∷ behind)
@@ -24,7 +24,7 @@ length-match_spelling [] = refl
 length-match_spelling (p ∷ []) = refl
 length-match_spelling (p ∷ q ∷ matches) = omega arith
 
--- two matches or more stand behind their count
+-- two matches or more stand after their count
 pub several-matches : (matches : List ℕ) → 2 ≤ length matches → match_spelling matches ≡ length matches ∷ matches
 several-matches [] several = absurd (omega arith)
 several-matches (p ∷ []) several = absurd (omega arith)
@@ -61,7 +61,7 @@ length-spelled Sparse classes s fits =
     omega arith
 
 module _ (format : Format) (classes : ℕ) (s : Spelling) where
-  -- where the words of a state are pushed, they begin behind what stood before
+  -- where the words of a state are pushed, they begin after what stood before
   pub begins-behind : (before words : List ℕ) → words ≡ before ++ spelled format classes s → Fits format s
       → classes ≤ 256 → All (λ e. e.class < classes) s.edges → IsStrictlyIncreasing (map (λ e. e.class) s.edges)
       → length s.matches < ONE_MATCH → ((k : ℕ) → slice_index_or s.matches k 0 < ONE_MATCH)

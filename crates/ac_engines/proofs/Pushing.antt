@@ -20,7 +20,7 @@ use Rattle.ac_engines.proofs.PushedStates.{begins-before, begins-behind, length-
 use Rattle.ac_engines.proofs.StateSpellings.{edges-count, matches-spelled, state-spells}
 
 module _ (f : Packer) (nodes : List Node) where
-  -- the states before one that are asked for were pushed: each stands behind those before it
+  -- the states before one that are asked for were pushed: each stands after those before it
   pub record HasPushedUpTo (front : Bool) (state : ℕ) (old new : List ℕ) : Type 0 where
     pub pushed : List ℕ
     pub same : new ≡ old ++ pushed

@@ -29,7 +29,7 @@ class_words-first (a ∷ b ∷ []) = refl
 class_words-first (a ∷ b ∷ c ∷ []) = refl
 class_words-first (a ∷ b ∷ c ∷ d ∷ classes) = refl
 
--- the words of the next classes stand before those of the classes behind them
+-- the words of the next classes stand before those of the classes after them
 class_words-next : (edges four rest : List Edge) → edges ≡ four ++ rest → length four ≡ min 4 (length edges)
     → class_words (map (λ e. e.class) edges)
     ≡ class_words (map (λ e. e.class) four) ++ class_words (map (λ e. e.class) rest)

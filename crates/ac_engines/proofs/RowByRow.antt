@@ -115,7 +115,7 @@ module _ (f : Filling) (nodes : List Node) (size s : ℕ) (w : List ℕ) (h : Ha
       filled-on old new up filled.same_length (row-beside anchored old new filled.beside)
       (λ other supported. rw (only other supported) filled.filled)
 
-  -- where there are both starts the anchored row stands behind the unanchored one
+  -- where there are both starts the anchored row stands after the unanchored one
   both-rows : f.start_kind ≡ Both → row_at p Yes (Some w) ≡ row_at p No (Some w) + f.stride
   both-rows both =
       let yes = ap (λ kind. behind kind Yes f.stride) both in

@@ -30,7 +30,7 @@ module _ (start_kind : StartKind) (built : Built) where
       → [] ∷ [] ∷ row_lists start_kind built (Some []) ≡ first_lists start_kind built
   both-starts is = rw is refl
 
-  -- behind that of one start stands an empty one
+  -- after that of one start stands an empty one
   pub one-start : (start_kind ≡ Unanchored) ⊎ (start_kind ≡ AnchoredAlone)
       → ([] ∷ [] ∷ row_lists start_kind built (Some [])) ++ [] ∷ [] ≡ first_lists start_kind built
   one-start (inl is) = rw is refl

@@ -80,7 +80,7 @@ all-targets missing classes edges now h =
     ∙ sym (get_or-map-range_with_len (target_by missing edges) 0 classes class class 0 (omega (arith, long))
     (omega arith)))
 
--- words that are made longer by so many hold the same behind
+-- words that are made longer by so many hold the same after
 pub resized : (before : List ℕ) (start classes len missing : ℕ) → start ≡ length before → start ≡ len
     → take (start + classes) before ++ replicate (start + classes - len) missing ≡ before ++ replicate classes missing
 resized before start classes len missing start_is len_is =

@@ -25,7 +25,7 @@ counted es transitions are =
     omega (arith, enough, times.0, times.1, same, are)
 
 module _ (words : List ℕ) (classes : ℕ) (s : Spelling) where
-  -- the words of a sparse state, one part behind the other
+  -- the words of a sparse state, one part after the other
   pub sparse-words : (h : BeginsWith words Sparse classes s)
       → words ≡ length s.edges ∷ s.failure ∷ class_words (classes_of s.edges)
       ++ (targets_of s.edges ++ (match_spelling s.matches ++ h.rest))
@@ -36,11 +36,11 @@ module _ (words : List ℕ) (classes : ℕ) (s : Spelling) where
       (append_assoc (class_words (classes_of s.edges) ++ targets_of s.edges) (match_spelling s.matches) h.rest
       ∙ append_assoc (class_words (classes_of s.edges)) (targets_of s.edges) (match_spelling s.matches ++ h.rest))
 
-  -- all words behind the first two
+  -- all words after the first two
   abbrev pub behind : List ℕ
   behind = take (length words - 2) (drop 2 words)
 
-  -- what the code splits the words of a sparse state into: its class words, and its targets with what stands behind
+  -- what the code splits the words of a sparse state into: its class words, and its targets with what stands after
   pub record SplitsAt (transitions count : ℕ) : Type 0 where
     pub long : 2 ≤ length words
     pub enough : count ≤ length behind
@@ -67,7 +67,7 @@ module _ (words : List ℕ) (classes : ℕ) (s : Spelling) where
         small = λ k d within. let low = h.below k d within in omega (arith, low, h.few);
       }
 
-  -- the words of a dense state, one part behind the other
+  -- the words of a dense state, one part after the other
   pub dense-words : (h : BeginsWith words Dense classes s)
       → words ≡ DENSE ∷ s.failure ∷ map (target_by s.missing s.edges) (range_with_len 0 classes)
       ++ (match_spelling s.matches ++ h.rest)

@@ -13,7 +13,7 @@ use Rattle.ac_engines.specs.Rows.{behind}
 use Rattle.ac_engines.proofs.Numbers.{behind-small}
 use Rattle.ac_engines.proofs.Numbered.{place-inner, place-start}
 
--- unanchored rows stand nowhere behind
+-- an unanchored row stands at the place of its state
 pub behind-none : (start_kind : StartKind) (stride : ℕ) → behind start_kind No stride ≡ 0
 behind-none Both stride = refl
 behind-none Unanchored stride = refl
@@ -57,7 +57,7 @@ module _ (f : Filling) (nodes : List Node) (size : ℕ) (may : MayFill f nodes s
   has-row (suc (suc (suc zero))) w named other = absurd (other refl)
   has-row (suc (suc (suc (suc t)))) w named other = record { may = may; named = named; place = inr (omega arith) }
 
-  -- each state behind the starts has a row
+  -- each state after the starts has a row
   pub row-at : (s : ℕ) → 4 ≤ s → s < length nodes → (w : List ℕ) × HasRow f nodes size s w
   row-at s inner within =
       let node = may.are_nodes.numbered.node s inner within in
@@ -75,7 +75,7 @@ module _ (f : Filling) (nodes : List Node) (size : ℕ) (may : MayFill f nodes s
       inl (omega arith)
   rows-apart s t (inr other) inner order there = may.laid.apart s t other order there
 
-  -- and behind that of the dead state
+  -- and after that of the dead state
   pub row-behind : (s : ℕ) → (s ≡ 2) ⊎ (4 ≤ s) → s < length f.numbers
       → 2 * f.stride ≤ slice_index_or f.numbers s 0
   row-behind s (inl start) there =

@@ -99,7 +99,7 @@ module _ (f : Packer) (nodes : List Node) (h : AreReady f nodes) where
       sym (place-inner f.plan.trie nodes h.may.are_nodes f.numbers (suc (suc (suc (suc t)))) (x ∷ w) h.places.count
       (omega arith) named)
 
-  -- the failure target of a state behind the starts is that of its string
+  -- the failure target of a state after the starts is that of its string
   pub failure-spelled : (s t : ℕ) (u : Node) → 4 ≤ s → slice_get nodes s ≡ Some u → t ≢ 3
       → ((x : ℕ) (w : List ℕ) → slice_get nodes s ≡ Some (Some (x ∷ w))
       → slice_get nodes t ≡ Some (failure f.plan.trie.built.kind (plain_of f.plan.trie.built) (x ∷ w)))
@@ -154,7 +154,7 @@ module _ (f : Packer) (nodes : List Node) (h : AreReady f nodes) where
   missing-unanchored s n (Some (x ∷ w)) start named e =
       let first = h.may.are_nodes.start in let at = rw start at named in absurd cc
 
-  -- an own transition leads to a state behind the starts
+  -- an own transition leads to a state after the starts
   own-inner : (w : List ℕ) (index byte next : ℕ) → IsOwn f.plan.trie nodes w index byte next → 4 ≤ next
   own-inner w index byte next own =
       behind-starts f.plan.trie nodes h.may.are_nodes next (w ++ plain_byte f.plan.trie.built.fold byte ∷ [])
@@ -226,7 +226,7 @@ module _ (s : Spelling) (missing : s.missing ≡ FAIL) where
       by_depth true = tt
       by_depth false = by_count (nat_lt most_sparse transitions) refl
 
--- of the classes of all bytes that of a byte so many places behind another is no less
+-- of the classes of all bytes that of a byte so many places after another is no less
 classes-rise : (classes : List ℕ) → AreClasses classes → (n a : ℕ) → a + n < 256
     → class_at classes a ≤ class_at classes (a + n)
 classes-rise classes are zero a within = omega (arith, ap (class_at classes) (let e : a + 0 ≡ a = omega arith in e))

@@ -141,7 +141,7 @@ module _ (words : List ℕ) (classes : ℕ) (s : Spelling) (targets : List ℕ) 
   one-transition Sparse class h tells is are =
       let sparse = form-sparse words classes s h in absurd (omega (arith, sparse.0, sparse.1, tells))
 
-  -- behind the class words of a sparse state stand the targets of its transitions
+  -- after the class words of a sparse state stand the targets of its transitions
   pub sparse-targets : (transitions count : ℕ) → BeginsWith words Sparse classes s → transitions ≡ length s.edges
       → count ≡ div_ceil transitions 4 → targets ≡ take transitions (drop count (behind words classes s))
       → targets ≡ targets_of s.edges

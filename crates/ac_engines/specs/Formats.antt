@@ -36,7 +36,7 @@ format_of depth dense_depth transitions matches =
     else if nat_lt most_sparse transitions then Dense
     else sparse_format transitions matches
 
--- a match stands in one word; several stand behind their count
+-- a match stands in one word; several stand after their count
 abbrev pub match_words : ℕ → ℕ
 match_words zero = 0
 match_words (suc zero) = 1

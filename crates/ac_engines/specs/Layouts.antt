@@ -46,7 +46,7 @@ first_lists Both built = [] ∷ [] ∷ row_lists Both built (Some [])
 first_lists Unanchored built = [] ∷ [] ∷ row_lists Unanchored built (Some []) ++ [] ∷ []
 first_lists AnchoredAlone built = [] ∷ [] ∷ row_lists AnchoredAlone built (Some []) ++ [] ∷ []
 
--- a node's rows are the first behind those that have lists, and their lists were added
+-- a node's rows are the first after those that have lists, and their lists were added
 pub record IsInFront (start_kind : StartKind) (built : Built) (u : Node) (row : ℕ) (lists : List (List ℕ)) (back : ℕ)
     (new_lists : List (List ℕ)) (new_back : ℕ) : Type 0 where
   pub behind : row ≡ length lists

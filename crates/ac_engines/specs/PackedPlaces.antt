@@ -46,7 +46,7 @@ module _ (q : PackPlan) (nodes : List Node) where
   sized true (Some u) = if has_matches u then size_of u else 0
   sized false (Some u) = if has_matches u then 0 else size_of u
 
-  -- the same of the state of a number, if it is a start or stands behind the starts
+  -- the same of the state of a number, if it is a start or stands after the starts
   abbrev pub size_at : Bool → ℕ → ℕ
   size_at front s = if nat_lt s START then 0 else sized front (slice_get nodes s)
 
@@ -88,7 +88,7 @@ module _ (q : PackPlan) (nodes : List Node) where
     anchored_start = slice_index_or numbers ANCHORED_START 0;
   }
 
--- the state is a start or stands behind the starts
+-- the state is a start or stands after the starts
 pub record HasWords (q : PackPlan) (s : ℕ) : Type 0 where
   pub nodes : List Node
   pub may : MayPack q nodes

@@ -58,7 +58,7 @@ number_at at Yes (Some []) = at.anchored_start
 number_at at No (Some []) = at.place []
 number_at at anchored (Some (x ∷ w)) = at.place (x ∷ w)
 
--- matches as they are spelled: a single one stands in a word with the top bit set, several stand behind their count
+-- matches as they are spelled: a single one stands in a word with the top bit set, several stand after their count
 abbrev pub matches_in : List ℕ → List ℕ
 matches_in [] = []
 matches_in (first ∷ words) = if nat_lt first one_match then take first words else (first - one_match) ∷ []
@@ -107,7 +107,7 @@ module _ (p : Packed) (at : Places) where
   spelling_at anchored (Some []) = start_spelling anchored
   spelling_at anchored (Some (x ∷ w)) = spelling_of (x ∷ w)
 
-  -- the words stand for the nodes: each has a state, behind the number that is no target but for the dead one, whose
+  -- the words stand for the nodes: each has a state, after the number that is no target but for the dead one, whose
   -- number is 0, and no string but the empty one has the number of a start. The states of strings that have matches come
   -- before the others, and list these. Patterns are few and short enough for their numbers and lengths
   pub record IsPacked : Type 0 where

@@ -35,7 +35,7 @@ module _ (f : Packer) (nodes : List Node) where
   state_words s u =
       spelled (node_format f.plan.trie.built f.plan.dense_depth u) (alphabet_len f.plan.classes) (state_spelling s u)
 
-  -- all states that have matches were pushed, or all others: each stands behind those before it
+  -- all states that have matches were pushed, or all others: each stands after those before it
   pub record HasPushed (front : Bool) (old new : List ℕ) : Type 0 where
     pub pushed : List ℕ
     pub same : new ≡ old ++ pushed
@@ -44,7 +44,7 @@ module _ (f : Packer) (nodes : List Node) where
         → BeginsWith (drop (length old + total (size_at f.plan nodes front) s) new)
         (node_format f.plan.trie.built f.plan.dense_depth u) (alphabet_len f.plan.classes) (state_spelling s u)
 
--- the state is a start or stands behind the starts
+-- the state is a start or stands after the starts
 pub record IsPlaced (f : Packer) (s : ℕ) : Type 0 where
   pub nodes : List Node
   pub ready : AreReady f nodes

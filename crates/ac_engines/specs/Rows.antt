@@ -39,7 +39,7 @@ entry classes entries s b = slice_index_or entries (s + class_at classes b) 0
 abbrev pub list_at : Table → ℕ → List ℕ
 list_at t s = slice_index_or t.lists (s / stride_of t) []
 
--- how far the anchored row of a node stands behind its unanchored one: a row where there are both, else it is the
+-- how far the anchored row of a node stands after its unanchored one: a row where there are both, else it is the
 -- only one
 abbrev pub behind : StartKind → Anchored → ℕ → ℕ
 behind Both No stride = 0
@@ -81,7 +81,7 @@ pub record IsTable (t : Table) (place : List ℕ → ℕ) : Type 0 where
       → IsNode t.built.kind (plain_of t.built) (Some w)
       → list_at t (place w + behind t.built.start_kind anchored (stride_of t)) ≡ matches_of t.built anchored (Some w)
 
--- the states that have matches stand from one number up to another, behind which neither the dead state nor a start
+-- the states that have matches stand from one number up to another, after which neither the dead state nor a start
 -- stands
 pub record HasMatchesAmong (t : Table) (first end : ℕ) : Type 0 where
   pub early : (s : ℕ) → s < first → list_at t s ≡ []

@@ -298,7 +298,7 @@ impl<A: Allocator> Automaton for DFA<A> {
 
 /// Returns what stands in the row of a state at a class, and counts the look.
 ///
-/// The column of the class is found first, since it hangs on the byte alone: then one load leads from state to state.
+/// The column of the class is found first, since it depends on the byte alone: then one load leads from state to state.
 #[inline]
 fn look(entries: &[StateID], class: usize, sid: StateID, looks: &mut Looks) -> StateID
     requires within { sid + class < length entries.now }

@@ -1,5 +1,5 @@
 -- What is seen of a searcher: what it was built from, whether to have a prefilter, and the name and the states of
--- its engine. No answer of a search hangs on the last three; an overlapping state is one for these states alone.
+-- its engine. No answer of a search depends on the last three; an overlapping state is one for these states alone.
 use Rattle.std.specs.Prelude.{◌≡◌, ℕ, nat_le, Bool, false, true, List, length, Option, None, Some, MatchOption, ⊤, ◌&&◌, if◌then◌else◌}
 use Rattle.ac_util.specs.declared.error.BuildError.{BuildError}
 use Rattle.ac_util.specs.declared.error.BuildError.TheVariants.{Memory}

@@ -1,4 +1,4 @@
--- The states of a searcher's engine, as far as an overlapping state hangs on them.
+-- The states of a searcher's engine, as far as an overlapping state depends on them.
 use Rattle.std.specs.Prelude.{ℕ, List}
 use Rattle.ac_util.specs.declared.search.Anchored.{Anchored}
 use Rattle.ac_util.specs.Node.{Node}

@@ -112,7 +112,7 @@ module _ (fold : Bool) (patterns : List (List ℕ)) where
   unfolding class_of
   class-zero = refl
 
-  -- the class rises at a byte of a pattern, and at the byte behind it
+  -- the class rises at a byte of a pattern, and at the byte after it
   pub class-up : (b : ℕ) → (stands (b + 1) ≡ true) ⊎ (stands b ≡ true) → class (b + 1) ≡ class b + 1
   class-up b (inl at) =
       class-next b ∙ ap (λ (t : Bool). class b + cond t 1 0) (or_left (stands (b + 1)) (stands b) at)
@@ -145,7 +145,7 @@ module _ (fold : Bool) (patterns : List (List ℕ)) where
   class-le zero = omega (arith, class-zero)
   class-le (suc b) = omega (arith, ap class (add-one b), class-rises_by_one b, class-le b)
 
-  -- a byte n places behind another has no lesser class
+  -- a byte n places after another has no lesser class
   class-monotone : (n a : ℕ) → class a ≤ class (a + n)
   class-monotone zero a = omega (arith, ap class (let e : a + 0 ≡ a = omega arith in e))
   class-monotone (suc n) a =

@@ -110,7 +110,7 @@ singletons-set_apart fold patterns = record {
 
 -- of the classes of all bytes
 module _ (classes : List ℕ) (are : AreClasses classes) where
-  -- a byte n places behind another has no lesser class
+  -- a byte n places after another has no lesser class
   class_at-monotone : (n a : ℕ) → a + n < 256 → class_at classes a ≤ class_at classes (a + n)
   class_at-monotone zero a h = omega (arith, ap (class_at classes) (let e : a + 0 ≡ a = omega arith in e))
   class_at-monotone (suc n) a h =

@@ -3,7 +3,7 @@ use Rattle.std.specs.Prelude.{◌≡◌, true, false, [], ◌∷◌, codes, map,
 use Rattle.ac_util.specs.Classes.{class_of, singletons, stride2}
 use Rattle.ac_util.proofs.SearchRows.{nested_words}
 
--- a byte and its class, for "b", "abc" and "abcd": the last class is that of all bytes behind the letter d
+-- a byte and its class, for "b", "abc" and "abcd": the last class is that of all bytes after the letter d
 nested-classes : map (class_of false nested_words) (0 ∷ 96 ∷ 97 ∷ 98 ∷ 99 ∷ 100 ∷ 101 ∷ 102 ∷ 255 ∷ [])
     ≡ 0 ∷ 0 ∷ 1 ∷ 2 ∷ 3 ∷ 4 ∷ 5 ∷ 5 ∷ 5 ∷ []
 unfolding class_of

@@ -156,7 +156,7 @@ module _ (built : Built) (leftmost : is_leftmost built.kind ≡ true) (bytes : L
   abbrev walk-on : List ℕ → ℕ → Option ℕ → List Occurrence
   walk-on more low last = walk_after built.kind (there built leftmost bytes more low) last
 
-  -- none ends behind the last of them
+  -- none ends after the last of them
   ends-rise : (ms rest : List Occurrence) (low : ℕ) (last : Option ℕ)
       → walk_after built.kind (here built leftmost bytes [] low) last ≡ ms ++ rest
       → All (λ (m : Occurrence). m.end ≤ ends_at low ms) ms × (low ≤ ends_at low ms)
@@ -192,7 +192,7 @@ module _ (built : Built) (leftmost : is_leftmost built.kind ≡ true) (bytes : L
           walk-first built leftmost bytes more some (there built leftmost bytes more low) last m
           (ms ++ walk-on more begun next) (walks more)
 
-  -- so the stream is settled by them up to a place behind their end, where none is open and no other starts before it
+  -- so the stream is settled by them up to a place after their end, where none is open and no other starts before it
   pub settled-at : (ms : List Occurrence) (begun place : ℕ) (next : Option ℕ)
       → ((more : List ℕ) → streamed built (bytes ++ more) ≡ ms ++ walk-on more begun next)
       → last_end ms ≡ begun → begun ≤ place → place ≤ length bytes → NoneOpen built bytes begun place

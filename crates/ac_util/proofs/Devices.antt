@@ -70,7 +70,7 @@ module _ {old between new : Reading} {bytes more : List ℕ} (reads : ReadsSome 
     empties = (let l = later.empties in let r = reads.empties in omega arith);
   }
 
--- some bytes came, and behind them a read has failed, or brought more than usize counts
+-- some bytes came, and after them a read has failed, or brought more than usize counts
 pub fails-after : {old between : Reading} {bytes : List ℕ} (new : Reading) (more : List ℕ) → ReadsSome old between bytes
     → (seen total : ℕ) → total ≡ seen + length bytes → (e : StreamError) → FailsToRead total between new more e
     → FailsToRead seen old new (bytes ++ more) e

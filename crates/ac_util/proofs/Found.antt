@@ -153,7 +153,7 @@ module _ (kind : MatchKind) (patterns : List (List ℕ)) where
             let s = f.short in omega arith)
       ]
 
-  -- and those behind the ones that equal the string are shorter than it
+  -- and those after the ones that equal the string are shorter than it
   pub matches-shorter : (u behind : List ℕ) → found (Some u) ≡ own u ++ behind → (n : ℕ) → IsIn n behind
       → length (pattern_of patterns n) < length u
   matches-shorter [] behind e n h =

@@ -24,7 +24,7 @@ IsIn-append_left y [] ys h = absurd h
 IsIn-append_left y (x ∷ xs) ys (inl e) = inl e
 IsIn-append_left y (x ∷ xs) ys (inr h) = inr (IsIn-append_left y xs ys h)
 
--- so is one of what is added behind
+-- so is one of what is added after
 pub IsIn-append_right : {X : Type 0} (y : X) (xs ys : List X) → IsIn y ys → IsIn y (xs ++ ys)
 IsIn-append_right y [] ys h = h
 IsIn-append_right y (x ∷ xs) ys h = inr (IsIn-append_right y xs ys h)

@@ -1,4 +1,4 @@
--- A haystack behind which more bytes come: in a span of what was there before everything stays.
+-- A haystack after which more bytes come: in a span of what was there before everything stays.
 use Rattle.std.proofs.Common.{◌≡◌, ℕ, ◌≤◌, List, ◌++◌, length, length-append, ap, subst, sym, ◌∙◌, arith}
 use Rattle.std.specs.Prelude.{option_map}
 use Rattle.ac_util.specs.declared.search.MatchKind.{MatchKind}

@@ -43,7 +43,7 @@ found-IfSome built asked inside = by (found built asked) refl
     by None e = tt
     by (Some m) e = found-lies built asked m inside e
 
--- the next match of a walk occurs in a span that begins at the low end or behind it
+-- the next match of a walk occurs in a span that begins at the low end or after it
 next-Occurs : (kind : MatchKind) (q : Search) (last : Option ℕ) (p : Option Occurrence) (t : Bool)
     (m : Occurrence) → pick kind q ≡ p → unless_repeated kind q p t ≡ Some m
     → (k : ℕ) × (q.low ≤ k) × Occurs (from q k) m
@@ -51,7 +51,7 @@ next-Occurs kind q last p true m ep e =
     (q.low + 1, omega arith, pick-Occurs kind (from q (q.low + 1)) m e)
 next-Occurs kind q last p false m ep e = (q.low, omega arith, pick-Occurs kind q m (ep ∙ e))
 
--- what holds of all that occurs in a span from the low end on, or from behind it, holds of each match of a walk
+-- what holds of all that occurs in a span from the low end on, or from after it, holds of each match of a walk
 continued-All : (P : Occurrence → Type 0) (kind : MatchKind) (q : Search) (last : Option ℕ) (n : ℕ)
     (r : Option Occurrence) → next_match kind q last ≡ r
     → ((k : ℕ) (m : Occurrence) → q.low ≤ k → Occurs (from q k) m → P m)

@@ -76,7 +76,7 @@ filter-more p n (suc more) =
       length-append (filter p (range_with_len 0 (n + more))) (cond (p (n + more)) ((n + more) ∷ []) []),
     )
 
--- where one passes behind some that do, more than these pass in all
+-- where one passes after some that do, more than these pass in all
 pub filter-exceeds : (p : ℕ → Bool) (xs : List ℕ) (k n : ℕ) → k < n → p k ≡ true
     → xs ≡ filter p (range_with_len 0 k) → length xs < length (filter p (range_with_len 0 n))
 filter-exceeds p xs k n within passes same =
@@ -90,7 +90,7 @@ filter-exceeds p xs k n within passes same =
       ap length same,
     )
 
--- one more byte, noted behind the others
+-- one more byte, noted after the others
 pub take_noted : (xs : List ℕ) (count b : ℕ) → count < length xs
     → take (count + 1) (set xs count b) ≡ take count xs ++ b ∷ []
 take_noted xs count b h = grind (arith, common_steps)

@@ -58,7 +58,7 @@ standard-steps : AreSteps Standard nested_words No (
     ∷ [])
 standard-steps = refl
 
--- under a leftmost kind not to one that starts behind the first occurrence
+-- under a leftmost kind not to one that starts after the first occurrence
 first-steps : AreSteps LeftmostFirst nested_words No (
     ("", "a", at "a") ∷ ("", "b", at "b") ∷ ("", "c", at "")
     ∷ ("a", "a", at "a") ∷ ("a", "b", at "ab") ∷ ("a", "x", at "")

@@ -46,7 +46,7 @@ piece-at bytes (b ∷ e ∷ es) last (suc i) zero h next within = absurd (omega 
 piece-at bytes (b ∷ e ∷ es) last (suc i) (suc j) h next within =
     piece-at bytes (e ∷ es) last i j h.1 (omega arith) (omega arith)
 
--- a part of the front isn't changed by what is added behind
+-- a part of the front isn't changed by what is added after
 pub slice_range-append : {X : Type 0} (bytes more : List X) (s e : ℕ) → s ≤ e → e ≤ length bytes
     → slice_range (bytes ++ more) s e ≡ slice_range bytes s e
 slice_range-append bytes more s e ordered within =
@@ -54,7 +54,7 @@ slice_range-append bytes more s e ordered within =
     ap (take (e - s)) (drop-append-le s bytes more (omega arith))
     ∙ take-append-le (e - s) (drop s bytes) more (omega arith)
 
--- what is added behind stands there
+-- what is added after stands there
 slice_range-behind : (bytes more : List ℕ)
     → slice_range (bytes ++ more) (length bytes) (length bytes + length more) ≡ more
 slice_range-behind bytes more = grind (arith, common_steps)

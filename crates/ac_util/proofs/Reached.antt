@@ -8,7 +8,7 @@ use Rattle.ac_util.specs.declared.search.Anchored.TheVariants.{No, Yes}
 use Rattle.ac_util.specs.Node.{Node, is_leftmost, is_node, suffixes, begins_with_pattern, least_start, last_start, starting_by, open_suffixes, reached, step}
 use Rattle.ac_util.proofs.Participants.{begins-more, is_node-more, is_node-begins}
 
--- whether no match may start behind the beginning of w any more
+-- whether no match may start after the beginning of w any more
 abbrev pub stops : MatchKind → List (List ℕ) → List ℕ → Bool
 stops kind patterns w = is_leftmost kind && begins_with_pattern patterns w
 

@@ -139,7 +139,7 @@ module _ (built : Built) (leftmost : is_leftmost built.kind ≡ true) (bytes mor
         at_low = λ yes. absurd (cc);
       }
 
-  -- a pick that ends behind them starts at a place that is open
+  -- a pick that ends after them starts at a place that is open
   opens : (low : ℕ) (m : Occurrence) → pick built.kind (there low) ≡ Some m → m.start < length bytes
       → length bytes < m.end → IsOpen built bytes m.start
   opens low m is inside beyond =
@@ -159,7 +159,7 @@ module _ (built : Built) (leftmost : is_leftmost built.kind ≡ true) (bytes mor
             ∙ ap (plain built.fold) (shown m.start m.end inside beyond);
       }
     where
-      -- of a slice that ends behind the bytes, as many as there are of these
+      -- of a slice that ends after the bytes, as many as there are of these
       shown : (start end : ℕ) → start < length bytes → length bytes < end
           → take (length bytes - start) (slice_range (bytes ++ more) start end) ≡ drop start bytes
       shown start end inside beyond =

@@ -136,13 +136,13 @@ module _ (patterns : List (List ℕ)) where
             let l = length_push w b in let k = length_push (drop s w) b in let d = length-drop s w in
             inr (omega arith)
 
-  -- what stands in w stands one further on behind one more byte, and the other way round
+  -- what stands in w stands one further on after one more byte, and the other way round
   pub Stands-behind : (x : ℕ) (w : List ℕ) (n s : ℕ) → Stands patterns No w n s
       → Stands patterns No (x ∷ w) n (suc s)
   Stands-behind x w n s h =
       record { within = (let i = h.within in omega arith); prefixes = h.prefixes; at_front = λ e. absurd (cc) }
 
-  -- what stands behind the first byte stands in the rest
+  -- what stands after the first byte stands in the rest
   pub Stands-from_behind : (x : ℕ) (w : List ℕ) (n s : ℕ) → Stands patterns No (x ∷ w) n (suc s)
       → Stands patterns No w n s
   Stands-from_behind x w n s h =

@@ -12,7 +12,7 @@ record IsFirstFrom (p : ℕ → Bool) (low high k : ℕ) : Type 0 where
   passes : k < high → p k ≡ true
   none_before : (j : ℕ) → low ≤ j → j < k → p j ≡ false
 
--- a number that is first behind one that fails is first from that one on
+-- a number that is first after one that fails is first from that one on
 first_or_later : (p : ℕ → Bool) (low high : ℕ) (later : Option ℕ) (t : Bool) → low ≤ high → p low ≡ t
     → IsFirstFrom p (low + 1) high (unwrap_or later high)
     → IsFirstFrom p low high (unwrap_or (cond t (Some low) later) high)

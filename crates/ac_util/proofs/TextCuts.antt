@@ -117,7 +117,7 @@ module _ (text p : List ℕ) (i : ℕ) (u : IsUtf8 text) (v : IsUtf8 p) (nonempt
       sym (take-append-drop (length p) (drop i text))
       ∙ ap (λ (bs : List ℕ). bs ++ drop (length p) (drop i text)) stands
 
-  -- and behind it a character ends
+  -- and after it a character ends
   at_end : IsCharBoundary text (i + length p)
   at_end =
       IsCharBoundary-from_rest text i (length p) (omega arith)

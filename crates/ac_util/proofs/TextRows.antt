@@ -71,7 +71,7 @@ append-replaced-bytes : bytes_replaced LeftmostFirst append_words
 unfolding walk_after pick all
 append-replaced-bytes = refl
 
--- exchanged for their numbers: behind other bytes, and with the rest copied after the second match
+-- exchanged for their numbers: after other bytes, and with the rest copied after the second match
 append-numbered : codes "pre" ++ text_replaced LeftmostFirst append_words numbers append_text
     ≡ codes "pre0 the 2 to the 0age"
 unfolding walk_after pick all

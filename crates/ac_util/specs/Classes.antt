@@ -26,7 +26,7 @@ pub record IsLawful (class : ℕ → ℕ) (kind : MatchKind) (fold : Bool) (patt
 abbrev pub stands_in : Bool → List (List ℕ) → ℕ → Bool
 stands_in fold patterns b = list_any (λ p. list_any (same_byte fold b) p) patterns
 
--- the class of a byte: it rises at each byte that stands in a pattern, and at the byte behind it
+-- the class of a byte: it rises at each byte that stands in a pattern, and at the byte after it
 unfoldable pub class_of : Bool → List (List ℕ) → ℕ → ℕ
 class_of fold patterns zero = 0
 class_of fold patterns (suc b) =

@@ -30,7 +30,7 @@ impl History {
         History { seal: () }
     }
 
-    /// Returns a history with more bytes behind those of another.
+    /// Returns a history with more bytes after those of another.
     #[inline]
     pub fn with(_before: &History, _more: &[u8]) -> History
         ensures { result.bytes ≡ _before.now.bytes ++ _more.now }

@@ -22,12 +22,12 @@ lines-append [] ys = refl
 lines-append (x ∷ xs) ys =
     ap (λ (w : List ℕ). line x ++ w) (lines-append xs ys) ∙ sym (append_assoc (line x) (lines xs) (lines ys))
 
--- behind the line of one more match there is a line
+-- after the line of one more match there is a line
 found-more : (xs : List Occurrence) (m : Occurrence) → outcome_of (xs ++ m ∷ []) ≡ Found
 found-more [] m = refl
 found-more (x ∷ xs) m = refl
 
--- a part with a rest behind it is a beginning
+-- a part with a rest after it is a beginning
 starts-from : (all part rest : List ℕ) → all ≡ part ++ rest → StartsWith all part
 starts-from all part rest e = ap (take (length part)) e ∙ take-append_seam part rest
 

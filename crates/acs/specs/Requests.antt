@@ -38,7 +38,7 @@ engine_of word =
     else if bytes_eq word (codes "dfa") then Some (Some DFA)
     else None
 
--- whether a mode allows so many words behind these three: for the replacing modes they stand in pairs
+-- whether a mode allows so many words after these three: for the replacing modes they stand in pairs
 abbrev pub allows_count : Mode → ℕ → Bool
 allows_count Replace count = count % 2 == 0
 allows_count StreamReplace count = count % 2 == 0
@@ -60,7 +60,7 @@ request_of words = None
 abbrev pub words_among : {A : Type 0} → List (String A) → List (List ℕ)
 words_among arguments = drop 1 (map string_bytes arguments)
 
--- the words behind these three
+-- the words after these three
 abbrev pub words_behind : List (List ℕ) → List (List ℕ)
 words_behind words = drop 3 words
 

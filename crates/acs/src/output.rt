@@ -77,7 +77,7 @@ fn print_line<A: Allocator + Clone, W: Sink>(
     Ok(())
 }
 
-/// Writes the text behind the last line.
+/// Writes the text after the last line.
 ///
 /// # Errors
 /// As `print_walk`.

@@ -110,7 +110,7 @@ fn engine_of(word: &str) -> Option<Option<AhoCorasickKind>>
     }
 }
 
-/// Returns whether a mode allows so many words behind the first three: for the replacing modes they stand in pairs.
+/// Returns whether a mode allows so many words after the first three: for the replacing modes they stand in pairs.
 fn allows_count(mode: Mode, count: usize) -> bool
     ensures { result ≡ allows_count mode count }
 {
@@ -170,7 +170,7 @@ pub(crate) fn patterns_of<'w, A: Allocator>(
     }
 }
 
-/// Returns the bytes of the texts among the words, which stand behind their patterns.
+/// Returns the bytes of the texts among the words, which stand after their patterns.
 ///
 /// # Errors
 /// As `patterns_of`.

@@ -112,7 +112,7 @@ pub fn run_and_tell<A: Allocator + Clone, R: Source, W: Sink, E: Sink>(
     status(&outcome)
 }
 
-/// Writes the line of a fault, if there is one. A line that can't be written is let go: nobody is left to be told.
+/// Writes the line of a fault, if there is one. A failure to write this line is ignored.
 pub fn tell<E: Sink>(outcome: &Result<Outcome, Fault>, errors: &mut E)
     ensures { HasTold outcome.now (E.told errors.old) (E.told errors.new) }
 {

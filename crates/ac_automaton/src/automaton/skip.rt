@@ -15,10 +15,10 @@ use ac_util::prefilter::{Candidate, Prefilter};
 /// How many bytes a call of a prefilter has to skip to be worth its time.
 const CALL_WORTH: usize = 16;
 
-/// How many bytes skipped in vain calls a search bears before it has skipped any.
+/// The credit that a search starts with.
 const CREDIT_AT_FIRST: usize = 16 * CALL_WORTH;
 
-/// How many it bears at most after calls that have skipped much.
+/// The most credit that calls which skipped much can earn.
 const MOST_CREDIT: usize = 64 * CALL_WORTH;
 
 /// Whether it still pays to call a prefilter: calls that skip little cost more than they save.

@@ -40,7 +40,7 @@ pub enum Phase {
 /// A search over a stream, whose reader is handed to each call. `StreamFindIter` is one with a reader of its own.
 ///
 /// The matches are those of the walk over all bytes that the readers gave, however they cut them. A match is given as soon as no
-/// byte to come can change it. Under a leftmost kind some bytes behind it may have been read by then: these are searched again,
+/// byte to come can change it. Under a leftmost kind some bytes after it may have been read by then: these are searched again,
 /// at most as many for each match as the longest pattern has.
 ///
 /// What was read stands in one buffer, which is made at first and never grows: it is read into as far as it has room, and the
@@ -319,7 +319,7 @@ impl<'a, A: Automaton, Z: Allocator> StreamFinder<'a, A, Z> {
     }
 }
 
-/// Reads into a buffer behind its first bytes, which stay as they are.
+/// Reads into a buffer after its first bytes, which stay as they are.
 fn read_behind<R: Source>(reader: &mut R, buffer: &mut [u8], filled: usize) -> io::Result<usize>
     requires inside { filled ≤ length buffer.old }
     ensures long { length buffer.new ≡ length buffer.old }

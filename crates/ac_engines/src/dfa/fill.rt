@@ -44,7 +44,7 @@ impl<'a, A: Allocator> Model for Filler<'a, A> {
 }
 
 impl<'a, A: Allocator> Filler<'a, A> {
-    /// Returns how far the anchored row of a state stands behind its unanchored one.
+    /// Returns how far the anchored row of a state stands after its unanchored one.
     fn behind(&self, anchored: Anchored) -> usize
         ensures { result ≡ behind self.now.start_kind anchored self.now.stride }
     {
@@ -107,7 +107,7 @@ impl<'a, A: Allocator> Filler<'a, A> {
         }
     }
 
-    /// Fills the unanchored row of a state behind the starts: each class leads where it leads from the failure target,
+    /// Fills the unanchored row of a state after the starts: each class leads where it leads from the failure target,
     /// but for those of the state's own transitions.
     fn fill_inner(&self, table: &mut [StateID], sid: StateID)
         requires { (nodes : List Node) × (w : List ℕ) × (w ≢ [])

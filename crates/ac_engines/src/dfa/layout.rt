@@ -84,7 +84,7 @@ struct Rows<A: Allocator> {
 }
 
 impl<A: Allocator> Rows<A> {
-    /// Gives a state its rows, behind those in front where it has matches and else before those at the back. Returns
+    /// Gives a state its rows, after those in front where it has matches and else before those at the back. Returns
     /// the first of them.
     ///
     /// # Errors

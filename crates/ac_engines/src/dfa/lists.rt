@@ -14,7 +14,7 @@ use std::alloc::{AllocError, Allocator};
 use std::mem::size_of;
 
 /// The match lists of the first rows of a table, and where in one list of patterns each begins and the last one
-/// ends. The rows behind have none.
+/// ends. The rows after have none.
 #[derive(Clone, Drop)]
 pub(super) struct MatchLists<A: Allocator> {
     pub(super) listed: Vec<PatternID, A>,

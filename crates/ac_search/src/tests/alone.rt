@@ -354,7 +354,7 @@ fn each_engine_has_the_same_states(rt: HostRuntime) -> Result<(), Fail> {
     compare_states(&table)
 }
 
-/// Both patterns begin at the start, and what is behind one byte fails to it.
+/// Both patterns begin at the start, and what is after one byte fails to it.
 #[test]
 fn a_trie_is_read(rt: HostRuntime) -> Result<(), Fail> {
     let trie = noncontiguous::NFA::new(rt.alloc(), &[b"abc", b"bd"])?;

@@ -132,7 +132,7 @@ fn arguments_of(alloc: Global, words: &[&str]) -> Result<Vec<String>, AllocError
     Ok(arguments)
 }
 
-/// Words with blanks in and around them, equal words, a name with a blank behind it, and no words.
+/// Words with blanks in and around them, equal words, a name with a blank after it, and no words.
 const AS_GIVEN: &[(&[&str], &[u8], &[u8], u8)] = &[
     (
         &["overlap", "std", "auto", "ab", " ab", "ab ", "a b", "ab"],

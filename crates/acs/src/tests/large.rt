@@ -1,4 +1,4 @@
-//! Searchers past sizes at which a body might answer otherwise, or tell want of memory that nobody refused.
+//! Searchers past sizes at which a body might answer otherwise, or report want of memory that wasn't refused.
 use ac_search::{
     AhoCorasick, AhoCorasickBuilder, AhoCorasickKind, Anchored, Input, MatchKind, StartKind,
 };
@@ -44,7 +44,7 @@ fn words(alloc: Global) -> Result<Vec<String>, AllocError> {
     Ok(words)
 }
 
-/// Returns a byte many times over, with a text behind it.
+/// Returns a byte many times over, with a text after it.
 fn many(alloc: Global, byte: u8, text: &str) -> Result<Vec<u8>, AllocError> {
     let mut bytes = Vec::new(alloc);
     bytes.resize(LONG, byte)?;
@@ -63,7 +63,7 @@ fn builder_by(
     builder
 }
 
-/// Tests that a searcher, and a clone of it, finds the last of the words where it stands behind a long front.
+/// Tests that a searcher, and a clone of it, finds the last of the words where it stands after a long front.
 fn finds_the_last(searcher: &AhoCorasick, input: Input<'_>) -> Result<(), Fail> {
     for searcher in [searcher, &searcher.clone()?] {
         let found = searcher.try_find(input)?;

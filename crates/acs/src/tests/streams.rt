@@ -20,11 +20,11 @@ const HAYSTACKS: usize = 63;
 /// What the patterns of a list are exchanged for.
 const TEXTS: [&[u8]; 2] = [b"-", b"bab"];
 
-/// Gives its bytes up to the next cut a call, and behind them the end or a failure.
+/// Gives its bytes up to the next cut a call, and after them the end or a failure.
 #[derive(Drop)]
 struct Cut<'a> {
     left: &'a [u8],
-    /// Bit by bit, the lowest first: whether a read ends behind the next byte.
+    /// Bit by bit, the lowest first: whether a read ends after the next byte.
     cuts: u32,
     fails: bool,
 }

@@ -1,7 +1,7 @@
 //! Growing a trie with failure links, breadth first.
 //!
 //! A state is the range of the sorted patterns that have its string as a prefix. First in the range stand the
-//! patterns that equal the string; behind them each run of patterns with one more byte in common is a child. So
+//! patterns that equal the string; after them each run of patterns with one more byte in common is a child. So
 //! each byte of each pattern is looked at a few times, and no pattern is moved: only a state's transitions are
 //! sorted, since those by capitals come before those by small letters. A child's failure target is a step from
 //! that of its parent: along a pattern each byte makes the target at most one byte longer, and each failure link

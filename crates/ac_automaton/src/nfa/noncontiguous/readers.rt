@@ -33,7 +33,7 @@ impl<A: Allocator> NFA<A> {
     }
 
     /// Returns the failure target of a state: where an unanchored search goes on by a byte that doesn't lead on.
-    /// The number has to be that of a state behind the two starts.
+    /// The number has to be that of a state after the two starts.
     ///
     /// The target has a lesser number. The empty string is told as the start of unanchored searches.
     #[inline]

@@ -211,7 +211,7 @@ fn compare(a: &SortedPattern<'_>, b: &SortedPattern<'_>, fold: bool) -> Ordering
 /// Keeps those of all patterns that take part under `LeftmostFirst`: those without an earlier pattern as a
 /// prefix.
 ///
-/// Patterns that begin with a string stand right behind it. So a stack holds the kept prefixes of the pattern
+/// Patterns that begin with a string stand right after it. So a stack holds the kept prefixes of the pattern
 /// at hand, each with a lesser number than the one below it, and only the last is compared.
 ///
 /// # Errors

@@ -151,7 +151,7 @@ impl<'a, A: Allocator> Plan<'a, A> {
     }
 
     /// Returns the place of each state of the trie: that of its first word. Those that have matches stand in front,
-    /// up to a place that is handed in, and the others behind them.
+    /// up to a place that is handed in, and the others after them.
     ///
     /// # Errors
     /// `AllocError` where a request for memory is refused.

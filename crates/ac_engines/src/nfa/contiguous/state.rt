@@ -11,7 +11,7 @@ use ac_util::looks::Looks;
 /// The low byte of a dense state's first word.
 pub const DENSE: u8 = 0xFF;
 
-/// The low byte of the first word of a state with one transition and no match; its class stands in the byte behind it.
+/// The low byte of the first word of a state with one transition and no match; its class stands in the byte after it.
 pub const ONE: u8 = 0xFE;
 
 /// What stands where a class has no target. No state has this number.

@@ -8,7 +8,7 @@ use Rattle.ac_search.specs.Places.{HasPlace, place_in}
 use Rattle.ac_util.proofs.ListingBeginning.{item-some}
 use Rattle.ac_search.proofs.tests.all_by_state.Goals as goal
 
--- a beginning of a list, with the element behind it
+-- a beginning of a list, with the element after it
 take-more : {X : Type 0} (xs : List X) (k : ℕ) (x : X) → slice_get xs k ≡ Some x → take (k + 1) xs ≡ take k xs ++ x ∷ []
 take-more [] k x e = absurd (cc)
 take-more (y ∷ xs) zero x e = let same : y ≡ x = cc in ap (λ (z : _). z ∷ []) same

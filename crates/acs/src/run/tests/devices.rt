@@ -2,7 +2,7 @@
 use std::io;
 use std::io::{ErrorKind, Read, Write};
 
-/// Gives its bytes one a call, and behind them the end or a failure.
+/// Gives its bytes one a call, and after them the end or a failure.
 #[derive(Drop)]
 pub(super) struct Drops<'a> {
     pub(super) left: &'a [u8],

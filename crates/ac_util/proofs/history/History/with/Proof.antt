@@ -1,4 +1,4 @@
--- The walk through `with`: one struct is made, and returned as a history with the lent bytes behind those of the lent one.
+-- The walk through `with`: one struct is made, and returned as a history with the lent bytes after those of the lent one.
 use mathlib.Core.Path.{refl}
 use mathlib.Core.List.{[], ◌∷◌}
 use seplogic.Ra.Ura.{Ura}

@@ -6,7 +6,7 @@ use Rattle.std.proofs.Math.Seq.{drop-length, take-length}
 use Rattle.ac_automaton.specs.declared.nfa.noncontiguous.state.Transition.{Transition}
 use Rattle.ac_automaton.proofs.nfa.noncontiguous.growth.sort_from.Goals as goal
 
--- all from a place on are as many as there are behind it, and nothing is behind them
+-- all from a place on are as many as there are after it, and nothing is after them
 whole : (first : ℕ) (old : List Transition) → take (length old - first) (drop first old) ≡ drop first old
 whole first old =
     ap (λ (n : ℕ). take n (drop first old)) (sym (length-drop first old)) ∙ take-length (drop first old)

@@ -92,7 +92,7 @@ returns-then-matches-clause-steps c = λ g u same h. (at_dead c g u same h).step
 pub returns-then-matches-clause-looks : goal.returns-then-matches-clause-looks
 returns-then-matches-clause-looks c = λ g u same h. (at_dead c g u same h).looks
 
--- or behind one of the first four states
+-- or after one of the first four states
 at_outer : (c : Then-as_usize-lt-FIRST_INNER) (g : Meaning) (u : Node) → g.transitions ≡ c.args.trie.transitions.now
     → HasState g c.args.trie.states.now c.args.from u
     → Ended g c.args.anchored c.args.byte u c.args.looks.now c.look.new.looks c.index-states-as_usize.result.fail

@@ -5,7 +5,7 @@ use Rattle.ac_engines.proofs.Numbered.{inner-string}
 use Rattle.ac_engines.proofs.OneRow.{anchored-filled}
 use Rattle.ac_engines.proofs.dfa.fill.Filler.fill_row.Goals as goal
 
--- behind the start no string is empty
+-- after the start no string is empty
 not-empty : (f : Filling) (nodes : List Node) (size s : ℕ) (w : List ℕ) → HasRow f nodes size s w → (s ≡ 2 → ⊥)
     → w ≢ []
 not-empty f nodes size s w h other = elim h.place [

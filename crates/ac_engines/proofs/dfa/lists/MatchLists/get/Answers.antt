@@ -4,7 +4,7 @@ use Rattle.ac_util.specs.Pieces.{pieces}
 use Rattle.ac_util.proofs.PiecesLemmas.{length-pieces}
 use Rattle.ac_engines.proofs.dfa.lists.MatchLists.get.Goals as goal
 
--- no list stands behind the last one
+-- no list stands after the last one
 pub returns-then-row-lists : goal.returns-then-row-lists
 returns-then-row-lists g c =
     let m = c.args.self.now in

@@ -4,7 +4,7 @@ use Rattle.ac_engines.specs.Packing.{Packed}
 use Rattle.ac_engines.proofs.PackedNumbers.{match-number}
 use Rattle.ac_engines.proofs.nfa.contiguous.NFAAutomaton.is_match.Goals as goal
 
--- a number behind 0 and before the end of the matches' is that of a match state
+-- a number after 0 and before the end of the matches' is that of a match state
 pub returns-then-as_usize-gt-DEAD : goal.returns-then-as_usize-gt-DEAD
 returns-then-as_usize-gt-DEAD g c =
     let r = c.requires.state in

@@ -7,7 +7,7 @@ use Rattle.ac_engines.specs.Packing.{listed_at}
 use Rattle.ac_engines.proofs.nfa.contiguous.NFAAutomaton.take_match.Goals as goal
 use Rattle.ac_engines.proofs.nfa.contiguous.NFAAutomaton.take_match.Goals.{then-not-is_match-via-then-not-is_match, then-not-is_match-via-else-not-is_match+then-rest-match_len}
 
--- what isn't some is none, and nothing stands behind a place in it
+-- what isn't some is none, and nothing stands after a place in it
 none-behind : (xs : List ℕ) (place : ℕ) → (xs ≢ [] → ⊥) → drop place xs ≡ []
 none-behind [] place none = drop_of_length-le [] (omega arith)
 none-behind (x ∷ xs) place none = absurd (none (λ e. absurd cc))

@@ -8,7 +8,7 @@ use Rattle.ac_engines.proofs.SettingTargets.{all-targets, blank-behind, resized,
 use Rattle.ac_engines.proofs.PushedStates.{two-pushed}
 use Rattle.ac_engines.proofs.nfa.contiguous.draft.push_dense.Goals as goal
 
--- the targets stand behind the head
+-- the targets stand after the head
 pub returns : goal.returns
 returns g c =
     let before = c.push-2.new.self.items in

@@ -6,7 +6,7 @@ use Rattle.std.proofs.lemmas.List.{append_assoc, map-id}
 use Rattle.ac_engines.proofs.PushedStates.{several-matches}
 use Rattle.ac_engines.proofs.nfa.contiguous.draft.push_matches.Goals as goal
 
--- several stand behind their count
+-- several stand after their count
 pub returns-in_ok-extend-in_default : goal.returns-in_ok-extend-in_default
 returns-in_ok-extend-in_default g c =
     let several = several-matches c.args.matches.now c.in_default.len_at_least in

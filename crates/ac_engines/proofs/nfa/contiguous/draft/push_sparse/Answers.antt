@@ -7,7 +7,7 @@ use Rattle.ac_engines.specs.Words.{class_words}
 use Rattle.ac_engines.proofs.PushedStates.{two-pushed}
 use Rattle.ac_engines.proofs.nfa.contiguous.draft.push_sparse.Goals as goal
 
--- the targets stand behind the classes
+-- the targets stand after the classes
 pub returns : goal.returns
 returns g c =
     let listed = items_from_extend c.extend.result c.extend.ensures.ran

@@ -2,7 +2,7 @@ use Rattle.std.proofs.Common.{rules, append_assoc}
 use Rattle.ac_engines.specs.Words.{spelled}
 use Rattle.ac_engines.proofs.nfa.contiguous.draft.push_state.Goals as goal
 
--- the matches stand behind the targets
+-- the matches stand after the targets
 pub returns-in_ok-push_dense-in-Dense : goal.returns-in_ok-push_dense-in-Dense
 unfolding spelled
 returns-in_ok-push_dense-in-Dense g c = rw c.in-Dense.is (search (rules, append_assoc))
@@ -12,7 +12,7 @@ pub returns-in-One : goal.returns-in-One
 unfolding spelled
 returns-in-One g c = rw c.in-One.is c.push_one.ensures
 
--- the matches stand behind the targets
+-- the matches stand after the targets
 pub returns-in_ok-push_sparse-in-Sparse : goal.returns-in_ok-push_sparse-in-Sparse
 unfolding spelled
 returns-in_ok-push_sparse-in-Sparse g c = rw c.in-Sparse.is (search (rules, append_assoc))

@@ -17,7 +17,7 @@ returns-then-as_usize-lt-FIRST_INNER g c = λ nodes u ready named.
     let reached = c.requires.state.reached in
     failure-none c.args.self.now nodes ready c.args.sid u reached (omega arith) named
 
--- behind them it is the place of the target
+-- after them it is the place of the target
 pub returns : goal.returns
 returns g c = λ nodes u ready named.
     let trie = ap (λ (p : PackPlan). p.trie) c.plan.view_is ∙ ap (λ (f : Packer). f.plan.trie) c.self.view_is in

@@ -21,7 +21,7 @@ first-same : (t u : Trie) → t ≡ u → (rest after : MatchRest) (pattern : �
 first-same t u same rest after pattern taken =
     subst (λ v. rest_of v rest ≡ pattern ∷ rest_of v after) same taken
 
--- and with it listed, the rest behind it is what is left
+-- and with it listed, the rest after it is what is left
 one-listed : (t : Trie) (now all : List ℕ) (rest after : MatchRest) (pattern : ℕ)
     → rest_of t rest ≡ pattern ∷ rest_of t after → now ++ rest_of t rest ≡ all
     → (now ++ pattern ∷ []) ++ rest_of t after ≡ all
@@ -48,7 +48,7 @@ loop-pattern-smaller g c =
     let shorter = ap (λ (ns : List ℕ). length ns) taken in
     omega (arith, shorter)
 
--- is listed behind the others
+-- is listed after the others
 pub loop-pattern-preserved : goal.loop-pattern-preserved
 loop-pattern-preserved g c =
     let trie = ap (λ (p : PackPlan). p.trie) c.plan.view_is ∙ ap (λ (f : Packer). f.plan.trie) c.self.view_is in

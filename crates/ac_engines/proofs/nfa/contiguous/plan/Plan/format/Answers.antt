@@ -8,7 +8,7 @@ use Rattle.ac_engines.specs.Sizes.{node_format}
 use Rattle.ac_engines.proofs.InnerStates.{inner-long}
 use Rattle.ac_engines.proofs.nfa.contiguous.plan.Plan.format.Goals as goal
 
--- a state behind the starts stands for a string that isn't empty
+-- a state after the starts stands for a string that isn't empty
 pub returns : goal.returns
 returns g c nodes u may named =
     let q = c.args.self.now in

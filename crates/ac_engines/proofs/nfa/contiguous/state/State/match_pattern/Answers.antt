@@ -10,7 +10,7 @@ bounds-words-0 c =
     (reads r.1.matches r.2.rest c.match_words-words.result.now (c.match_words-words.ensures r.0 r.1 r.2 some) some
     r.2.few_matches).some
 
--- several matches stand behind their number
+-- several matches stand after their number
 pub bounds-words-index : goal.bounds-words-index
 bounds-words-index c =
     let r = c.requires in

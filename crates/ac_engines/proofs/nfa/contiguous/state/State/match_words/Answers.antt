@@ -9,7 +9,7 @@ bounds-self-0 c =
     let long = (has-failure c.args.self.words.now c.args.classes r.1 r.0 r.2).within in
     omega (arith, long)
 
--- the matches of a dense state stand behind the targets of all classes
+-- the matches of a dense state stand after the targets of all classes
 pub slice_bounds-result-count : goal.slice_bounds-result-count
 slice_bounds-result-count c =
     let r = c.requires in
@@ -27,7 +27,7 @@ returns-then-form c = λ format s h some.
     let low_byte = ap (λ (ns : List ℕ). slice_index_or ns 0 0) c.to_le_bytes.ensures in
     (dense-lists c.args.self.words.now c.args.classes s format h (sym low_byte ∙ c.if-form.true)).lists
 
--- and those of a sparse one behind the targets of its transitions
+-- and those of a sparse one after the targets of its transitions
 pub slice_bounds-result-count-2 : goal.slice_bounds-result-count-2
 slice_bounds-result-count-2 c =
     let r = c.requires in
