@@ -1,12 +1,12 @@
 -- Looking for a class in the class words of a sparse state.
-use Rattle.std.proofs.Common.{refl, ◌≡◌, ℕ, zero, suc, ◌+◌, ◌*◌, ◌/◌, ◌<◌, ◌≤◌, Bool, true, false, cond, List, [], ◌∷◌, length, map, drop, ap, sym, subst, ◌∙◌, arith}
+use Rattle.std.proofs.Common.{refl, ◌≡◌, ◌≢◌, ℕ, zero, suc, ◌+◌, ◌*◌, ◌/◌, ◌<◌, ◌≤◌, Bool, true, false, cond, List, [], ◌∷◌, length, map, drop, ap, sym, subst, ◌∙◌, arith}
 use Rattle.std.specs.Prelude.{All, slice_index_or, ◌==◌}
 use Rattle.std.proofs.Math.Seq.{drop-cons, drop-nil}
-use Rattle.std.proofs.lemmas.List.{drop_all, drop-drop, drop-map, get_or-drop, length-drop, length-map}
+use Rattle.std.proofs.lemmas.List.{drop_all, drop-drop, drop-map, get_or-drop, get_or-map, length-drop, length-map}
 use Rattle.std.proofs.lemmas.List.Elements.{All-drop}
 use Rattle.ac_engines.specs.declared.nfa.contiguous.state.Edge.{Edge}
 use Rattle.ac_engines.specs.declared.nfa.contiguous.state.TheConstants.{FAIL}
-use Rattle.ac_engines.specs.Words.{class_words, first_of, target_by, word_of}
+use Rattle.ac_engines.specs.Words.{AreNamed, class_words, first_of, target_by, word_of}
 
 -- the classes and the targets of transitions
 abbrev pub classes_of : List Edge → List ℕ
@@ -173,6 +173,14 @@ module _ (class : ℕ) where
   tells-at es index small within =
       tells (drop (4 * index) es) _ _ (All-drop (λ e. e.class < 256) (4 * index) es small)
       (sym (drop-class_words es index) ∙ drop-cons (class_words (classes_of es)) index 0 within)
+
+-- the targets of transitions that lead to states are none that no state has
+pub target-named : (es : List Edge) (at : ℕ) → AreNamed es → at < length (targets_of es)
+    → slice_index_or (targets_of es) at 0 ≢ FAIL
+target-named es at are within none =
+    let some : Edge = record { class = 0; target = 0 } in
+    let inside = (let same = length-map es (λ e. e.target) in let low : at < length es = omega arith in low) in
+    are at some inside (sym (get_or-map (λ e. e.target) es at some 0 inside) ∙ none)
 
 -- there are as many class words as it takes to hold the classes
 pub length-class_words : (classes : List ℕ) → length (class_words classes) ≡ (length classes + 3) / 4

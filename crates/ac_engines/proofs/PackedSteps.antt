@@ -1,7 +1,8 @@
 -- Where a state of packed words leads, by the node that it stands for.
 use Rattle.std.proofs.Common.{◌≡◌, ◌≢◌, ℕ, ◌+◌, ◌<◌, Bool, true, false, List, [], ◌∷◌, ◌++◌, ◌⊎◌, inl, inr, refl, ap, sym, ◌∙◌, arith, Some, None}
-use Rattle.std.specs.Prelude.{◌&&◌, if◌then◌else◌}
+use Rattle.std.specs.Prelude.{◌&&◌, if◌then◌else◌, slice_index_or}
 use Rattle.std.proofs.lemmas.Bool.{cond-true, cond-false}
+use Rattle.std.proofs.lemmas.List.Elements.{All-map, Contains-get_or}
 use Rattle.ac_util.specs.declared.search.Anchored.{Anchored}
 use Rattle.ac_util.specs.declared.search.Anchored.TheVariants.{No, Yes}
 use Rattle.ac_util.specs.Classes.{IsNode, class_at}
@@ -9,13 +10,15 @@ use Rattle.ac_util.specs.Node.{Node, begins_with_pattern, depth, is_leftmost, st
 use Rattle.ac_util.specs.Sameness.{plain_byte}
 use Rattle.ac_util.proofs.Failures.{depth-failure}
 use Rattle.ac_automaton.specs.Automata.{plain_of, looks_of, step_of}
-use Rattle.ac_automaton.specs.Readers.{leads_on}
+use Rattle.ac_automaton.specs.Readers.{leads_on, own_bytes}
 use Rattle.ac_automaton.specs.Tries.{miss}
 use Rattle.ac_automaton.proofs.Steps.{looks-on, looks-own_target, looks-short, step-miss, step-on, step-own_target}
 use Rattle.ac_engines.specs.declared.nfa.contiguous.state.TheConstants.{FAIL}
-use Rattle.ac_engines.specs.Packing.{IsPacked, Packed, Places, number_at, spelling_at}
-use Rattle.ac_engines.specs.Words.{target_by}
+use Rattle.ac_engines.specs.declared.nfa.contiguous.state.Edge.{Edge}
+use Rattle.ac_engines.specs.Packing.{IsPacked, Packed, Places, edges_of, number_at, spelling_at}
+use Rattle.ac_engines.specs.Words.{AreNamed, target_by}
 use Rattle.ac_engines.proofs.EdgeTargets.{no-target, own-target}
+use Rattle.ac_engines.proofs.Filled.{own_bytes-only}
 use Rattle.ac_engines.proofs.Numbers.{failure-node}
 
 -- where a class leads from a node, or FAIL
@@ -100,6 +103,23 @@ module _ (p : Packed) (at : Places) (h : IsPacked p at) where
       let behind = h.behind anchored (w ++ c ∷ []) node in
       let same = longer-number anchored w c in
       absurd (omega arith)
+
+  -- so each transition leads to a state
+  own-named : (w : List ℕ) → AreNamed (edges_of p at w)
+  own-named w =
+      All-map (λ (e : Edge). e.target ≢ FAIL) (λ b. record {
+        class = class_at p.classes b;
+        target = at.place (w ++ plain_byte p.built.fold b ∷ []);
+      }) (own_bytes p.built (Some w)) (λ k d within.
+      let b = slice_index_or (own_bytes p.built (Some w)) k d in
+      behind-fail No w (plain_byte p.built.fold b)
+      (own_bytes-only p.built (Some w) b (Contains-get_or (own_bytes p.built (Some w)) k d within)))
+
+  pub are-named : (anchored : Anchored) (v : Node) → AreNamed (spelling_at p at anchored v).edges
+  are-named anchored None = λ k d within. absurd (omega arith)
+  are-named No (Some []) = own-named []
+  are-named Yes (Some []) = own-named []
+  are-named anchored (Some (x ∷ w)) = own-named (x ∷ w)
 
   reads-on : (anchored : Anchored) (w : List ℕ) (b : ℕ) → b < 256 → leads_on p.built (Some w) b ≡ true
       → Reads anchored (Some w) b

@@ -1,18 +1,19 @@
 -- What stands where in the words of a state.
-use Rattle.std.proofs.Common.{refl, ◌≡◌, ◌≢◌, ℕ, ◌+◌, ◌*◌, ◌-◌, ◌/◌, ◌%◌, ◌<◌, ◌≤◌, List, [], ◌∷◌, ◌++◌, length, map, take, drop, ap, sym, subst, ◌∙◌, arith}
-use Rattle.std.specs.Prelude.{All, slice_index_or}
+use Rattle.std.proofs.Common.{refl, ◌≡◌, ◌≢◌, ℕ, ◌+◌, ◌*◌, ◌-◌, ◌/◌, ◌%◌, ◌<◌, ◌≤◌, Bool, true, false, List, [], ◌∷◌, ◌++◌, length, map, take, drop, Some, None, ap, sym, subst, ◌∙◌, arith}
+use Rattle.std.specs.Prelude.{◌==◌, All, slice_index_or}
 use Rattle.std.specs.Int.{div_ceil}
 use Rattle.std.specs.List.{range_with_len}
-use Rattle.std.proofs.lemmas.Bool.{eq-eqb, ne_eqb}
+use Rattle.std.proofs.lemmas.Bool.{cond-false, cond-true, eq-eqb, eqb-false, eqb-true, ne_eqb}
 use Rattle.std.proofs.lemmas.Grind.{div_ceil_times}
 use Rattle.std.proofs.Math.Seq.{take-append_seam}
 use Rattle.std.proofs.lemmas.List.{append_assoc, drop_at, get_or-drop, get_or_append_left, length-append, length-drop, length-map, take_all}
+use Rattle.std.proofs.lemmas.Option.{same_Some}
 use Rattle.std.proofs.lemmas.List.FromFn.{get_or-map-range_with_len, length-map-range_with_len}
 use Rattle.ac_engines.specs.declared.nfa.contiguous.format.Format.{Format}
 use Rattle.ac_engines.specs.declared.nfa.contiguous.format.Format.TheVariants.{Dense, One, Sparse}
 use Rattle.ac_engines.specs.declared.nfa.contiguous.state.Edge.{Edge}
 use Rattle.ac_engines.specs.declared.nfa.contiguous.state.TheConstants.{DENSE, FAIL, ONE}
-use Rattle.ac_engines.specs.Words.{BeginsWith, Spelling, class_words, match_spelling, one_spelling, spelled, target_by}
+use Rattle.ac_engines.specs.Words.{AreNamed, BeginsWith, Spelling, class_words, match_spelling, named, one_spelling, spelled, target_by}
 use Rattle.ac_engines.proofs.ClassWords.{classes_of, length-class_words, targets_of}
 
 -- as many class words as the code counts hold the classes of the transitions
@@ -23,6 +24,30 @@ counted es transitions are =
     let times = div_ceil_times transitions 4 (omega arith) in
     let same = length-map es (λ e. e.class) in
     omega (arith, enough, times.0, times.1, same, are)
+
+-- a word names a target, or none
+pub named-some : (target : ℕ) → target ≢ FAIL → Some target ≡ named target
+named-some target some = sym (cond-false (target == FAIL) None (Some target) (ne_eqb target FAIL some))
+
+pub named-none : (target : ℕ) → target ≡ FAIL → None ≡ named target
+named-none target none = sym (cond-true (target == FAIL) None (Some target) (eq-eqb target FAIL none))
+
+-- and what a word names is its target
+pub some-named : (target next : ℕ) → named target ≡ Some next → (next ≡ target) × (next ≢ FAIL)
+some-named target next names = by (target == FAIL) refl
+  where
+    by : (t : Bool) → (target == FAIL) ≡ t → (next ≡ target) × (next ≢ FAIL)
+    by true fail = let none = named-none target (eqb-true target FAIL fail) ∙ names in absurd cc
+    by false other =
+        let some : target ≡ next = same_Some target next (named-some target (eqb-false target FAIL other) ∙ names) in
+        (sym some, λ fail. eqb-false target FAIL other (some ∙ fail))
+
+pub none-named : (target : ℕ) → named target ≡ None → target ≡ FAIL
+none-named target names = by (target == FAIL) refl
+  where
+    by : (t : Bool) → (target == FAIL) ≡ t → target ≡ FAIL
+    by true fail = eqb-true target FAIL fail
+    by false other = let some = named-some target (eqb-false target FAIL other) ∙ names in absurd cc
 
 module _ (words : List ℕ) (classes : ℕ) (s : Spelling) where
   -- the words of a sparse state, one part after the other
@@ -116,9 +141,9 @@ module _ (words : List ℕ) (classes : ℕ) (s : Spelling) where
   -- where a state with one transition leads by a class, whose byte stands beside the form
   pub record LeadsOne (class : ℕ) : Type 0 where
     pub within : 2 < length words
-    pub hit : slice_index_or words 0 0 / 256 % 256 ≡ class
-        → slice_index_or words 2 0 ≡ target_by s.missing s.edges class
-    pub miss : slice_index_or words 0 0 / 256 % 256 ≢ class → FAIL ≡ target_by s.missing s.edges class
+    pub hit : slice_index_or words 0 0 / 256 % 256 ≡ class → AreNamed s.edges
+        → Some (slice_index_or words 2 0) ≡ named (target_by s.missing s.edges class)
+    pub miss : slice_index_or words 0 0 / 256 % 256 ≢ class → None ≡ named (target_by s.missing s.edges class)
 
   one-target : (e : Edge) (class : ℕ) → s.edges ≡ e ∷ [] → e.class ≡ class
       → target_by s.missing s.edges class ≡ e.target
@@ -140,9 +165,14 @@ module _ (words : List ℕ) (classes : ℕ) (s : Spelling) where
       let byte : slice_index_or words 0 0 / 256 % 256 ≡ e.class = omega (arith, first, below, few) in
       record {
         within = rw one.words_are (omega arith);
-        hit = λ same. ap (λ (ns : List ℕ). slice_index_or ns 2 0) one.words_are
-            ∙ sym (one-target e class one.only (sym byte ∙ same));
-        miss = λ other. sym (no-target e class one.only (λ same. other (byte ∙ same)) ∙ h.fits.2);
+        hit = λ same are.
+            let target : target_by s.missing s.edges class ≡ e.target = one-target e class one.only (sym byte ∙ same) in
+            let some = subst AreNamed one.only are 0 e (omega arith) in
+            ap (λ (ns : List ℕ). Some (slice_index_or ns 2 0)) one.words_are ∙ ap Some (sym target)
+            ∙ named-some (target_by s.missing s.edges class) (λ none. some (sym target ∙ none));
+        miss = λ other.
+            named-none (target_by s.missing s.edges class)
+            (no-target e class one.only (λ same. other (byte ∙ same)) ∙ h.fits.2);
       }
 
   -- the second word is the failure target

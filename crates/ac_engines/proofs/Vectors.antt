@@ -4,7 +4,7 @@ use Rattle.std.specs.Prelude.{All, slice_index, slice_index_or}
 use Rattle.ac_engines.specs.declared.nfa.contiguous.format.Format.TheVariants.{Dense, One, Sparse}
 use Rattle.ac_engines.specs.declared.nfa.contiguous.state.Edge.{Edge}
 use Rattle.ac_engines.specs.declared.nfa.contiguous.state.TheConstants.{FAIL, ONE_MATCH}
-use Rattle.ac_engines.specs.Words.{BeginsWith, Spelling, class_words, spelled, target_by}
+use Rattle.ac_engines.specs.Words.{AreNamed, BeginsWith, Spelling, class_words, spelled, target_by}
 
 -- a transition
 abbrev edge : ℕ → ℕ → Edge
@@ -34,6 +34,14 @@ five-below (suc (suc zero)) d low = omega arith
 five-below (suc (suc (suc zero))) d low = omega arith
 five-below (suc (suc (suc (suc zero)))) d low = omega arith
 five-below (suc (suc (suc (suc (suc k))))) d low = absurd (omega (arith, low))
+
+pub five-named : AreNamed five_edges.edges
+five-named zero d low = omega arith
+five-named (suc zero) d low = omega arith
+five-named (suc (suc zero)) d low = omega arith
+five-named (suc (suc (suc zero))) d low = omega arith
+five-named (suc (suc (suc (suc zero)))) d low = omega arith
+five-named (suc (suc (suc (suc (suc k))))) d low = absurd (omega (arith, low))
 
 six-numbers : (k : ℕ) → slice_index_or (6 ∷ []) k 0 < ONE_MATCH
 six-numbers zero = omega arith

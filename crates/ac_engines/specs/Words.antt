@@ -1,5 +1,5 @@
 -- How the states of the contiguous engine are spelled in words of 32 bits.
-use Rattle.std.specs.Prelude.{◌≡◌, ℕ, ◌+◌, ◌*◌, ◌/◌, ◌%◌, ◌<◌, ◌≤◌, ◌==◌, List, [], ◌∷◌, ◌++◌, length, map, slice_index_or, All, Option, Some, None, if◌then◌else◌, ⊤}
+use Rattle.std.specs.Prelude.{◌≡◌, ◌≢◌, ℕ, ◌+◌, ◌*◌, ◌/◌, ◌%◌, ◌<◌, ◌≤◌, ◌==◌, List, [], ◌∷◌, ◌++◌, length, map, slice_index_or, All, Option, Some, None, if◌then◌else◌, ⊤}
 use Rattle.std.specs.Borrow.{Bor}
 use Rattle.std.specs.Int.{to_le_bytes, w32}
 use Rattle.std.specs.List.{range_with_len}
@@ -21,6 +21,14 @@ pub record Spelling : Type 0 where
 unfoldable pub target_by : ℕ → List Edge → ℕ → ℕ
 target_by missing [] class = missing
 target_by missing (e ∷ edges) class = if e.class == class then e.target else target_by missing edges class
+
+-- the target that a word names, if it isn't the number that no state has
+abbrev pub named : ℕ → Option ℕ
+named target = if target == no_target then None else Some target
+
+-- each transition leads to a state
+abbrev pub AreNamed : List Edge → Type 0
+AreNamed edges = All (λ e. e.target ≢ no_target) edges
 
 -- four classes in one word, the first in the low byte
 abbrev pub word_of : ℕ → ℕ → ℕ → ℕ → ℕ

@@ -2,7 +2,7 @@
 ghost use Rattle.std.specs.Prelude.{◌≡◌, ◌≢◌, ℕ, ◌+◌, ◌<◌, ◌≤◌, ◌++◌, [], drop, length, slice_index};
 ghost use Rattle.ac_util.specs.Counts.{more_looks};
 ghost use Rattle.ac_engines.specs.declared.nfa.contiguous.format.Format.{Format};
-ghost use Rattle.ac_engines.specs.Words.{BeginsWith, Spelling, first_of, match_spelling, target_by, transitions_of, word_of};
+ghost use Rattle.ac_engines.specs.Words.{AreNamed, BeginsWith, Spelling, first_of, match_spelling, named, target_by, transitions_of, word_of};
 
 use super::format::{CLASSES_A_WORD, HEAD};
 use super::transitions::Transitions;
@@ -56,60 +56,61 @@ impl<'a> State<'a> {
         self.words[1]
     }
 
-    /// Returns where a class leads, or `FAIL` where it leads nowhere, and counts the look.
+    /// Returns where a class leads, if anywhere, and counts the look.
     ///
     /// A step reaches the transitions of a state by this alone.
     #[inline]
-    pub(super) fn look(self, class: u8, looks: &mut Looks) -> u32
+    pub(super) fn look(self, class: u8, looks: &mut Looks) -> Option<u32>
         requires { (format : Format) × (classes : ℕ) × (s : Spelling)
-            × BeginsWith self.words.now format classes s × (class < classes) }
+            × BeginsWith self.words.now format classes s × AreNamed s.edges × (class < classes) }
         ensures target { (format : Format) (classes : ℕ) (s : Spelling)
-            → BeginsWith self.entry.words.now format classes s
-            → class < classes → result ≡ target_by s.missing s.edges class }
+            → BeginsWith self.entry.words.now format classes s → AreNamed s.edges
+            → class < classes → result ≡ named (target_by s.missing s.edges class) }
         ensures counted { looks.new ≡ more_looks 1 looks.old }
     {
         looks.look();
         self.target(class)
     }
 
-    /// Returns where a class leads, or `FAIL` where it leads nowhere.
+    /// Returns where a class leads, if anywhere.
     #[inline]
-    fn target(self, class: u8) -> u32
+    fn target(self, class: u8) -> Option<u32>
         requires { (format : Format) × (classes : ℕ) × (s : Spelling)
-            × BeginsWith self.words.now format classes s × (class < classes) }
+            × BeginsWith self.words.now format classes s × AreNamed s.edges × (class < classes) }
         ensures { (format : Format) (classes : ℕ) (s : Spelling) → BeginsWith self.entry.words.now format classes s
-            → class < classes → result ≡ target_by s.missing s.edges class }
+            → AreNamed s.edges → class < classes → result ≡ named (target_by s.missing s.edges class) }
     {
         let [form, only, _, _] = self.words[0].to_le_bytes();
         if form == DENSE {
-            return self.words[HEAD + class as usize];
+            let target = self.words[HEAD + class as usize];
+            return if target == FAIL { None } else { Some(target) };
         }
         if form != ONE {
             return self.sparse_target(form as usize, class);
         }
         if only == class {
-            self.words[HEAD]
+            Some(self.words[HEAD])
         } else {
-            FAIL
+            None
         }
     }
 
     /// Returns where a class leads from a state that has so many transitions, four classes in a word.
     #[inline]
-    fn sparse_target(self, transitions: usize, class: u8) -> u32
+    fn sparse_target(self, transitions: usize, class: u8) -> Option<u32>
         requires { (classes : ℕ) × (s : Spelling) × BeginsWith self.words.now Format.Sparse classes s
             × (transitions ≡ length s.edges) }
         ensures { (classes : ℕ) (s : Spelling) → BeginsWith self.entry.words.now Format.Sparse classes s
-            → transitions ≡ length s.edges → result ≡ target_by FAIL s.edges class }
+            → AreNamed s.edges → transitions ≡ length s.edges → result ≡ named (target_by FAIL s.edges class) }
     {
         let (classes, targets) = self.words[HEAD..].split_at(transitions.div_ceil(CLASSES_A_WORD));
         for (index, word) in classes.iter().enumerate() {
             let place = place_in(*word, class);
             if place < CLASSES_A_WORD {
-                return targets[CLASSES_A_WORD * index + place];
+                return Some(targets[CLASSES_A_WORD * index + place]);
             }
         }
-        FAIL
+        None
     }
 
     /// Returns an iterator over the state's own transitions in ascending order of their classes. A dense state has one

@@ -6,7 +6,7 @@ ghost use Rattle.ac_util.specs.Node.{Node};
 ghost use Rattle.ac_automaton.specs.Automata.{looks_of, step_of};
 ghost use Rattle.ac_engines.specs.Packing.{Packed, StandsAt};
 
-use super::state::{FAIL, State};
+use super::state::State;
 use ac_automaton::nfa::noncontiguous::DEAD;
 use ac_util::looks::Looks;
 use ac_util::primitives::StateID;
@@ -34,8 +34,7 @@ pub(super) fn follow(
     let mut at = from.as_usize();
     loop {
         let state = State::at(words, at);
-        let next = state.look(class, looks);
-        if next != FAIL {
+        if let Some(next) = state.look(class, looks) {
             return StateID::must(next as usize);
         }
         if anchored.is_anchored() {

@@ -63,8 +63,8 @@ fn states_are_read(rt: HostRuntime) {
 fn a_class_leads_to_its_target_or_to_none(rt: HostRuntime) {
     let state = State::at(&SPARSE, 0);
     let mut looks = Looks::new();
-    assert_eq!(rt; state.look(20, &mut looks), 140);
-    assert_eq!(rt; state.look(21, &mut looks), FAIL);
+    assert_eq!(rt; state.look(20, &mut looks), Some(140));
+    assert_eq!(rt; state.look(21, &mut looks), None);
 }
 
 #[test]

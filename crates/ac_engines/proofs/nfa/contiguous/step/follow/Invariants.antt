@@ -6,10 +6,10 @@ use Rattle.ac_engines.proofs.Follow.{Onward}
 use Rattle.ac_engines.proofs.nfa.contiguous.step.follow.Given as goal
 
 -- whatever the words were packed from, the walk is on the way to where the byte leads
-abbrev pub invariant-loop-state : goal.invariant-loop-state
-invariant-loop-state l =
+abbrev pub invariant-loop-next : goal.invariant-loop-next
+invariant-loop-next l =
     (p : Packed) (b : ℕ) (u : Node) → p.words ≡ l.words → b < 256 → l.class ≡ class_at p.classes b
     → StandsAt p l.anchored l.fn.from u → Onward p l.anchored b u l.fn.looks l.looks l.at
 
-abbrev pub decreases-loop-state : goal.decreases-loop-state
-decreases-loop-state l = 18446744073709551617 + l.fn.looks.looks - l.looks.looks
+abbrev pub decreases-loop-next : goal.decreases-loop-next
+decreases-loop-next l = 18446744073709551617 + l.fn.looks.looks - l.looks.looks

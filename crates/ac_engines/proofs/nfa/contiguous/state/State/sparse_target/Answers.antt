@@ -1,8 +1,10 @@
-use Rattle.std.proofs.Common.{refl, ◌+◌, ◌*◌, List, ℕ, ap, sym, ◌∙◌, arith}
+use Rattle.std.proofs.Common.{refl, ◌+◌, ◌*◌, List, ℕ, Some, ap, sym, ◌∙◌, arith}
 use Rattle.std.specs.Prelude.{slice_index_or}
 use Rattle.std.proofs.lemmas.List.{get_or_append_left, length-append}
-use Rattle.ac_engines.proofs.ClassWords.{none-left, place-found, place-missed, place-within, targets_of}
-use Rattle.ac_engines.proofs.Spellings.{splits-at}
+use Rattle.ac_engines.specs.declared.nfa.contiguous.state.TheConstants.{FAIL}
+use Rattle.ac_engines.specs.Words.{target_by}
+use Rattle.ac_engines.proofs.ClassWords.{none-left, target-named, place-found, place-missed, place-within, targets_of}
+use Rattle.ac_engines.proofs.Spellings.{named-none, named-some, splits-at}
 use Rattle.ac_engines.proofs.nfa.contiguous.state.State.sparse_target.Goals as goal
 
 -- two words stand before the class words
@@ -32,17 +34,18 @@ bounds-targets-index c =
 
 -- it leads there
 pub returns-then-place-lt-CLASSES_A_WORD : goal.returns-then-place-lt-CLASSES_A_WORD
-returns-then-place-lt-CLASSES_A_WORD c = λ classes s h are.
-    let split = splits-at c.args.self.words.now classes s c.args.transitions c.div_ceil.result h are c.div_ceil.ensures in
+returns-then-place-lt-CLASSES_A_WORD c = λ classes s h are counts.
+    let split = splits-at c.args.self.words.now classes s c.args.transitions c.div_ceil.result h counts c.div_ceil.ensures in
     let front = c.split_at.ensures.front ∙ split.front in
     let at = 4 * c.loop-index.index + c.place_in-place.result in
-    ap (λ (ns : List ℕ). slice_index_or ns at 0) (c.split_at.ensures.back ∙ split.back)
-    ∙ get_or_append_left (targets_of s.edges) split.more 0 at
-    (place-within s.edges c.split_at.result.0.now front c.args.class c.loop-index.index c.place_in-place.result
-    split.small c.loop-index-test.true c.place_in-place.ensures c.if-place-lt-CLASSES_A_WORD.true)
-    ∙ sym (c.loop-index.invariant classes s h are
+    let within = place-within s.edges c.split_at.result.0.now front c.args.class c.loop-index.index c.place_in-place.result
+    split.small c.loop-index-test.true c.place_in-place.ensures c.if-place-lt-CLASSES_A_WORD.true in
+    let target = c.loop-index.invariant classes s h counts
     ∙ place-found s.edges c.split_at.result.0.now front c.args.class c.loop-index.index c.place_in-place.result
-    split.small c.loop-index-test.true c.place_in-place.ensures c.if-place-lt-CLASSES_A_WORD.true)
+    split.small c.loop-index-test.true c.place_in-place.ensures c.if-place-lt-CLASSES_A_WORD.true in
+    ap (λ (ns : List ℕ). Some (slice_index_or ns at 0)) (c.split_at.ensures.back ∙ split.back)
+    ∙ ap Some (get_or_append_left (targets_of s.edges) split.more 0 at within ∙ sym target)
+    ∙ named-some (target_by FAIL s.edges c.args.class) (λ none. target-named s.edges at are within (sym target ∙ none))
 
 -- a class that isn't in a word is looked for in the next one
 pub loop-index-preserved : goal.loop-index-preserved
@@ -55,8 +58,9 @@ loop-index-preserved c = λ classes s h are.
 
 -- one that is in no word has no transition
 pub returns : goal.returns
-returns c = λ classes s h are.
-    let split = splits-at c.args.self.words.now classes s c.args.transitions c.div_ceil.result h are c.div_ceil.ensures in
-    sym (c.loop-index.invariant classes s h are
+returns c = λ classes s h are counts.
+    let split = splits-at c.args.self.words.now classes s c.args.transitions c.div_ceil.result h counts c.div_ceil.ensures in
+    named-none (target_by FAIL s.edges c.args.class)
+    (c.loop-index.invariant classes s h counts
     ∙ none-left s.edges c.split_at.result.0.now (c.split_at.ensures.front ∙ split.front) c.args.class
     c.loop-index.index c.loop-index-test.false)

@@ -1,7 +1,7 @@
-use Rattle.std.proofs.Common.{◌∙◌, List, ℕ, ap, sym, arith}
+use Rattle.std.proofs.Common.{◌∙◌, List, ℕ, Some, ap, sym, arith}
 use Rattle.std.specs.Prelude.{slice_index_or}
-use Rattle.ac_engines.specs.Words.{target_by}
-use Rattle.ac_engines.proofs.Spellings.{has-failure, leads-at, leads-one, is-dense, is-one, is-sparse}
+use Rattle.ac_engines.specs.Words.{named, target_by}
+use Rattle.ac_engines.proofs.Spellings.{has-failure, named-none, named-some, leads-at, leads-one, is-dense, is-one, is-sparse}
 use Rattle.ac_engines.proofs.nfa.contiguous.state.State.target.Goals as goal
 
 pub bounds-self-0 : goal.bounds-self-0
@@ -16,13 +16,22 @@ bounds-self-class c =
     let r = c.requires in
     let low_byte = ap (λ (ns : List ℕ). slice_index_or ns 0 0) c.to_le_bytes.ensures in
     let dense = is-dense c.args.self.words.now r.1 r.2 r.0 r.3 (sym low_byte ∙ c.if-form.true) in
-    (leads-at c.args.self.words.now r.1 r.2 c.args.class dense r.4).within
+    (leads-at c.args.self.words.now r.1 r.2 c.args.class dense r.5).within
 
-pub returns-then-form : goal.returns-then-form
-returns-then-form c = λ format classes s h low.
+-- it leads there, unless nowhere
+pub returns-then-target-eq-FAIL : goal.returns-then-target-eq-FAIL
+returns-then-target-eq-FAIL c = λ format classes s h named low.
     let low_byte = ap (λ (ns : List ℕ). slice_index_or ns 0 0) c.to_le_bytes.ensures in
     let dense = is-dense c.args.self.words.now classes s format h (sym low_byte ∙ c.if-form.true) in
-    (leads-at c.args.self.words.now classes s c.args.class dense low).target
+    let leads = leads-at c.args.self.words.now classes s c.args.class dense low in
+    named-none _ (sym leads.target ∙ c.if-target-eq-FAIL.true)
+
+pub returns-else-target-eq-FAIL : goal.returns-else-target-eq-FAIL
+returns-else-target-eq-FAIL c = λ format classes s h named low.
+    let low_byte = ap (λ (ns : List ℕ). slice_index_or ns 0 0) c.to_le_bytes.ensures in
+    let dense = is-dense c.args.self.words.now classes s format h (sym low_byte ∙ c.if-form.true) in
+    let leads = leads-at c.args.self.words.now classes s c.args.class dense low in
+    ap Some leads.target ∙ named-some _ (λ none. c.if-target-eq-FAIL.false (leads.target ∙ none))
 
 -- of a sparse one, the low byte is the number of its transitions
 pub sparse_target-requires : goal.sparse_target-requires
@@ -34,12 +43,12 @@ sparse_target-requires c =
     (r.1, r.2, sparse.begins, low_byte ∙ sparse.counts)
 
 pub returns-then-form-2 : goal.returns-then-form-2
-returns-then-form-2 c = λ format classes s h low.
+returns-then-form-2 c = λ format classes s h are low.
     let low_byte = ap (λ (ns : List ℕ). slice_index_or ns 0 0) c.to_le_bytes.ensures in
     let sparse = is-sparse c.args.self.words.now classes s format h (λ dense. c.if-form.false (low_byte ∙ dense))
     (λ one. c.if-form-2.true (low_byte ∙ one)) in
-    c.sparse_target.ensures classes s sparse.begins (low_byte ∙ sparse.counts)
-    ∙ ap (λ (missing : ℕ). target_by missing s.edges c.args.class) (sym sparse.begins.fits.1)
+    c.sparse_target.ensures classes s sparse.begins are (low_byte ∙ sparse.counts)
+    ∙ ap (λ (missing : ℕ). named (target_by missing s.edges c.args.class)) (sym sparse.begins.fits.1)
 
 -- one transition has one target
 pub bounds-self-2 : goal.bounds-self-2
@@ -50,15 +59,15 @@ bounds-self-2 c =
     (leads-one c.args.self.words.now r.1 r.2 c.args.class one).within
 
 pub returns-then-only-class : goal.returns-then-only-class
-returns-then-only-class c = λ format classes s h low.
+returns-then-only-class c = λ format classes s h are low.
     let low_byte = ap (λ (ns : List ℕ). slice_index_or ns 0 0) c.to_le_bytes.ensures in
     let next_byte = ap (λ (ns : List ℕ). slice_index_or ns 1 0) c.to_le_bytes.ensures in
     let one = is-one c.args.self.words.now classes s format h (sym low_byte ∙ c.if-form-2.false) in
-    (leads-one c.args.self.words.now classes s c.args.class one).hit (sym next_byte ∙ c.if-only-class.true)
+    (leads-one c.args.self.words.now classes s c.args.class one).hit (sym next_byte ∙ c.if-only-class.true) are
 
 -- by another class it leads nowhere
 pub returns-else-only-class : goal.returns-else-only-class
-returns-else-only-class c = λ format classes s h low.
+returns-else-only-class c = λ format classes s h are low.
     let low_byte = ap (λ (ns : List ℕ). slice_index_or ns 0 0) c.to_le_bytes.ensures in
     let next_byte = ap (λ (ns : List ℕ). slice_index_or ns 1 0) c.to_le_bytes.ensures in
     let one = is-one c.args.self.words.now classes s format h (sym low_byte ∙ c.if-form-2.false) in

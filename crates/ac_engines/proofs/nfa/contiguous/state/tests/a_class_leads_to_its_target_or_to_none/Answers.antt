@@ -1,7 +1,7 @@
 use Rattle.std.proofs.Common.{List, ℕ, subst, sym, arith}
 use Rattle.ac_engines.specs.declared.nfa.contiguous.format.Format.TheVariants.{Sparse}
 use Rattle.ac_engines.specs.Words.{BeginsWith}
-use Rattle.ac_engines.proofs.Vectors.{five_edges, sparse-begins}
+use Rattle.ac_engines.proofs.Vectors.{five-named, five_edges, sparse-begins}
 use Rattle.ac_engines.proofs.nfa.contiguous.state.tests.a_class_leads_to_its_target_or_to_none.Goals as goal
 
 pub look-requires : goal.look-requires
@@ -11,6 +11,7 @@ look-requires g c = (
   five_edges,
   subst (λ (ns : List ℕ). BeginsWith ns Sparse 131 five_edges) (sym c.at-state.ensures)
       sparse-begins,
+  five-named,
   omega arith,
 )
 
@@ -21,5 +22,6 @@ look-requires-2 g c = (
   five_edges,
   subst (λ (ns : List ℕ). BeginsWith ns Sparse 131 five_edges) (sym c.at-state.ensures)
       sparse-begins,
+  five-named,
   omega arith,
 )
