@@ -43,7 +43,7 @@ pub mod StreamText
 pub mod StreamFilling
 pub mod StreamReplacing
 pub mod Steps
-pub mod Tables
+pub mod TrieStates
 pub mod WalkLoop
 pub mod WalkRuns
 pub mod WholeTries

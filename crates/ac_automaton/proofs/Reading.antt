@@ -15,7 +15,7 @@ use Rattle.ac_automaton.specs.declared.nfa.noncontiguous.state.State.{State}
 use Rattle.ac_automaton.specs.declared.nfa.noncontiguous.state.Transition.{Transition}
 use Rattle.ac_automaton.specs.Automata.{plain_of}
 use Rattle.ac_automaton.specs.Readers.{HasOwn, IsOwn, leads_on, own_bytes}
-use Rattle.ac_automaton.specs.Tries.{IsTable, Represents, Trie, meaning_of, own_target, transition_bytes, transitions_of}
+use Rattle.ac_automaton.specs.Tries.{IsTrie, Represents, Trie, meaning_of, own_target, transition_bytes, transitions_of}
 use Rattle.ac_automaton.proofs.Branched.{own_target-is, own_target-node}
 use Rattle.ac_automaton.proofs.Counting.{IsOrdered-from_AllPairs}
 use Rattle.ac_automaton.proofs.Follows.{leads-on, represented}
@@ -54,23 +54,23 @@ module _ (trie : Trie) (nodes : List Node) where
   )
 
   -- a state that was read stands for the node of its number
-  pub reads : (table : IsTable trie nodes) (s : ℕ) (u : Node) → slice_get nodes s ≡ Some u → (t : State)
+  pub reads : (is_trie : IsTrie trie nodes) (s : ℕ) (u : Node) → slice_get nodes s ≡ Some u → (t : State)
       → t ≡ get_or trie.states s t → Represents (meaning_of trie nodes) s u t
-  reads table s u named t is =
+  reads is_trie s u named t is =
       let there = slice_get_within nodes s u named in
-      let whole = table.whole in
+      let whole = is_trie.whole in
       represented (meaning_of trie nodes) trie.states s u t
-      (record { meant = table.states; there = omega arith; named = named }) is
+      (record { meant = is_trie.states; there = omega arith; named = named }) is
 
   -- a state that was read by a number below the count stands for some node
-  pub is-read : (table : IsTable trie nodes) (s : ℕ) → s < state_count trie.built.kind (plain_of trie.built)
+  pub is-read : (is_trie : IsTrie trie nodes) (s : ℕ) → s < state_count trie.built.kind (plain_of trie.built)
       → (t : State) → t ≡ get_or trie.states s t → IsRead trie s t
-  is-read table s numbered t is =
-      let count = table.numbered.count in
+  is-read is_trie s numbered t is =
+      let count = is_trie.numbered.count in
       record {
         nodes = nodes;
         node = get_or nodes s None;
-        represents = reads table s (get_or nodes s None) (slice_get-get_or nodes s None (omega arith)) t is;
+        represents = reads is_trie s (get_or nodes s None) (slice_get-get_or nodes s None (omega arith)) t is;
       }
 
   -- what a state tells that stands for a node
@@ -99,24 +99,24 @@ module _ (trie : Trie) (nodes : List Node) where
         ∙ ap (length {A = ℕ}) own-is
 
   -- and each place below their count is that of an own one
-  pub has-own : (table : IsTable trie nodes) (s : ℕ) → s < state_count trie.built.kind (plain_of trie.built)
+  pub has-own : (is_trie : IsTrie trie nodes) (s : ℕ) → s < state_count trie.built.kind (plain_of trie.built)
       → (t : State) → t ≡ get_or trie.states s t
       → (index : ℕ) → index < t.transitions_end - t.transitions → HasOwn trie s index
-  has-own table s numbered t is index within =
-      let count = table.numbered.count in
+  has-own is_trie s numbered t is index within =
+      let count = is_trie.numbered.count in
       let named = slice_get-get_or nodes s None (omega arith) in
       let u = get_or nodes s None in
-      let long = own-length s u t (reads table s u named t is) in
+      let long = own-length s u t (reads is_trie s u named t is) in
       record {
         nodes = nodes;
         are_nodes = record {
-          table = table;
-          numbered = table.numbered;
-          dead = table.states.dead;
-          unreached = table.unreached;
-          start = table.start;
-          anchored_start = table.anchored_start;
-          stands = λ n v e. record { nodes = nodes; table = table; named = e };
+          is_trie = is_trie;
+          numbered = is_trie.numbered;
+          dead = is_trie.states.dead;
+          unreached = is_trie.unreached;
+          start = is_trie.start;
+          anchored_start = is_trie.anchored_start;
+          stands = λ n v e. record { nodes = nodes; is_trie = is_trie; named = e };
         };
         node = u;
         named = named;
@@ -153,7 +153,7 @@ pub record IsPlace (trie : Trie) (t : State) (index : ℕ) : Type 0 where
 pub own-place : (trie : Trie) (s index : ℕ) → HasOwn trie s index → (t : State) → t ≡ get_or trie.states s t
     → IsPlace trie t index
 own-place trie s index own t is =
-    let r = reads trie own.nodes own.are_nodes.table s own.node own.named t is in
+    let r = reads trie own.nodes own.are_nodes.is_trie s own.node own.named t is in
     let count = own-length trie own.nodes s own.node t r in
     let within = own.within in
     record { among = omega arith; listed = omega (arith, r.listed) }

@@ -17,7 +17,7 @@ use Rattle.ac_automaton.specs.declared.nfa.noncontiguous.state.Transition.{Trans
 use Rattle.ac_automaton.specs.Builds.{too_many_states}
 use Rattle.ac_automaton.specs.Growths.{first_states, HasBegun, HasBranched, IsGrown, IsReady, Waits, grown_meaning, nodes_of, word}
 use Rattle.ac_automaton.specs.Sorted.{Keyed, IsOrder, Sorted, byte_at, key_at, numbers}
-use Rattle.ac_automaton.specs.Tries.{AreStates, IsTable, Meaning, NumbersNodes, Represents, dead_state, state_at, trie_of}
+use Rattle.ac_automaton.specs.Tries.{AreStates, IsTrie, Meaning, NumbersNodes, Represents, dead_state, state_at, trie_of}
 use Rattle.ac_automaton.proofs.Grown.{AreStates-push, IsGrown-later, nodes-inner}
 use Rattle.ac_automaton.proofs.ListsOf.{listed_within-matches}
 use Rattle.ac_automaton.proofs.StateCount.{numbers-nodes, too_many_states-none}
@@ -274,9 +274,13 @@ module _ (texts : List (List ℕ)) {fold : Bool} {kind : MatchKind} {sorted : Li
       fold h.settled states h.meant counted
 
   -- the states are those of an automaton
-  pub whole-table : (filters : Bool) → IsTable (trie_of texts fold kind filters (numbers sorted) transitions states)
-      (nodes_of sorted queue)
-  whole-table filters =
+  pub whole-trie : (filters : Bool) → IsTrie (trie_of (record {
+    patterns = texts;
+    fold = fold;
+    kind = kind;
+    filters = filters;
+  }) (numbers sorted) transitions states) (nodes_of sorted queue)
+  whole-trie filters =
       let named = length-map queue (λ (q : QueuedState). Some (word sorted q)) in
       record {
         both = refl;

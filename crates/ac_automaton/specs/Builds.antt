@@ -40,22 +40,36 @@ engine_built_by settings patterns = record {
 abbrev pub state_refusal : EngineSettings → List (List ℕ) → Option BuildError
 state_refusal settings patterns = too_many_states settings.kind (map (plain settings.fold) patterns)
 
--- no limit refuses a build: neither the patterns' count, nor a length, nor the numbers of states
-pub record IsAllowed (settings : EngineSettings) (patterns : List (List ℕ)) : Type 0 where
+-- no limit refuses a build: neither the patterns' count, nor a length, nor a limit of its own
+pub record IsAllowed (own_refusal : Option BuildError) (patterns : List (List ℕ)) : Type 0 where
   pub within : limit_refusal patterns ≡ None
-  pub few : state_refusal settings patterns ≡ None
+  pub fits : own_refusal ≡ None
 
 -- a build by these settings has succeeded
 pub record IsEngineBuilt (settings : EngineSettings) (patterns : List (List ℕ)) (trie : Trie) : Type 0 where
   pub value : trie.built ≡ engine_built_by settings patterns
   pub filters : trie.filters ≡ settings.prefilter
-  pub allowed : IsAllowed settings patterns
+  pub allowed : IsAllowed (state_refusal settings patterns) patterns
 
--- why a build of any engine is refused within the limits of the list: for want of memory, or by a limit of its own
+-- the first of two refusals
+abbrev pub refusal_or : Option BuildError → Option BuildError → Option BuildError
+refusal_or None later = later
+refusal_or (Some e) later = Some e
+
+-- why a build is refused within the limits of the list: for want of memory, or by a limit of its own
 abbrev pub IsRefused : Option BuildError → BuildError → Type 0
 IsRefused own_refusal e = (e ≡ Memory) ⊎ (own_refusal ≡ Some e)
 
--- why a build by these settings is refused: a limit of the list is told first, whether there is memory or not
-abbrev pub Refuses : EngineSettings → List (List ℕ) → BuildError → Type 0
-Refuses settings patterns e =
-    MatchOption (limit_refusal patterns) (IsRefused (state_refusal settings patterns) e) (λ refusal. e ≡ refusal)
+-- the same where its own limit comes first, whether there is memory or not
+abbrev pub IsRefusedExactly : Option BuildError → BuildError → Type 0
+IsRefusedExactly own_refusal e = MatchOption own_refusal (e ≡ Memory) (λ refusal. e ≡ refusal)
+
+-- why a build over a list of patterns is refused: a limit of the list comes first, whether there is memory or not
+abbrev pub RefusesBy : Option BuildError → List (List ℕ) → BuildError → Type 0
+RefusesBy own_refusal patterns e =
+    MatchOption (limit_refusal patterns) (IsRefused own_refusal e) (λ refusal. e ≡ refusal)
+
+-- whether nothing refuses
+abbrev pub fits : Option BuildError → Bool
+fits None = true
+fits (Some e) = false

@@ -18,7 +18,7 @@ use Rattle.ac_automaton.specs.declared.nfa.noncontiguous.state.TheConstants.{DEA
 use Rattle.ac_automaton.specs.declared.nfa.noncontiguous.state.Transition.{Transition}
 use Rattle.ac_automaton.specs.Builds.{too_many_states}
 use Rattle.ac_automaton.specs.Sorted.{AreSorted, Keyed, IsOrder, Sorted, byte_at, key_at, numbers}
-use Rattle.ac_automaton.specs.Tries.{Meaning, AreStates, IsTable, Represents, dead_state, miss, trie_of}
+use Rattle.ac_automaton.specs.Tries.{Meaning, AreStates, IsTrie, Represents, dead_state, miss, trie_of}
 
 -- the dead state, and the one that no search reaches
 abbrev pub first_states : List State
@@ -208,5 +208,10 @@ pub record HasBegun {Z : Type 0} (fold : Bool) (texts : List (List ℕ)) (growth
 pub record IsWhole (texts : List (List ℕ)) (fold : Bool) (kind : MatchKind) (order : List ℕ)
     (transitions : List Transition) (states : List State) : Type 0 where
   pub nodes : List Node
-  pub table : (filters : Bool) → IsTable (trie_of texts fold kind filters order transitions states) nodes
+  pub is_trie : (filters : Bool) → IsTrie (trie_of (record {
+    patterns = texts;
+    fold = fold;
+    kind = kind;
+    filters = filters;
+  }) order transitions states) nodes
   pub few : too_many_states kind (map (plain fold) texts) ≡ None

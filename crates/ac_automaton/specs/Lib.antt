@@ -1,5 +1,6 @@
 pub mod Automata
 pub mod Builds
+pub mod Common
 pub mod Exchanges
 pub mod Finders
 pub mod Finds

@@ -6,7 +6,7 @@ use Rattle.ac_util.specs.Node.{Node, is_node}
 use Rattle.ac_util.specs.Sameness.{plain_byte}
 use Rattle.ac_automaton.specs.declared.nfa.noncontiguous.state.TheConstants.{DEAD, FAIL, START, ANCHORED_START}
 use Rattle.ac_automaton.specs.Automata.{plain_of}
-use Rattle.ac_automaton.specs.Tries.{IsTable, NumbersNodes, StandsFor, Trie}
+use Rattle.ac_automaton.specs.Tries.{IsTrie, NumbersNodes, IsTrieState, Trie}
 
 -- whether a byte leads on from a node to a longer one
 abbrev pub leads_on : Built → Node → ℕ → Bool
@@ -19,13 +19,13 @@ own_bytes built u = filter (leads_on built u) (range_with_len 0 256)
 
 -- the nodes are those that the state numbers stand for. The table is for the proofs of the readers alone
 pub record AreNodes (trie : Trie) (nodes : List Node) : Type 0 where
-  pub table : IsTable trie nodes
+  pub is_trie : IsTrie trie nodes
   pub numbered : NumbersNodes trie.built.kind (plain_of trie.built) nodes
   pub dead : slice_get nodes DEAD ≡ Some None
   pub unreached : slice_get nodes FAIL ≡ Some None
   pub start : slice_get nodes START ≡ Some (Some [])
   pub anchored_start : slice_get nodes ANCHORED_START ≡ Some (Some [])
-  pub stands : (s : ℕ) (u : Node) → slice_get nodes s ≡ Some u → StandsFor trie s u
+  pub stands : (s : ℕ) (u : Node) → slice_get nodes s ≡ Some u → IsTrieState trie s u
 
 -- the node of a state number has an own transition at the place
 pub record HasOwn (trie : Trie) (s index : ℕ) : Type 0 where

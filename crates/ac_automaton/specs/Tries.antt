@@ -19,6 +19,7 @@ use Rattle.ac_automaton.specs.declared.nfa.noncontiguous.state.State.{State}
 use Rattle.ac_automaton.specs.declared.nfa.noncontiguous.state.TheConstants.{DEAD, FAIL, START, ANCHORED_START, FIRST_INNER}
 use Rattle.ac_automaton.specs.declared.nfa.noncontiguous.state.Transition.{Transition}
 use Rattle.ac_automaton.specs.Automata.{plain_of, Lists}
+use Rattle.ac_automaton.specs.Common.{CommonView, built_as}
 
 -- what an automaton was built from, and whether to have a prefilter; the numbers of the patterns that take part in
 -- the sorted order, the transitions of all states, and the states
@@ -29,11 +30,11 @@ pub record Trie : Type 0 where
   pub transitions : List Transition
   pub states : List State
 
--- a trie over these patterns, with both starts
-abbrev pub trie_of : List (List ℕ) → Bool → MatchKind → Bool → List ℕ → List Transition → List State → Trie
-trie_of patterns fold kind filters order transitions states = record {
-  built = record { patterns = patterns; fold = fold; kind = kind; start_kind = Both };
-  filters = filters;
+-- the trie of an engine that has this, with both starts
+abbrev pub trie_of : CommonView → List ℕ → List Transition → List State → Trie
+trie_of common order transitions states = record {
+  built = built_as common Both;
+  filters = common.filters;
   order = order;
   transitions = transitions;
   states = states;
@@ -203,7 +204,7 @@ pub record NumbersNodes (kind : MatchKind) (patterns : List (List ℕ)) (nodes :
 
 -- the states are those of an automaton that has both starts, and no more than there are numbers: the first four
 -- are the dead state, one that no search reaches, and the two starts
-pub record IsTable (trie : Trie) (nodes : List Node) : Type 0 where
+pub record IsTrie (trie : Trie) (nodes : List Node) : Type 0 where
   pub both : trie.built.start_kind ≡ Both
   pub states : AreStates (meaning_of trie nodes) trie.states
   pub whole : length trie.states ≡ length nodes
@@ -216,22 +217,22 @@ pub record IsTable (trie : Trie) (nodes : List Node) : Type 0 where
       → listed_within trie.order trie.states s s ≡ all_matches (meaning_of trie nodes) v
 
 -- the number stands for the node
-pub record StandsFor (trie : Trie) (s : ℕ) (u : Node) : Type 0 where
+pub record IsTrieState (trie : Trie) (s : ℕ) (u : Node) : Type 0 where
   pub nodes : List Node
-  pub table : IsTable trie nodes
+  pub is_trie : IsTrie trie nodes
   pub named : slice_get nodes s ≡ Some u
 
 -- a state lists the patterns that end at its node, first those that equal the node's string
 pub stands-lists : (trie : Trie) (anchored : Anchored) (s : ℕ) (u : Node)
-    → StandsFor trie s u → Lists trie.built anchored u (listed_within trie.order trie.states s s)
-stands-lists trie No s u h = h.table.lists s u h.named
+    → IsTrieState trie s u → Lists trie.built anchored u (listed_within trie.order trie.states s s)
+stands-lists trie No s u h = h.is_trie.lists s u h.named
 stands-lists trie Yes s u h =
     let there = slice_get_within h.nodes s u h.named in
-    let whole = h.table.whole in
-    let links = (h.table.states.each s u (omega arith) h.named).links in
+    let whole = h.is_trie.whole in
+    let links = (h.is_trie.states.each s u (omega arith) h.named).links in
     record {
       passed_over = all_matches (meaning_of trie h.nodes) links.linked;
-      first = h.table.lists s u h.named ∙ links.finds;
+      first = h.is_trie.lists s u h.named ∙ links.finds;
       left_out = [];
-      front = sym (h.table.lists s u h.named) ∙ sym (append-nil _);
+      front = sym (h.is_trie.lists s u h.named) ∙ sym (append-nil _);
     }

@@ -16,6 +16,7 @@ ghost use Rattle.ac_util.specs.StreamReplacing.{FailsToReplace, FailsToReplaceWi
 ghost use Rattle.ac_util.specs.Sizes.{longest_len, shortest_len};
 ghost use Rattle.ac_automaton.specs.Iterators.{GoesOn, begun};
 ghost use Rattle.ac_automaton.specs.Automata.{IsState, Lists, looks_of, step_of};
+ghost use Rattle.ac_automaton.specs.Common.{common_of};
 ghost use Rattle.ac_automaton.specs.Overlaps.{GivesNext, IsPlaced, ListsNext, Takes, listing_begun};
 ghost use Rattle.ac_automaton.specs.Streams.{stream_begun};
 
@@ -28,7 +29,9 @@ use ac_util::search::{Anchored, Input, Match, MatchKind};
 use std::alloc::Allocator;
 use std::io;
 
+mod common;
 mod find;
+mod lengths;
 mod overlap;
 mod replace;
 mod scan;
@@ -38,6 +41,7 @@ mod stream_iter;
 mod stream_replace;
 mod walk;
 
+pub use common::Common;
 pub use find::{Finder, find_core};
 pub use overlap::{FindOverlappingIter, MatchRest, OverlappingState};
 pub use scan::is_due;
@@ -150,37 +154,69 @@ pub trait Automaton {
         ensures state { (anchored : Anchored) → IsState (stands self.now anchored) rest.state
             → IfSome result (λ first. IsState (stands self.now anchored) first.1.state) };
 
+    /// Returns what every engine has, whatever its states are.
+    fn common(&self) -> &Common<Self::Memory>
+        ensures { result.now ≡ common_of (built self.now) (filters self.now) };
+
     /// Returns which of the occurrences in a span a search answers.
-    fn match_kind(&self) -> MatchKind
-        ensures { result ≡ (built self.now).kind };
+    #[inline]
+    final fn match_kind(&self) -> MatchKind
+        ensures { result ≡ (built self.now).kind }
+    {
+        self.common().match_kind()
+    }
 
     /// Returns how many patterns there are.
-    fn patterns_len(&self) -> usize
-        ensures { result ≡ length (built self.now).patterns };
+    #[inline]
+    final fn patterns_len(&self) -> usize
+        ensures { result ≡ length (built self.now).patterns }
+    {
+        self.common().patterns().as_ref().len()
+    }
 
     /// Returns how many bytes a pattern has.
-    fn pattern_len(&self, pattern: PatternID) -> usize
+    #[inline]
+    final fn pattern_len(&self, pattern: PatternID) -> usize
         requires numbered { pattern < length (built self.now).patterns }
-        ensures { result ≡ length (pattern_of (built self.now).patterns pattern) };
+        ensures { result ≡ length (pattern_of (built self.now).patterns pattern) }
+    {
+        self.common()
+            .patterns()
+            .as_ref()
+            .get(pattern.as_usize())
+            .len()
+    }
 
     /// Returns how many bytes the shortest pattern has, or `usize::MAX` without patterns.
-    fn min_pattern_len(&self) -> usize
-        ensures { result ≡ shortest_len (built self.now).patterns };
+    #[inline]
+    final fn min_pattern_len(&self) -> usize
+        ensures { result ≡ shortest_len (built self.now).patterns }
+    {
+        self.common().min_pattern_len()
+    }
 
     /// Returns how many bytes the longest pattern has, or 0 without patterns.
-    fn max_pattern_len(&self) -> usize
-        ensures { result ≡ longest_len (built self.now).patterns };
-
-    /// Returns about how many bytes of memory the automaton takes. Nothing is promised of the number.
-    fn memory_usage(&self) -> usize;
+    #[inline]
+    final fn max_pattern_len(&self) -> usize
+        ensures { result ≡ longest_len (built self.now).patterns }
+    {
+        self.common().max_pattern_len()
+    }
 
     /// Returns the prefilter of the automaton, where it was built with one and there is one for its patterns. An
     /// unanchored search may skip by it, and answers what it would without.
-    fn prefilter(&self) -> Option<&Prefilter<Self::Memory>>
+    #[inline]
+    final fn prefilter(&self) -> Option<&Prefilter<Self::Memory>>
         ensures skips { option_map (λ p. skip_of p.now) result
             ≡ skip_for (filters self.now) (built self.now).fold (built self.now).patterns }
         ensures serves { IfSome result
-            (λ p. IsSkipFor (skip_of p.now) (built self.now).fold (built self.now).patterns) };
+            (λ p. IsSkipFor (skip_of p.now) (built self.now).fold (built self.now).patterns) }
+    {
+        self.common().prefilter()
+    }
+
+    /// Returns about how many bytes of memory the automaton takes. Nothing is promised of the number.
+    fn memory_usage(&self) -> usize;
 
     ghost one_or_two: { (LOOKS ≡ 1) ⊎ (LOOKS ≡ 2) };
 

@@ -16,13 +16,14 @@ use Rattle.ac_util.proofs.StrideLemmas.{stride-enough}
 use Rattle.ac_automaton.specs.Automata.{plain_of}
 use Rattle.ac_automaton.specs.Readers.{AreNodes}
 use Rattle.ac_automaton.specs.Tries.{Trie}
-use Rattle.ac_engines.specs.Builds.{classes_by, table_refusal}
-use Rattle.ac_engines.specs.Filling.{FilledUpTo, Filling, HasRow, IsFilled, MayFill, place_in, sheet_of, width}
-use Rattle.ac_engines.specs.Layouts.{IsLayout, table_rows}
-use Rattle.ac_engines.specs.Rows.{HasMatchesAmong, IsTable, Table, behind}
-use Rattle.ac_engines.proofs.Numbered.{behind-starts, place-row, place-start}
+use Rattle.ac_engines.specs.Classes.{classes_by}
+use Rattle.ac_engines.specs.Dfa.Builds.{rows_refusal}
+use Rattle.ac_engines.specs.Dfa.Filling.{FilledUpTo, Filling, HasRow, IsFilled, MayFill, place_in, sheet_of, width}
+use Rattle.ac_engines.specs.Dfa.Layouts.{IsLayout, table_rows}
+use Rattle.ac_engines.specs.Dfa.{HasMatchesAmong, IsDfa, DfaView, anchored_shift}
+use Rattle.ac_engines.proofs.Numbered.{after-starts, place-row, place-start}
 use Rattle.ac_engines.proofs.Owning.{row-room}
-use Rattle.ac_engines.proofs.RowLists.{behind-rows}
+use Rattle.ac_engines.proofs.RowLists.{anchored_shift-rows}
 use Rattle.ac_engines.proofs.StateRows.{rows-apart}
 
 -- the classes by which a table steps are those of all bytes
@@ -45,7 +46,7 @@ few-entries (suc rows) width some last =
 
 -- and the table is not refused
 no-refusal : (start_kind : StartKind) (classes : List ℕ) (states : ℕ)
-    → (table_rows start_kind states - 1) * stride classes ≤ GREATEST → table_refusal start_kind classes states ≡ None
+    → (table_rows start_kind states - 1) * stride classes ≤ GREATEST → rows_refusal start_kind classes states ≡ None
 no-refusal start_kind classes states last =
     rw (le-ltb GREATEST ((table_rows start_kind states - 1) * stride classes) last) refl
 
@@ -73,7 +74,7 @@ pub record IsPlanned (trie : Trie) (start_kind : StartKind) (classes : List ℕ)
   pub width_is : width ≡ 2 ^ exponent
   pub len_is : len ≡ table_rows start_kind (state_count trie.built.kind (plain_of trie.built)) * 2 ^ exponent
   pub few : table_rows start_kind (state_count trie.built.kind (plain_of trie.built)) * 2 ^ exponent ≤ GREATEST + 2 ^ exponent
-  pub allowed : table_refusal start_kind classes (state_count trie.built.kind (plain_of trie.built)) ≡ None
+  pub allowed : rows_refusal start_kind classes (state_count trie.built.kind (plain_of trie.built)) ≡ None
 
 -- the steps of a build tell this
 pub planned : (trie : Trie) (start_kind : StartKind) (byte_classes : Bool) (classes : List ℕ)
@@ -163,7 +164,7 @@ module _ (trie : Trie) (start_kind : StartKind) (classes : List ℕ) (exponent :
         ⊎ (place_in nodes numbers w + width (sheet_of filling nodes) ≤ place_in nodes numbers v)
     strings-apart s t v w one two other = elim (cases_lt s t) [
       | inl before ↦ ordered-apart s t v w one two before
-      | inr behind ↦ elim (cases_lt t s) [
+      | inr later ↦ elim (cases_lt t s) [
         | inl after ↦ elim (ordered-apart t s w v two one after) [ inl x ↦ inr x | inr x ↦ inl x ]
         | inr same ↦
             let one_state : s ≡ t = omega arith in
@@ -177,7 +178,7 @@ module _ (trie : Trie) (start_kind : StartKind) (classes : List ℕ) (exponent :
         (filled : FilledUpTo filling nodes size (length nodes) entries)
         (layout : IsLayout built (2 ^ exponent) size nodes numbers lists first end) where
       -- the table of these rows
-      abbrev pub table : Table
+      abbrev pub table : DfaView
       table = record {
         built = built;
         filters = trie.filters;
@@ -188,7 +189,7 @@ module _ (trie : Trie) (start_kind : StartKind) (classes : List ℕ) (exponent :
       }
 
       -- rows that are laid out and filled stand for the nodes
-      pub are-table : IsTable table (place_in nodes numbers)
+      pub are-table : IsDfa table (place_in nodes numbers)
       are-table = record {
         narrow = narrow;
         dead = filled.dead;
@@ -196,7 +197,7 @@ module _ (trie : Trie) (start_kind : StartKind) (classes : List ℕ) (exponent :
         start = place-start trie nodes may.are_nodes numbers may.laid.count ∙ may.laid.start;
         inner = λ w node some.
             let state = state-of w node in
-            let inner = behind-starts trie nodes may.are_nodes state.0 w some state.1.named in
+            let inner = after-starts trie nodes may.are_nodes state.0 w some state.1.named in
             let within = slice_get_within nodes state.0 (Some w) state.1.named in
             let count = may.laid.count in
             let place = place-row filling nodes size state.0 w state.1 in
@@ -208,7 +209,7 @@ module _ (trie : Trie) (start_kind : StartKind) (classes : List ℕ) (exponent :
             let two = state-of w second in
             elim (strings-apart one.0 two.0 v w one.1 two.1 other) [
               | inl before ↦ inl (omega arith)
-              | inr behind ↦ inr (omega arith)
+              | inr after ↦ inr (omega arith)
             ];
         within = λ anchored w node.
             let state = state-of w node in
@@ -237,14 +238,14 @@ module _ (trie : Trie) (start_kind : StartKind) (classes : List ℕ) (exponent :
               state.1.named anchored supported
 
           row-of : (w : List ℕ) → IsNode trie.built.kind (plain_of trie.built) (Some w) → (anchored : Anchored)
-              → (row : ℕ) × (place_in nodes numbers w + behind start_kind anchored (2 ^ exponent) ≡ row * 2 ^ exponent)
+              → (row : ℕ) × (place_in nodes numbers w + anchored_shift start_kind anchored (2 ^ exponent) ≡ row * 2 ^ exponent)
           row-of w node anchored =
               let state = state-of w node in
               let first = first-row state.0 w state.1 in (
-                first.0 + behind start_kind anchored 1,
-                ap (λ n. n + behind start_kind anchored (2 ^ exponent))
+                first.0 + anchored_shift start_kind anchored 1,
+                ap (λ n. n + anchored_shift start_kind anchored (2 ^ exponent))
                     (place-row filling nodes size state.0 w state.1 ∙ first.1)
-                    ∙ behind-rows start_kind anchored first.0 (2 ^ exponent),
+                    ∙ anchored_shift-rows start_kind anchored first.0 (2 ^ exponent),
               )
 
       -- and the layout tells which of them have matches

@@ -6,7 +6,7 @@ use Rattle.std.proofs.lemmas.List.{drop_all, drop-drop, drop-map, get_or-drop, g
 use Rattle.std.proofs.lemmas.List.Elements.{All-drop}
 use Rattle.ac_engines.specs.declared.nfa.contiguous.state.Edge.{Edge}
 use Rattle.ac_engines.specs.declared.nfa.contiguous.state.TheConstants.{FAIL}
-use Rattle.ac_engines.specs.Words.{AreNamed, class_words, first_of, target_by, word_of}
+use Rattle.ac_engines.specs.Contiguous.Words.{AreNamed, class_words, first_of, target_by, word_of}
 
 -- the classes and the targets of transitions
 abbrev pub classes_of : List Edge → List ℕ

@@ -10,8 +10,8 @@ use Rattle.std.proofs.Math.Seq.{take-append_seam}
 use Rattle.ac_util.specs.Classes.{alphabet_len}
 use Rattle.ac_engines.specs.declared.nfa.contiguous.format.Format.{Format}
 use Rattle.ac_engines.specs.declared.nfa.contiguous.state.TheConstants.{DENSE, ONE_MATCH}
-use Rattle.ac_engines.specs.Packing.{Packed, listed_at, matches_in, words_before_matches}
-use Rattle.ac_engines.specs.Words.{BeginsWith, Spelling, match_spelling}
+use Rattle.ac_engines.specs.Contiguous.{ContiguousView, match_list_at, matches_in, words_before_matches}
+use Rattle.ac_engines.specs.Contiguous.Words.{BeginsWith, Spelling, match_spelling}
 use Rattle.ac_engines.proofs.Spellings.{ListsFrom, dense-lists, form, sparse-lists}
 
 -- matches are read as they are spelled
@@ -41,8 +41,8 @@ module _ (words : List ℕ) (classes : ℕ) (s : Spelling) (format : Format) (h 
   counts low = let times = div_ceil_times low 4 (omega arith) in omega (arith, times.0, times.1)
 
   -- the matches stand after the transitions
-  behind-targets : drop (words_before_matches (form words classes s) classes) words ≡ match_spelling s.matches ++ h.rest
-  behind-targets = by (form words classes s == DENSE) refl
+  after-targets : drop (words_before_matches (form words classes s) classes) words ≡ match_spelling s.matches ++ h.rest
+  after-targets = by (form words classes s == DENSE) refl
     where
       by : (t : Bool) → (form words classes s == DENSE) ≡ t
           → drop (words_before_matches (form words classes s) classes) words ≡ match_spelling s.matches ++ h.rest
@@ -60,9 +60,9 @@ module _ (words : List ℕ) (classes : ℕ) (s : Spelling) (format : Format) (h 
           (sparse-lists words classes s format h low (div_ceil low 4) refl (eqb-false low DENSE other) some refl)
 
   pub spelled-listed : matches_in (drop (words_before_matches (form words classes s) classes) words) ≡ s.matches
-  spelled-listed = ap matches_in behind-targets ∙ matches-read s.matches h.rest some h.few_matches
+  spelled-listed = ap matches_in after-targets ∙ matches-read s.matches h.rest some h.few_matches
 
-module _ (p : Packed) (at : ℕ) (format : Format) (s : Spelling)
+module _ (p : ContiguousView) (at : ℕ) (format : Format) (s : Spelling)
     (h : BeginsWith (drop at p.words) format (alphabet_len p.classes) s) where
   -- the form of the state that begins there
   form-there : form (drop at p.words) (alphabet_len p.classes) s ≡ slice_index_or p.words at 0 % 256
@@ -70,18 +70,18 @@ module _ (p : Packed) (at : ℕ) (format : Format) (s : Spelling)
       ap (λ (n : ℕ). n % 256) (get_or-drop at p.words 0 0 ∙ ap (λ (k : ℕ). slice_index_or p.words k 0) (omega arith))
 
   -- a state lists what its words spell, if its number is that of a match state
-  pub listed-spelled : 0 < at → at < p.match_end → s.matches ≢ [] → listed_at p at ≡ s.matches
-  listed-spelled behind before some =
+  pub listed-spelled : 0 < at → at < p.match_end → s.matches ≢ [] → match_list_at p at ≡ s.matches
+  listed-spelled after before some =
       let skipped = words_before_matches (slice_index_or p.words at 0 % 256) (alphabet_len p.classes) in
       cond-true (nat_lt 0 at && nat_lt at p.match_end) (matches_in (drop (at + skipped) p.words)) []
-      (and_from (nat_lt 0 at) (nat_lt at p.match_end) (lt-ltb 0 at behind) (lt-ltb at p.match_end before))
+      (and_from (nat_lt 0 at) (nat_lt at p.match_end) (lt-ltb 0 at after) (lt-ltb at p.match_end before))
       ∙ ap matches_in
       (sym (drop-drop skipped at p.words)
       ∙ ap (λ (n : ℕ). drop (words_before_matches n (alphabet_len p.classes)) (drop at p.words)) (sym form-there))
       ∙ spelled-listed (drop at p.words) (alphabet_len p.classes) s format h some
 
 -- and else nothing
-pub listed-none : (p : Packed) (at : ℕ) → p.match_end ≤ at → listed_at p at ≡ []
+pub listed-none : (p : ContiguousView) (at : ℕ) → p.match_end ≤ at → match_list_at p at ≡ []
 listed-none p at past =
     let skipped = words_before_matches (slice_index_or p.words at 0 % 256) (alphabet_len p.classes) in
     cond-false (nat_lt 0 at && nat_lt at p.match_end) (matches_in (drop (at + skipped) p.words)) []

@@ -8,8 +8,8 @@ use Rattle.ac_util.proofs.ClassLemmas.{stands-from_node}
 use Rattle.ac_util.proofs.Lists.{Contains-from_IsIn, IsIn, IsIn-from_Contains}
 use Rattle.ac_automaton.specs.Readers.{leads_on, own_bytes}
 use Rattle.ac_engines.specs.declared.nfa.contiguous.state.Edge.{Edge}
-use Rattle.ac_engines.specs.Packing.{Packed, Places, edges_of}
-use Rattle.ac_engines.specs.Words.{target_by}
+use Rattle.ac_engines.specs.Contiguous.{ContiguousView, Places, edges_of}
+use Rattle.ac_engines.specs.Contiguous.Words.{target_by}
 use Rattle.ac_engines.proofs.Filled.{own_bytes-has, own_bytes-only, own_bytes-small}
 
 module _ (classes : List ℕ) (to : ℕ → ℕ) (missing : ℕ) where
@@ -54,7 +54,7 @@ module _ (classes : List ℕ) (to : ℕ → ℕ) (missing : ℕ) where
           cond-false (class_at classes x == class_at classes b) (to x) (target_by missing (map edge bytes) (class_at classes b)) other
           ∙ others
 
-module _ (p : Packed) (at : Places) (apart : SetsApart p.built.fold p.built.patterns p.classes) (missing : ℕ)
+module _ (p : ContiguousView) (at : Places) (apart : SetsApart p.built.fold p.built.patterns p.classes) (missing : ℕ)
     (w : List ℕ) (b : ℕ) (byte : b < 256) where
   -- what an own byte is: it leads on, and no other byte has its class
   own : (a : ℕ) → IsIn a (own_bytes p.built (Some w)) → Contains (own_bytes p.built (Some w)) a

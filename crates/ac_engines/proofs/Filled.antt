@@ -13,8 +13,8 @@ use Rattle.ac_util.proofs.Failures.{step-own, step-failure}
 use Rattle.ac_util.proofs.Lists.{Contains-from_IsIn, IsIn-filter, IsIn-from_Contains, IsIn-from_filter, IsIn-from_range, IsIn-range}
 use Rattle.ac_automaton.specs.Automata.{plain_of, step_of}
 use Rattle.ac_automaton.specs.Readers.{leads_on, own_bytes}
-use Rattle.ac_engines.specs.Filling.{EndsDead, HasSet, IsFilled, SameBeside, Sheet, row_at}
-use Rattle.ac_engines.specs.Rows.{entry}
+use Rattle.ac_engines.specs.Dfa.Filling.{EndsDead, HasSet, IsFilled, SameBeside, Sheet, row_at}
+use Rattle.ac_engines.specs.Dfa.{entry}
 
 -- the bytes that lead on are those that the test tells
 pub own_bytes-has : (built : Built) (u : Node) (b : ℕ) → b < 256 → leads_on built u b ≡ true → Contains (own_bytes built u) b
@@ -39,7 +39,7 @@ module _ (p : Sheet) where
   outside-row : (row first width k : ℕ) → (row + p.stride ≤ first) ⊎ (first + width ≤ row) → k < p.stride
       → (row + k < first) ⊎ (first + width ≤ row + k)
   outside-row row first width k (inl before) inside = inl (omega arith)
-  outside-row row first width k (inr behind) inside = inr (omega arith)
+  outside-row row first width k (inr after) inside = inr (omega arith)
 
   -- what was filled stays so while entries elsewhere are set
   pub filled-beside : (narrow : (b : ℕ) → b < 256 → class_at p.classes b < p.stride) (anchored : Anchored) (u : Node)

@@ -11,15 +11,15 @@ use Rattle.ac_automaton.specs.Automata.{looks_of, plain_of, step_of}
 use Rattle.ac_automaton.specs.Tries.{miss}
 use Rattle.ac_automaton.proofs.Follows.{more_looks-none, more_looks-twice}
 use Rattle.ac_engines.specs.declared.nfa.contiguous.state.TheConstants.{FAIL}
-use Rattle.ac_engines.specs.Packing.{Packed, StandsAt, number_at, spelling_at}
-use Rattle.ac_engines.specs.Sizes.{node_format}
-use Rattle.ac_engines.specs.Words.{BeginsWith}
+use Rattle.ac_engines.specs.Contiguous.{ContiguousView, IsContiguousState, number_at, spelling_at}
+use Rattle.ac_engines.specs.Contiguous.Sizes.{node_format}
+use Rattle.ac_engines.specs.Contiguous.Words.{BeginsWith}
 use Rattle.ac_engines.proofs.NodeLengths.{node-length}
 use Rattle.ac_engines.proofs.Numbers.{step-node}
 use Rattle.ac_engines.proofs.PackedSteps.{reads, target_of}
 
 -- a step from any node leads to one
-step-to-node : (p : Packed) (anchored : Anchored) (u : Node) (b : ℕ)
+step-to-node : (p : ContiguousView) (anchored : Anchored) (u : Node) (b : ℕ)
     → IsNode p.built.kind (plain_of p.built) (step_of p.built anchored u b)
 step-to-node p No None b = tt
 step-to-node p Yes None b = tt
@@ -27,14 +27,14 @@ step-to-node p anchored (Some w) b =
     step-node p.built.kind (plain_of p.built) anchored w (plain_byte p.built.fold b)
 
 -- the state of a number's node stands there
-stands-begin : (p : Packed) (anchored : Anchored) (s : ℕ) (u : Node) (h : StandsAt p anchored s u)
+stands-begin : (p : ContiguousView) (anchored : Anchored) (s : ℕ) (u : Node) (h : IsContiguousState p anchored s u)
     → BeginsWith (drop s p.words) (node_format p.built p.dense_depth u) (alphabet_len p.classes) (spelling_at p h.at anchored u)
 stands-begin p anchored s u h =
     subst (λ (n : ℕ). BeginsWith (drop n p.words) (node_format p.built p.dense_depth u) (alphabet_len p.classes) (spelling_at p h.at anchored u))
-    (sym h.number) (h.packed.states anchored u h.node)
+    (sym h.number) (h.is_contiguous.states anchored u h.node)
 
 -- and so do the words that were read there
-pub begins-at : (p : Packed) (anchored : Anchored) (s : ℕ) (u : Node) (h : StandsAt p anchored s u)
+pub begins-at : (p : ContiguousView) (anchored : Anchored) (s : ℕ) (u : Node) (h : IsContiguousState p anchored s u)
     (words there : List ℕ) → p.words ≡ words → there ≡ drop s words
     → BeginsWith there (node_format p.built p.dense_depth u) (alphabet_len p.classes) (spelling_at p h.at anchored u)
 begins-at p anchored s u h words there same is =
@@ -42,20 +42,20 @@ begins-at p anchored s u h words there same is =
     (ap (drop s) same ∙ sym is) (stands-begin p anchored s u h)
 
 -- its number is in the words, and small
-pub stands-within : (p : Packed) (anchored : Anchored) (s : ℕ) (u : Node) → StandsAt p anchored s u → s ≤ length p.words
+pub stands-within : (p : ContiguousView) (anchored : Anchored) (s : ℕ) (u : Node) → IsContiguousState p anchored s u → s ≤ length p.words
 stands-within p No s None h = let number = h.number in omega arith
 stands-within p Yes s None h = let number = h.number in omega arith
 stands-within p anchored s (Some w) h =
-    let number = h.number in let within = h.packed.within anchored w h.node in omega arith
+    let number = h.number in let within = h.is_contiguous.within anchored w h.node in omega arith
 
-pub stands-small : (p : Packed) (anchored : Anchored) (s : ℕ) (u : Node) → StandsAt p anchored s u → s ≤ GREATEST
+pub stands-small : (p : ContiguousView) (anchored : Anchored) (s : ℕ) (u : Node) → IsContiguousState p anchored s u → s ≤ GREATEST
 stands-small p anchored s u h =
-    let small = h.packed.small in let within = stands-within p anchored s u h in omega arith
+    let small = h.is_contiguous.small in let within = stands-within p anchored s u h in omega arith
 
 -- on the way to where the byte leads from a node, the walk is at a state, and has counted what it took to come there
-pub record Onward (p : Packed) (anchored : Anchored) (b : ℕ) (u : Node) (old now : Counts) (s : ℕ) : Type 0 where
+pub record Onward (p : ContiguousView) (anchored : Anchored) (b : ℕ) (u : Node) (old now : Counts) (s : ℕ) : Type 0 where
   pub node : Node
-  pub stands : StandsAt p anchored s node
+  pub stands : IsContiguousState p anchored s node
   pub steps : step_of p.built anchored u b ≡ step_of p.built anchored node b
   pub taken : ℕ
   pub looks : looks_of 2 p.built anchored u b ≡ taken + looks_of 2 p.built anchored node b
@@ -63,13 +63,13 @@ pub record Onward (p : Packed) (anchored : Anchored) (b : ℕ) (u : Node) (old n
   pub counted : now ≡ more_looks taken old
 
 -- at its end it is where the byte leads, and has counted all looks
-pub record Ended (p : Packed) (anchored : Anchored) (b : ℕ) (u : Node) (old new : Counts) (next : ℕ) : Type 0 where
-  pub steps : StandsAt p anchored next (step_of p.built anchored u b)
+pub record Ended (p : ContiguousView) (anchored : Anchored) (b : ℕ) (u : Node) (old new : Counts) (next : ℕ) : Type 0 where
+  pub steps : IsContiguousState p anchored next (step_of p.built anchored u b)
   pub looks : new ≡ more_looks (looks_of 2 p.built anchored u b) old
 
-module _ (p : Packed) (anchored : Anchored) (b : ℕ) (u : Node) (old : Counts) where
+module _ (p : ContiguousView) (anchored : Anchored) (b : ℕ) (u : Node) (old : Counts) where
   -- before the first look the walk is on the way
-  pub onward-start : (s : ℕ) → StandsAt p anchored s u → Onward p anchored b u old old s
+  pub onward-start : (s : ℕ) → IsContiguousState p anchored s u → Onward p anchored b u old old s
   onward-start s h = record {
     node = u;
     stands = h;
@@ -80,10 +80,10 @@ module _ (p : Packed) (anchored : Anchored) (b : ℕ) (u : Node) (old : Counts) 
     counted = more_looks-none old;
   }
     where
-      short : (v : Node) → StandsAt p anchored s v → depth v + 0 < 18446744073709551616
+      short : (v : Node) → IsContiguousState p anchored s v → depth v + 0 < 18446744073709551616
       short None stands = omega arith
       short (Some w) stands =
-          let few = stands.packed.short in
+          let few = stands.is_contiguous.short in
           let long = node-length p.built.kind p.built.fold p.built.patterns w stands.node in
           omega arith
 
@@ -98,11 +98,11 @@ module _ (p : Packed) (anchored : Anchored) (b : ℕ) (u : Node) (old : Counts) 
     pub ends-target : (next : ℕ) → b < 256 → next ≡ target_of p o.stands.at anchored o.node b → next ≢ FAIL
         → Ended p anchored b u old new next
     ends-target next byte is some =
-        let leads = (reads p o.stands.at o.stands.packed anchored o.node b byte).leads (λ e. some (is ∙ e)) in
+        let leads = (reads p o.stands.at o.stands.is_contiguous anchored o.node b byte).leads (λ e. some (is ∙ e)) in
         record {
           steps = record {
             at = o.stands.at;
-            packed = o.stands.packed;
+            is_contiguous = o.stands.is_contiguous;
             node = step-to-node p anchored u b;
             number = is ∙ leads.number ∙ ap (number_at o.stands.at anchored) (sym o.steps);
           };
@@ -113,11 +113,11 @@ module _ (p : Packed) (anchored : Anchored) (b : ℕ) (u : Node) (old : Counts) 
     pub ends-anchored : b < 256 → target_of p o.stands.at anchored o.node b ≡ FAIL → anchored ≡ Yes
         → Ended p anchored b u old new 0
     ends-anchored byte fail is-yes =
-        let ends = (reads p o.stands.at o.stands.packed anchored o.node b byte).ends fail is-yes in
+        let ends = (reads p o.stands.at o.stands.is_contiguous anchored o.node b byte).ends fail is-yes in
         record {
           steps = record {
             at = o.stands.at;
-            packed = o.stands.packed;
+            is_contiguous = o.stands.is_contiguous;
             node = step-to-node p anchored u b;
             number = ap (number_at o.stands.at anchored) (sym (o.steps ∙ ends));
           };
@@ -132,12 +132,12 @@ module _ (p : Packed) (anchored : Anchored) (b : ℕ) (u : Node) (old : Counts) 
     pub goes-on : (failure : ℕ) → b < 256 → target_of p o.stands.at anchored o.node b ≡ FAIL → anchored ≡ No
         → failure ≡ (spelling_at p o.stands.at anchored o.node).failure → Onward p anchored b u old new failure
     goes-on failure byte fail is-no is =
-        let on = (reads p o.stands.at o.stands.packed anchored o.node b byte).goes fail is-no in
+        let on = (reads p o.stands.at o.stands.is_contiguous anchored o.node b byte).goes fail is-no in
         record {
           node = miss p.built.kind (plain_of p.built) o.node;
           stands = record {
             at = o.stands.at;
-            packed = o.stands.packed;
+            is_contiguous = o.stands.is_contiguous;
             node = on.node;
             number = is
                 ∙ ap (λ (a : Anchored). (spelling_at p o.stands.at a o.node).failure) is-no ∙ on.failure

@@ -8,13 +8,13 @@ use Rattle.ac_util.specs.declared.search.Anchored.{Anchored}
 use Rattle.ac_util.specs.declared.search.Anchored.TheVariants.{Yes}
 use Rattle.ac_util.specs.Refusal.{start_refusal}
 use Rattle.ac_automaton.specs.Automata.{matches_of}
-use Rattle.ac_engines.specs.Filling.{AreLaid}
-use Rattle.ac_engines.specs.Layouts.{IsLayout, first_lists, listed_at}
-use Rattle.ac_engines.specs.Rows.{behind}
-use Rattle.ac_engines.proofs.Numbers.{behind-small}
+use Rattle.ac_engines.specs.Dfa.Filling.{AreLaid}
+use Rattle.ac_engines.specs.Dfa.Layouts.{IsLayout, first_lists, row_list}
+use Rattle.ac_engines.specs.Dfa.{anchored_shift}
+use Rattle.ac_engines.proofs.Numbers.{anchored_shift-small}
 use Rattle.ac_engines.proofs.LaidUpTo.{IsLaidUpTo, Plan, each, row-order}
 use Rattle.ac_engines.proofs.Laying.{long}
-use Rattle.ac_engines.proofs.RowLists.{behind-each, behind-rows, first_lists-at, first_lists-empty, first_lists-none, length-first_lists, listed-row, none-left, row_lists-at}
+use Rattle.ac_engines.proofs.RowLists.{anchored_shift-each, anchored_shift-rows, first_lists-at, first_lists-empty, first_lists-none, length-first_lists, listed-row, none-left, row_lists-at}
 
 module _ (p : Plan) where
   module _ (numbers : List ℕ) (lists : List (List ℕ)) (back last : ℕ)
@@ -29,11 +29,11 @@ module _ (p : Plan) where
 
     -- the list that a node's row has, counted in rows
     at-number : (row : ℕ) (anchored : Anchored)
-        → listed_at lists p.stride (row * p.stride + behind p.start_kind anchored p.stride)
-        ≡ slice_index_or lists (row + behind p.start_kind anchored 1) []
+        → row_list lists p.stride (row * p.stride + anchored_shift p.start_kind anchored p.stride)
+        ≡ slice_index_or lists (row + anchored_shift p.start_kind anchored 1) []
     at-number row anchored =
-        ap (listed_at lists p.stride) (behind-rows p.start_kind anchored row p.stride)
-        ∙ listed-row lists (row + behind p.start_kind anchored 1) p.stride positive
+        ap (row_list lists p.stride) (anchored_shift-rows p.start_kind anchored row p.stride)
+        ∙ listed-row lists (row + anchored_shift p.start_kind anchored 1) p.stride positive
 
     -- the first four lists stay
     first-at : (k : ℕ) → k < 4 → slice_index_or lists k [] ≡ slice_index_or (first_lists p.start_kind p.built) k []
@@ -54,28 +54,28 @@ module _ (p : Plan) where
 
     module _ (anchored : Anchored) (supported : start_refusal p.start_kind anchored ≡ None) where
       -- the row of the start lists its matches
-      start-row : listed_at lists p.stride (slice_index_or numbers 2 0 + behind p.start_kind anchored p.stride)
+      start-row : row_list lists p.stride (slice_index_or numbers 2 0 + anchored_shift p.start_kind anchored p.stride)
           ≡ matches_of p.built anchored (Some [])
       start-row =
-          let small = behind-small p.start_kind anchored 1 in
-          ap (λ n. listed_at lists p.stride (n + behind p.start_kind anchored p.stride)) h.start
-          ∙ at-number 2 anchored ∙ first-at (2 + behind p.start_kind anchored 1) (omega (arith, small))
+          let small = anchored_shift-small p.start_kind anchored 1 in
+          ap (λ n. row_list lists p.stride (n + anchored_shift p.start_kind anchored p.stride)) h.start
+          ∙ at-number 2 anchored ∙ first-at (2 + anchored_shift p.start_kind anchored 1) (omega (arith, small))
           ∙ first_lists-at p.built p.start_kind anchored supported
 
       -- so does that of an inner state
       inner-row : (s : ℕ) (w : List ℕ) → 4 ≤ s → slice_get p.nodes s ≡ Some (Some w)
-          → listed_at lists p.stride (slice_index_or numbers s 0 + behind p.start_kind anchored p.stride)
+          → row_list lists p.stride (slice_index_or numbers s 0 + anchored_shift p.start_kind anchored p.stride)
           ≡ matches_of p.built anchored (Some w)
       inner-row s w inner named =
           let rows = h.rows s inner (slice_get_within p.nodes s (Some w) named) in
-          ap (λ n. listed_at lists p.stride (n + behind p.start_kind anchored p.stride)) rows.number
+          ap (λ n. row_list lists p.stride (n + anchored_shift p.start_kind anchored p.stride)) rows.number
           ∙ at-number rows.row anchored ∙ elim rows.place [
-            | inl front ↦ front.listed (Some w) (behind p.start_kind anchored 1) named (behind-each p.start_kind anchored)
+            | inl front ↦ front.listed (Some w) (anchored_shift p.start_kind anchored 1) named (anchored_shift-each p.start_kind anchored)
                 ∙ row_lists-at p.built (Some w) p.start_kind anchored supported
             | inr side ↦
-                let b = side.behind in
+                let b = side.after in
                 let f = full in
-                get_or_past lists (rows.row + behind p.start_kind anchored 1) [] (omega (arith, b, f))
+                get_or_past lists (rows.row + anchored_shift p.start_kind anchored 1) [] (omega (arith, b, f))
                 ∙ sym (side.none (Some w) anchored named)
           ]
 
@@ -88,14 +88,14 @@ module _ (p : Plan) where
         let l = four in
         let behind_start : 4 ≤ rows.row = elim rows.place [
           | inl front ↦ front.inner
-          | inr side ↦ let b = side.behind in omega (arith, b, f, l)
+          | inr side ↦ let b = side.after in omega (arith, b, f, l)
         ] in
         let m = mul-le 4 p.stride rows.row p.stride behind_start (omega arith) in
         omega (arith, n, m)
 
     -- and within the table
     within-table : (s : ℕ) → 4 ≤ s → s < length p.nodes
-        → slice_index_or numbers s 0 + (p.stride + behind p.start_kind Yes p.stride) ≤ last * p.stride
+        → slice_index_or numbers s 0 + (p.stride + anchored_shift p.start_kind Yes p.stride) ≤ last * p.stride
     within-table s inner within =
         let rows = h.rows s inner within in
         let w = h.within in
@@ -145,7 +145,7 @@ module _ (p : Plan) where
             rw (second, none) (start-row anchored supported)
         | inr inner ↦ inner-row anchored supported s w inner named
       ];
-      unlisted = ap (listed_at lists p.stride) (let none : 0 ≡ 0 * p.stride = omega arith in none)
+      unlisted = ap (row_list lists p.stride) (let none : 0 ≡ 0 * p.stride = omega arith in none)
           ∙ listed-row lists 0 p.stride positive ∙ two-empty 0 (omega arith);
       early = λ s before. empty (s / p.stride) (div_below s p.stride first positive before);
       late = λ s after. get_or_past lists (s / p.stride) [] (le-div (length lists) s p.stride positive after);

@@ -12,8 +12,8 @@ use Rattle.ac_util.specs.Sizes.{state_count}
 use Rattle.ac_automaton.specs.Automata.{matches_of, plain_of}
 use Rattle.ac_automaton.specs.Readers.{AreNodes}
 use Rattle.ac_automaton.specs.Tries.{Trie}
-use Rattle.ac_engines.specs.Layouts.{first_lists, row_lists, rows_each}
-use Rattle.ac_engines.specs.Rows.{behind}
+use Rattle.ac_engines.specs.Dfa.Layouts.{first_lists, row_lists, rows_each}
+use Rattle.ac_engines.specs.Dfa.{anchored_shift}
 use Rattle.ac_engines.proofs.RowLists.{each-rows, length-first_lists}
 
 -- the node that a state stands for
@@ -60,7 +60,7 @@ module _ (p : Plan) where
 
   -- a state without matches has its rows at the back
   pub record StandsAtBack (back last s row : ℕ) : Type 0 where
-    pub behind : back ≤ row
+    pub after : back ≤ row
     pub within : row + each ≤ last
     pub none : (u : Node) (anchored : Anchored) → slice_get p.nodes s ≡ Some u → matches_of p.built anchored u ≡ []
 
@@ -72,7 +72,7 @@ module _ (p : Plan) where
 
   -- two states' rows are apart
   abbrev pub Apart : ℕ → ℕ → Type 0
-  Apart m n = (m + (p.stride + behind p.start_kind Yes p.stride) ≤ n) ⊎ (n + (p.stride + behind p.start_kind Yes p.stride) ≤ m)
+  Apart m n = (m + (p.stride + anchored_shift p.start_kind Yes p.stride) ≤ n) ⊎ (n + (p.stride + anchored_shift p.start_kind Yes p.stride) ≤ m)
 
   -- the first so many states have their rows, and what is left between front and back is room for the others
   pub record IsLaidUpTo (s : ℕ) (numbers : List ℕ) (lists : List (List ℕ)) (back last : ℕ) : Type 0 where
@@ -89,7 +89,7 @@ module _ (p : Plan) where
 
   -- rows that end in front of a row, counted in rows, do so in entries
   pub row-order : (row next : ℕ) → row + each ≤ next
-      → row * p.stride + (p.stride + behind p.start_kind Yes p.stride) ≤ next * p.stride
+      → row * p.stride + (p.stride + anchored_shift p.start_kind Yes p.stride) ≤ next * p.stride
   row-order row next h =
       let m = mul-le (row + each) p.stride next p.stride h (omega arith) in
       let e = each-rows p.start_kind row p.stride in
@@ -109,7 +109,7 @@ module _ (p : Plan) where
             ∙ front.listed u k named small;
       })
       | inr at_back ↦ inr (record {
-        behind = let b = at_back.behind in omega (arith, b, nearer);
+        after = let b = at_back.after in omega (arith, b, nearer);
         within = at_back.within;
         none = at_back.none;
       })

@@ -6,7 +6,7 @@ use Rattle.std.proofs.lemmas.Bool.{cases_eq}
 use Rattle.std.proofs.lemmas.List.{append_assoc, append-nil, get_or_append_left, get_or-append-add}
 use Rattle.ac_util.specs.declared.primitives.TheConstants.{GREATEST}
 use Rattle.ac_util.specs.Node.{Node}
-use Rattle.ac_engines.specs.Layouts.{HasPlaced, IsAtBack, IsInFront, first_lists, row_lists}
+use Rattle.ac_engines.specs.Dfa.Layouts.{HasPlaced, IsAtBack, IsInFront, first_lists, row_lists}
 use Rattle.ac_engines.proofs.RowLists.{each-room, length-first_lists, length-row_lists, small-number}
 use Rattle.ac_engines.proofs.LaidUpTo.{Apart, HasRows, IsLaidUpTo, Plan, each, kept, row-order}
 
@@ -16,7 +16,7 @@ module _ (p : Plan) where
     added : List (List ℕ)
     is : new_lists ≡ lists ++ added
     nearer : new_back ≤ back
-    behind : length lists ≤ row
+    after : length lists ≤ row
     before : row + each p ≤ back
     room : new_back ≡ length new_lists + each p * (length p.nodes - (s + 1))
     own : HasRows p new_lists new_back last s (row * p.stride)
@@ -37,7 +37,7 @@ module _ (p : Plan) where
       in-front front =
           let e = each-room p.start_kind (length p.nodes) s left in
           let r = h.room in
-          let b = front.behind in
+          let b = front.after in
           let same = front.same in
           let l = ap length front.added ∙ length-append lists (row_lists p.start_kind p.built u) in
           let f = length-row_lists p.built u p.start_kind in
@@ -46,7 +46,7 @@ module _ (p : Plan) where
             added = row_lists p.start_kind p.built u;
             is = front.added;
             nearer = omega (arith, same);
-            behind = omega (arith, b);
+            after = omega (arith, b);
             before = omega (arith, b, e, r);
             room = omega (arith, same, e, r, l, f);
             own = record {
@@ -76,14 +76,14 @@ module _ (p : Plan) where
             added = [];
             is = side.same ∙ sym (append-nil lists);
             nearer = omega (arith, before);
-            behind = omega (arith, first, before, e, r);
+            after = omega (arith, first, before, e, r);
             before = omega (arith, first, before);
             room = omega (arith, before, e, r, l);
             own = record {
               row = row;
               number = refl;
               place = inr (record {
-                behind = omega (arith, first);
+                after = omega (arith, first);
                 within = omega (arith, first, before, w);
                 none = λ v anchored also. let one : v ≡ u = cc in rw one (side.none anchored);
               });
@@ -109,10 +109,10 @@ module _ (p : Plan) where
       apart-from t n on rows = elim rows.place [
         | inl front ↦
             let w = front.within in
-            let b = on.behind in
+            let b = on.after in
             rw rows.number (inl (row-order p rows.row row (omega (arith, w, b))))
         | inr side ↦
-            let b = side.behind in
+            let b = side.after in
             let before = on.before in
             rw rows.number (inr (row-order p row rows.row (omega (arith, b, before))))
       ]

@@ -12,7 +12,7 @@ use Rattle.ac_util.specs.Search.{pattern_of}
 use Rattle.ac_automaton.specs.declared.automaton.overlap.MatchRest.{MatchRest}
 use Rattle.ac_automaton.specs.Automata.{IsState, matches_of}
 use Rattle.ac_automaton.specs.Overlaps.{is_due, rest_in}
-use Rattle.ac_automaton.specs.Tries.{StandsFor, Trie, listed_within, stands-lists}
+use Rattle.ac_automaton.specs.Tries.{IsTrieState, Trie, listed_within, stands-lists}
 use Rattle.ac_automaton.proofs.Due.{counts, listed-due, listed-numbered}
 
 module _ (trie : Trie) where
@@ -22,7 +22,7 @@ module _ (trie : Trie) where
 
   -- a match list can be read on from a rest of it: its state stands for a node, and what it lists are patterns
   pub record MayRead (rest : MatchRest) : Type 0 where
-    pub state : IsState (StandsFor trie) rest.state
+    pub state : IsState (IsTrieState trie) rest.state
     pub numbered : All (λ n. n < length trie.built.patterns) (rest_of rest)
 
   -- the first match in a rest is a pattern, and the rest after it can be read on
@@ -31,7 +31,7 @@ module _ (trie : Trie) where
     pub may : MayRead after
 
   pub has-first : (rest after : MatchRest) (pattern : ℕ) → MayRead rest → rest_of rest ≡ pattern ∷ rest_of after
-      → (MayRead rest → IsState (StandsFor trie) after.state) → HasFirst pattern after
+      → (MayRead rest → IsState (IsTrieState trie) after.state) → HasFirst pattern after
   has-first rest after pattern may taken state =
       let all = subst (All (λ n. n < length trie.built.patterns)) taken may.numbered in
       record {
@@ -47,7 +47,7 @@ module _ (trie : Trie) where
   HasListed anchored deep u old now rest =
       now ++ take_while (counts trie.built anchored deep) (rest_of rest) ≡ old ++ matches_of trie.built anchored u
 
-  module _ (s : ℕ) (u : Node) (h : StandsFor trie s u) where
+  module _ (s : ℕ) (u : Node) (h : IsTrieState trie s u) where
     -- all of a state's list can be read
     pub may-begin : MayRead (record { state = s; index = 0 })
     may-begin = record {

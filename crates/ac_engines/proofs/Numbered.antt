@@ -6,7 +6,7 @@ use Rattle.ac_util.proofs.NodeCount.{inner_nodes-only}
 use Rattle.ac_automaton.specs.Automata.{plain_of}
 use Rattle.ac_automaton.specs.Readers.{AreNodes}
 use Rattle.ac_automaton.specs.Tries.{Trie}
-use Rattle.ac_engines.specs.Filling.{Filling, HasRow, place_in}
+use Rattle.ac_engines.specs.Dfa.Filling.{Filling, HasRow, place_in}
 use Rattle.ac_engines.proofs.Places.{place-at}
 
 module _ (trie : Trie) (nodes : List Node) (h : AreNodes trie nodes) where
@@ -45,13 +45,13 @@ module _ (trie : Trie) (nodes : List Node) (h : AreNodes trie nodes) where
       first (suc (suc t)) before same = absurd (omega arith)
 
 -- a string that isn't empty stands after the starts
-pub behind-starts : (trie : Trie) (nodes : List Node) → AreNodes trie nodes → (s : ℕ) (w : List ℕ) → w ≢ []
+pub after-starts : (trie : Trie) (nodes : List Node) → AreNodes trie nodes → (s : ℕ) (w : List ℕ) → w ≢ []
     → slice_get nodes s ≡ Some (Some w) → 4 ≤ s
-behind-starts trie nodes h zero w some named = let dead = h.dead in absurd cc
-behind-starts trie nodes h (suc zero) w some named = let dead = h.unreached in absurd cc
-behind-starts trie nodes h (suc (suc zero)) w some named = let start = h.start in absurd (some cc)
-behind-starts trie nodes h (suc (suc (suc zero))) w some named = let start = h.anchored_start in absurd (some cc)
-behind-starts trie nodes h (suc (suc (suc (suc s)))) w some named = omega arith
+after-starts trie nodes h zero w some named = let dead = h.dead in absurd cc
+after-starts trie nodes h (suc zero) w some named = let dead = h.unreached in absurd cc
+after-starts trie nodes h (suc (suc zero)) w some named = let start = h.start in absurd (some cc)
+after-starts trie nodes h (suc (suc (suc zero))) w some named = let start = h.anchored_start in absurd (some cc)
+after-starts trie nodes h (suc (suc (suc (suc s)))) w some named = omega arith
 
 module _ (f : Filling) (nodes : List Node) (size : ℕ) where
   -- the rows of a string begin at the number of its state

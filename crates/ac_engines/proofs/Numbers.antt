@@ -11,7 +11,7 @@ use Rattle.ac_util.specs.Node.{Node, failure, first_node, is_node, last_start, o
 use Rattle.ac_util.specs.Classes.{IsNode, class_at}
 use Rattle.ac_util.specs.Sameness.{plain_byte}
 use Rattle.ac_automaton.specs.Automata.{plain_of, step_of}
-use Rattle.ac_engines.specs.Rows.{HasMatchesAmong, StandsFor, Table, behind, list_at, stride_of}
+use Rattle.ac_engines.specs.Dfa.{HasMatchesAmong, IsDfaState, DfaView, anchored_shift, list_at, stride_of}
 
 -- the first of some strings that leads to a node is one
 first_node-cons : (kind : MatchKind) (patterns : List (List ℕ)) (w : List ℕ) (ws : List (List ℕ)) (t : Bool)
@@ -39,54 +39,54 @@ pub failure-node : (kind : MatchKind) (patterns : List (List ℕ)) (x : ℕ) (w 
 failure-node kind patterns x w = first_node-node kind patterns (drop 1 (open_suffixes kind patterns (x ∷ w)))
 
 -- an anchored row stands at most one row after
-pub behind-small : (start_kind : StartKind) (anchored : Anchored) (stride : ℕ)
-    → behind start_kind anchored stride ≤ stride
-behind-small Both No stride = omega arith
-behind-small Both Yes stride = omega arith
-behind-small Unanchored anchored stride = omega arith
-behind-small AnchoredAlone anchored stride = omega arith
+pub anchored_shift-small : (start_kind : StartKind) (anchored : Anchored) (stride : ℕ)
+    → anchored_shift start_kind anchored stride ≤ stride
+anchored_shift-small Both No stride = omega arith
+anchored_shift-small Both Yes stride = omega arith
+anchored_shift-small Unanchored anchored stride = omega arith
+anchored_shift-small AnchoredAlone anchored stride = omega arith
 
 -- a row has an entry at least
-pub positive : (t : Table) → 0 < stride_of t
+pub positive : (t : DfaView) → 0 < stride_of t
 positive t = pow_pos t.stride2
 
-module _ (t : Table) (anchored : Anchored) where
+module _ (t : DfaView) (anchored : Anchored) where
   -- the row of a state lies in the table
-  pub row-within : (s : ℕ) (u : Node) (b : ℕ) → StandsFor t anchored s u → b < 256
+  pub row-within : (s : ℕ) (u : Node) (b : ℕ) → IsDfaState t anchored s u → b < 256
       → s + class_at t.classes b < length t.entries
   row-within s None b h byte =
-      let room = h.table.within anchored [] refl in
-      let narrow = h.table.narrow b byte in
+      let room = h.is_dfa.within anchored [] refl in
+      let narrow = h.is_dfa.narrow b byte in
       let number = h.number in
       omega arith
   row-within s (Some w) b h byte =
-      let room = h.table.within anchored w h.node in
-      let narrow = h.table.narrow b byte in
+      let room = h.is_dfa.within anchored w h.node in
+      let narrow = h.is_dfa.narrow b byte in
       let number = h.number in
       omega arith
 
   -- an entry is the state after the step
-  pub stands-step : (s r : ℕ) (u : Node) (b : ℕ) → StandsFor t anchored s u → b < 256
-      → r ≡ slice_index_or t.entries (s + class_at t.classes b) 0 → StandsFor t anchored r (step_of t.built anchored u b)
+  pub stands-step : (s r : ℕ) (u : Node) (b : ℕ) → IsDfaState t anchored s u → b < 256
+      → r ≡ slice_index_or t.entries (s + class_at t.classes b) 0 → IsDfaState t anchored r (step_of t.built anchored u b)
   stands-step s r None b h byte e = record {
     place = h.place;
-    table = h.table;
+    is_dfa = h.is_dfa;
     supported = h.supported;
     node = tt;
     number = e ∙ ap (λ n. slice_index_or t.entries (n + class_at t.classes b) 0) h.number
-        ∙ h.table.dead (0 + class_at t.classes b) (let narrow = h.table.narrow b byte in omega arith);
+        ∙ h.is_dfa.dead (0 + class_at t.classes b) (let narrow = h.is_dfa.narrow b byte in omega arith);
   }
   stands-step s r (Some w) b h byte e = record {
     place = h.place;
-    table = h.table;
+    is_dfa = h.is_dfa;
     supported = h.supported;
     node = step-node t.built.kind (plain_of t.built) anchored w (plain_byte t.built.fold b);
     number = e ∙ ap (λ n. slice_index_or t.entries (n + class_at t.classes b) 0) h.number
-        ∙ h.table.steps anchored w b h.supported h.node byte;
+        ∙ h.is_dfa.steps anchored w b h.supported h.node byte;
   }
 
   -- the dead state and the starts stand before the end of the match states
-  pub special-before : (s first end : ℕ) (u : Node) → HasMatchesAmong t first end → StandsFor t anchored s u
+  pub special-before : (s first end : ℕ) (u : Node) → HasMatchesAmong t first end → IsDfaState t anchored s u
       → (u ≡ None) ⊎ (u ≡ Some []) ⊎ (list_at t s ≢ []) → s < end
   special-before s first end None among h special =
       let starts = among.starts in let number = h.number in let wide = positive t in omega arith
@@ -94,8 +94,8 @@ module _ (t : Table) (anchored : Anchored) where
       let starts = among.starts in
       let number = h.number in
       let wide = positive t in
-      let start = h.table.start in
-      let near = behind-small t.built.start_kind anchored (stride_of t) in
+      let start = h.is_dfa.start in
+      let near = anchored_shift-small t.built.start_kind anchored (stride_of t) in
       omega arith
   special-before s first end (Some (x ∷ w)) among h special = elim special [
     | inl dead ↦ absurd cc
@@ -103,7 +103,7 @@ module _ (t : Table) (anchored : Anchored) where
       | inl start ↦ absurd cc
       | inr listed ↦ elim (cases_lt s end) [
         | inl before ↦ before
-        | inr behind ↦ absurd (listed (among.late s behind))
+        | inr after ↦ absurd (listed (among.late s after))
       ]
     ]
   ]

@@ -10,8 +10,8 @@ use Rattle.ac_util.specs.Sameness.{plain_byte}
 use Rattle.ac_util.proofs.Reached.{step-nil, stops}
 use Rattle.ac_automaton.specs.Automata.{plain_of, step_of}
 use Rattle.ac_automaton.specs.Readers.{leads_on, own_bytes}
-use Rattle.ac_engines.specs.Filling.{EndsDead, Filling, HasFilled, HasRow, HasSet, IsFilled, MayFillRow, SameBeside, Sheet, row_at, sheet_of}
-use Rattle.ac_engines.specs.Rows.{behind, entry}
+use Rattle.ac_engines.specs.Dfa.Filling.{EndsDead, Filling, HasFilled, HasRow, HasSet, IsFilled, MayFillRow, SameBeside, Sheet, row_at, sheet_of}
+use Rattle.ac_engines.specs.Dfa.{anchored_shift, entry}
 use Rattle.ac_engines.proofs.Filled.{filled-anchored, filled-longer, own_bytes-has, own_bytes-only, past-set}
 use Rattle.ac_engines.proofs.StateRows.{narrow}
 
@@ -29,7 +29,7 @@ module _ (f : Filling) (nodes : List Node) (size s : ℕ) (w : List ℕ) (h : Ha
   beside-row : (row : ℕ) (old new : List ℕ) → SameBeside p row (alphabet_len f.classes) old new
       → SameBeside p row f.stride old new
   beside-row row old new same k (inl before) = same k (inl before)
-  beside-row row old new same k (inr behind) = same k (inr (let room = h.may.room in omega arith))
+  beside-row row old new same k (inr anchored_shift) = same k (inr (let room = h.may.room in omega arith))
 
   -- an anchored row is filled once its own transitions are set
   pub anchored-filled : (old new : List ℕ) → MayFillRow f nodes size s w Yes old
@@ -95,7 +95,7 @@ module _ (f : Filling) (nodes : List Node) (size s : ℕ) (w : List ℕ) (h : Ha
       → HasSet p No [] (own_bytes p.built (Some [])) led new → HasFilled p No [] old new
   start-led t start to len old led new empty stopped row target classes long past leads beside set =
       start-filled (cond t None (Some [])) old led new (start-misses t stopped) long past
-      (λ k outside. beside k (elim outside [ inl before ↦ inl (omega arith) | inr behind ↦ inr (omega arith) ]))
+      (λ k outside. beside k (elim outside [ inl before ↦ inl (omega arith) | inr after ↦ inr (omega arith) ]))
       (λ b byte. leads (row_at p No (Some []) + class_at f.classes b) (omega arith)
       (let below = h.may.below b byte in omega arith)
       ∙ target ∙ ap (λ n. if t then 0 else n) row ∙ missing-row t)
@@ -117,7 +117,7 @@ module _ (f : Filling) (nodes : List Node) (size s : ℕ) (w : List ℕ) (h : Ha
     where
       outside : SameBeside p (row_at p No (Some w)) (alphabet_len f.classes) old copied
       outside k (inl before) = below k 0 (omega arith)
-      outside k (inr behind) = above k 0 (omega arith)
+      outside k (inr anchored_shift) = above k 0 (omega arith)
 
       past-copied : EndsDead p No (Some w) copied
       past-copied k from_class to_end = outside (row_at p No (Some w) + k) (inr (omega arith)) ∙ past k from_class to_end

@@ -17,11 +17,11 @@ use Rattle.ac_automaton.specs.Automata.{plain_of}
 use Rattle.ac_automaton.specs.Readers.{AreNodes, IsOwn, own_bytes}
 use Rattle.ac_automaton.specs.Tries.{Trie}
 use Rattle.ac_automaton.proofs.Places.{take-next}
-use Rattle.ac_engines.specs.Filling.{Filling, HasRow, HasSet, row_at, sheet_of}
-use Rattle.ac_engines.specs.Rows.{behind}
+use Rattle.ac_engines.specs.Dfa.Filling.{Filling, HasRow, HasSet, row_at, sheet_of}
+use Rattle.ac_engines.specs.Dfa.{anchored_shift}
 use Rattle.ac_engines.proofs.Filled.{own_bytes-only, own_bytes-small}
-use Rattle.ac_engines.proofs.Numbered.{behind-starts, place-row}
-use Rattle.ac_engines.proofs.Numbers.{behind-small}
+use Rattle.ac_engines.proofs.Numbered.{after-starts, place-row}
+use Rattle.ac_engines.proofs.Numbers.{anchored_shift-small}
 use Rattle.ac_engines.proofs.Setting.{set-more}
 
 -- a state that stands for a node is one of all
@@ -33,12 +33,12 @@ numbered-below trie nodes s u h named =
     omega arith
 
 -- no row stands further back than the anchored one
-pub behind-most : (start_kind : StartKind) (anchored : Anchored) (stride : ℕ)
-    → behind start_kind anchored stride ≤ behind start_kind Yes stride
-behind-most Both No stride = omega arith
-behind-most Both Yes stride = omega arith
-behind-most Unanchored anchored stride = omega arith
-behind-most AnchoredAlone anchored stride = omega arith
+pub anchored_shift-most : (start_kind : StartKind) (anchored : Anchored) (stride : ℕ)
+    → anchored_shift start_kind anchored stride ≤ anchored_shift start_kind Yes stride
+anchored_shift-most Both No stride = omega arith
+anchored_shift-most Both Yes stride = omega arith
+anchored_shift-most Unanchored anchored stride = omega arith
+anchored_shift-most AnchoredAlone anchored stride = omega arith
 
 -- which starts there are says nothing of own transitions
 pub own_bytes-starts : (built : Built) (start_kind : StartKind) (u : Node)
@@ -61,8 +61,8 @@ module _ (f : Filling) (nodes : List Node) (size s : ℕ) (w : List ℕ) (h : Ha
   -- the row of a string lies in the table
   pub row-room : (anchored : Anchored) → row_at (sheet_of f nodes) anchored (Some w) + f.stride ≤ size
   row-room anchored =
-      let most = behind-most f.start_kind anchored f.stride in
-      let most_two = behind-small f.start_kind anchored f.stride in
+      let most = anchored_shift-most f.start_kind anchored f.stride in
+      let most_two = anchored_shift-small f.start_kind anchored f.stride in
       let place = place-row f nodes size s w h in
       elim h.place [
         | inl start ↦
@@ -83,7 +83,7 @@ module _ (f : Filling) (nodes : List Node) (size s : ℕ) (w : List ℕ) (h : Ha
     next-row = record {
       may = h.may;
       named = own.leads;
-      place = inr (behind-starts f.trie nodes h.may.are_nodes next
+      place = inr (after-starts f.trie nodes h.may.are_nodes next
           (w ++ plain_byte f.trie.built.fold byte ∷ []) (longer w (plain_byte f.trie.built.fold byte)) own.leads);
     }
 

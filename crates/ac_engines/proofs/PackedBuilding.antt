@@ -1,28 +1,27 @@
 -- What a build of packed words has made.
-use Rattle.std.proofs.Common.{◌≡◌, ℕ, ◌<◌, Bool, List, length, ap, arith, sym, ◌∙◌}
+use Rattle.std.proofs.Common.{◌≡◌, ℕ, ◌<◌, List, length, ap, arith, sym, ◌∙◌}
 use Rattle.std.specs.Prelude.{slice_index_or}
 use Rattle.std.proofs.lemmas.Grind.{get_or_default_zero}
 use Rattle.std.proofs.lemmas.Option.{slice_get_within}
-use Rattle.ac_util.specs.declared.search.MatchKind.{MatchKind}
 use Rattle.ac_util.specs.declared.search.StartKind.TheVariants.{Both}
 use Rattle.ac_util.specs.Node.{Node}
 use Rattle.ac_automaton.specs.declared.nfa.noncontiguous.state.TheConstants.{ANCHORED_START, START}
-use Rattle.ac_engines.specs.Packing.{packed_from}
-use Rattle.ac_engines.specs.PackedPlaces.{HasPlaces, MayPack, PackPlan, front_end, packed_of}
+use Rattle.ac_automaton.specs.Common.{CommonView, built_as, common_of}
+use Rattle.ac_engines.specs.Contiguous.{contiguous_of}
+use Rattle.ac_engines.specs.Contiguous.Plans.{HasPlaces, MayPack, PackPlan, front_end, packed_of}
 
 -- words whose parts are those of a plan were packed by it
-pub packed-same : (q : PackPlan) (nodes : List Node) (numbers words : List ℕ) (patterns : List (List ℕ)) (fold : Bool)
-    (kind : MatchKind) (filters : Bool) (dense_depth : ℕ) (classes : List ℕ) (start anchored_start match_end : ℕ)
-    → patterns ≡ q.trie.built.patterns → fold ≡ q.trie.built.fold → kind ≡ q.trie.built.kind
-    → q.trie.built.start_kind ≡ Both → filters ≡ q.trie.filters → dense_depth ≡ q.dense_depth → classes ≡ q.classes
+pub packed-same : (q : PackPlan) (nodes : List Node) (numbers words : List ℕ) (common : CommonView)
+    (dense_depth : ℕ) (classes : List ℕ) (start anchored_start match_end : ℕ)
+    → common ≡ common_of q.trie.built q.trie.filters
+    → q.trie.built.start_kind ≡ Both → dense_depth ≡ q.dense_depth → classes ≡ q.classes
     → start ≡ slice_index_or numbers START 0 → anchored_start ≡ slice_index_or numbers ANCHORED_START 0
     → match_end ≡ front_end q nodes
-    → packed_from patterns fold kind filters dense_depth classes words start anchored_start match_end
-    ≡ packed_of q nodes numbers words
-packed-same q nodes numbers words patterns fold kind filters dense_depth classes start anchored_start match_end are
-    folds kinds both filter depth class starts anchored_starts ends = λ i. record {
-      built = record { patterns = are i; fold = folds i; kind = kinds i; start_kind = sym both i };
-      filters = filter i;
+    → contiguous_of common dense_depth classes words start anchored_start match_end ≡ packed_of q nodes numbers words
+packed-same q nodes numbers words common dense_depth classes start anchored_start match_end are both depth class starts
+    anchored_starts ends = λ i. record {
+      built = record (built_as (are i) Both) { start_kind = sym both i };
+      filters = (are i).filters;
       dense_depth = depth i;
       classes = class i;
       words = words;

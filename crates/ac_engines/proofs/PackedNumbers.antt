@@ -8,26 +8,26 @@ use Rattle.ac_util.specs.declared.search.Anchored.TheVariants.{No, Yes}
 use Rattle.ac_util.specs.Classes.{alphabet_len}
 use Rattle.ac_util.specs.Node.{Node}
 use Rattle.ac_automaton.specs.Automata.{matches_of}
-use Rattle.ac_engines.specs.Packing.{Packed, Places, StandsAt, listed_at, number_at, spelling_at}
+use Rattle.ac_engines.specs.Contiguous.{ContiguousView, Places, IsContiguousState, match_list_at, number_at, spelling_at}
 use Rattle.ac_engines.specs.declared.nfa.contiguous.format.Format.{Format}
-use Rattle.ac_engines.specs.Sizes.{node_format}
-use Rattle.ac_engines.specs.Words.{BeginsWith, Spelling}
+use Rattle.ac_engines.specs.Contiguous.Sizes.{node_format}
+use Rattle.ac_engines.specs.Contiguous.Words.{BeginsWith, Spelling}
 use Rattle.ac_engines.proofs.MatchCounts.{matches-numbered}
 
 -- what a state spells has the matches of its node
-spelled-matches : (p : Packed) (at : Places) (anchored : Anchored) (u : Node)
+spelled-matches : (p : ContiguousView) (at : Places) (anchored : Anchored) (u : Node)
     → (spelling_at p at anchored u).matches ≡ matches_of p.built No u
 spelled-matches p at anchored None = refl
 spelled-matches p at No (Some []) = refl
 spelled-matches p at Yes (Some []) = refl
 spelled-matches p at anchored (Some (x ∷ w)) = refl
 
-module _ (p : Packed) (anchored : Anchored) (s : ℕ) where
+module _ (p : ContiguousView) (anchored : Anchored) (s : ℕ) where
   -- the dead node's number is 0, and no other's
-  pub dead-number : (u : Node) → StandsAt p anchored s u → (s ≡ 0) ↔ (u ≡ None)
+  pub dead-number : (u : Node) → IsContiguousState p anchored s u → (s ≡ 0) ↔ (u ≡ None)
   dead-number None h = (λ zero. refl, λ none. h.number)
   dead-number (Some w) h =
-      let behind = h.packed.behind anchored w h.node in
+      let after = h.is_contiguous.after anchored w h.node in
       let number = h.number in
       (λ zero. absurd (omega arith), λ none. absurd cc)
 
@@ -38,27 +38,27 @@ module _ (p : Packed) (anchored : Anchored) (s : ℕ) where
   start-of Yes at start other = inr other
 
   -- and no other node's state has one of them
-  pub start-number : (u : Node) → StandsAt p anchored s u
+  pub start-number : (u : Node) → IsContiguousState p anchored s u
       → ((s ≡ p.start) ⊎ (s ≡ p.anchored_start)) ↔ (u ≡ Some [])
   start-number None h =
-      let first = h.packed.behind No [] refl in
-      let other = h.packed.behind Yes [] refl in
-      let start = h.packed.start in
-      let anchored_start = h.packed.anchored_start in
+      let first = h.is_contiguous.after No [] refl in
+      let other = h.is_contiguous.after Yes [] refl in
+      let start = h.is_contiguous.start in
+      let anchored_start = h.is_contiguous.anchored_start in
       let number = h.number in
       (λ either. elim either [ inl e ↦ absurd (omega arith) | inr e ↦ absurd (omega arith) ], λ none. absurd cc)
   start-number (Some []) h = (
     λ either. refl,
     λ empty. subst (λ (n : ℕ). (n ≡ p.start) ⊎ (n ≡ p.anchored_start)) (sym h.number)
-        (start-of anchored h.at h.packed.start h.packed.anchored_start),
+        (start-of anchored h.at h.is_contiguous.start h.is_contiguous.anchored_start),
   )
   start-number (Some (x ∷ w)) h =
-      let first = h.packed.longer No (x ∷ w) h.node (λ e. absurd cc) in
-      let other = h.packed.longer Yes (x ∷ w) h.node (λ e. absurd cc) in
+      let first = h.is_contiguous.longer No (x ∷ w) h.node (λ e. absurd cc) in
+      let other = h.is_contiguous.longer Yes (x ∷ w) h.node (λ e. absurd cc) in
       let number : s ≡ h.at.place (x ∷ w) = h.number ∙ inner anchored h.at in (
         λ either. elim either [
-          | inl e ↦ absurd (first (sym number ∙ e ∙ sym h.packed.start))
-          | inr e ↦ absurd (other (sym number ∙ e ∙ sym h.packed.anchored_start))
+          | inl e ↦ absurd (first (sym number ∙ e ∙ sym h.is_contiguous.start))
+          | inr e ↦ absurd (other (sym number ∙ e ∙ sym h.is_contiguous.anchored_start))
         ],
         λ empty. absurd cc,
       )
@@ -68,19 +68,19 @@ module _ (p : Packed) (anchored : Anchored) (s : ℕ) where
       inner Yes at = refl
 
   -- nothing is listed at 0
-  pub listed-dead : s ≡ 0 → listed_at p s ≡ []
-  listed-dead zero = ap (listed_at p) zero
+  pub listed-dead : s ≡ 0 → match_list_at p s ≡ []
+  listed-dead zero = ap (match_list_at p) zero
 
   -- a state has matches where its number is less than their end, and isn't 0
-  pub match-number : (u : Node) → StandsAt p anchored s u → (listed_at p s ≢ []) ↔ ((s < p.match_end) × (s ≢ 0))
+  pub match-number : (u : Node) → IsContiguousState p anchored s u → (match_list_at p s ≢ []) ↔ ((s < p.match_end) × (s ≢ 0))
   match-number None h =
       let number = h.number in
       (λ some. absurd (some (listed-dead (omega arith))), λ within. absurd (within.1 (omega arith)))
   match-number (Some w) h =
-      let behind = h.packed.behind anchored w h.node in
+      let after = h.is_contiguous.after anchored w h.node in
       let number = h.number in
-      let matched = h.packed.matched anchored w h.node in
-      let lists = ap (listed_at p) h.number ∙ h.packed.lists anchored w h.node in (
+      let matched = h.is_contiguous.matched anchored w h.node in
+      let lists = ap (match_list_at p) h.number ∙ h.is_contiguous.lists anchored w h.node in (
         λ some. let below = matched.1 (λ none. some (lists ∙ none)) in (omega arith, λ zero. absurd (omega arith)),
         λ within none. matched.0 (let low = within.0 in omega arith) (sym lists ∙ none),
       )
@@ -90,22 +90,22 @@ module _ (p : Packed) (anchored : Anchored) (s : ℕ) where
     pub format : Format
     pub spelling : Spelling
     pub words : BeginsWith there format classes spelling
-    pub same : spelling.matches ≡ listed_at p s
-    pub numbered : (k : ℕ) → k < length (listed_at p s) → slice_index_or (listed_at p s) k 0 ≤ GREATEST
+    pub same : spelling.matches ≡ match_list_at p s
+    pub numbered : (k : ℕ) → k < length (match_list_at p s) → slice_index_or (match_list_at p s) k 0 ≤ GREATEST
 
-  listed-matches : (u : Node) → StandsAt p anchored s u → listed_at p s ≡ matches_of p.built No u
-  listed-matches None h = ap (listed_at p) h.number
-  listed-matches (Some w) h = ap (listed_at p) h.number ∙ h.packed.lists anchored w h.node
+  listed-matches : (u : Node) → IsContiguousState p anchored s u → match_list_at p s ≡ matches_of p.built No u
+  listed-matches None h = ap (match_list_at p) h.number
+  listed-matches (Some w) h = ap (match_list_at p) h.number ∙ h.is_contiguous.lists anchored w h.node
 
-  pub begins : (u : Node) → StandsAt p anchored s u → (there : List ℕ) (classes : ℕ) → there ≡ drop s p.words
+  pub begins : (u : Node) → IsContiguousState p anchored s u → (there : List ℕ) (classes : ℕ) → there ≡ drop s p.words
       → classes ≡ alphabet_len p.classes → Begins there classes
   begins u h there classes there_is classes_is = record {
     format = node_format p.built p.dense_depth u;
     spelling = spelling_at p h.at anchored u;
-    words = rw (there_is, classes_is, h.number) (h.packed.states anchored u h.node);
+    words = rw (there_is, classes_is, h.number) (h.is_contiguous.states anchored u h.node);
     same = spelled-matches p h.at anchored u ∙ sym (listed-matches u h);
     numbered = λ k below.
-        let few = h.packed.few in
+        let few = h.is_contiguous.few in
         let low = subst (All (λ n. n < length p.built.patterns)) (sym (listed-matches u h)) (matches-numbered p.built u) k 0 below in
         omega arith;
   }

@@ -17,17 +17,17 @@ use Rattle.ac_automaton.specs.Readers.{own_bytes}
 use Rattle.ac_engines.specs.declared.nfa.contiguous.format.Format.{Format}
 use Rattle.ac_engines.specs.declared.nfa.contiguous.format.Format.TheVariants.{Dense, One, Sparse}
 use Rattle.ac_engines.specs.declared.nfa.contiguous.state.TheConstants.{FAIL}
-use Rattle.ac_engines.specs.Formats.{words_of_state}
-use Rattle.ac_engines.specs.Packing.{IsPacked, Packed, Places, listed_at, number_at, spelling_at}
-use Rattle.ac_engines.specs.PackedPlaces.{front_end, has_matches, packed_of, place_at, places_of, size_at, size_of, total}
-use Rattle.ac_engines.specs.Packs.{AreReady, HasPushed, Packer, state_spelling}
-use Rattle.ac_engines.specs.Sizes.{node_format, packed_words}
-use Rattle.ac_engines.specs.Words.{BeginsWith, Spelling, spelled}
+use Rattle.ac_engines.specs.Contiguous.Formats.{words_of_state}
+use Rattle.ac_engines.specs.Contiguous.{IsContiguous, ContiguousView, Places, match_list_at, number_at, spelling_at}
+use Rattle.ac_engines.specs.Contiguous.Plans.{front_end, has_matches, packed_of, place_at, places_of, size_at, size_of, total}
+use Rattle.ac_engines.specs.Contiguous.Packs.{AreReady, HasPushed, Packer, state_spelling}
+use Rattle.ac_engines.specs.Contiguous.Sizes.{node_format, packed_words}
+use Rattle.ac_engines.specs.Contiguous.Words.{BeginsWith, Spelling, spelled}
 use Rattle.ac_engines.proofs.Decoding.{listed-none, listed-spelled}
 use Rattle.ac_engines.proofs.Numbered.{place-inner, place-start}
 use Rattle.ac_engines.proofs.PackedSums.{total-grows}
 use Rattle.ac_engines.proofs.PlanSums.{before, sizes-whole, takes}
-use Rattle.ac_engines.proofs.PushedStates.{begins-before, begins-behind, length-spelled}
+use Rattle.ac_engines.proofs.PushedStates.{begins-before, begins-after, length-spelled}
 
 -- what the dead state spells
 abbrev pub dead_spelling : Spelling
@@ -35,7 +35,7 @@ dead_spelling = record { failure = 0; missing = 0; edges = []; matches = [] }
 
 module _ (f : Packer) (nodes : List Node) (ready : AreReady f nodes) (words : List ℕ) where
   -- what is packed, and where
-  abbrev packed : Packed
+  abbrev packed : ContiguousView
   packed = packed_of f.plan nodes f.numbers words
 
   abbrev places : Places
@@ -164,11 +164,11 @@ module _ (f : Packer) (nodes : List Node) (ready : AreReady f nodes) where
 
   -- the words of the dead state, then those of the states that have matches, and then those of the others
   module _ (dead front words : List ℕ) (first : dead ≡ spelled Dense (alphabet_len f.plan.classes) dead_spelling)
-      (in_front : HasPushed f nodes true dead front) (behind : HasPushed f nodes false front words) where
+      (in_front : HasPushed f nodes true dead front) (after : HasPushed f nodes false front words) where
     -- the state of the dead node
     dead-begins : BeginsWith dead Dense (alphabet_len f.plan.classes) dead_spelling
     dead-begins =
-        begins-behind Dense (alphabet_len f.plan.classes) dead_spelling [] dead first tt
+        begins-after Dense (alphabet_len f.plan.classes) dead_spelling [] dead first tt
         (alphabet_len-few f.plan.classes ready.may.classes) (λ k d below. absurd (omega arith))
         (λ k below. absurd (omega arith)) (omega arith)
         (λ k. omega arith)
@@ -182,7 +182,7 @@ module _ (f : Packer) (nodes : List Node) (ready : AreReady f nodes) where
     pub words-long : length words
         ≡ packed_words f.plan.trie.built f.plan.dense_depth (alphabet_len f.plan.classes)
     words-long =
-        let long = behind.long in
+        let long = after.long in
         let first_long = front-long in
         let whole = sizes-whole f.plan nodes ready.may in
         omega arith
@@ -206,10 +206,10 @@ module _ (f : Packer) (nodes : List Node) (ready : AreReady f nodes) where
             let inside = at.front_within refl in
             let long = front-long in
             let dead_is = dead-long in
-            let all = behind.long in
+            let all = after.long in
             record {
-              begins = rw behind.same (begins-before (node_format f.plan.trie.built f.plan.dense_depth u)
-                  (alphabet_len f.plan.classes) (state_spelling f nodes s u) front behind.pushed (place_at f.plan nodes s)
+              begins = rw after.same (begins-before (node_format f.plan.trie.built f.plan.dense_depth u)
+                  (alphabet_len f.plan.classes) (state_spelling f nodes s u) front after.pushed (place_at f.plan nodes s)
                   (omega arith)
                   (subst (λ (n : ℕ). BeginsWith (drop n front) (node_format f.plan.trie.built f.plan.dense_depth u)
                   (alphabet_len f.plan.classes) (state_spelling f nodes s u))
@@ -225,14 +225,14 @@ module _ (f : Packer) (nodes : List Node) (ready : AreReady f nodes) where
             let place = at.back refl in
             let ends = at.back_ends refl in
             let long = front-long in
-            let all = behind.long in
+            let all = after.long in
             let grows = total-grows (size_at f.plan nodes false) (s + 1) (length nodes)
             (let below = slice_get_within nodes s u named in omega arith) in
             record {
               begins = subst (λ (n : ℕ). BeginsWith (drop n words) (node_format f.plan.trie.built f.plan.dense_depth u)
                   (alphabet_len f.plan.classes) (state_spelling f nodes s u))
                   (let e : length front + total (size_at f.plan nodes false) s ≡ place_at f.plan nodes s = omega arith in e)
-                  (behind.each s u reached named (sym is));
+                  (after.each s u reached named (sym is));
               within = omega arith;
               late = omega arith;
               front_if = λ e. absurd cc;
@@ -246,11 +246,11 @@ module _ (f : Packer) (nodes : List Node) (ready : AreReady f nodes) where
         (spelling_at (packed f nodes ready words) (places f nodes ready words) anchored u)
     node-begins anchored None node =
         let long = front-long in
-        let both : words ≡ dead ++ (in_front.pushed ++ behind.pushed) =
-        behind.same ∙ ap (λ (ws : List ℕ). ws ++ behind.pushed) in_front.same
-        ∙ append_assoc dead in_front.pushed behind.pushed in
+        let both : words ≡ dead ++ (in_front.pushed ++ after.pushed) =
+        after.same ∙ ap (λ (ws : List ℕ). ws ++ after.pushed) in_front.same
+        ∙ append_assoc dead in_front.pushed after.pushed in
         none anchored (rw both (begins-before Dense (alphabet_len f.plan.classes) dead_spelling dead
-        (in_front.pushed ++ behind.pushed) 0 (omega arith) dead-begins))
+        (in_front.pushed ++ after.pushed) 0 (omega arith) dead-begins))
       where
         none : (anchored : Anchored) → BeginsWith words Dense (alphabet_len f.plan.classes) dead_spelling
             → BeginsWith (drop (number_at (places f nodes ready words) anchored None) words) Dense
@@ -289,7 +289,7 @@ module _ (f : Packer) (nodes : List Node) (ready : AreReady f nodes) where
       late : FAIL < number_at (places f nodes ready words) anchored (Some w)
       matched : (number_at (places f nodes ready words) anchored (Some w) < front_end f.plan nodes)
           ↔ (matches_of f.plan.trie.built No (Some w) ≢ [])
-      lists : listed_at (packed f nodes ready words) (number_at (places f nodes ready words) anchored (Some w))
+      lists : match_list_at (packed f nodes ready words) (number_at (places f nodes ready words) anchored (Some w))
           ≡ matches_of f.plan.trie.built No (Some w)
 
     tells : (anchored : Anchored) (w : List ℕ) → IsNode f.plan.trie.built.kind (plain_of f.plan.trie.built) (Some w)
@@ -357,7 +357,7 @@ module _ (f : Packer) (nodes : List Node) (ready : AreReady f nodes) where
 
     -- the words mean what they should
     pub are-packed : packed_words f.plan.trie.built f.plan.dense_depth (alphabet_len f.plan.classes) ≤ GREATEST
-        → IsPacked (packed f nodes ready words) (places f nodes ready words)
+        → IsContiguous (packed f nodes ready words) (places f nodes ready words)
     are-packed small = record {
       classes = ready.may.classes;
       apart = ready.may.apart;
@@ -368,7 +368,7 @@ module _ (f : Packer) (nodes : List Node) (ready : AreReady f nodes) where
       anchored_start = refl;
       states = node-begins;
       within = λ anchored w node. (tells anchored w node).within;
-      behind = λ anchored w node. (tells anchored w node).late;
+      after = λ anchored w node. (tells anchored w node).late;
       longer = no-start;
       ended = let long = dead-long in omega arith;
       matched = λ anchored w node. (tells anchored w node).matched;

@@ -15,18 +15,18 @@ use Rattle.ac_automaton.specs.Tries.{miss}
 use Rattle.ac_automaton.proofs.Steps.{looks-on, looks-own_target, looks-short, step-miss, step-on, step-own_target}
 use Rattle.ac_engines.specs.declared.nfa.contiguous.state.TheConstants.{FAIL}
 use Rattle.ac_engines.specs.declared.nfa.contiguous.state.Edge.{Edge}
-use Rattle.ac_engines.specs.Packing.{IsPacked, Packed, Places, edges_of, number_at, spelling_at}
-use Rattle.ac_engines.specs.Words.{AreNamed, target_by}
+use Rattle.ac_engines.specs.Contiguous.{IsContiguous, ContiguousView, Places, edges_of, number_at, spelling_at}
+use Rattle.ac_engines.specs.Contiguous.Words.{AreNamed, target_by}
 use Rattle.ac_engines.proofs.EdgeTargets.{no-target, own-target}
 use Rattle.ac_engines.proofs.Filled.{own_bytes-only}
 use Rattle.ac_engines.proofs.Numbers.{failure-node}
 
 -- where a class leads from a node, or FAIL
-abbrev pub target_of : Packed → Places → Anchored → Node → ℕ → ℕ
+abbrev pub target_of : ContiguousView → Places → Anchored → Node → ℕ → ℕ
 target_of p at anchored v b =
     target_by (spelling_at p at anchored v).missing (spelling_at p at anchored v).edges (class_at p.classes b)
 
-module _ (p : Packed) (at : Places) (h : IsPacked p at) where
+module _ (p : ContiguousView) (at : Places) (h : IsContiguous p at) where
   -- a byte leads there in any search where it leads in an anchored one
   abbrev own : Node → ℕ → Node
   own v b = step p.built.kind (plain_of p.built) Yes v (plain_byte p.built.fold b)
@@ -97,10 +97,10 @@ module _ (p : Packed) (at : Places) (h : IsPacked p at) where
   target-longer Yes (x ∷ w) b byte leads = own-target p at h.apart FAIL (x ∷ w) b byte leads
 
   -- no string's number is FAIL
-  behind-fail : (anchored : Anchored) (w : List ℕ) (c : ℕ)
+  after-fail : (anchored : Anchored) (w : List ℕ) (c : ℕ)
       → IsNode p.built.kind (plain_of p.built) (Some (w ++ c ∷ [])) → at.place (w ++ c ∷ []) ≢ FAIL
-  behind-fail anchored w c node e =
-      let behind = h.behind anchored (w ++ c ∷ []) node in
+  after-fail anchored w c node e =
+      let after = h.after anchored (w ++ c ∷ []) node in
       let same = longer-number anchored w c in
       absurd (omega arith)
 
@@ -112,7 +112,7 @@ module _ (p : Packed) (at : Places) (h : IsPacked p at) where
         target = at.place (w ++ plain_byte p.built.fold b ∷ []);
       }) (own_bytes p.built (Some w)) (λ k d within.
       let b = slice_index_or (own_bytes p.built (Some w)) k d in
-      behind-fail No w (plain_byte p.built.fold b)
+      after-fail No w (plain_byte p.built.fold b)
       (own_bytes-only p.built (Some w) b (Contains-get_or (own_bytes p.built (Some w)) k d within)))
 
   pub are-named : (anchored : Anchored) (v : Node) → AreNamed (spelling_at p at anchored v).edges
@@ -125,7 +125,7 @@ module _ (p : Packed) (at : Places) (h : IsPacked p at) where
       → Reads anchored (Some w) b
   reads-on anchored w b byte leads =
       let never : target_of p at anchored (Some w) b ≢ FAIL =
-      λ e. behind-fail anchored w (plain_byte p.built.fold b) leads (sym (target-longer anchored w b byte leads) ∙ e) in
+      λ e. after-fail anchored w (plain_byte p.built.fold b) leads (sym (target-longer anchored w b byte leads) ∙ e) in
       record {
         leads = λ some. record {
           number = target-longer anchored w b byte leads ∙ longer-number anchored w (plain_byte p.built.fold b)
@@ -139,7 +139,7 @@ module _ (p : Packed) (at : Places) (h : IsPacked p at) where
   -- where the start goes on by a byte that doesn't lead on, it isn't FAIL
   home-not-fail : (v : Node) → (v ≡ None) ⊎ (v ≡ Some []) → number_at at No v ≢ FAIL
   home-not-fail None some e = absurd (omega arith)
-  home-not-fail (Some []) some e = let behind = h.behind No [] refl in absurd (omega arith)
+  home-not-fail (Some []) some e = let after = h.after No [] refl in absurd (omega arith)
   home-not-fail (Some (x ∷ w)) (inl none) e = absurd cc
   home-not-fail (Some (x ∷ w)) (inr none) e = absurd cc
 

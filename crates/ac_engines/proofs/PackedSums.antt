@@ -11,7 +11,7 @@ use Rattle.ac_util.proofs.Lists.{IsIn, IsIn-from_Contains, IsIn-from_map, IsIn-f
 use Rattle.ac_automaton.specs.Automata.{plain_of}
 use Rattle.ac_automaton.specs.Readers.{AreNodes}
 use Rattle.ac_automaton.specs.Tries.{Trie}
-use Rattle.ac_engines.specs.PackedPlaces.{total}
+use Rattle.ac_engines.specs.Contiguous.Plans.{total}
 
 -- one number more is summed
 pub total-more : (f : ℕ → ℕ) (n : ℕ) → total f (n + 1) ≡ total f n + f n
@@ -101,21 +101,21 @@ module _ (trie : Trie) (nodes : List Node) (h : AreNodes trie nodes) where
 
   -- a state after the starts stands for its string
   string-named : (s : ℕ) → 4 ≤ s → s < length nodes → slice_get nodes s ≡ Some (Some (string_at s))
-  string-named s behind within =
-      let named = (h.numbered.node s behind within).1.named in named ∙ ap (λ w. Some (Some (string_of w))) (sym named)
+  string-named s after within =
+      let named = (h.numbered.node s after within).1.named in named ∙ ap (λ w. Some (Some (string_of w))) (sym named)
 
   -- different states after the starts stand for different strings
   strings-apart : (a n : ℕ) → 4 ≤ a → a + n ≤ length nodes
       → IsOrdered (λ (v w : List ℕ). v ≢ w) (map string_at (range_with_len a n))
-  strings-apart a zero behind within = tt
-  strings-apart a (suc n) behind within = (
+  strings-apart a zero after within = tt
+  strings-apart a (suc n) after within = (
     (λ w has same.
         let from = IsIn-from_map string_at w (range_with_len (a + 1) n) has in
         let later = IsIn-from_range from.0 (a + 1) n from.1 in
-        let first = string-named a behind (omega arith) in
+        let first = string-named a after (omega arith) in
         let second = string-named from.0 (omega (arith, later.0)) (omega (arith, later.1)) in
         let both : string_at a ≡ string_at from.0 = same ∙ sym from.2 in
-        let once = h.numbered.once a from.0 (string_at a) (record { inner = behind; named = first })
+        let once = h.numbered.once a from.0 (string_at a) (record { inner = after; named = first })
         (record { inner = omega (arith, later.0); named = second ∙ ap (λ v. Some (Some v)) (sym both) }) in
         omega (arith, once, later.0)),
     strings-apart (a + 1) n (omega arith) (omega arith),
@@ -135,9 +135,9 @@ module _ (trie : Trie) (nodes : List Node) (h : AreNodes trie nodes) where
     -- a sum over states is one over their strings
     sum-strings : (a n : ℕ) → 4 ≤ a → a + n ≤ length nodes
         → sum_by f (range_with_len a n) ≡ sum_by g (map string_at (range_with_len a n))
-    sum-strings a zero behind within = refl
-    sum-strings a (suc n) behind within =
-        let here = same a (string_at a) behind (string-named a behind (omega arith)) in
+    sum-strings a zero after within = refl
+    sum-strings a (suc n) after within =
+        let here = same a (string_at a) after (string-named a after (omega arith)) in
         omega (
           arith,
           sum_by-cons f a (range_with_len (a + 1) n),

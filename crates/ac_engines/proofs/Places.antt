@@ -3,7 +3,7 @@ use Rattle.std.proofs.Common.{◌≡◌, ◌≢◌, ℕ, zero, suc, ◌<◌, Boo
 use Rattle.std.specs.Prelude.{bytes_eq, slice_get, if◌then◌else◌}
 use Rattle.std.proofs.lemmas.Slice.Eq.{bytes_eq-Decides}
 use Rattle.ac_util.specs.Node.{Node}
-use Rattle.ac_engines.specs.Filling.{place_in}
+use Rattle.ac_engines.specs.Dfa.Filling.{place_in}
 
 -- what a test answers that decides the equality of two strings
 taken : (v w : List ℕ) (n m : ℕ) → v ≡ w → (if bytes_eq v w then n else m) ≡ n

@@ -9,8 +9,8 @@ use Rattle.ac_util.specs.Node.{Node}
 use Rattle.ac_util.specs.Sizes.{state_count}
 use Rattle.ac_automaton.specs.Automata.{plain_of}
 use Rattle.ac_automaton.specs.declared.nfa.noncontiguous.state.TheConstants.{START}
-use Rattle.ac_engines.specs.PackedPlaces.{HasWords, MayPack, PackPlan, front_end, has_matches, place_at, placed, size_at, size_of, sized, total}
-use Rattle.ac_engines.specs.Sizes.{packed_words}
+use Rattle.ac_engines.specs.Contiguous.Plans.{HasWords, MayPack, PackPlan, front_end, has_matches, place_at, placed, size_at, size_of, sized, total}
+use Rattle.ac_engines.specs.Contiguous.Sizes.{packed_words}
 use Rattle.ac_engines.proofs.LaidUpTo.{IsNamed}
 use Rattle.ac_engines.proofs.PackedSums.{total-both, total-grows, total-inner, total-more}
 
@@ -84,7 +84,7 @@ module _ (q : PackPlan) (nodes : List Node) where
     sizes-whole =
         let both = total-both (size_at q nodes true) (size_at q nodes false) (length nodes) in
         let all = total-inner q.trie nodes may.are_nodes (λ s. size_at q nodes true s + size_at q nodes false s)
-        (λ w. size_of q nodes (Some w)) (λ s w behind named. size-both s (Some w) (omega (arith, behind)) named) in
+        (λ w. size_of q nodes (Some w)) (λ s w after named. size-both s (Some w) (omega (arith, after)) named) in
         omega (arith, both, all, first-sizes)
 
     -- numbers below that of the states stand for nodes

@@ -9,14 +9,14 @@ use Rattle.ac_engines.specs.declared.nfa.contiguous.format.Format.{Format}
 use Rattle.ac_engines.specs.declared.nfa.contiguous.format.Format.TheVariants.{Dense, One, Sparse}
 use Rattle.ac_engines.specs.declared.nfa.contiguous.state.Edge.{Edge}
 use Rattle.ac_engines.specs.declared.nfa.contiguous.state.TheConstants.{ONE_MATCH}
-use Rattle.ac_engines.specs.Formats.{match_words, words_of_state}
-use Rattle.ac_engines.specs.Words.{BeginsWith, Fits, Spelling, class_words, match_spelling, one_spelling, spelled, target_by}
+use Rattle.ac_engines.specs.Contiguous.Formats.{match_words, words_of_state}
+use Rattle.ac_engines.specs.Contiguous.Words.{BeginsWith, Fits, Spelling, class_words, match_spelling, one_spelling, spelled, target_by}
 use Rattle.ac_engines.proofs.ClassWords.{length-class_words}
 
 -- two words stand before what is pushed after them
-pub two-pushed : (words behind : List ℕ) (a b : ℕ) → words ++ a ∷ [] ++ b ∷ [] ++ behind ≡ words ++ a ∷ b ∷ behind
-two-pushed words behind a b =
-    append_assoc (words ++ a ∷ []) (b ∷ []) behind ∙ append_assoc words (a ∷ []) (b ∷ behind)
+pub two-pushed : (words after : List ℕ) (a b : ℕ) → words ++ a ∷ [] ++ b ∷ [] ++ after ≡ words ++ a ∷ b ∷ after
+two-pushed words after a b =
+    append_assoc (words ++ a ∷ []) (b ∷ []) after ∙ append_assoc words (a ∷ []) (b ∷ after)
 
 -- how many words the matches take
 pub length-match_spelling : (matches : List ℕ) → length (match_spelling matches) ≡ match_words (length matches)
@@ -62,11 +62,11 @@ length-spelled Sparse classes s fits =
 
 module _ (format : Format) (classes : ℕ) (s : Spelling) where
   -- where the words of a state are pushed, they begin after what stood before
-  pub begins-behind : (before words : List ℕ) → words ≡ before ++ spelled format classes s → Fits format s
+  pub begins-after : (before words : List ℕ) → words ≡ before ++ spelled format classes s → Fits format s
       → classes ≤ 256 → All (λ e. e.class < classes) s.edges → IsStrictlyIncreasing (map (λ e. e.class) s.edges)
       → length s.matches < ONE_MATCH → ((k : ℕ) → slice_index_or s.matches k 0 < ONE_MATCH)
       → BeginsWith (drop (length before) words) format classes s
-  begins-behind before words words_are fits few below ascending few_matches numbers = record {
+  begins-after before words words_are fits few below ascending few_matches numbers = record {
     rest = [];
     words_are = ap (drop (length before)) words_are ∙ drop_at before (spelled format classes s) (length before) refl
         ∙ sym (append-nil (spelled format classes s));
@@ -79,12 +79,12 @@ module _ (format : Format) (classes : ℕ) (s : Spelling) where
   }
 
   -- and they do so still where more is pushed
-  pub begins-before : (words behind : List ℕ) (place : ℕ) → place ≤ length words
-      → BeginsWith (drop place words) format classes s → BeginsWith (drop place (words ++ behind)) format classes s
-  begins-before words behind place within h = record {
-    rest = h.rest ++ behind;
-    words_are = drop-append-le place words behind within ∙ ap (λ ws. ws ++ behind) h.words_are
-        ∙ append_assoc (spelled format classes s) h.rest behind;
+  pub begins-before : (words after : List ℕ) (place : ℕ) → place ≤ length words
+      → BeginsWith (drop place words) format classes s → BeginsWith (drop place (words ++ after)) format classes s
+  begins-before words after place within h = record {
+    rest = h.rest ++ after;
+    words_are = drop-append-le place words after within ∙ ap (λ ws. ws ++ after) h.words_are
+        ∙ append_assoc (spelled format classes s) h.rest after;
     fits = h.fits;
     few = h.few;
     below = h.below;

@@ -9,14 +9,14 @@ use Rattle.ac_util.specs.Node.{Node}
 use Rattle.ac_automaton.specs.declared.nfa.noncontiguous.state.TheConstants.{START}
 use Rattle.ac_automaton.specs.Readers.{own_bytes}
 use Rattle.ac_automaton.proofs.Places.{get-same}
-use Rattle.ac_engines.specs.Formats.{words_of_state}
-use Rattle.ac_engines.specs.PackedPlaces.{has_matches, packed_of, places_of, size_at, size_of}
-use Rattle.ac_engines.specs.Packs.{AreReady, HasPushed, Packer, anchored_of, state_spelling, state_words}
-use Rattle.ac_engines.specs.Sizes.{node_format}
-use Rattle.ac_engines.specs.Words.{BeginsWith}
+use Rattle.ac_engines.specs.Contiguous.Formats.{words_of_state}
+use Rattle.ac_engines.specs.Contiguous.Plans.{has_matches, packed_of, places_of, size_at, size_of}
+use Rattle.ac_engines.specs.Contiguous.Packs.{AreReady, HasPushed, Packer, anchored_of, state_spelling, state_words}
+use Rattle.ac_engines.specs.Contiguous.Sizes.{node_format}
+use Rattle.ac_engines.specs.Contiguous.Words.{BeginsWith}
 use Rattle.ac_engines.proofs.PackedSums.{total-grows}
 use Rattle.ac_engines.proofs.PlanSums.{before, before-starts, takes}
-use Rattle.ac_engines.proofs.PushedStates.{begins-before, begins-behind, length-spelled}
+use Rattle.ac_engines.proofs.PushedStates.{begins-before, begins-after, length-spelled}
 use Rattle.ac_engines.proofs.StateSpellings.{edges-count, matches-spelled, state-spells}
 
 module _ (f : Packer) (nodes : List Node) where
@@ -127,7 +127,7 @@ module _ (f : Packer) (nodes : List Node) where
               let same : u ≡ v = get-same nodes s u v named (subst (λ n. slice_get nodes n ≡ Some v) at is) in
               let spells = state-spells f nodes ready s u reached named in
               rw (at, sym same, sym h.long)
-              (begins-behind (node_format f.plan.trie.built f.plan.dense_depth u) (alphabet_len f.plan.classes)
+              (begins-after (node_format f.plan.trie.built f.plan.dense_depth u) (alphabet_len f.plan.classes)
               (state_spelling f nodes s u) words new now spells.fits spells.few spells.below spells.ascending
               spells.few_matches spells.numbers)
         ];

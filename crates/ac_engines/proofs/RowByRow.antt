@@ -10,13 +10,13 @@ use Rattle.ac_util.specs.declared.search.StartKind.TheVariants.{Anchored as Anch
 use Rattle.ac_util.specs.Classes.{class_at}
 use Rattle.ac_util.specs.Node.{Node}
 use Rattle.ac_util.specs.Refusal.{start_refusal}
-use Rattle.ac_engines.specs.Filling.{FilledUpTo, Filling, HasFilled, HasRow, IsFilled, MayFill, MayFillRow, SameBeside, Sheet, row_at, sheet_of, width}
-use Rattle.ac_engines.specs.Rows.{behind}
+use Rattle.ac_engines.specs.Dfa.Filling.{FilledUpTo, Filling, HasFilled, HasRow, IsFilled, MayFill, MayFillRow, SameBeside, Sheet, row_at, sheet_of, width}
+use Rattle.ac_engines.specs.Dfa.{anchored_shift}
 use Rattle.ac_engines.proofs.Filled.{filled-beside}
 use Rattle.ac_engines.proofs.Numbered.{place-row}
-use Rattle.ac_engines.proofs.Owning.{behind-most}
+use Rattle.ac_engines.proofs.Owning.{anchored_shift-most}
 use Rattle.ac_engines.proofs.OneRow.{beside-both}
-use Rattle.ac_engines.proofs.StateRows.{has-row, narrow, row-behind, rows-apart}
+use Rattle.ac_engines.proofs.StateRows.{has-row, narrow, row-anchored_shift, rows-apart}
 
 module _ (f : Filling) (nodes : List Node) (size s : ℕ) (w : List ℕ) (h : HasRow f nodes size s w) where
   -- the sheet of the table
@@ -31,7 +31,7 @@ module _ (f : Filling) (nodes : List Node) (size s : ℕ) (w : List ℕ) (h : Ha
   filled-on old new up long beside rows = record {
     long = long ∙ up.long;
     dead = λ k inside.
-        beside k (inl (let first = row-behind f nodes size h.may s h.place there in omega arith)) ∙ up.dead k inside;
+        beside k (inl (let first = row-anchored_shift f nodes size h.may s h.place there in omega arith)) ∙ up.dead k inside;
     filled = λ t u before other named anchored supported. elim (cases_lt t s) [
       | inl earlier ↦ kept t u earlier other named anchored (up.filled t u earlier other named anchored supported)
       | inr now ↦ last t u (omega arith) named anchored (rows anchored supported)
@@ -54,19 +54,19 @@ module _ (f : Filling) (nodes : List Node) (size s : ℕ) (w : List ℕ) (h : Ha
           → IsFilled p anchored u old → IsFilled p anchored u new
       kept t None earlier other named anchored filled =
           filled-beside p (narrow f nodes size h.may) anchored None (slice_index_or f.numbers s 0) (width p) old new
-          (inl (let first = row-behind f nodes size h.may s h.place there in omega arith)) beside filled
+          (inl (let first = row-anchored_shift f nodes size h.may s h.place there in omega arith)) beside filled
       kept t (Some v) earlier other named anchored filled =
           let row = has-row f nodes size h.may t v named other in
           let place = place-row f nodes size t v row in
-          let most = behind-most f.start_kind anchored f.stride in
+          let most = anchored_shift-most f.start_kind anchored f.stride in
           let inner : 4 ≤ s = elim h.place [
-            | inl start ↦ elim row.place [ inl first ↦ absurd (omega arith) | inr behind ↦ absurd (omega arith) ]
-            | inr behind ↦ behind
+            | inl start ↦ elim row.place [ inl first ↦ absurd (omega arith) | inr after ↦ absurd (omega arith) ]
+            | inr after ↦ after
           ] in
           filled-beside p (narrow f nodes size h.may) anchored (Some v) (slice_index_or f.numbers s 0) (width p) old new
           (elim (rows-apart f nodes size h.may t s row.place inner earlier there) [
             | inl before ↦ inl (omega arith)
-            | inr behind ↦ inr (omega arith)
+            | inr after ↦ inr (omega arith)
           ]) beside filled
 
       blank-still : (t k : ℕ) → s + 1 ≤ t → t ≢ 3 → t < length nodes → slice_index_or f.numbers t 0 ≤ k
@@ -74,12 +74,12 @@ module _ (f : Filling) (nodes : List Node) (size s : ℕ) (w : List ℕ) (h : Ha
       blank-still t k later other within from to =
           let count = h.may.laid.count in
           let inner : 4 ≤ t = elim (cases_lt 3 t) [
-            | inl behind ↦ omega arith
-            | inr first ↦ absurd (other (elim h.place [ inl start ↦ omega arith | inr behind ↦ omega arith ]))
+            | inl after ↦ omega arith
+            | inr first ↦ absurd (other (elim h.place [ inl start ↦ omega arith | inr after ↦ omega arith ]))
           ] in
           beside k (elim (rows-apart f nodes size h.may s t h.place inner (omega arith) (omega arith)) [
             | inl before ↦ inr (omega arith)
-            | inr behind ↦ inl (omega arith)
+            | inr after ↦ inl (omega arith)
           ])
           ∙ up.blank t k (omega arith) other within from to
 
@@ -91,7 +91,7 @@ module _ (f : Filling) (nodes : List Node) (size s : ℕ) (w : List ℕ) (h : Ha
     blank = λ k inside.
         let within = slice_get_within nodes s (Some w) h.named in
         let place = place-row f nodes size s w h in
-        let most = behind-most f.start_kind anchored f.stride in
+        let most = anchored_shift-most f.start_kind anchored f.stride in
         up.blank s (row_at p anchored (Some w) + k) (omega arith)
         (λ third. elim h.place [ inl start ↦ omega arith | inr inner ↦ omega arith ])
         within (omega arith) (omega arith);
@@ -104,8 +104,8 @@ module _ (f : Filling) (nodes : List Node) (size s : ℕ) (w : List ℕ) (h : Ha
       → SameBeside p (slice_index_or f.numbers s 0) (width p) old new
   row-beside anchored old new beside k outside =
       let place = place-row f nodes size s w h in
-      let most = behind-most f.start_kind anchored f.stride in
-      beside k (elim outside [ inl before ↦ inl (omega arith) | inr behind ↦ inr (omega arith) ])
+      let most = anchored_shift-most f.start_kind anchored f.stride in
+      beside k (elim outside [ inl before ↦ inl (omega arith) | inr after ↦ inr (omega arith) ])
 
   -- with the only row of a state filled
   pub one-filled : (anchored : Anchored) (old new : List ℕ)
@@ -118,8 +118,8 @@ module _ (f : Filling) (nodes : List Node) (size s : ℕ) (w : List ℕ) (h : Ha
   -- where there are both starts the anchored row stands after the unanchored one
   both-rows : f.start_kind ≡ Both → row_at p Yes (Some w) ≡ row_at p No (Some w) + f.stride
   both-rows both =
-      let yes = ap (λ kind. behind kind Yes f.stride) both in
-      let no = ap (λ kind. behind kind No f.stride) both in
+      let yes = ap (λ kind. anchored_shift kind Yes f.stride) both in
+      let no = ap (λ kind. anchored_shift kind No f.stride) both in
       omega arith
 
   -- and is still empty when that is filled

@@ -12,12 +12,12 @@ use Rattle.ac_util.specs.Node.{Node}
 use Rattle.ac_util.specs.Refusal.{start_refusal}
 use Rattle.ac_util.proofs.Advance.{append_nil_left}
 use Rattle.ac_automaton.specs.Automata.{matches_of}
-use Rattle.ac_automaton.specs.Tries.{StandsFor, Trie, listed_within, stands-lists}
-use Rattle.ac_engines.specs.Layouts.{first_lists, listed_at, row_lists, rows_each, table_rows}
-use Rattle.ac_engines.specs.Rows.{behind}
+use Rattle.ac_automaton.specs.Tries.{IsTrieState, Trie, listed_within, stands-lists}
+use Rattle.ac_engines.specs.Dfa.Layouts.{first_lists, row_list, row_lists, rows_each, table_rows}
+use Rattle.ac_engines.specs.Dfa.{anchored_shift}
 
 -- a state that lists nothing has no matches, unanchored or anchored
-pub unmatched : (trie : Trie) (s : ℕ) (u : Node) → StandsFor trie s u
+pub unmatched : (trie : Trie) (s : ℕ) (u : Node) → IsTrieState trie s u
     → listed_within trie.order trie.states s s ≡ [] → (anchored : Anchored) → matches_of trie.built anchored u ≡ []
 unmatched trie s u h none No = sym (stands-lists trie No s u h) ∙ none
 unmatched trie s u h none Yes =
@@ -37,16 +37,16 @@ module _ (start_kind : StartKind) (built : Built) where
   one-start (inr is) = rw is refl
 
 -- where the anchored row stands, counted in rows
-pub behind-rows : (start_kind : StartKind) (anchored : Anchored) (row stride : ℕ)
-    → row * stride + behind start_kind anchored stride ≡ (row + behind start_kind anchored 1) * stride
-behind-rows Both No row stride = omega arith
-behind-rows Both Yes row stride = omega arith
-behind-rows Unanchored anchored row stride = omega arith
-behind-rows AnchoredAlone anchored row stride = omega arith
+pub anchored_shift-rows : (start_kind : StartKind) (anchored : Anchored) (row stride : ℕ)
+    → row * stride + anchored_shift start_kind anchored stride ≡ (row + anchored_shift start_kind anchored 1) * stride
+anchored_shift-rows Both No row stride = omega arith
+anchored_shift-rows Both Yes row stride = omega arith
+anchored_shift-rows Unanchored anchored row stride = omega arith
+anchored_shift-rows AnchoredAlone anchored row stride = omega arith
 
 -- the rows of a state, counted in entries
 pub each-rows : (start_kind : StartKind) (row stride : ℕ)
-    → (row + rows_each start_kind) * stride ≡ row * stride + (stride + behind start_kind Yes stride)
+    → (row + rows_each start_kind) * stride ≡ row * stride + (stride + anchored_shift start_kind Yes stride)
 each-rows Both row stride = omega arith
 each-rows Unanchored row stride = omega arith
 each-rows AnchoredAlone row stride = omega arith
@@ -73,20 +73,20 @@ table_rows-each AnchoredAlone states enough = omega (arith, enough)
 
 -- the list at a number is that of its row
 pub listed-row : (lists : List (List ℕ)) (row stride : ℕ) → 0 < stride
-    → listed_at lists stride (row * stride) ≡ slice_index_or lists row []
+    → row_list lists stride (row * stride) ≡ slice_index_or lists row []
 listed-row lists row stride positive = ap (λ k. slice_index_or lists k []) (mul-div_cancel row positive)
 
 -- an anchored row is one of a state's rows
-pub behind-each : (start_kind : StartKind) (anchored : Anchored) → behind start_kind anchored 1 < rows_each start_kind
-behind-each Both No = omega arith
-behind-each Both Yes = omega arith
-behind-each Unanchored anchored = omega arith
-behind-each AnchoredAlone anchored = omega arith
+pub anchored_shift-each : (start_kind : StartKind) (anchored : Anchored) → anchored_shift start_kind anchored 1 < rows_each start_kind
+anchored_shift-each Both No = omega arith
+anchored_shift-each Both Yes = omega arith
+anchored_shift-each Unanchored anchored = omega arith
+anchored_shift-each AnchoredAlone anchored = omega arith
 
 module _ (built : Built) (u : Node) where
   -- it lists what searches with its anchoring find
   pub row_lists-at : (start_kind : StartKind) (anchored : Anchored) → start_refusal start_kind anchored ≡ None
-      → slice_index_or (row_lists start_kind built u) (behind start_kind anchored 1) [] ≡ matches_of built anchored u
+      → slice_index_or (row_lists start_kind built u) (anchored_shift start_kind anchored 1) [] ≡ matches_of built anchored u
   row_lists-at Both No h = refl
   row_lists-at Both Yes h = refl
   row_lists-at Unanchored No h = refl
@@ -103,7 +103,7 @@ module _ (built : Built) (u : Node) where
 module _ (built : Built) where
   -- so do those of the start
   pub first_lists-at : (start_kind : StartKind) (anchored : Anchored) → start_refusal start_kind anchored ≡ None
-      → slice_index_or (first_lists start_kind built) (2 + behind start_kind anchored 1) []
+      → slice_index_or (first_lists start_kind built) (2 + anchored_shift start_kind anchored 1) []
       ≡ matches_of built anchored (Some [])
   first_lists-at Both No h = refl
   first_lists-at Both Yes h = refl
@@ -146,6 +146,6 @@ module _ (built : Built) where
 pub small-number : (start_kind : StartKind) (row last stride : ℕ) → row + rows_each start_kind ≤ last
     → (last - 1) * stride ≤ GREATEST → row * stride ≤ GREATEST
 small-number start_kind row last stride within small =
-    let e = behind-each start_kind Yes in
+    let e = anchored_shift-each start_kind Yes in
     let m = mul-le row stride (last - 1) stride (omega (arith, e, within)) (omega arith) in
     omega (arith, m, small)

@@ -8,7 +8,7 @@ use Rattle.ac_util.specs.declared.search.Anchored.{Anchored}
 use Rattle.ac_util.specs.Classes.{alphabet_len, class_at}
 use Rattle.ac_util.specs.Sameness.{plain_byte}
 use Rattle.ac_util.proofs.Lists.{IsIn-from_Contains}
-use Rattle.ac_engines.specs.Filling.{HasSet, Sheet, row_at}
+use Rattle.ac_engines.specs.Dfa.Filling.{HasSet, Sheet, row_at}
 
 -- nothing is in an empty list, and one thing in a list of one
 Contains-none : (b : ℕ) → Contains [] b → ⊥

@@ -10,7 +10,7 @@ use borrow.Rule.Slice.PartMut.{put_mid}
 use Rattle.std.proofs.lemmas.List.FromFn.{get_or-map-range_with_len, length-map-range_with_len}
 use Rattle.std.proofs.lemmas.List.Kept.{AllPairs-from_increasing}
 use Rattle.ac_engines.specs.declared.nfa.contiguous.state.Edge.{Edge}
-use Rattle.ac_engines.specs.Words.{HasTargets, target_by}
+use Rattle.ac_engines.specs.Contiguous.Words.{HasTargets, target_by}
 
 -- one transition more, by a class of which none led so far, leads by its class
 target-same : (missing : ℕ) (edges : List Edge) (e : Edge) → All (λ f. f.class ≢ e.class) edges
@@ -89,25 +89,25 @@ resized before start classes len missing start_is len_is =
     ∙ ap (λ n. before ++ replicate n missing) more
 
 -- writing a part that reaches to the end leaves what stands before it
-pub written-behind : (before now targets : List ℕ) (start n missing classes : ℕ) → start ≡ length before
+pub written-after : (before now targets : List ℕ) (start n missing classes : ℕ) → start ≡ length before
     → now ≡ before ++ replicate classes missing → n ≡ length now → length targets ≡ classes
-    → (behind : List ℕ) → take n (put_mid start (length now - start) now targets ++ behind) ≡ before ++ targets
-written-behind before now targets start n missing classes start_is now_is n_is long behind =
+    → (after : List ℕ) → take n (put_mid start (length now - start) now targets ++ after) ≡ before ++ targets
+written-after before now targets start n missing classes start_is now_is n_is long after =
     let sum = ap length now_is ∙ length-append before (replicate classes missing) in
     let blank = length-replicate classes missing in
     let part = take-put_mid start (length now - start) now targets n (omega arith) (omega arith) in
     let whole = ap length part ∙ length-append (take start now) targets in
     let first = length-take-le start now (omega arith) in
     let room = length-take n (put_mid start (length now - start) now targets) in
-    take-append-le n (put_mid start (length now - start) now targets) behind (omega arith)
+    take-append-le n (put_mid start (length now - start) now targets) after (omega arith)
     ∙ part
     ∙ ap (λ items. items ++ targets)
     (ap (take start) now_is ∙ take_at before (replicate classes missing) start (sym start_is))
 
 -- the part to which the targets are written
-pub blank-behind : (before now : List ℕ) (start missing classes : ℕ) → start ≡ length before
+pub blank-after : (before now : List ℕ) (start missing classes : ℕ) → start ≡ length before
     → now ≡ before ++ replicate classes missing → take (length now - start) (drop start now) ≡ replicate classes missing
-blank-behind before now start missing classes start_is now_is =
+blank-after before now start missing classes start_is now_is =
     let sum = ap length now_is ∙ length-append before (replicate classes missing) in
     let blank = length-replicate classes missing in
     ap (take (length now - start))

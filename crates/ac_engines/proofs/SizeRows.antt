@@ -10,10 +10,10 @@ use Rattle.ac_util.specs.Sizes.{state_count}
 use Rattle.ac_automaton.specs.Automata.{plain_of}
 use Rattle.ac_automaton.specs.Readers.{own_bytes}
 use Rattle.ac_engines.specs.declared.nfa.contiguous.format.Format.TheVariants.{Dense, Sparse}
-use Rattle.ac_engines.specs.Builds.{classes_by}
-use Rattle.ac_engines.specs.Formats.{words_of_state}
-use Rattle.ac_engines.specs.Layouts.{table_rows}
-use Rattle.ac_engines.specs.Sizes.{packed_words}
+use Rattle.ac_engines.specs.Classes.{classes_by}
+use Rattle.ac_engines.specs.Contiguous.Formats.{words_of_state}
+use Rattle.ac_engines.specs.Dfa.Layouts.{table_rows}
+use Rattle.ac_engines.specs.Contiguous.Sizes.{packed_words}
 
 -- three patterns, two of which begin alike, and one alone
 abbrev three : List (List ℕ)

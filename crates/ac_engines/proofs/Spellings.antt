@@ -13,7 +13,7 @@ use Rattle.ac_engines.specs.declared.nfa.contiguous.format.Format.{Format}
 use Rattle.ac_engines.specs.declared.nfa.contiguous.format.Format.TheVariants.{Dense, One, Sparse}
 use Rattle.ac_engines.specs.declared.nfa.contiguous.state.Edge.{Edge}
 use Rattle.ac_engines.specs.declared.nfa.contiguous.state.TheConstants.{DENSE, FAIL, ONE}
-use Rattle.ac_engines.specs.Words.{AreNamed, BeginsWith, Spelling, class_words, match_spelling, named, one_spelling, spelled, target_by}
+use Rattle.ac_engines.specs.Contiguous.Words.{AreNamed, BeginsWith, Spelling, class_words, match_spelling, named, one_spelling, spelled, target_by}
 use Rattle.ac_engines.proofs.ClassWords.{classes_of, length-class_words, targets_of}
 
 -- as many class words as the code counts hold the classes of the transitions
@@ -62,16 +62,16 @@ module _ (words : List ℕ) (classes : ℕ) (s : Spelling) where
       ∙ append_assoc (class_words (classes_of s.edges)) (targets_of s.edges) (match_spelling s.matches ++ h.rest))
 
   -- all words after the first two
-  abbrev pub behind : List ℕ
-  behind = take (length words - 2) (drop 2 words)
+  abbrev pub after : List ℕ
+  after = take (length words - 2) (drop 2 words)
 
   -- what the code splits the words of a sparse state into: its class words, and its targets with what stands after
   pub record SplitsAt (transitions count : ℕ) : Type 0 where
     pub long : 2 ≤ length words
-    pub enough : count ≤ length behind
-    pub front : take count behind ≡ class_words (classes_of s.edges)
+    pub enough : count ≤ length after
+    pub front : take count after ≡ class_words (classes_of s.edges)
     pub more : List ℕ
-    pub back : drop count behind ≡ targets_of s.edges ++ more
+    pub back : drop count after ≡ targets_of s.edges ++ more
     pub small : All (λ e. e.class < 256) s.edges
 
   pub splits-at : (transitions count : ℕ) → BeginsWith words Sparse classes s → transitions ≡ length s.edges
@@ -80,7 +80,7 @@ module _ (words : List ℕ) (classes : ℕ) (s : Spelling) where
       let more = match_spelling s.matches ++ h.rest in
       let tail : drop 2 words ≡ class_words (classes_of s.edges) ++ (targets_of s.edges ++ more) =
       ap (λ (ns : List ℕ). drop 2 ns) (sparse-words h) in
-      let all : behind ≡ class_words (classes_of s.edges) ++ (targets_of s.edges ++ more) =
+      let all : after ≡ class_words (classes_of s.edges) ++ (targets_of s.edges ++ more) =
       take_all (length words - 2) (drop 2 words) (rw (length-drop 2 words) (omega arith)) ∙ tail in
       let same : count ≡ length (class_words (classes_of s.edges)) = counts ∙ sym (counted s.edges transitions are) in
       record {

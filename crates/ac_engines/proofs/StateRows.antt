@@ -8,16 +8,16 @@ use Rattle.ac_util.specs.declared.search.StartKind.TheVariants.{Anchored as Anch
 use Rattle.ac_util.specs.declared.search.MatchKind.{MatchKind}
 use Rattle.ac_util.specs.Classes.{class_at}
 use Rattle.ac_util.specs.Node.{Node, failure}
-use Rattle.ac_engines.specs.Filling.{Filling, HasRow, MayFill, row_at, sheet_of, width}
-use Rattle.ac_engines.specs.Rows.{behind}
-use Rattle.ac_engines.proofs.Numbers.{behind-small}
+use Rattle.ac_engines.specs.Dfa.Filling.{Filling, HasRow, MayFill, row_at, sheet_of, width}
+use Rattle.ac_engines.specs.Dfa.{anchored_shift}
+use Rattle.ac_engines.proofs.Numbers.{anchored_shift-small}
 use Rattle.ac_engines.proofs.Numbered.{place-inner, place-start}
 
 -- an unanchored row stands at the place of its state
-pub behind-none : (start_kind : StartKind) (stride : ℕ) → behind start_kind No stride ≡ 0
-behind-none Both stride = refl
-behind-none Unanchored stride = refl
-behind-none AnchoredAlone stride = refl
+pub anchored_shift-none : (start_kind : StartKind) (stride : ℕ) → anchored_shift start_kind No stride ≡ 0
+anchored_shift-none Both stride = refl
+anchored_shift-none Unanchored stride = refl
+anchored_shift-none AnchoredAlone stride = refl
 
 module _ (f : Filling) (nodes : List Node) (size : ℕ) (may : MayFill f nodes size) where
   -- a class stands in its row
@@ -36,7 +36,7 @@ module _ (f : Filling) (nodes : List Node) (size : ℕ) (may : MayFill f nodes s
       let start = may.are_nodes.start in
       let empty : w ≡ [] = cc in
       let place = place-start f.trie nodes may.are_nodes f.numbers may.laid.count in
-      let none = behind-none f.start_kind f.stride in
+      let none = anchored_shift-none f.start_kind f.stride in
       rw empty (omega arith)
   row-of (suc (suc (suc zero))) u named other = absurd (other refl)
   row-of (suc (suc (suc (suc t)))) None named other =
@@ -46,7 +46,7 @@ module _ (f : Filling) (nodes : List Node) (size : ℕ) (may : MayFill f nodes s
   row-of (suc (suc (suc (suc t)))) (Some w) named other =
       let place = place-inner f.trie nodes may.are_nodes f.numbers (suc (suc (suc (suc t)))) w may.laid.count
       (omega arith) named in
-      let none = behind-none f.start_kind f.stride in
+      let none = anchored_shift-none f.start_kind f.stride in
       omega arith
 
   -- a state that stands for a string has a row, but for the start of anchored searches
@@ -71,18 +71,18 @@ module _ (f : Filling) (nodes : List Node) (size : ℕ) (may : MayFill f nodes s
       let first = may.laid.start in
       let at = ap (λ k. slice_index_or f.numbers k 0) start in
       let later = may.laid.inner t inner there in
-      let small = behind-small f.start_kind Yes f.stride in
+      let small = anchored_shift-small f.start_kind Yes f.stride in
       inl (omega arith)
   rows-apart s t (inr other) inner order there = may.laid.apart s t other order there
 
   -- and after that of the dead state
-  pub row-behind : (s : ℕ) → (s ≡ 2) ⊎ (4 ≤ s) → s < length f.numbers
+  pub row-anchored_shift : (s : ℕ) → (s ≡ 2) ⊎ (4 ≤ s) → s < length f.numbers
       → 2 * f.stride ≤ slice_index_or f.numbers s 0
-  row-behind s (inl start) there =
+  row-anchored_shift s (inl start) there =
       let first = may.laid.start in
       let at = ap (λ k. slice_index_or f.numbers k 0) start in
       omega arith
-  row-behind s (inr inner) there = let later = may.laid.inner s inner there in omega arith
+  row-anchored_shift s (inr inner) there = let later = may.laid.inner s inner there in omega arith
 
 -- the failure target of a string that isn't empty
 pub failed-to : (kind : MatchKind) (patterns : List (List ℕ)) (nodes : List Node) (s t : ℕ) (w : List ℕ) → w ≢ []

@@ -23,16 +23,16 @@ use Rattle.ac_engines.specs.declared.nfa.contiguous.state.Edge.{Edge}
 use Rattle.ac_engines.specs.declared.nfa.contiguous.state.TheConstants.{FAIL, ONE_MATCH}
 use Rattle.ac_engines.specs.declared.nfa.contiguous.format.Format.{Format}
 use Rattle.ac_engines.specs.declared.nfa.contiguous.format.Format.TheVariants.{Dense}
-use Rattle.ac_engines.specs.Formats.{format_of, most_sparse, sparse_format}
-use Rattle.ac_engines.specs.PackedPlaces.{MayPack, PackPlan, packed_of, places_of}
-use Rattle.ac_engines.specs.Packing.{Packed, Places, edges_of, number_at, spelling_at}
-use Rattle.ac_engines.specs.Packs.{AreReady, Packer, anchored_of, state_spelling}
-use Rattle.ac_engines.specs.Sizes.{node_format}
-use Rattle.ac_engines.specs.Words.{Fits, Spelling, spelled}
+use Rattle.ac_engines.specs.Contiguous.Formats.{format_of, most_sparse, sparse_format}
+use Rattle.ac_engines.specs.Contiguous.Plans.{MayPack, PackPlan, packed_of, places_of}
+use Rattle.ac_engines.specs.Contiguous.{ContiguousView, Places, edges_of, number_at, spelling_at}
+use Rattle.ac_engines.specs.Contiguous.Packs.{AreReady, Packer, anchored_of, state_spelling}
+use Rattle.ac_engines.specs.Contiguous.Sizes.{node_format}
+use Rattle.ac_engines.specs.Contiguous.Words.{Fits, Spelling, spelled}
 use Rattle.ac_engines.proofs.Filled.{own_bytes-only, own_bytes-small}
 use Rattle.ac_engines.proofs.MatchCounts.{matches-few, matches-numbered}
 use Rattle.ac_engines.proofs.Owning.{longer}
-use Rattle.ac_engines.proofs.Numbered.{behind-starts, inner-string, place-inner, place-start}
+use Rattle.ac_engines.proofs.Numbered.{after-starts, inner-string, place-inner, place-start}
 
 -- a node that is a string
 pub record IsString (u : Node) : Type 0 where
@@ -52,7 +52,7 @@ string-of trie nodes h (suc (suc (suc (suc s)))) None reached named =
     let node = (h.numbered.node (suc (suc (suc (suc s)))) (omega arith) within).1.named in
     absurd cc
 
-module _ (p : Packed) (at : Places) where
+module _ (p : ContiguousView) (at : Places) where
   -- the transition of a string by a byte
   abbrev pub edge_by : List ℕ → ℕ → Edge
   edge_by w b = record { class = class_at p.classes b; target = at.place (w ++ plain_byte p.built.fold b ∷ []) }
@@ -157,7 +157,7 @@ module _ (f : Packer) (nodes : List Node) (h : AreReady f nodes) where
   -- an own transition leads to a state after the starts
   own-inner : (w : List ℕ) (index byte next : ℕ) → IsOwn f.plan.trie nodes w index byte next → 4 ≤ next
   own-inner w index byte next own =
-      behind-starts f.plan.trie nodes h.may.are_nodes next (w ++ plain_byte f.plan.trie.built.fold byte ∷ [])
+      after-starts f.plan.trie nodes h.may.are_nodes next (w ++ plain_byte f.plan.trie.built.fold byte ∷ [])
       (longer w (plain_byte f.plan.trie.built.fold byte)) own.leads
 
   -- and has a place

@@ -12,9 +12,9 @@ use Rattle.std.proofs.lemmas.List.FromFn.{length-map-range_with_len}
 use Rattle.ac_engines.specs.declared.nfa.contiguous.format.Format.{Format}
 use Rattle.ac_engines.specs.declared.nfa.contiguous.format.Format.TheVariants.{Dense, One, Sparse}
 use Rattle.ac_engines.specs.declared.nfa.contiguous.state.Edge.{Edge}
-use Rattle.ac_engines.specs.Words.{BeginsWith, Spelling, class_of_place, class_words, edges_from, match_spelling, packed_class, target_by, transitions_of, word_of}
+use Rattle.ac_engines.specs.Contiguous.Words.{BeginsWith, Spelling, class_of_place, class_words, edges_from, match_spelling, packed_class, target_by, transitions_of, word_of}
 use Rattle.ac_engines.proofs.ClassWords.{classes_of, targets_of}
-use Rattle.ac_engines.proofs.Spellings.{behind, dense-words, form, form-dense, form-one, form-sparse, one-words, splits-at}
+use Rattle.ac_engines.proofs.Spellings.{after, dense-words, form, form-dense, form-one, form-sparse, one-words, splits-at}
 
 -- the targets of transitions, by the classes of these, make up the transitions
 edges-from : (class_of : ℕ → ℕ) (place : ℕ) (es : List Edge)
@@ -101,8 +101,8 @@ packed-class (a ∷ b ∷ c ∷ []) place small low =
 packed-class (a ∷ b ∷ c ∷ d ∷ es) place small low =
     packed-four a.class b.class c.class d.class (class_words (classes_of es)) (classes_of es) place
     (small 0 a (omega arith), small 1 b (omega arith), small 2 c (omega arith), small 3 d (omega arith))
-    (λ k behind. packed-class es k (All-drop (λ e. e.class < 256) 4 (a ∷ b ∷ c ∷ d ∷ es) small)
-    (omega (arith, low, behind)))
+    (λ k after. packed-class es k (All-drop (λ e. e.class < 256) 4 (a ∷ b ∷ c ∷ d ∷ es) small)
+    (omega (arith, low, after)))
 
 module _ (words : List ℕ) (classes : ℕ) (s : Spelling) (targets : List ℕ) where
   -- a dense state has a target for each class
@@ -143,7 +143,7 @@ module _ (words : List ℕ) (classes : ℕ) (s : Spelling) (targets : List ℕ) 
 
   -- after the class words of a sparse state stand the targets of its transitions
   pub sparse-targets : (transitions count : ℕ) → BeginsWith words Sparse classes s → transitions ≡ length s.edges
-      → count ≡ div_ceil transitions 4 → targets ≡ take transitions (drop count (behind words classes s))
+      → count ≡ div_ceil transitions 4 → targets ≡ take transitions (drop count (after words classes s))
       → targets ≡ targets_of s.edges
   sparse-targets transitions count h counts words_are are =
       let split = splits-at words classes s transitions count h counts words_are in
@@ -155,8 +155,8 @@ module _ (words : List ℕ) (classes : ℕ) (s : Spelling) (targets : List ℕ) 
   -- they make up its transitions, by the classes in the class words
   pub sparse-transitions : (format : Format) (transitions count : ℕ) (front : Bor (List ℕ))
       → BeginsWith words format classes s → transitions ≡ form words classes s → transitions ≢ 255 → transitions ≢ 254
-      → count ≡ div_ceil transitions 4 → front.now ≡ take count (behind words classes s)
-      → targets ≡ take transitions (drop count (behind words classes s))
+      → count ≡ div_ceil transitions 4 → front.now ≡ take count (after words classes s)
+      → targets ≡ take transitions (drop count (after words classes s))
       → edges_from (class_of_place (Some front)) 0 targets ≡ transitions_of format classes s
   sparse-transitions Dense transitions count front h is dense one words_are front_is are =
       absurd (dense (is ∙ form-dense words classes s h))

@@ -4,7 +4,7 @@ use Rattle.std.specs.Prelude.{All, slice_index, slice_index_or}
 use Rattle.ac_engines.specs.declared.nfa.contiguous.format.Format.TheVariants.{Dense, One, Sparse}
 use Rattle.ac_engines.specs.declared.nfa.contiguous.state.Edge.{Edge}
 use Rattle.ac_engines.specs.declared.nfa.contiguous.state.TheConstants.{FAIL, ONE_MATCH}
-use Rattle.ac_engines.specs.Words.{AreNamed, BeginsWith, Spelling, class_words, spelled, target_by}
+use Rattle.ac_engines.specs.Contiguous.Words.{AreNamed, BeginsWith, Spelling, class_words, spelled, target_by}
 
 -- a transition
 abbrev edge : ℕ → ℕ → Edge

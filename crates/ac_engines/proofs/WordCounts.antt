@@ -9,8 +9,8 @@ use Rattle.ac_automaton.specs.Automata.{matches_of}
 use Rattle.ac_automaton.specs.Readers.{own_bytes}
 use Rattle.ac_engines.specs.declared.nfa.contiguous.format.Format.{Format}
 use Rattle.ac_engines.specs.declared.nfa.contiguous.format.Format.TheVariants.{Dense, One, Sparse}
-use Rattle.ac_engines.specs.Formats.{match_words, most_sparse, sparse_format, words_of_state}
-use Rattle.ac_engines.specs.Sizes.{node_format, node_words}
+use Rattle.ac_engines.specs.Contiguous.Formats.{match_words, most_sparse, sparse_format, words_of_state}
+use Rattle.ac_engines.specs.Contiguous.Sizes.{node_format, node_words}
 
 -- beside the matches stands at most their number
 match_words-most : (matches : ℕ) → match_words matches ≤ matches + 1

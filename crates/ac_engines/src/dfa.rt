@@ -1,28 +1,24 @@
-//! A table of steps: one look for each byte.
+//! The DFA: one look for each byte.
 ghost use Rattle.std.specs.Prelude.{◌≡◌, ℕ, ◌+◌, ◌<◌, ◌≤◌, IsTrue, List, length, MatchResult, slice_index_or};
 ghost use Rattle.std.proofs.Common.{inl, refl};
 ghost use Rattle.ac_util.specs.Borrowed.{bytes_of};
 ghost use Rattle.ac_util.specs.Counts.{more_looks};
-ghost use Rattle.ac_util.specs.Node.{Node};
-ghost use Rattle.ac_engines.specs.Builds.{IsTableBuilt, RefusesTable, usual_table_settings};
-ghost use Rattle.ac_engines.specs.Rows.{HasMatchesAmong, IsTable, StandsFor, list_at};
-ghost use Rattle.ac_engines.specs.Rows.{stands-lists};
+ghost use Rattle.ac_automaton.specs.Builds.{RefusesBy};
+ghost use Rattle.ac_engines.specs.Dfa.{HasMatchesAmong, IsDfa, IsDfaState, list_at};
+ghost use Rattle.ac_engines.specs.Dfa.Builds.{IsDfaBuilt, dfa_refusal_by, usual_dfa_settings};
+ghost use Rattle.ac_engines.specs.Listed.{dfa-lists};
 
-use crate::prefilter::copy_of;
-use ac_automaton::automaton::{Automaton, MatchRest};
+use ac_automaton::automaton::{Automaton, Common, MatchRest};
 use ac_util::alphabet::ByteClasses;
 use ac_util::error::{BuildError, MatchError};
 use ac_util::looks::Looks;
-use ac_util::patterns::Patterns;
-use ac_util::prefilter::Prefilter;
 use ac_util::primitives::{PatternID, StateID};
-use ac_util::search::{Anchored, MatchKind, StartKind};
+use ac_util::search::{Anchored, StartKind};
 use lists::MatchLists;
 use std::alloc::{AllocError, Allocator, Global};
 use std::marker::Model;
 use std::mem::size_of;
 use std::ops::Range;
-use std::rc::Rc;
 
 mod builder;
 mod fill;
@@ -43,12 +39,8 @@ const DEAD: usize = 0;
 /// This ports `dfa::DFA`.
 #[derive(Drop)]
 pub struct DFA<A: Allocator = Global> {
-    patterns: Rc<Patterns<A>, A>,
-    kind: MatchKind,
-    fold: bool,
+    common: Common<A>,
     start_kind: StartKind,
-    shortest: usize,
-    longest: usize,
     classes: ByteClasses,
     /// A row has two to this power entries.
     stride2: u32,
@@ -62,37 +54,28 @@ pub struct DFA<A: Allocator = Global> {
     first_match: usize,
     /// Nor from this one on.
     match_end: usize,
-    /// Whether it was built to have a prefilter, where there is one for its patterns.
-    filters: bool,
-    prefilter: Option<Prefilter<A>>,
 }
 
 impl<A: Allocator> Model for DFA<A> {
-    ghost use Rattle.std.specs.Prelude.{◌≡◌, ◌≤◌, ◌^◌, List, ℕ, IfSome, length, option_map};
+    ghost use Rattle.std.specs.Prelude.{◌≡◌, ◌≤◌, ◌^◌, List, ℕ, length};
     ghost use Rattle.ac_util.specs.declared.search.Anchored.TheVariants.{No, Yes};
     ghost use Rattle.ac_util.specs.Pieces.{AreBounds};
-    ghost use Rattle.ac_util.specs.Prefilters.{IsSkipFor, skip_for, skip_of};
-    ghost use Rattle.ac_util.specs.Sizes.{longest_len, shortest_len};
-    ghost use Rattle.ac_engines.specs.Rows.{HasMatchesAmong, IsTable, Table, start_number, table_of};
+    ghost use Rattle.ac_engines.specs.Dfa.{DfaView, HasMatchesAmong, IsDfa, dfa_of, start_number};
 
-    ghost Value = { Table };
+    ghost Value = { DfaView };
 
-    ghost view = { λ d. table_of d.patterns.value d.fold d.kind d.start_kind d.filters d.classes d.stride2
-        d.table.items d.lists.listed.items d.lists.bounds.items };
+    ghost view = { λ d. dfa_of d.common d.start_kind d.classes d.stride2 d.table.items d.lists.listed.items
+        d.lists.bounds.items };
 
     ghost invariant = { λ d. record {
-      table : (place : List ℕ → ℕ) × IsTable (table_of d.patterns.value d.fold d.kind d.start_kind d.filters d.classes
-          d.stride2 d.table.items d.lists.listed.items d.lists.bounds.items) place;
-      shortest : d.shortest ≡ shortest_len d.patterns.value;
-      longest : d.longest ≡ longest_len d.patterns.value;
+      is_dfa : (place : List ℕ → ℕ) × IsDfa (dfa_of d.common d.start_kind d.classes d.stride2 d.table.items
+          d.lists.listed.items d.lists.bounds.items) place;
       few : d.stride2 ≤ 8;
       bounds : AreBounds d.lists.bounds.items (length d.lists.listed.items);
       start : d.start ≡ start_number d.start_kind No (2 ^ d.stride2);
       anchored_start : d.anchored_start ≡ start_number d.start_kind Yes (2 ^ d.stride2);
-      among : HasMatchesAmong (table_of d.patterns.value d.fold d.kind d.start_kind d.filters d.classes d.stride2
-          d.table.items d.lists.listed.items d.lists.bounds.items) d.first_match d.match_end;
-      skips : option_map skip_of d.prefilter ≡ skip_for d.filters d.fold d.patterns.value;
-      serves : IfSome d.prefilter (λ p. IsSkipFor (skip_of p) d.fold d.patterns.value);
+      among : HasMatchesAmong (dfa_of d.common d.start_kind d.classes d.stride2 d.table.items d.lists.listed.items
+          d.lists.bounds.items) d.first_match d.match_end;
     } };
 }
 
@@ -105,12 +88,8 @@ impl<A: Allocator + Clone> Clone for DFA<A> {
     /// `AllocError` where a request for memory is refused.
     fn clone(&self) -> Result<DFA<A>, AllocError> {
         Ok(DFA {
-            patterns: self.patterns.clone()?,
-            kind: self.kind,
-            fold: self.fold,
+            common: self.common.clone()?,
             start_kind: self.start_kind,
-            shortest: self.shortest,
-            longest: self.longest,
             classes: self.classes,
             stride2: self.stride2,
             table: self.table.clone()?,
@@ -119,8 +98,6 @@ impl<A: Allocator + Clone> Clone for DFA<A> {
             anchored_start: self.anchored_start,
             first_match: self.first_match,
             match_end: self.match_end,
-            filters: self.filters,
-            prefilter: copy_of(&self.prefilter)?,
         })
     }
 }
@@ -133,8 +110,8 @@ impl<A: Allocator + Clone> DFA<A> {
     /// As `Builder::build`.
     pub fn new(alloc: A, patterns: &[&[u8]]) -> Result<DFA<A>, BuildError>
         ensures { MatchResult result
-            (IsTableBuilt usual_table_settings (bytes_of patterns.now))
-            (RefusesTable usual_table_settings (bytes_of patterns.now)) }
+            (IsDfaBuilt usual_dfa_settings (bytes_of patterns.now))
+            (RefusesBy (dfa_refusal_by usual_dfa_settings (bytes_of patterns.now)) (bytes_of patterns.now)) }
     {
         Builder::new().build(alloc, patterns)
     }
@@ -143,31 +120,23 @@ impl<A: Allocator + Clone> DFA<A> {
 impl DFA {
     /// Returns a builder with the usual settings.
     pub fn builder() -> Builder
-        ensures { result ≡ usual_table_settings }
+        ensures { result ≡ usual_dfa_settings }
     {
         Builder::new()
     }
 }
 
 impl<A: Allocator> DFA<A> {
-    /// Returns the entries, which are those of a table.
+    /// Returns the entries of the transition table.
     #[inline]
     fn entries(&self) -> &[StateID]
         ensures value { result.now ≡ self.now.entries }
-        ensures table { (place : List ℕ → ℕ) × IsTable self.now place }
+        ensures is_dfa { (place : List ℕ → ℕ) × IsDfa self.now place }
     {
         &self.table
     }
 
-    /// Returns the patterns.
-    #[inline]
-    fn patterns(&self) -> &Patterns<A>
-        ensures { result.now ≡ self.now.built.patterns }
-    {
-        self.patterns.as_ref()
-    }
-
-    /// Returns between which numbers the states stand that have matches. In the table of both starts there are others
+    /// Returns between which numbers the states stand that have matches. Where there are both starts there are others
     /// among them: rows of anchored searches where only the node's suffixes match.
     #[inline]
     fn match_numbers(&self) -> Range<usize>
@@ -194,7 +163,7 @@ impl<A: Allocator> Automaton for DFA<A> {
 
     ghost built = { λ d. d.built };
 
-    ghost stands = { λ d anchored s u. StandsFor d anchored s u };
+    ghost stands = { λ d anchored s u. IsDfaState d anchored s u };
 
     ghost listed = { λ d s. list_at d s };
 
@@ -202,7 +171,7 @@ impl<A: Allocator> Automaton for DFA<A> {
 
     ghost one_or_two = { inl refl };
 
-    ghost lists = { stands-lists };
+    ghost lists = { dfa-lists };
 
     fn start_state(&self, anchored: Anchored) -> Result<StateID, MatchError> {
         // Contracts learn here which state is the start.
@@ -263,36 +232,16 @@ impl<A: Allocator> Automaton for DFA<A> {
         Some((pattern, rest))
     }
 
-    fn match_kind(&self) -> MatchKind {
-        self.kind
-    }
-
-    fn patterns_len(&self) -> usize {
-        self.patterns().len()
-    }
-
     #[inline]
-    fn pattern_len(&self, pattern: PatternID) -> usize {
-        self.patterns().get(pattern.as_usize()).len()
-    }
-
-    fn min_pattern_len(&self) -> usize {
-        self.shortest
-    }
-
-    fn max_pattern_len(&self) -> usize {
-        self.longest
+    fn common(&self) -> &Common<A> {
+        &self.common
     }
 
     fn memory_usage(&self) -> usize {
         let table = self.table.len().saturating_mul(size_of::<StateID>());
         table
             .saturating_add(self.lists.memory_usage())
-            .saturating_add(self.patterns().memory_usage())
-    }
-
-    fn prefilter(&self) -> Option<&Prefilter<A>> {
-        self.prefilter.as_ref()
+            .saturating_add(self.common.patterns().as_ref().memory_usage())
     }
 }
 

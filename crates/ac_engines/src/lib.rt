@@ -1,7 +1,6 @@
-//! The engines that are built from a trie with failure links.
+//! The engines that are built from a noncontiguous NFA.
 #![tactic(auto)]
 
 mod classes;
 pub mod dfa;
 pub mod nfa;
-mod prefilter;

@@ -18,7 +18,7 @@ use Rattle.ac_search.specs.declared.ahocorasick.engine.EngineFindOverlappingIter
 use Rattle.ac_search.specs.declared.ahocorasick.engine.EngineStreamFinder.{EngineStreamFinder}
 use Rattle.ac_search.specs.declared.ahocorasick.engine.EngineStreamFinder.TheVariants.{Contiguous as StreamedByContiguous, Dfa as StreamedByDfa, Noncontiguous as StreamedByNoncontiguous}
 use Rattle.ac_search.specs.Searchers.{AreLaidOut, Searcher, Settings}
-use Rattle.ac_search.specs.States.{States, Contiguous as OfWords, Dfa as OfTable, Noncontiguous as OfTrie}
+use Rattle.ac_search.specs.States.{States, Contiguous as OfContiguous, Dfa as OfDfa, Noncontiguous as OfTrie}
 
 -- what an engine was built from, whether to have a prefilter, its name and its states
 abbrev pub built_of : {Z : Type 0} → Engine Z → Built
@@ -38,8 +38,8 @@ name_of (Dfa dfa) = DFA
 
 abbrev pub states_of : {Z : Type 0} → Engine Z → States
 states_of (Noncontiguous nfa) = OfTrie nfa.value
-states_of (Contiguous nfa) = OfWords nfa.value
-states_of (Dfa dfa) = OfTable dfa.value
+states_of (Contiguous nfa) = OfContiguous nfa.value
+states_of (Dfa dfa) = OfDfa dfa.value
 
 -- an engine with the start kind of its searcher
 abbrev pub searcher_of : {Z : Type 0} → Engine Z → StartKind → Searcher

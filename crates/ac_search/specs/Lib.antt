@@ -1,7 +1,6 @@
 -- What is seen of a searcher and of its engine; then the definitions of the crates below that contracts of this
 -- crate cite, so that a user need not list those crates. Each keeps its name, as `Built` here is `Built` of ac_util; but
--- where two crates have a `Builds` or a `Sizes`, that of tables is `TableBuilds` here, and that of packed words
--- `PackedSizes`.
+-- the `Classes` of ac_engines are `EngineClasses` here.
 pub mod Engines
 pub mod Places
 pub mod Searchers
@@ -38,6 +37,7 @@ pub use Rattle.ac_util.specs.Sizes
 pub use Rattle.ac_util.specs.Plain
 -- builds and iterators
 pub use Rattle.ac_automaton.specs.Builds
+pub use Rattle.ac_automaton.specs.Common
 pub use Rattle.ac_automaton.specs.Iterators
 pub use Rattle.ac_automaton.specs.Overlaps
 pub use Rattle.ac_automaton.specs.Finders
@@ -52,15 +52,10 @@ pub use Rattle.ac_util.specs.Prefilters
 pub use Rattle.ac_automaton.specs.Automata
 pub use Rattle.ac_automaton.specs.Readers
 pub use Rattle.ac_automaton.specs.Tries
--- tables and packed words: their classes, rows and words, and their builds
+-- the DFA and the contiguous NFA: their classes, rows and words, and their builds
 pub use Rattle.ac_util.specs.Classes
-pub use Rattle.ac_engines.specs.Rows
-pub use Rattle.ac_engines.specs.Layouts
-pub use Rattle.ac_engines.specs.Builds as TableBuilds
-pub use Rattle.ac_engines.specs.Formats
-pub use Rattle.ac_engines.specs.PackedBuilds
-pub use Rattle.ac_engines.specs.Packing
-pub use Rattle.ac_engines.specs.Sizes as PackedSizes
-pub use Rattle.ac_engines.specs.Words
+pub use Rattle.ac_engines.specs.Classes as EngineClasses
+pub use Rattle.ac_engines.specs.Dfa
+pub use Rattle.ac_engines.specs.Contiguous
 -- readers and writers
 pub use Rattle.ac_util.specs.Device

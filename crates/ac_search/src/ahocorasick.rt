@@ -13,7 +13,8 @@ ghost use Rattle.ac_automaton.specs.Iterators.{GoesOn, begun};
 ghost use Rattle.ac_automaton.specs.Overlaps.{ListsNext, listing_begun};
 ghost use Rattle.ac_search.specs.Engines.{Supports, searcher_of};
 ghost use Rattle.ac_search.specs.Places.{GivesItem, HasPlace, place_in};
-ghost use Rattle.ac_search.specs.Searchers.{IsBuilt, RefusesSearcher, looks_allowed, usual_settings};
+ghost use Rattle.ac_automaton.specs.Builds.{RefusesBy};
+ghost use Rattle.ac_search.specs.Searchers.{IsBuilt, engine_refusal, looks_allowed, usual_settings};
 
 use ac_automaton::automaton::OverlappingState;
 use ac_util::error::{BuildError, MatchError};
@@ -81,7 +82,7 @@ impl<A: Allocator + Clone> AhoCorasick<A> {
     pub fn new(alloc: A, patterns: &[&[u8]]) -> Result<AhoCorasick<A>, BuildError>
         ensures { MatchResult result
             (IsBuilt usual_settings (bytes_of patterns.now))
-            (RefusesSearcher usual_settings (bytes_of patterns.now)) }
+            (RefusesBy (engine_refusal usual_settings (bytes_of patterns.now)) (bytes_of patterns.now)) }
     {
         AhoCorasickBuilder::new().build(alloc, patterns)
     }

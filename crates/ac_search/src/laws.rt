@@ -110,7 +110,8 @@ pub fn engines_agree<A: Allocator, B: Allocator>(one: &AhoCorasick<A>, other: &A
 /// that `engines_agree` speaks of, whatever the settings are else.
 pub fn settings_change_no_answer()
     ensures { (one other : Settings) (patterns : List (List ℕ)) (s t : Searcher) → IsBuilt one patterns s
-        → IsBuilt other patterns t → one.match_kind ≡ other.match_kind → one.fold ≡ other.fold
+        → IsBuilt other patterns t → one.engine.kind ≡ other.engine.kind
+        → one.engine.fold ≡ other.engine.fold
         → one.start_kind ≡ other.start_kind → s.built ≡ t.built }
 {}
 

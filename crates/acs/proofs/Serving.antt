@@ -5,7 +5,8 @@ use Rattle.std.specs.Borrow.{Bor}
 use Rattle.ac_util.specs.Borrowed.{bytes_of}
 use Rattle.ac_util.specs.Built.{Built}
 use Rattle.ac_util.specs.Device.{Reading, Writing}
-use Rattle.ac_search.specs.Searchers.{IsBuildable, IsBuilt, Searcher, built_by}
+use Rattle.ac_search.specs.Builds.{IsAllowed}
+use Rattle.ac_search.specs.Searchers.{IsBuilt, Searcher, built_by, engine_refusal}
 use Rattle.acs.specs.declared.fault.Fault.{Fault}
 use Rattle.acs.specs.declared.request.Mode.{Mode}
 use Rattle.acs.specs.declared.request.Request.{Request}
@@ -25,7 +26,7 @@ pub serves : {request : Request} {words : List (List ℕ)} {mode : Mode} {search
     → IsBuilt (settings_of request) (bytes_of patterns) searcher → IsServing request words mode searcher.built
 serves {request} patterns mode_is are made = record {
   mode_is = mode_is;
-  allowed = subst (λ (ps : List (List ℕ)). IsBuildable (settings_of request) ps) are made.allowed;
+  allowed = subst (λ (ps : List (List ℕ)). IsAllowed (engine_refusal (settings_of request) ps) ps) are made.allowed;
   built_is = made.built ∙ ap (λ (ps : List (List ℕ)). built_by (settings_of request) ps) are;
 }
 

@@ -8,7 +8,8 @@ use Rattle.ac_util.specs.declared.error.MatchError.{MatchError}
 use Rattle.ac_util.specs.declared.error.MatchError.TheVariants.{InvalidInputAnchored, InvalidInputUnanchored, UnsupportedEmpty, UnsupportedOverlapping, UnsupportedStream}
 use Rattle.ac_util.specs.declared.error.StreamError.{StreamError}
 use Rattle.ac_util.specs.declared.error.StreamError.TheVariants.{Io as DeviceFailed, Match as Refused, Memory as NoBuffer, TooLong as StreamTooLong, WriteZero as TookNothing}
-use Rattle.ac_search.specs.Searchers.{RefusesSearcher, Settings}
+use Rattle.ac_search.specs.Builds.{RefusesBy}
+use Rattle.ac_search.specs.Searchers.{Settings, engine_refusal}
 use Rattle.acs.specs.declared.fault.Fault.{Fault}
 use Rattle.acs.specs.declared.fault.Fault.TheVariants.{Usage, Memory, TooManyPatterns, PatternTooLong, TooManyStates, OverlappingKind, StreamKind, StreamEmpty, Io, WriteZero, TooLong}
 
@@ -57,4 +58,4 @@ write_fault_of WroteNothing = WriteZero
 -- the fault of a build over these patterns that was refused: a limit of the list is told before want of memory
 abbrev pub IsRefusal : Settings → List (List ℕ) → Fault → Type 0
 IsRefusal settings patterns fault =
-    (e : BuildError) × (fault ≡ fault_of e) × RefusesSearcher settings patterns e
+    (e : BuildError) × (fault ≡ fault_of e) × RefusesBy (engine_refusal settings patterns) patterns e

@@ -1,12 +1,12 @@
 -- What the words after the program's name ask for.
-use Rattle.std.specs.Prelude.{ℕ, ◌%◌, ◌==◌, List, [], ◌∷◌, Option, None, Some, Bool, true, false, bytes_eq, String, codes, drop, length, map, string_bytes, if◌then◌else◌}
+use Rattle.std.specs.Prelude.{ℕ, ◌%◌, ◌==◌, List, [], ◌∷◌, Option, None, Some, Bool, true, bytes_eq, String, codes, drop, length, map, string_bytes, if◌then◌else◌}
 use Rattle.ac_util.specs.declared.search.MatchKind.{MatchKind}
 use Rattle.ac_util.specs.declared.search.MatchKind.TheVariants.{Standard, LeftmostFirst, LeftmostLongest}
-use Rattle.ac_util.specs.declared.search.StartKind.TheVariants.{Unanchored}
 use Rattle.ac_search.specs.declared.ahocorasick.choice.AhoCorasickKind.{AhoCorasickKind}
 use Rattle.ac_search.specs.declared.ahocorasick.choice.AhoCorasickKind.TheVariants.{ContiguousNFA, DFA, NoncontiguousNFA}
 use Rattle.ac_util.specs.Built.{Built}
-use Rattle.ac_search.specs.Searchers.{Settings, built_by}
+use Rattle.ac_search.specs.Builds.{usual_engine_settings}
+use Rattle.ac_search.specs.Searchers.{Settings, built_by, usual_settings}
 use Rattle.acs.specs.declared.request.Mode.{Mode}
 use Rattle.acs.specs.declared.request.Mode.TheVariants.{Find, Walk, Overlap, Stream, Replace, StreamReplace}
 use Rattle.acs.specs.declared.request.Request.{Request}
@@ -86,14 +86,9 @@ texts_in mode words = []
 
 -- what the searcher is built by
 abbrev pub settings_of : Request → Settings
-settings_of request = record {
-  match_kind = request.kind;
-  start_kind = Unanchored;
-  fold = false;
+settings_of request = record usual_settings {
+  engine = record usual_engine_settings { kind = request.kind };
   kind = request.engine;
-  dense_depth = 2;
-  byte_classes = true;
-  prefilter = true;
 }
 
 -- what the searcher for a request with these words was built from

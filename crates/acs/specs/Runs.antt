@@ -1,7 +1,8 @@
 -- What a run of the program does to its reader and its writer.
 use Rattle.std.specs.Prelude.{◌≡◌, ◌⊎◌, ℕ, ◌++◌, Bool, List, codes, MatchOption, MatchResult, Result, Ok, Err}
 use Rattle.ac_util.specs.Device.{Reading, Writing, WritesAll}
-use Rattle.ac_search.specs.Searchers.{IsBuildable}
+use Rattle.ac_search.specs.Builds.{IsAllowed}
+use Rattle.ac_search.specs.Searchers.{engine_refusal}
 use Rattle.acs.specs.declared.fault.Fault.{Fault}
 use Rattle.acs.specs.declared.fault.Fault.TheVariants.{Usage}
 use Rattle.acs.specs.declared.request.Request.{Request}
@@ -13,7 +14,8 @@ use Rattle.acs.specs.Requests.{built_for, patterns_in, request_of, settings_of, 
 
 -- no limit refuses the searcher for a request with these words
 abbrev pub IsServable : Request → List (List ℕ) → Type 0
-IsServable request words = IsBuildable (settings_of request) (patterns_in request.mode words)
+IsServable request words =
+    IsAllowed (engine_refusal (settings_of request) (patterns_in request.mode words)) (patterns_in request.mode words)
 
 module _ (ends : Bool) (request : Request) (words : List (List ℕ)) (reader new_reader : Reading)
     (writer new_writer : Writing) where

@@ -3,28 +3,23 @@ ghost use Rattle.std.specs.Prelude.{◌≡◌, ◌≢◌, IfSome, List, MatchRes
 ghost use Rattle.std.proofs.Common.{inr, refl};
 ghost use Rattle.ac_util.specs.Borrowed.{bytes_of};
 ghost use Rattle.ac_util.specs.Node.{Node};
-ghost use Rattle.ac_util.specs.Sizes.{longest_len, shortest_len};
-ghost use Rattle.ac_automaton.specs.Builds.{IsEngineBuilt, Refuses, usual_engine_settings};
-ghost use Rattle.ac_automaton.specs.Tries.{IsRoot, IsTable, StandsFor, listed_within, stands-lists};
+ghost use Rattle.ac_automaton.specs.Builds.{IsEngineBuilt, RefusesBy, state_refusal, usual_engine_settings};
+ghost use Rattle.ac_automaton.specs.Tries.{IsRoot, IsTrie, IsTrieState, listed_within, stands-lists};
 ghost use Rattle.ac_automaton.specs.declared.nfa.noncontiguous.state.State.{State};
 
-use crate::automaton::{Automaton, MatchRest};
+use crate::automaton::{Automaton, Common, MatchRest};
 use ac_util::error::{BuildError, MatchError};
 use ac_util::looks::Looks;
-use ac_util::patterns::Patterns;
-use ac_util::prefilter::Prefilter;
 use ac_util::primitives::{PatternID, StateID};
-use ac_util::search::{Anchored, MatchKind};
+use ac_util::search::Anchored;
 use growth::TrieLists;
 use state::{State, Transition, TrieSlices, follow, listed_len, take_listed};
 use std::alloc::{AllocError, Allocator, Global};
 use std::marker::Model;
 use std::mem::size_of;
-use std::rc::Rc;
 
 mod builder;
 pub(crate) mod growth;
-mod lengths;
 mod readers;
 mod root;
 pub(crate) mod sorted;
@@ -40,39 +35,25 @@ pub use state::{ANCHORED_START, DEAD, FAIL, FIRST_INNER, START};
 /// `nfa::noncontiguous::NFA`.
 #[derive(Drop)]
 pub struct NFA<A: Allocator = Global> {
-    patterns: Rc<Patterns<A>, A>,
-    kind: MatchKind,
-    fold: bool,
-    shortest: usize,
-    longest: usize,
+    common: Common<A>,
     lists: TrieLists<A>,
     /// Where an unanchored search goes on from the start, for each byte.
     root: Vec<StateID, A>,
-    /// Whether it was built to have a prefilter, where there is one for its patterns.
-    filters: bool,
-    prefilter: Option<Prefilter<A>>,
 }
 
 impl<A: Allocator> Model for NFA<A> {
-    ghost use Rattle.std.specs.Prelude.{◌≡◌, List, IfSome, option_map};
+    ghost use Rattle.std.specs.Prelude.{List};
     ghost use Rattle.ac_util.specs.Node.{Node};
-    ghost use Rattle.ac_util.specs.Prefilters.{IsSkipFor, skip_for, skip_of};
-    ghost use Rattle.ac_util.specs.Sizes.{longest_len, shortest_len};
-    ghost use Rattle.ac_automaton.specs.Tries.{IsRoot, IsTable, Trie, trie_of};
+    ghost use Rattle.ac_automaton.specs.Tries.{IsRoot, IsTrie, Trie, trie_of};
 
     ghost Value = { Trie };
 
-    ghost view = { λ n. trie_of n.patterns.value n.fold n.kind n.filters
-        n.lists.order.items n.lists.transitions.items n.lists.states.items };
+    ghost view = { λ n. trie_of n.common n.lists.order.items n.lists.transitions.items n.lists.states.items };
 
     ghost invariant = { λ n. record {
-      table : (nodes : List Node) × IsTable (trie_of n.patterns.value n.fold n.kind n.filters
-          n.lists.order.items n.lists.transitions.items n.lists.states.items) nodes;
-      shortest : n.shortest ≡ shortest_len n.patterns.value;
-      longest : n.longest ≡ longest_len n.patterns.value;
+      is_trie : (nodes : List Node) × IsTrie
+          (trie_of n.common n.lists.order.items n.lists.transitions.items n.lists.states.items) nodes;
       rooted : IsRoot n.lists.transitions.items n.lists.states.items n.root.items;
-      skips : option_map skip_of n.prefilter ≡ skip_for n.filters n.fold n.patterns.value;
-      serves : IfSome n.prefilter (λ p. IsSkipFor (skip_of p) n.fold n.patterns.value);
     } };
 }
 
@@ -85,15 +66,9 @@ impl<A: Allocator + Clone> Clone for NFA<A> {
     /// `AllocError` where a request for memory is refused.
     fn clone(&self) -> Result<NFA<A>, AllocError> {
         Ok(NFA {
-            patterns: self.patterns.clone()?,
-            kind: self.kind,
-            fold: self.fold,
-            shortest: self.shortest,
-            longest: self.longest,
+            common: self.common.clone()?,
             lists: self.lists.clone()?,
             root: self.root.clone()?,
-            filters: self.filters,
-            prefilter: self.prefilter.clone()?,
         })
     }
 }
@@ -107,7 +82,7 @@ impl<A: Allocator + Clone> NFA<A> {
     pub fn new(alloc: A, patterns: &[&[u8]]) -> Result<NFA<A>, BuildError>
         ensures { MatchResult result
             (λ nfa. IsEngineBuilt usual_engine_settings (bytes_of patterns.now) nfa)
-            (Refuses usual_engine_settings (bytes_of patterns.now)) }
+            (RefusesBy (state_refusal usual_engine_settings (bytes_of patterns.now)) (bytes_of patterns.now)) }
     {
         Builder::new().build(alloc, patterns)
     }
@@ -127,7 +102,7 @@ impl<A: Allocator> NFA<A> {
     #[inline]
     fn states(&self) -> &[State]
         ensures value { result.now ≡ self.now.states }
-        ensures table { (nodes : List Node) × IsTable self.now nodes }
+        ensures is_trie { (nodes : List Node) × IsTrie self.now nodes }
     {
         &self.lists.states
     }
@@ -178,7 +153,7 @@ impl<A: Allocator> Automaton for NFA<A> {
 
     ghost built = { λ n. n.built };
 
-    ghost stands = { λ n anchored s u. StandsFor n s u };
+    ghost stands = { λ n anchored s u. IsTrieState n s u };
 
     ghost listed = { λ n s. listed_within n.order n.states s s };
 
@@ -235,24 +210,9 @@ impl<A: Allocator> Automaton for NFA<A> {
         take_listed(self.states(), self.order(), rest)
     }
 
-    fn match_kind(&self) -> MatchKind {
-        self.kind
-    }
-
-    fn patterns_len(&self) -> usize {
-        self.patterns().len()
-    }
-
-    fn pattern_len(&self, pattern: PatternID) -> usize {
-        self.patterns().get(pattern.as_usize()).len()
-    }
-
-    fn min_pattern_len(&self) -> usize {
-        self.shortest
-    }
-
-    fn max_pattern_len(&self) -> usize {
-        self.longest
+    #[inline]
+    fn common(&self) -> &Common<A> {
+        &self.common
     }
 
     fn memory_usage(&self) -> usize {
@@ -269,9 +229,5 @@ impl<A: Allocator> Automaton for NFA<A> {
             .saturating_add(order)
             .saturating_add(root)
             .saturating_add(self.patterns().memory_usage())
-    }
-
-    fn prefilter(&self) -> Option<&Prefilter<A>> {
-        self.prefilter.as_ref()
     }
 }

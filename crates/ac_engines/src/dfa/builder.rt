@@ -1,20 +1,20 @@
-//! Builds of a table of steps.
+//! Builds of a DFA.
 ghost use Rattle.std.specs.Prelude.{◌≡◌, ◌<◌, ◌≤◌, ◌+◌, ◌-◌, ◌*◌, ◌^◌, IfOk, List, length, MatchResult, None};
 ghost use Rattle.ac_util.specs.declared.error.BuildError.TheVariants.{StateIdOverflow};
 ghost use Rattle.ac_util.specs.declared.primitives.TheConstants.{GREATEST};
 ghost use Rattle.ac_util.specs.declared.search.StartKind;
 ghost use Rattle.ac_util.specs.Borrowed.{bytes_of};
 ghost use Rattle.ac_util.specs.Node.{Node};
-ghost use Rattle.ac_engines.specs.Builds.{IsTableBuilt, IsTableFrom, RefusesTable, RefusesTableFrom, table_refusal_from, usual_table_settings};
-ghost use Rattle.ac_engines.specs.Filling.{FilledUpTo, MayFill};
-ghost use Rattle.ac_engines.specs.Layouts.{table_rows};
-ghost use Rattle.ac_engines.specs.Rows.{start_number};
+ghost use Rattle.ac_automaton.specs.Builds.{IsRefusedExactly, RefusesBy, fits};
+ghost use Rattle.ac_engines.specs.Dfa.Builds.{IsDfaBuilt, IsDfaFrom, dfa_refusal, dfa_refusal_by, usual_dfa_settings};
+ghost use Rattle.ac_engines.specs.Dfa.Filling.{FilledUpTo, MayFill};
+ghost use Rattle.ac_engines.specs.Dfa.Layouts.{table_rows};
+ghost use Rattle.ac_engines.specs.Dfa.{start_number};
 
 use super::fill::Filler;
 use super::layout::{Layout, table_rows};
 use super::{DEAD, DFA};
 use crate::classes::classes_for;
-use crate::prefilter::prefilter_for;
 use ac_automaton::automaton::Automaton;
 use ac_automaton::nfa::noncontiguous::{self, NFA};
 use ac_util::error::BuildError;
@@ -28,37 +28,31 @@ use std::marker::Model;
 /// This ports `dfa::Builder`.
 #[derive(Debug, Drop)]
 pub struct Builder {
-    kind: MatchKind,
-    fold: bool,
+    noncontiguous: noncontiguous::Builder,
     start_kind: StartKind,
     byte_classes: bool,
-    prefilter: bool,
 }
 
 impl Model for Builder {
-    ghost use Rattle.ac_engines.specs.Builds.{TableSettings};
+    ghost use Rattle.ac_engines.specs.Dfa.Builds.{DfaSettings};
 
-    ghost Value = { TableSettings };
+    ghost Value = { DfaSettings };
 
     ghost view = { λ b. record {
-      kind = b.kind;
-      fold = b.fold;
+      engine = b.noncontiguous;
       start_kind = b.start_kind;
       byte_classes = b.byte_classes;
-      prefilter = b.prefilter;
     } };
 
     ghost inverse = { λ v. record {
-      kind = v.kind;
-      fold = v.fold;
+      noncontiguous = v.engine;
       start_kind = v.start_kind;
       byte_classes = v.byte_classes;
-      prefilter = v.prefilter;
     } };
 }
 
 impl Default for Builder {
-    ghost is_default = { λ b. b ≡ usual_table_settings };
+    ghost is_default = { λ b. b ≡ usual_dfa_settings };
 
     fn default() -> Builder {
         Builder::new()
@@ -69,14 +63,12 @@ impl Builder {
     /// Returns a builder with the usual settings: `MatchKind::Standard`, case counts, unanchored searches alone,
     /// bytes that need not be told apart share a class, and a prefilter where there is one.
     pub fn new() -> Builder
-        ensures { result ≡ usual_table_settings }
+        ensures { result ≡ usual_dfa_settings }
     {
         Builder {
-            kind: MatchKind::Standard,
-            fold: false,
+            noncontiguous: noncontiguous::Builder::new(),
             start_kind: StartKind::Unanchored,
             byte_classes: true,
-            prefilter: true,
         }
     }
 
@@ -84,24 +76,27 @@ impl Builder {
     pub fn clone(&self) -> Builder
         ensures { result ≡ self.now }
     {
-        Builder { ..*self }
+        Builder {
+            noncontiguous: self.noncontiguous.clone(),
+            ..*self
+        }
     }
 
     /// Sets which of the occurrences in a span a search answers. `Standard` unless set.
     pub fn match_kind(&mut self, kind: MatchKind) -> &mut Builder
-        ensures value { result.now ≡ record self.old { kind = kind } }
+        ensures value { result.now ≡ record self.old { engine = record self.old.engine { kind = kind } } }
         ensures same { result.ghost_name ≡ self.entry.ghost_name }
     {
-        self.kind = kind;
+        self.noncontiguous.match_kind(kind);
         self
     }
 
     /// Sets whether the case of ASCII letters is ignored. It counts unless set.
     pub fn ascii_case_insensitive(&mut self, yes: bool) -> &mut Builder
-        ensures value { result.now ≡ record self.old { fold = yes } }
+        ensures value { result.now ≡ record self.old { engine = record self.old.engine { fold = yes } } }
         ensures same { result.ghost_name ≡ self.entry.ghost_name }
     {
-        self.fold = yes;
+        self.noncontiguous.ascii_case_insensitive(yes);
         self
     }
 
@@ -130,10 +125,10 @@ impl Builder {
     /// Sets whether a search may skip ahead by a prefilter, where there is one for the patterns. It changes no answer.
     /// It may unless set.
     pub fn prefilter(&mut self, yes: bool) -> &mut Builder
-        ensures value { result.now ≡ record self.old { prefilter = yes } }
+        ensures value { result.now ≡ record self.old { engine = record self.old.engine { prefilter = yes } } }
         ensures same { result.ghost_name ≡ self.entry.ghost_name }
     {
-        self.prefilter = yes;
+        self.noncontiguous.prefilter(yes);
         self
     }
 
@@ -149,16 +144,21 @@ impl Builder {
         patterns: &[&[u8]],
     ) -> Result<DFA<A>, BuildError>
         ensures { MatchResult result
-            (IsTableBuilt self.now (bytes_of patterns.now))
-            (RefusesTable self.now (bytes_of patterns.now)) }
+            (IsDfaBuilt self.now (bytes_of patterns.now))
+            (RefusesBy (dfa_refusal_by self.now (bytes_of patterns.now)) (bytes_of patterns.now)) }
     {
-        let mut nfa = noncontiguous::Builder::new();
-        nfa.match_kind(self.kind)
-            .ascii_case_insensitive(self.fold)
-            .prefilter(self.prefilter);
-        let nfa = nfa.build(alloc, patterns)?;
+        let nfa = self.noncontiguous.build(alloc, patterns)?;
         let alloc = nfa.allocator().clone()?;
         self.build_from_noncontiguous(alloc, &nfa)
+    }
+
+    /// Returns whether a DFA that is built from this automaton is within its limit, and takes no memory.
+    pub fn fits<A: Allocator>(&self, nfa: &NFA<A>) -> bool
+        ensures { result ≡ fits (dfa_refusal self.now.start_kind self.now.byte_classes nfa.now.built) }
+    {
+        let classes = classes_for(nfa, self.byte_classes);
+        let rows = table_rows(self.start_kind, nfa.states_len()) as u64;
+        table_len(rows, classes.stride2()).is_ok()
     }
 
     /// Builds an automaton that answers as another one, whose patterns it shares. Of the settings only the start kind
@@ -173,9 +173,9 @@ impl Builder {
         nfa: &NFA<A>,
     ) -> Result<DFA<A>, BuildError>
         ensures { MatchResult result
-            (λ dfa. IsTableFrom self.now.start_kind self.now.byte_classes nfa.now.built nfa.now.filters dfa
-            × (table_refusal_from self.now.start_kind self.now.byte_classes nfa.now.built ≡ None))
-            (RefusesTableFrom self.now.start_kind self.now.byte_classes nfa.now.built) }
+            (λ dfa. IsDfaFrom self.now.start_kind self.now.byte_classes nfa.now.built nfa.now.filters dfa
+            × (dfa_refusal self.now.start_kind self.now.byte_classes nfa.now.built ≡ None))
+            (IsRefusedExactly (dfa_refusal self.now.start_kind self.now.byte_classes nfa.now.built)) }
     {
         let classes = classes_for(nfa, self.byte_classes);
         let stride2 = classes.stride2();
@@ -191,12 +191,8 @@ impl Builder {
         };
         let table = filled_table(alloc, &filler, len as usize)?;
         Ok(DFA {
-            patterns: nfa.patterns().clone()?,
-            kind: nfa.match_kind(),
-            fold: nfa.fold(),
+            common: nfa.common().clone()?,
             start_kind: self.start_kind,
-            shortest: nfa.min_pattern_len(),
-            longest: nfa.max_pattern_len(),
             classes,
             stride2,
             table,
@@ -205,8 +201,6 @@ impl Builder {
             anchored_start: start_of(self.start_kind, Anchored::Yes, stride2),
             first_match: layout.first_match,
             match_end: layout.match_end,
-            filters: nfa.filters(),
-            prefilter: prefilter_for(nfa)?,
         })
     }
 }

@@ -5,8 +5,8 @@ ghost use Rattle.ac_util.specs.Node.{Node, begins_with_pattern, is_leftmost};
 ghost use Rattle.ac_automaton.specs.Automata.{plain_of};
 ghost use Rattle.ac_util.specs.declared.search.Anchored;
 ghost use Rattle.ac_automaton.specs.Readers.{own_bytes};
-ghost use Rattle.ac_engines.specs.Filling.{FilledUpTo, HasFilled, HasRow, HasSet, MayFill, MayFillRow, row_at, sheet_of};
-ghost use Rattle.ac_engines.specs.Rows.{behind};
+ghost use Rattle.ac_engines.specs.Dfa.Filling.{FilledUpTo, HasFilled, HasRow, HasSet, MayFill, MayFillRow, row_at, sheet_of};
+ghost use Rattle.ac_engines.specs.Dfa.{anchored_shift};
 
 use ac_automaton::automaton::Automaton;
 use ac_automaton::nfa::noncontiguous::{DEAD, FIRST_INNER, NFA, START};
@@ -30,7 +30,7 @@ pub(super) struct Filler<'a, A: Allocator> {
 }
 
 impl<'a, A: Allocator> Model for Filler<'a, A> {
-    ghost use Rattle.ac_engines.specs.Filling.{Filling};
+    ghost use Rattle.ac_engines.specs.Dfa.Filling.{Filling};
 
     ghost Value = { Filling };
 
@@ -45,8 +45,8 @@ impl<'a, A: Allocator> Model for Filler<'a, A> {
 
 impl<'a, A: Allocator> Filler<'a, A> {
     /// Returns how far the anchored row of a state stands after its unanchored one.
-    fn behind(&self, anchored: Anchored) -> usize
-        ensures { result ≡ behind self.now.start_kind anchored self.now.stride }
+    fn anchored_shift(&self, anchored: Anchored) -> usize
+        ensures { result ≡ anchored_shift self.now.start_kind anchored self.now.stride }
     {
         match (self.start_kind, anchored) {
             (StartKind::Both, Anchored::Yes) => self.stride,
@@ -60,7 +60,7 @@ impl<'a, A: Allocator> Filler<'a, A> {
         ensures { (nodes : List Node) (size : ℕ) (w : List ℕ) → HasRow self.now nodes size sid w
             → result ≡ row_at (sheet_of self.now nodes) anchored (Some w) }
     {
-        StateID::must(first_row(self.numbers, sid) + self.behind(anchored))
+        StateID::must(first_row(self.numbers, sid) + self.anchored_shift(anchored))
     }
 
     /// Sets the own transitions of a state in one of its rows.

@@ -8,7 +8,7 @@ ghost use Rattle.ac_util.specs.Sizes.{state_count};
 ghost use Rattle.ac_automaton.specs.declared.nfa.noncontiguous.state.TheConstants.{FIRST_INNER, START};
 ghost use Rattle.ac_automaton.specs.Automata.{plain_of};
 ghost use Rattle.ac_automaton.specs.Readers.{AreNodes};
-ghost use Rattle.ac_engines.specs.Layouts.{HasNode, HasPlaced, IsLayout, first_lists, rows_each, table_rows};
+ghost use Rattle.ac_engines.specs.Dfa.Layouts.{HasNode, HasPlaced, IsLayout, first_lists, rows_each, table_rows};
 
 use super::lists::MatchLists;
 use ac_automaton::automaton::Automaton;

@@ -4,7 +4,7 @@ ghost use Rattle.ac_util.specs.Node.{Node};
 ghost use Rattle.ac_util.specs.Pieces.{AreBounds, pieces};
 ghost use Rattle.ac_automaton.specs.Automata.{matches_of};
 ghost use Rattle.ac_automaton.specs.Readers.{AreNodes};
-ghost use Rattle.ac_engines.specs.Layouts.{HasNode, row_lists};
+ghost use Rattle.ac_engines.specs.Dfa.Layouts.{HasNode, row_lists};
 
 use ac_automaton::automaton::{Automaton, MatchRest, is_due};
 use ac_automaton::nfa::noncontiguous::NFA;

@@ -1,27 +1,25 @@
-//! An automaton in one list of packed words: small, and nearly as fast as a table.
+//! The contiguous NFA: states packed into one list of words, small and nearly as fast as a DFA.
 ghost use Rattle.std.specs.Prelude.{◌≡◌, MatchResult, drop};
 ghost use Rattle.std.proofs.Common.{inr, refl};
 ghost use Rattle.ac_util.specs.declared.search.Anchored.{Anchored};
 ghost use Rattle.ac_util.specs.Borrowed.{bytes_of};
 ghost use Rattle.ac_automaton.specs.Automata.{IsState};
-ghost use Rattle.ac_engines.specs.PackedBuilds.{IsPackedBuilt, RefusesPacked, usual_packed_settings};
-ghost use Rattle.ac_engines.specs.Packing.{IsPacked, Places, StandsAt, listed_at, stands-lists};
+ghost use Rattle.ac_automaton.specs.Builds.{RefusesBy};
+ghost use Rattle.ac_engines.specs.Contiguous.{IsContiguous, IsContiguousState, Places, match_list_at};
+ghost use Rattle.ac_engines.specs.Contiguous.Builds.{IsContiguousBuilt, contiguous_refusal_by, usual_contiguous_settings};
+ghost use Rattle.ac_engines.specs.Listed.{contiguous-lists};
 
-use crate::prefilter::copy_of;
-use ac_automaton::automaton::{Automaton, MatchRest};
+use ac_automaton::automaton::{Automaton, Common, MatchRest};
 use ac_automaton::nfa::noncontiguous::DEAD;
 use ac_util::alphabet::ByteClasses;
 use ac_util::error::{BuildError, MatchError};
 use ac_util::looks::Looks;
-use ac_util::patterns::Patterns;
-use ac_util::prefilter::Prefilter;
 use ac_util::primitives::{PatternID, StateID};
-use ac_util::search::{Anchored, MatchKind, StartKind};
+use ac_util::search::Anchored;
 use state::State;
 use std::alloc::{AllocError, Allocator, Global};
 use std::marker::Model;
 use std::mem::size_of;
-use std::rc::Rc;
 use step::follow;
 
 mod builder;
@@ -44,11 +42,7 @@ pub use format::{Format, check_words, format_of, state_words};
 /// searches. This ports `nfa::contiguous::NFA`.
 #[derive(Drop)]
 pub struct NFA<A: Allocator = Global> {
-    patterns: Rc<Patterns<A>, A>,
-    kind: MatchKind,
-    fold: bool,
-    shortest: usize,
-    longest: usize,
+    common: Common<A>,
     classes: ByteClasses,
     /// States of strings that are shorter are dense.
     dense_depth: usize,
@@ -57,31 +51,18 @@ pub struct NFA<A: Allocator = Global> {
     anchored_start: StateID,
     /// No state has matches from this number on.
     match_end: usize,
-    /// Whether it was built to have a prefilter, where there is one for its patterns.
-    filters: bool,
-    prefilter: Option<Prefilter<A>>,
 }
 
 impl<A: Allocator> Model for NFA<A> {
-    ghost use Rattle.std.specs.Prelude.{◌≡◌, ◌<◌, IfSome, option_map};
-    ghost use Rattle.ac_util.specs.declared.search.StartKind.TheVariants.{Both};
-    ghost use Rattle.ac_util.specs.Prefilters.{IsSkipFor, skip_for, skip_of};
-    ghost use Rattle.ac_util.specs.Sizes.{longest_len, shortest_len};
-    ghost use Rattle.ac_engines.specs.Packing.{IsPacked, Packed, Places, packed_from};
+    ghost use Rattle.ac_engines.specs.Contiguous.{ContiguousView, IsContiguous, Places, contiguous_of};
 
-    ghost Value = { Packed };
+    ghost Value = { ContiguousView };
 
-    ghost view = { λ n. packed_from n.patterns.value n.fold n.kind n.filters n.dense_depth n.classes n.words.items
-        n.start n.anchored_start n.match_end };
+    ghost view = { λ n. contiguous_of n.common n.dense_depth n.classes n.words.items n.start n.anchored_start
+        n.match_end };
 
-    ghost invariant = { λ n. record {
-      packed : (at : Places) × IsPacked (packed_from n.patterns.value n.fold n.kind n.filters n.dense_depth n.classes
-          n.words.items n.start n.anchored_start n.match_end) at;
-      shortest : n.shortest ≡ shortest_len n.patterns.value;
-      longest : n.longest ≡ longest_len n.patterns.value;
-      skips : option_map skip_of n.prefilter ≡ skip_for n.filters n.fold n.patterns.value;
-      serves : IfSome n.prefilter (λ p. IsSkipFor (skip_of p) n.fold n.patterns.value);
-    } };
+    ghost invariant = { λ n. (at : Places) × IsContiguous (contiguous_of n.common n.dense_depth n.classes n.words.items
+        n.start n.anchored_start n.match_end) at };
 }
 
 impl<A: Allocator + Clone> Clone for NFA<A> {
@@ -93,19 +74,13 @@ impl<A: Allocator + Clone> Clone for NFA<A> {
     /// `AllocError` where a request for memory is refused.
     fn clone(&self) -> Result<NFA<A>, AllocError> {
         Ok(NFA {
-            patterns: self.patterns.clone()?,
-            kind: self.kind,
-            fold: self.fold,
-            shortest: self.shortest,
-            longest: self.longest,
+            common: self.common.clone()?,
             classes: self.classes,
             dense_depth: self.dense_depth,
             words: self.words.clone()?,
             start: self.start,
             anchored_start: self.anchored_start,
             match_end: self.match_end,
-            filters: self.filters,
-            prefilter: copy_of(&self.prefilter)?,
         })
     }
 }
@@ -118,8 +93,9 @@ impl<A: Allocator + Clone> NFA<A> {
     /// As `Builder::build`.
     pub fn new(alloc: A, patterns: &[&[u8]]) -> Result<NFA<A>, BuildError>
         ensures { MatchResult result
-            (IsPackedBuilt usual_packed_settings (bytes_of patterns.now))
-            (RefusesPacked usual_packed_settings (bytes_of patterns.now)) }
+            (IsContiguousBuilt usual_contiguous_settings (bytes_of patterns.now))
+            (RefusesBy (contiguous_refusal_by usual_contiguous_settings (bytes_of patterns.now))
+            (bytes_of patterns.now)) }
     {
         Builder::new().build(alloc, patterns)
     }
@@ -128,7 +104,7 @@ impl<A: Allocator + Clone> NFA<A> {
 impl NFA {
     /// Returns a builder with the usual settings.
     pub fn builder() -> Builder
-        ensures { result ≡ usual_packed_settings }
+        ensures { result ≡ usual_contiguous_settings }
     {
         Builder::new()
     }
@@ -139,23 +115,15 @@ impl<A: Allocator> NFA<A> {
     #[inline]
     fn words(&self) -> &[u32]
         ensures value { result.now ≡ self.now.words }
-        ensures packed { (at : Places) × IsPacked self.now at }
+        ensures is_contiguous { (at : Places) × IsContiguous self.now at }
     {
         &self.words
-    }
-
-    /// Returns the patterns.
-    #[inline]
-    fn patterns(&self) -> &Patterns<A>
-        ensures { result.now ≡ self.now.built.patterns }
-    {
-        self.patterns.as_ref()
     }
 
     /// Returns the state of a number.
     #[inline]
     fn state(&self, sid: StateID) -> State<'_>
-        requires { (anchored : Anchored) × IsState (λ s u. StandsAt self.now anchored s u) sid }
+        requires { (anchored : Anchored) × IsState (λ s u. IsContiguousState self.now anchored s u) sid }
         ensures { result.words.now ≡ drop sid self.now.words }
     {
         State::at(self.words(), sid.as_usize())
@@ -171,15 +139,15 @@ impl<A: Allocator> Automaton for NFA<A> {
 
     ghost built = { λ n. n.built };
 
-    ghost stands = { λ n anchored s u. StandsAt n anchored s u };
+    ghost stands = { λ n anchored s u. IsContiguousState n anchored s u };
 
-    ghost listed = { λ n s. listed_at n s };
+    ghost listed = { λ n s. match_list_at n s };
 
     ghost filters = { λ n. n.filters };
 
     ghost one_or_two = { inr refl };
 
-    ghost lists = { stands-lists };
+    ghost lists = { contiguous-lists };
 
     fn start_state(&self, anchored: Anchored) -> Result<StateID, MatchError> {
         // Contracts learn here which states are the starts.
@@ -241,34 +209,14 @@ impl<A: Allocator> Automaton for NFA<A> {
         Some((pattern, rest))
     }
 
-    fn match_kind(&self) -> MatchKind {
-        self.kind
-    }
-
-    fn patterns_len(&self) -> usize {
-        self.patterns().len()
-    }
-
     #[inline]
-    fn pattern_len(&self, pattern: PatternID) -> usize {
-        self.patterns().get(pattern.as_usize()).len()
-    }
-
-    fn min_pattern_len(&self) -> usize {
-        self.shortest
-    }
-
-    fn max_pattern_len(&self) -> usize {
-        self.longest
+    fn common(&self) -> &Common<A> {
+        &self.common
     }
 
     fn memory_usage(&self) -> usize {
         let words = self.words.len().saturating_mul(size_of::<u32>());
-        words.saturating_add(self.patterns().memory_usage())
-    }
-
-    fn prefilter(&self) -> Option<&Prefilter<A>> {
-        self.prefilter.as_ref()
+        words.saturating_add(self.common.patterns().as_ref().memory_usage())
     }
 }
 

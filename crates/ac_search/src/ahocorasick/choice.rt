@@ -1,11 +1,11 @@
 //! Which engine serves a searcher.
 ghost use Rattle.std.specs.Prelude.{◌≡◌};
-ghost use Rattle.ac_search.specs.Searchers.{choose_kind, suits_table};
+ghost use Rattle.ac_search.specs.Searchers.{choose_kind, suits_dfa};
 
 use ac_util::search::StartKind;
 
-/// The greatest number of patterns for which a searcher takes a table of itself.
-pub const MOST_FOR_TABLE: usize = 100;
+/// The greatest number of patterns for which a searcher chooses the DFA.
+pub const MOST_FOR_DFA: usize = 100;
 
 /// An engine that serves a searcher.
 #[derive(Clone, Copy, PartialEq, Eq, Debug)]
@@ -18,10 +18,10 @@ pub enum AhoCorasickKind {
     DFA,
 }
 
-/// Returns the engine that a searcher over so many patterns takes where none was named, by whether a table would be
-/// within its limit, and the contiguous automaton within its own.
+/// Returns the engine that a searcher over so many patterns takes where none was named, by whether a DFA would be
+/// within its limit, and a contiguous NFA within its own.
 ///
-/// A table serves at most 100 patterns and one start, where it fits; else the contiguous automaton serves, where that
+/// The DFA serves at most 100 patterns and one start, where it fits; else the contiguous NFA serves, where that
 /// fits; else the noncontiguous one.
 pub fn choose_kind(
     patterns_len: usize,
@@ -31,7 +31,7 @@ pub fn choose_kind(
 ) -> AhoCorasickKind
     ensures { result ≡ choose_kind patterns_len start_kind dfa_fits contiguous_fits }
 {
-    if suits_table(start_kind, patterns_len) && dfa_fits {
+    if suits_dfa(start_kind, patterns_len) && dfa_fits {
         AhoCorasickKind::DFA
     } else if contiguous_fits {
         AhoCorasickKind::ContiguousNFA
@@ -40,9 +40,9 @@ pub fn choose_kind(
     }
 }
 
-/// Returns whether a table over so many patterns is worth its size, where no engine was named.
-pub(super) fn suits_table(start_kind: StartKind, patterns: usize) -> bool
-    ensures { result ≡ suits_table start_kind patterns }
+/// Returns whether a DFA over so many patterns is worth its size, where no engine was named.
+fn suits_dfa(start_kind: StartKind, patterns: usize) -> bool
+    ensures { result ≡ suits_dfa start_kind patterns }
 {
-    !matches!(start_kind, StartKind::Both) && patterns <= MOST_FOR_TABLE
+    !matches!(start_kind, StartKind::Both) && patterns <= MOST_FOR_DFA
 }

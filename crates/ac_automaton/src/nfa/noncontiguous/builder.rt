@@ -1,21 +1,17 @@
 //! Builds of a trie with failure links.
-ghost use Rattle.std.specs.Prelude.{◌≡◌, IfSome, MatchResult, option_map};
-ghost use Rattle.ac_util.specs.declared.error.BuildError.TheVariants.{Memory};
+ghost use Rattle.std.specs.Prelude.{◌≡◌, MatchResult};
 ghost use Rattle.ac_util.specs.Borrowed.{bytes_of};
-ghost use Rattle.ac_util.specs.Prefilters.{IsSkipFor, skip_for, skip_of};
-ghost use Rattle.ac_automaton.specs.Builds.{IsEngineBuilt, Refuses, usual_engine_settings};
+ghost use Rattle.ac_automaton.specs.Builds.{IsEngineBuilt, RefusesBy, state_refusal, usual_engine_settings};
 
 use super::NFA;
 use super::growth::TrieLists;
-use super::lengths::{longest_of, shortest_of};
 use super::root::root_of;
+use crate::automaton::Common;
 use ac_util::error::BuildError;
 use ac_util::patterns::Patterns;
-use ac_util::prefilter::Prefilter;
 use ac_util::search::MatchKind;
 use std::alloc::Allocator;
 use std::marker::Model;
-use std::rc::Rc;
 
 /// The settings of a build. A build changes none of them, so after a refusal the builder can be used again.
 ///
@@ -118,43 +114,16 @@ impl Builder {
     ) -> Result<NFA<A>, BuildError>
         ensures { MatchResult result
             (λ nfa. IsEngineBuilt self.now (bytes_of patterns.now) nfa)
-            (Refuses self.now (bytes_of patterns.now)) }
+            (RefusesBy (state_refusal self.now (bytes_of patterns.now)) (bytes_of patterns.now)) }
     {
         let patterns = Patterns::new(alloc, patterns)?;
         let lists = TrieLists::of(&patterns, self.kind, self.fold)?;
-        let prefilter = self.prefilter_of(&patterns)?;
         let root = root_of(patterns.allocator().clone()?, lists.slices())?;
-        let alloc = patterns.allocator().clone()?;
+        let common = Common::new(patterns, self.kind, self.fold, self.prefilter)?;
         Ok(NFA {
-            shortest: shortest_of(&patterns),
-            longest: longest_of(&patterns),
-            patterns: Rc::new(alloc, patterns)?,
-            kind: self.kind,
-            fold: self.fold,
+            common,
             lists,
             root,
-            filters: self.prefilter,
-            prefilter,
         })
-    }
-
-    /// Returns the prefilter of an automaton over these patterns, where the setting is on and there is one.
-    ///
-    /// # Errors
-    /// `Memory` where a request for memory is refused.
-    fn prefilter_of<A: Allocator + Clone>(
-        &self,
-        patterns: &Patterns<A>,
-    ) -> Result<Option<Prefilter<A>>, BuildError>
-        ensures { MatchResult result
-            (λ found. (option_map skip_of found ≡ skip_for self.now.prefilter self.now.fold patterns.now)
-            × IfSome found (λ p. IsSkipFor (skip_of p) self.now.fold patterns.now))
-            (λ e. e ≡ Memory) }
-    {
-        if !self.prefilter {
-            return Ok(None);
-        }
-        let alloc = patterns.allocator().clone()?;
-        Prefilter::of(alloc, patterns, self.fold)
     }
 }

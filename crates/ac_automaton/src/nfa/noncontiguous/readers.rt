@@ -1,4 +1,4 @@
-//! What a trie tells of its states. The engines that are a table or packed words are built by these readers alone.
+//! Readers of a trie's states. The DFA and the contiguous NFA are built by these alone.
 ghost use Rattle.std.specs.Prelude.{◌≡◌, ◌≢◌, ℕ, ◌+◌, ◌<◌, ◌≤◌, List, ◌∷◌, Some, length, slice_get};
 ghost use Rattle.ac_util.specs.Node.{Node, depth, failure};
 ghost use Rattle.ac_util.specs.Sizes.{state_count};
@@ -84,7 +84,7 @@ impl<A: Allocator> NFA<A> {
     pub fn patterns(&self) -> &Rc<Patterns<A>, A>
         ensures { result.now.value ≡ self.now.built.patterns }
     {
-        &self.patterns
+        self.common.patterns()
     }
 
     /// Returns whether case is ignored.
@@ -92,7 +92,7 @@ impl<A: Allocator> NFA<A> {
     pub fn fold(&self) -> bool
         ensures { result ≡ self.now.built.fold }
     {
-        self.fold
+        self.common.fold()
     }
 
     /// Returns whether it was built to have a prefilter, where there is one for its patterns.
@@ -100,6 +100,6 @@ impl<A: Allocator> NFA<A> {
     pub fn filters(&self) -> bool
         ensures { result ≡ self.now.filters }
     {
-        self.filters
+        self.common.filters()
     }
 }

@@ -1,14 +1,14 @@
-//! Builds of packed words.
+//! Builds of a contiguous NFA.
 ghost use Rattle.std.specs.Prelude.{◌≡◌, MatchResult, None};
 ghost use Rattle.ac_util.specs.Borrowed.{bytes_of};
-ghost use Rattle.ac_engines.specs.PackedBuilds.{IsPackedBuilt, IsPackedFrom, RefusesPacked, RefusesPackedFrom, packed_refusal_from, usual_packed_settings};
+ghost use Rattle.ac_automaton.specs.Builds.{IsRefusedExactly, RefusesBy, fits};
+ghost use Rattle.ac_engines.specs.Contiguous.Builds.{IsContiguousBuilt, IsContiguousFrom, contiguous_refusal, contiguous_refusal_by, usual_contiguous_settings};
 
 use super::NFA;
 use super::format::check_words;
 use super::pack::Packer;
 use super::plan::Plan;
 use crate::classes::classes_for;
-use crate::prefilter::prefilter_for;
 use ac_automaton::automaton::Automaton;
 use ac_automaton::nfa::noncontiguous::{self, ANCHORED_START, START};
 use ac_util::error::BuildError;
@@ -24,37 +24,31 @@ const USUAL_DENSE_DEPTH: usize = 2;
 /// This ports `nfa::contiguous::Builder`.
 #[derive(Debug, Drop)]
 pub struct Builder {
-    kind: MatchKind,
-    fold: bool,
+    noncontiguous: noncontiguous::Builder,
     dense_depth: usize,
     byte_classes: bool,
-    prefilter: bool,
 }
 
 impl Model for Builder {
-    ghost use Rattle.ac_engines.specs.PackedBuilds.{PackedSettings};
+    ghost use Rattle.ac_engines.specs.Contiguous.Builds.{ContiguousSettings};
 
-    ghost Value = { PackedSettings };
+    ghost Value = { ContiguousSettings };
 
     ghost view = { λ b. record {
-      kind = b.kind;
-      fold = b.fold;
+      engine = b.noncontiguous;
       dense_depth = b.dense_depth;
       byte_classes = b.byte_classes;
-      prefilter = b.prefilter;
     } };
 
     ghost inverse = { λ v. record {
-      kind = v.kind;
-      fold = v.fold;
+      noncontiguous = v.engine;
       dense_depth = v.dense_depth;
       byte_classes = v.byte_classes;
-      prefilter = v.prefilter;
     } };
 }
 
 impl Default for Builder {
-    ghost is_default = { λ b. b ≡ usual_packed_settings };
+    ghost is_default = { λ b. b ≡ usual_contiguous_settings };
 
     fn default() -> Builder {
         Builder::new()
@@ -65,14 +59,12 @@ impl Builder {
     /// Returns a builder with the usual settings: `MatchKind::Standard`, case counts, the states of no byte and of one
     /// byte are dense, bytes that need not be told apart share a class, and a prefilter where there is one.
     pub fn new() -> Builder
-        ensures { result ≡ usual_packed_settings }
+        ensures { result ≡ usual_contiguous_settings }
     {
         Builder {
-            kind: MatchKind::Standard,
-            fold: false,
+            noncontiguous: noncontiguous::Builder::new(),
             dense_depth: USUAL_DENSE_DEPTH,
             byte_classes: true,
-            prefilter: true,
         }
     }
 
@@ -80,24 +72,27 @@ impl Builder {
     pub fn clone(&self) -> Builder
         ensures { result ≡ self.now }
     {
-        Builder { ..*self }
+        Builder {
+            noncontiguous: self.noncontiguous.clone(),
+            ..*self
+        }
     }
 
     /// Sets which of the occurrences in a span a search answers. `Standard` unless set.
     pub fn match_kind(&mut self, kind: MatchKind) -> &mut Builder
-        ensures value { result.now ≡ record self.old { kind = kind } }
+        ensures value { result.now ≡ record self.old { engine = record self.old.engine { kind = kind } } }
         ensures same { result.ghost_name ≡ self.entry.ghost_name }
     {
-        self.kind = kind;
+        self.noncontiguous.match_kind(kind);
         self
     }
 
     /// Sets whether the case of ASCII letters is ignored. It counts unless set.
     pub fn ascii_case_insensitive(&mut self, yes: bool) -> &mut Builder
-        ensures value { result.now ≡ record self.old { fold = yes } }
+        ensures value { result.now ≡ record self.old { engine = record self.old.engine { fold = yes } } }
         ensures same { result.ghost_name ≡ self.entry.ghost_name }
     {
-        self.fold = yes;
+        self.noncontiguous.ascii_case_insensitive(yes);
         self
     }
 
@@ -129,10 +124,10 @@ impl Builder {
     /// Sets whether a search may skip ahead by a prefilter, where there is one for the patterns. It changes no answer.
     /// It may unless set.
     pub fn prefilter(&mut self, yes: bool) -> &mut Builder
-        ensures value { result.now ≡ record self.old { prefilter = yes } }
+        ensures value { result.now ≡ record self.old { engine = record self.old.engine { prefilter = yes } } }
         ensures same { result.ghost_name ≡ self.entry.ghost_name }
     {
-        self.prefilter = yes;
+        self.noncontiguous.prefilter(yes);
         self
     }
 
@@ -148,16 +143,21 @@ impl Builder {
         patterns: &[&[u8]],
     ) -> Result<NFA<A>, BuildError>
         ensures { MatchResult result
-            (IsPackedBuilt self.now (bytes_of patterns.now))
-            (RefusesPacked self.now (bytes_of patterns.now)) }
+            (IsContiguousBuilt self.now (bytes_of patterns.now))
+            (RefusesBy (contiguous_refusal_by self.now (bytes_of patterns.now)) (bytes_of patterns.now)) }
     {
-        let mut nfa = noncontiguous::Builder::new();
-        nfa.match_kind(self.kind)
-            .ascii_case_insensitive(self.fold)
-            .prefilter(self.prefilter);
-        let nfa = nfa.build(alloc, patterns)?;
+        let nfa = self.noncontiguous.build(alloc, patterns)?;
         let alloc = nfa.allocator().clone()?;
         self.build_from_noncontiguous(alloc, &nfa)
+    }
+
+    /// Returns whether a contiguous NFA that is built from this automaton is within its limit, and takes no memory.
+    pub fn fits<A: Allocator>(&self, nfa: &noncontiguous::NFA<A>) -> bool
+        ensures { result ≡ fits (contiguous_refusal self.now.dense_depth self.now.byte_classes nfa.now.built) }
+    {
+        let classes = classes_for(nfa, self.byte_classes);
+        let plan = Plan::new(nfa, &classes, self.dense_depth);
+        check_words(plan.sizes().all).is_ok()
     }
 
     /// Builds an automaton that answers as another one, whose patterns it shares. Of the settings only `dense_depth`
@@ -172,9 +172,9 @@ impl Builder {
         nfa: &noncontiguous::NFA<A>,
     ) -> Result<NFA<A>, BuildError>
         ensures { MatchResult result
-            (λ packed. IsPackedFrom self.now.dense_depth self.now.byte_classes nfa.now.built nfa.now.filters packed
-            × (packed_refusal_from self.now.dense_depth self.now.byte_classes nfa.now.built ≡ None))
-            (RefusesPackedFrom self.now.dense_depth self.now.byte_classes nfa.now.built) }
+            (λ packed. IsContiguousFrom self.now.dense_depth self.now.byte_classes nfa.now.built nfa.now.filters packed
+            × (contiguous_refusal self.now.dense_depth self.now.byte_classes nfa.now.built ≡ None))
+            (IsRefusedExactly (contiguous_refusal self.now.dense_depth self.now.byte_classes nfa.now.built)) }
     {
         let classes = classes_for(nfa, self.byte_classes);
         let plan = Plan::new(nfa, &classes, self.dense_depth);
@@ -187,19 +187,13 @@ impl Builder {
         };
         let words = packer.pack(alloc, len as usize)?;
         Ok(NFA {
-            patterns: nfa.patterns().clone()?,
-            kind: nfa.match_kind(),
-            fold: nfa.fold(),
-            shortest: nfa.min_pattern_len(),
-            longest: nfa.max_pattern_len(),
+            common: nfa.common().clone()?,
             classes,
             dense_depth: self.dense_depth,
             words,
             start: numbers[START],
             anchored_start: numbers[ANCHORED_START],
             match_end: sizes.match_end as usize,
-            filters: nfa.filters(),
-            prefilter: prefilter_for(nfa)?,
         })
     }
 }

@@ -2,7 +2,7 @@
 ghost use Rattle.std.specs.Prelude.{◌≡◌, ℕ, ◌-◌, ◌<◌, ◌≤◌, ◌++◌, ◌∷◌, IfOk, [], length, map, min, slice_index};
 ghost use Rattle.std.specs.List.{All, range_with_len};
 ghost use Rattle.std.specs.List.Sorted.{IsStrictlyIncreasing};
-ghost use Rattle.ac_engines.specs.Words.{Fits, HasTargets, class_words, match_spelling, one_spelling, spelled, target_by};
+ghost use Rattle.ac_engines.specs.Contiguous.Words.{Fits, HasTargets, class_words, match_spelling, one_spelling, spelled, target_by};
 
 use super::format::{CLASSES_A_WORD, Format, MOST_SPARSE};
 use super::state::{DENSE, Edge, ONE, ONE_MATCH};
@@ -22,7 +22,7 @@ pub(super) struct Draft<'a> {
 }
 
 impl<'a> Model for Draft<'a> {
-    ghost use Rattle.ac_engines.specs.Words.{Spelling};
+    ghost use Rattle.ac_engines.specs.Contiguous.Words.{Spelling};
 
     ghost Value = { Spelling };
 

@@ -2,7 +2,7 @@
 ghost use Rattle.std.specs.Prelude.{◌≡◌, ◌<◌, ◌≤◌, MatchResult};
 ghost use Rattle.ac_util.specs.declared.error.BuildError.TheVariants.{StateIdOverflow};
 ghost use Rattle.ac_util.specs.declared.primitives.TheConstants.{GREATEST};
-ghost use Rattle.ac_engines.specs.Formats.{format_of, words_of_state};
+ghost use Rattle.ac_engines.specs.Contiguous.Formats.{format_of, words_of_state};
 
 use ac_util::error::BuildError;
 use ac_util::primitives::StateID;

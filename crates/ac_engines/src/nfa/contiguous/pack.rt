@@ -3,11 +3,11 @@ ghost use Rattle.std.specs.Prelude.{◌≡◌, ℕ, ◌<◌, ◌≤◌, ◌++◌
 ghost use Rattle.ac_util.specs.declared.primitives.TheConstants.{GREATEST};
 ghost use Rattle.ac_util.specs.Classes.{alphabet_len};
 ghost use Rattle.ac_util.specs.Node.{Node};
-ghost use Rattle.ac_engines.specs.Packing.{IsPacked};
-ghost use Rattle.ac_engines.specs.PackedPlaces.{packed_of, places_of};
-ghost use Rattle.ac_engines.specs.Packs.{AreReady, HasPushed, IsPlaced, state_spelling, state_words};
-ghost use Rattle.ac_engines.specs.Sizes.{packed_words};
-ghost use Rattle.ac_engines.specs.Words.{spelled};
+ghost use Rattle.ac_engines.specs.Contiguous.{IsContiguous};
+ghost use Rattle.ac_engines.specs.Contiguous.Plans.{packed_of, places_of};
+ghost use Rattle.ac_engines.specs.Contiguous.Packs.{AreReady, HasPushed, IsPlaced, state_spelling, state_words};
+ghost use Rattle.ac_engines.specs.Contiguous.Sizes.{packed_words};
+ghost use Rattle.ac_engines.specs.Contiguous.Words.{spelled};
 ghost use Rattle.ac_engines.specs.declared.nfa.contiguous.format.Format;
 
 use super::draft::{Draft, push_state};
@@ -28,7 +28,7 @@ pub(super) struct Packer<'a, A: Allocator> {
 }
 
 impl<'a, A: Allocator> Model for Packer<'a, A> {
-    ghost use Rattle.ac_engines.specs.Packs.{Packer};
+    ghost use Rattle.ac_engines.specs.Contiguous.Packs.{Packer};
 
     ghost Value = { Packer };
 
@@ -211,7 +211,7 @@ impl<'a, A: Allocator + Clone> Packer<'a, A> {
         ensures long { IfOk result (λ words. length words.items
             ≡ packed_words self.now.plan.trie.built self.now.plan.dense_depth (alphabet_len self.now.plan.classes)) }
         ensures packed { IfOk result (λ words. (nodes : List Node) → AreReady self.now nodes
-            → IsPacked (packed_of self.now.plan nodes self.now.numbers words.items)
+            → IsContiguous (packed_of self.now.plan nodes self.now.numbers words.items)
             (places_of self.now.plan nodes self.now.numbers)) }
     {
         let mut pages = Pages {

@@ -5,8 +5,8 @@ ghost use Rattle.ac_util.specs.declared.search.Anchored.TheVariants.{No};
 ghost use Rattle.ac_util.specs.Classes.{AreClasses, SetsApart, alphabet_len};
 ghost use Rattle.ac_util.specs.Node.{Node};
 ghost use Rattle.ac_automaton.specs.Automata.{matches_of};
-ghost use Rattle.ac_engines.specs.PackedPlaces.{HasPlaces, HasWords, MayPack, front_end, has_matches};
-ghost use Rattle.ac_engines.specs.Sizes.{node_format, node_words, packed_words};
+ghost use Rattle.ac_engines.specs.Contiguous.Plans.{HasPlaces, HasWords, MayPack, front_end, has_matches};
+ghost use Rattle.ac_engines.specs.Contiguous.Sizes.{node_format, node_words, packed_words};
 
 use super::format::{Format, format_of, state_words};
 use ac_automaton::automaton::Automaton;
@@ -25,7 +25,7 @@ pub(super) struct Plan<'a, A: Allocator> {
 }
 
 impl<'a, A: Allocator> Model for Plan<'a, A> {
-    ghost use Rattle.ac_engines.specs.PackedPlaces.{PackPlan};
+    ghost use Rattle.ac_engines.specs.Contiguous.Plans.{PackPlan};
 
     ghost Value = { PackPlan };
 

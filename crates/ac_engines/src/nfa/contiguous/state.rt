@@ -2,7 +2,7 @@
 ghost use Rattle.std.specs.Prelude.{◌≡◌, ◌≢◌, ℕ, ◌+◌, ◌<◌, ◌≤◌, ◌++◌, [], drop, length, slice_index};
 ghost use Rattle.ac_util.specs.Counts.{more_looks};
 ghost use Rattle.ac_engines.specs.declared.nfa.contiguous.format.Format.{Format};
-ghost use Rattle.ac_engines.specs.Words.{AreNamed, BeginsWith, Spelling, first_of, match_spelling, named, target_by, transitions_of, word_of};
+ghost use Rattle.ac_engines.specs.Contiguous.Words.{AreNamed, BeginsWith, Spelling, first_of, match_spelling, named, target_by, transitions_of, word_of};
 
 use super::format::{CLASSES_A_WORD, HEAD};
 use super::transitions::Transitions;

@@ -4,7 +4,7 @@ ghost use Rattle.ac_util.specs.Classes.{class_at};
 ghost use Rattle.ac_util.specs.Counts.{more_looks};
 ghost use Rattle.ac_util.specs.Node.{Node};
 ghost use Rattle.ac_automaton.specs.Automata.{looks_of, step_of};
-ghost use Rattle.ac_engines.specs.Packing.{Packed, StandsAt};
+ghost use Rattle.ac_engines.specs.Contiguous.{ContiguousView, IsContiguousState};
 
 use super::state::State;
 use ac_automaton::nfa::noncontiguous::DEAD;
@@ -24,12 +24,12 @@ pub(super) fn follow(
     from: StateID,
     looks: &mut Looks,
 ) -> StateID
-    requires state { (p : Packed) × (b : ℕ) × (u : Node) × (p.words ≡ words.now) × (b < 256)
-        × (class ≡ class_at p.classes b) × StandsAt p anchored from u }
-    ensures steps { (p : Packed) (b : ℕ) (u : Node) → p.words ≡ words.now → b < 256 → class ≡ class_at p.classes b
-        → StandsAt p anchored from u → StandsAt p anchored result (step_of p.built anchored u b) }
-    ensures looks { (p : Packed) (b : ℕ) (u : Node) → p.words ≡ words.now → b < 256 → class ≡ class_at p.classes b
-        → StandsAt p anchored from u → looks.new ≡ more_looks (looks_of 2 p.built anchored u b) looks.old }
+    requires state { (p : ContiguousView) × (b : ℕ) × (u : Node) × (p.words ≡ words.now) × (b < 256)
+        × (class ≡ class_at p.classes b) × IsContiguousState p anchored from u }
+    ensures steps { (p : ContiguousView) (b : ℕ) (u : Node) → p.words ≡ words.now → b < 256 → class ≡ class_at p.classes b
+        → IsContiguousState p anchored from u → IsContiguousState p anchored result (step_of p.built anchored u b) }
+    ensures looks { (p : ContiguousView) (b : ℕ) (u : Node) → p.words ≡ words.now → b < 256 → class ≡ class_at p.classes b
+        → IsContiguousState p anchored from u → looks.new ≡ more_looks (looks_of 2 p.built anchored u b) looks.old }
 {
     let mut at = from.as_usize();
     loop {

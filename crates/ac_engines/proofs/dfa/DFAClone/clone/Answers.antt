@@ -2,11 +2,11 @@ use Rattle.std.proofs.Common.{◌≡◌}
 use Rattle.std.proofs.lemmas.List.Elements.{same_from_all_zip}
 use Rattle.std.specs.List.{each_same}
 use Rattle.ac_engines.proofs.dfa.DFAClone.clone.Given.{Over}
-use Rattle.ac_engines.proofs.dfa.DFAClone.clone.Goals.{In_ok-copy_of}
+use Rattle.ac_engines.proofs.dfa.DFAClone.clone.Goals.{After-result-4-1}
 use Rattle.ac_engines.proofs.dfa.DFAClone.clone.Goals as goal
 
 -- the lists of the copy are those of the automaton
-module _ (g : Over) (c : In_ok-copy_of g) where
+module _ (g : Over) (c : After-result-4-1 g) where
   table : c.in_ok-clone-2.field-0.items ≡ c.self.inside.table.items
   table = same_from_all_zip _ c.self.inside.table.items c.in_ok-clone-2.field-0.items
       c.in_ok-clone-2.ensures.cases.0 (λ x y same. cc)
@@ -21,7 +21,7 @@ module _ (g : Over) (c : In_ok-copy_of g) where
 
 pub invariant_of-result : goal.invariant_of-result
 invariant_of-result g c =
-    rw (c.in_ok-clone.ensures.cases, table g c, listed g c, bounds g c, c.in_ok-copy_of.ensures) c.self.invariant
+    rw (c.in_ok-clone.ensures.cases, table g c, listed g c, bounds g c) c.self.invariant
 
 pub returns : goal.returns
 returns g c =

@@ -12,7 +12,7 @@ fill-requires-clause-blank g c = λ k.
     let long : length c.deref_mut.result.now ≡ c.args.len = c.deref_mut.ensures.len ∙ c.in_ok-table.ensures.len in
     elim (cases_lt k c.args.len) [
       | inl below ↦ rw all (get_or-replicate c.args.len k c.must.result 0 below) ∙ c.must.ensures.value
-      | inr behind ↦ get_or_past c.deref_mut.result.now k 0 (omega arith)
+      | inr after ↦ get_or_past c.deref_mut.result.now k 0 (omega arith)
     ]
 
 -- the table is as long as it was asked for

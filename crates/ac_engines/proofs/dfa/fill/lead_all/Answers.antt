@@ -28,7 +28,7 @@ loop-class-preserved c =
       beside = λ k outside. elim outside [
         | inl before ↦ get_or-set_other c.loop-class.table at k c.args.to 0 (λ same. omega arith)
             ∙ led.beside k (inl before)
-        | inr behind ↦ get_or-set_other c.loop-class.table at k c.args.to 0 (λ same. omega arith)
+        | inr after ↦ get_or-set_other c.loop-class.table at k c.args.to 0 (λ same. omega arith)
             ∙ led.beside k (inr (omega arith))
       ];
     }
@@ -43,5 +43,5 @@ returns-clause-beside c = λ k outside.
     let reached = c.loop-class.auto.class-end in
     elim outside [
       | inl before ↦ c.loop-class.invariant.beside k (inl before)
-      | inr behind ↦ c.loop-class.invariant.beside k (inr (omega arith))
+      | inr after ↦ c.loop-class.invariant.beside k (inr (omega arith))
     ]

@@ -1,6 +1,6 @@
 use Rattle.std.proofs.Common.{◌≡◌, ◌∷◌, [], ◌++◌, List, ℕ, ap, ◌∙◌, Some}
 use Rattle.ac_util.specs.Pieces.{pieces}
-use Rattle.ac_engines.specs.Layouts.{row_lists}
+use Rattle.ac_engines.specs.Dfa.Layouts.{row_lists}
 use Rattle.ac_engines.proofs.RowLists.{both-starts, one-start}
 use Rattle.ac_engines.proofs.dfa.layout.first_lists.Goals.{in-Both, in-Unanchored+in_ok-add_none-in-Unanchored}
 use Rattle.ac_engines.proofs.dfa.layout.first_lists.Goals as goal

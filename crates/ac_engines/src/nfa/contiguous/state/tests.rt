@@ -1,7 +1,7 @@
 //! States that are read from words written by hand.
 ghost use Rattle.std.specs.Prelude.{◌≢◌, []};
 ghost use Rattle.ac_engines.specs.declared.nfa.contiguous.format.Format.{Format};
-ghost use Rattle.ac_engines.specs.Words.{BeginsWith, Spelling};
+ghost use Rattle.ac_engines.specs.Contiguous.Words.{BeginsWith, Spelling};
 
 use super::*;
 use std::test::Fail;

@@ -7,5 +7,5 @@ pub returns : goal.returns
 returns g c = λ nodes u h named.
     let t = c.index-states-as_usize.result in
     ap (λ (x : State). x.depth) (sym c.index-states-as_usize.is)
-    ∙ (reads c.args.self.now nodes h.table c.args.sid u named t
+    ∙ (reads c.args.self.now nodes h.is_trie c.args.sid u named t
     (rw (c.as_usize.ensures.value, c.states.ensures.value) at c.index-states-as_usize.is)).long

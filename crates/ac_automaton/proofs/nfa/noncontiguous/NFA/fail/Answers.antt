@@ -10,15 +10,15 @@ pub returns-clause-target : goal.returns-clause-target
 returns-clause-target g c = λ nodes x u h named.
     let t = c.index-states-as_usize.result in
     ap (λ (r : State). slice_get nodes r.fail) (sym c.index-states-as_usize.is)
-    ∙ (reads c.args.self.now nodes h.table c.args.sid (Some (x ∷ u)) named t
+    ∙ (reads c.args.self.now nodes h.is_trie c.args.sid (Some (x ∷ u)) named t
     (rw (c.as_usize.ensures.value, c.states.ensures.value) at c.index-states-as_usize.is)).fails
 
 -- the state that was read stands for some node
 read : (g : Over) (c : After-index-states-as_usize g)
     → IsRead c.args.self.now c.args.sid c.index-states-as_usize.result
 read g c =
-    let table = c.states.ensures.table in
-    is-read c.args.self.now table.0 table.1 c.args.sid c.requires.numbered c.index-states-as_usize.result
+    let is_trie = c.states.ensures.is_trie in
+    is-read c.args.self.now is_trie.0 is_trie.1 c.args.sid c.requires.numbered c.index-states-as_usize.result
     (rw (c.as_usize.ensures.value, c.states.ensures.value) at c.index-states-as_usize.is)
 
 pub returns-clause-start : goal.returns-clause-start

@@ -46,7 +46,7 @@ returns g c = λ nodes w h named.
     let next = c.index-transitions-state.result in
     let at = place g (goal.at.returns g c).After-index-states-as_usize in
     own-read trie nodes c.args.sid w t
-    (reads trie nodes h.table c.args.sid (Some w) named t
+    (reads trie nodes h.is_trie c.args.sid (Some w) named t
     (rw (c.as_usize.ensures.value, c.states.ensures.value) at c.index-states-as_usize.is))
     c.args.index at.among next
     (slice_get_read trie.transitions (length trie.transitions) (t.transitions + c.args.index) next refl at.listed

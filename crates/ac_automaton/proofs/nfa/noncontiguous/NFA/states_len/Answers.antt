@@ -4,5 +4,5 @@ use Rattle.ac_automaton.proofs.nfa.noncontiguous.NFA.states_len.Goals as goal
 
 pub returns-clause-small : goal.returns-clause-small
 returns-clause-small g c =
-    let table = c.states.ensures.table.1 in
-    omega (arith, table.few, table.whole, ap (length {A = State}) c.states.ensures.value)
+    let is_trie = c.states.ensures.is_trie.1 in
+    omega (arith, is_trie.few, is_trie.whole, ap (length {A = State}) c.states.ensures.value)

@@ -1,7 +1,7 @@
 use Rattle.std.proofs.lemmas.Bool.{ltb-true}
 use Rattle.std.proofs.lemmas.Bool.Decides.{Decides-ltb}
 use Rattle.ac_automaton.specs.declared.nfa.noncontiguous.state.TheConstants.{START}
-use Rattle.ac_automaton.proofs.Tables.{dead-number}
+use Rattle.ac_automaton.proofs.TrieStates.{dead-number}
 use Rattle.ac_automaton.proofs.nfa.noncontiguous.NFAAutomaton.is_dead.Goals as goal
 
 pub returns : goal.returns

@@ -1,6 +1,6 @@
 use Rattle.std.proofs.lemmas.Bool.Decides.{Decides-ltb, Decides-eqb, Decides-not}
 use Rattle.ac_automaton.specs.declared.nfa.noncontiguous.state.TheConstants.{DEAD}
-use Rattle.ac_automaton.proofs.Tables.{listed-patterns, listed-linked}
+use Rattle.ac_automaton.proofs.TrieStates.{listed-patterns, listed-linked}
 use Rattle.ac_automaton.proofs.nfa.noncontiguous.NFAAutomaton.is_match.Goals as goal
 
 pub returns-then-state : goal.returns-then-state

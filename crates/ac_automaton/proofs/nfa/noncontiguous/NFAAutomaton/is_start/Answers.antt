@@ -2,7 +2,7 @@ use Rattle.std.proofs.Common.{arith}
 use Rattle.std.proofs.lemmas.Bool.{ltb-true}
 use Rattle.std.proofs.lemmas.Bool.Decides.{Decides-ltb}
 use Rattle.ac_automaton.specs.declared.nfa.noncontiguous.state.TheConstants.{FIRST_INNER}
-use Rattle.ac_automaton.proofs.Tables.{start-number}
+use Rattle.ac_automaton.proofs.TrieStates.{start-number}
 use Rattle.ac_automaton.proofs.nfa.noncontiguous.NFAAutomaton.is_start.Goals as goal
 
 pub returns-then-as_usize-ge-START : goal.returns-then-as_usize-ge-START

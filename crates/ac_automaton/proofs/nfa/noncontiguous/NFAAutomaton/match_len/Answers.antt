@@ -1,5 +1,5 @@
 use Rattle.std.proofs.Common.{ℕ, length, ap, sym, ◌∙◌}
-use Rattle.ac_automaton.proofs.Tables.{has-state, listed-matches, meaning}
+use Rattle.ac_automaton.proofs.TrieStates.{has-state, listed-matches, meaning}
 use Rattle.ac_automaton.proofs.nfa.noncontiguous.NFAAutomaton.match_len.Goals as goal
 
 pub listed_len-requires : goal.listed_len-requires

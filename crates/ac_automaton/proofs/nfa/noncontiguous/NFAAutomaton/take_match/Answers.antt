@@ -1,5 +1,5 @@
 use Rattle.std.proofs.Common.{sym}
-use Rattle.ac_automaton.proofs.Tables.{has-state, meaning, takes-listed, takes-state}
+use Rattle.ac_automaton.proofs.TrieStates.{has-state, meaning, takes-listed, takes-state}
 use Rattle.ac_automaton.proofs.nfa.noncontiguous.NFAAutomaton.take_match.Goals as goal
 
 pub take_listed-requires : goal.take_listed-requires

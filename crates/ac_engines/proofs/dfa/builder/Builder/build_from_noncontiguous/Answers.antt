@@ -1,7 +1,7 @@
-use Rattle.std.proofs.Common.{◌≡◌, ◌∙◌, ap, refl, sym}
+use Rattle.std.proofs.Common.{◌≡◌, ◌∙◌, refl, sym}
 use Rattle.ac_util.specs.Pieces.{pieces}
-use Rattle.ac_util.specs.Sizes.{longest_len, shortest_len}
-use Rattle.ac_engines.specs.Filling.{place_in}
+use Rattle.ac_automaton.specs.Common.{common_of}
+use Rattle.ac_engines.specs.Dfa.Filling.{place_in}
 use Rattle.ac_engines.proofs.Assembled.{are-table, has-matches-among, may-fill, planned}
 use Rattle.ac_engines.proofs.dfa.builder.Builder.build_from_noncontiguous.Goals as goal
 
@@ -11,7 +11,7 @@ filled_table-requires g c =
     let nodes = c.states_len.ensures.numbered in
     let plan = planned c.args.nfa.now c.self.inside.start_kind c.self.inside.byte_classes c.classes_for-classes.result
     c.stride2-stride2.result c.stride.result c.states_len.result c.table_rows-rows.result c.in_ok-len.len
-    c.classes_for-classes.ensures c.stride2-stride2.ensures.value c.stride.ensures c.states_len.ensures.value
+    c.classes_for-classes.ensures.value c.stride2-stride2.ensures.value c.stride.ensures c.states_len.ensures.value
     c.table_rows-rows.ensures.value c.table_rows-rows.ensures.some c.in_ok-len.ensures.0 c.in_ok-len.ensures.1 in
     let layout = c.in_ok-layout.layout in
     record {
@@ -30,7 +30,7 @@ invariant_of-result g c =
     let nodes = c.states_len.ensures.numbered in
     let plan = planned c.args.nfa.now c.self.inside.start_kind c.self.inside.byte_classes c.classes_for-classes.result
     c.stride2-stride2.result c.stride.result c.states_len.result c.table_rows-rows.result c.in_ok-len.len
-    c.classes_for-classes.ensures c.stride2-stride2.ensures.value c.stride.ensures c.states_len.ensures.value
+    c.classes_for-classes.ensures.value c.stride2-stride2.ensures.value c.stride.ensures c.states_len.ensures.value
     c.table_rows-rows.ensures.value c.table_rows-rows.ensures.some c.in_ok-len.ensures.0 c.in_ok-len.ensures.1 in
     let layout = c.in_ok-layout.layout in
     let lists = pieces layout.lists.listed.items layout.lists.bounds.items in
@@ -38,43 +38,39 @@ invariant_of-result g c =
     let may = may-fill c.args.nfa.now c.self.inside.start_kind c.classes_for-classes.result c.stride2-stride2.result
     layout.numbers.items nodes.0 _ lists layout.first_match layout.match_end plan.has nodes.1 laid plan.few in
     let filled = rw (plan.width_is, c.deref.ensures.value, plan.len_is) at (c.in_ok-table.ensures.filled nodes.0) in
-    let patterns : c.in_ok-clone-2.field-0.value ≡ c.args.nfa.now.built.patterns =
-    c.in_ok-clone-2.ensures.cases ∙ c.patterns.ensures in
-    record {
-      table = (
+    let common : c.in_ok-clone-2.field-0 ≡ common_of c.args.nfa.now.built c.args.nfa.now.filters =
+    c.in_ok-clone-2.ensures.cases ∙ c.common.ensures in
+    rw common (record {
+      is_dfa = (
         place_in nodes.0 layout.numbers.items,
-        rw (patterns, c.fold.ensures, c.match_kind.ensures, c.filters.ensures) (are-table
+        are-table
             c.args.nfa.now c.self.inside.start_kind c.classes_for-classes.result c.stride2-stride2.result
             layout.numbers.items nodes.0 _ may c.in_ok-table.table.items lists layout.first_match layout.match_end
-            (filled may) laid),
+            (filled may) laid,
       );
-      shortest = c.min_pattern_len.ensures ∙ ap shortest_len (sym patterns);
-      longest = c.max_pattern_len.ensures ∙ ap longest_len (sym patterns);
       few = c.stride2-stride2.ensures.small;
       bounds = c.in_ok-layout.ensures.bounds;
       start = c.start_of.ensures;
       anchored_start = c.start_of-2.ensures;
-      among = rw (patterns, c.fold.ensures, c.match_kind.ensures, c.filters.ensures) (has-matches-among c.args.nfa.now
+      among = has-matches-among c.args.nfa.now
           c.self.inside.start_kind c.classes_for-classes.result c.stride2-stride2.result layout.numbers.items nodes.0 _
-          may c.in_ok-table.table.items lists layout.first_match layout.match_end (filled may) laid);
-      skips = rw (patterns, c.fold.ensures, c.filters.ensures) c.in_ok-prefilter_for.ensures.skips;
-      serves = rw (patterns, c.fold.ensures) c.in_ok-prefilter_for.ensures.serves;
-    }
+          may c.in_ok-table.table.items lists layout.first_match layout.match_end (filled may) laid;
+    })
 
 -- the table is that of the automaton
 pub returns : goal.returns
 returns g c =
     let plan = planned c.args.nfa.now c.self.inside.start_kind c.self.inside.byte_classes c.classes_for-classes.result
     c.stride2-stride2.result c.stride.result c.states_len.result c.table_rows-rows.result c.in_ok-len.len
-    c.classes_for-classes.ensures c.stride2-stride2.ensures.value c.stride.ensures c.states_len.ensures.value
+    c.classes_for-classes.ensures.value c.stride2-stride2.ensures.value c.stride.ensures c.states_len.ensures.value
     c.table_rows-rows.ensures.value c.table_rows-rows.ensures.some c.in_ok-len.ensures.0 c.in_ok-len.ensures.1 in
-    let patterns : c.in_ok-clone-2.field-0.value ≡ c.args.nfa.now.built.patterns =
-    c.in_ok-clone-2.ensures.cases ∙ c.patterns.ensures in
-    let classes = c.classes_for-classes.ensures in
+    let common : c.in_ok-clone-2.field-0 ≡ common_of c.args.nfa.now.built c.args.nfa.now.filters =
+    c.in_ok-clone-2.ensures.cases ∙ c.common.ensures in
+    let classes = c.classes_for-classes.ensures.value in
     rw (sym c.self.view_is) (
       record {
-        built = rw (patterns, c.fold.ensures, c.match_kind.ensures) refl;
-        filters = c.filters.ensures;
+        built = rw common refl;
+        filters_is = rw common refl;
         classes = classes;
         stride2 = c.stride2-stride2.ensures.value;
         rows = c.in_ok-table.ensures.long ∙ plan.len_is ∙ rw c.stride2-stride2.ensures.value refl;

@@ -1,7 +1,7 @@
 use Rattle.std.proofs.Common.{◌≡◌, ◌≢◌, ℕ, ◌+◌, [], length, ap, subst, refl, arith, ◌∙◌}
 use Rattle.ac_util.specs.Sizes.{state_count}
 use Rattle.ac_automaton.specs.Automata.{plain_of}
-use Rattle.ac_engines.specs.Filling.{FilledUpTo, Filling}
+use Rattle.ac_engines.specs.Dfa.Filling.{FilledUpTo, Filling}
 use Rattle.ac_engines.proofs.RowByRow.{filled-none, filled-third}
 use Rattle.ac_engines.proofs.StateRows.{has-row, row-at}
 use Rattle.ac_engines.proofs.dfa.fill.Filler.fill.Goals as goal

@@ -6,7 +6,7 @@ use Rattle.ac_util.specs.Node.{failure}
 use Rattle.ac_automaton.specs.Automata.{plain_of}
 use Rattle.ac_automaton.specs.Readers.{AreNodes}
 use Rattle.ac_automaton.specs.Tries.{Trie}
-use Rattle.ac_engines.specs.Filling.{Filling}
+use Rattle.ac_engines.specs.Dfa.Filling.{Filling}
 use Rattle.ac_engines.proofs.Owning.{row-room}
 use Rattle.ac_engines.proofs.OneRow.{inner-filled}
 use Rattle.ac_engines.proofs.StateRows.{failed-to, row-of}

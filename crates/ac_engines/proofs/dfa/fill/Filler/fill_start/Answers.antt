@@ -3,7 +3,7 @@ use Rattle.ac_util.specs.declared.search.Anchored.TheVariants.{No}
 use Rattle.ac_util.specs.Classes.{alphabet_len}
 use Rattle.ac_util.proofs.Reached.{stops}
 use Rattle.ac_automaton.specs.Automata.{plain_of}
-use Rattle.ac_engines.specs.Filling.{Filling}
+use Rattle.ac_engines.specs.Dfa.Filling.{Filling}
 use Rattle.ac_engines.proofs.Owning.{row-room}
 use Rattle.ac_engines.proofs.OneRow.{start-led}
 use Rattle.ac_engines.proofs.dfa.fill.Filler.fill_start.Goals as goal

@@ -1,6 +1,6 @@
 use Rattle.std.proofs.Common.{length, ap, sym, refl, ◌∙◌}
 use Rattle.ac_util.specs.declared.search.Anchored.TheVariants.{No, Yes}
-use Rattle.ac_engines.specs.Filling.{Filling}
+use Rattle.ac_engines.specs.Dfa.Filling.{Filling}
 use Rattle.ac_engines.proofs.RowByRow.{both-filled, may-row, one-filled, only-anchored, only-unanchored, second-row}
 use Rattle.ac_engines.proofs.dfa.fill.Filler.fill_state.Goals as goal
 

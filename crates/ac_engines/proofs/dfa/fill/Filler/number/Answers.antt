@@ -1,5 +1,5 @@
 use Rattle.std.proofs.Common.{arith, ap, slice_index_or}
-use Rattle.ac_engines.specs.Filling.{Filling}
+use Rattle.ac_engines.specs.Dfa.Filling.{Filling}
 use Rattle.ac_engines.proofs.Numbered.{place-row}
 use Rattle.ac_engines.proofs.dfa.fill.Filler.number.Goals as goal
 
@@ -8,6 +8,6 @@ returns g c = λ nodes size w h.
     let place = place-row c.args.self.now nodes size c.args.sid w h in
     let numbers = ap (λ (f : Filling). slice_index_or f.numbers c.args.sid 0) c.self.view_is in
     let first = c.first_row.ensures.value in
-    let shift = c.behind.ensures in
+    let shift = c.anchored_shift.ensures in
     let must = c.must.ensures.value in
     omega arith

@@ -5,7 +5,7 @@ use Rattle.ac_util.specs.Sizes.{state_count}
 use Rattle.ac_automaton.specs.Automata.{plain_of}
 use Rattle.ac_automaton.specs.Readers.{AreNodes, IsOwn, own_bytes}
 use Rattle.ac_automaton.specs.Tries.{Trie}
-use Rattle.ac_engines.specs.Filling.{Filling, HasSet, sheet_of}
+use Rattle.ac_engines.specs.Dfa.Filling.{Filling, HasSet, sheet_of}
 use Rattle.ac_engines.proofs.Owning.{next-row, numbered-below, own-more, own_bytes-starts, row-room}
 use Rattle.ac_engines.proofs.Setting.{set-none}
 use Rattle.ac_engines.proofs.dfa.fill.Filler.set_own.Goals as goal

@@ -2,7 +2,7 @@ use Rattle.std.proofs.Common.{ℕ, List, length, take}
 use Rattle.std.specs.Prelude.{Some}
 use Rattle.ac_util.specs.Node.{Node}
 use Rattle.ac_automaton.specs.Readers.{own_bytes}
-use Rattle.ac_engines.specs.Filling.{HasRow, HasSet, sheet_of}
+use Rattle.ac_engines.specs.Dfa.Filling.{HasRow, HasSet, sheet_of}
 use Rattle.ac_engines.proofs.dfa.fill.Filler.set_own.Given as goal
 
 -- the own transitions so far are set

@@ -6,7 +6,7 @@ use Rattle.ac_util.specs.Sizes.{state_count}
 use Rattle.ac_util.specs.Pieces.{pieces}
 use Rattle.ac_automaton.specs.Automata.{plain_of}
 use Rattle.ac_automaton.proofs.Heads.{nil-from_not}
-use Rattle.ac_engines.specs.Layouts.{rows_each, table_rows}
+use Rattle.ac_engines.specs.Dfa.Layouts.{rows_each, table_rows}
 use Rattle.ac_engines.proofs.LaidOut.{four-empty, laid-out, two-empty}
 use Rattle.ac_engines.proofs.LaidUpTo.{IsLaidUpTo, named-inner, none-laid, plan_of}
 use Rattle.ac_engines.proofs.Laying.{one-more-laid, row-number}

@@ -4,7 +4,7 @@ use Rattle.ac_util.specs.Pieces.{AreBounds, pieces}
 use Rattle.ac_util.specs.Sizes.{state_count}
 use Rattle.ac_automaton.specs.Automata.{plain_of}
 use Rattle.ac_automaton.specs.Readers.{AreNodes}
-use Rattle.ac_engines.specs.Layouts.{table_rows}
+use Rattle.ac_engines.specs.Dfa.Layouts.{table_rows}
 use Rattle.ac_engines.proofs.LaidUpTo.{IsLaidUpTo, plan_of}
 use Rattle.ac_engines.proofs.dfa.layout.Layout.of.Given as goal
 

@@ -1,6 +1,6 @@
 use Rattle.std.proofs.Common.{ap, arith}
 use Rattle.std.proofs.lemmas.Bool.{lt-ltb, ltb-true}
-use Rattle.ac_engines.specs.Packing.{Packed}
+use Rattle.ac_engines.specs.Contiguous.{ContiguousView}
 use Rattle.ac_engines.proofs.PackedNumbers.{match-number}
 use Rattle.ac_engines.proofs.nfa.contiguous.NFAAutomaton.is_match.Goals as goal
 
@@ -9,7 +9,7 @@ pub returns-then-as_usize-gt-DEAD : goal.returns-then-as_usize-gt-DEAD
 returns-then-as_usize-gt-DEAD g c =
     let r = c.requires.state in
     let number = match-number c.args.self.now r.0 c.args.sid r.1.0 r.1.1 in
-    let end = ap (λ (p : Packed). p.match_end) c.self.view_is in
+    let end = ap (λ (p : ContiguousView). p.match_end) c.self.view_is in
     let value = c.as_usize.ensures.value in
     let other = c.as_usize-then-as_usize-gt-DEAD.ensures.value in
     let positive = c.if-as_usize-gt-DEAD.true in (

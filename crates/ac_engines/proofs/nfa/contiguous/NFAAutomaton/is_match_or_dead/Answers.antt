@@ -1,15 +1,15 @@
 use Rattle.std.proofs.Common.{ap, inl, inr, arith}
 use Rattle.std.proofs.lemmas.Bool.{lt-ltb, ltb-true, cases_eq}
-use Rattle.ac_engines.specs.Packing.{Packed}
+use Rattle.ac_engines.specs.Contiguous.{ContiguousView}
 use Rattle.ac_engines.proofs.PackedNumbers.{dead-number, match-number}
 use Rattle.ac_engines.proofs.nfa.contiguous.NFAAutomaton.is_match_or_dead.Goals as goal
 
 -- before the end of the matches' numbers stand the dead state and those that have matches, and no others
 pub returns : goal.returns
 returns g c = λ anchored u h.
-    let end = ap (λ (p : Packed). p.match_end) c.self.view_is in
+    let end = ap (λ (p : ContiguousView). p.match_end) c.self.view_is in
     let value = c.as_usize.ensures.value in
-    let ended = h.packed.ended in
+    let ended = h.is_contiguous.ended in
     let dead = dead-number c.args.self.now anchored c.args.sid u h in
     let number = match-number c.args.self.now anchored c.args.sid u h in (
       λ is-true.

@@ -1,7 +1,7 @@
 use Rattle.std.proofs.Common.{◌≡◌, ℕ, Bool, true, false, ◌∙◌, sym, ap, inl, inr, refl}
 use Rattle.std.specs.Prelude.{◌&&◌, ◌==◌}
 use Rattle.std.proofs.lemmas.Bool.{eq-eqb, eqb-true}
-use Rattle.ac_engines.specs.Packing.{Packed}
+use Rattle.ac_engines.specs.Contiguous.{ContiguousView}
 use Rattle.ac_engines.proofs.PackedNumbers.{start-number}
 use Rattle.ac_engines.proofs.nfa.contiguous.NFAAutomaton.is_start.Goals as goal
 
@@ -19,7 +19,7 @@ equal-tells a b t is same = is ∙ ap (λ (t : Bool). t && true) (eq-eqb a b sam
 pub returns-then-eq : goal.returns-then-eq
 returns-then-eq g c = λ anchored u h.
     let number = start-number c.args.self.now anchored c.args.sid u h in
-    let start = ap (λ (p : Packed). p.start) c.self.view_is in (
+    let start = ap (λ (p : ContiguousView). p.start) c.self.view_is in (
       λ is-true. number.0 (inl (equal-from c.args.sid c.self.inside.start c.eq.result c.eq.ensures is-true ∙ start)),
       λ empty. c.if-eq.true,
     )
@@ -27,8 +27,8 @@ returns-then-eq g c = λ anchored u h.
 pub returns-else-eq : goal.returns-else-eq
 returns-else-eq g c = λ anchored u h.
     let number = start-number c.args.self.now anchored c.args.sid u h in
-    let start = ap (λ (p : Packed). p.start) c.self.view_is in
-    let other = ap (λ (p : Packed). p.anchored_start) c.self.view_is in (
+    let start = ap (λ (p : ContiguousView). p.start) c.self.view_is in
+    let other = ap (λ (p : ContiguousView). p.anchored_start) c.self.view_is in (
       λ is-true. number.0 (inr (equal-from c.args.sid c.self.inside.anchored_start c.eq-else-eq.result
           c.eq-else-eq.ensures is-true ∙ other)),
       λ empty. elim (number.1 empty) [

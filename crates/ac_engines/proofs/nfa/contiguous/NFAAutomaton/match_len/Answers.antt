@@ -1,6 +1,6 @@
 use Rattle.std.proofs.Common.{ap, sym, ◌∙◌, List, ℕ, length}
 use Rattle.ac_util.specs.Classes.{alphabet_len}
-use Rattle.ac_engines.specs.Packing.{Packed}
+use Rattle.ac_engines.specs.Contiguous.{ContiguousView}
 use Rattle.ac_engines.proofs.PackedNumbers.{begins}
 use Rattle.ac_engines.proofs.nfa.contiguous.NFAAutomaton.match_len.Goals as goal
 
@@ -8,13 +8,13 @@ pub match_len-requires : goal.match_len-requires
 match_len-requires g c =
     let r = c.requires.state in
     let b = begins c.args.self.now r.0 c.args.sid r.1.0 r.1.1 c.state.result.words.now c.alphabet_len.result c.state.ensures
-    (c.alphabet_len.ensures.value ∙ ap (λ (p : Packed). alphabet_len p.classes) c.self.view_is) in
+    (c.alphabet_len.ensures.value ∙ ap (λ (p : ContiguousView). alphabet_len p.classes) c.self.view_is) in
     (b.format, b.spelling, b.words, λ none. c.requires.matches (sym b.same ∙ none))
 
 pub returns : goal.returns
 returns g c =
     let r = c.requires.state in
     let b = begins c.args.self.now r.0 c.args.sid r.1.0 r.1.1 c.state.result.words.now c.alphabet_len.result c.state.ensures
-    (c.alphabet_len.ensures.value ∙ ap (λ (p : Packed). alphabet_len p.classes) c.self.view_is) in
+    (c.alphabet_len.ensures.value ∙ ap (λ (p : ContiguousView). alphabet_len p.classes) c.self.view_is) in
     c.match_len.ensures b.format b.spelling b.words (λ none. c.requires.matches (sym b.same ∙ none))
     ∙ ap (λ (ms : List ℕ). length ms) b.same

@@ -1,5 +1,5 @@
 use Rattle.std.proofs.Common.{rules, append_assoc}
-use Rattle.ac_engines.specs.Words.{spelled}
+use Rattle.ac_engines.specs.Contiguous.Words.{spelled}
 use Rattle.ac_engines.proofs.nfa.contiguous.draft.push_state.Goals as goal
 
 -- the matches stand after the targets

@@ -1,5 +1,5 @@
 use Rattle.std.proofs.Common.{take}
-use Rattle.ac_engines.specs.Words.{HasTargets}
+use Rattle.ac_engines.specs.Contiguous.Words.{HasTargets}
 use Rattle.ac_engines.proofs.nfa.contiguous.draft.set_targets.Given as goal
 
 -- the targets so far are set

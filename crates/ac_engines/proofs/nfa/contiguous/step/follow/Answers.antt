@@ -8,9 +8,9 @@ use Rattle.ac_util.specs.Node.{Node}
 use Rattle.ac_automaton.specs.Automata.{step_of}
 use Rattle.ac_util.proofs.ClassLists.{class_at-below}
 use Rattle.ac_engines.specs.declared.nfa.contiguous.state.TheConstants.{FAIL}
-use Rattle.ac_engines.specs.Packing.{Packed, StandsAt, spelling_at}
-use Rattle.ac_engines.specs.Sizes.{node_format}
-use Rattle.ac_engines.specs.Words.{BeginsWith, named, target_by}
+use Rattle.ac_engines.specs.Contiguous.{ContiguousView, IsContiguousState, spelling_at}
+use Rattle.ac_engines.specs.Contiguous.Sizes.{node_format}
+use Rattle.ac_engines.specs.Contiguous.Words.{BeginsWith, named, target_by}
 use Rattle.ac_engines.proofs.Follow.{Ended, Onward, onward-start, ends-anchored, ends-target, begins-at, goes-on, stands-small, stands-within}
 use Rattle.ac_engines.proofs.PackedSteps.{are-named, target_of}
 use Rattle.ac_engines.proofs.Spellings.{none-named, some-named}
@@ -20,7 +20,7 @@ use Rattle.ac_engines.proofs.nfa.contiguous.step.follow.Goals.{After-look}
 pub loop-next-init : goal.loop-next-init
 loop-next-init c = λ p b u same byte class h.
     onward-start p c.args.anchored b u c.args.looks.now c.as_usize-at.result
-    (subst (λ (s : ℕ). StandsAt p c.args.anchored s u) (sym c.as_usize-at.ensures.value) h)
+    (subst (λ (s : ℕ). IsContiguousState p c.args.anchored s u) (sym c.as_usize-at.ensures.value) h)
 
 pub at-state-requires : goal.at-state-requires
 at-state-requires c =
@@ -31,9 +31,9 @@ at-state-requires c =
     omega arith
 
 -- the class is one of those that there are
-below : (p : Packed) (anchored : Anchored) (s b class : ℕ) (u : Node) → StandsAt p anchored s u → b < 256
+below : (p : ContiguousView) (anchored : Anchored) (s b class : ℕ) (u : Node) → IsContiguousState p anchored s u → b < 256
     → class ≡ class_at p.classes b → class < alphabet_len p.classes
-below p anchored s b class u h byte is = let small = class_at-below p.classes h.packed.classes b byte in omega arith
+below p anchored s b class u h byte is = let small = class_at-below p.classes h.is_contiguous.classes b byte in omega arith
 
 pub look-requires : goal.look-requires
 look-requires c =
@@ -44,12 +44,12 @@ look-requires c =
       spelling_at r.0 o.stands.at c.args.anchored o.node,
       begins-at r.0 c.args.anchored c.loop-next.at o.node o.stands c.args.words.now c.at-state.result.words.now r.3
           c.at-state.ensures,
-      are-named r.0 o.stands.at o.stands.packed c.args.anchored o.node,
+      are-named r.0 o.stands.at o.stands.is_contiguous c.args.anchored o.node,
       below r.0 c.args.anchored c.args.from r.1 c.args.class r.2 r.6 r.4 r.5,
     )
 
-module _ (c : After-look) (p : Packed) (b : ℕ) (u : Node) (same : p.words ≡ c.args.words.now) (byte : b < 256)
-    (class : c.args.class ≡ class_at p.classes b) (h : StandsAt p c.args.anchored c.args.from u) where
+module _ (c : After-look) (p : ContiguousView) (b : ℕ) (u : Node) (same : p.words ≡ c.args.words.now) (byte : b < 256)
+    (class : c.args.class ≡ class_at p.classes b) (h : IsContiguousState p c.args.anchored c.args.from u) where
   abbrev here : Onward p c.args.anchored b u c.args.looks.now c.loop-next.looks c.loop-next.at
   here = c.loop-next.invariant p b u same byte class h
 
@@ -65,7 +65,7 @@ module _ (c : After-look) (p : Packed) (b : ℕ) (u : Node) (same : p.words ≡ 
   target-is =
       c.look.ensures.target (node_format p.built p.dense_depth here.node) (alphabet_len p.classes)
       (spelling_at p here.stands.at c.args.anchored here.node) begins
-      (are-named p here.stands.at here.stands.packed c.args.anchored here.node)
+      (are-named p here.stands.at here.stands.is_contiguous c.args.anchored here.node)
       (below p c.args.anchored c.args.from b c.args.class u h byte class)
       ∙ ap (λ (class : ℕ). named (target_by (spelling_at p here.stands.at c.args.anchored here.node).missing
       (spelling_at p here.stands.at c.args.anchored here.node).edges class)) class
@@ -98,7 +98,7 @@ pub returns-in-Some-clause-steps : goal.returns-in-Some-clause-steps
 returns-in-Some-clause-steps c = λ p b u same byte class h.
     let d = (goal.at.returns-in-Some-clause-steps c).After-look in
     let e = at-target d p b u same byte class h c.in-Some.next c.in-Some.is in
-    subst (λ (s : ℕ). StandsAt p c.args.anchored s (step_of p.built c.args.anchored u b)) (sym c.must.ensures.value) e.steps
+    subst (λ (s : ℕ). IsContiguousState p c.args.anchored s (step_of p.built c.args.anchored u b)) (sym c.must.ensures.value) e.steps
 
 pub returns-in-Some-clause-looks : goal.returns-in-Some-clause-looks
 returns-in-Some-clause-looks c = λ p b u same byte class h.
@@ -111,7 +111,7 @@ returns-then-is_anchored-clause-steps c = λ p b u same byte class h.
     let none : c.look.result ≡ None = simp c.in_default.is in
     let is-yes : c.args.anchored ≡ Yes = c.if-is_anchored.ensures.0 refl in
     let e = at-dead d p b u same byte class h none is-yes in
-    subst (λ (s : ℕ). StandsAt p c.args.anchored s (step_of p.built c.args.anchored u b))
+    subst (λ (s : ℕ). IsContiguousState p c.args.anchored s (step_of p.built c.args.anchored u b))
     (sym c.must-then-is_anchored.ensures.value) e.steps
 
 pub returns-then-is_anchored-clause-looks : goal.returns-then-is_anchored-clause-looks

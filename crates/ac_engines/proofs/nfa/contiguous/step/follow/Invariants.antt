@@ -1,15 +1,15 @@
 use Rattle.std.proofs.Common.{◌≡◌, ℕ, ◌<◌, ◌+◌, ◌-◌}
 use Rattle.ac_util.specs.Classes.{class_at}
 use Rattle.ac_util.specs.Node.{Node}
-use Rattle.ac_engines.specs.Packing.{Packed, StandsAt}
+use Rattle.ac_engines.specs.Contiguous.{ContiguousView, IsContiguousState}
 use Rattle.ac_engines.proofs.Follow.{Onward}
 use Rattle.ac_engines.proofs.nfa.contiguous.step.follow.Given as goal
 
 -- whatever the words were packed from, the walk is on the way to where the byte leads
 abbrev pub invariant-loop-next : goal.invariant-loop-next
 invariant-loop-next l =
-    (p : Packed) (b : ℕ) (u : Node) → p.words ≡ l.words → b < 256 → l.class ≡ class_at p.classes b
-    → StandsAt p l.anchored l.fn.from u → Onward p l.anchored b u l.fn.looks l.looks l.at
+    (p : ContiguousView) (b : ℕ) (u : Node) → p.words ≡ l.words → b < 256 → l.class ≡ class_at p.classes b
+    → IsContiguousState p l.anchored l.fn.from u → Onward p l.anchored b u l.fn.looks l.looks l.at
 
 abbrev pub decreases-loop-next : goal.decreases-loop-next
 decreases-loop-next l = 18446744073709551617 + l.fn.looks.looks - l.looks.looks

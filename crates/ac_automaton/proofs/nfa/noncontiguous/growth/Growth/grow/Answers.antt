@@ -7,7 +7,7 @@ use Rattle.ac_automaton.specs.Builds.{IsRefused, too_many_states}
 use Rattle.ac_automaton.specs.Growths.{IsWhole, MayBranch, Source}
 use Rattle.ac_automaton.specs.Sorted.{IsOrder, Sorted, numbers}
 use Rattle.ac_automaton.proofs.Places.{refused-by}
-use Rattle.ac_automaton.proofs.WholeTries.{IsGoingFrom, begun-order, going-on, going-ready, start-going, start-ready, sorted-plain, whole-few, whole-table}
+use Rattle.ac_automaton.proofs.WholeTries.{IsGoingFrom, begun-order, going-on, going-ready, start-going, start-ready, sorted-plain, whole-few, whole-trie}
 use Rattle.ac_automaton.proofs.nfa.noncontiguous.growth.Growth.grow.Given.{Over}
 use Rattle.ac_automaton.proofs.nfa.noncontiguous.growth.Growth.grow.Goals as goal
 use Rattle.ac_automaton.proofs.nfa.noncontiguous.growth.Growth.grow.Goals.{After-start-start, After-index-queued, At-loop-at}
@@ -168,7 +168,7 @@ returns g c = λ fold texts begun.
     let whole : IsWhole texts c.loop-at.self.sorted.fold c.loop-at.self.kind
     (numbers c.loop-at.self.sorted.patterns)
     c.loop-at.self.transitions.items c.loop-at.self.states.items =
-    record { nodes = _; table = whole-table texts h all; few = whole-few texts h all } in
+    record { nodes = _; is_trie = whole-trie texts h all; few = whole-few texts h all } in
     rw c.in_ok-numbers.ensures
     (subst (λ (k : MatchKind). IsWhole texts fold k (numbers c.loop-at.self.sorted.patterns)
     c.loop-at.self.transitions.items c.loop-at.self.states.items) c.loop-at.invariant.kind

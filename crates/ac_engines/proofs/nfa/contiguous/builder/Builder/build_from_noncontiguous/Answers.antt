@@ -1,19 +1,10 @@
 use Rattle.std.proofs.Common.{◌≡◌, ◌∙◌, ap, sym, subst, arith, length, ℕ, List}
-use Rattle.ac_util.specs.Built.{Built}
-use Rattle.ac_util.specs.Classes.{SetsApart}
-use Rattle.ac_util.specs.Sizes.{longest_len, shortest_len}
+use Rattle.ac_automaton.specs.Common.{common_of}
 use Rattle.ac_automaton.specs.declared.nfa.noncontiguous.state.TheConstants.{ANCHORED_START, START}
-use Rattle.ac_engines.specs.Packing.{IsPacked, Packed}
-use Rattle.ac_engines.specs.PackedPlaces.{PackPlan, places_of}
-use Rattle.ac_engines.proofs.Assembled.{classes_by-set_apart}
+use Rattle.ac_engines.specs.Contiguous.{IsContiguous, ContiguousView}
+use Rattle.ac_engines.specs.Contiguous.Plans.{PackPlan, places_of}
 use Rattle.ac_engines.proofs.PackedBuilding.{packed-same, read-place, starts-placed}
 use Rattle.ac_engines.proofs.nfa.contiguous.builder.Builder.build_from_noncontiguous.Goals as goal
-
-pub new-plan-requires-clause-apart : goal.new-plan-requires-clause-apart
-new-plan-requires-clause-apart g c =
-    let from = c.args.nfa.now.built in
-    subst (SetsApart from.fold from.patterns) (sym c.classes_for-classes.ensures)
-    (classes_by-set_apart c.self.inside.byte_classes from.fold from.patterns)
 
 -- each state has a place
 pub pack-requires-clause-ready : goal.pack-requires-clause-ready
@@ -49,30 +40,21 @@ invariant_of-result g c =
     let numbers = c.deref.ensures.value in
     let placed = starts-placed c.new-plan.result nodes.0 c.in_ok-numbers.numbers.items nodes.1
     (c.in_ok-numbers.ensures nodes.0 nodes.1) in
-    let trie = ap (λ (q : PackPlan). q.trie.built) plan in
-    let patterns : c.in_ok-clone-2.field-0.value ≡ c.args.nfa.now.built.patterns =
-    c.in_ok-clone-2.ensures.cases ∙ c.patterns.ensures in
-    record {
-      packed = (
-        places_of c.new-plan.result nodes.0 c.deref.result.now,
-        subst (λ (p : Packed). IsPacked p (places_of c.new-plan.result nodes.0 c.deref.result.now))
-            (sym (packed-same c.new-plan.result nodes.0 c.deref.result.now c.in_ok-words.words.items
-            c.in_ok-clone-2.field-0.value c.fold.result c.match_kind.result c.filters.result c.self.inside.dense_depth
-            c.classes_for-classes.result c.index.result.now c.index-2.result.now c.sizes-sizes.result.match_end
-            (patterns ∙ ap (λ (b : Built). b.patterns) (sym trie)) (c.fold.ensures ∙ ap (λ (b : Built). b.fold) (sym trie))
-            (c.match_kind.ensures ∙ ap (λ (b : Built). b.kind) (sym trie)) nodes.1.are_nodes.table.both
-            (c.filters.ensures ∙ ap (λ (q : PackPlan). q.trie.filters) (sym plan))
-            (ap (λ (q : PackPlan). q.dense_depth) (sym plan)) (ap (λ (q : PackPlan). q.classes) (sym plan))
-            (read-place c.in_ok-numbers.numbers.items c.deref.result.now START c.index.result.now
-            (omega (arith, placed)) (sym numbers) c.index.ensures)
-            (read-place c.in_ok-numbers.numbers.items c.deref.result.now ANCHORED_START c.index-2.result.now
-            placed (sym numbers) c.index-2.ensures)
-            (c.sizes-sizes.ensures.match_end nodes.0 nodes.1)))
-            (c.in_ok-words.ensures.packed nodes.0
-            (record { may = nodes.1; places = rw numbers (c.in_ok-numbers.ensures nodes.0 nodes.1) })),
-      );
-      shortest = c.min_pattern_len.ensures ∙ ap shortest_len (sym patterns);
-      longest = c.max_pattern_len.ensures ∙ ap longest_len (sym patterns);
-      skips = rw (patterns, c.fold.ensures, c.filters.ensures) c.in_ok-prefilter_for.ensures.skips;
-      serves = rw (patterns, c.fold.ensures) c.in_ok-prefilter_for.ensures.serves;
-    }
+    let common : c.in_ok-clone-2.field-0 ≡ common_of c.args.nfa.now.built c.args.nfa.now.filters =
+    c.in_ok-clone-2.ensures.cases ∙ c.common.ensures in (
+      places_of c.new-plan.result nodes.0 c.deref.result.now,
+      subst (λ (p : ContiguousView). IsContiguous p (places_of c.new-plan.result nodes.0 c.deref.result.now))
+          (sym (packed-same c.new-plan.result nodes.0 c.deref.result.now c.in_ok-words.words.items
+          c.in_ok-clone-2.field-0 c.self.inside.dense_depth c.classes_for-classes.result c.index.result.now
+          c.index-2.result.now c.sizes-sizes.result.match_end
+          (common ∙ ap (λ (q : PackPlan). common_of q.trie.built q.trie.filters) (sym plan))
+          nodes.1.are_nodes.is_trie.both
+          (ap (λ (q : PackPlan). q.dense_depth) (sym plan)) (ap (λ (q : PackPlan). q.classes) (sym plan))
+          (read-place c.in_ok-numbers.numbers.items c.deref.result.now START c.index.result.now
+          (omega (arith, placed)) (sym numbers) c.index.ensures)
+          (read-place c.in_ok-numbers.numbers.items c.deref.result.now ANCHORED_START c.index-2.result.now
+          placed (sym numbers) c.index-2.ensures)
+          (c.sizes-sizes.ensures.match_end nodes.0 nodes.1)))
+          (c.in_ok-words.ensures.packed nodes.0
+          (record { may = nodes.1; places = rw numbers (c.in_ok-numbers.ensures nodes.0 nodes.1) })),
+    )

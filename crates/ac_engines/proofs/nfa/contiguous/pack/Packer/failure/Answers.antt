@@ -4,8 +4,8 @@ use Rattle.ac_util.specs.Node.{failure}
 use Rattle.ac_automaton.specs.Automata.{plain_of}
 use Rattle.ac_automaton.specs.Readers.{AreNodes}
 use Rattle.ac_automaton.specs.Tries.{Trie}
-use Rattle.ac_engines.specs.PackedPlaces.{PackPlan}
-use Rattle.ac_engines.specs.Packs.{Packer}
+use Rattle.ac_engines.specs.Contiguous.Plans.{PackPlan}
+use Rattle.ac_engines.specs.Contiguous.Packs.{Packer}
 use Rattle.ac_engines.proofs.StateSpellings.{failure-none, failure-spelled}
 use Rattle.ac_engines.proofs.nfa.contiguous.pack.Packer.failure.Goals as goal
 

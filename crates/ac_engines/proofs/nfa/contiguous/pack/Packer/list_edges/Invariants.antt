@@ -1,7 +1,7 @@
 use Rattle.std.proofs.Common.{◌≡◌, List, take, Some}
 use Rattle.std.specs.Prelude.{slice_get}
 use Rattle.ac_util.specs.Node.{Node}
-use Rattle.ac_engines.specs.Packs.{AreReady, state_spelling}
+use Rattle.ac_engines.specs.Contiguous.Packs.{AreReady, state_spelling}
 use Rattle.ac_engines.proofs.nfa.contiguous.pack.Packer.list_edges.Given as goal
 
 -- the own transitions so far are listed

@@ -3,17 +3,17 @@ use Rattle.std.proofs.lemmas.List.{append_assoc, append-nil}
 use Rattle.ac_util.specs.declared.search.Anchored.TheVariants.{No}
 use Rattle.ac_automaton.specs.declared.automaton.overlap.MatchRest.{MatchRest}
 use Rattle.ac_automaton.specs.Automata.{IsState}
-use Rattle.ac_automaton.specs.Tries.{StandsFor, Trie, stands-lists}
-use Rattle.ac_engines.specs.PackedPlaces.{PackPlan, packed_of, places_of}
-use Rattle.ac_engines.specs.Packs.{Packer, anchored_of}
+use Rattle.ac_automaton.specs.Tries.{IsTrieState, Trie, stands-lists}
+use Rattle.ac_engines.specs.Contiguous.Plans.{PackPlan, packed_of, places_of}
+use Rattle.ac_engines.specs.Contiguous.Packs.{Packer, anchored_of}
 use Rattle.ac_engines.proofs.Listing.{rest_of}
 use Rattle.ac_engines.proofs.StateSpellings.{matches-spelled}
 use Rattle.ac_engines.proofs.nfa.contiguous.pack.Packer.list_matches.Goals.{After-plan}
 use Rattle.ac_engines.proofs.nfa.contiguous.pack.Packer.list_matches.Goals as goal
 
 -- of equal tries the states are the same
-state-same : (t u : Trie) → t ≡ u → (s : ℕ) → IsState (StandsFor t) s → IsState (StandsFor u) s
-state-same t u same s state = subst (λ v. IsState (StandsFor v) s) same state
+state-same : (t u : Trie) → t ≡ u → (s : ℕ) → IsState (IsTrieState t) s → IsState (IsTrieState u) s
+state-same t u same s state = subst (λ v. IsState (IsTrieState v) s) same state
 
 -- and so is the first match of a rest
 first-same : (t u : Trie) → t ≡ u → (rest after : MatchRest) (pattern : ℕ)

@@ -4,14 +4,14 @@ use Rattle.ac_util.specs.declared.search.Anchored.TheVariants.{No}
 use Rattle.ac_util.specs.Node.{Node}
 use Rattle.ac_automaton.specs.Automata.{IsState, matches_of}
 use Rattle.ac_automaton.specs.Readers.{AreNodes}
-use Rattle.ac_automaton.specs.Tries.{StandsFor}
+use Rattle.ac_automaton.specs.Tries.{IsTrieState}
 use Rattle.ac_engines.proofs.Listing.{rest_of}
 use Rattle.ac_engines.proofs.nfa.contiguous.pack.Packer.list_matches.Given as goal
 
 -- the matches in front of the rest are listed
 abbrev pub invariant-loop-pattern : goal.invariant-loop-pattern
 invariant-loop-pattern g l = record {
-  state : IsState (StandsFor l.fn.self.plan.trie) l.rest.state;
+  state : IsState (IsTrieState l.fn.self.plan.trie) l.rest.state;
   listed : (nodes : List Node) (u : Node) → AreNodes l.fn.self.plan.trie nodes → slice_get nodes l.fn.sid ≡ Some u
       → l.matches.items ++ rest_of l.fn.self.plan.trie l.rest ≡ matches_of l.fn.self.plan.trie.built No u;
 }

@@ -2,9 +2,9 @@ use Rattle.std.proofs.Common.{◌≡◌, ◌≤◌, length, refl, ap, sym, subst
 use Rattle.ac_util.specs.Node.{depth}
 use Rattle.ac_automaton.specs.Readers.{AreNodes, own_bytes}
 use Rattle.ac_automaton.specs.Tries.{Trie}
-use Rattle.ac_engines.specs.Formats.{format_of}
-use Rattle.ac_engines.specs.PackedPlaces.{PackPlan}
-use Rattle.ac_engines.specs.Sizes.{node_format}
+use Rattle.ac_engines.specs.Contiguous.Formats.{format_of}
+use Rattle.ac_engines.specs.Contiguous.Plans.{PackPlan}
+use Rattle.ac_engines.specs.Contiguous.Sizes.{node_format}
 use Rattle.ac_engines.proofs.InnerStates.{inner-long}
 use Rattle.ac_engines.proofs.nfa.contiguous.plan.Plan.format.Goals as goal
 

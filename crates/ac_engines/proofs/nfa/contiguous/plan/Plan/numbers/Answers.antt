@@ -1,7 +1,7 @@
 use Rattle.std.proofs.Common.{◌≡◌, ◌∷◌, [], ℕ, Bool, List, Some, slice_get, true, false, length, ap, sym, ◌∙◌, arith}
 use Rattle.std.proofs.lemmas.List.{length-append}
 use Rattle.ac_util.specs.Node.{Node}
-use Rattle.ac_engines.specs.PackedPlaces.{MayPack, size_of}
+use Rattle.ac_engines.specs.Contiguous.Plans.{MayPack, size_of}
 use Rattle.ac_engines.proofs.PlanSums.{Takes, back-within, before-starts, front-within, has-words, named-below, places-first, places-more, plan-states, takes}
 use Rattle.ac_engines.proofs.nfa.contiguous.plan.Plan.numbers.Goals.{then-is_match+in_ok-push, else-is_match+in_ok-push-2}
 use Rattle.ac_engines.proofs.nfa.contiguous.plan.Plan.numbers.Goals as goal

@@ -1,6 +1,6 @@
 use Rattle.std.proofs.Common.{◌≡◌, ◌+◌, ◌<◌, ℕ, List, None, true, false, length, slice_index_or}
 use Rattle.ac_util.specs.Node.{Node}
-use Rattle.ac_engines.specs.PackedPlaces.{MayPack, front_end, place_at, size_of}
+use Rattle.ac_engines.specs.Contiguous.Plans.{MayPack, front_end, place_at, size_of}
 use Rattle.ac_engines.proofs.PlanSums.{before}
 use Rattle.ac_engines.proofs.nfa.contiguous.plan.Plan.numbers.Given as goal
 

@@ -1,6 +1,6 @@
 use Rattle.std.proofs.Common.{◌≡◌, ◌+◌, Bool, List, None, Some, slice_get, true, false, length, ap, sym, ◌∙◌, arith}
 use Rattle.ac_util.specs.Node.{Node}
-use Rattle.ac_engines.specs.PackedPlaces.{MayPack, size_of}
+use Rattle.ac_engines.specs.Contiguous.Plans.{MayPack, size_of}
 use Rattle.ac_engines.proofs.PlanSums.{Takes, before, before-starts, has-words, named-below, plan-states, sizes-whole, takes}
 use Rattle.ac_engines.proofs.nfa.contiguous.plan.Plan.sizes.Goals.{then-is_match, else-is_match}
 use Rattle.ac_engines.proofs.nfa.contiguous.plan.Plan.sizes.Goals as goal

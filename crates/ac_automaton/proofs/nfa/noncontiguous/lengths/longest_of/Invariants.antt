@@ -1,7 +1,0 @@
--- The longest so far and that of the patterns left give the longest of all.
-use Rattle.std.proofs.Common.{◌≡◌, drop, max}
-use Rattle.ac_util.specs.Sizes.{longest_len}
-use Rattle.ac_automaton.proofs.nfa.noncontiguous.lengths.longest_of.Given as goal
-
-abbrev pub invariant-loop-number : goal.invariant-loop-number
-invariant-loop-number g l = max l.longest (longest_len (drop l.number l.patterns)) ≡ longest_len l.patterns

@@ -1,0 +1,30 @@
+-- What every engine has, whatever its states are.
+use Rattle.std.specs.Prelude.{ℕ, Bool, List}
+use Rattle.ac_util.specs.declared.search.MatchKind.{MatchKind}
+use Rattle.ac_util.specs.declared.search.StartKind.{StartKind}
+use Rattle.ac_util.specs.Built.{Built}
+
+-- the patterns, whether case is ignored, the match kind, and whether to have a prefilter
+pub record CommonView : Type 0 where
+  pub patterns : List (List ℕ)
+  pub fold : Bool
+  pub kind : MatchKind
+  pub filters : Bool
+
+-- what an engine was built from that has this and these starts
+abbrev pub built_as : CommonView → StartKind → Built
+built_as common start_kind = record {
+  patterns = common.patterns;
+  fold = common.fold;
+  kind = common.kind;
+  start_kind = start_kind;
+}
+
+-- what an engine has that was built from this, to have a prefilter or not
+abbrev pub common_of : Built → Bool → CommonView
+common_of built filters = record {
+  patterns = built.patterns;
+  fold = built.fold;
+  kind = built.kind;
+  filters = filters;
+}

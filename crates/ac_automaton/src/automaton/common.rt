@@ -1,0 +1,164 @@
+//! What every engine has, whatever its states are.
+ghost use Rattle.std.specs.Prelude.{◌≡◌, IfSome, MatchResult, option_map};
+ghost use Rattle.ac_util.specs.declared.error.BuildError.TheVariants.{Memory};
+ghost use Rattle.ac_util.specs.Prefilters.{IsSkipFor, skip_for, skip_of};
+ghost use Rattle.ac_util.specs.Sizes.{longest_len, shortest_len};
+
+use super::lengths::{longest_of, shortest_of};
+use ac_util::error::BuildError;
+use ac_util::patterns::Patterns;
+use ac_util::prefilter::Prefilter;
+use ac_util::search::MatchKind;
+use std::alloc::{AllocError, Allocator, Global};
+use std::marker::Model;
+use std::rc::Rc;
+
+/// The patterns, which engines that are built from one another share, how they are matched, and the prefilter.
+#[derive(Drop)]
+pub struct Common<A: Allocator = Global> {
+    patterns: Rc<Patterns<A>, A>,
+    kind: MatchKind,
+    fold: bool,
+    shortest: usize,
+    longest: usize,
+    /// Whether to have a prefilter, where there is one for the patterns.
+    filters: bool,
+    prefilter: Option<Prefilter<A>>,
+}
+
+impl<A: Allocator> Model for Common<A> {
+    ghost use Rattle.std.specs.Prelude.{◌≡◌, IfSome, option_map};
+    ghost use Rattle.ac_util.specs.Prefilters.{IsSkipFor, skip_for, skip_of};
+    ghost use Rattle.ac_util.specs.Sizes.{longest_len, shortest_len};
+    ghost use Rattle.ac_automaton.specs.Common.{CommonView};
+
+    ghost Value = { CommonView };
+
+    ghost view = { λ c. record {
+      patterns = c.patterns.value;
+      fold = c.fold;
+      kind = c.kind;
+      filters = c.filters;
+    } };
+
+    ghost invariant = { λ c. record {
+      shortest : c.shortest ≡ shortest_len c.patterns.value;
+      longest : c.longest ≡ longest_len c.patterns.value;
+      skips : option_map skip_of c.prefilter ≡ skip_for c.filters c.fold c.patterns.value;
+      serves : IfSome c.prefilter (λ p. IsSkipFor (skip_of p) c.fold c.patterns.value);
+    } };
+}
+
+impl<A: Allocator + Clone> Clone for Common<A> {
+    ghost is_clone = { λ s t. t ≡ s };
+
+    /// Returns a copy, which shares the patterns.
+    ///
+    /// # Errors
+    /// `AllocError` where a request for memory is refused.
+    fn clone(&self) -> Result<Common<A>, AllocError> {
+        Ok(Common {
+            patterns: self.patterns.clone()?,
+            kind: self.kind,
+            fold: self.fold,
+            shortest: self.shortest,
+            longest: self.longest,
+            filters: self.filters,
+            prefilter: self.prefilter.clone()?,
+        })
+    }
+}
+
+impl<A: Allocator + Clone> Common<A> {
+    /// Returns what an engine over these patterns has.
+    ///
+    /// # Errors
+    /// `Memory` where a request for memory is refused.
+    pub(crate) fn new(
+        patterns: Patterns<A>,
+        kind: MatchKind,
+        fold: bool,
+        filters: bool,
+    ) -> Result<Common<A>, BuildError>
+        ensures { MatchResult result
+            (λ common. common ≡ record { patterns = patterns; fold = fold; kind = kind; filters = filters })
+            (λ e. e ≡ Memory) }
+    {
+        let prefilter = if filters {
+            Prefilter::of(patterns.allocator().clone()?, &patterns, fold)?
+        } else {
+            None
+        };
+        let alloc = patterns.allocator().clone()?;
+        Ok(Common {
+            shortest: shortest_of(&patterns),
+            longest: longest_of(&patterns),
+            patterns: Rc::new(alloc, patterns)?,
+            kind,
+            fold,
+            filters,
+            prefilter,
+        })
+    }
+}
+
+impl<A: Allocator> Common<A> {
+    /// Returns the patterns.
+    #[inline]
+    pub fn patterns(&self) -> &Rc<Patterns<A>, A>
+        ensures { result.now.value ≡ self.now.patterns }
+    {
+        &self.patterns
+    }
+
+    /// Returns which of the occurrences in a span a search answers.
+    #[inline]
+    pub fn match_kind(&self) -> MatchKind
+        ensures { result ≡ self.now.kind }
+    {
+        self.kind
+    }
+
+    /// Returns whether case is ignored.
+    #[inline]
+    pub fn fold(&self) -> bool
+        ensures { result ≡ self.now.fold }
+    {
+        self.fold
+    }
+
+    /// Returns whether to have a prefilter, where there is one for the patterns.
+    #[inline]
+    pub fn filters(&self) -> bool
+        ensures { result ≡ self.now.filters }
+    {
+        self.filters
+    }
+
+    /// Returns how many bytes the shortest pattern has, or `usize::MAX` without patterns.
+    #[inline]
+    pub fn min_pattern_len(&self) -> usize
+        ensures { result ≡ shortest_len self.now.patterns }
+    {
+        self.shortest
+    }
+
+    /// Returns how many bytes the longest pattern has, or 0 without patterns.
+    #[inline]
+    pub fn max_pattern_len(&self) -> usize
+        ensures { result ≡ longest_len self.now.patterns }
+    {
+        self.longest
+    }
+
+    /// Returns the prefilter, where it is to be had and there is one for the patterns.
+    #[inline]
+    pub fn prefilter(&self) -> Option<&Prefilter<A>>
+        ensures skips { option_map (λ p. skip_of p.now) result
+            ≡ skip_for self.now.filters self.now.fold self.now.patterns }
+        ensures serves { IfSome result
+            (λ p. IsSkipFor (skip_of p.now) self.now.fold self.now.patterns) }
+    {
+        self.prefilter.as_ref()
+    }
+}

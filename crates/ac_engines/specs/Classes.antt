@@ -1,0 +1,7 @@
+-- The classes of bytes that an engine is built with.
+use Rattle.std.specs.Prelude.{ℕ, Bool, List, if◌then◌else◌}
+use Rattle.ac_util.specs.Classes.{classes_of, singletons}
+
+-- those of the patterns' bytes, or a class for each byte
+abbrev pub classes_by : Bool → Bool → List (List ℕ) → List ℕ
+classes_by byte_classes fold patterns = if byte_classes then classes_of fold patterns else singletons

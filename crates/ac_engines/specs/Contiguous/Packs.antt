@@ -1,0 +1,53 @@
+-- Packing states one after another.
+use Rattle.std.specs.Prelude.{◌≡◌, ℕ, ◌+◌, ◌≤◌, Bool, List, [], ◌++◌, drop, length, nat_eq, slice_get, Some, if◌then◌else◌}
+use Rattle.ac_util.specs.declared.search.Anchored.{Anchored}
+use Rattle.ac_util.specs.declared.search.Anchored.TheVariants.{No, Yes}
+use Rattle.ac_util.specs.Classes.{alphabet_len}
+use Rattle.ac_util.specs.Node.{Node}
+use Rattle.ac_automaton.specs.declared.nfa.noncontiguous.state.TheConstants.{ANCHORED_START, START}
+use Rattle.ac_engines.specs.Contiguous.{spelling_at}
+use Rattle.ac_engines.specs.Contiguous.Plans.{HasPlaces, MayPack, PackPlan, has_matches, packed_of, places_of, size_at, total}
+use Rattle.ac_engines.specs.Contiguous.Sizes.{node_format}
+use Rattle.ac_engines.specs.Contiguous.Words.{BeginsWith, Spelling, spelled}
+
+-- what states are packed by: a plan, and the place of each state of the trie
+pub record Packer : Type 0 where
+  pub plan : PackPlan
+  pub numbers : List ℕ
+
+-- the searches in which a state of the trie is reached, as far as its words depend on them
+abbrev pub anchored_of : ℕ → Anchored
+anchored_of s = if nat_eq s ANCHORED_START then Yes else No
+
+module _ (f : Packer) (nodes : List Node) where
+  -- the states have places
+  pub record AreReady : Type 0 where
+    pub may : MayPack f.plan nodes
+    pub places : HasPlaces f.plan nodes f.numbers
+
+  -- what the state of a number spells
+  abbrev pub state_spelling : ℕ → Node → Spelling
+  state_spelling s u =
+      spelling_at (packed_of f.plan nodes f.numbers []) (places_of f.plan nodes f.numbers) (anchored_of s) u
+
+  -- its words
+  abbrev pub state_words : ℕ → Node → List ℕ
+  state_words s u =
+      spelled (node_format f.plan.trie.built f.plan.dense_depth u) (alphabet_len f.plan.classes) (state_spelling s u)
+
+  -- all states that have matches were pushed, or all others: each stands after those before it
+  pub record HasPushed (front : Bool) (old new : List ℕ) : Type 0 where
+    pub pushed : List ℕ
+    pub same : new ≡ old ++ pushed
+    pub long : length new ≡ length old + total (size_at f.plan nodes front) (length nodes)
+    pub each : (s : ℕ) (u : Node) → START ≤ s → slice_get nodes s ≡ Some u → has_matches f.plan nodes u ≡ front
+        → BeginsWith (drop (length old + total (size_at f.plan nodes front) s) new)
+        (node_format f.plan.trie.built f.plan.dense_depth u) (alphabet_len f.plan.classes) (state_spelling s u)
+
+-- the state is a start or stands after the starts
+pub record IsPlaced (f : Packer) (s : ℕ) : Type 0 where
+  pub nodes : List Node
+  pub ready : AreReady f nodes
+  pub node : Node
+  pub named : slice_get nodes s ≡ Some node
+  pub reached : START ≤ s

@@ -1,0 +1,120 @@
+-- How the states of the contiguous engine are spelled in words of 32 bits.
+use Rattle.std.specs.Prelude.{◌≡◌, ◌≢◌, ℕ, ◌+◌, ◌*◌, ◌/◌, ◌%◌, ◌<◌, ◌≤◌, ◌==◌, List, [], ◌∷◌, ◌++◌, length, map, slice_index_or, All, Option, Some, None, if◌then◌else◌, ⊤}
+use Rattle.std.specs.Borrow.{Bor}
+use Rattle.std.specs.Int.{to_le_bytes, w32}
+use Rattle.std.specs.List.{range_with_len}
+use Rattle.std.specs.List.Sorted.{IsStrictlyIncreasing}
+use Rattle.ac_engines.specs.declared.nfa.contiguous.format.Format.{Format}
+use Rattle.ac_engines.specs.declared.nfa.contiguous.format.Format.TheVariants.{Dense, One, Sparse}
+use Rattle.ac_engines.specs.Contiguous.Formats.{dense_form, most_sparse, no_target, one_form, one_match}
+use Rattle.ac_engines.specs.declared.nfa.contiguous.state.Edge.{Edge}
+
+-- what the words of a state spell: its failure target, where it leads by a class without a transition, its transitions
+-- in ascending order of their classes, and its matches
+pub record Spelling : Type 0 where
+  pub failure : ℕ
+  pub missing : ℕ
+  pub edges : List Edge
+  pub matches : List ℕ
+
+-- where a class leads
+unfoldable pub target_by : ℕ → List Edge → ℕ → ℕ
+target_by missing [] class = missing
+target_by missing (e ∷ edges) class = if e.class == class then e.target else target_by missing edges class
+
+-- the target that a word names, if it isn't the number that no state has
+abbrev pub named : ℕ → Option ℕ
+named target = if target == no_target then None else Some target
+
+-- each transition leads to a state
+abbrev pub AreNamed : List Edge → Type 0
+AreNamed edges = All (λ e. e.target ≢ no_target) edges
+
+-- four classes in one word, the first in the low byte
+abbrev pub word_of : ℕ → ℕ → ℕ → ℕ → ℕ
+word_of a b c d = a + 256 * (b + 256 * (c + 256 * d))
+
+-- classes, four in a word; the last word is filled up with the last class again
+unfoldable pub class_words : List ℕ → List ℕ
+class_words [] = []
+class_words (a ∷ []) = word_of a a a a ∷ []
+class_words (a ∷ b ∷ []) = word_of a b b b ∷ []
+class_words (a ∷ b ∷ c ∷ []) = word_of a b c c ∷ []
+class_words (a ∷ b ∷ c ∷ d ∷ classes) = word_of a b c d ∷ class_words classes
+
+-- no match has no word, a single one has its number with the top bit set, and several have their count and their
+-- numbers
+abbrev pub match_spelling : List ℕ → List ℕ
+match_spelling [] = []
+match_spelling (p ∷ []) = (one_match + p) ∷ []
+match_spelling (p ∷ q ∷ ps) = length (p ∷ q ∷ ps) ∷ p ∷ q ∷ ps
+
+-- one transition, whose class stands beside the form
+abbrev pub one_spelling : ℕ → List Edge → List ℕ
+one_spelling failure [] = []
+one_spelling failure (e ∷ edges) = (one_form + 256 * e.class) ∷ failure ∷ e.target ∷ []
+
+-- the words of a state, where there are so many classes
+unfoldable pub spelled : Format → ℕ → Spelling → List ℕ
+spelled Dense classes s =
+    dense_form ∷ s.failure ∷ map (target_by s.missing s.edges) (range_with_len 0 classes) ++ match_spelling s.matches
+spelled One classes s = one_spelling s.failure s.edges
+spelled Sparse classes s =
+    length s.edges ∷ s.failure ∷ class_words (map (λ e. e.class) s.edges)
+    ++ map (λ e. e.target) s.edges ++ match_spelling s.matches
+
+-- a form can spell these transitions and matches: a form that isn't dense leads nowhere where there is no transition
+abbrev pub Fits : Format → Spelling → Type 0
+Fits Dense s = ⊤
+Fits One s = (length s.edges ≡ 1) × (s.matches ≡ []) × (s.missing ≡ no_target)
+Fits Sparse s = (length s.edges ≤ most_sparse) × (s.missing ≡ no_target)
+
+-- the words begin with those of a state: its classes are below their number and ascend, and its matches are fewer than
+-- the mark of a single one
+pub record BeginsWith (words : List ℕ) (format : Format) (classes : ℕ) (s : Spelling) : Type 0 where
+  pub rest : List ℕ
+  pub words_are : words ≡ spelled format classes s ++ rest
+  pub fits : Fits format s
+  pub few : classes ≤ 256
+  pub below : All (λ e. e.class < classes) s.edges
+  pub ascending : IsStrictlyIncreasing (map (λ e. e.class) s.edges)
+  pub few_matches : length s.matches < one_match
+  pub numbers : (k : ℕ) → slice_index_or s.matches k 0 < one_match
+
+-- which of four classes is this one first, or 4 where none is
+abbrev pub first_of : ℕ → ℕ → ℕ → ℕ → ℕ → ℕ
+first_of a b c d class =
+    if a == class then 0
+    else if b == class then 1
+    else if c == class then 2
+    else if d == class then 3
+    else 4
+
+-- some targets are as the old ones, but for those of the transitions, which stand at their classes
+pub record HasTargets (old : List ℕ) (edges : List Edge) (now : List ℕ) : Type 0 where
+  pub same_length : length now ≡ length old
+  pub each : (class : ℕ) → class < length old
+      → slice_index_or now class 0 ≡ target_by (slice_index_or old class 0) edges class
+
+-- the transitions that a state's words tell, in ascending order of their classes; a dense state tells where each class
+-- leads
+abbrev pub transitions_of : Format → ℕ → Spelling → List Edge
+transitions_of Dense classes s =
+    map (λ class. record { class = class; target = target_by s.missing s.edges class }) (range_with_len 0 classes)
+transitions_of One classes s = s.edges
+transitions_of Sparse classes s = s.edges
+
+-- the class at a place of class words
+abbrev pub packed_class : List ℕ → ℕ → ℕ
+packed_class words place = slice_index_or (to_le_bytes w32 (slice_index_or words (place / 4) 0)) (place % 4) 0
+
+-- the class of a place: that in the class words, or the place itself where there are none
+abbrev pub class_of_place : Option (Bor (List ℕ)) → ℕ → ℕ
+class_of_place (Some words) place = packed_class words.now place
+class_of_place None place = place
+
+-- transitions to these targets, by the classes of places from one on
+unfoldable pub edges_from : (ℕ → ℕ) → ℕ → List ℕ → List Edge
+edges_from class_of place [] = []
+edges_from class_of place (target ∷ targets) =
+    record { class = class_of place; target = target } ∷ edges_from class_of (place + 1) targets

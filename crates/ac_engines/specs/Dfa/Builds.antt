@@ -1,0 +1,63 @@
+-- What a build of a DFA is asked for, what it answers, and why it may be refused.
+use Rattle.std.specs.Prelude.{◌≡◌, ℕ, ◌-◌, ◌*◌, nat_lt, Bool, true, List, length, Option, Some, None, if◌then◌else◌}
+use Rattle.ac_util.specs.declared.error.BuildError.{BuildError}
+use Rattle.ac_util.specs.declared.error.BuildError.TheVariants.{StateIdOverflow}
+use Rattle.ac_util.specs.declared.primitives.TheConstants.{GREATEST}
+use Rattle.ac_util.specs.declared.search.StartKind.{StartKind}
+use Rattle.ac_util.specs.declared.search.StartKind.TheVariants.{Unanchored}
+use Rattle.ac_util.specs.Built.{Built}
+use Rattle.ac_util.specs.Classes.{stride, stride2}
+use Rattle.ac_util.specs.Sizes.{state_count}
+use Rattle.ac_automaton.specs.Automata.{plain_of}
+use Rattle.ac_automaton.specs.Builds.{EngineSettings, IsAllowed, engine_built_by, refusal_or, state_refusal, usual_engine_settings}
+use Rattle.ac_engines.specs.Classes.{classes_by}
+use Rattle.ac_engines.specs.Dfa.{DfaView}
+use Rattle.ac_engines.specs.Dfa.Layouts.{table_rows}
+
+-- what every engine is built by, which starts there are, and whether bytes that need not be told apart share a class
+pub record DfaSettings : Type 0 where
+  pub engine : EngineSettings
+  pub start_kind : StartKind
+  pub byte_classes : Bool
+
+abbrev pub usual_dfa_settings : DfaSettings
+usual_dfa_settings = record { engine = usual_engine_settings; start_kind = Unanchored; byte_classes = true }
+
+-- the number of the last row where there are so many states, which is the greatest of a state
+abbrev pub last_row : StartKind → List ℕ → ℕ → ℕ
+last_row start_kind classes states = (table_rows start_kind states - 1) * stride classes
+
+-- the refusal of a DFA whose last row would begin at a number that no state may have, or None
+abbrev pub rows_refusal : StartKind → List ℕ → ℕ → Option BuildError
+rows_refusal start_kind classes states =
+    if nat_lt GREATEST (last_row start_kind classes states)
+    then Some (StateIdOverflow GREATEST (last_row start_kind classes states))
+    else None
+
+-- the same of a DFA that is built from an automaton
+abbrev pub dfa_refusal : StartKind → Bool → Built → Option BuildError
+dfa_refusal start_kind byte_classes from =
+    rows_refusal start_kind (classes_by byte_classes from.fold from.patterns) (state_count from.kind (plain_of from))
+
+-- why a build by these settings is refused within the limits of the list, if it is, but for want of memory: the
+-- numbers of the automaton's states are tested before those of the DFA's
+abbrev pub dfa_refusal_by : DfaSettings → List (List ℕ) → Option BuildError
+dfa_refusal_by settings patterns =
+    refusal_or (state_refusal settings.engine patterns)
+    (dfa_refusal settings.start_kind settings.byte_classes (engine_built_by settings.engine patterns))
+
+-- a DFA with these starts and classes has been built from an automaton, which was built to have a prefilter or not:
+-- it answers as that one does where it has the start, it is to have a prefilter as that one, and has no row too many
+pub record IsDfaFrom (start_kind : StartKind) (byte_classes : Bool) (from : Built) (filters : Bool) (d : DfaView)
+    : Type 0 where
+  pub built : d.built ≡ record from { start_kind = start_kind }
+  pub filters_is : d.filters ≡ filters
+  pub classes : d.classes ≡ classes_by byte_classes from.fold from.patterns
+  pub stride2 : d.stride2 ≡ stride2 d.classes
+  pub rows : length d.entries ≡ table_rows start_kind (state_count from.kind (plain_of from)) * stride d.classes
+
+-- a build by these settings has succeeded
+pub record IsDfaBuilt (settings : DfaSettings) (patterns : List (List ℕ)) (d : DfaView) : Type 0 where
+  pub value : IsDfaFrom settings.start_kind settings.byte_classes (engine_built_by settings.engine patterns)
+      settings.engine.prefilter d
+  pub allowed : IsAllowed (dfa_refusal_by settings patterns) patterns
