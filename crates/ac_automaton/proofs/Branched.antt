@@ -1,25 +1,15 @@
 -- Once all its children have come a state is whole.
-use Rattle.std.proofs.Common.{◌≡◌, ◌≢◌, ℕ, zero, suc, ◌-◌, ◌<◌, ◌≤◌, true, List, [], ◌∷◌, ◌++◌, length, length-append, take, drop, inl, inr, refl, ap, sym, ◌∙◌, subst, arith, Some, None}
-use Rattle.std.specs.Prelude.{nat_eq, slice_get, slice_range, Contains, ◌↔◌}
+use Rattle.std.proofs.Common.{◌≡◌, ◌≢◌, ℕ, zero, suc, ◌-◌, ◌<◌, ◌≤◌, true, List, [], ◌∷◌, ◌++◌, length, length-append, take, drop, inl, inr, refl, ap, sym, ◌∙◌, subst, arith, Some, None, nat_eq, slice_get, slice_range, Contains, ◌↔◌}
 use Rattle.std.specs.List.{starts_with}
 use Rattle.std.specs.List.Sorted.{IsPermutation, IsStrictlyIncreasing}
 use Rattle.std.proofs.lemmas.Bool.{cases_lt, cases_Bool, cond-true, cond-false}
 use Rattle.std.proofs.lemmas.List.{length-map}
 use Rattle.std.proofs.lemmas.List.Sorted.{Contains-permutation, IsPermutation-sym, length_permutation}
 use Rattle.std.proofs.Math.Seq.{drop-append_seam, take-append_seam, take-length}
-use Rattle.ac_util.specs.declared.search.Anchored.TheVariants.{Yes}
-use Rattle.ac_util.specs.declared.search.MatchKind.{MatchKind}
-use Rattle.ac_util.specs.Node.{Node, is_node, step}
-use Rattle.ac_util.specs.Sameness.{plain_byte}
+use Rattle.ac_automaton.specs.Util.{is_node, MatchKind, Node, plain_byte, step, Yes}
 use Rattle.ac_util.proofs.Prefixes.{starts_with-front}
 use Rattle.ac_util.proofs.Lists.{AllPairs-from_IsOrdered, Contains-from_IsIn, IsIn, IsIn-from_Contains, IsIn-from_map, IsIn-map}
-use Rattle.ac_automaton.specs.declared.nfa.noncontiguous.growth.QueuedState.{QueuedState}
-use Rattle.ac_automaton.specs.declared.nfa.noncontiguous.state.State.{State}
-use Rattle.ac_automaton.specs.declared.nfa.noncontiguous.state.TheConstants.{START, FIRST_INNER}
-use Rattle.ac_automaton.specs.declared.nfa.noncontiguous.state.Transition.{Transition}
-use Rattle.ac_automaton.specs.Growths.{HasBranched, HasSorted, IsNext, LinkIsDue, grown_meaning, nodes_of}
-use Rattle.ac_automaton.specs.Sorted.{IsOrder, Keyed, byte_at, key_at}
-use Rattle.ac_automaton.specs.Tries.{AreStates, Links, transition_bytes}
+use Rattle.ac_automaton.specs.Prelude.{AreStates, byte_at, FIRST_INNER, grown_meaning, HasBranched, HasSorted, IsNext, IsOrder, key_at, Keyed, LinkIsDue, Links, nodes_of, QueuedState, START, State, Transition, transition_bytes}
 use Rattle.ac_automaton.proofs.Branching.{IsBranching, Site, string, word-length}
 use Rattle.ac_automaton.proofs.Grown.{AreStates-more, IsGrown-later}
 use Rattle.ac_automaton.proofs.Leading.{sorted-ascends}

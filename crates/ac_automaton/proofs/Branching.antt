@@ -1,18 +1,12 @@
 -- How the children of a state are put after the queue, one run of patterns after another.
-use Rattle.std.proofs.Common.{◌≡◌, ◌≢◌, ℕ, suc, ◌+◌, ◌<◌, ◌≤◌, true, Bool, List, [], ◌∷◌, ◌++◌, length, take, inl, inr, refl, ap, sym, subst, arith, Option, Some, None}
-use Rattle.std.specs.Prelude.{nat_eq, slice_get}
+use Rattle.std.proofs.Common.{◌≡◌, ◌≢◌, ℕ, suc, ◌+◌, ◌<◌, ◌≤◌, true, Bool, List, [], ◌∷◌, ◌++◌, length, take, inl, inr, refl, ap, sym, subst, arith, Option, Some, None, nat_eq, slice_get}
 use Rattle.std.specs.List.{starts_with}
 use Rattle.std.proofs.lemmas.List.{append-nil, length_push, length-take-le}
 use Rattle.std.proofs.lemmas.Option.{slice_get_within}
-use Rattle.ac_util.specs.declared.search.MatchKind.{MatchKind}
-use Rattle.ac_util.specs.Sameness.{plain_byte}
+use Rattle.ac_automaton.specs.Util.{MatchKind, plain_byte}
 use Rattle.ac_util.proofs.Lists.{IsIn, IsOrdered}
-use Rattle.ac_automaton.specs.declared.nfa.noncontiguous.growth.QueuedState.{QueuedState}
-use Rattle.ac_automaton.specs.declared.nfa.noncontiguous.state.State.{State}
-use Rattle.ac_automaton.specs.declared.nfa.noncontiguous.state.Transition.{Transition}
-use Rattle.ac_automaton.specs.Growths.{Source, EndsPatterns, HasChild, IsGrown, IsNext, IsRangeOf, IsReady, Waits, grown_meaning, nodes_of, word}
-use Rattle.ac_automaton.specs.Sorted.{Keyed, byte_at, key_at}
-use Rattle.ac_automaton.specs.Tries.{AreStates}
+use Rattle.ac_automaton.specs.Prelude.{AreStates, byte_at, EndsPatterns, grown_meaning, HasChild, IsGrown, IsNext, IsRangeOf, key_at, Keyed, nodes_of, QueuedState, Source, State, Transition, Waits, word}
+use Rattle.ac_automaton.specs.Growths.{IsReady}
 use Rattle.ac_automaton.proofs.Grown.{AreStates-more, IsGrown-later, nodes-inner, nodes-more}
 use Rattle.ac_automaton.proofs.Orders.{rank}
 use Rattle.ac_util.proofs.Prefixes.{starts_with-length}

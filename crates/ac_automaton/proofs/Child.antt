@@ -1,19 +1,12 @@
 -- The child of a run of patterns, which is put after the queue.
-use Rattle.std.proofs.Common.{◌≡◌, ◌≢◌, ℕ, suc, ◌+◌, ◌-◌, ◌<◌, ◌≤◌, List, [], ◌∷◌, ◌++◌, length, length-append, take, ◌⊎◌, inl, inr, refl, ap, sym, ◌∙◌, subst, arith, Some, get_or}
-use Rattle.std.specs.Prelude.{slice_get}
+use Rattle.std.proofs.Common.{◌≡◌, ◌≢◌, ℕ, suc, ◌+◌, ◌-◌, ◌<◌, ◌≤◌, List, [], ◌∷◌, ◌++◌, length, length-append, take, ◌⊎◌, inl, inr, refl, ap, sym, ◌∙◌, subst, arith, Some, get_or, slice_get}
 use Rattle.std.proofs.lemmas.Bool.{cases_lt}
 use Rattle.std.proofs.lemmas.List.{append-nil, append_assoc, length-map, length_push}
 use Rattle.std.proofs.lemmas.Option.{slice_get-get_or, slice_get_within}
 use Rattle.std.proofs.Math.Seq.{take-append_seam}
-use Rattle.ac_util.specs.declared.primitives.TheConstants.{GREATEST}
-use Rattle.ac_util.specs.Sameness.{plain_byte}
+use Rattle.ac_automaton.specs.Util.{GREATEST, plain_byte}
 use Rattle.ac_util.proofs.Lists.{IsIn, IsIn-append_cases, IsIn-append_left, IsIn-append_right, IsOrdered, IsOrdered-append}
-use Rattle.ac_automaton.specs.declared.nfa.noncontiguous.growth.QueuedState.{QueuedState}
-use Rattle.ac_automaton.specs.declared.nfa.noncontiguous.state.TheConstants.{START, ANCHORED_START, FIRST_INNER}
-use Rattle.ac_automaton.specs.declared.nfa.noncontiguous.state.Transition.{Transition}
-use Rattle.ac_automaton.specs.Growths.{IsGrown, IsNext, IsRangeOf, Waits, grown_meaning, leading, nodes_of, word}
-use Rattle.ac_automaton.specs.Sorted.{key_at}
-use Rattle.ac_automaton.specs.Tries.{miss}
+use Rattle.ac_automaton.specs.Prelude.{ANCHORED_START, FIRST_INNER, grown_meaning, IsGrown, IsNext, IsRangeOf, key_at, leading, miss, nodes_of, QueuedState, START, Transition, Waits, word}
 use Rattle.ac_automaton.proofs.Grown.{AreStates-more, IsInner, nodes-cases, nodes-inner, nodes-more}
 use Rattle.ac_automaton.proofs.Leading.{leading-apart, leading-has, leading-length, leading-plain, leading-small}
 use Rattle.ac_automaton.proofs.Orders.{rank}

@@ -1,17 +1,8 @@
 -- The failure target of a child.
-use Rattle.std.proofs.Common.{◌≡◌, ◌≢◌, ℕ, ◌+◌, Bool, true, List, [], ◌∷◌, ◌++◌, length, refl, ap, sym, ◌∙◌, subst, arith, Some, None}
-use Rattle.std.specs.Prelude.{slice_get}
+use Rattle.std.proofs.Common.{◌≡◌, ◌≢◌, ℕ, ◌+◌, Bool, true, List, [], ◌∷◌, ◌++◌, length, refl, ap, sym, ◌∙◌, subst, arith, Some, None, slice_get}
 use Rattle.std.proofs.lemmas.List.{length_push}
-use Rattle.ac_util.specs.declared.search.Anchored.TheVariants.{No}
-use Rattle.ac_util.specs.declared.search.MatchKind.{MatchKind}
-use Rattle.ac_util.specs.Matches.{equal_to}
-use Rattle.ac_util.specs.Node.{Node, is_leftmost, step}
-use Rattle.ac_automaton.specs.declared.nfa.noncontiguous.growth.QueuedState.{QueuedState}
-use Rattle.ac_automaton.specs.declared.nfa.noncontiguous.state.State.{State}
-use Rattle.ac_automaton.specs.declared.nfa.noncontiguous.state.Transition.{Transition}
-use Rattle.ac_automaton.specs.Growths.{HasChild, grown_meaning, nodes_of, word}
-use Rattle.ac_automaton.specs.Sorted.{Keyed, byte_at}
-use Rattle.ac_automaton.specs.Tries.{HasState, miss}
+use Rattle.ac_automaton.specs.Util.{equal_to, is_leftmost, MatchKind, No, Node, step}
+use Rattle.ac_automaton.specs.Prelude.{byte_at, grown_meaning, HasChild, HasState, Keyed, miss, nodes_of, QueuedState, State, Transition, word}
 use Rattle.ac_automaton.proofs.Branching.{word-length}
 use Rattle.ac_automaton.proofs.Misses.{miss-child, miss-pattern, miss-start}
 use Rattle.ac_automaton.proofs.Ranges.{equal_to-some, equal_to-none}

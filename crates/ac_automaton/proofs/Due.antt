@@ -1,23 +1,16 @@
 -- Which matches are due where an automaton stands that lists: those in front of its state's list that count.
-use Rattle.std.proofs.Common.{◌≡◌, ◌≢◌, ℕ, ◌-◌, ◌<◌, Bool, true, false, cond, List, [], ◌∷◌, ◌++◌, length, inl, inr, refl, ap, sym, subst, ◌∙◌, arith, Some, None}
-use Rattle.std.specs.Prelude.{All}
+use Rattle.std.proofs.Common.{◌≡◌, ◌≢◌, ℕ, ◌-◌, ◌<◌, Bool, true, false, cond, List, [], ◌∷◌, ◌++◌, length, inl, inr, refl, ap, sym, subst, ◌∙◌, arith, Some, None, All}
 use Rattle.std.specs.List.{take_while}
 use Rattle.std.proofs.lemmas.Bool.{eq-eqb, ne_eqb}
 use Rattle.std.proofs.lemmas.List.{append_assoc, append-nil, length-map}
 use Rattle.std.proofs.lemmas.List.Sums.{take_while-cons}
 use Rattle.ac_util.specs.declared.search.Anchored.{Anchored}
-use Rattle.ac_util.specs.declared.search.Anchored.TheVariants.{No, Yes}
-use Rattle.ac_util.specs.Built.{Built}
-use Rattle.ac_util.specs.Node.{Node}
-use Rattle.ac_util.specs.Sameness.{plain}
-use Rattle.ac_util.specs.Search.{pattern_of}
+use Rattle.ac_automaton.specs.Util.{Built, No, Node, pattern_of, plain, Yes}
 use Rattle.ac_util.proofs.Advance.{append_nil_left}
 use Rattle.ac_util.proofs.Found.{matches-fits, matches-shorter}
 use Rattle.ac_util.proofs.Lists.{All-from_IsIn, IsIn, IsIn-append_left}
 use Rattle.ac_util.proofs.Participants.{IsIn-from_equal_to}
-use Rattle.ac_automaton.specs.Automata.{Lists, matches_of, plain_of}
-use Rattle.ac_automaton.specs.Finds.{FitsIn}
-use Rattle.ac_automaton.specs.Overlaps.{is_due}
+use Rattle.ac_automaton.specs.Prelude.{FitsIn, is_due, Lists, matches_of, plain_of}
 use Rattle.ac_automaton.proofs.Heads.{plain_length}
 
 -- of a list in two parts those in front that pass are the first part, where all of it pass and none of the other

@@ -1,23 +1,11 @@
 -- A replacement by a closure, match by match: from what was done so far, the steps that are left lead on to those of
 -- the whole.
-use Rattle.std.proofs.Common.{◌≡◌, ◌∙◌, ℕ, ◌-◌, Bool, true, false, List, [], ◌∷◌, ◌++◌, ap, arith, drop, length, inl, inr, refl, subst, sym, Option, None, Some, Result, Ok, Err}
-use Rattle.std.specs.Prelude.{IsErrAnd, slice_range}
+use Rattle.std.proofs.Common.{◌≡◌, ◌∙◌, ℕ, ◌-◌, Bool, true, false, List, [], ◌∷◌, ◌++◌, ap, arith, drop, length, inl, inr, refl, subst, sym, Option, None, Some, Result, Ok, Err, IsErrAnd, slice_range}
 use Rattle.std.proofs.lemmas.List.{length-drop, take_all}
 use Rattle.std.specs.Borrow.{Bor, MutBor}
 use Rattle.std.specs.Fn.{Mut}
-use Rattle.ac_util.specs.declared.error.MatchError.{MatchError}
-use Rattle.ac_util.specs.declared.error.ReplaceError.{ReplaceError}
+use Rattle.ac_automaton.specs.Util.{AppendsAll, Asked, asked_by, asked_whole, Built, Calls, Find, find_refusal, has_empty, LeftmostFirst, LeftmostLongest, MakesSteps, MatchError, MatchKind, MatchReplaceError, No, Occurrence, refusal, Replace, replace_refusal, ReplaceError, ReplacementSteps, Standard, StartKind, StepsLead, Turn}
 use Rattle.ac_util.specs.declared.error.ReplaceError.TheVariants.{Memory}
-use Rattle.ac_util.specs.declared.search.Anchored.TheVariants.{No}
-use Rattle.ac_util.specs.declared.search.MatchKind.{MatchKind}
-use Rattle.ac_util.specs.declared.search.MatchKind.TheVariants.{LeftmostFirst, LeftmostLongest, Standard}
-use Rattle.ac_util.specs.declared.search.StartKind.{StartKind}
-use Rattle.ac_util.specs.Asked.{Asked, asked_whole}
-use Rattle.ac_util.specs.Built.{Built, find_refusal, has_empty, replace_refusal}
-use Rattle.ac_util.specs.Occurrence.{Occurrence}
-use Rattle.ac_util.specs.Refusal.{Find, Replace, refusal}
-use Rattle.ac_util.specs.Replacement.{AppendsAll, Calls, ReplacementSteps, Turn, asked_by}
-use Rattle.ac_util.specs.Replacing.{MakesSteps, MatchReplaceError, StepsLead}
 
 -- a slice up to the end is what follows a place
 pub slice_to_end : (bytes : List ℕ) (place : ℕ) → slice_range bytes place (length bytes) ≡ drop place bytes

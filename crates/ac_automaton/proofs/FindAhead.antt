@@ -1,20 +1,11 @@
 -- A find that reads on from match to match: what is picked where it has come to.
-use Rattle.std.proofs.Common.{◌≡◌, ◌≢◌, ◌⊎◌, ℕ, zero, suc, ◌+◌, ◌-◌, ◌<◌, ◌≤◌, Bool, true, false, List, [], length, refl, ap, sym, subst, ◌∙◌, inl, inr, arith, Option, Some, None}
-use Rattle.std.specs.Prelude.{option_map, slice_get, IfSome, max}
+use Rattle.std.proofs.Common.{◌≡◌, ◌≢◌, ◌⊎◌, ℕ, zero, suc, ◌+◌, ◌-◌, ◌<◌, ◌≤◌, Bool, true, false, List, [], length, refl, ap, sym, subst, ◌∙◌, inl, inr, arith, Option, Some, None, option_map, slice_get, IfSome, max}
 use Rattle.std.specs.Option.{is_some}
 use Rattle.std.proofs.lemmas.Bool.{cases_lt, false≢true}
 use Rattle.ac_util.specs.declared.search.Anchored.{Anchored}
-use Rattle.ac_util.specs.Built.{Built}
-use Rattle.ac_util.specs.declared.search.Span.{Span}
-use Rattle.ac_util.specs.declared.search.MatchKind.{MatchKind}
-use Rattle.ac_util.specs.declared.search.MatchKind.TheVariants.{Standard}
-use Rattle.ac_util.specs.Node.{Node, is_leftmost}
-use Rattle.ac_util.specs.Occurrence.{Occurrence}
-use Rattle.ac_util.specs.Pick.{order_of, pick}
+use Rattle.ac_automaton.specs.Util.{Built, is_leftmost, MatchKind, Node, Occurrence, order_of, pick, Span, Standard}
 use Rattle.ac_util.proofs.SearchLoop.{GoesOn}
-use Rattle.ac_automaton.specs.Automata.{matches_of}
-use Rattle.ac_automaton.specs.Finds.{IsAnswered, IsDecided, found_at, place_of}
-use Rattle.ac_automaton.specs.Scans.{NoMatchBetween, Scan, in_memory}
+use Rattle.ac_automaton.specs.Prelude.{found_at, in_memory, IsAnswered, IsDecided, matches_of, NoMatchBetween, place_of, Scan}
 use Rattle.ac_automaton.proofs.FindLoop.{dead-stays, found-end, goes_on-by, node_at, order, picked-final, picked-newly, picked-still, q, up_to}
 use Rattle.ac_automaton.proofs.ReadOn.{node-start}
 

@@ -1,27 +1,13 @@
 -- A find that reads byte by byte: where the automaton stands, and what is picked so far.
-use Rattle.std.proofs.Common.{◌≡◌, ℕ, ◌+◌, ◌-◌, ◌<◌, ◌≤◌, Bool, true, false, cond, List, [], ◌∷◌, length, inl, inr, refl, ap, sym, ◌∙◌, subst, arith, Option, Some, None}
-use Rattle.std.specs.Prelude.{option_map, slice_get, IfSome}
+use Rattle.std.proofs.Common.{◌≡◌, ℕ, ◌+◌, ◌-◌, ◌<◌, ◌≤◌, Bool, true, false, cond, List, [], ◌∷◌, length, inl, inr, refl, ap, sym, ◌∙◌, subst, arith, Option, Some, None, option_map, slice_get, IfSome}
 use Rattle.std.proofs.lemmas.Bool.{false≢true}
-use Rattle.ac_util.specs.declared.search.MatchKind.{MatchKind}
-use Rattle.ac_util.specs.declared.search.MatchKind.TheVariants.{Standard}
+use Rattle.ac_automaton.specs.Util.{Built, is_leftmost, MatchKind, may_skip, No, Node, Occurrence, order_of, pick, Search, Span, Standard, Yes}
 use Rattle.ac_util.specs.declared.search.Anchored.{Anchored}
-use Rattle.ac_util.specs.declared.search.Anchored.TheVariants.{No, Yes}
-use Rattle.ac_util.specs.declared.search.Span.{Span}
-use Rattle.ac_util.specs.Occurrence.{Occurrence}
-use Rattle.ac_util.specs.Search.{Search}
-use Rattle.ac_util.specs.Pick.{order_of, pick}
-use Rattle.ac_util.specs.Prefilters.{may_skip}
-use Rattle.ac_util.specs.Node.{Node, is_leftmost}
-use Rattle.ac_util.specs.Built.{Built}
 use Rattle.ac_util.proofs.Beginning.{within, ends_by, pick-within}
 use Rattle.ac_util.proofs.Walks.{pick-in_span}
 use Rattle.ac_util.proofs.OneLonger.{pick-empty_none, pick-empty_some, none-past_end}
 use Rattle.ac_util.proofs.SearchLoop.{GoesOn, pick-goes_on, pick-found, pick-stays_dead}
-use Rattle.ac_automaton.specs.Automata.{matches_of}
-use Rattle.ac_automaton.specs.Finders.{Picking}
-use Rattle.ac_automaton.specs.Finds.{place_of, HasSearched, IsDecided, ReadsTo, Tells, picking_by, found_at}
-use Rattle.ac_automaton.specs.Progress.{Work, most_looks}
-use Rattle.ac_automaton.specs.Scans.{IsAt, Scan, ScansTo, in_memory, node, search_through}
+use Rattle.ac_automaton.specs.Prelude.{found_at, HasSearched, in_memory, IsAt, IsDecided, matches_of, most_looks, node, Picking, picking_by, place_of, ReadsTo, Scan, ScansTo, search_through, Tells, Work}
 use Rattle.ac_automaton.proofs.ReadOn.{read-nothing, read-scanned}
 
 -- the dead node finds nothing

@@ -1,29 +1,16 @@
 -- A find that skips: it picks what its prefilter tells, or has passed over no match where it reads on.
-use Rattle.std.proofs.Common.{◌≡◌, ◌⊎◌, ℕ, zero, suc, ◌+◌, ◌<◌, ◌≤◌, Bool, true, false, ◌&&◌, List, [], ◌∷◌, length, refl, ap, sym, ◌∙◌, subst, inl, inr, arith, Option, Some, None}
-use Rattle.std.specs.Prelude.{not, if◌then◌else◌, IfSome}
+use Rattle.std.proofs.Common.{◌≡◌, ◌⊎◌, ℕ, zero, suc, ◌+◌, ◌<◌, ◌≤◌, Bool, true, false, ◌&&◌, List, [], ◌∷◌, length, refl, ap, sym, ◌∙◌, subst, inl, inr, arith, Option, Some, None, not, if◌then◌else◌, IfSome}
 use Rattle.std.specs.List.{list_any}
 use Rattle.std.proofs.lemmas.Bool.{false≢true, cases_lt}
-use Rattle.ac_util.specs.declared.prefilter.Candidate.{Candidate}
-use Rattle.ac_util.specs.declared.prefilter.Candidate.TheVariants.{None as Nothing, PossibleStart}
+use Rattle.ac_automaton.specs.Util.{Candidate, Counts, is_empty, is_leftmost, match_told, MatchKind, No, Occurrence, Occurs, one_more_call, order_of, pattern_of, pick, PossibleStart, Search, search_over, Skip, skip_among, skip_for, Span, Standard}
+use Rattle.ac_util.specs.declared.prefilter.Candidate.TheVariants.{None as Nothing}
 use Rattle.ac_util.specs.declared.search.Anchored.{Anchored}
-use Rattle.ac_util.specs.declared.search.Anchored.TheVariants.{No}
-use Rattle.ac_util.specs.declared.search.Span.{Span}
-use Rattle.ac_util.specs.declared.search.MatchKind.{MatchKind}
-use Rattle.ac_util.specs.declared.search.MatchKind.TheVariants.{Standard}
-use Rattle.ac_util.specs.Counts.{Counts, one_more_call}
-use Rattle.ac_util.specs.Node.{is_empty, is_leftmost}
-use Rattle.ac_util.specs.Occurrence.{Occurrence}
-use Rattle.ac_util.specs.Pick.{order_of, pick}
-use Rattle.ac_util.specs.Prefilters.{Skip, Tells as SkipTells, match_told, search_over, skip_among, skip_for}
+use Rattle.ac_util.specs.Prefilters.{Tells as SkipTells}
 use Rattle.ac_util.specs.Prefilters.Skip.{Needle}
-use Rattle.ac_util.specs.Search.{Occurs, Search, pattern_of}
 use Rattle.ac_util.proofs.SearchLoop.{GoesOn}
 use Rattle.ac_util.proofs.Walks.{pick-Occurs}
-use Rattle.ac_automaton.specs.declared.automaton.scan.Cursor.{Cursor}
-use Rattle.ac_automaton.specs.Finds.{HasSearched, IsReady, ReadsTo, Tells, picking_by, found_at}
-use Rattle.ac_automaton.specs.Progress.{Work, search_of}
-use Rattle.ac_automaton.specs.Scans.{PassesNoMatch, Scan, in_memory, node, search_through}
-use Rattle.ac_automaton.specs.Skipping.{SkipsByNeedle}
+use Rattle.ac_automaton.specs.Prelude.{Cursor, found_at, HasSearched, in_memory, node, PassesNoMatch, picking_by, ReadsTo, Scan, search_of, search_through, SkipsByNeedle, Tells, Work}
+use Rattle.ac_automaton.specs.Finds.{IsReady}
 use Rattle.ac_automaton.proofs.FindAhead.{found-nothing, picked-ahead, picked-there}
 use Rattle.ac_automaton.proofs.FindLoop.{goes_on-by, order, picked-start, up_to}
 use Rattle.ac_automaton.proofs.ReadOn.{node-start}

@@ -1,20 +1,12 @@
 -- A walk from state to state along the failure targets: it keeps where the byte leads at last, and counts its
 -- looks.
-use Rattle.std.proofs.Common.{◌≡◌, ◌≢◌, ℕ, ◌+◌, ◌<◌, ◌≤◌, List, [], ◌∷◌, ◌++◌, length, inl, inr, get_or, refl, ap, sym, subst, ◌∙◌, arith, Some, None, Contains}
-use Rattle.std.specs.Prelude.{slice_get}
+use Rattle.std.proofs.Common.{◌≡◌, ◌≢◌, ℕ, ◌+◌, ◌<◌, ◌≤◌, List, [], ◌∷◌, ◌++◌, length, inl, inr, get_or, refl, ap, sym, subst, ◌∙◌, arith, Some, None, Contains, slice_get}
 use Rattle.std.proofs.lemmas.Bool.{cases_Bool, cond-true, cond-false}
 use Rattle.std.proofs.lemmas.List.{get_or_read, length_push}
 use Rattle.ac_util.specs.declared.search.Anchored.{Anchored}
-use Rattle.ac_util.specs.declared.search.Anchored.TheVariants.{No, Yes}
-use Rattle.ac_util.specs.Counts.{Counts, more_looks}
-use Rattle.ac_util.specs.Node.{Node, is_node, step}
-use Rattle.ac_util.specs.Looks.{looks}
-use Rattle.ac_util.specs.Sameness.{plain_byte}
+use Rattle.ac_automaton.specs.Util.{Counts, is_node, looks, more_looks, No, Node, plain_byte, step, Yes}
 use Rattle.ac_util.proofs.Lists.{Contains-from_IsIn, IsIn-map}
-use Rattle.ac_automaton.specs.declared.nfa.noncontiguous.state.State.{State}
-use Rattle.ac_automaton.specs.declared.nfa.noncontiguous.state.TheConstants.{DEAD, START, ANCHORED_START, FIRST_INNER}
-use Rattle.ac_automaton.specs.declared.nfa.noncontiguous.state.Transition.{Transition}
-use Rattle.ac_automaton.specs.Tries.{Meaning, HasState, Represents, RootTells, transition_bytes, own_target, transitions_of, miss}
+use Rattle.ac_automaton.specs.Prelude.{ANCHORED_START, DEAD, FIRST_INNER, HasState, Meaning, miss, own_target, Represents, RootTells, START, State, Transition, transition_bytes, transitions_of}
 use Rattle.ac_automaton.proofs.Places.{IsIn-place, get-same}
 use Rattle.ac_automaton.proofs.Steps.{step-own_target, step-miss, step-on, looks-own_target, looks-short, looks-on}
 

@@ -1,23 +1,15 @@
 -- The first of the matches that a state lists, and whether it is due.
-use Rattle.std.proofs.Common.{◌≡◌, ◌≢◌, ℕ, ◌-◌, ◌<◌, ◌≤◌, true, false, List, [], ◌∷◌, ◌++◌, length, inl, refl, ap, sym, ◌∙◌, subst, arith, Option, Some, None}
-use Rattle.std.specs.Prelude.{option_map, slice_get}
+use Rattle.std.proofs.Common.{◌≡◌, ◌≢◌, ℕ, ◌-◌, ◌<◌, ◌≤◌, true, false, List, [], ◌∷◌, ◌++◌, length, inl, refl, ap, sym, ◌∙◌, subst, arith, Option, Some, None, option_map, slice_get}
 use Rattle.std.proofs.lemmas.Bool.{eq-eqb, eqb-true, false≢true}
 use Rattle.std.proofs.lemmas.List.{length-map}
 use Rattle.std.proofs.Math.ListN.{get_or-map}
 use Rattle.ac_util.specs.declared.search.Anchored.{Anchored}
-use Rattle.ac_util.specs.declared.search.Anchored.TheVariants.{No, Yes}
-use Rattle.ac_util.specs.Sameness.{plain_byte, plain}
-use Rattle.ac_util.specs.Occurrence.{Occurrence, occurrence}
-use Rattle.ac_util.specs.Search.{pattern_of}
-use Rattle.ac_util.specs.Node.{Node}
-use Rattle.ac_util.specs.Built.{Built}
+use Rattle.ac_automaton.specs.Util.{Built, No, Node, Occurrence, occurrence, pattern_of, plain, plain_byte, Yes}
 use Rattle.ac_util.proofs.Advance.{append_nil_left}
 use Rattle.ac_util.proofs.Lists.{IsIn, IsIn-append_left}
 use Rattle.ac_util.proofs.Participants.{IsIn-from_equal_to}
 use Rattle.ac_util.proofs.Found.{matches-fits, matches-whole}
-use Rattle.ac_automaton.specs.Automata.{plain_of, matches_of, Lists}
-use Rattle.ac_automaton.specs.Finds.{place_of, FitsIn, found_at}
-use Rattle.ac_automaton.specs.Overlaps.{is_due}
+use Rattle.ac_automaton.specs.Prelude.{FitsIn, found_at, is_due, Lists, matches_of, place_of, plain_of}
 
 -- a pattern is as long as its plain string
 pub plain_length : (built : Built) (n : ℕ)

@@ -1,20 +1,13 @@
 -- Which of all patterns in order take part under LeftmostFirst.
-use Rattle.std.proofs.Common.{◌≡◌, ℕ, ◌+◌, ◌-◌, ◌<◌, ◌≤◌, Bool, true, false, cond, List, [], ◌∷◌, ◌++◌, length, drop, take, get_or, ◌⊎◌, inl, inr, refl, ap, sym, ◌∙◌, subst, arith, length-set, set}
-use Rattle.std.specs.Prelude.{nat_eq, filter, All}
+use Rattle.std.proofs.Common.{◌≡◌, ℕ, ◌+◌, ◌-◌, ◌<◌, ◌≤◌, Bool, true, false, cond, List, [], ◌∷◌, ◌++◌, length, drop, take, get_or, ◌⊎◌, inl, inr, refl, ap, sym, ◌∙◌, subst, arith, length-set, set, nat_eq, filter, All}
 use Rattle.std.specs.List.{AllWithin, HoldsAt, range_with_len, starts_with}
 use Rattle.std.proofs.lemmas.List.{get_or-drop, get_or-map, length-map, map-append, take-map}
 use Rattle.std.proofs.lemmas.List.Elements.{All-filter, All-set}
 use Rattle.std.proofs.lemmas.List.Filters.{FiltersInPlace, FiltersInPlace-all, FiltersInPlace-more_no, FiltersInPlace-more_set}
 use Rattle.std.proofs.lemmas.List.Kept.{AllPairs-filter}
-use Rattle.ac_util.specs.declared.primitives.TheConstants.{GREATEST}
-use Rattle.ac_util.specs.declared.search.MatchKind.{MatchKind}
-use Rattle.ac_util.specs.declared.search.MatchKind.TheVariants.{LeftmostFirst, LeftmostLongest, Standard}
-use Rattle.ac_util.specs.Node.{participants, participates}
-use Rattle.ac_util.specs.Sameness.{plain}
-use Rattle.ac_util.specs.Search.{pattern_of}
+use Rattle.ac_automaton.specs.Util.{GREATEST, LeftmostFirst, LeftmostLongest, MatchKind, participants, participates, pattern_of, plain, Standard}
 use Rattle.ac_util.proofs.Lists.{IsIn, IsIn-at, IsIn-map, IsIn-from_map, IsIn-filter, IsIn-from_filter, IsIn-range, IsIn-from_range, Contains-from_IsIn, IsIn-from_Contains}
-use Rattle.ac_automaton.specs.declared.nfa.noncontiguous.sorted.SortedPattern.{SortedPattern}
-use Rattle.ac_automaton.specs.Sorted.{Keyed, Precedes, IsOrder, is_prefix, key_at, keyed, keyed_one, numbers}
+use Rattle.ac_automaton.specs.Prelude.{is_prefix, IsOrder, key_at, Keyed, keyed, keyed_one, numbers, Precedes, SortedPattern}
 use Rattle.ac_automaton.proofs.Places.{IsIn-from_take}
 use Rattle.ac_automaton.proofs.Stacks.{Standing, Standing-keep, Standing-shrink, Standing-skip, least-from_last, no_part, none, numbered, sorted_of, takes_part_here}
 

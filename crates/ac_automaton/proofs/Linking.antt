@@ -1,14 +1,10 @@
 -- Where an output link leads: to the first state along the failure targets that has patterns.
-use Rattle.std.proofs.Common.{◌≡◌, ◌≢◌, ℕ, ◌+◌, ◌-◌, ◌<◌, ◌≤◌, List, [], ◌∷◌, ◌++◌, length, take, drop, refl, ap, sym, ◌∙◌, subst, arith, Some, None, get_or}
-use Rattle.std.specs.Prelude.{slice_get}
+use Rattle.std.proofs.Common.{◌≡◌, ◌≢◌, ℕ, ◌+◌, ◌-◌, ◌<◌, ◌≤◌, List, [], ◌∷◌, ◌++◌, length, take, drop, refl, ap, sym, ◌∙◌, subst, arith, Some, None, get_or, slice_get}
 use Rattle.std.proofs.lemmas.List.{append-nil}
 use Rattle.std.proofs.lemmas.Option.{slice_get-get_or}
 use Rattle.ac_util.proofs.Advance.{append_nil_left}
 use Rattle.ac_util.proofs.Found.{matches-nil, matches-failure}
-use Rattle.ac_automaton.specs.declared.nfa.noncontiguous.state.State.{State}
-use Rattle.ac_automaton.specs.declared.nfa.noncontiguous.state.TheConstants.{DEAD}
-use Rattle.ac_automaton.specs.Growths.{LinkIsDue}
-use Rattle.ac_automaton.specs.Tries.{Meaning, AreStates, Links, Represents, all_matches, anchored_matches, state_patterns, state_at, miss}
+use Rattle.ac_automaton.specs.Prelude.{all_matches, anchored_matches, AreStates, DEAD, LinkIsDue, Links, Meaning, miss, Represents, State, state_at, state_patterns}
 use Rattle.ac_automaton.proofs.Places.{get-range}
 
 -- a state has patterns exactly if its range of them isn't empty

@@ -1,30 +1,17 @@
 -- A listing that reads byte by byte: which item is due where the automaton stands, and what is listed with one byte
 -- more.
-use Rattle.std.proofs.Common.{◌≡◌, ◌⊎◌, ℕ, zero, suc, ◌+◌, ◌-◌, ◌<◌, ◌≤◌, Bool, true, false, cond, List, [], ◌∷◌, ◌++◌, map, length, length-append, inl, inr, refl, ap, sym, subst, ◌∙◌, arith, Option, Some, None}
-use Rattle.std.specs.Prelude.{All, slice_get}
+use Rattle.std.proofs.Common.{◌≡◌, ◌⊎◌, ℕ, zero, suc, ◌+◌, ◌-◌, ◌<◌, ◌≤◌, Bool, true, false, cond, List, [], ◌∷◌, ◌++◌, map, length, length-append, inl, inr, refl, ap, sym, subst, ◌∙◌, arith, Option, Some, None, All, slice_get}
 use Rattle.std.specs.List.{take_while}
 use Rattle.std.proofs.lemmas.List.{append_assoc, append-nil, length-map}
 use Rattle.std.proofs.lemmas.List.Sums.{take_while-cons}
 use Rattle.std.proofs.lemmas.Option.{slice_get_past}
-use Rattle.ac_util.specs.declared.search.MatchKind.{MatchKind}
-use Rattle.ac_util.specs.declared.search.MatchKind.TheVariants.{Standard}
-use Rattle.ac_util.specs.declared.search.Span.{Span}
-use Rattle.ac_util.specs.Listing.{all, item_at, place_after}
-use Rattle.ac_util.specs.Node.{Node}
-use Rattle.ac_util.specs.Occurrence.{Occurrence}
-use Rattle.ac_util.specs.Search.{Occurs, Search, pattern_of}
-use Rattle.ac_util.specs.Text.{ending, found_at_end}
+use Rattle.ac_automaton.specs.Util.{all, ending, found_at_end, item_at, MatchKind, Node, Occurrence, Occurs, pattern_of, place_after, Search, Span, Standard}
 use Rattle.ac_util.proofs.Lists.{IsIn, IsIn-append_right}
 use Rattle.ac_util.proofs.Listing.{all-only}
 use Rattle.ac_util.proofs.ListingBeginning.{ListsMore, all-dead, all-longer_by, item-none, item-some}
 use Rattle.ac_util.proofs.ListingLonger.{all-empty, all-longer}
-use Rattle.ac_automaton.specs.declared.automaton.overlap.MatchRest.{MatchRest}
-use Rattle.ac_automaton.specs.declared.automaton.overlap.Reached.{Reached}
-use Rattle.ac_automaton.specs.declared.automaton.scan.Cursor.{Cursor}
-use Rattle.ac_automaton.specs.Automata.{IsState, Lists, matches_of}
-use Rattle.ac_automaton.specs.Overlaps.{HasGiven, HasMoved, IsListed, due_in, given_in, rest_in}
-use Rattle.ac_automaton.specs.Progress.{Work, node_at}
-use Rattle.ac_automaton.specs.Scans.{IsAt, PassesNoMatch, Scan, ScanText, in_memory, node, search_through}
+use Rattle.ac_automaton.specs.Prelude.{Cursor, due_in, given_in, HasMoved, in_memory, IsAt, IsListed, IsState, Lists, matches_of, MatchRest, node, node_at, PassesNoMatch, Reached, rest_in, Scan, ScanText, search_through, Work}
+use Rattle.ac_automaton.specs.Overlaps.{HasGiven}
 use Rattle.ac_automaton.proofs.Due.{counts, listed-due, listed-numbered}
 use Rattle.ac_automaton.proofs.ReadOn.{node-fits}
 

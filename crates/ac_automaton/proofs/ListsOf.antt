@@ -4,9 +4,7 @@ use Rattle.std.proofs.lemmas.Bool.{cases_lt}
 use Rattle.std.proofs.Math.Seq.{drop-append-add, drop-nil}
 use Rattle.std.proofs.lemmas.List.{drop-append-le, get_or-drop, get_or-take, get_or_default}
 use Rattle.ac_util.specs.Node.{Node}
-use Rattle.ac_automaton.specs.declared.nfa.noncontiguous.state.State.{State}
-use Rattle.ac_automaton.specs.declared.nfa.noncontiguous.state.TheConstants.{DEAD}
-use Rattle.ac_automaton.specs.Tries.{Meaning, HasState, Represents, all_matches, listed_within, state_patterns, state_at}
+use Rattle.ac_automaton.specs.Prelude.{all_matches, DEAD, HasState, listed_within, Meaning, Represents, State, state_at, state_patterns}
 use Rattle.ac_automaton.proofs.Follows.{represented}
 
 -- what is left of a list from one of its elements on begins with that element

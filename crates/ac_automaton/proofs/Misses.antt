@@ -1,10 +1,7 @@
 -- Where a search goes on by a byte that leads to no longer node, one byte further on.
 use Rattle.std.proofs.Common.{◌≡◌, ◌≢◌, ℕ, Bool, true, false, ◌&&◌, cond, List, [], ◌∷◌, ◌++◌, inl, inr, refl, ap, sym, ◌∙◌, Some, None}
 use Rattle.std.proofs.lemmas.Bool.{cases_Bool, cond-true, false_from_ne_true, false≢true}
-use Rattle.ac_util.specs.declared.search.Anchored.TheVariants.{No}
-use Rattle.ac_util.specs.declared.search.MatchKind.{MatchKind}
-use Rattle.ac_util.specs.Matches.{equal_to}
-use Rattle.ac_util.specs.Node.{Node, is_leftmost, begins_with_pattern, reached, step}
+use Rattle.ac_automaton.specs.Util.{begins_with_pattern, equal_to, is_leftmost, MatchKind, No, Node, reached, step}
 use Rattle.ac_util.proofs.Failures.{failure-cons}
 use Rattle.ac_util.proofs.Prefixes.{starts_with-whole}
 use Rattle.ac_util.proofs.Lists.{none-from_nil}

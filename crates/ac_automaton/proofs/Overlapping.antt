@@ -1,31 +1,13 @@
 -- Overlapping search by a state, and by an iterator: how it begins, and what a call leaves.
-use Rattle.std.proofs.Common.{◌≡◌, ℕ, zero, suc, drop, ◌<◌, ◌≤◌, List, [], ◌∷◌, length, inl, inr, refl, ap, sym, subst, ◌∙◌, arith, Option, Some, None}
-use Rattle.std.specs.Prelude.{◌⊎◌, IfSome, MatchOption, max, slice_get}
+use Rattle.std.proofs.Common.{◌≡◌, ℕ, zero, suc, drop, ◌<◌, ◌≤◌, List, [], ◌∷◌, length, inl, inr, refl, ap, sym, subst, ◌∙◌, arith, Option, Some, None, ◌⊎◌, IfSome, MatchOption, max, slice_get}
 use Rattle.std.proofs.Math.Seq.{drop-nil}
-use Rattle.ac_util.specs.declared.error.MatchError.{MatchError}
+use Rattle.ac_automaton.specs.Util.{all, Asked, Built, first_refusal, form_refusal, item_at, kind_refusal, MatchError, MatchKind, may_skip, No, Node, Occurrence, overlapping_iter_refusal, overlapping_refusal, OverlappingByState, OverlappingIterator, place_after, plain_patterns, reached, Search, Span, Standard, start_refusal, text}
 use Rattle.ac_util.specs.declared.search.Anchored.{Anchored}
-use Rattle.ac_util.specs.declared.search.Anchored.TheVariants.{No}
-use Rattle.ac_util.specs.declared.search.MatchKind.{MatchKind}
-use Rattle.ac_util.specs.declared.search.MatchKind.TheVariants.{Standard}
-use Rattle.ac_util.specs.declared.search.Span.{Span}
-use Rattle.ac_util.specs.Asked.{Asked}
-use Rattle.ac_util.specs.Built.{Built, overlapping_iter_refusal, overlapping_refusal}
-use Rattle.ac_util.specs.Listing.{all, item_at, place_after}
-use Rattle.ac_util.specs.Node.{Node, reached}
-use Rattle.ac_util.specs.Occurrence.{Occurrence}
-use Rattle.ac_util.specs.Prefilters.{may_skip}
-use Rattle.ac_util.specs.Search.{Search}
-use Rattle.ac_util.specs.Refusal.{OverlappingByState, OverlappingIterator, first_refusal, form_refusal, kind_refusal, start_refusal}
-use Rattle.ac_util.specs.Text.{plain_patterns, text}
 use Rattle.ac_util.proofs.ListingBeginning.{all-past_end, item-none, item-some}
 use Rattle.ac_util.proofs.Lists.{drop-slice_get}
 use Rattle.ac_util.proofs.Reached.{reached-alive}
-use Rattle.ac_automaton.specs.declared.automaton.overlap.OverlappingState.{OverlappingState}
-use Rattle.ac_automaton.specs.declared.automaton.overlap.Reached.{Reached}
-use Rattle.ac_automaton.specs.Automata.{Lists}
-use Rattle.ac_automaton.specs.Overlaps.{GivesNext, HasListed, HasMoved, IsListed, IsListing, IsPlaced, ListsNext, given_by, given_in, overlapping_by, place_by}
-use Rattle.ac_automaton.specs.Progress.{Work, most_looks, node_at, nothing_done}
-use Rattle.ac_automaton.specs.Scans.{Scan, ScanText, ScansTo, in_memory, node, search_through}
+use Rattle.ac_automaton.specs.Prelude.{given_by, given_in, HasListed, HasMoved, in_memory, IsListed, IsListing, IsPlaced, Lists, ListsNext, most_looks, node, node_at, nothing_done, overlapping_by, OverlappingState, place_by, Reached, Scan, ScansTo, ScanText, search_through, Work}
+use Rattle.ac_automaton.specs.Overlaps.{GivesNext}
 use Rattle.ac_automaton.proofs.ListLoop.{IsPast, arrived, arrives, given-arrived, listing-start, past-all}
 use Rattle.ac_automaton.proofs.ReadOn.{at-start, read-nothing, read-scanned, scans-nothing, scans-on}
 

@@ -2,13 +2,8 @@
 use Rattle.std.proofs.Common.{◌≡◌, ◌≢◌, ◌⊎◌, ℕ, ◌+◌, ◌≤◌, List, [], inl, inr, subst, sym, refl, ◌++◌, ◌∷◌, ◌∙◌, arith, None}
 use Rattle.std.proofs.lemmas.Bool.{cases_lt}
 use Rattle.ac_util.specs.declared.search.Anchored.{Anchored}
-use Rattle.ac_util.specs.declared.search.Anchored.TheVariants.{No, Yes}
-use Rattle.ac_util.specs.Built.{Built}
-use Rattle.ac_util.specs.Node.{Node}
-use Rattle.ac_automaton.specs.declared.automaton.scan.Cursor.{Cursor}
-use Rattle.ac_automaton.specs.Automata.{Lists, matches_of}
-use Rattle.ac_automaton.specs.Progress.{Work}
-use Rattle.ac_automaton.specs.Scans.{IsAlive, NoMatchBetween, PassesNoMatch, Scan, ScanText, ScansTo, node}
+use Rattle.ac_automaton.specs.Util.{Built, No, Node, Yes}
+use Rattle.ac_automaton.specs.Prelude.{Cursor, IsAlive, Lists, matches_of, node, NoMatchBetween, PassesNoMatch, Scan, ScansTo, ScanText, Work}
 use Rattle.ac_automaton.proofs.Heads.{nil-from_not}
 use Rattle.ac_automaton.proofs.ReadOn.{passes-on, scans-nothing}
 

@@ -1,28 +1,15 @@
 -- A scan that reads byte by byte: where its automaton stands with one byte more, what it has read and looked at, and that
 -- each look is paid for.
-use Rattle.std.proofs.Common.{◌≡◌, ◌≢◌, ◌⊎◌, ℕ, suc, ◌+◌, ◌-◌, ◌*◌, ◌<◌, ◌≤◌, true, false, cond, List, [], ◌∷◌, ◌++◌, length, length-append, slice_index, inl, inr, refl, ap, sym, subst, ◌∙◌, arith, Bool, Some, None}
-use Rattle.std.specs.Prelude.{◌==◌, if◌then◌else◌}
+use Rattle.std.proofs.Common.{◌≡◌, ◌≢◌, ◌⊎◌, ℕ, suc, ◌+◌, ◌-◌, ◌*◌, ◌<◌, ◌≤◌, true, false, cond, List, [], ◌∷◌, ◌++◌, length, length-append, slice_index, inl, inr, refl, ap, sym, subst, ◌∙◌, arith, Bool, Some, None, ◌==◌, if◌then◌else◌}
 use Rattle.std.proofs.lemmas.Bool.{cases_lt}
 use Rattle.ac_util.specs.declared.search.Anchored.{Anchored}
-use Rattle.ac_util.specs.declared.search.Anchored.TheVariants.{No, Yes}
-use Rattle.ac_util.specs.Built.{Built}
-use Rattle.ac_util.specs.Counts.{Counts, one_more_read, more_looks}
-use Rattle.ac_util.specs.Looks.{credit}
-use Rattle.ac_util.specs.Node.{Node, depth, is_node, reached}
-use Rattle.ac_util.specs.Prefilters.{may_skip}
-use Rattle.ac_util.specs.Sameness.{plain_byte}
-use Rattle.ac_util.specs.Search.{Search}
-use Rattle.ac_util.specs.Text.{text}
+use Rattle.ac_automaton.specs.Util.{Built, Counts, credit, depth, is_node, may_skip, more_looks, No, Node, one_more_read, plain_byte, reached, Search, text, Yes}
 use Rattle.ac_util.proofs.Failures.{depth-reached}
 use Rattle.ac_util.proofs.OneLonger.{text-empty, step-longer}
 use Rattle.ac_util.proofs.Reached.{reached-nil}
 use Rattle.ac_util.proofs.Spans.{text_length}
 use Rattle.ac_util.proofs.SearchLoop.{credit-nil, looks_by-once, step-paid}
-use Rattle.ac_automaton.specs.declared.automaton.scan.Cursor.{Cursor}
-use Rattle.ac_automaton.specs.Automata.{plain_of, step_of, looks_of}
-use Rattle.ac_automaton.specs.Finds.{FitsIn}
-use Rattle.ac_automaton.specs.Progress.{Grows, HasRead, Work, most_looks}
-use Rattle.ac_automaton.specs.Scans.{IsAlive, IsAt, NoMatchBetween, PassesNoMatch, Scan, ScanText, ScansTo, node, past, search_through}
+use Rattle.ac_automaton.specs.Prelude.{Cursor, FitsIn, Grows, HasRead, IsAlive, IsAt, looks_of, most_looks, node, NoMatchBetween, PassesNoMatch, past, plain_of, Scan, ScansTo, ScanText, search_through, step_of, Work}
 
 -- a step's looks are paid by what was saved and what the byte brings; an anchored one saves nothing and looks
 -- once

@@ -1,21 +1,14 @@
 -- What the readers of a trie tell of a state that they have read.
-use Rattle.std.proofs.Common.{◌≡◌, ◌≢◌, ℕ, ◌+◌, ◌-◌, ◌<◌, ◌≤◌, Bool, true, List, length, length-drop, drop, filter, get_or, refl, ap, sym, ◌∙◌, subst, arith, Some, None}
-use Rattle.std.specs.Prelude.{slice_get, slice_range, option_map, Contains, ◌↔◌}
+use Rattle.std.proofs.Common.{◌≡◌, ◌≢◌, ℕ, ◌+◌, ◌-◌, ◌<◌, ◌≤◌, Bool, true, List, length, length-drop, drop, filter, get_or, refl, ap, sym, ◌∙◌, subst, arith, Some, None, slice_get, slice_range, option_map, Contains, ◌↔◌}
 use Rattle.std.specs.List.{range_with_len}
 use Rattle.std.specs.List.Sorted.{IsStrictlyIncreasing}
 use Rattle.std.proofs.lemmas.Bool.{false≢true}
 use Rattle.std.proofs.lemmas.List.{length-map, length-take-le}
 use Rattle.std.proofs.lemmas.List.Kept.{AllPairs-from_increasing}
 use Rattle.std.proofs.lemmas.Option.{slice_get-get_or, slice_get-map, slice_get_within}
-use Rattle.ac_util.specs.Node.{Node}
-use Rattle.ac_util.specs.Sameness.{plain_byte}
-use Rattle.ac_util.specs.Sizes.{state_count}
+use Rattle.ac_automaton.specs.Util.{Node, plain_byte, state_count}
 use Rattle.ac_util.proofs.Lists.{Contains-from_IsIn, IsIn, IsIn-filter, IsIn-from_Contains, IsIn-from_filter, IsIn-from_map, IsIn-range, IsOrdered-filter, IsOrdered-range, IsOrdered-unique}
-use Rattle.ac_automaton.specs.declared.nfa.noncontiguous.state.State.{State}
-use Rattle.ac_automaton.specs.declared.nfa.noncontiguous.state.Transition.{Transition}
-use Rattle.ac_automaton.specs.Automata.{plain_of}
-use Rattle.ac_automaton.specs.Readers.{HasOwn, IsOwn, leads_on, own_bytes}
-use Rattle.ac_automaton.specs.Tries.{IsTrie, Represents, Trie, meaning_of, own_target, transition_bytes, transitions_of}
+use Rattle.ac_automaton.specs.Prelude.{HasOwn, IsOwn, IsTrie, leads_on, meaning_of, own_bytes, own_target, plain_of, Represents, State, Transition, transition_bytes, transitions_of, Trie}
 use Rattle.ac_automaton.proofs.Branched.{own_target-is, own_target-node}
 use Rattle.ac_automaton.proofs.Counting.{IsOrdered-from_AllPairs}
 use Rattle.ac_automaton.proofs.Follows.{leads-on, represented}

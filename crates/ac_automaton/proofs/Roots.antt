@@ -1,11 +1,8 @@
 -- A root table has an entry more for each byte that is followed from the start.
-use Rattle.std.proofs.Common.{◌≡◌, inl, inr, ℕ, ◌+◌, ◌<◌, List, [], ◌∷◌, ◌++◌, length, sym, subst, ◌∙◌, arith}
-use Rattle.std.specs.Prelude.{slice_index}
+use Rattle.std.proofs.Common.{◌≡◌, inl, inr, ℕ, ◌+◌, ◌<◌, List, [], ◌∷◌, ◌++◌, length, sym, subst, ◌∙◌, arith, slice_index}
 use Rattle.std.proofs.lemmas.Bool.{cases_lt}
 use Rattle.std.proofs.lemmas.List.{get_or_append_left, get_or_push}
-use Rattle.ac_automaton.specs.declared.nfa.noncontiguous.state.State.{State}
-use Rattle.ac_automaton.specs.declared.nfa.noncontiguous.state.Transition.{Transition}
-use Rattle.ac_automaton.specs.Tries.{RootTells}
+use Rattle.ac_automaton.specs.Prelude.{RootTells, State, Transition}
 
 -- the entries below n and one for n are those below n + 1
 pub told-push : (transitions : List Transition) (states : List State) (root : List ℕ) (n next : ℕ)

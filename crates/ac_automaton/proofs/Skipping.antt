@@ -1,32 +1,17 @@
 -- Bytes with which no pattern begins don't lead away from the start, where nothing is found either if no pattern is
 -- empty.
-use Rattle.std.proofs.Common.{rules, ◌≡◌, ℕ, zero, suc, ◌+◌, ◌-◌, ◌<◌, ◌≤◌, Bool, true, false, ◌&&◌, ◌⊎◌, cond, List, [], ◌∷◌, length, map, refl, ap, sym, ◌∙◌, subst, inl, inr, arith, Some, None}
-use Rattle.std.specs.Prelude.{nat_eq, slice_index}
+use Rattle.std.proofs.Common.{rules, ◌≡◌, ℕ, zero, suc, ◌+◌, ◌-◌, ◌<◌, ◌≤◌, Bool, true, false, ◌&&◌, ◌⊎◌, cond, List, [], ◌∷◌, length, map, refl, ap, sym, ◌∙◌, subst, inl, inr, arith, Some, None, nat_eq, slice_index}
 use Rattle.std.specs.List.{list_any, starts_with}
 use Rattle.std.proofs.lemmas.Bool.{or_right, false≢true, false_from_ne_true, cases_lt}
 use Rattle.ac_util.specs.declared.search.Anchored.{Anchored}
-use Rattle.ac_util.specs.declared.search.Anchored.TheVariants.{No}
-use Rattle.ac_util.specs.Built.{Built}
-use Rattle.ac_util.specs.Node.{Node, begins_with_pattern, is_empty, is_leftmost, is_node, participants}
-use Rattle.ac_util.specs.Counts.{Counts, one_more_call}
-use Rattle.ac_util.specs.Looks.{credit}
-use Rattle.ac_util.specs.Occurrence.{Occurrence}
-use Rattle.ac_util.specs.Prefilters.{BeginWith, IsSkipFor, Skip, Tells, begins_with, is_one_of, may_skip, skip_for}
-use Rattle.ac_util.specs.Prefilters.Skip.{FirstOf}
-use Rattle.ac_util.specs.Sameness.{plain, plain_byte}
-use Rattle.ac_util.specs.Search.{Search, pattern_of}
+use Rattle.ac_automaton.specs.Util.{begins_with, begins_with_pattern, BeginWith, Built, Candidate, Counts, credit, FirstOf, is_empty, is_leftmost, is_node, is_one_of, IsSkipFor, may_skip, No, Node, Occurrence, one_more_call, participants, pattern_of, plain, plain_byte, PossibleStart, Search, Skip, skip_for, Tells}
 use Rattle.memchr.specs.Find.{Nowhere, Passes}
-use Rattle.ac_util.specs.declared.prefilter.Candidate.{Candidate}
-use Rattle.ac_util.specs.declared.prefilter.Candidate.TheVariants.{None as Nothing, Match as Found, PossibleStart}
+use Rattle.ac_util.specs.declared.prefilter.Candidate.TheVariants.{None as Nothing, Match as Found}
 use Rattle.ac_util.proofs.Found.{matches-nil}
 use Rattle.ac_util.proofs.NodeCount.{any_passes}
 use Rattle.ac_util.proofs.Participants.{equal_to-none_begins}
 use Rattle.ac_util.proofs.Reached.{step-nil}
-use Rattle.ac_automaton.specs.declared.automaton.scan.Cursor.{Cursor}
-use Rattle.ac_automaton.specs.Automata.{matches_of, plain_of, step_of}
-use Rattle.ac_automaton.specs.Progress.{Grows, Work, most_looks, node_at}
-use Rattle.ac_automaton.specs.Scans.{HasSkipped, IsAlive, PassesNoMatch, Scan, ScanText, StaysAtStart, node, past, search_through}
-use Rattle.ac_automaton.specs.Skipping.{SkipsByBytes}
+use Rattle.ac_automaton.specs.Prelude.{Cursor, Grows, HasSkipped, IsAlive, matches_of, most_looks, node, node_at, PassesNoMatch, past, plain_of, Scan, ScanText, search_through, SkipsByBytes, StaysAtStart, step_of, Work}
 use Rattle.ac_automaton.proofs.ReadOn.{grows-trans, inside-past, node-step, past-is}
 
 -- where a plain pattern begins with a plain byte, some pattern begins with the byte

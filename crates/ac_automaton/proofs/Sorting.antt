@@ -1,6 +1,5 @@
 -- The patterns listed by number, and what a sort of them gives.
-use Rattle.std.proofs.Common.{◌≡◌, ◌≢◌, ◌↔◌, ℕ, zero, suc, ◌+◌, ◌<◌, Bool, true, false, List, [], ◌∷◌, ◌++◌, map, length, take, get_or, inl, inr, refl, ap, sym, ◌∙◌, subst, arith, Some, add-one}
-use Rattle.std.specs.Prelude.{nat_eq, slice_get, filter, All, AllPairs, Contains}
+use Rattle.std.proofs.Common.{◌≡◌, ◌≢◌, ◌↔◌, ℕ, zero, suc, ◌+◌, ◌<◌, Bool, true, false, List, [], ◌∷◌, ◌++◌, map, length, take, get_or, inl, inr, refl, ap, sym, ◌∙◌, subst, arith, Some, add-one, nat_eq, slice_get, filter, All, AllPairs, Contains}
 use Rattle.std.specs.List.{range_with_len}
 use Rattle.std.specs.Fn.{Called}
 use Rattle.std.specs.List.Sorted.{IsPermutation, IsSortedBy, IsSortedByClosure}
@@ -23,13 +22,9 @@ use Rattle.std.proofs.lemmas.Map.Made.{AllPairs-from_IsDistinct, IsDistinct-from
 use Rattle.std.proofs.lemmas.Option.{slice_get_within, get_or_from_slice_get}
 use denote.Param.Members.{Mut}
 use denote.Ref.{Bor}
-use Rattle.ac_util.specs.declared.search.MatchKind.TheVariants.{Standard}
-use Rattle.ac_util.specs.Node.{participants}
-use Rattle.ac_util.specs.Sameness.{plain}
-use Rattle.ac_util.specs.Search.{pattern_of}
+use Rattle.ac_automaton.specs.Util.{participants, pattern_of, plain, Standard}
 use Rattle.ac_util.proofs.Lists.{IsOrdered, IsOrdered-map, IsOrdered-range, AllPairs-from_IsOrdered}
-use Rattle.ac_automaton.specs.declared.nfa.noncontiguous.sorted.SortedPattern.{SortedPattern}
-use Rattle.ac_automaton.specs.Sorted.{Keyed, Precedes, IsOrder, AreListed, compared, keyed, keyed_one, numbers}
+use Rattle.ac_automaton.specs.Prelude.{AreListed, compared, IsOrder, Keyed, keyed, keyed_one, numbers, Precedes, SortedPattern}
 use Rattle.ac_automaton.proofs.Counting.{IsOrdered-from_AllPairs}
 
 -- the view has the number of the pattern that is stored at a place

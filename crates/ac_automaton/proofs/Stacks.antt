@@ -1,6 +1,5 @@
 -- The stack of the kept prefixes of a pattern, as all patterns are gone through in order.
-use Rattle.std.proofs.Common.{◌≡◌, ◌≢◌, ℕ, ◌+◌, ◌-◌, ◌<◌, ◌≤◌, true, false, List, [], ◌∷◌, ◌++◌, length, take, get_or, ◌⊎◌, inl, inr, refl, ap, sym, ◌∙◌, subst, arith, length-take}
-use Rattle.std.specs.Prelude.{nat_eq, AllPairs}
+use Rattle.std.proofs.Common.{◌≡◌, ◌≢◌, ℕ, ◌+◌, ◌-◌, ◌<◌, ◌≤◌, true, false, List, [], ◌∷◌, ◌++◌, length, take, get_or, ◌⊎◌, inl, inr, refl, ap, sym, ◌∙◌, subst, arith, length-take, nat_eq, AllPairs}
 use Rattle.std.specs.List.{range_with_len, starts_with}
 use Rattle.std.specs.Cmp.Lexicographic.{slice_cmp}
 use Rattle.std.specs.Ordering.{is_gt, is_lt, nat_cmp}
@@ -9,9 +8,7 @@ use Rattle.std.proofs.lemmas.Cmp.{nat_list_cmp_total, tied_itself}
 use Rattle.std.proofs.lemmas.List.{get_or-take}
 use Rattle.std.proofs.lemmas.List.Elements.{All-contains}
 use Rattle.std.proofs.lemmas.List.Quantifiers.{all_pairs_push}
-use Rattle.ac_util.specs.declared.search.MatchKind.TheVariants.{LeftmostFirst, Standard}
-use Rattle.ac_util.specs.Node.{begins_with_pattern, participants, participates}
-use Rattle.ac_util.specs.Search.{pattern_of}
+use Rattle.ac_automaton.specs.Util.{begins_with_pattern, LeftmostFirst, participants, participates, pattern_of, Standard}
 use Rattle.ac_util.proofs.Lists.{IsIn, IsIn-at, IsIn-map, IsIn-from_map, IsIn-filter, IsIn-from_filter, IsIn-range, IsIn-from_range, IsIn-append_cases, IsIn-append_left, IsIn-append_right, Contains-from_IsIn, IsIn-from_Contains}
 use Rattle.ac_util.proofs.Prefixes.{starts_with-itself}
 use Rattle.ac_util.proofs.Participants.{Prefixes, IsLeader, begins-before, begins-from_Prefixes, leader, leader-least, leader-takes_part, takes_part}

@@ -1,19 +1,11 @@
 -- The start of a trie: all patterns begin with the empty string.
-use Rattle.std.proofs.Common.{◌≡◌, ◌≢◌, ℕ, ◌<◌, ◌≤◌, Bool, true, false, ◌&&◌, List, [], ◌∷◌, length, inl, inr, refl, ap, sym, ◌∙◌, arith, Some, None}
-use Rattle.std.specs.Prelude.{bytes_eq, slice_get}
+use Rattle.std.proofs.Common.{◌≡◌, ◌≢◌, ℕ, ◌<◌, ◌≤◌, Bool, true, false, ◌&&◌, List, [], ◌∷◌, length, inl, inr, refl, ap, sym, ◌∙◌, arith, Some, None, bytes_eq, slice_get}
 use Rattle.std.proofs.lemmas.Bool.{cases_Bool, cases_lt, cond-true, cond-false, false_from_ne_true}
-use Rattle.ac_util.specs.declared.search.MatchKind.{MatchKind}
-use Rattle.ac_util.specs.Matches.{equal_to}
-use Rattle.ac_util.specs.Node.{Node, begins_with_pattern, is_leftmost, participants}
-use Rattle.ac_util.specs.Search.{pattern_of}
+use Rattle.ac_automaton.specs.Util.{begins_with_pattern, equal_to, is_leftmost, MatchKind, Node, participants, pattern_of}
 use Rattle.ac_util.proofs.Prefixes.{starts_with-length}
 use Rattle.ac_util.proofs.Lists.{IsIn-from_filter, nil-from_none, none-from_nil}
 use Rattle.ac_util.proofs.Participants.{IsIn-equal_to, equal_to-none_begins, leader, leader-takes_part}
-use Rattle.ac_automaton.specs.declared.nfa.noncontiguous.growth.QueuedState.{QueuedState}
-use Rattle.ac_automaton.specs.declared.nfa.noncontiguous.state.TheConstants.{DEAD, START, ANCHORED_START}
-use Rattle.ac_automaton.specs.Growths.{IsRangeOf, Waits}
-use Rattle.ac_automaton.specs.Sorted.{Keyed, IsOrder, byte_at}
-use Rattle.ac_automaton.specs.Tries.{miss}
+use Rattle.ac_automaton.specs.Prelude.{ANCHORED_START, byte_at, DEAD, IsOrder, IsRangeOf, Keyed, miss, QueuedState, START, Waits}
 use Rattle.ac_automaton.proofs.Ranges.{equal_to-some, equal_to-none, place-at}
 
 -- a string without bytes is empty

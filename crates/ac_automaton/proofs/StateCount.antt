@@ -1,29 +1,14 @@
 -- A trie has as many states as there are nodes: each node has one state, and a build is refused only where
 -- there are too many.
-use Rattle.std.proofs.Common.{◌≡◌, ◌≢◌, ℕ, zero, suc, ◌+◌, ◌<◌, ◌≤◌, Bool, true, List, [], ◌∷◌, ◌++◌, map, length, get_or, inl, inr, refl, ap, sym, ◌∙◌, subst, arith, Some, None}
-use Rattle.std.specs.Prelude.{slice_get, option_map, nat_lt, Contains}
+use Rattle.std.proofs.Common.{◌≡◌, ◌≢◌, ℕ, zero, suc, ◌+◌, ◌<◌, ◌≤◌, Bool, true, List, [], ◌∷◌, ◌++◌, map, length, get_or, inl, inr, refl, ap, sym, ◌∙◌, subst, arith, Some, None, slice_get, option_map, nat_lt, Contains}
 use Rattle.std.proofs.lemmas.Bool.{cond-false, cond-true, le-ltb, lt-ltb}
 use Rattle.std.proofs.lemmas.List.{length-map, length_push}
 use Rattle.std.proofs.lemmas.Option.{slice_get-get_or, slice_get-map, slice_get_within}
-use Rattle.ac_util.specs.declared.search.MatchKind.{MatchKind}
-use Rattle.ac_util.specs.declared.primitives.TheConstants.{GREATEST}
-use Rattle.ac_util.specs.Node.{Node, is_node, step}
-use Rattle.ac_util.specs.Sameness.{plain_byte}
-use Rattle.ac_util.specs.declared.search.Anchored.TheVariants.{Yes}
-use Rattle.ac_util.specs.Sizes.{inner_nodes, state_count}
+use Rattle.ac_automaton.specs.Util.{BuildError, GREATEST, inner_nodes, is_node, MatchKind, Node, plain_byte, state_count, StateIdOverflow, step, Yes}
 use Rattle.ac_util.proofs.Lists.{IsIn, IsOrdered, IsIn-from_Contains, IsIn-from_map, Contains-from_IsIn}
 use Rattle.ac_util.proofs.NodeCount.{inner_nodes-has, inner_nodes-only, inner_nodes-apart}
 use Rattle.ac_util.proofs.Participants.{is_node-front}
-use Rattle.ac_automaton.specs.declared.nfa.noncontiguous.growth.QueuedState.{QueuedState}
-use Rattle.ac_automaton.specs.declared.nfa.noncontiguous.state.State.{State}
-use Rattle.ac_automaton.specs.declared.nfa.noncontiguous.state.TheConstants.{START, FIRST_INNER}
-use Rattle.ac_automaton.specs.declared.nfa.noncontiguous.state.Transition.{Transition}
-use Rattle.ac_util.specs.declared.error.BuildError.{BuildError}
-use Rattle.ac_util.specs.declared.error.BuildError.TheVariants.{StateIdOverflow}
-use Rattle.ac_automaton.specs.Builds.{IsRefused, too_many_states}
-use Rattle.ac_automaton.specs.Growths.{IsGrown, IsNotPushed, IsRangeOf, grown_meaning, nodes_of, word}
-use Rattle.ac_automaton.specs.Sorted.{Keyed, IsOrder, byte_at, key_at}
-use Rattle.ac_automaton.specs.Tries.{AreStates, IsNumberOf, NumbersNodes, Represents, transition_bytes, transitions_of, miss, state_at}
+use Rattle.ac_automaton.specs.Prelude.{AreStates, byte_at, FIRST_INNER, grown_meaning, IsGrown, IsNotPushed, IsNumberOf, IsOrder, IsRangeOf, IsRefused, key_at, Keyed, miss, nodes_of, NumbersNodes, QueuedState, Represents, START, State, state_at, too_many_states, Transition, transition_bytes, transitions_of, word}
 use Rattle.ac_automaton.proofs.Branched.{own_target-is, some_node}
 use Rattle.ac_automaton.proofs.Branching.{IsBranching, IsRun, Site, child-range, string, word-length}
 use Rattle.ac_automaton.proofs.Child.{fresh}

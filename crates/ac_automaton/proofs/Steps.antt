@@ -2,10 +2,7 @@
 -- search goes on by any other byte.
 use Rattle.std.proofs.Common.{◌≡◌, ◌≢◌, ℕ, zero, suc, ◌+◌, ◌≤◌, ◌<◌, Bool, true, false, cond, List, [], ◌∷◌, ◌++◌, length, refl, ap, sym, ◌∙◌, arith, Some, None}
 use Rattle.std.proofs.lemmas.Bool.{cond-false, cond-true}
-use Rattle.ac_util.specs.declared.search.MatchKind.{MatchKind}
-use Rattle.ac_util.specs.declared.search.Anchored.TheVariants.{No, Yes}
-use Rattle.ac_util.specs.Node.{Node, is_node, step, failure, depth}
-use Rattle.ac_util.specs.Looks.{looks, looks_within}
+use Rattle.ac_automaton.specs.Util.{depth, failure, is_node, looks, looks_within, MatchKind, No, Node, step, Yes}
 use Rattle.ac_util.proofs.Reached.{stops, stops-same, reached-nil, reached-cons, step-all}
 use Rattle.ac_util.proofs.Failures.{step-own, step-failure, depth-failure}
 use Rattle.ac_automaton.specs.Tries.{miss}

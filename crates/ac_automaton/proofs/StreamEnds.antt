@@ -1,15 +1,9 @@
 -- The next match of a stream, or that there is none, once its end was met.
-use Rattle.std.proofs.Common.{◌≡◌, ◌∙◌, ℕ, ◌+◌, Bool, List, ◌++◌, length, ap, sym, subst, arith, Option, Some, None, Result, Ok, Err}
-use Rattle.std.specs.Prelude.{slice_get}
+use Rattle.std.proofs.Common.{◌≡◌, ◌∙◌, ℕ, ◌+◌, Bool, List, ◌++◌, length, ap, sym, subst, arith, Option, Some, None, Result, Ok, Err, slice_get}
 use Rattle.std.proofs.lemmas.Option.{slice_get_within}
-use Rattle.ac_util.specs.declared.error.StreamError.{StreamError}
-use Rattle.ac_util.specs.declared.search.MatchKind.TheVariants.{Standard}
-use Rattle.ac_util.specs.Device.{Reading}
-use Rattle.ac_util.specs.Occurrence.{Occurrence}
-use Rattle.ac_util.specs.Stream.{streamed}
-use Rattle.ac_automaton.specs.declared.automaton.stream.Phase.{Phase}
-use Rattle.ac_automaton.specs.declared.automaton.stream.Phase.TheVariants.{Ended, Failed, Open}
-use Rattle.ac_automaton.specs.Streams.{EndsNow, GivesLast, GivesMatch, GivesNext, GivesNone, GoesOnBy, HasGivenSettled, IsSettledIn, KeepsGiven, Streaming, StreamsOn, matches_so_far}
+use Rattle.ac_automaton.specs.Util.{Occurrence, Reading, Standard, streamed, StreamError}
+use Rattle.ac_automaton.specs.Prelude.{Ended, EndsNow, Failed, GivesLast, GivesMatch, GivesNone, GoesOnBy, HasGivenSettled, IsSettledIn, KeepsGiven, matches_so_far, Open, Phase, Streaming, StreamsOn}
+use Rattle.ac_automaton.specs.Streams.{GivesNext}
 
 -- the end was met after some bytes more, or before; under Standard all matches were given before it was
 module _ (ends : Bool) (old between new : Streaming) (reader new_reader : Reading) (more : List ℕ)

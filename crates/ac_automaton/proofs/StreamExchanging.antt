@@ -1,25 +1,14 @@
 -- The replacement of a stream: what was written so far and one piece more, one exchange more, and where it fails.
-use Rattle.std.proofs.Common.{◌≡◌, ℕ, zero, suc, ◌+◌, ◌-◌, ◌<◌, ◌≤◌, Bool, List, [], ◌∷◌, ◌++◌, length, length-append, length-take, take, drop, inl, inr, refl, ap, sym, subst, ◌∙◌, arith, Option, Some, None, Result, Ok, Err}
-use Rattle.std.specs.Prelude.{slice_get, slice_range}
+use Rattle.std.proofs.Common.{◌≡◌, ℕ, zero, suc, ◌+◌, ◌-◌, ◌<◌, ◌≤◌, Bool, List, [], ◌∷◌, ◌++◌, length, length-append, length-take, take, drop, inl, inr, refl, ap, sym, subst, ◌∙◌, arith, Option, Some, None, Result, Ok, Err, slice_get, slice_range}
 use Rattle.std.proofs.KnownBytes.{Appends-nil, Appends-trans, Consumes-nil}
 use Rattle.std.proofs.Math.Seq.{take-add, take-append-add}
 use Rattle.std.proofs.lemmas.List.{append-nil, append_assoc, drop-drop, drop-take, drop_all, take-append-drop, take-append-le, take-take, take_all}
-use Rattle.ac_util.specs.declared.device.WriteError.{WriteError}
+use Rattle.ac_automaton.specs.Util.{Built, HasCause, IsNear, IsSettledBy, Occurrence, Reading, ReadsAll, ReadsSome, Replacing, streamed, StreamError, WriteError, WritesPiece, Writing}
 use Rattle.ac_util.specs.declared.device.WriteError.TheVariants.{Io, WriteZero}
-use Rattle.ac_util.specs.declared.error.StreamError.{StreamError}
-use Rattle.ac_util.specs.Built.{Built}
-use Rattle.ac_util.specs.Device.{HasCause, Reading, ReadsAll, ReadsSome, Writing}
-use Rattle.ac_util.specs.Occurrence.{Occurrence}
-use Rattle.ac_util.specs.Replacement.{Replacing}
-use Rattle.ac_util.specs.Stream.{streamed}
-use Rattle.ac_util.specs.StreamReplacing.{IsNear, IsSettledBy, WritesPiece}
 use Rattle.ac_util.proofs.Devices.{fails-on, reads-on, reads-out}
 use Rattle.ac_util.proofs.Spans.{take_drop_take}
-use Rattle.ac_automaton.specs.declared.automaton.stream.Phase.{Phase}
-use Rattle.ac_automaton.specs.declared.automaton.stream.Phase.TheVariants.{Ended, Open}
-use Rattle.ac_automaton.specs.Exchanges.{FailsBy, FailsToExchange, HasExchanged, HasReplaced, ReplacesBy, StartFrom, Steps}
+use Rattle.ac_automaton.specs.Prelude.{Ended, FailsBy, FailsToExchange, FailsToFill, FillsMore, GivesMatch, HasExchanged, HasReplaced, IsSettledIn, matches_so_far, MeetsEnd, Open, Phase, ReplacesBy, StartFrom, Steps, stream_begun, Streaming}
 use Rattle.ac_automaton.proofs.Places.{take-next}
-use Rattle.ac_automaton.specs.Streams.{FailsToFill, FillsMore, GivesMatch, IsSettledIn, MeetsEnd, Streaming, matches_so_far, stream_begun}
 
 -- a part of a list and then the next are a part
 pub part-join : {X : Type 0} (xs : List X) (a b c : ℕ) → a ≤ b → b ≤ c

@@ -1,30 +1,15 @@
 -- The search of a stream: how it begins, how its buffer is filled and makes room, and what is seen then.
-use Rattle.std.proofs.Common.{◌≡◌, ℕ, ◌+◌, ◌-◌, ◌<◌, ◌≤◌, Bool, true, false, List, [], ◌++◌, length, length-append, length-drop, take, drop, max, inl, inr, refl, ap, sym, subst, ◌∙◌, arith, Some, None}
-use Rattle.std.specs.Prelude.{if◌then◌else◌, not, slice_range, ⊤}
+use Rattle.std.proofs.Common.{◌≡◌, ℕ, ◌+◌, ◌-◌, ◌<◌, ◌≤◌, Bool, true, false, List, [], ◌++◌, length, length-append, length-drop, take, drop, max, inl, inr, refl, ap, sym, subst, ◌∙◌, arith, Some, None, if◌then◌else◌, not, slice_range}
+use Rattle.std.specs.Prelude.{⊤}
 use Rattle.std.proofs.lemmas.List.{append-nil, append_assoc, drop-append-le, drop-drop, drop-take, length-take-le}
 use Rattle.std.proofs.lemmas.List.Edits.{take-paste}
 use Rattle.std.proofs.Math.Seq.{paste, take-add, take-append_seam}
-use Rattle.ac_util.specs.declared.search.MatchKind.{MatchKind}
-use Rattle.ac_util.specs.declared.search.MatchKind.TheVariants.{LeftmostFirst, LeftmostLongest, Standard}
-use Rattle.ac_util.specs.declared.search.Span.{Span}
-use Rattle.ac_util.specs.Built.{Built, stream_refusal}
-use Rattle.ac_util.specs.Node.{Node, is_leftmost}
-use Rattle.ac_util.specs.Occurrence.{Occurrence}
-use Rattle.ac_util.specs.Pick.{pick}
-use Rattle.ac_util.specs.Search.{from}
-use Rattle.ac_util.specs.Sizes.{longest_len}
-use Rattle.ac_util.specs.Stream.{buffer_len, reserve, streamed}
-use Rattle.ac_util.specs.Settled.{IsSettledAt}
-use Rattle.ac_util.specs.StreamReplacing.{IsNear, IsSettledBy, settled}
-use Rattle.ac_util.specs.Walk.{walk_after}
+use Rattle.ac_automaton.specs.Util.{buffer_len, Built, from, is_leftmost, IsNear, IsSettledAt, IsSettledBy, LeftmostFirst, LeftmostLongest, longest_len, MatchKind, Node, Occurrence, pick, reserve, settled, Span, Standard, stream_refusal, streamed, walk_after}
 use Rattle.ac_util.proofs.Longer.{pick-extended}
 use Rattle.ac_util.proofs.Spans.{take_drop_take}
 use Rattle.ac_util.proofs.Walks.{next-none, walk_after-None}
-use Rattle.ac_automaton.specs.declared.automaton.stream.Phase.{Phase}
-use Rattle.ac_automaton.specs.declared.automaton.stream.Phase.TheVariants.{Ended, Failed, Open}
-use Rattle.ac_automaton.specs.Progress.{Reaches}
-use Rattle.ac_automaton.specs.Scans.{Scan, in_memory}
-use Rattle.ac_automaton.specs.Streams.{GivesEarly, HasGiven, HasGivenSettled, Inside, IsStreaming, KeepsGiven, Streaming, matches_so_far, most_kept, stream_begun, stream_from}
+use Rattle.ac_automaton.specs.Prelude.{Ended, Failed, GivesEarly, HasGivenSettled, in_memory, Inside, IsStreaming, KeepsGiven, matches_so_far, most_kept, Open, Phase, Reaches, Scan, stream_begun, stream_from, Streaming}
+use Rattle.ac_automaton.specs.Streams.{HasGiven}
 use Rattle.ac_automaton.proofs.ReadOn.{at-start}
 use Rattle.ac_automaton.proofs.StreamRefusals.{allowed-some}
 use Rattle.ac_automaton.proofs.StreamText.{node-longer, picked-nothing, scan}

@@ -1,30 +1,14 @@
 -- The search of a stream gives a match: it is the next one whatever follows, and the search begins anew after it.
-use Rattle.std.proofs.Common.{◌≡◌, ◌⊎◌, ℕ, suc, ◌+◌, ◌-◌, ◌<◌, ◌≤◌, Bool, true, false, List, [], ◌∷◌, ◌++◌, length, length-append, get_or, inl, inr, refl, ap, sym, subst, ◌∙◌, arith, Option, Some, None}
-use Rattle.std.specs.Prelude.{AllPairs, IfSome, slice_get}
+use Rattle.std.proofs.Common.{◌≡◌, ◌⊎◌, ℕ, suc, ◌+◌, ◌-◌, ◌<◌, ◌≤◌, Bool, true, false, List, [], ◌∷◌, ◌++◌, length, length-append, get_or, inl, inr, refl, ap, sym, subst, ◌∙◌, arith, Option, Some, None, AllPairs, IfSome, slice_get}
 use Rattle.std.proofs.lemmas.Bool.{cases_lt, false≢true}
 use Rattle.std.proofs.lemmas.List.{append-nil, append_assoc}
 use Rattle.std.proofs.lemmas.Option.{get_or_from_slice_get, slice_get_within}
-use Rattle.ac_util.specs.declared.search.MatchKind.{MatchKind}
-use Rattle.ac_util.specs.declared.search.MatchKind.TheVariants.{LeftmostFirst, LeftmostLongest, Standard}
-use Rattle.ac_util.specs.declared.search.Span.{Span}
-use Rattle.ac_util.specs.Built.{Built}
-use Rattle.ac_util.specs.Node.{Node, is_leftmost}
-use Rattle.ac_util.specs.Occurrence.{Occurrence}
-use Rattle.ac_util.specs.Pick.{order_of, pick}
-use Rattle.ac_util.specs.Search.{Occurs, Search, pattern_of}
-use Rattle.ac_util.specs.Settled.{IsSettledAt}
-use Rattle.ac_util.specs.Stream.{last_end, streamed}
-use Rattle.ac_util.specs.StreamReplacing.{IsSettledBy, settled}
-use Rattle.ac_util.specs.Walk.{IsAfter, walk_after}
+use Rattle.ac_automaton.specs.Util.{Built, is_leftmost, IsAfter, IsSettledAt, IsSettledBy, last_end, LeftmostFirst, LeftmostLongest, MatchKind, Node, Occurrence, Occurs, order_of, pattern_of, pick, Search, settled, Span, Standard, streamed, walk_after}
 use Rattle.ac_util.proofs.Longer.{pick-extended}
 use Rattle.ac_util.proofs.Decided.{settled-at}
 use Rattle.ac_util.proofs.Shortest.{none-empty}
 use Rattle.ac_util.proofs.Walks.{next-some, pick-Occurs, walk-ordered, walk_after-Some}
-use Rattle.ac_automaton.specs.declared.automaton.stream.Phase.{Phase}
-use Rattle.ac_automaton.specs.declared.automaton.stream.Phase.TheVariants.{Ended, Failed, Open}
-use Rattle.ac_automaton.specs.Finds.{IsAnswered}
-use Rattle.ac_automaton.specs.Scans.{in_memory}
-use Rattle.ac_automaton.specs.Streams.{GivesMatch, HasReadOn, Inside, IsSettledIn, IsSettling, IsStreaming, Streaming, stream_from}
+use Rattle.ac_automaton.specs.Prelude.{Ended, Failed, GivesMatch, HasReadOn, in_memory, Inside, IsAnswered, IsSettledIn, IsSettling, IsStreaming, Open, Phase, stream_from, Streaming}
 use Rattle.ac_automaton.proofs.FindLoop.{dead-stays, goes_on-by, picked-final}
 use Rattle.ac_automaton.proofs.ListLoop.{get-behind}
 use Rattle.ac_automaton.proofs.ReadOn.{at-start}

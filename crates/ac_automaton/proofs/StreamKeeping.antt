@@ -1,27 +1,13 @@
 -- The search of a stream gives no match: as far as which place it is settled, and from where on bytes are kept.
-use Rattle.std.proofs.Common.{◌≡◌, ◌≢◌, ◌⊎◌, ℕ, ◌+◌, ◌-◌, ◌≤◌, Bool, true, false, List, [], ◌++◌, length, max, inl, inr, refl, ap, sym, subst, ◌∙◌, arith, Option, Some, None}
-use Rattle.std.specs.Prelude.{IfSome}
+use Rattle.std.proofs.Common.{◌≡◌, ◌≢◌, ◌⊎◌, ℕ, ◌+◌, ◌-◌, ◌≤◌, Bool, true, false, List, [], ◌++◌, length, max, inl, inr, refl, ap, sym, subst, ◌∙◌, arith, Option, Some, None, IfSome}
 use Rattle.std.proofs.lemmas.Bool.{false≢true}
 use Rattle.std.proofs.lemmas.List.{append-nil}
-use Rattle.ac_util.specs.declared.search.MatchKind.{MatchKind}
-use Rattle.ac_util.specs.declared.search.MatchKind.TheVariants.{LeftmostFirst, LeftmostLongest, Standard}
-use Rattle.ac_util.specs.Node.{Node, is_leftmost}
-use Rattle.ac_util.specs.Occurrence.{Occurrence}
-use Rattle.ac_util.specs.Pick.{pick}
-use Rattle.ac_util.specs.Search.{Search}
-use Rattle.ac_util.specs.Settled.{IsSettledAt}
-use Rattle.ac_util.specs.Sizes.{longest_len}
-use Rattle.ac_util.specs.Stream.{last_end, streamed}
-use Rattle.ac_util.specs.StreamReplacing.{IsNear, IsSettledBy, settled}
-use Rattle.ac_util.specs.Walk.{walk_after}
+use Rattle.ac_automaton.specs.Util.{is_leftmost, IsNear, IsSettledAt, IsSettledBy, last_end, LeftmostFirst, LeftmostLongest, longest_len, MatchKind, Node, Occurrence, pick, Search, settled, Standard, streamed, walk_after}
 use Rattle.ac_util.proofs.Living.{dead-picked, node-short, pick-behind}
 use Rattle.ac_util.proofs.Decided.{settled-at}
 use Rattle.ac_util.proofs.Shortest.{longest-most, none-empty}
 use Rattle.ac_util.proofs.Walks.{next-none, walk_after-None}
-use Rattle.ac_automaton.specs.declared.automaton.stream.Phase.{Phase}
-use Rattle.ac_automaton.specs.declared.automaton.stream.Phase.TheVariants.{Ended, Failed, Open}
-use Rattle.ac_automaton.specs.Finds.{IsAnswered}
-use Rattle.ac_automaton.specs.Streams.{HasGivenSettled, HasReadOn, Inside, IsSettledIn, IsStreaming, Streaming, kept_from, stream_from}
+use Rattle.ac_automaton.specs.Prelude.{Ended, Failed, HasGivenSettled, HasReadOn, Inside, IsAnswered, IsSettledIn, IsStreaming, kept_from, Open, Phase, stream_from, Streaming}
 use Rattle.ac_automaton.proofs.StreamGiving.{settled-kind}
 use Rattle.ac_automaton.proofs.StreamReserves.{most-few, most-leftmost, most-standard}
 use Rattle.ac_automaton.proofs.StreamLoop.{leftmost-by}

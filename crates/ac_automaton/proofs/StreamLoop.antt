@@ -1,25 +1,12 @@
 -- The search of a stream reads on from where it stands: what it picks then.
-use Rattle.std.proofs.Common.{◌≡◌, ◌≢◌, ℕ, ◌+◌, ◌-◌, ◌<◌, ◌≤◌, Bool, true, false, List, length, max, inl, inr, refl, ap, sym, subst, ◌∙◌, arith, Option, Some, None}
-use Rattle.std.specs.Prelude.{IfSome, not}
+use Rattle.std.proofs.Common.{◌≡◌, ◌≢◌, ℕ, ◌+◌, ◌-◌, ◌<◌, ◌≤◌, Bool, true, false, List, length, max, inl, inr, refl, ap, sym, subst, ◌∙◌, arith, Option, Some, None, IfSome, not}
 use Rattle.std.specs.Option.{is_some}
 use Rattle.std.proofs.lemmas.Bool.{false≢true}
-use Rattle.ac_util.specs.declared.search.Anchored.TheVariants.{No}
-use Rattle.ac_util.specs.declared.search.MatchKind.{MatchKind}
-use Rattle.ac_util.specs.declared.search.MatchKind.TheVariants.{LeftmostFirst, LeftmostLongest, Standard}
-use Rattle.ac_util.specs.declared.search.Span.{Span}
-use Rattle.ac_util.specs.Node.{Node, is_leftmost}
-use Rattle.ac_util.specs.Occurrence.{Occurrence}
-use Rattle.ac_util.specs.Pick.{order_of, pick}
-use Rattle.ac_util.specs.Search.{Search}
-use Rattle.ac_util.specs.Sizes.{longest_len}
+use Rattle.ac_automaton.specs.Util.{is_leftmost, LeftmostFirst, LeftmostLongest, longest_len, MatchKind, No, Node, Occurrence, order_of, pick, Search, Span, Standard}
 use Rattle.ac_util.proofs.SearchLoop.{GoesOn}
 use Rattle.ac_util.proofs.Shortest.{longest-most}
 use Rattle.ac_util.proofs.Walks.{pick-Occurs}
-use Rattle.ac_automaton.specs.declared.automaton.scan.Cursor.{Cursor}
-use Rattle.ac_automaton.specs.Finds.{FitsIn, found_at}
-use Rattle.ac_automaton.specs.Progress.{Work}
-use Rattle.ac_automaton.specs.Scans.{IsAlive, IsAt, NoMatchBetween, PassesNoMatch, Scan, ScanText, in_memory, node}
-use Rattle.ac_automaton.specs.Streams.{HasReadOn, Inside, IsStreaming, Streaming, stream_from}
+use Rattle.ac_automaton.specs.Prelude.{Cursor, FitsIn, found_at, HasReadOn, in_memory, Inside, IsAlive, IsAt, IsStreaming, node, NoMatchBetween, PassesNoMatch, Scan, ScanText, stream_from, Streaming, Work}
 use Rattle.ac_automaton.proofs.FindAhead.{picked-none, picked-some}
 use Rattle.ac_automaton.proofs.FindLoop.{found-end, goes_on-by}
 use Rattle.ac_automaton.proofs.ReadOn.{node-fits}

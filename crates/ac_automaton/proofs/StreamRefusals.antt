@@ -1,14 +1,6 @@
 -- Why a stream is refused: for its start or an empty pattern, and for no match kind.
 use Rattle.std.proofs.Common.{◌≡◌, ◌≢◌, Bool, true, false, List, [], ◌∷◌, refl, ap, sym, ◌∙◌, Option, Some, None}
-use Rattle.ac_util.specs.declared.error.MatchError.{MatchError}
-use Rattle.ac_util.specs.declared.error.MatchError.TheVariants.{UnsupportedEmpty}
-use Rattle.ac_util.specs.declared.search.Anchored.TheVariants.{No}
-use Rattle.ac_util.specs.declared.search.MatchKind.{MatchKind}
-use Rattle.ac_util.specs.declared.search.MatchKind.TheVariants.{LeftmostFirst, LeftmostLongest, Standard}
-use Rattle.ac_util.specs.declared.search.StartKind.{StartKind}
-use Rattle.ac_util.specs.Built.{Built, has_empty, stream_refusal}
-use Rattle.ac_util.specs.Refusal.{Stream, empty_refusal, first_refusal, kind_refusal, refusal, start_refusal}
-use Rattle.ac_util.specs.Sizes.{shortest_len}
+use Rattle.ac_automaton.specs.Util.{Built, empty_refusal, first_refusal, has_empty, kind_refusal, LeftmostFirst, LeftmostLongest, MatchError, MatchKind, No, refusal, shortest_len, Standard, start_refusal, StartKind, Stream, stream_refusal, UnsupportedEmpty}
 use Rattle.ac_util.proofs.Shortest.{shortest-empty}
 
 -- a stream is refused for no match kind

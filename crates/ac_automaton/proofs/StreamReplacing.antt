@@ -1,27 +1,15 @@
 -- The steps of a stream's replacement, told of a closure alone, and of the text that a list of texts leaves.
-use Rattle.std.proofs.Common.{◌≡◌, ◌≢◌, ℕ, suc, ◌+◌, ◌-◌, ◌≤◌, Bool, List, [], ◌∷◌, ◌++◌, length, length-append, length-drop, length-take, take, drop, inl, inr, refl, ap, sym, subst, ◌∙◌, arith, Option, Some, None, Result, Ok, Err}
-use Rattle.std.specs.Prelude.{All, MatchResult, slice_index_or, slice_range}
+use Rattle.std.proofs.Common.{◌≡◌, ◌≢◌, ℕ, suc, ◌+◌, ◌-◌, ◌≤◌, Bool, List, [], ◌∷◌, ◌++◌, length, length-append, length-drop, length-take, take, drop, inl, inr, refl, ap, sym, subst, ◌∙◌, arith, Option, Some, None, Result, Ok, Err, All, MatchResult, slice_index_or, slice_range}
 use Rattle.std.specs.Borrow.{Bor, MutBor}
 use Rattle.std.specs.Fn.{Mut}
 use Rattle.std.specs.declared.io.Error.{Error}
 use Rattle.std.proofs.Math.Seq.{take-append_seam}
 use Rattle.std.proofs.lemmas.List.{append_assoc, drop-append-le, drop-take, drop_all, take-append-drop, take-append-le, take_all}
-use Rattle.ac_util.specs.declared.error.StreamError.{StreamError}
+use Rattle.ac_automaton.specs.Util.{asked_by_result, Built, Calls, FailsToReplace, FailsToReplaceWith, held, IsSettledAt, IsSettledBy, last_end, LeftmostFirst, LeftmostLongest, MatchAnswer, MatchKind, Occurrence, Reading, replaced, replaced_from, ReplacementSteps, ReplacesStream, ReplacesStreamWith, Replacing, settled, Standard, StepsAreSettled, streamed, StreamError, TextIsSettled, without_last, WritesAll, WritesPiece, Writing}
 use Rattle.ac_util.specs.declared.error.StreamError.TheVariants.{Io}
-use Rattle.ac_util.specs.declared.search.MatchKind.{MatchKind}
-use Rattle.ac_util.specs.declared.search.MatchKind.TheVariants.{LeftmostFirst, LeftmostLongest, Standard}
-use Rattle.ac_util.specs.Built.{Built}
-use Rattle.ac_util.specs.Device.{Reading, Writing, WritesAll}
-use Rattle.ac_util.specs.Occurrence.{Occurrence}
-use Rattle.ac_util.specs.Replaced.{replaced, replaced_from}
-use Rattle.ac_util.specs.Replacement.{Calls, MatchAnswer, Replacing, ReplacementSteps}
-use Rattle.ac_util.specs.Settled.{IsSettledAt}
-use Rattle.ac_util.specs.Stream.{held, last_end, streamed, without_last}
-use Rattle.ac_util.specs.StreamReplacing.{FailsToReplace, FailsToReplaceWith, IsSettledBy, ReplacesStream, ReplacesStreamWith, StepsAreSettled, TextIsSettled, WritesPiece, asked_by_result, settled}
 use Rattle.ac_util.proofs.Exchanges.{AreInOrder, exchanged-in_order}
 use Rattle.ac_util.proofs.PiecesLemmas.{slice_range-append}
-use Rattle.ac_automaton.specs.declared.automaton.stream_replace.ByClosure.{ByClosure}
-use Rattle.ac_automaton.specs.Exchanges.{CallsBy, FailsBy, ReplacesBy, StartFrom, Steps, WritesTexts, asked_by_answer, error_in}
+use Rattle.ac_automaton.specs.Prelude.{asked_by_answer, ByClosure, CallsBy, error_in, FailsBy, ReplacesBy, StartFrom, Steps, WritesTexts}
 use Rattle.ac_automaton.proofs.StreamExchanging.{part-join, piece-join}
 
 -- a closure and its writer, without what wraps the closure

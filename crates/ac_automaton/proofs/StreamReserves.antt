@@ -1,12 +1,6 @@
 -- How many bytes of a stream may be kept back.
-use Rattle.std.proofs.Common.{◌≡◌, ◌+◌, ◌≤◌, Bool, true, false, ap, arith}
-use Rattle.std.specs.Prelude.{if◌then◌else◌}
-use Rattle.ac_util.specs.declared.search.MatchKind.{MatchKind}
-use Rattle.ac_util.specs.declared.search.MatchKind.TheVariants.{Standard}
-use Rattle.ac_util.specs.Built.{Built}
-use Rattle.ac_util.specs.Node.{is_leftmost}
-use Rattle.ac_util.specs.Sizes.{longest_len}
-use Rattle.ac_util.specs.Stream.{reserve}
+use Rattle.std.proofs.Common.{◌≡◌, ◌+◌, ◌≤◌, Bool, true, false, ap, arith, if◌then◌else◌}
+use Rattle.ac_automaton.specs.Util.{Built, is_leftmost, longest_len, MatchKind, reserve, Standard}
 use Rattle.ac_automaton.specs.Streams.{most_kept}
 
 -- how many bytes may be kept back under each kind

@@ -1,25 +1,11 @@
 -- A buffer over a stream: what a tape over it shows, and where an automaton stands in the stream by where it stands in it.
 use Rattle.std.proofs.Common.{◌≡◌, ℕ, ◌+◌, ◌-◌, ◌≤◌, Bool, false, List, ◌++◌, length, length-append, length-take, take, drop, refl, ap, sym, subst, ◌∙◌, arith, Option, Some, None}
 use Rattle.std.proofs.lemmas.List.{append_assoc, take-append-drop}
-use Rattle.ac_util.specs.declared.search.Anchored.TheVariants.{No}
-use Rattle.ac_util.specs.declared.search.MatchKind.{MatchKind}
-use Rattle.ac_util.specs.declared.search.input.Input.{Input}
-use Rattle.ac_util.specs.Asked.{Asked, asked_whole}
-use Rattle.ac_util.specs.Built.{Built, has_empty}
-use Rattle.ac_util.specs.Counts.{Taped}
-use Rattle.ac_util.specs.Inputs.{asked}
-use Rattle.ac_util.specs.Node.{Node, reached}
-use Rattle.ac_util.specs.Occurrence.{Occurrence}
-use Rattle.ac_util.specs.Pick.{pick}
-use Rattle.ac_util.specs.Search.{Search}
-use Rattle.ac_util.specs.Text.{text}
+use Rattle.ac_automaton.specs.Util.{Asked, asked, asked_whole, Built, has_empty, Input, MatchKind, No, Node, Occurrence, pick, reached, Search, Taped, text}
 use Rattle.ac_util.proofs.Longer.{text-extended}
 use Rattle.ac_util.proofs.Shortest.{none-empty}
 use Rattle.ac_util.proofs.Walks.{pick-Occurs}
-use Rattle.ac_automaton.specs.Automata.{matches_of, plain_of}
-use Rattle.ac_automaton.specs.Progress.{Reaches, node_at, search_of}
-use Rattle.ac_automaton.specs.Scans.{IsAt, NoMatchBetween, Scan, ScanText, in_memory, node, past}
-use Rattle.ac_automaton.specs.Streams.{stream_from}
+use Rattle.ac_automaton.specs.Prelude.{in_memory, IsAt, matches_of, node, node_at, NoMatchBetween, past, plain_of, Reaches, Scan, ScanText, search_of, stream_from}
 use Rattle.ac_automaton.proofs.ReadOn.{past-is}
 
 -- a tape that was opened over a buffer has its bytes

@@ -1,15 +1,9 @@
 -- What the number of a trie's state says of the node that it stands for.
-use Rattle.std.proofs.Common.{◌≡◌, ◌≢◌, ◌⊎◌, ◌↔◌, inl, inr, ℕ, zero, suc, ◌≤◌, ◌<◌, List, [], ◌∷◌, length, drop, get_or, refl, ap, sym, ◌∙◌, arith, Option, Some, None}
-use Rattle.std.specs.Prelude.{IfSome}
+use Rattle.std.proofs.Common.{◌≡◌, ◌≢◌, ◌⊎◌, ◌↔◌, inl, inr, ℕ, zero, suc, ◌≤◌, ◌<◌, List, [], ◌∷◌, length, drop, get_or, refl, ap, sym, ◌∙◌, arith, Option, Some, None, IfSome}
 use Rattle.std.proofs.lemmas.Bool.{cases_lt}
 use Rattle.std.proofs.lemmas.Option.{slice_get_within}
 use Rattle.ac_util.specs.Node.{Node, depth}
-use Rattle.ac_automaton.specs.declared.nfa.noncontiguous.state.State.{State}
-use Rattle.ac_automaton.specs.declared.nfa.noncontiguous.state.TheConstants.{DEAD, START, FIRST_INNER}
-use Rattle.ac_automaton.specs.declared.automaton.overlap.MatchRest.{MatchRest}
-use Rattle.ac_automaton.specs.Automata.{IsState}
-use Rattle.ac_automaton.specs.Overlaps.{Takes}
-use Rattle.ac_automaton.specs.Tries.{HasState, IsTrie, Meaning, Represents, IsTrieState, TakesFrom, Trie, all_matches, listed_within, meaning_of}
+use Rattle.ac_automaton.specs.Prelude.{all_matches, DEAD, FIRST_INNER, HasState, IsState, IsTrie, IsTrieState, listed_within, MatchRest, Meaning, meaning_of, Represents, START, State, Takes, TakesFrom, Trie}
 use Rattle.ac_automaton.proofs.Follows.{represented}
 use Rattle.ac_automaton.proofs.ListsOf.{length-listed, none-linked}
 

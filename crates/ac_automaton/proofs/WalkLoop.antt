@@ -1,24 +1,14 @@
 -- A walk that finds match after match: what it has read and counted.
-use Rattle.std.proofs.Common.{◌≡◌, ℕ, ◌+◌, ◌-◌, ◌*◌, ◌<◌, ◌≤◌, true, [], ◌∷◌, inl, inr, refl, ap, sym, ◌∙◌, arith, Option, Some, None}
-use Rattle.std.specs.Prelude.{IfSome, MatchOption, ◌==◌, max, min}
+use Rattle.std.proofs.Common.{◌≡◌, ℕ, ◌+◌, ◌-◌, ◌*◌, ◌<◌, ◌≤◌, true, [], ◌∷◌, inl, inr, refl, ap, sym, ◌∙◌, arith, Option, Some, None, IfSome, MatchOption, ◌==◌, max, min}
 use Rattle.std.proofs.Math.Nat.{mul-sub}
 use Rattle.std.proofs.lemmas.Bool.{and_parts, cases_Bool, eqb-true}
 use Rattle.std.proofs.lemmas.Nat.{mul-le}
 use Rattle.std.proofs.lemmas.Option.{IfSome_then}
-use Rattle.ac_util.specs.declared.search.MatchKind.{MatchKind}
-use Rattle.ac_util.specs.declared.search.MatchKind.TheVariants.{Standard, LeftmostFirst, LeftmostLongest}
-use Rattle.ac_util.specs.Occurrence.{Occurrence}
-use Rattle.ac_util.specs.Pick.{pick}
-use Rattle.ac_util.specs.Search.{Search, from}
-use Rattle.ac_util.specs.Sizes.{shortest_len}
-use Rattle.ac_util.specs.Walk.{next_match, repeats, unless_repeated, walk_after}
+use Rattle.ac_automaton.specs.Util.{from, LeftmostFirst, LeftmostLongest, MatchKind, next_match, Occurrence, pick, repeats, Search, shortest_len, Standard, unless_repeated, walk_after}
 use Rattle.ac_util.proofs.OneLonger.{none-past_end}
 use Rattle.ac_util.proofs.Shortest.{shortest-least}
 use Rattle.ac_util.proofs.Walks.{pick-in_span, pick-Occurs, walk_after-None, walk_after-Some}
-use Rattle.ac_automaton.specs.Finders.{Picking}
-use Rattle.ac_automaton.specs.Finds.{HasSearched}
-use Rattle.ac_automaton.specs.Iterators.{Finds, GoesOn, HasFound, IsUnderWay, Walking, after, kept_place, last_after}
-use Rattle.ac_automaton.specs.Progress.{Work, most_looks}
+use Rattle.ac_automaton.specs.Prelude.{after, Finds, GoesOn, HasFound, HasSearched, IsUnderWay, kept_place, last_after, most_looks, Picking, Walking, Work}
 
 -- looks that are paid so far, and looks of a further find that are paid, are paid together
 paid_total : (most r n looks looks_then : ℕ) → r ≤ n → looks ≤ most * r → looks_then ≤ looks + most * (n - r)

@@ -2,8 +2,7 @@
 use Rattle.std.proofs.Common.{ap, length}
 use Rattle.std.specs.Iterator.Runs.{YieldsInOrder}
 use Rattle.std.proofs.iter.runs.Sources.{as_is, from_front}
-use Rattle.ac_automaton.specs.Iterators.{GoesOn}
-use Rattle.ac_automaton.specs.Overlaps.{ListsNext}
+use Rattle.ac_automaton.specs.Prelude.{GoesOn, ListsNext}
 
 -- the matches that were left, in order
 pub goes_on-runs : YieldsInOrder GoesOn (λ w. w.rest)

@@ -1,23 +1,12 @@
 -- From the first states to a whole trie.
-use Rattle.std.proofs.Common.{◌≡◌, ℕ, zero, suc, ◌+◌, ◌<◌, ◌≤◌, Bool, true, false, get_or, List, [], ◌∷◌, ◌++◌, map, length, take, inl, inr, refl, ap, sym, ◌∙◌, subst, arith, Some, None}
-use Rattle.std.specs.Prelude.{slice_get}
+use Rattle.std.proofs.Common.{◌≡◌, ℕ, zero, suc, ◌+◌, ◌<◌, ◌≤◌, Bool, true, false, get_or, List, [], ◌∷◌, ◌++◌, map, length, take, inl, inr, refl, ap, sym, ◌∙◌, subst, arith, Some, None, slice_get}
 use Rattle.std.proofs.lemmas.Bool.{cases_lt}
 use Rattle.std.proofs.lemmas.Bool.Decides.{nat_tests}
 use Rattle.std.proofs.lemmas.List.{get_or_past, length-map, length_push}
 use Rattle.std.proofs.lemmas.Option.{slice_get_within}
-use Rattle.ac_util.specs.declared.search.MatchKind.{MatchKind}
-use Rattle.ac_util.specs.Node.{Node}
-use Rattle.ac_util.specs.Sameness.{plain, plain_byte}
-use Rattle.ac_util.specs.Search.{pattern_of}
-use Rattle.ac_automaton.specs.declared.nfa.noncontiguous.growth.Growth.{Growth}
-use Rattle.ac_automaton.specs.declared.nfa.noncontiguous.growth.QueuedState.{QueuedState}
-use Rattle.ac_automaton.specs.declared.nfa.noncontiguous.state.State.{State}
-use Rattle.ac_automaton.specs.declared.nfa.noncontiguous.state.TheConstants.{START, ANCHORED_START, FIRST_INNER}
-use Rattle.ac_automaton.specs.declared.nfa.noncontiguous.state.Transition.{Transition}
-use Rattle.ac_automaton.specs.Builds.{too_many_states}
-use Rattle.ac_automaton.specs.Growths.{first_states, HasBegun, HasBranched, IsGrown, IsReady, Waits, grown_meaning, nodes_of, word}
-use Rattle.ac_automaton.specs.Sorted.{Keyed, IsOrder, Sorted, byte_at, key_at, numbers}
-use Rattle.ac_automaton.specs.Tries.{AreStates, IsTrie, Meaning, NumbersNodes, Represents, dead_state, state_at, trie_of}
+use Rattle.ac_automaton.specs.Util.{MatchKind, Node, pattern_of, plain, plain_byte}
+use Rattle.ac_automaton.specs.Prelude.{ANCHORED_START, AreStates, byte_at, dead_state, FIRST_INNER, first_states, grown_meaning, Growth, HasBegun, HasBranched, IsGrown, IsOrder, IsTrie, key_at, Keyed, Meaning, nodes_of, numbers, NumbersNodes, QueuedState, Represents, Sorted, START, State, state_at, too_many_states, Transition, trie_of, Waits, word}
+use Rattle.ac_automaton.specs.Growths.{IsReady}
 use Rattle.ac_automaton.proofs.Grown.{AreStates-push, IsGrown-later, nodes-inner}
 use Rattle.ac_automaton.proofs.ListsOf.{listed_within-matches}
 use Rattle.ac_automaton.proofs.StateCount.{numbers-nodes, too_many_states-none}

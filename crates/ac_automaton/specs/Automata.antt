@@ -1,12 +1,7 @@
 -- What contracts say of the states of an automaton, by the node that a state stands for.
 use Rattle.std.specs.Prelude.{◌≡◌, ℕ, List, ◌++◌, map}
 use Rattle.ac_util.specs.declared.search.Anchored.{Anchored}
-use Rattle.ac_util.specs.declared.search.Anchored.TheVariants.{No, Yes}
-use Rattle.ac_util.specs.Sameness.{plain_byte, plain}
-use Rattle.ac_util.specs.Built.{Built}
-use Rattle.ac_util.specs.Node.{Node, step}
-use Rattle.ac_util.specs.Matches.{matches}
-use Rattle.ac_util.specs.Looks.{looks_by}
+use Rattle.ac_automaton.specs.Util.{Built, looks_by, matches, No, Node, plain, plain_byte, step, Yes}
 
 -- the patterns as the nodes know them
 abbrev pub plain_of : Built → List (List ℕ)

@@ -1,15 +1,7 @@
 -- What a build of an automaton is asked for, what it answers, and why it may be refused.
 use Rattle.std.specs.Prelude.{◌≡◌, ◌⊎◌, ℕ, ◌+◌, nat_lt, Bool, false, true, List, Option, map, Some, None, MatchOption, if◌then◌else◌}
-use Rattle.ac_util.specs.declared.error.BuildError.{BuildError}
-use Rattle.ac_util.specs.declared.error.BuildError.TheVariants.{Memory, StateIdOverflow}
-use Rattle.ac_util.specs.declared.primitives.TheConstants.{GREATEST}
-use Rattle.ac_util.specs.declared.search.MatchKind.{MatchKind}
-use Rattle.ac_util.specs.declared.search.MatchKind.TheVariants.{Standard}
-use Rattle.ac_util.specs.declared.search.StartKind.TheVariants.{Both}
-use Rattle.ac_util.specs.Built.{Built}
-use Rattle.ac_util.specs.Limits.{limit_refusal}
-use Rattle.ac_util.specs.Sameness.{plain}
-use Rattle.ac_util.specs.Sizes.{state_count}
+use Rattle.ac_automaton.specs.Util.{Both, BuildError, Built, GREATEST, limit_refusal, MatchKind, plain, Standard, state_count, StateIdOverflow}
+use Rattle.ac_util.specs.declared.error.BuildError.TheVariants.{Memory}
 use Rattle.ac_automaton.specs.Tries.{Trie}
 
 -- the refusal of plain patterns that have more nodes than there are state numbers, or None

@@ -1,8 +1,6 @@
 -- What every engine has, whatever its states are.
 use Rattle.std.specs.Prelude.{ℕ, Bool, List}
-use Rattle.ac_util.specs.declared.search.MatchKind.{MatchKind}
-use Rattle.ac_util.specs.declared.search.StartKind.{StartKind}
-use Rattle.ac_util.specs.Built.{Built}
+use Rattle.ac_automaton.specs.Util.{Built, MatchKind, StartKind}
 
 -- the patterns, whether case is ignored, the match kind, and whether to have a prefilter
 pub record CommonView : Type 0 where

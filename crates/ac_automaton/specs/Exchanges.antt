@@ -3,14 +3,8 @@ use Rattle.std.specs.Prelude.{◌≡◌, ◌⊎◌, ℕ, ◌≤◌, Bool, List, 
 use Rattle.std.specs.Borrow.{Bor, MutBor}
 use Rattle.std.specs.Fn.{Mut}
 use Rattle.std.specs.declared.io.Error.{Error}
-use Rattle.ac_util.specs.declared.error.StreamError.{StreamError}
+use Rattle.ac_automaton.specs.Util.{Answer, Built, Calls, Fails, FailsToRead, GoesOn, IsNear, IsSettled, IsSettledBy, Occurrence, Reading, ReadsAll, ReplacementSteps, Replacing, streamed, StreamError, WritesPiece, Writing}
 use Rattle.ac_util.specs.declared.error.StreamError.TheVariants.{Io}
-use Rattle.ac_util.specs.Built.{Built}
-use Rattle.ac_util.specs.Device.{Reading, ReadsAll, Writing}
-use Rattle.ac_util.specs.Occurrence.{Occurrence}
-use Rattle.ac_util.specs.Replacement.{Answer, Calls, Fails, GoesOn, Replacing, ReplacementSteps}
-use Rattle.ac_util.specs.Stream.{streamed}
-use Rattle.ac_util.specs.StreamReplacing.{FailsToRead, IsNear, IsSettled, IsSettledBy, WritesPiece}
 use Rattle.ac_automaton.specs.Streams.{IsSettledIn, Streaming, matches_so_far}
 
 -- the error in an answer, if there is one

@@ -1,9 +1,7 @@
 -- What is seen of a find that is ready to be made.
 use Rattle.std.specs.Prelude.{ℕ, Bool}
 use Rattle.ac_util.specs.declared.search.Anchored.{Anchored}
-use Rattle.ac_util.specs.declared.search.MatchKind.{MatchKind}
-use Rattle.ac_util.specs.Built.{Built}
-use Rattle.ac_util.specs.Pick.{order_of}
+use Rattle.ac_automaton.specs.Util.{Built, MatchKind, order_of}
 
 -- how finds are made: the kind of their automaton, and the order by which they pick; how many looks it may take for each
 -- byte where it isn't anchored, and whether it was built to have a prefilter

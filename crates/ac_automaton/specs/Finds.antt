@@ -1,16 +1,7 @@
 -- What a find answers, and when it has read enough.
 use Rattle.std.specs.Prelude.{◌≡◌, ◌≢◌, ◌⊎◌, ℕ, ◌+◌, ◌-◌, ◌≤◌, Bool, true, List, Option, None, IfSome, option_map, slice_get, length, max}
 use Rattle.ac_util.specs.declared.search.Anchored.{Anchored}
-use Rattle.ac_util.specs.declared.search.Anchored.TheVariants.{Yes}
-use Rattle.ac_util.specs.declared.search.MatchKind.{MatchKind}
-use Rattle.ac_util.specs.declared.search.MatchKind.TheVariants.{Standard}
-use Rattle.ac_util.specs.Built.{Built}
-use Rattle.ac_util.specs.Asked.{Asked}
-use Rattle.ac_util.specs.Node.{Node, depth}
-use Rattle.ac_util.specs.Occurrence.{Occurrence, occurrence}
-use Rattle.ac_util.specs.Pick.{order_of, pick}
-use Rattle.ac_util.specs.Prefilters.{may_skip}
-use Rattle.ac_util.specs.Search.{Search, pattern_of}
+use Rattle.ac_automaton.specs.Util.{Asked, Built, depth, MatchKind, may_skip, Node, Occurrence, occurrence, order_of, pattern_of, pick, Search, Standard, Yes}
 use Rattle.ac_automaton.specs.declared.automaton.scan.Cursor.{Cursor}
 use Rattle.ac_automaton.specs.Automata.{matches_of}
 use Rattle.ac_automaton.specs.Finders.{Picking, picking_of}

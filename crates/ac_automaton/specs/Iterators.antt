@@ -1,17 +1,7 @@
 -- What is seen of an iterator over matches.
 use Rattle.std.specs.Prelude.{◌≡◌, ℕ, ◌+◌, ◌-◌, ◌*◌, ◌<◌, ◌≤◌, Bool, false, MatchBool, List, Option, None, Some, IfSome, min}
 use Rattle.std.specs.Iterator.{YieldsFirst}
-use Rattle.ac_util.specs.declared.search.MatchKind.{MatchKind}
-use Rattle.ac_util.specs.declared.search.MatchKind.TheVariants.{Standard, LeftmostFirst, LeftmostLongest}
-use Rattle.ac_util.specs.Occurrence.{Occurrence}
-use Rattle.ac_util.specs.declared.search.Span.{Span}
-use Rattle.ac_util.specs.Built.{Built}
-use Rattle.ac_util.specs.Search.{Search, from}
-use Rattle.ac_util.specs.Sizes.{shortest_len}
-use Rattle.ac_util.specs.Walk.{next_match, repeats, walk_after}
-use Rattle.ac_util.specs.Asked.{Asked}
-use Rattle.ac_util.specs.Pick.{pick}
-use Rattle.ac_util.specs.Prefilters.{may_skip}
+use Rattle.ac_automaton.specs.Util.{Asked, Built, from, LeftmostFirst, LeftmostLongest, MatchKind, may_skip, next_match, Occurrence, pick, repeats, Search, shortest_len, Span, Standard, walk_after}
 use Rattle.ac_automaton.specs.Finders.{Finding, Picking, picking_of}
 use Rattle.ac_automaton.specs.Finds.{HasSearched}
 use Rattle.ac_automaton.specs.Progress.{Work, most_looks, nothing_done, search_of}

@@ -7,6 +7,7 @@ pub mod Finds
 pub mod Growths
 pub mod Iterators
 pub mod Overlaps
+pub mod Prelude
 pub mod Progress
 pub mod Readers
 pub mod Scans
@@ -14,3 +15,4 @@ pub mod Skipping
 pub mod Sorted
 pub mod Streams
 pub mod Tries
+pub mod Util

@@ -3,19 +3,7 @@ use Rattle.std.specs.Prelude.{◌≡◌, ◌⊎◌, ℕ, ◌-◌, ◌<◌, ◌�
 use Rattle.std.specs.Iterator.{YieldsFirst}
 use Rattle.std.specs.List.{take_while}
 use Rattle.ac_util.specs.declared.search.Anchored.{Anchored}
-use Rattle.ac_util.specs.declared.search.Anchored.TheVariants.{No, Yes}
-use Rattle.ac_util.specs.declared.search.MatchKind.{MatchKind}
-use Rattle.ac_util.specs.declared.search.MatchKind.TheVariants.{Standard}
-use Rattle.ac_util.specs.declared.search.Span.{Span}
-use Rattle.ac_util.specs.Asked.{Asked}
-use Rattle.ac_util.specs.Built.{Built, search_in}
-use Rattle.ac_util.specs.Counts.{Counts, Taped, no_counts}
-use Rattle.ac_util.specs.Listing.{all, item_at, place_after}
-use Rattle.ac_util.specs.Node.{Node}
-use Rattle.ac_util.specs.Occurrence.{Occurrence}
-use Rattle.ac_util.specs.Prefilters.{may_skip}
-use Rattle.ac_util.specs.Search.{Search, pattern_of}
-use Rattle.ac_util.specs.Text.{ending}
+use Rattle.ac_automaton.specs.Util.{all, Asked, Built, Counts, ending, item_at, MatchKind, may_skip, No, no_counts, Node, Occurrence, pattern_of, place_after, Search, search_in, Span, Standard, Taped, Yes}
 use Rattle.ac_automaton.specs.declared.automaton.overlap.MatchRest.{MatchRest}
 use Rattle.ac_automaton.specs.declared.automaton.overlap.OverlappingState.{OverlappingState}
 use Rattle.ac_automaton.specs.declared.automaton.overlap.Reached.{Reached}

@@ -2,13 +2,7 @@
 -- has counted.
 use Rattle.std.specs.Prelude.{◌≡◌, ◌≢◌, ℕ, ◌+◌, ◌-◌, ◌*◌, ◌<◌, ◌≤◌, Bool, false, List, None, length, max}
 use Rattle.ac_util.specs.declared.search.Anchored.{Anchored}
-use Rattle.ac_util.specs.declared.search.Anchored.TheVariants.{No, Yes}
-use Rattle.ac_util.specs.declared.search.MatchKind.{MatchKind}
-use Rattle.ac_util.specs.Built.{Built}
-use Rattle.ac_util.specs.Counts.{Counts, Taped, no_counts}
-use Rattle.ac_util.specs.Node.{Node, reached}
-use Rattle.ac_util.specs.Search.{Search}
-use Rattle.ac_util.specs.Text.{plain_patterns, text}
+use Rattle.ac_automaton.specs.Util.{Built, Counts, MatchKind, No, no_counts, Node, plain_patterns, reached, Search, Taped, text, Yes}
 
 -- how many looks a search may take for each byte read, where an unanchored one may take `most`: an anchored one
 -- follows no failure link, so it looks once

@@ -1,9 +1,7 @@
 -- What the readers of a trie with failure links tell: the node of each state number, and its own transitions.
 use Rattle.std.specs.Prelude.{◌≡◌, ℕ, ◌<◌, Bool, false, List, [], ◌∷◌, ◌++◌, length, filter, slice_get, None, Some}
 use Rattle.std.specs.List.{range_with_len}
-use Rattle.ac_util.specs.Built.{Built}
-use Rattle.ac_util.specs.Node.{Node, is_node}
-use Rattle.ac_util.specs.Sameness.{plain_byte}
+use Rattle.ac_automaton.specs.Util.{Built, is_node, Node, plain_byte}
 use Rattle.ac_automaton.specs.declared.nfa.noncontiguous.state.TheConstants.{DEAD, FAIL, START, ANCHORED_START}
 use Rattle.ac_automaton.specs.Automata.{plain_of}
 use Rattle.ac_automaton.specs.Tries.{IsTrie, NumbersNodes, IsTrieState, Trie}

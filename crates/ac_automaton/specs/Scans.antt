@@ -1,13 +1,7 @@
 -- What a scan has done: an automaton under an anchoring, the text that it reads, and how far it has come in it.
 use Rattle.std.specs.Prelude.{◌≡◌, ◌≢◌, ◌⊎◌, ℕ, ◌+◌, ◌-◌, ◌*◌, ◌<◌, ◌≤◌, Bool, false, List, [], ◌∷◌, ◌++◌, Option, None, Some, max}
 use Rattle.ac_util.specs.declared.search.Anchored.{Anchored}
-use Rattle.ac_util.specs.declared.search.Span.{Span}
-use Rattle.ac_util.specs.Built.{Built}
-use Rattle.ac_util.specs.Counts.{Counts, one_more_call}
-use Rattle.ac_util.specs.Looks.{credit}
-use Rattle.ac_util.specs.Node.{Node}
-use Rattle.ac_util.specs.Prefilters.{may_skip}
-use Rattle.ac_util.specs.Search.{Search}
+use Rattle.ac_automaton.specs.Util.{Built, Counts, credit, may_skip, Node, one_more_call, Search, Span}
 use Rattle.ac_automaton.specs.declared.automaton.scan.Cursor.{Cursor}
 use Rattle.ac_automaton.specs.Automata.{matches_of}
 use Rattle.ac_automaton.specs.Progress.{Grows, Reaches, Work, most_looks, node_at, search_of}

@@ -1,9 +1,7 @@
 -- How a scan skips to where patterns begin.
 use Rattle.std.specs.Prelude.{◌≡◌, Bool, List, ℕ, Some}
-use Rattle.ac_util.specs.declared.search.Anchored.TheVariants.{No}
-use Rattle.ac_util.specs.Built.{Built}
-use Rattle.ac_util.specs.Prefilters.{IsSkipFor, Skip, skip_for}
-use Rattle.ac_util.specs.Prefilters.Skip.{FirstOf, Needle}
+use Rattle.ac_automaton.specs.Util.{Built, FirstOf, IsSkipFor, No, Skip, skip_for}
+use Rattle.ac_util.specs.Prefilters.Skip.{Needle}
 use Rattle.ac_automaton.specs.Scans.{Scan}
 
 -- an unanchored search of an automaton that was built to have a prefilter, or not, may skip so

@@ -6,10 +6,7 @@ use Rattle.std.specs.List.{range_with_len, starts_with}
 use Rattle.std.specs.Ordering.{nat_cmp, ordering_then}
 use Rattle.std.specs.declared.cmp.Ordering.{Ordering}
 use Rattle.std.specs.declared.cmp.Ordering.TheVariants.{Less}
-use Rattle.ac_util.specs.declared.search.MatchKind.{MatchKind}
-use Rattle.ac_util.specs.Node.{participants}
-use Rattle.ac_util.specs.Sameness.{plain}
-use Rattle.ac_util.specs.Search.{pattern_of}
+use Rattle.ac_automaton.specs.Util.{MatchKind, participants, pattern_of, plain}
 use Rattle.ac_automaton.specs.declared.nfa.noncontiguous.sorted.SortedPattern.{SortedPattern}
 
 -- a pattern that takes part: its plain bytes, and its number

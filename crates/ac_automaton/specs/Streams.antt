@@ -1,18 +1,6 @@
 -- What is seen of a search over a stream, and what its calls do.
 use Rattle.std.specs.Prelude.{◌≡◌, ◌⊎◌, ℕ, ◌+◌, ◌-◌, ◌<◌, ◌≤◌, Bool, not, List, [], ◌++◌, Option, None, Some, IfSome, Result, MatchBool, MatchOption, MatchResult, if◌then◌else◌, length, max, slice_get, take, drop}
-use Rattle.ac_util.specs.declared.error.StreamError.{StreamError}
-use Rattle.ac_util.specs.declared.search.Anchored.TheVariants.{No}
-use Rattle.ac_util.specs.declared.search.MatchKind.TheVariants.{Standard}
-use Rattle.ac_util.specs.Built.{Built, stream_refusal}
-use Rattle.ac_util.specs.Device.{Reading, ReadsAll, ReadsSome}
-use Rattle.ac_util.specs.Node.{Node, is_leftmost}
-use Rattle.ac_util.specs.Occurrence.{Occurrence}
-use Rattle.ac_util.specs.Pick.{pick}
-use Rattle.ac_util.specs.Search.{Search}
-use Rattle.ac_util.specs.Sizes.{longest_len}
-use Rattle.ac_util.specs.Stream.{buffer_len, last_end, reserve, streamed}
-use Rattle.ac_util.specs.StreamReplacing.{FailsToRead, IsNear, IsSettledBy}
-use Rattle.ac_util.specs.Walk.{walk_after}
+use Rattle.ac_automaton.specs.Util.{buffer_len, Built, FailsToRead, is_leftmost, IsNear, IsSettledBy, last_end, longest_len, No, Node, Occurrence, pick, Reading, ReadsAll, ReadsSome, reserve, Search, Standard, stream_refusal, streamed, StreamError, walk_after}
 use Rattle.ac_automaton.specs.declared.automaton.stream.Phase.{Phase}
 use Rattle.ac_automaton.specs.declared.automaton.stream.Phase.TheVariants.{Open, Ended, Failed}
 use Rattle.ac_automaton.specs.Progress.{Reaches, search_of}

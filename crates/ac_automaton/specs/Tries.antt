@@ -4,16 +4,8 @@ use Rattle.std.specs.List.Sorted.{IsStrictlyIncreasing}
 use Rattle.std.proofs.Common.{sym, ◌∙◌, arith}
 use Rattle.std.proofs.lemmas.List.{append-nil}
 use Rattle.std.proofs.lemmas.Option.{slice_get_within}
-use Rattle.ac_util.specs.declared.primitives.TheConstants.{GREATEST}
+use Rattle.ac_automaton.specs.Util.{begins_with_pattern, Both, Built, depth, failure, GREATEST, inner_nodes, is_leftmost, matches, MatchKind, No, Node, plain_byte, state_count, step, Yes}
 use Rattle.ac_util.specs.declared.search.Anchored.{Anchored}
-use Rattle.ac_util.specs.declared.search.Anchored.TheVariants.{No, Yes}
-use Rattle.ac_util.specs.declared.search.MatchKind.{MatchKind}
-use Rattle.ac_util.specs.declared.search.StartKind.TheVariants.{Both}
-use Rattle.ac_util.specs.Built.{Built}
-use Rattle.ac_util.specs.Matches.{matches}
-use Rattle.ac_util.specs.Node.{Node, begins_with_pattern, depth, failure, is_leftmost, step}
-use Rattle.ac_util.specs.Sameness.{plain_byte}
-use Rattle.ac_util.specs.Sizes.{inner_nodes, state_count}
 use Rattle.ac_automaton.specs.declared.automaton.overlap.MatchRest.{MatchRest}
 use Rattle.ac_automaton.specs.declared.nfa.noncontiguous.state.State.{State}
 use Rattle.ac_automaton.specs.declared.nfa.noncontiguous.state.TheConstants.{DEAD, FAIL, START, ANCHORED_START, FIRST_INNER}

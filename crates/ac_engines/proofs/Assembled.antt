@@ -2,25 +2,13 @@
 use Rattle.std.proofs.Common.{◌≡◌, ◌≢◌, ◌⊎◌, inl, inr, ℕ, zero, suc, ◌+◌, ◌-◌, ◌*◌, ◌^◌, ◌<◌, ◌≤◌, Bool, true, false, List, [], ◌∷◌, length, slice_index_or, refl, ap, sym, ◌∙◌, arith, Some, None}
 use Rattle.std.proofs.lemmas.Option.{slice_get_within}
 use Rattle.std.proofs.lemmas.Bool.{cases_lt, le-ltb}
-use Rattle.ac_util.specs.declared.primitives.TheConstants.{GREATEST}
+use Rattle.ac_automaton.specs.Util.{alphabet_len, AreClasses, Built, class_at, GREATEST, IsNode, Node, SetsApart, start_refusal, StartKind, state_count, stride, stride2}
 use Rattle.ac_util.specs.declared.search.Anchored.{Anchored}
-use Rattle.ac_util.specs.declared.search.StartKind.{StartKind}
-use Rattle.ac_util.specs.Built.{Built}
-use Rattle.ac_util.specs.Classes.{AreClasses, IsNode, SetsApart, alphabet_len, class_at, stride, stride2}
-use Rattle.ac_util.specs.Node.{Node}
-use Rattle.ac_util.specs.Refusal.{start_refusal}
-use Rattle.ac_util.specs.Sizes.{state_count}
 use Rattle.ac_util.proofs.ClassLists.{class_at-below, classes_of-AreClasses, classes_of-set_apart, singletons-AreClasses, singletons-set_apart}
 use Rattle.ac_util.proofs.NodeCount.{inner_nodes-has}
 use Rattle.ac_util.proofs.StrideLemmas.{stride-enough}
-use Rattle.ac_automaton.specs.Automata.{plain_of}
-use Rattle.ac_automaton.specs.Readers.{AreNodes}
-use Rattle.ac_automaton.specs.Tries.{Trie}
-use Rattle.ac_engines.specs.Classes.{classes_by}
-use Rattle.ac_engines.specs.Dfa.Builds.{rows_refusal}
-use Rattle.ac_engines.specs.Dfa.Filling.{FilledUpTo, Filling, HasRow, IsFilled, MayFill, place_in, sheet_of, width}
-use Rattle.ac_engines.specs.Dfa.Layouts.{IsLayout, table_rows}
-use Rattle.ac_engines.specs.Dfa.{HasMatchesAmong, IsDfa, DfaView, anchored_shift}
+use Rattle.ac_automaton.specs.Prelude.{AreNodes, plain_of, Trie}
+use Rattle.ac_engines.specs.Prelude.{anchored_shift, classes_by, DfaView, FilledUpTo, Filling, HasMatchesAmong, HasRow, IsDfa, IsFilled, IsLayout, MayFill, place_in, rows_refusal, sheet_of, table_rows, width}
 use Rattle.ac_engines.proofs.Numbered.{after-starts, place-row, place-start}
 use Rattle.ac_engines.proofs.Owning.{row-room}
 use Rattle.ac_engines.proofs.RowLists.{anchored_shift-rows}

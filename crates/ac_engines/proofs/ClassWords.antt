@@ -1,12 +1,9 @@
 -- Looking for a class in the class words of a sparse state.
-use Rattle.std.proofs.Common.{refl, ◌≡◌, ◌≢◌, ℕ, zero, suc, ◌+◌, ◌*◌, ◌/◌, ◌<◌, ◌≤◌, Bool, true, false, cond, List, [], ◌∷◌, length, map, drop, ap, sym, subst, ◌∙◌, arith}
-use Rattle.std.specs.Prelude.{All, slice_index_or, ◌==◌}
+use Rattle.std.proofs.Common.{refl, ◌≡◌, ◌≢◌, ℕ, zero, suc, ◌+◌, ◌*◌, ◌/◌, ◌<◌, ◌≤◌, Bool, true, false, cond, List, [], ◌∷◌, length, map, drop, ap, sym, subst, ◌∙◌, arith, All, slice_index_or, ◌==◌}
 use Rattle.std.proofs.Math.Seq.{drop-cons, drop-nil}
 use Rattle.std.proofs.lemmas.List.{drop_all, drop-drop, drop-map, get_or-drop, get_or-map, length-drop, length-map}
 use Rattle.std.proofs.lemmas.List.Elements.{All-drop}
-use Rattle.ac_engines.specs.declared.nfa.contiguous.state.Edge.{Edge}
-use Rattle.ac_engines.specs.declared.nfa.contiguous.state.TheConstants.{FAIL}
-use Rattle.ac_engines.specs.Contiguous.Words.{AreNamed, class_words, first_of, target_by, word_of}
+use Rattle.ac_engines.specs.Prelude.{AreNamed, class_words, Edge, FAIL, first_of, target_by, word_of}
 
 -- the classes and the targets of transitions
 abbrev pub classes_of : List Edge → List ℕ

@@ -1,6 +1,5 @@
 -- What packed states list is what their words spell.
-use Rattle.std.proofs.Common.{◌≡◌, ◌≢◌, ℕ, ◌+◌, ◌-◌, ◌/◌, ◌%◌, ◌<◌, ◌≤◌, Bool, true, false, List, [], ◌∷◌, ◌++◌, length, take, drop, refl, ap, sym, ◌∙◌, arith}
-use Rattle.std.specs.Prelude.{◌==◌, ◌&&◌, nat_lt, slice_index_or}
+use Rattle.std.proofs.Common.{◌≡◌, ◌≢◌, ℕ, ◌+◌, ◌-◌, ◌/◌, ◌%◌, ◌<◌, ◌≤◌, Bool, true, false, List, [], ◌∷◌, ◌++◌, length, take, drop, refl, ap, sym, ◌∙◌, arith, ◌==◌, ◌&&◌, nat_lt, slice_index_or}
 use Rattle.std.specs.Int.{div_ceil}
 use Rattle.std.proofs.lemmas.Bool.{and_from, cond-false, cond-true, eqb-false, eqb-true, le-ltb, lt-ltb}
 use Rattle.std.proofs.lemmas.Grind.{div_ceil_times}
@@ -8,10 +7,7 @@ use Rattle.std.proofs.lemmas.List.{drop-drop, get_or-drop, length-drop, take_all
 use Rattle.std.proofs.Math.Bool.{and-false}
 use Rattle.std.proofs.Math.Seq.{take-append_seam}
 use Rattle.ac_util.specs.Classes.{alphabet_len}
-use Rattle.ac_engines.specs.declared.nfa.contiguous.format.Format.{Format}
-use Rattle.ac_engines.specs.declared.nfa.contiguous.state.TheConstants.{DENSE, ONE_MATCH}
-use Rattle.ac_engines.specs.Contiguous.{ContiguousView, match_list_at, matches_in, words_before_matches}
-use Rattle.ac_engines.specs.Contiguous.Words.{BeginsWith, Spelling, match_spelling}
+use Rattle.ac_engines.specs.Prelude.{BeginsWith, ContiguousView, DENSE, Format, match_list_at, match_spelling, matches_in, ONE_MATCH, Spelling, words_before_matches}
 use Rattle.ac_engines.proofs.Spellings.{ListsFrom, dense-lists, form, sparse-lists}
 
 -- matches are read as they are spelled

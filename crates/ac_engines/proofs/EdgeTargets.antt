@@ -1,15 +1,11 @@
 -- Where a state's transitions lead by the class of a byte.
-use Rattle.std.proofs.Common.{◌≡◌, ◌≢◌, inl, inr, ℕ, ◌<◌, Bool, true, false, List, [], ◌∷◌, ◌++◌, map, refl, ap, sym, ◌∙◌, Some}
-use Rattle.std.specs.Prelude.{Contains, ◌==◌}
+use Rattle.std.proofs.Common.{◌≡◌, ◌≢◌, inl, inr, ℕ, ◌<◌, Bool, true, false, List, [], ◌∷◌, ◌++◌, map, refl, ap, sym, ◌∙◌, Some, Contains, ◌==◌}
 use Rattle.std.proofs.lemmas.Bool.{false≢true, eqb-true, eq-eqb, cond-true, cond-false}
-use Rattle.ac_util.specs.Classes.{SetsApart, class_at}
-use Rattle.ac_util.specs.Sameness.{plain_byte}
+use Rattle.ac_automaton.specs.Util.{class_at, plain_byte, SetsApart}
 use Rattle.ac_util.proofs.ClassLemmas.{stands-from_node}
 use Rattle.ac_util.proofs.Lists.{Contains-from_IsIn, IsIn, IsIn-from_Contains}
 use Rattle.ac_automaton.specs.Readers.{leads_on, own_bytes}
-use Rattle.ac_engines.specs.declared.nfa.contiguous.state.Edge.{Edge}
-use Rattle.ac_engines.specs.Contiguous.{ContiguousView, Places, edges_of}
-use Rattle.ac_engines.specs.Contiguous.Words.{target_by}
+use Rattle.ac_engines.specs.Prelude.{ContiguousView, Edge, edges_of, Places, target_by}
 use Rattle.ac_engines.proofs.Filled.{own_bytes-has, own_bytes-only, own_bytes-small}
 
 module _ (classes : List ℕ) (to : ℕ → ℕ) (missing : ℕ) where

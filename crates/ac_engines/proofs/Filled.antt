@@ -1,20 +1,13 @@
 -- The row of a node once its own transitions are set.
-use Rattle.std.proofs.Common.{◌≡◌, ◌≢◌, ◌⊎◌, inl, inr, ℕ, ◌+◌, ◌<◌, ◌≤◌, Bool, true, false, List, [], ◌∷◌, slice_index_or, refl, ap, sym, ◌∙◌, arith, Some}
-use Rattle.std.specs.Prelude.{Contains}
+use Rattle.std.proofs.Common.{◌≡◌, ◌≢◌, ◌⊎◌, inl, inr, ℕ, ◌+◌, ◌<◌, ◌≤◌, Bool, true, false, List, [], ◌∷◌, slice_index_or, refl, ap, sym, ◌∙◌, arith, Some, Contains}
 use Rattle.std.specs.List.{range_with_len}
 use Rattle.std.proofs.lemmas.Bool.{false≢true}
 use Rattle.ac_util.specs.declared.search.Anchored.{Anchored}
-use Rattle.ac_util.specs.declared.search.Anchored.TheVariants.{No, Yes}
-use Rattle.ac_util.specs.Built.{Built}
-use Rattle.ac_util.specs.Classes.{class_at}
-use Rattle.ac_util.specs.Node.{Node, failure}
-use Rattle.ac_util.specs.Sameness.{plain_byte}
+use Rattle.ac_automaton.specs.Util.{Built, class_at, failure, No, Node, plain_byte, Yes}
 use Rattle.ac_util.proofs.Failures.{step-own, step-failure}
 use Rattle.ac_util.proofs.Lists.{Contains-from_IsIn, IsIn-filter, IsIn-from_Contains, IsIn-from_filter, IsIn-from_range, IsIn-range}
-use Rattle.ac_automaton.specs.Automata.{plain_of, step_of}
-use Rattle.ac_automaton.specs.Readers.{leads_on, own_bytes}
-use Rattle.ac_engines.specs.Dfa.Filling.{EndsDead, HasSet, IsFilled, SameBeside, Sheet, row_at}
-use Rattle.ac_engines.specs.Dfa.{entry}
+use Rattle.ac_automaton.specs.Prelude.{leads_on, own_bytes, plain_of, step_of}
+use Rattle.ac_engines.specs.Prelude.{EndsDead, entry, HasSet, IsFilled, row_at, SameBeside, Sheet}
 
 -- the bytes that lead on are those that the test tells
 pub own_bytes-has : (built : Built) (u : Node) (b : ℕ) → b < 256 → leads_on built u b ≡ true → Contains (own_bytes built u) b

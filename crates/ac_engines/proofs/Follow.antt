@@ -1,19 +1,10 @@
 -- A walk along the failure targets of packed words: it keeps where the byte leads at last, and counts its looks.
 use Rattle.std.proofs.Common.{◌≡◌, ◌≢◌, ℕ, ◌+◌, ◌<◌, ◌≤◌, List, drop, length, refl, ap, subst, sym, ◌∙◌, arith, Some, None}
-use Rattle.ac_util.specs.declared.primitives.TheConstants.{GREATEST}
+use Rattle.ac_automaton.specs.Util.{alphabet_len, Counts, depth, GREATEST, IsNode, more_looks, No, Node, plain_byte, Yes}
 use Rattle.ac_util.specs.declared.search.Anchored.{Anchored}
-use Rattle.ac_util.specs.declared.search.Anchored.TheVariants.{No, Yes}
-use Rattle.ac_util.specs.Classes.{IsNode, alphabet_len}
-use Rattle.ac_util.specs.Counts.{Counts, more_looks}
-use Rattle.ac_util.specs.Node.{Node, depth}
-use Rattle.ac_util.specs.Sameness.{plain_byte}
-use Rattle.ac_automaton.specs.Automata.{looks_of, plain_of, step_of}
-use Rattle.ac_automaton.specs.Tries.{miss}
+use Rattle.ac_automaton.specs.Prelude.{looks_of, miss, plain_of, step_of}
 use Rattle.ac_automaton.proofs.Follows.{more_looks-none, more_looks-twice}
-use Rattle.ac_engines.specs.declared.nfa.contiguous.state.TheConstants.{FAIL}
-use Rattle.ac_engines.specs.Contiguous.{ContiguousView, IsContiguousState, number_at, spelling_at}
-use Rattle.ac_engines.specs.Contiguous.Sizes.{node_format}
-use Rattle.ac_engines.specs.Contiguous.Words.{BeginsWith}
+use Rattle.ac_engines.specs.Prelude.{BeginsWith, ContiguousView, FAIL, IsContiguousState, node_format, number_at, spelling_at}
 use Rattle.ac_engines.proofs.NodeLengths.{node-length}
 use Rattle.ac_engines.proofs.Numbers.{step-node}
 use Rattle.ac_engines.proofs.PackedSteps.{reads, target_of}

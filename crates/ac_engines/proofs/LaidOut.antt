@@ -1,16 +1,12 @@
 -- A table whose states all have their rows is laid out.
-use Rattle.std.proofs.Common.{◌≡◌, inl, inr, ℕ, ◌+◌, ◌*◌, ◌/◌, ◌<◌, ◌≤◌, List, [], length, slice_index_or, ap, sym, ◌∙◌, arith, Some, None}
-use Rattle.std.specs.Prelude.{slice_get}
+use Rattle.std.proofs.Common.{◌≡◌, inl, inr, ℕ, ◌+◌, ◌*◌, ◌/◌, ◌<◌, ◌≤◌, List, [], length, slice_index_or, ap, sym, ◌∙◌, arith, Some, None, slice_get}
 use Rattle.std.proofs.lemmas.List.{get_or_append_left, get_or_past}
 use Rattle.std.proofs.lemmas.Option.{slice_get_within}
 use Rattle.std.proofs.lemmas.Nat.{div_below, le-div, mul-le}
 use Rattle.ac_util.specs.declared.search.Anchored.{Anchored}
-use Rattle.ac_util.specs.declared.search.Anchored.TheVariants.{Yes}
-use Rattle.ac_util.specs.Refusal.{start_refusal}
+use Rattle.ac_automaton.specs.Util.{start_refusal, Yes}
 use Rattle.ac_automaton.specs.Automata.{matches_of}
-use Rattle.ac_engines.specs.Dfa.Filling.{AreLaid}
-use Rattle.ac_engines.specs.Dfa.Layouts.{IsLayout, first_lists, row_list}
-use Rattle.ac_engines.specs.Dfa.{anchored_shift}
+use Rattle.ac_engines.specs.Prelude.{anchored_shift, AreLaid, first_lists, IsLayout, row_list}
 use Rattle.ac_engines.proofs.Numbers.{anchored_shift-small}
 use Rattle.ac_engines.proofs.LaidUpTo.{IsLaidUpTo, Plan, each, row-order}
 use Rattle.ac_engines.proofs.Laying.{long}

@@ -1,19 +1,11 @@
 -- What it is that the first so many states of a trie have their rows.
-use Rattle.std.proofs.Common.{◌≡◌, ◌⊎◌, inl, inr, ℕ, ◌+◌, ◌-◌, ◌*◌, ◌^◌, ◌<◌, ◌≤◌, List, [], ◌∷◌, ◌++◌, length, slice_index_or, refl, ap, sym, ◌∙◌, arith, Some, length-append}
-use Rattle.std.specs.Prelude.{slice_get}
+use Rattle.std.proofs.Common.{◌≡◌, ◌⊎◌, inl, inr, ℕ, ◌+◌, ◌-◌, ◌*◌, ◌^◌, ◌<◌, ◌≤◌, List, [], ◌∷◌, ◌++◌, length, slice_index_or, refl, ap, sym, ◌∙◌, arith, Some, length-append, slice_get}
 use Rattle.std.proofs.lemmas.List.{append-nil, get_or_append_left}
 use Rattle.std.proofs.lemmas.Nat.{mul-le}
 use Rattle.ac_util.specs.declared.search.Anchored.{Anchored}
-use Rattle.ac_util.specs.declared.search.Anchored.TheVariants.{Yes}
-use Rattle.ac_util.specs.declared.search.StartKind.{StartKind}
-use Rattle.ac_util.specs.Built.{Built}
-use Rattle.ac_util.specs.Node.{Node}
-use Rattle.ac_util.specs.Sizes.{state_count}
-use Rattle.ac_automaton.specs.Automata.{matches_of, plain_of}
-use Rattle.ac_automaton.specs.Readers.{AreNodes}
-use Rattle.ac_automaton.specs.Tries.{Trie}
-use Rattle.ac_engines.specs.Dfa.Layouts.{first_lists, row_lists, rows_each}
-use Rattle.ac_engines.specs.Dfa.{anchored_shift}
+use Rattle.ac_automaton.specs.Util.{Built, Node, StartKind, state_count, Yes}
+use Rattle.ac_automaton.specs.Prelude.{AreNodes, matches_of, plain_of, Trie}
+use Rattle.ac_engines.specs.Prelude.{anchored_shift, first_lists, row_lists, rows_each}
 use Rattle.ac_engines.proofs.RowLists.{each-rows, length-first_lists}
 
 -- the node that a state stands for

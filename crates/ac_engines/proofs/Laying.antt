@@ -1,11 +1,9 @@
 -- Laying out the rows of the states of a trie, one after another.
-use Rattle.std.proofs.Common.{◌≡◌, inl, inr, ℕ, ◌+◌, ◌-◌, ◌*◌, ◌<◌, ◌≤◌, List, [], ◌∷◌, ◌++◌, length, slice_index_or, refl, ap, sym, subst, ◌∙◌, arith, Some, length-append}
-use Rattle.std.specs.Prelude.{slice_get}
+use Rattle.std.proofs.Common.{◌≡◌, inl, inr, ℕ, ◌+◌, ◌-◌, ◌*◌, ◌<◌, ◌≤◌, List, [], ◌∷◌, ◌++◌, length, slice_index_or, refl, ap, sym, subst, ◌∙◌, arith, Some, length-append, slice_get}
 use Rattle.std.proofs.Math.Seq.{get_or-append_seam}
 use Rattle.std.proofs.lemmas.Bool.{cases_eq}
 use Rattle.std.proofs.lemmas.List.{append_assoc, append-nil, get_or_append_left, get_or-append-add}
-use Rattle.ac_util.specs.declared.primitives.TheConstants.{GREATEST}
-use Rattle.ac_util.specs.Node.{Node}
+use Rattle.ac_automaton.specs.Util.{GREATEST, Node}
 use Rattle.ac_engines.specs.Dfa.Layouts.{HasPlaced, IsAtBack, IsInFront, first_lists, row_lists}
 use Rattle.ac_engines.proofs.RowLists.{each-room, length-first_lists, length-row_lists, small-number}
 use Rattle.ac_engines.proofs.LaidUpTo.{Apart, HasRows, IsLaidUpTo, Plan, each, kept, row-order}

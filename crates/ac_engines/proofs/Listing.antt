@@ -1,18 +1,13 @@
 -- Listing the matches of a state that count, one after another.
-use Rattle.std.proofs.Common.{◌≡◌, ℕ, ◌-◌, ◌<◌, Bool, true, false, cond, List, [], ◌∷◌, ◌++◌, length, ap, sym, subst, ◌∙◌, arith}
-use Rattle.std.specs.Prelude.{All}
+use Rattle.std.proofs.Common.{◌≡◌, ℕ, ◌-◌, ◌<◌, Bool, true, false, cond, List, [], ◌∷◌, ◌++◌, length, ap, sym, subst, ◌∙◌, arith, All}
 use Rattle.std.specs.List.{take_while}
 use Rattle.std.proofs.lemmas.List.{append_assoc, append-nil}
 use Rattle.std.proofs.lemmas.List.Elements.{All-tail}
 use Rattle.std.proofs.lemmas.List.Sums.{take_while-cons}
 use Rattle.ac_util.specs.declared.search.Anchored.{Anchored}
-use Rattle.ac_util.specs.declared.search.Anchored.TheVariants.{No}
-use Rattle.ac_util.specs.Node.{Node, depth}
-use Rattle.ac_util.specs.Search.{pattern_of}
+use Rattle.ac_automaton.specs.Util.{depth, No, Node, pattern_of}
 use Rattle.ac_automaton.specs.declared.automaton.overlap.MatchRest.{MatchRest}
-use Rattle.ac_automaton.specs.Automata.{IsState, matches_of}
-use Rattle.ac_automaton.specs.Overlaps.{is_due, rest_in}
-use Rattle.ac_automaton.specs.Tries.{IsTrieState, Trie, listed_within, stands-lists}
+use Rattle.ac_automaton.specs.Prelude.{is_due, IsState, IsTrieState, listed_within, matches_of, rest_in, stands-lists, Trie}
 use Rattle.ac_automaton.proofs.Due.{counts, listed-due, listed-numbered}
 
 module _ (trie : Trie) where

@@ -4,16 +4,10 @@ use Rattle.std.specs.List.{All, range_with_len}
 use Rattle.std.proofs.lemmas.List.{length-map}
 use Rattle.std.proofs.lemmas.List.Filters.{length-filter_both}
 use Rattle.std.proofs.lemmas.List.FromFn.{length-range_with_len}
-use Rattle.ac_util.specs.declared.search.Anchored.TheVariants.{No}
-use Rattle.ac_util.specs.declared.search.MatchKind.{MatchKind}
-use Rattle.ac_util.specs.Built.{Built}
-use Rattle.ac_util.specs.Matches.{equal_to, matches}
-use Rattle.ac_util.specs.Node.{Node, last_start, open_suffixes, starting_by, suffixes}
-use Rattle.ac_util.specs.Sameness.{plain}
+use Rattle.ac_automaton.specs.Util.{Built, equal_to, last_start, matches, MatchKind, No, Node, open_suffixes, plain, starting_by, suffixes}
 use Rattle.ac_util.proofs.Lists.{All-from_IsIn, IsIn, IsIn-from_flat_map, IsIn-range, IsOrdered, IsOrdered-flat_map}
 use Rattle.ac_util.proofs.Participants.{IsIn-from_equal_to, equal_to-ordered}
-use Rattle.ac_automaton.specs.Automata.{matches_of, plain_of}
-use Rattle.ac_automaton.specs.Readers.{leads_on, own_bytes}
+use Rattle.ac_automaton.specs.Prelude.{leads_on, matches_of, own_bytes, plain_of}
 use Rattle.ac_automaton.proofs.Counting.{length-le-from_IsOrdered}
 
 -- what is ordered by R is ordered by what R implies

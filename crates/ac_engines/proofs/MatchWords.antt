@@ -1,10 +1,8 @@
 -- Reading the matches of a state in the words where they stand.
-use Rattle.std.proofs.Common.{refl, ◌≡◌, ◌≢◌, ℕ, ◌+◌, ◌-◌, ◌<◌, ◌≤◌, List, [], ◌∷◌, ◌++◌, length, drop, ap, sym, ◌∙◌, arith}
-use Rattle.std.specs.Prelude.{slice_index_or}
+use Rattle.std.proofs.Common.{refl, ◌≡◌, ◌≢◌, ℕ, ◌+◌, ◌-◌, ◌<◌, ◌≤◌, List, [], ◌∷◌, ◌++◌, length, drop, ap, sym, ◌∙◌, arith, slice_index_or}
 use Rattle.std.proofs.lemmas.Grind.{get_or_after_one}
 use Rattle.std.proofs.lemmas.List.{get_or_append_left, length-append}
-use Rattle.ac_engines.specs.declared.nfa.contiguous.state.TheConstants.{ONE_MATCH}
-use Rattle.ac_engines.specs.Contiguous.Words.{match_spelling}
+use Rattle.ac_engines.specs.Prelude.{match_spelling, ONE_MATCH}
 
 -- what the first word of some matches tells: it is the only one of them, or their number
 pub record Reads (matches words : List ℕ) : Type 0 where

@@ -1,14 +1,8 @@
 -- How long the strings of nodes are.
-use Rattle.std.proofs.Common.{ℕ, zero, suc, ◌≤◌, Bool, List, [], ◌∷◌, length, map, get_or, Some, arith}
-use Rattle.std.specs.Prelude.{nat_eq}
+use Rattle.std.proofs.Common.{ℕ, zero, suc, ◌≤◌, Bool, List, [], ◌∷◌, length, map, get_or, Some, arith, nat_eq}
 use Rattle.std.specs.List.{starts_with}
 use Rattle.std.proofs.lemmas.List.{length-map}
-use Rattle.ac_util.specs.declared.search.MatchKind.{MatchKind}
-use Rattle.ac_util.specs.Classes.{IsNode}
-use Rattle.ac_util.specs.Node.{participants}
-use Rattle.ac_util.specs.Sameness.{plain, plain_byte}
-use Rattle.ac_util.specs.Search.{pattern_of}
-use Rattle.ac_util.specs.Sizes.{longest_len}
+use Rattle.ac_automaton.specs.Util.{IsNode, longest_len, MatchKind, participants, pattern_of, plain, plain_byte}
 use Rattle.ac_util.proofs.NodeCount.{any_passes}
 use Rattle.ac_util.proofs.Prefixes.{starts_with-length}
 

@@ -1,11 +1,8 @@
 -- Where the rows of the states of a trie stand.
-use Rattle.std.proofs.Common.{◌≡◌, ◌≢◌, inl, inr, ℕ, zero, suc, ◌<◌, ◌≤◌, List, [], length, slice_index_or, arith, Some}
-use Rattle.std.specs.Prelude.{slice_get}
+use Rattle.std.proofs.Common.{◌≡◌, ◌≢◌, inl, inr, ℕ, zero, suc, ◌<◌, ◌≤◌, List, [], length, slice_index_or, arith, Some, slice_get}
 use Rattle.ac_util.specs.Node.{Node}
 use Rattle.ac_util.proofs.NodeCount.{inner_nodes-only}
-use Rattle.ac_automaton.specs.Automata.{plain_of}
-use Rattle.ac_automaton.specs.Readers.{AreNodes}
-use Rattle.ac_automaton.specs.Tries.{Trie}
+use Rattle.ac_automaton.specs.Prelude.{AreNodes, plain_of, Trie}
 use Rattle.ac_engines.specs.Dfa.Filling.{Filling, HasRow, place_in}
 use Rattle.ac_engines.proofs.Places.{place-at}
 

@@ -3,13 +3,8 @@ use Rattle.std.proofs.Common.{◌≡◌, ◌≢◌, ◌⊎◌, inl, inr, ℕ, �
 use Rattle.std.proofs.lemmas.Bool.{cases_lt}
 use Rattle.std.proofs.lemmas.Nat.{pow_pos}
 use Rattle.ac_util.specs.declared.search.Anchored.{Anchored}
-use Rattle.ac_util.specs.declared.search.StartKind.{StartKind}
-use Rattle.ac_util.specs.declared.search.StartKind.TheVariants.{Anchored as AnchoredAlone, Both, Unanchored}
-use Rattle.ac_util.specs.declared.search.Anchored.TheVariants.{No, Yes}
-use Rattle.ac_util.specs.declared.search.MatchKind.{MatchKind}
-use Rattle.ac_util.specs.Node.{Node, failure, first_node, is_node, last_start, open_suffixes, starting_by, step, suffixes}
-use Rattle.ac_util.specs.Classes.{IsNode, class_at}
-use Rattle.ac_util.specs.Sameness.{plain_byte}
+use Rattle.ac_automaton.specs.Util.{Both, class_at, failure, first_node, is_node, IsNode, last_start, MatchKind, No, Node, open_suffixes, plain_byte, starting_by, StartKind, step, suffixes, Unanchored, Yes}
+use Rattle.ac_util.specs.declared.search.StartKind.TheVariants.{Anchored as AnchoredAlone}
 use Rattle.ac_automaton.specs.Automata.{plain_of, step_of}
 use Rattle.ac_engines.specs.Dfa.{HasMatchesAmong, IsDfaState, DfaView, anchored_shift, list_at, stride_of}
 

@@ -1,17 +1,11 @@
 -- How one row of a table is filled.
-use Rattle.std.proofs.Common.{◌≡◌, ◌≢◌, ◌⊎◌, inl, inr, ℕ, ◌+◌, ◌-◌, ◌<◌, ◌≤◌, Bool, true, false, cond, List, [], ◌∷◌, length, slice_index_or, refl, ap, sym, ◌∙◌, arith, Some, None}
-use Rattle.std.specs.Prelude.{if◌then◌else◌}
+use Rattle.std.proofs.Common.{◌≡◌, ◌≢◌, ◌⊎◌, inl, inr, ℕ, ◌+◌, ◌-◌, ◌<◌, ◌≤◌, Bool, true, false, cond, List, [], ◌∷◌, length, slice_index_or, refl, ap, sym, ◌∙◌, arith, Some, None, if◌then◌else◌}
 use Rattle.std.specs.List.{CopiedTo, SameBelow, SameFrom}
 use Rattle.std.proofs.lemmas.Bool.{false≢true}
-use Rattle.ac_util.specs.declared.search.Anchored.TheVariants.{No, Yes}
-use Rattle.ac_util.specs.Classes.{alphabet_len, class_at}
-use Rattle.ac_util.specs.Node.{Node, failure}
-use Rattle.ac_util.specs.Sameness.{plain_byte}
+use Rattle.ac_automaton.specs.Util.{alphabet_len, class_at, failure, No, Node, plain_byte, Yes}
 use Rattle.ac_util.proofs.Reached.{step-nil, stops}
-use Rattle.ac_automaton.specs.Automata.{plain_of, step_of}
-use Rattle.ac_automaton.specs.Readers.{leads_on, own_bytes}
-use Rattle.ac_engines.specs.Dfa.Filling.{EndsDead, Filling, HasFilled, HasRow, HasSet, IsFilled, MayFillRow, SameBeside, Sheet, row_at, sheet_of}
-use Rattle.ac_engines.specs.Dfa.{anchored_shift, entry}
+use Rattle.ac_automaton.specs.Prelude.{leads_on, own_bytes, plain_of, step_of}
+use Rattle.ac_engines.specs.Prelude.{anchored_shift, EndsDead, entry, Filling, HasFilled, HasRow, HasSet, IsFilled, MayFillRow, row_at, SameBeside, Sheet, sheet_of}
 use Rattle.ac_engines.proofs.Filled.{filled-anchored, filled-longer, own_bytes-has, own_bytes-only, past-set}
 use Rattle.ac_engines.proofs.StateRows.{narrow}
 

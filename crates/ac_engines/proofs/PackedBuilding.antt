@@ -1,14 +1,11 @@
 -- What a build of packed words has made.
-use Rattle.std.proofs.Common.{◌≡◌, ℕ, ◌<◌, List, length, ap, arith, sym, ◌∙◌}
-use Rattle.std.specs.Prelude.{slice_index_or}
+use Rattle.std.proofs.Common.{◌≡◌, ℕ, ◌<◌, List, length, ap, arith, sym, ◌∙◌, slice_index_or}
 use Rattle.std.proofs.lemmas.Grind.{get_or_default_zero}
 use Rattle.std.proofs.lemmas.Option.{slice_get_within}
-use Rattle.ac_util.specs.declared.search.StartKind.TheVariants.{Both}
-use Rattle.ac_util.specs.Node.{Node}
+use Rattle.ac_automaton.specs.Util.{Both, Node}
 use Rattle.ac_automaton.specs.declared.nfa.noncontiguous.state.TheConstants.{ANCHORED_START, START}
-use Rattle.ac_automaton.specs.Common.{CommonView, built_as, common_of}
-use Rattle.ac_engines.specs.Contiguous.{contiguous_of}
-use Rattle.ac_engines.specs.Contiguous.Plans.{HasPlaces, MayPack, PackPlan, front_end, packed_of}
+use Rattle.ac_automaton.specs.Prelude.{built_as, common_of, CommonView}
+use Rattle.ac_engines.specs.Prelude.{contiguous_of, front_end, HasPlaces, MayPack, packed_of, PackPlan}
 
 -- words whose parts are those of a plan were packed by it
 pub packed-same : (q : PackPlan) (nodes : List Node) (numbers words : List ℕ) (common : CommonView)

@@ -1,13 +1,8 @@
 -- A build of a contiguous NFA by settings: an automaton is built by them, and the words are packed from it.
-use Rattle.std.proofs.Common.{◌≡◌, Option, Some, None, inl, inr, ap, sym, subst, ◌∙◌, List, ℕ}
-use Rattle.std.specs.Prelude.{MatchOption, MatchResult, Result, Ok, Err}
-use Rattle.ac_util.specs.declared.error.BuildError.{BuildError}
-use Rattle.ac_util.specs.Built.{Built}
-use Rattle.ac_automaton.specs.Builds.{IsEngineBuilt, IsRefused, IsRefusedExactly, RefusesBy, engine_built_by, refusal_or}
-use Rattle.ac_automaton.specs.Tries.{Trie}
-use Rattle.ac_engines.specs.Classes.{classes_by}
-use Rattle.ac_engines.specs.Contiguous.{ContiguousView}
-use Rattle.ac_engines.specs.Contiguous.Builds.{ContiguousSettings, IsContiguousBuilt, IsContiguousFrom, contiguous_refusal, contiguous_refusal_by, words_from}
+use Rattle.std.proofs.Common.{◌≡◌, Option, Some, None, inl, inr, ap, sym, subst, ◌∙◌, List, ℕ, MatchOption, MatchResult, Result, Ok, Err}
+use Rattle.ac_automaton.specs.Util.{BuildError, Built}
+use Rattle.ac_automaton.specs.Prelude.{engine_built_by, IsEngineBuilt, IsRefused, IsRefusedExactly, refusal_or, RefusesBy, Trie}
+use Rattle.ac_engines.specs.Prelude.{classes_by, contiguous_refusal, contiguous_refusal_by, ContiguousSettings, ContiguousView, IsContiguousBuilt, IsContiguousFrom, words_from}
 
 -- where no limit of the list is passed, and there are numbers for all nodes, the words' own limit comes
 own-limit : (limit states own : Option BuildError) (e : BuildError) → limit ≡ None → states ≡ None

@@ -1,17 +1,10 @@
 -- What the number of a packed state tells.
-use Rattle.std.proofs.Common.{◌≡◌, ◌≢◌, ℕ, ◌<◌, ◌≤◌, ◌⊎◌, ◌↔◌, List, [], ◌∷◌, drop, inl, inr, length, refl, ap, subst, sym, ◌∙◌, arith, Some, None}
-use Rattle.std.specs.Prelude.{slice_index_or}
+use Rattle.std.proofs.Common.{◌≡◌, ◌≢◌, ℕ, ◌<◌, ◌≤◌, ◌⊎◌, ◌↔◌, List, [], ◌∷◌, drop, inl, inr, length, refl, ap, subst, sym, ◌∙◌, arith, Some, None, slice_index_or}
 use Rattle.std.specs.List.{All}
-use Rattle.ac_util.specs.declared.primitives.TheConstants.{GREATEST}
+use Rattle.ac_automaton.specs.Util.{alphabet_len, GREATEST, No, Node, Yes}
 use Rattle.ac_util.specs.declared.search.Anchored.{Anchored}
-use Rattle.ac_util.specs.declared.search.Anchored.TheVariants.{No, Yes}
-use Rattle.ac_util.specs.Classes.{alphabet_len}
-use Rattle.ac_util.specs.Node.{Node}
 use Rattle.ac_automaton.specs.Automata.{matches_of}
-use Rattle.ac_engines.specs.Contiguous.{ContiguousView, Places, IsContiguousState, match_list_at, number_at, spelling_at}
-use Rattle.ac_engines.specs.declared.nfa.contiguous.format.Format.{Format}
-use Rattle.ac_engines.specs.Contiguous.Sizes.{node_format}
-use Rattle.ac_engines.specs.Contiguous.Words.{BeginsWith, Spelling}
+use Rattle.ac_engines.specs.Prelude.{BeginsWith, ContiguousView, Format, IsContiguousState, match_list_at, node_format, number_at, Places, Spelling, spelling_at}
 use Rattle.ac_engines.proofs.MatchCounts.{matches-numbered}
 
 -- what a state spells has the matches of its node

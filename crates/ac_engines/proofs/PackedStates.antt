@@ -1,28 +1,15 @@
 -- Packed states, as they stand after one another, mean what they should.
-use Rattle.std.proofs.Common.{◌≡◌, ◌≢◌, ℕ, ◌+◌, ◌<◌, ◌≤◌, ◌↔◌, inl, inr, Bool, true, false, List, [], ◌∷◌, ◌++◌, length, drop, None, Some, refl, ap, subst, sym, ◌∙◌, arith}
-use Rattle.std.specs.Prelude.{slice_get, slice_index_or}
+use Rattle.std.proofs.Common.{◌≡◌, ◌≢◌, ℕ, ◌+◌, ◌<◌, ◌≤◌, ◌↔◌, inl, inr, Bool, true, false, List, [], ◌∷◌, ◌++◌, length, drop, None, Some, refl, ap, subst, sym, ◌∙◌, arith, slice_get, slice_index_or}
 use Rattle.std.proofs.lemmas.Bool.{cases_lt, ltb-false, ltb-true}
 use Rattle.std.proofs.lemmas.List.{append_assoc, nil_from_length}
 use Rattle.std.proofs.lemmas.Option.{slice_get_within}
-use Rattle.ac_util.specs.declared.primitives.TheConstants.{GREATEST}
+use Rattle.ac_automaton.specs.Util.{alphabet_len, GREATEST, IsNode, No, Node, Yes}
 use Rattle.ac_util.specs.declared.search.Anchored.{Anchored}
-use Rattle.ac_util.specs.declared.search.Anchored.TheVariants.{No, Yes}
-use Rattle.ac_util.specs.Classes.{IsNode, alphabet_len}
-use Rattle.ac_util.specs.Node.{Node}
 use Rattle.ac_util.proofs.ClassLists.{alphabet_len-few}
 use Rattle.ac_util.proofs.NodeCount.{inner_nodes-has}
-use Rattle.ac_automaton.specs.Automata.{matches_of, plain_of}
 use Rattle.ac_automaton.specs.declared.nfa.noncontiguous.state.TheConstants.{START}
-use Rattle.ac_automaton.specs.Readers.{own_bytes}
-use Rattle.ac_engines.specs.declared.nfa.contiguous.format.Format.{Format}
-use Rattle.ac_engines.specs.declared.nfa.contiguous.format.Format.TheVariants.{Dense, One, Sparse}
-use Rattle.ac_engines.specs.declared.nfa.contiguous.state.TheConstants.{FAIL}
-use Rattle.ac_engines.specs.Contiguous.Formats.{words_of_state}
-use Rattle.ac_engines.specs.Contiguous.{IsContiguous, ContiguousView, Places, match_list_at, number_at, spelling_at}
-use Rattle.ac_engines.specs.Contiguous.Plans.{front_end, has_matches, packed_of, place_at, places_of, size_at, size_of, total}
-use Rattle.ac_engines.specs.Contiguous.Packs.{AreReady, HasPushed, Packer, state_spelling}
-use Rattle.ac_engines.specs.Contiguous.Sizes.{node_format, packed_words}
-use Rattle.ac_engines.specs.Contiguous.Words.{BeginsWith, Spelling, spelled}
+use Rattle.ac_automaton.specs.Prelude.{matches_of, own_bytes, plain_of}
+use Rattle.ac_engines.specs.Prelude.{AreReady, BeginsWith, ContiguousView, Dense, FAIL, Format, front_end, has_matches, HasPushed, IsContiguous, match_list_at, node_format, number_at, One, packed_of, packed_words, Packer, place_at, Places, places_of, size_at, size_of, Sparse, spelled, Spelling, spelling_at, state_spelling, total, words_of_state}
 use Rattle.ac_engines.proofs.Decoding.{listed-none, listed-spelled}
 use Rattle.ac_engines.proofs.Numbered.{place-inner, place-start}
 use Rattle.ac_engines.proofs.PackedSums.{total-grows}

@@ -1,22 +1,13 @@
 -- Where a state of packed words leads, by the node that it stands for.
-use Rattle.std.proofs.Common.{◌≡◌, ◌≢◌, ℕ, ◌+◌, ◌<◌, Bool, true, false, List, [], ◌∷◌, ◌++◌, ◌⊎◌, inl, inr, refl, ap, sym, ◌∙◌, arith, Some, None}
-use Rattle.std.specs.Prelude.{◌&&◌, if◌then◌else◌, slice_index_or}
+use Rattle.std.proofs.Common.{◌≡◌, ◌≢◌, ℕ, ◌+◌, ◌<◌, Bool, true, false, List, [], ◌∷◌, ◌++◌, ◌⊎◌, inl, inr, refl, ap, sym, ◌∙◌, arith, Some, None, ◌&&◌, if◌then◌else◌, slice_index_or}
 use Rattle.std.proofs.lemmas.Bool.{cond-true, cond-false}
 use Rattle.std.proofs.lemmas.List.Elements.{All-map, Contains-get_or}
 use Rattle.ac_util.specs.declared.search.Anchored.{Anchored}
-use Rattle.ac_util.specs.declared.search.Anchored.TheVariants.{No, Yes}
-use Rattle.ac_util.specs.Classes.{IsNode, class_at}
-use Rattle.ac_util.specs.Node.{Node, begins_with_pattern, depth, is_leftmost, step}
-use Rattle.ac_util.specs.Sameness.{plain_byte}
+use Rattle.ac_automaton.specs.Util.{begins_with_pattern, class_at, depth, is_leftmost, IsNode, No, Node, plain_byte, step, Yes}
 use Rattle.ac_util.proofs.Failures.{depth-failure}
-use Rattle.ac_automaton.specs.Automata.{plain_of, looks_of, step_of}
-use Rattle.ac_automaton.specs.Readers.{leads_on, own_bytes}
-use Rattle.ac_automaton.specs.Tries.{miss}
+use Rattle.ac_automaton.specs.Prelude.{leads_on, looks_of, miss, own_bytes, plain_of, step_of}
 use Rattle.ac_automaton.proofs.Steps.{looks-on, looks-own_target, looks-short, step-miss, step-on, step-own_target}
-use Rattle.ac_engines.specs.declared.nfa.contiguous.state.TheConstants.{FAIL}
-use Rattle.ac_engines.specs.declared.nfa.contiguous.state.Edge.{Edge}
-use Rattle.ac_engines.specs.Contiguous.{IsContiguous, ContiguousView, Places, edges_of, number_at, spelling_at}
-use Rattle.ac_engines.specs.Contiguous.Words.{AreNamed, target_by}
+use Rattle.ac_engines.specs.Prelude.{AreNamed, ContiguousView, Edge, edges_of, FAIL, IsContiguous, number_at, Places, spelling_at, target_by}
 use Rattle.ac_engines.proofs.EdgeTargets.{no-target, own-target}
 use Rattle.ac_engines.proofs.Filled.{own_bytes-only}
 use Rattle.ac_engines.proofs.Numbers.{failure-node}

@@ -1,16 +1,12 @@
 -- The places of a plan's states, by the sums of their sizes.
-use Rattle.std.proofs.Common.{◌≡◌, ℕ, zero, suc, ◌+◌, ◌-◌, ◌*◌, ◌<◌, ◌≤◌, Bool, true, false, cond, List, [], ◌∷◌, ◌++◌, inl, inr, length, get_or, None, Some, refl, ap, sym, ◌∙◌, arith}
-use Rattle.std.specs.Prelude.{nat_lt, slice_get, slice_index_or}
+use Rattle.std.proofs.Common.{◌≡◌, ℕ, zero, suc, ◌+◌, ◌-◌, ◌*◌, ◌<◌, ◌≤◌, Bool, true, false, cond, List, [], ◌∷◌, ◌++◌, inl, inr, length, get_or, None, Some, refl, ap, sym, ◌∙◌, arith, nat_lt, slice_get, slice_index_or}
 use Rattle.std.proofs.lemmas.Bool.{cases_lt, cond-false, le-ltb}
 use Rattle.std.proofs.lemmas.List.{get_or-append_right, get_or_append_left}
 use Rattle.std.proofs.lemmas.Option.{slice_get-get_or}
-use Rattle.ac_util.specs.Classes.{alphabet_len}
-use Rattle.ac_util.specs.Node.{Node}
-use Rattle.ac_util.specs.Sizes.{state_count}
-use Rattle.ac_automaton.specs.Automata.{plain_of}
+use Rattle.ac_automaton.specs.Util.{alphabet_len, Node, state_count}
 use Rattle.ac_automaton.specs.declared.nfa.noncontiguous.state.TheConstants.{START}
-use Rattle.ac_engines.specs.Contiguous.Plans.{HasWords, MayPack, PackPlan, front_end, has_matches, place_at, placed, size_at, size_of, sized, total}
-use Rattle.ac_engines.specs.Contiguous.Sizes.{packed_words}
+use Rattle.ac_automaton.specs.Prelude.{plain_of}
+use Rattle.ac_engines.specs.Prelude.{front_end, has_matches, HasWords, MayPack, packed_words, PackPlan, place_at, placed, size_at, size_of, sized, total}
 use Rattle.ac_engines.proofs.LaidUpTo.{IsNamed}
 use Rattle.ac_engines.proofs.PackedSums.{total-both, total-grows, total-inner, total-more}
 

@@ -1,16 +1,11 @@
 -- How many words a state takes, and where its words begin.
-use Rattle.std.proofs.Common.{◌≡◌, ℕ, ◌<◌, ◌≤◌, List, [], ◌∷◌, ◌++◌, length, map, drop, refl, sym, ap, ◌∙◌, arith}
-use Rattle.std.specs.Prelude.{slice_index_or}
+use Rattle.std.proofs.Common.{◌≡◌, ℕ, ◌<◌, ◌≤◌, List, [], ◌∷◌, ◌++◌, length, map, drop, refl, sym, ap, ◌∙◌, arith, slice_index_or}
 use Rattle.std.specs.List.{All, range_with_len}
 use Rattle.std.specs.List.Sorted.{IsStrictlyIncreasing}
 use Rattle.std.proofs.lemmas.List.{append-nil, append_assoc, drop-append-le, drop_at, length-append, length-map}
 use Rattle.std.proofs.lemmas.List.FromFn.{length-map-range_with_len}
-use Rattle.ac_engines.specs.declared.nfa.contiguous.format.Format.{Format}
-use Rattle.ac_engines.specs.declared.nfa.contiguous.format.Format.TheVariants.{Dense, One, Sparse}
-use Rattle.ac_engines.specs.declared.nfa.contiguous.state.Edge.{Edge}
-use Rattle.ac_engines.specs.declared.nfa.contiguous.state.TheConstants.{ONE_MATCH}
-use Rattle.ac_engines.specs.Contiguous.Formats.{match_words, words_of_state}
-use Rattle.ac_engines.specs.Contiguous.Words.{BeginsWith, Fits, Spelling, class_words, match_spelling, one_spelling, spelled, target_by}
+use Rattle.ac_engines.specs.Prelude.{BeginsWith, class_words, Dense, Edge, Format, match_spelling, match_words, One, ONE_MATCH, one_spelling, Sparse, spelled, Spelling, target_by, words_of_state}
+use Rattle.ac_engines.specs.Contiguous.Words.{Fits}
 use Rattle.ac_engines.proofs.ClassWords.{length-class_words}
 
 -- two words stand before what is pushed after them

@@ -1,19 +1,13 @@
 -- Pushing the words of one state after another.
-use Rattle.std.proofs.Common.{◌≡◌, ◌≢◌, ℕ, ◌+◌, ◌<◌, ◌≤◌, Bool, true, false, List, [], ◌++◌, drop, length, inl, inr, refl, ap, sym, subst, ◌∙◌, arith, Some}
-use Rattle.std.specs.Prelude.{slice_get}
+use Rattle.std.proofs.Common.{◌≡◌, ◌≢◌, ℕ, ◌+◌, ◌<◌, ◌≤◌, Bool, true, false, List, [], ◌++◌, drop, length, inl, inr, refl, ap, sym, subst, ◌∙◌, arith, Some, slice_get}
 use Rattle.std.proofs.lemmas.Bool.{cases_lt}
 use Rattle.std.proofs.lemmas.List.{append_assoc, append-nil, length-append}
 use Rattle.std.proofs.lemmas.Option.{slice_get_within}
-use Rattle.ac_util.specs.Classes.{alphabet_len}
-use Rattle.ac_util.specs.Node.{Node}
+use Rattle.ac_automaton.specs.Util.{alphabet_len, Node}
 use Rattle.ac_automaton.specs.declared.nfa.noncontiguous.state.TheConstants.{START}
-use Rattle.ac_automaton.specs.Readers.{own_bytes}
+use Rattle.ac_automaton.specs.Prelude.{own_bytes}
 use Rattle.ac_automaton.proofs.Places.{get-same}
-use Rattle.ac_engines.specs.Contiguous.Formats.{words_of_state}
-use Rattle.ac_engines.specs.Contiguous.Plans.{has_matches, packed_of, places_of, size_at, size_of}
-use Rattle.ac_engines.specs.Contiguous.Packs.{AreReady, HasPushed, Packer, anchored_of, state_spelling, state_words}
-use Rattle.ac_engines.specs.Contiguous.Sizes.{node_format}
-use Rattle.ac_engines.specs.Contiguous.Words.{BeginsWith}
+use Rattle.ac_engines.specs.Prelude.{anchored_of, AreReady, BeginsWith, has_matches, HasPushed, node_format, packed_of, Packer, places_of, size_at, size_of, state_spelling, state_words, words_of_state}
 use Rattle.ac_engines.proofs.PackedSums.{total-grows}
 use Rattle.ac_engines.proofs.PlanSums.{before, before-starts, takes}
 use Rattle.ac_engines.proofs.PushedStates.{begins-before, begins-after, length-spelled}

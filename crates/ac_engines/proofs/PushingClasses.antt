@@ -1,10 +1,8 @@
 -- Writing classes in words, four in each.
-use Rattle.std.proofs.Common.{◌≡◌, inl, inr, ℕ, ◌-◌, ◌<◌, ◌≤◌, List, [], ◌∷◌, ◌++◌, length, map, take, drop, refl, sym, ap, ◌∙◌, arith}
-use Rattle.std.specs.Prelude.{slice_index, min}
+use Rattle.std.proofs.Common.{◌≡◌, inl, inr, ℕ, ◌-◌, ◌<◌, ◌≤◌, List, [], ◌∷◌, ◌++◌, length, map, take, drop, refl, sym, ap, ◌∙◌, arith, slice_index, min}
 use Rattle.std.proofs.lemmas.Bool.{cases_lt}
 use Rattle.std.proofs.lemmas.List.{append-nil, append_assoc, drop-map, drop_at, length-append, nil_from_length, take-map, take_at}
-use Rattle.ac_engines.specs.declared.nfa.contiguous.state.Edge.{Edge}
-use Rattle.ac_engines.specs.Contiguous.Words.{class_words, word_of}
+use Rattle.ac_engines.specs.Prelude.{class_words, Edge, word_of}
 
 -- up to four classes stand in one word, which is filled up with the last one
 pub class_words-one : (classes : List ℕ) → 0 < length classes → length classes ≤ 4

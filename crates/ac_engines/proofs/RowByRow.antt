@@ -1,17 +1,11 @@
 -- The rows of a table, filled one after another.
-use Rattle.std.proofs.Common.{◌≡◌, ◌≢◌, inl, inr, ℕ, zero, suc, ◌+◌, ◌<◌, ◌≤◌, List, length, slice_index_or, refl, ap, sym, ◌∙◌, arith, Some, None}
-use Rattle.std.specs.Prelude.{slice_get}
+use Rattle.std.proofs.Common.{◌≡◌, ◌≢◌, inl, inr, ℕ, zero, suc, ◌+◌, ◌<◌, ◌≤◌, List, length, slice_index_or, refl, ap, sym, ◌∙◌, arith, Some, None, slice_get}
 use Rattle.std.proofs.lemmas.Bool.{cases_lt}
 use Rattle.std.proofs.lemmas.Option.{slice_get_within}
 use Rattle.ac_util.specs.declared.search.Anchored.{Anchored}
-use Rattle.ac_util.specs.declared.search.Anchored.TheVariants.{No, Yes}
-use Rattle.ac_util.specs.declared.search.StartKind.{StartKind}
-use Rattle.ac_util.specs.declared.search.StartKind.TheVariants.{Anchored as AnchoredAlone, Both, Unanchored}
-use Rattle.ac_util.specs.Classes.{class_at}
-use Rattle.ac_util.specs.Node.{Node}
-use Rattle.ac_util.specs.Refusal.{start_refusal}
-use Rattle.ac_engines.specs.Dfa.Filling.{FilledUpTo, Filling, HasFilled, HasRow, IsFilled, MayFill, MayFillRow, SameBeside, Sheet, row_at, sheet_of, width}
-use Rattle.ac_engines.specs.Dfa.{anchored_shift}
+use Rattle.ac_automaton.specs.Util.{Both, class_at, No, Node, start_refusal, StartKind, Unanchored, Yes}
+use Rattle.ac_util.specs.declared.search.StartKind.TheVariants.{Anchored as AnchoredAlone}
+use Rattle.ac_engines.specs.Prelude.{anchored_shift, FilledUpTo, Filling, HasFilled, HasRow, IsFilled, MayFill, MayFillRow, row_at, SameBeside, Sheet, sheet_of, width}
 use Rattle.ac_engines.proofs.Filled.{filled-beside}
 use Rattle.ac_engines.proofs.Numbered.{place-row}
 use Rattle.ac_engines.proofs.Owning.{anchored_shift-most}

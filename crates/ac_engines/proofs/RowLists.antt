@@ -3,18 +3,11 @@ use Rattle.std.proofs.Common.{◌≡◌, ◌⊎◌, inl, inr, ℕ, zero, suc, �
 use Rattle.std.proofs.Math.Nat.{mul-div_cancel}
 use Rattle.std.proofs.lemmas.Nat.{mul-le}
 use Rattle.ac_util.specs.declared.search.Anchored.{Anchored}
-use Rattle.ac_util.specs.declared.search.Anchored.TheVariants.{No, Yes}
-use Rattle.ac_util.specs.declared.search.StartKind.{StartKind}
-use Rattle.ac_util.specs.declared.search.StartKind.TheVariants.{Anchored as AnchoredAlone, Both, Unanchored}
-use Rattle.ac_util.specs.declared.primitives.TheConstants.{GREATEST}
-use Rattle.ac_util.specs.Built.{Built}
-use Rattle.ac_util.specs.Node.{Node}
-use Rattle.ac_util.specs.Refusal.{start_refusal}
+use Rattle.ac_automaton.specs.Util.{Both, Built, GREATEST, No, Node, start_refusal, StartKind, Unanchored, Yes}
+use Rattle.ac_util.specs.declared.search.StartKind.TheVariants.{Anchored as AnchoredAlone}
 use Rattle.ac_util.proofs.Advance.{append_nil_left}
-use Rattle.ac_automaton.specs.Automata.{matches_of}
-use Rattle.ac_automaton.specs.Tries.{IsTrieState, Trie, listed_within, stands-lists}
-use Rattle.ac_engines.specs.Dfa.Layouts.{first_lists, row_list, row_lists, rows_each, table_rows}
-use Rattle.ac_engines.specs.Dfa.{anchored_shift}
+use Rattle.ac_automaton.specs.Prelude.{IsTrieState, listed_within, matches_of, stands-lists, Trie}
+use Rattle.ac_engines.specs.Prelude.{anchored_shift, first_lists, row_list, row_lists, rows_each, table_rows}
 
 -- a state that lists nothing has no matches, unanchored or anchored
 pub unmatched : (trie : Trie) (s : ℕ) (u : Node) → IsTrieState trie s u

@@ -1,12 +1,10 @@
 -- Setting own transitions in a row of a table, one after another.
-use Rattle.std.proofs.Common.{◌≡◌, ◌≢◌, inl, inr, ℕ, ◌+◌, ◌<◌, List, [], ◌∷◌, ◌++◌, length, slice_set, refl, sym, ◌∙◌, arith, Some}
-use Rattle.std.specs.Prelude.{Contains}
+use Rattle.std.proofs.Common.{◌≡◌, ◌≢◌, inl, inr, ℕ, ◌+◌, ◌<◌, List, [], ◌∷◌, ◌++◌, length, slice_set, refl, sym, ◌∙◌, arith, Some, Contains}
 use Rattle.std.proofs.lemmas.Bool.{cases_eq}
 use Rattle.std.proofs.lemmas.List.{get_or-set_same, get_or-set_other, length-set}
 use Rattle.std.proofs.lemmas.List.Elements.{Contains-append_cases, Contains-append_left, Contains-append_right}
 use Rattle.ac_util.specs.declared.search.Anchored.{Anchored}
-use Rattle.ac_util.specs.Classes.{alphabet_len, class_at}
-use Rattle.ac_util.specs.Sameness.{plain_byte}
+use Rattle.ac_automaton.specs.Util.{alphabet_len, class_at, plain_byte}
 use Rattle.ac_util.proofs.Lists.{IsIn-from_Contains}
 use Rattle.ac_engines.specs.Dfa.Filling.{HasSet, Sheet, row_at}
 

@@ -1,19 +1,9 @@
 -- How many words and how many entries the engines take, as the definitions compute them for worked lists of patterns.
 use Rattle.std.specs.Prelude.{◌≡◌, ℕ, ◌*◌, Bool, true, false, List, [], ◌∷◌, codes, map, refl}
-use Rattle.ac_util.specs.declared.search.MatchKind.{MatchKind}
-use Rattle.ac_util.specs.declared.search.MatchKind.TheVariants.{LeftmostFirst, Standard}
-use Rattle.ac_util.specs.declared.search.StartKind.{StartKind}
-use Rattle.ac_util.specs.declared.search.StartKind.TheVariants.{Anchored as AnchoredAlone, Both, Unanchored}
-use Rattle.ac_util.specs.Built.{Built}
-use Rattle.ac_util.specs.Classes.{alphabet_len, class_of, classes_of, singletons, stride, stride2}
-use Rattle.ac_util.specs.Sizes.{state_count}
-use Rattle.ac_automaton.specs.Automata.{plain_of}
-use Rattle.ac_automaton.specs.Readers.{own_bytes}
-use Rattle.ac_engines.specs.declared.nfa.contiguous.format.Format.TheVariants.{Dense, Sparse}
-use Rattle.ac_engines.specs.Classes.{classes_by}
-use Rattle.ac_engines.specs.Contiguous.Formats.{words_of_state}
-use Rattle.ac_engines.specs.Dfa.Layouts.{table_rows}
-use Rattle.ac_engines.specs.Contiguous.Sizes.{packed_words}
+use Rattle.ac_automaton.specs.Util.{alphabet_len, Both, Built, class_of, classes_of, LeftmostFirst, MatchKind, singletons, Standard, StartKind, state_count, stride, stride2, Unanchored}
+use Rattle.ac_util.specs.declared.search.StartKind.TheVariants.{Anchored as AnchoredAlone}
+use Rattle.ac_automaton.specs.Prelude.{own_bytes, plain_of}
+use Rattle.ac_engines.specs.Prelude.{classes_by, Dense, packed_words, Sparse, table_rows, words_of_state}
 
 -- three patterns, two of which begin alike, and one alone
 abbrev three : List (List ℕ)

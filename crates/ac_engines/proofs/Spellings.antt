@@ -1,6 +1,5 @@
 -- What stands where in the words of a state.
-use Rattle.std.proofs.Common.{refl, ◌≡◌, ◌≢◌, ℕ, ◌+◌, ◌*◌, ◌-◌, ◌/◌, ◌%◌, ◌<◌, ◌≤◌, Bool, true, false, List, [], ◌∷◌, ◌++◌, length, map, take, drop, Some, None, ap, sym, subst, ◌∙◌, arith}
-use Rattle.std.specs.Prelude.{◌==◌, All, slice_index_or}
+use Rattle.std.proofs.Common.{refl, ◌≡◌, ◌≢◌, ℕ, ◌+◌, ◌*◌, ◌-◌, ◌/◌, ◌%◌, ◌<◌, ◌≤◌, Bool, true, false, List, [], ◌∷◌, ◌++◌, length, map, take, drop, Some, None, ap, sym, subst, ◌∙◌, arith, ◌==◌, All, slice_index_or}
 use Rattle.std.specs.Int.{div_ceil}
 use Rattle.std.specs.List.{range_with_len}
 use Rattle.std.proofs.lemmas.Bool.{cond-false, cond-true, eq-eqb, eqb-false, eqb-true, ne_eqb}
@@ -9,11 +8,7 @@ use Rattle.std.proofs.Math.Seq.{take-append_seam}
 use Rattle.std.proofs.lemmas.List.{append_assoc, drop_at, get_or-drop, get_or_append_left, length-append, length-drop, length-map, take_all}
 use Rattle.std.proofs.lemmas.Option.{same_Some}
 use Rattle.std.proofs.lemmas.List.FromFn.{get_or-map-range_with_len, length-map-range_with_len}
-use Rattle.ac_engines.specs.declared.nfa.contiguous.format.Format.{Format}
-use Rattle.ac_engines.specs.declared.nfa.contiguous.format.Format.TheVariants.{Dense, One, Sparse}
-use Rattle.ac_engines.specs.declared.nfa.contiguous.state.Edge.{Edge}
-use Rattle.ac_engines.specs.declared.nfa.contiguous.state.TheConstants.{DENSE, FAIL, ONE}
-use Rattle.ac_engines.specs.Contiguous.Words.{AreNamed, BeginsWith, Spelling, class_words, match_spelling, named, one_spelling, spelled, target_by}
+use Rattle.ac_engines.specs.Prelude.{AreNamed, BeginsWith, class_words, DENSE, Dense, Edge, FAIL, Format, match_spelling, named, ONE, One, one_spelling, Sparse, spelled, Spelling, target_by}
 use Rattle.ac_engines.proofs.ClassWords.{classes_of, length-class_words, targets_of}
 
 -- as many class words as the code counts hold the classes of the transitions

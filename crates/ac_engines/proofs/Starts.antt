@@ -1,10 +1,6 @@
 -- Where the start leads.
-use Rattle.std.proofs.Common.{◌≡◌, ℕ, ◌<◌, Bool, true, false, ◌⊎◌, inl, inr, List, [], ◌∷◌, map, refl, arith}
-use Rattle.std.specs.Prelude.{◌&&◌, if◌then◌else◌}
-use Rattle.ac_util.specs.declared.search.MatchKind.{MatchKind}
-use Rattle.ac_util.specs.Node.{begins_with_pattern, is_leftmost}
-use Rattle.ac_util.specs.Sameness.{plain}
-use Rattle.ac_util.specs.Sizes.{shortest_len}
+use Rattle.std.proofs.Common.{◌≡◌, ℕ, ◌<◌, Bool, true, false, ◌⊎◌, inl, inr, List, [], ◌∷◌, map, refl, arith, ◌&&◌, if◌then◌else◌}
+use Rattle.ac_automaton.specs.Util.{begins_with_pattern, is_leftmost, MatchKind, plain, shortest_len}
 
 -- the empty string begins with a pattern where the shortest one is empty
 pub begins-shortest : (fold : Bool) (patterns : List (List ℕ)) → shortest_len patterns ≡ 0

@@ -1,15 +1,9 @@
 -- Which states of a trie have rows in a table, and that these stand apart.
-use Rattle.std.proofs.Common.{◌≡◌, ◌≢◌, ◌⊎◌, inl, inr, ℕ, zero, suc, ◌+◌, ◌*◌, ◌<◌, ◌≤◌, List, [], ◌∷◌, length, slice_index_or, refl, ap, arith, Some, None}
-use Rattle.std.specs.Prelude.{slice_get}
+use Rattle.std.proofs.Common.{◌≡◌, ◌≢◌, ◌⊎◌, inl, inr, ℕ, zero, suc, ◌+◌, ◌*◌, ◌<◌, ◌≤◌, List, [], ◌∷◌, length, slice_index_or, refl, ap, arith, Some, None, slice_get}
 use Rattle.std.proofs.lemmas.Option.{slice_get_within}
-use Rattle.ac_util.specs.declared.search.Anchored.TheVariants.{No, Yes}
-use Rattle.ac_util.specs.declared.search.StartKind.{StartKind}
-use Rattle.ac_util.specs.declared.search.StartKind.TheVariants.{Anchored as AnchoredAlone, Both, Unanchored}
-use Rattle.ac_util.specs.declared.search.MatchKind.{MatchKind}
-use Rattle.ac_util.specs.Classes.{class_at}
-use Rattle.ac_util.specs.Node.{Node, failure}
-use Rattle.ac_engines.specs.Dfa.Filling.{Filling, HasRow, MayFill, row_at, sheet_of, width}
-use Rattle.ac_engines.specs.Dfa.{anchored_shift}
+use Rattle.ac_automaton.specs.Util.{Both, class_at, failure, MatchKind, No, Node, StartKind, Unanchored, Yes}
+use Rattle.ac_util.specs.declared.search.StartKind.TheVariants.{Anchored as AnchoredAlone}
+use Rattle.ac_engines.specs.Prelude.{anchored_shift, Filling, HasRow, MayFill, row_at, sheet_of, width}
 use Rattle.ac_engines.proofs.Numbers.{anchored_shift-small}
 use Rattle.ac_engines.proofs.Numbered.{place-inner, place-start}
 

@@ -1,6 +1,5 @@
 -- What the states of a trie spell.
-use Rattle.std.proofs.Common.{◌≡◌, ◌≢◌, inl, inr, ℕ, zero, suc, ◌+◌, ◌-◌, ◌<◌, ◌≤◌, Bool, true, false, List, [], ◌∷◌, ◌++◌, length, map, slice_index_or, take, refl, ap, sym, ◌∙◌, arith, Some, None}
-use Rattle.std.specs.Prelude.{option_map, ◌&&◌, nat_lt, slice_get, if◌then◌else◌}
+use Rattle.std.proofs.Common.{◌≡◌, ◌≢◌, inl, inr, ℕ, zero, suc, ◌+◌, ◌-◌, ◌<◌, ◌≤◌, Bool, true, false, List, [], ◌∷◌, ◌++◌, length, map, slice_index_or, take, refl, ap, sym, ◌∙◌, arith, Some, None, option_map, ◌&&◌, nat_lt, slice_get, if◌then◌else◌}
 use Rattle.std.specs.List.{All, range_with_len}
 use Rattle.std.specs.List.Sorted.{IsStrictlyIncreasing}
 use Rattle.std.proofs.lemmas.Bool.{cases_lt, ltb-false}
@@ -8,27 +7,14 @@ use Rattle.std.proofs.lemmas.List.{get_or_past, length-map}
 use Rattle.std.proofs.lemmas.List.Elements.{All-map}
 use Rattle.std.proofs.lemmas.Option.{slice_get-map, slice_get_within}
 use Rattle.ac_util.specs.declared.search.Anchored.{Anchored}
-use Rattle.ac_util.specs.declared.search.Anchored.TheVariants.{No, Yes}
-use Rattle.ac_util.specs.Classes.{AreClasses, alphabet_len, class_at}
-use Rattle.ac_util.specs.Node.{Node, begins_with_pattern, failure, is_leftmost}
-use Rattle.ac_util.specs.Sameness.{plain_byte}
+use Rattle.ac_automaton.specs.Util.{alphabet_len, AreClasses, begins_with_pattern, class_at, failure, is_leftmost, No, Node, plain_byte, Yes}
 use Rattle.ac_util.proofs.ClassLemmas.{stands-from_node}
 use Rattle.ac_util.proofs.ClassLists.{alphabet_len-few, class_at-below}
 use Rattle.ac_util.proofs.Lists.{AllPairs-from_IsOrdered, All-from_IsIn, Contains-from_IsIn, IsIn, IsOrdered, IsOrdered-filter, IsOrdered-map, IsOrdered-range}
-use Rattle.ac_automaton.specs.Automata.{matches_of, plain_of}
-use Rattle.ac_automaton.specs.Readers.{AreNodes, IsOwn, leads_on, own_bytes}
-use Rattle.ac_automaton.specs.Tries.{Trie}
+use Rattle.ac_automaton.specs.Prelude.{AreNodes, IsOwn, leads_on, matches_of, own_bytes, plain_of, Trie}
 use Rattle.ac_automaton.proofs.Places.{take-next}
-use Rattle.ac_engines.specs.declared.nfa.contiguous.state.Edge.{Edge}
-use Rattle.ac_engines.specs.declared.nfa.contiguous.state.TheConstants.{FAIL, ONE_MATCH}
-use Rattle.ac_engines.specs.declared.nfa.contiguous.format.Format.{Format}
-use Rattle.ac_engines.specs.declared.nfa.contiguous.format.Format.TheVariants.{Dense}
-use Rattle.ac_engines.specs.Contiguous.Formats.{format_of, most_sparse, sparse_format}
-use Rattle.ac_engines.specs.Contiguous.Plans.{MayPack, PackPlan, packed_of, places_of}
-use Rattle.ac_engines.specs.Contiguous.{ContiguousView, Places, edges_of, number_at, spelling_at}
-use Rattle.ac_engines.specs.Contiguous.Packs.{AreReady, Packer, anchored_of, state_spelling}
-use Rattle.ac_engines.specs.Contiguous.Sizes.{node_format}
-use Rattle.ac_engines.specs.Contiguous.Words.{Fits, Spelling, spelled}
+use Rattle.ac_engines.specs.Prelude.{anchored_of, AreReady, ContiguousView, Dense, Edge, edges_of, FAIL, Format, format_of, MayPack, most_sparse, node_format, number_at, ONE_MATCH, packed_of, Packer, PackPlan, Places, places_of, sparse_format, spelled, Spelling, spelling_at, state_spelling}
+use Rattle.ac_engines.specs.Contiguous.Words.{Fits}
 use Rattle.ac_engines.proofs.Filled.{own_bytes-only, own_bytes-small}
 use Rattle.ac_engines.proofs.MatchCounts.{matches-few, matches-numbered}
 use Rattle.ac_engines.proofs.Owning.{longer}

@@ -1,6 +1,5 @@
 -- Which transitions stand in the words of a state.
-use Rattle.std.proofs.Common.{refl, ◌≡◌, ◌≢◌, ℕ, zero, suc, ◌+◌, ◌/◌, ◌%◌, ◌<◌, List, [], ◌∷◌, ◌++◌, length, map, take, drop, ap, sym, subst, ◌∙◌, arith}
-use Rattle.std.specs.Prelude.{All, slice_index_or, Option, Some, None}
+use Rattle.std.proofs.Common.{refl, ◌≡◌, ◌≢◌, ℕ, zero, suc, ◌+◌, ◌/◌, ◌%◌, ◌<◌, List, [], ◌∷◌, ◌++◌, length, map, take, drop, ap, sym, subst, ◌∙◌, arith, All, slice_index_or, Option, Some, None}
 use Rattle.std.specs.Borrow.{Bor}
 use Rattle.std.specs.Iterator.{MakesProgress, item_count}
 use Rattle.std.specs.Int.{div_ceil, to_le_bytes, w32}
@@ -9,10 +8,7 @@ use Rattle.std.proofs.Math.Seq.{take-append_seam}
 use Rattle.std.proofs.lemmas.List.{get_or_append_left, length-map}
 use Rattle.std.proofs.lemmas.List.Elements.{All-drop}
 use Rattle.std.proofs.lemmas.List.FromFn.{length-map-range_with_len}
-use Rattle.ac_engines.specs.declared.nfa.contiguous.format.Format.{Format}
-use Rattle.ac_engines.specs.declared.nfa.contiguous.format.Format.TheVariants.{Dense, One, Sparse}
-use Rattle.ac_engines.specs.declared.nfa.contiguous.state.Edge.{Edge}
-use Rattle.ac_engines.specs.Contiguous.Words.{BeginsWith, Spelling, class_of_place, class_words, edges_from, match_spelling, packed_class, target_by, transitions_of, word_of}
+use Rattle.ac_engines.specs.Prelude.{BeginsWith, class_of_place, class_words, Dense, Edge, edges_from, Format, match_spelling, One, packed_class, Sparse, Spelling, target_by, transitions_of, word_of}
 use Rattle.ac_engines.proofs.ClassWords.{classes_of, targets_of}
 use Rattle.ac_engines.proofs.Spellings.{after, dense-words, form, form-dense, form-one, form-sparse, one-words, splits-at}
 

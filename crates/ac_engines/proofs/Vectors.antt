@@ -1,10 +1,6 @@
 -- States whose words are written by hand.
-use Rattle.std.proofs.Common.{refl, ℕ, zero, suc, ◌+◌, ◌<◌, [], ◌∷◌, arith}
-use Rattle.std.specs.Prelude.{All, slice_index, slice_index_or}
-use Rattle.ac_engines.specs.declared.nfa.contiguous.format.Format.TheVariants.{Dense, One, Sparse}
-use Rattle.ac_engines.specs.declared.nfa.contiguous.state.Edge.{Edge}
-use Rattle.ac_engines.specs.declared.nfa.contiguous.state.TheConstants.{FAIL, ONE_MATCH}
-use Rattle.ac_engines.specs.Contiguous.Words.{AreNamed, BeginsWith, Spelling, class_words, spelled, target_by}
+use Rattle.std.proofs.Common.{refl, ℕ, zero, suc, ◌+◌, ◌<◌, [], ◌∷◌, arith, All, slice_index, slice_index_or}
+use Rattle.ac_engines.specs.Prelude.{AreNamed, BeginsWith, class_words, Dense, Edge, FAIL, One, ONE_MATCH, Sparse, spelled, Spelling, target_by}
 
 -- a transition
 abbrev edge : ℕ → ℕ → Edge

@@ -1,16 +1,9 @@
 -- How many words the state of a node takes at the most.
-use Rattle.std.proofs.Common.{◌≡◌, ℕ, zero, suc, ◌+◌, ◌≤◌, Bool, true, false, cond, [], ◌∷◌, length, None, Some, refl, arith}
-use Rattle.std.specs.Prelude.{nat_lt}
+use Rattle.std.proofs.Common.{◌≡◌, ℕ, zero, suc, ◌+◌, ◌≤◌, Bool, true, false, cond, [], ◌∷◌, length, None, Some, refl, arith, nat_lt}
 use Rattle.std.proofs.lemmas.Bool.{ltb-false}
-use Rattle.ac_util.specs.declared.search.Anchored.TheVariants.{No}
-use Rattle.ac_util.specs.Built.{Built}
-use Rattle.ac_util.specs.Node.{Node}
-use Rattle.ac_automaton.specs.Automata.{matches_of}
-use Rattle.ac_automaton.specs.Readers.{own_bytes}
-use Rattle.ac_engines.specs.declared.nfa.contiguous.format.Format.{Format}
-use Rattle.ac_engines.specs.declared.nfa.contiguous.format.Format.TheVariants.{Dense, One, Sparse}
-use Rattle.ac_engines.specs.Contiguous.Formats.{match_words, most_sparse, sparse_format, words_of_state}
-use Rattle.ac_engines.specs.Contiguous.Sizes.{node_format, node_words}
+use Rattle.ac_automaton.specs.Util.{Built, No, Node}
+use Rattle.ac_automaton.specs.Prelude.{matches_of, own_bytes}
+use Rattle.ac_engines.specs.Prelude.{Dense, Format, match_words, most_sparse, node_format, node_words, One, Sparse, sparse_format, words_of_state}
 
 -- beside the matches stands at most their number
 match_words-most : (matches : ℕ) → match_words matches ≤ matches + 1

@@ -6,19 +6,9 @@ pub mod Plans
 pub mod Sizes
 pub mod Words
 use Rattle.std.specs.Prelude.{◌≡◌, ◌≢◌, ℕ, ◌<◌, ◌≤◌, ◌↔◌, ◌+◌, ◌-◌, ◌/◌, ◌%◌, ◌==◌, ◌&&◌, nat_lt, if◌then◌else◌, Bool, List, [], ◌∷◌, ◌++◌, drop, length, map, slice_index_or, take, Some, None}
-use Rattle.ac_util.specs.declared.primitives.TheConstants.{GREATEST}
+use Rattle.ac_automaton.specs.Util.{alphabet_len, AreClasses, Both, Built, class_at, GREATEST, IsNode, longest_len, No, Node, plain_byte, SetsApart, Yes}
 use Rattle.ac_util.specs.declared.search.Anchored.{Anchored}
-use Rattle.ac_util.specs.declared.search.Anchored.TheVariants.{No, Yes}
-use Rattle.ac_util.specs.declared.search.StartKind.TheVariants.{Both}
-use Rattle.ac_util.specs.Built.{Built}
-use Rattle.ac_util.specs.Classes.{AreClasses, IsNode, SetsApart, alphabet_len, class_at}
-use Rattle.ac_util.specs.Node.{Node}
-use Rattle.ac_util.specs.Sameness.{plain_byte}
-use Rattle.ac_util.specs.Sizes.{longest_len}
-use Rattle.ac_automaton.specs.Automata.{matches_of, plain_of}
-use Rattle.ac_automaton.specs.Common.{CommonView, built_as}
-use Rattle.ac_automaton.specs.Readers.{own_bytes}
-use Rattle.ac_automaton.specs.Tries.{miss}
+use Rattle.ac_automaton.specs.Prelude.{built_as, CommonView, matches_of, miss, own_bytes, plain_of}
 use Rattle.ac_engines.specs.declared.nfa.contiguous.state.Edge.{Edge}
 use Rattle.ac_engines.specs.Contiguous.Formats.{dense_form, no_target, one_match}
 use Rattle.ac_engines.specs.Contiguous.Sizes.{node_format}

@@ -4,17 +4,9 @@ pub mod Filling
 pub mod Layouts
 use Rattle.std.specs.Prelude.{◌≡◌, ◌≢◌, ◌⊎◌, ℕ, ◌+◌, ◌*◌, ◌^◌, ◌/◌, ◌<◌, ◌≤◌, Bool, List, [], length, slice_index_or, Some, None}
 use Rattle.ac_util.specs.declared.search.Anchored.{Anchored}
-use Rattle.ac_util.specs.declared.search.Anchored.TheVariants.{No, Yes}
-use Rattle.ac_util.specs.declared.search.StartKind.{StartKind}
-use Rattle.ac_util.specs.declared.search.StartKind.TheVariants.{Anchored as AnchoredAlone, Both, Unanchored}
-use Rattle.ac_util.specs.Built.{Built}
-use Rattle.ac_util.specs.Matches.{matches}
-use Rattle.ac_util.specs.Classes.{IsNode, alphabet_len, class_at}
-use Rattle.ac_util.specs.Node.{Node}
-use Rattle.ac_util.specs.Pieces.{pieces}
-use Rattle.ac_util.specs.Refusal.{start_refusal}
-use Rattle.ac_automaton.specs.Automata.{matches_of, plain_of, step_of}
-use Rattle.ac_automaton.specs.Common.{CommonView, built_as}
+use Rattle.ac_automaton.specs.Util.{alphabet_len, Both, Built, class_at, IsNode, matches, No, Node, pieces, start_refusal, StartKind, Unanchored, Yes}
+use Rattle.ac_util.specs.declared.search.StartKind.TheVariants.{Anchored as AnchoredAlone}
+use Rattle.ac_automaton.specs.Prelude.{built_as, CommonView, matches_of, plain_of, step_of}
 
 -- what a table was built from, and whether to have a prefilter; the class of each byte, the exponent of the length of
 -- a row, the entries of all rows, and the match list of each row up to the last that has one

@@ -3,3 +3,4 @@ pub mod Classes
 pub mod Contiguous
 pub mod Dfa
 pub mod Listed
+pub mod Prelude

@@ -3,10 +3,7 @@ use Rattle.std.specs.Prelude.{◌≡◌, ℕ, zero, suc, List, [], ◌∷◌, �
 use Rattle.std.proofs.Common.{refl, sym, ap, ◌∙◌}
 use Rattle.std.proofs.lemmas.List.{append-nil}
 use Rattle.ac_util.specs.declared.search.Anchored.{Anchored}
-use Rattle.ac_util.specs.declared.search.Anchored.TheVariants.{No, Yes}
-use Rattle.ac_util.specs.declared.search.MatchKind.{MatchKind}
-use Rattle.ac_util.specs.Matches.{equal_to, matches}
-use Rattle.ac_util.specs.Node.{Node, failure, last_start, starting_by}
+use Rattle.ac_automaton.specs.Util.{equal_to, failure, last_start, matches, MatchKind, No, Node, starting_by, Yes}
 use Rattle.ac_util.proofs.Found.{matches-failure}
 use Rattle.ac_automaton.specs.Automata.{Lists, plain_of}
 use Rattle.ac_engines.specs.Contiguous.{ContiguousView, IsContiguousState, match_list_at}

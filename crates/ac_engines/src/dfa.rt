@@ -1,8 +1,7 @@
 //! The DFA: one look for each byte.
 ghost use Rattle.std.specs.Prelude.{◌≡◌, ℕ, ◌+◌, ◌<◌, ◌≤◌, IsTrue, List, length, MatchResult, slice_index_or};
 ghost use Rattle.std.proofs.Common.{inl, refl};
-ghost use Rattle.ac_util.specs.Borrowed.{bytes_of};
-ghost use Rattle.ac_util.specs.Counts.{more_looks};
+ghost use Rattle.ac_automaton.specs.Util.{bytes_of, more_looks};
 ghost use Rattle.ac_automaton.specs.Builds.{RefusesBy};
 ghost use Rattle.ac_engines.specs.Dfa.{HasMatchesAmong, IsDfa, IsDfaState, list_at};
 ghost use Rattle.ac_engines.specs.Dfa.Builds.{IsDfaBuilt, dfa_refusal_by, usual_dfa_settings};
@@ -58,8 +57,7 @@ pub struct DFA<A: Allocator = Global> {
 
 impl<A: Allocator> Model for DFA<A> {
     ghost use Rattle.std.specs.Prelude.{◌≡◌, ◌≤◌, ◌^◌, List, ℕ, length};
-    ghost use Rattle.ac_util.specs.declared.search.Anchored.TheVariants.{No, Yes};
-    ghost use Rattle.ac_util.specs.Pieces.{AreBounds};
+    ghost use Rattle.ac_automaton.specs.Util.{AreBounds, No, Yes};
     ghost use Rattle.ac_engines.specs.Dfa.{DfaView, HasMatchesAmong, IsDfa, dfa_of, start_number};
 
     ghost Value = { DfaView };

@@ -1,15 +1,6 @@
 -- An engine answers for a searcher that supports some of its starts.
-use Rattle.std.proofs.Common.{◌≡◌, [], ◌∷◌, refl, ap, sym, ◌∙◌, Bool, Option, Some, None, inl, inr}
-use Rattle.std.specs.Prelude.{◌⊎◌, Result, Ok, Err}
-use Rattle.ac_util.specs.declared.error.MatchError.{MatchError}
-use Rattle.ac_util.specs.declared.search.Anchored.TheVariants.{No}
-use Rattle.ac_util.specs.declared.search.MatchKind.{MatchKind}
-use Rattle.ac_util.specs.declared.search.MatchKind.TheVariants.{Standard, LeftmostFirst, LeftmostLongest}
-use Rattle.ac_util.specs.declared.search.StartKind.{StartKind}
-use Rattle.ac_util.specs.declared.search.StartKind.TheVariants.{Both}
-use Rattle.ac_util.specs.Built.{Built, find_refusal, has_empty, stream_refusal}
-use Rattle.ac_util.specs.Asked.{Asked}
-use Rattle.ac_util.specs.Refusal.{AnswersUnless, Find, Stream, empty_refusal, first_refusal, form_refusal, kind_refusal, start_refusal}
+use Rattle.std.proofs.Common.{◌≡◌, [], ◌∷◌, refl, ap, sym, ◌∙◌, Bool, Option, Some, None, inl, inr, ◌⊎◌, Result, Ok, Err}
+use Rattle.ac_automaton.specs.Util.{AnswersUnless, Asked, Both, Built, empty_refusal, Find, find_refusal, first_refusal, form_refusal, has_empty, kind_refusal, LeftmostFirst, LeftmostLongest, MatchError, MatchKind, No, Standard, start_refusal, StartKind, Stream, stream_refusal}
 use Rattle.ac_automaton.specs.Streams.{Streaming, stream_begun}
 use Rattle.ac_search.specs.StreamsBegun.{HasBegun}
 

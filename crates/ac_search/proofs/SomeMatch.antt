@@ -1,11 +1,7 @@
 -- Something is picked exactly if something occurs.
-use Rattle.std.proofs.Common.{◌≡◌, ◌≢◌, refl, sym, subst, Option, Some, None}
-use Rattle.std.specs.Prelude.{◌↔◌, IsTrue, is_some}
+use Rattle.std.proofs.Common.{◌≡◌, ◌≢◌, refl, sym, subst, Option, Some, None, ◌↔◌, IsTrue, is_some}
 use Rattle.std.proofs.lemmas.Bool.{false≢true}
-use Rattle.ac_util.specs.declared.search.MatchKind.{MatchKind}
-use Rattle.ac_util.specs.Occurrence.{Occurrence}
-use Rattle.ac_util.specs.Pick.{IsPick, pick}
-use Rattle.ac_util.specs.Search.{Search, Occurs}
+use Rattle.ac_automaton.specs.Util.{IsPick, MatchKind, Occurrence, Occurs, pick, Search}
 use Rattle.ac_util.proofs.Picks.{pick-IsPick}
 
 -- what is picked is some match exactly if something occurs

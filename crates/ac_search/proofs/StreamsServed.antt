@@ -1,22 +1,9 @@
 -- The replacement of a stream by an engine that supports some starts of its searcher: what it leaves is the searcher's.
-use Rattle.std.proofs.Common.{◌≡◌, ◌∙◌, ◌+◌, ℕ, Bool, List, [], ◌∷◌, sym, subst, inl, inr, Option, None, Result, Ok, Err}
-use Rattle.std.specs.Prelude.{◌⊎◌, MatchResult}
+use Rattle.std.proofs.Common.{◌≡◌, ◌∙◌, ◌+◌, ℕ, Bool, List, [], ◌∷◌, sym, subst, inl, inr, Option, None, Result, Ok, Err, ◌⊎◌, MatchResult}
 use Rattle.std.specs.Borrow.{Bor, MutBor}
 use Rattle.std.specs.Fn.{Mut}
 use Rattle.std.specs.declared.io.Error.{Error}
-use Rattle.ac_util.specs.declared.error.MatchError.{MatchError}
-use Rattle.ac_util.specs.declared.error.StreamError.{StreamError}
-use Rattle.ac_util.specs.declared.search.Anchored.TheVariants.{No}
-use Rattle.ac_util.specs.declared.search.MatchKind.{MatchKind}
-use Rattle.ac_util.specs.declared.search.MatchKind.TheVariants.{Standard, LeftmostFirst, LeftmostLongest}
-use Rattle.ac_util.specs.declared.search.StartKind.{StartKind}
-use Rattle.ac_util.specs.declared.search.StartKind.TheVariants.{Both}
-use Rattle.ac_util.specs.Built.{Built, stream_refusal}
-use Rattle.ac_util.specs.Device.{Reading, Writing}
-use Rattle.ac_util.specs.Occurrence.{Occurrence}
-use Rattle.ac_util.specs.Refusal.{start_refusal}
-use Rattle.ac_util.specs.Settled.{AreDecided, IsSettledAt, NoneOpen}
-use Rattle.ac_util.specs.StreamReplacing.{FailsToReplace, FailsToReplaceWith, IsSettledBy, IsStreamRefused, ReplacesStream, ReplacesStreamWith, StepsAreSettled, TextIsSettled}
+use Rattle.ac_automaton.specs.Util.{AreDecided, Both, Built, FailsToReplace, FailsToReplaceWith, IsSettledAt, IsSettledBy, IsStreamRefused, LeftmostFirst, LeftmostLongest, MatchError, MatchKind, No, NoneOpen, Occurrence, Reading, ReplacesStream, ReplacesStreamWith, Standard, start_refusal, StartKind, StepsAreSettled, stream_refusal, StreamError, TextIsSettled, Writing}
 use Rattle.ac_search.proofs.Served.{stream-refusals}
 
 -- what a replacement with a closure leaves, by what the engine is known to be built from

@@ -1,12 +1,7 @@
 -- What the engine of a searcher, its iterators and its searches over streams are seen as.
 use Rattle.std.specs.Prelude.{◌≡◌, ◌⊎◌, Bool}
-use Rattle.ac_util.specs.declared.search.StartKind.{StartKind}
-use Rattle.ac_util.specs.declared.search.StartKind.TheVariants.{Both}
-use Rattle.ac_util.specs.Built.{Built}
-use Rattle.ac_automaton.specs.Iterators.{Walking}
-use Rattle.ac_automaton.specs.Overlaps.{Overlapping}
-use Rattle.ac_automaton.specs.Streams.{Streaming}
-use Rattle.ac_automaton.specs.Tries.{Trie}
+use Rattle.ac_automaton.specs.Util.{Both, Built, StartKind}
+use Rattle.ac_automaton.specs.Prelude.{Overlapping, Streaming, Trie, Walking}
 use Rattle.ac_search.specs.declared.ahocorasick.choice.AhoCorasickKind.{AhoCorasickKind}
 use Rattle.ac_search.specs.declared.ahocorasick.choice.AhoCorasickKind.TheVariants.{ContiguousNFA, DFA, NoncontiguousNFA}
 use Rattle.ac_search.specs.declared.ahocorasick.engine.Engine.{Engine}

@@ -3,6 +3,7 @@
 -- the `Classes` of ac_engines are `EngineClasses` here.
 pub mod Engines
 pub mod Places
+pub mod Prelude
 pub mod Searchers
 pub mod States
 pub mod StreamsBegun

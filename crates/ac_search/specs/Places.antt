@@ -1,9 +1,9 @@
 -- The places of an overlapping search by a searcher.
 use Rattle.std.specs.Prelude.{ℕ}
-use Rattle.ac_util.specs.Asked.{Asked}
-use Rattle.ac_util.specs.Built.{search_in}
+use Rattle.ac_automaton.specs.Util.{Asked, search_in}
 use Rattle.ac_automaton.specs.declared.automaton.overlap.OverlappingState.{OverlappingState}
-use Rattle.ac_automaton.specs.Overlaps.{GivesNext, IsPlaced, place_by}
+use Rattle.ac_automaton.specs.Prelude.{IsPlaced, place_by}
+use Rattle.ac_automaton.specs.Overlaps.{GivesNext}
 use Rattle.ac_search.specs.Searchers.{Searcher}
 use Rattle.ac_search.specs.States.{listed_in, stands_in}
 

@@ -1,17 +1,11 @@
 -- What is seen of a searcher: what it was built from, whether to have a prefilter, and the name and the states of
 -- its engine. No answer of a search depends on the last three; an overlapping state is one for these states alone.
 use Rattle.std.specs.Prelude.{◌≡◌, ℕ, nat_le, Bool, false, true, List, length, Option, None, Some, MatchOption, ⊤, ◌&&◌, if◌then◌else◌}
-use Rattle.ac_util.specs.declared.error.BuildError.{BuildError}
+use Rattle.ac_automaton.specs.Util.{Both, BuildError, Built, limit_refusal, MatchKind, Standard, StartKind, Unanchored}
 use Rattle.ac_util.specs.declared.error.BuildError.TheVariants.{Memory}
-use Rattle.ac_util.specs.declared.search.MatchKind.{MatchKind}
-use Rattle.ac_util.specs.declared.search.MatchKind.TheVariants.{Standard}
-use Rattle.ac_util.specs.declared.search.StartKind.{StartKind}
-use Rattle.ac_util.specs.declared.search.StartKind.TheVariants.{Anchored, Both, Unanchored}
-use Rattle.ac_util.specs.Built.{Built}
-use Rattle.ac_util.specs.Limits.{limit_refusal}
+use Rattle.ac_util.specs.declared.search.StartKind.TheVariants.{Anchored}
 use Rattle.ac_automaton.specs.Builds.{EngineSettings, IsAllowed, engine_built_by, fits, refusal_or, state_refusal, usual_engine_settings}
-use Rattle.ac_engines.specs.Dfa.Builds.{IsDfaFrom, dfa_refusal}
-use Rattle.ac_engines.specs.Contiguous.Builds.{IsContiguousFrom, contiguous_refusal}
+use Rattle.ac_engines.specs.Prelude.{contiguous_refusal, dfa_refusal, IsContiguousFrom, IsDfaFrom}
 use Rattle.ac_search.specs.declared.ahocorasick.choice.AhoCorasickKind.{AhoCorasickKind}
 use Rattle.ac_search.specs.declared.ahocorasick.choice.AhoCorasickKind.TheVariants.{ContiguousNFA, DFA, NoncontiguousNFA}
 use Rattle.ac_search.specs.States.{States, Contiguous, Dfa, Noncontiguous}

@@ -3,8 +3,7 @@ use Rattle.std.specs.Prelude.{ℕ, List}
 use Rattle.ac_util.specs.declared.search.Anchored.{Anchored}
 use Rattle.ac_util.specs.Node.{Node}
 use Rattle.ac_automaton.specs.Tries.{IsTrieState, Trie, listed_within}
-use Rattle.ac_engines.specs.Contiguous.{ContiguousView, IsContiguousState, match_list_at}
-use Rattle.ac_engines.specs.Dfa.{DfaView, IsDfaState, list_at}
+use Rattle.ac_engines.specs.Prelude.{ContiguousView, DfaView, IsContiguousState, IsDfaState, list_at, match_list_at}
 
 -- those of each engine
 pub data States : Type 0 where

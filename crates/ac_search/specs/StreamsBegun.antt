@@ -1,8 +1,6 @@
 -- What a stream's search by a searcher begins as.
 use Rattle.std.specs.Prelude.{◌≡◌}
-use Rattle.ac_util.specs.declared.search.StartKind.{StartKind}
-use Rattle.ac_util.specs.Built.{Built}
-use Rattle.ac_util.specs.Device.{Reading}
+use Rattle.ac_automaton.specs.Util.{Built, Reading, StartKind}
 use Rattle.ac_automaton.specs.Streams.{StreamReading, Streaming, stream_begun}
 
 -- it is one of which nothing was read, for what the searcher was built from; but its engine may have more starts

@@ -1,19 +1,10 @@
 //! The searcher, which chooses its engine.
 ghost use Rattle.std.specs.Prelude.{◌≡◌, ◌↔◌, IsTrue, MatchResult, None, Some, length};
 ghost use Rattle.std.specs.Iterator.Runs.{YieldsInOrder};
-ghost use Rattle.ac_util.specs.Borrowed.{bytes_of};
-ghost use Rattle.ac_util.specs.Built.{find_refusal, found, overlapping_iter_refusal, overlapping_refusal, search_in};
-ghost use Rattle.ac_util.specs.Inputs.{asked};
-ghost use Rattle.ac_util.specs.Listing.{item_at, place_after};
-ghost use Rattle.ac_util.specs.Occurrence.{Occurrence};
-ghost use Rattle.ac_util.specs.Refusal.{AnswersUnless, start_refusal};
-ghost use Rattle.ac_util.specs.Search.{Occurs};
-ghost use Rattle.ac_util.specs.Sizes.{longest_len, shortest_len};
-ghost use Rattle.ac_automaton.specs.Iterators.{GoesOn, begun};
-ghost use Rattle.ac_automaton.specs.Overlaps.{ListsNext, listing_begun};
+ghost use Rattle.ac_automaton.specs.Util.{AnswersUnless, asked, bytes_of, find_refusal, found, item_at, longest_len, Occurrence, Occurs, overlapping_iter_refusal, overlapping_refusal, place_after, search_in, shortest_len, start_refusal};
+ghost use Rattle.ac_automaton.specs.Prelude.{begun, GoesOn, listing_begun, ListsNext, RefusesBy};
 ghost use Rattle.ac_search.specs.Engines.{Supports, searcher_of};
 ghost use Rattle.ac_search.specs.Places.{GivesItem, HasPlace, place_in};
-ghost use Rattle.ac_automaton.specs.Builds.{RefusesBy};
 ghost use Rattle.ac_search.specs.Searchers.{IsBuilt, engine_refusal, looks_allowed, usual_settings};
 
 use ac_automaton::automaton::OverlappingState;

@@ -3,16 +3,7 @@
 ghost use Rattle.std.specs.Prelude.{◌≡◌, ◌≢◌, ◌+◌, ◌-◌, ◌≤◌, ◌↔◌, ℕ, IfSome, IsTrue, List, None, true, length};
 ghost use Rattle.std.specs.List.{AllByRecursion};
 ghost use Rattle.std.specs.Str.{IsUtf8};
-ghost use Rattle.ac_util.specs.Built.{Built, exchanged, exchanged_in_text, find_refusal, found, has_empty, overlapping_iter_refusal, overlapping_refusal, replace_refusal, search_in, stream_refusal, walked};
-ghost use Rattle.ac_util.specs.Asked.{Asked};
-ghost use Rattle.ac_util.specs.Inputs.{asked};
-ghost use Rattle.ac_util.specs.Inside.{LiesIn};
-ghost use Rattle.ac_util.specs.Listing.{all};
-ghost use Rattle.ac_util.specs.Occurrence.{Occurrence};
-ghost use Rattle.ac_util.specs.Search.{Occurs};
-ghost use Rattle.ac_util.specs.Sizes.{shortest_len};
-ghost use Rattle.ac_util.specs.Stream.{held, streamed};
-ghost use Rattle.ac_util.specs.Texts.{AreTexts, IsBetweenCharacters};
+ghost use Rattle.ac_automaton.specs.Util.{all, AreTexts, Asked, asked, Built, exchanged, exchanged_in_text, find_refusal, found, has_empty, held, IsBetweenCharacters, LiesIn, Occurrence, Occurs, overlapping_iter_refusal, overlapping_refusal, replace_refusal, search_in, shortest_len, stream_refusal, streamed, walked};
 ghost use Rattle.ac_engines.specs.declared.nfa.contiguous.format.Format.{Format};
 ghost use Rattle.ac_search.specs.Searchers.{IsBuilt, Searcher, Settings};
 ghost use Rattle.ac_search.specs.declared.ahocorasick.choice.AhoCorasickKind.{AhoCorasickKind};

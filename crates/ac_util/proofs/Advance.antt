@@ -1,19 +1,11 @@
 -- One more byte of a text: how the pick changes, by the matches of the node that an automaton reaches.
 --
 -- Everything holds for each match kind of the automaton and for both anchorings.
-use Rattle.std.proofs.Common.{◌≡◌, ℕ, zero, suc, ◌+◌, ◌<◌, ◌≤◌, Bool, true, false, ◌&&◌, cond, List, [], ◌∷◌, ◌++◌, length, ◌⊎◌, inl, inr, refl, ap, sym, ◌∙◌, subst, arith, Option, Some, None}
-use Rattle.std.specs.Prelude.{nat_eq}
+use Rattle.std.proofs.Common.{◌≡◌, ℕ, zero, suc, ◌+◌, ◌<◌, ◌≤◌, Bool, true, false, ◌&&◌, cond, List, [], ◌∷◌, ◌++◌, length, ◌⊎◌, inl, inr, refl, ap, sym, ◌∙◌, subst, arith, Option, Some, None, nat_eq}
 use Rattle.std.specs.List.{starts_with}
 use Rattle.std.proofs.lemmas.Bool.{and_parts, false≢true, cond-false, cond-true}
-use Rattle.ac_util.specs.declared.search.MatchKind.{MatchKind}
-use Rattle.ac_util.specs.declared.search.MatchKind.TheVariants.{Standard, LeftmostFirst, LeftmostLongest}
+use Rattle.ac_util.specs.Prelude.{begins_with_pattern, equal_to, is_leftmost, IsFirst, LeftmostFirst, LeftmostLongest, matches, MatchKind, No, Occurrence, participates, pattern_of, Standard, Yes}
 use Rattle.ac_util.specs.declared.search.Anchored.{Anchored}
-use Rattle.ac_util.specs.declared.search.Anchored.TheVariants.{No, Yes}
-use Rattle.ac_util.specs.Occurrence.{Occurrence}
-use Rattle.ac_util.specs.Search.{pattern_of}
-use Rattle.ac_util.specs.Pick.{IsFirst}
-use Rattle.ac_util.specs.Node.{is_leftmost, begins_with_pattern, participates}
-use Rattle.ac_util.specs.Matches.{equal_to, matches}
 use Rattle.ac_util.proofs.Lists.{IsIn, IsOrdered, none-from_nil}
 use Rattle.ac_util.proofs.Picks.{IsFirst-itself, IsFirst-trans}
 use Rattle.ac_util.proofs.Participants.{Prefixes, Equals, begins-from_Prefixes, leader, leader-least, leader-takes_part, participant-least, all_take_part, IsIn-equal_to, IsIn-from_equal_to, equal_to-ordered}

@@ -1,12 +1,7 @@
 -- Under Standard the walk over a beginning of the span is those matches of the whole walk that end within it.
-use Rattle.std.proofs.Common.{◌≡◌, ℕ, zero, suc, ◌+◌, ◌-◌, ◌<◌, ◌≤◌, Bool, true, false, cond, List, [], ◌∷◌, inl, inr, refl, ap, sym, ◌∙◌, arith, Option, Some, None}
-use Rattle.std.specs.Prelude.{filter, nat_le, nat_eq}
+use Rattle.std.proofs.Common.{◌≡◌, ℕ, zero, suc, ◌+◌, ◌-◌, ◌<◌, ◌≤◌, Bool, true, false, cond, List, [], ◌∷◌, inl, inr, refl, ap, sym, ◌∙◌, arith, Option, Some, None, filter, nat_le, nat_eq}
 use Rattle.std.proofs.lemmas.Bool.{and_parts, eqb-true, cases_lt, cond-true, cond-false, le-leb, lt-leb, leb-false}
-use Rattle.ac_util.specs.declared.search.MatchKind.TheVariants.{Standard}
-use Rattle.ac_util.specs.Occurrence.{Occurrence}
-use Rattle.ac_util.specs.Search.{Search, Occurs, from}
-use Rattle.ac_util.specs.Pick.{IsPick, pick}
-use Rattle.ac_util.specs.Walk.{repeats, unless_repeated, next_match, continued, walk_after, walk}
+use Rattle.ac_util.specs.Prelude.{continued, from, IsPick, next_match, Occurrence, Occurs, pick, repeats, Search, Standard, unless_repeated, walk, walk_after}
 use Rattle.ac_util.proofs.Lists.{filter-none}
 use Rattle.ac_util.proofs.Picks.{pick-IsPick, pick-from_IsPick}
 use Rattle.ac_util.proofs.Walks.{next-in_span, later, room, continued-None, walk_after-None, walk_after-Some}

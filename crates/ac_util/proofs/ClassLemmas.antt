@@ -1,15 +1,9 @@
 -- Two bytes of one class lead alike from every node, and a byte of a pattern has a class of its own.
-use Rattle.std.proofs.Common.{◌≡◌, ℕ, zero, suc, ◌+◌, ◌-◌, ◌<◌, ◌≤◌, Bool, true, false, ◌||◌, cond, List, [], ◌∷◌, ◌++◌, map, get_or, ◌⊎◌, inl, inr, refl, ap, sym, ◌∙◌, subst, Some, None, add-one, arith}
-use Rattle.std.specs.Prelude.{nat_eq}
+use Rattle.std.proofs.Common.{◌≡◌, ℕ, zero, suc, ◌+◌, ◌-◌, ◌<◌, ◌≤◌, Bool, true, false, ◌||◌, cond, List, [], ◌∷◌, ◌++◌, map, get_or, ◌⊎◌, inl, inr, refl, ap, sym, ◌∙◌, subst, Some, None, add-one, arith, nat_eq}
 use Rattle.std.specs.List.{list_any, starts_with}
 use Rattle.std.proofs.lemmas.Bool.{or_cases, or_left, or_right, and_parts, cases_lt, cond-false, false≢true, false_from_ne_true}
-use Rattle.ac_util.specs.declared.search.MatchKind.{MatchKind}
+use Rattle.ac_util.specs.Prelude.{class_of, is_empty, is_node, IsLawful, MatchKind, No, Node, participants, pattern_of, plain, plain_byte, same_byte, stands_in, step, Yes}
 use Rattle.ac_util.specs.declared.search.Anchored.{Anchored}
-use Rattle.ac_util.specs.declared.search.Anchored.TheVariants.{No, Yes}
-use Rattle.ac_util.specs.Sameness.{plain_byte, plain, same_byte}
-use Rattle.ac_util.specs.Search.{pattern_of}
-use Rattle.ac_util.specs.Node.{Node, is_empty, is_node, participants, step}
-use Rattle.ac_util.specs.Classes.{IsLawful, stands_in, class_of}
 use Rattle.ac_util.proofs.NodeCount.{any_passes}
 use Rattle.ac_util.proofs.Prefixes.{list_any-weaker}
 use Rattle.ac_util.proofs.Reached.{stops, step-nil, step-cons}

@@ -1,22 +1,10 @@
 -- A stream under a leftmost kind: matches that stay whatever follows are decided, and so settle it.
-use Rattle.std.proofs.Common.{◌≡◌, ℕ, suc, ◌+◌, ◌-◌, ◌<◌, ◌≤◌, true, List, [], ◌∷◌, ◌++◌, length, get_or, map, length-append, length-drop, take, drop, refl, ap, sym, ◌∙◌, subst, arith, Option, None, Some}
-use Rattle.std.specs.Prelude.{All, nat_eq, slice_range}
+use Rattle.std.proofs.Common.{◌≡◌, ℕ, suc, ◌+◌, ◌-◌, ◌<◌, ◌≤◌, true, List, [], ◌∷◌, ◌++◌, length, get_or, map, length-append, length-drop, take, drop, refl, ap, sym, ◌∙◌, subst, arith, Option, None, Some, All, nat_eq, slice_range}
 use Rattle.std.specs.List.{starts_with}
 use Rattle.std.proofs.Math.Seq.{drop-append_seam, take-append_seam, take-length, take-take}
 use Rattle.std.proofs.lemmas.List.{append-nil, drop-append-le, get_or-map, length-map, map-append, take-append-drop, take-map}
 use Rattle.std.proofs.lemmas.List.Elements.{All-cons, All-nil}
-use Rattle.ac_util.specs.declared.search.MatchKind.{MatchKind}
-use Rattle.ac_util.specs.declared.search.MatchKind.TheVariants.{Standard, LeftmostFirst, LeftmostLongest}
-use Rattle.ac_util.specs.Asked.{asked_whole}
-use Rattle.ac_util.specs.Built.{Built, search_in}
-use Rattle.ac_util.specs.Node.{is_leftmost, participates}
-use Rattle.ac_util.specs.Occurrence.{Occurrence, occurrence}
-use Rattle.ac_util.specs.Pick.{IsFirst, IsPick, pick}
-use Rattle.ac_util.specs.Sameness.{plain, plain_byte}
-use Rattle.ac_util.specs.Search.{Occurs, Search, from, pattern_of}
-use Rattle.ac_util.specs.Settled.{AreDecided, IsOpen, IsSettledAt, NoneOpen}
-use Rattle.ac_util.specs.Stream.{last_end, streamed}
-use Rattle.ac_util.specs.Walk.{next_match, walk_after}
+use Rattle.ac_util.specs.Prelude.{AreDecided, asked_whole, Built, from, is_leftmost, IsFirst, IsOpen, IsPick, IsSettledAt, last_end, LeftmostFirst, LeftmostLongest, MatchKind, next_match, NoneOpen, Occurrence, occurrence, Occurs, participates, pattern_of, pick, plain, plain_byte, Search, search_in, Standard, streamed, walk_after}
 use Rattle.ac_util.proofs.Participants.{participant-least}
 use Rattle.ac_util.proofs.Picks.{pick-IsPick}
 use Rattle.ac_util.proofs.Prefixes.{starts_with-take}

@@ -1,16 +1,13 @@
 -- Reading on, and writing on.
-use Rattle.std.proofs.Common.{◌≡◌, ◌≢◌, ◌+◌, ◌<◌, ℕ, zero, suc, List, [], ◌∷◌, ◌++◌, length, length-append, length-drop, take, drop, ap, sym, refl, ◌∙◌, subst, arith, Bool, Option}
+use Rattle.std.proofs.Common.{◌≡◌, ◌≢◌, ◌+◌, ◌<◌, ℕ, zero, suc, List, [], ◌∷◌, ◌++◌, length, length-append, length-drop, take, drop, ap, sym, refl, ◌∙◌, subst, arith, Bool, Option, slice_range}
 use Rattle.std.proofs.lemmas.Bool.Decides.{nat_tests}
 use Rattle.std.proofs.lemmas.List.{append-nil, append_assoc, length-take-le}
-use Rattle.std.specs.Prelude.{slice_range}
 use Rattle.std.specs.Io.{StartsWith}
 use Rattle.std.specs.Io.KnownBytes.{Appends, Consumes}
 use Rattle.std.proofs.Math.Seq.{take-add, take-length}
 use Rattle.std.proofs.KnownBytes.{Appends-trans, Consumes-trans}
-use Rattle.ac_util.specs.declared.error.StreamError.{StreamError}
-use Rattle.ac_util.specs.declared.error.StreamError.TheVariants.{Io, Match, Memory, TooLong, WriteZero}
-use Rattle.ac_util.specs.Device.{Reading, ReadsAll, ReadsSome, Took, idle}
-use Rattle.ac_util.specs.StreamReplacing.{FailsToRead}
+use Rattle.ac_util.specs.Prelude.{FailsToRead, idle, Reading, ReadsAll, ReadsSome, StreamError, Took, TooLong}
+use Rattle.ac_util.specs.declared.error.StreamError.TheVariants.{Io, Match, Memory, WriteZero}
 
 -- what was read so far with what a read has taken
 pub read-more : {ends : Bool} (a b c : Reading) (bs piece : List ℕ) (n : ℕ) → Consumes a.left b.left bs

@@ -1,18 +1,9 @@
 -- The matches of a walk as a replacement meets them, and what it has written after each.
-use Rattle.std.proofs.Common.{◌≡◌, ℕ, zero, suc, ◌+◌, ◌-◌, ◌<◌, ◌≤◌, Bool, true, false, ◌&&◌, List, [], ◌∷◌, ◌++◌, length, get_or, refl, ap, sym, ◌∙◌, subst, arith, append_assoc, Option, Some, None}
-use Rattle.std.specs.Prelude.{IsTrue, ◌↔◌, cond, slice_range, slice_index_or}
+use Rattle.std.proofs.Common.{◌≡◌, ℕ, zero, suc, ◌+◌, ◌-◌, ◌<◌, ◌≤◌, Bool, true, false, ◌&&◌, List, [], ◌∷◌, ◌++◌, length, get_or, refl, ap, sym, ◌∙◌, subst, arith, append_assoc, Option, Some, None, IsTrue, ◌↔◌, cond, slice_range, slice_index_or}
 use Rattle.std.specs.Borrow.{Bor}
 use Rattle.std.specs.Str.{IsCharBoundary}
 use Rattle.std.proofs.lemmas.List.{get_or-map}
-use Rattle.ac_util.specs.declared.search.MatchKind.{MatchKind}
-use Rattle.ac_util.specs.Occurrence.{Occurrence}
-use Rattle.ac_util.specs.Search.{Search, from}
-use Rattle.ac_util.specs.Walk.{continued, next_match, walk, walk_after}
-use Rattle.ac_util.specs.Borrowed.{bytes_of}
-use Rattle.ac_util.specs.Replaced.{is_char_boundary, is_whole, replaced_from, whole_characters}
-use Rattle.ac_util.specs.Asked.{asked_whole}
-use Rattle.ac_util.specs.Built.{Built, exchanged, search_in}
-use Rattle.ac_util.specs.Pick.{order_of}
+use Rattle.ac_util.specs.Prelude.{asked_whole, Built, bytes_of, continued, exchanged, from, is_char_boundary, is_whole, MatchKind, next_match, Occurrence, order_of, replaced_from, Search, search_in, walk, walk_after, whole_characters}
 use Rattle.ac_util.proofs.Characters.{is_char_boundary-from, is_char_boundary-true}
 use Rattle.ac_util.proofs.PlainReplaced.{next-numbered}
 use Rattle.ac_util.proofs.Walks.{next-in_span}

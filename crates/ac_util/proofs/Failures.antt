@@ -1,13 +1,9 @@
 -- Failure targets lead to the same step, and the looks along them are paid by the length of the node.
-use Rattle.std.proofs.Common.{◌≡◌, ℕ, zero, suc, ◌+◌, ◌≤◌, Bool, true, false, cond, List, [], ◌∷◌, ◌++◌, length, drop, refl, ap, sym, ◌∙◌, arith, Some, None}
-use Rattle.std.specs.Prelude.{find}
+use Rattle.std.proofs.Common.{◌≡◌, ℕ, zero, suc, ◌+◌, ◌≤◌, Bool, true, false, cond, List, [], ◌∷◌, ◌++◌, length, drop, refl, ap, sym, ◌∙◌, arith, Some, None, find}
 use Rattle.std.proofs.lemmas.Bool.{cond-false, cond-true}
 use Rattle.std.proofs.lemmas.List.{length_push}
-use Rattle.ac_util.specs.declared.search.MatchKind.{MatchKind}
+use Rattle.ac_util.specs.Prelude.{depth, failure, is_node, looks, looks_within, MatchKind, No, Node, open_suffixes, reached, step, suffixes, Yes}
 use Rattle.ac_util.specs.declared.search.Anchored.{Anchored}
-use Rattle.ac_util.specs.declared.search.Anchored.TheVariants.{No, Yes}
-use Rattle.ac_util.specs.Node.{Node, is_node, suffixes, open_suffixes, reached, step, failure, depth}
-use Rattle.ac_util.specs.Looks.{looks, looks_within}
 use Rattle.ac_util.proofs.Reached.{stops, starting_by-cons, reached-nil, reached-cons, step-cons, step-all, step-reached}
 
 find_rest : (p : List ℕ → Bool) (t : Bool) (y : List ℕ) (ws : List (List ℕ))

@@ -1,17 +1,12 @@
 -- The matches of the node reached are those of all that was read, and those of a node are its own and its
 -- failure target's.
-use Rattle.std.proofs.Common.{◌≡◌, ℕ, suc, Bool, true, false, ◌&&◌, cond, List, [], ◌∷◌, ◌++◌, refl, ap, sym, subst, ◌∙◌, Option, Some, None, ◌<◌, ◌≤◌, length, inl, inr, arith}
-use Rattle.std.specs.Prelude.{flat_map, option_map}
+use Rattle.std.proofs.Common.{◌≡◌, ℕ, suc, Bool, true, false, ◌&&◌, cond, List, [], ◌∷◌, ◌++◌, refl, ap, sym, subst, ◌∙◌, Option, Some, None, ◌<◌, ◌≤◌, length, inl, inr, arith, flat_map, option_map}
 use Rattle.std.proofs.lemmas.Bool.{cond-false, cond-true}
 use Rattle.std.proofs.lemmas.List.{append_cancel_left, append-nil}
-use Rattle.ac_util.specs.declared.search.MatchKind.{MatchKind}
+use Rattle.ac_util.specs.Prelude.{begins_with_pattern, equal_to, failure, is_leftmost, is_node, least_start, matches, matches_at, MatchKind, No, Node, open_suffixes, pattern_of, reached, suffixes, Yes}
 use Rattle.ac_util.specs.declared.search.Anchored.{Anchored}
-use Rattle.ac_util.specs.declared.search.Anchored.TheVariants.{No, Yes}
-use Rattle.ac_util.specs.Node.{Node, is_leftmost, is_node, suffixes, open_suffixes, begins_with_pattern, least_start, reached, failure}
-use Rattle.ac_util.specs.Matches.{equal_to, matches, matches_at}
 use Rattle.ac_util.proofs.Participants.{IsIn-from_equal_to, equal_to-none, equal_to-none_begins}
 use Rattle.ac_util.proofs.Lists.{IsIn, IsIn-append_cases, none-from_nil}
-use Rattle.ac_util.specs.Search.{pattern_of}
 use Rattle.ac_util.proofs.Reached.{stops, starting_by-cons, open_suffixes-nil, reached-nil, reached-cons}
 use Rattle.ac_util.proofs.Failures.{failure-cons}
 

@@ -1,16 +1,7 @@
 -- A stream that goes on: the walk over what was there before stays, and other matches follow.
-use Rattle.std.proofs.Common.{◌≡◌, ℕ, zero, suc, ◌+◌, ◌-◌, ◌<◌, ◌≤◌, Bool, true, false, List, [], ◌∷◌, ◌++◌, length, length-append, get_or, inl, inr, refl, ap, sym, ◌∙◌, arith, Option, None, Some}
-use Rattle.std.specs.Prelude.{AllPairs, filter}
+use Rattle.std.proofs.Common.{◌≡◌, ℕ, zero, suc, ◌+◌, ◌-◌, ◌<◌, ◌≤◌, Bool, true, false, List, [], ◌∷◌, ◌++◌, length, length-append, get_or, inl, inr, refl, ap, sym, ◌∙◌, arith, Option, None, Some, AllPairs, filter}
 use Rattle.std.proofs.lemmas.Bool.{cases_lt, cond-true, cond-false, lt-leb, leb-false}
-use Rattle.ac_util.specs.declared.search.MatchKind.{MatchKind}
-use Rattle.ac_util.specs.declared.search.MatchKind.TheVariants.{Standard}
-use Rattle.ac_util.specs.Asked.{asked_whole}
-use Rattle.ac_util.specs.Built.{Built, search_in}
-use Rattle.ac_util.specs.Occurrence.{Occurrence}
-use Rattle.ac_util.specs.Pick.{pick}
-use Rattle.ac_util.specs.Search.{Search, from}
-use Rattle.ac_util.specs.Stream.{streamed}
-use Rattle.ac_util.specs.Walk.{IsAfter, continued, next_match, repeats, unless_repeated, walk, walk_after}
+use Rattle.ac_util.specs.Prelude.{asked_whole, Built, continued, from, IsAfter, MatchKind, next_match, Occurrence, pick, repeats, Search, search_in, Standard, streamed, unless_repeated, walk, walk_after}
 use Rattle.ac_util.proofs.Beginning.{ends_by, walk-beginning}
 use Rattle.ac_util.proofs.Longer.{pick-extended}
 use Rattle.ac_util.proofs.Walks.{pick-Occurs, walk-ordered}

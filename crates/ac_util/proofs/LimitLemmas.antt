@@ -1,13 +1,10 @@
 -- A list of patterns that isn't refused is within the limits, and one that is too long is found by going along
 -- the list.
-use Rattle.std.proofs.Common.{◌≡◌, ℕ, zero, suc, ◌+◌, ◌-◌, ◌<◌, ◌≤◌, Bool, true, false, cond, List, [], ◌∷◌, length, drop, get_or, refl, ◌∙◌, subst, inl, inr, arith, Option, Some, None}
+use Rattle.std.proofs.Common.{◌≡◌, ℕ, zero, suc, ◌+◌, ◌-◌, ◌<◌, ◌≤◌, Bool, true, false, cond, List, [], ◌∷◌, length, drop, get_or, refl, ◌∙◌, subst, inl, inr, arith, Option, Some, None, nat_lt, All, slice_get, MatchOption, Result, Ok, Err}
 use Rattle.std.proofs.lemmas.Option.{slice_get_cases}
-use Rattle.std.specs.Prelude.{nat_lt, All, slice_get, MatchOption, Result, Ok, Err}
 use Rattle.std.proofs.lemmas.Bool.{ltb-false, cond-false, cond-true, lt-ltb, le-ltb}
 use Rattle.std.proofs.lemmas.List.Elements.{All-cons, All-nil}
-use Rattle.ac_util.specs.declared.primitives.TheConstants.{GREATEST}
-use Rattle.ac_util.specs.declared.error.BuildError.TheVariants.{PatternIdOverflow, PatternTooLong}
-use Rattle.ac_util.specs.Limits.{IsWithinLimits, too_long_from, limit_refusal}
+use Rattle.ac_util.specs.Prelude.{GREATEST, IsWithinLimits, limit_refusal, PatternIdOverflow, PatternTooLong, too_long_from}
 
 -- one pattern further on
 pub too_long-next : (number : ℕ) (ps : List (List ℕ)) (i j : ℕ) → j ≡ suc i → i < length ps

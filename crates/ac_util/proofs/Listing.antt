@@ -1,15 +1,10 @@
 -- The list of all occurrences: it has each occurrence, nothing else, in strict order.
-use Rattle.std.proofs.Common.{◌≡◌, ℕ, ◌+◌, ◌-◌, ◌<◌, ◌≤◌, true, List, length, refl, ap, sym, arith}
-use Rattle.std.specs.Prelude.{Contains, AllPairs, slice_range}
+use Rattle.std.proofs.Common.{◌≡◌, ℕ, ◌+◌, ◌-◌, ◌<◌, ◌≤◌, true, List, length, refl, ap, sym, arith, Contains, AllPairs, slice_range}
 use Rattle.std.specs.List.{range_with_len}
 use Rattle.std.proofs.lemmas.Bool.{and_parts, and_from, ltb-true, leb-true, eqb-true, lt-ltb, le-leb, eq-eqb}
 use Rattle.std.proofs.lemmas.Slice.Eq.{bytes_eq-Decides}
 use Rattle.ac_util.specs.declared.search.Anchored.{Anchored}
-use Rattle.ac_util.specs.declared.search.Anchored.TheVariants.{No, Yes}
-use Rattle.ac_util.specs.Sameness.{plain}
-use Rattle.ac_util.specs.Occurrence.{Occurrence, occurrence}
-use Rattle.ac_util.specs.Search.{Search, Occurs, occurs, pattern_of, may_start}
-use Rattle.ac_util.specs.Listing.{all, places, places_at, places_ending_at, up_to, IsBefore}
+use Rattle.ac_util.specs.Prelude.{all, IsBefore, may_start, No, Occurrence, occurrence, Occurs, occurs, pattern_of, places, places_at, places_ending_at, plain, Search, up_to, Yes}
 use Rattle.ac_util.proofs.Lists.{IsIn, IsOrdered, IsIn-map, IsIn-from_map, IsIn-flat_map, IsIn-from_flat_map, IsIn-filter, IsIn-from_filter, IsIn-range, IsOrdered-map, IsOrdered-flat_map, IsOrdered-filter, IsOrdered-range, IsOrdered-unique, Contains-from_IsIn, IsIn-from_Contains, AllPairs-from_IsOrdered}
 
 -- a place is in the list of places exactly if the span has room for it

@@ -1,15 +1,9 @@
 -- The listing of a span begins with that of each beginning of it, and ends where the dead node is reached.
-use Rattle.std.proofs.Common.{◌≡◌, ℕ, zero, suc, ◌+◌, ◌<◌, ◌≤◌, Bool, cond, List, [], ◌∷◌, ◌++◌, map, length, ap, sym, ◌∙◌, arith, Some, None}
-use Rattle.std.specs.Prelude.{slice_get}
+use Rattle.std.proofs.Common.{◌≡◌, ℕ, zero, suc, ◌+◌, ◌<◌, ◌≤◌, Bool, cond, List, [], ◌∷◌, ◌++◌, map, length, ap, sym, ◌∙◌, arith, Some, None, slice_get}
 use Rattle.std.proofs.lemmas.Bool.{le-ltb, lt-ltb}
 use Rattle.std.proofs.lemmas.Option.{slice_get_within}
 use Rattle.std.proofs.lemmas.List.{append_assoc, append-nil}
-use Rattle.ac_util.specs.declared.search.MatchKind.TheVariants.{Standard}
-use Rattle.ac_util.specs.Occurrence.{Occurrence}
-use Rattle.ac_util.specs.Search.{Search}
-use Rattle.ac_util.specs.Listing.{all, item_at, place_after}
-use Rattle.ac_util.specs.Node.{reached}
-use Rattle.ac_util.specs.Text.{ending, found_at_end, longer_by, one_longer, plain_patterns, text}
+use Rattle.ac_util.specs.Prelude.{all, ending, found_at_end, item_at, longer_by, Occurrence, one_longer, place_after, plain_patterns, reached, Search, Standard, text}
 use Rattle.ac_util.proofs.Lists.{nil-from_none}
 use Rattle.ac_util.proofs.Listing.{all-only}
 use Rattle.ac_util.proofs.ListingLonger.{all-longer}

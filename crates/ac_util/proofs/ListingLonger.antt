@@ -1,15 +1,9 @@
 -- A span that is one place longer: its listing goes on with the matches of the node that an automaton reaches
 -- at its end.
-use Rattle.std.proofs.Common.{◌≡◌, ℕ, zero, suc, ◌+◌, ◌-◌, ◌<◌, ◌≤◌, true, List, [], ◌∷◌, ◌++◌, map, length, inl, inr, refl, ap, sym, subst, arith, Some}
+use Rattle.std.proofs.Common.{◌≡◌, ℕ, zero, suc, ◌+◌, ◌-◌, ◌<◌, ◌≤◌, true, List, [], ◌∷◌, ◌++◌, map, length, inl, inr, refl, ap, sym, subst, arith, Some, nat_eq}
 use Rattle.std.proofs.lemmas.Bool.{cases_lt}
-use Rattle.ac_util.specs.declared.search.MatchKind.TheVariants.{Standard}
+use Rattle.ac_util.specs.Prelude.{all, ending, equal_to, found_at_end, IsBefore, matches, No, Occurrence, Occurs, one_longer, outward, pattern_of, plain_patterns, Search, Standard, text, Yes}
 use Rattle.ac_util.specs.declared.search.Anchored.{Anchored}
-use Rattle.ac_util.specs.declared.search.Anchored.TheVariants.{No, Yes}
-use Rattle.ac_util.specs.Occurrence.{Occurrence}
-use Rattle.ac_util.specs.Search.{Search, Occurs, pattern_of}
-use Rattle.ac_util.specs.Listing.{IsBefore, all}
-use Rattle.ac_util.specs.Matches.{equal_to, matches}
-use Rattle.ac_util.specs.Text.{outward, plain_patterns, text, one_longer, found_at_end, ending}
 use Rattle.ac_util.proofs.Lists.{IsIn, IsIn-append_left, IsIn-append_right, IsIn-append_cases, IsIn-map, IsIn-from_map, IsOrdered, IsOrdered-append}
 use Rattle.ac_util.proofs.Listing.{all-has, all-only, all-ordered, all-unique}
 use Rattle.ac_util.proofs.Picks.{same_occurrence}
@@ -19,7 +13,6 @@ use Rattle.ac_util.proofs.Found.{matches-nil, matches-cons}
 use Rattle.ac_util.proofs.Standing.{Stands, place_of, Prefixes-equal, Stands-behind, Stands-from_behind, Stands-from_Prefixes}
 use Rattle.ac_util.proofs.Spans.{pattern_length, text_length, Stands-from_Occurs, Occurs-from_Stands}
 use Rattle.ac_util.proofs.OneLonger.{found-text}
-use Rattle.std.specs.Prelude.{nat_eq}
 use Rattle.std.specs.List.{starts_with}
 
 module _ (patterns : List (List ℕ)) where

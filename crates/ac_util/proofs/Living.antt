@@ -1,19 +1,10 @@
 -- Where a leftmost automaton is alive: its node begins no later than anything that occurs in what was read.
-use Rattle.std.proofs.Common.{◌≡◌, ◌≢◌, ℕ, zero, suc, ◌+◌, ◌-◌, ◌≤◌, Bool, true, false, cond, List, [], ◌∷◌, length, take, drop, inl, inr, refl, ap, sym, ◌∙◌, subst, arith, Option, None, Some}
-use Rattle.std.specs.Prelude.{◌&&◌, find, nat_eq, option_map, if◌then◌else◌}
+use Rattle.std.proofs.Common.{◌≡◌, ◌≢◌, ℕ, zero, suc, ◌+◌, ◌-◌, ◌≤◌, Bool, true, false, cond, List, [], ◌∷◌, length, take, drop, inl, inr, refl, ap, sym, ◌∙◌, subst, arith, Option, None, Some, ◌&&◌, find, nat_eq, option_map, if◌then◌else◌}
 use Rattle.std.specs.List.{range_with_len, starts_with}
 use Rattle.std.proofs.Math.Seq.{drop-nil}
 use Rattle.std.proofs.lemmas.Bool.{and_parts, false≢true}
 use Rattle.std.proofs.lemmas.List.{length-map}
-use Rattle.ac_util.specs.declared.search.Anchored.TheVariants.{No}
-use Rattle.ac_util.specs.declared.search.MatchKind.{MatchKind}
-use Rattle.ac_util.specs.Node.{begins_with_pattern, is_leftmost, is_node, last_start, least_start, open_suffixes, participants, participates, reached, starting_by, suffixes}
-use Rattle.ac_util.specs.Occurrence.{Occurrence}
-use Rattle.ac_util.specs.Pick.{pick}
-use Rattle.ac_util.specs.Sameness.{plain}
-use Rattle.ac_util.specs.Search.{Search, pattern_of}
-use Rattle.ac_util.specs.Sizes.{longest_len}
-use Rattle.ac_util.specs.Text.{plain_patterns, text}
+use Rattle.ac_util.specs.Prelude.{begins_with_pattern, is_leftmost, is_node, last_start, least_start, longest_len, MatchKind, No, Occurrence, open_suffixes, participants, participates, pattern_of, pick, plain, plain_patterns, reached, Search, starting_by, suffixes, text}
 use Rattle.ac_util.proofs.Lists.{IsIn, IsIn-from_filter, IsIn-from_range}
 use Rattle.ac_util.proofs.NodeCount.{any_passes}
 use Rattle.ac_util.proofs.Participants.{begins-from_Prefixes, leader}

@@ -1,11 +1,6 @@
 -- A haystack after which more bytes come: in a span of what was there before everything stays.
-use Rattle.std.proofs.Common.{◌≡◌, ℕ, ◌≤◌, List, ◌++◌, length, length-append, ap, subst, sym, ◌∙◌, arith}
-use Rattle.std.specs.Prelude.{option_map}
-use Rattle.ac_util.specs.declared.search.MatchKind.{MatchKind}
-use Rattle.ac_util.specs.Pick.{pick}
-use Rattle.ac_util.specs.Sameness.{plain}
-use Rattle.ac_util.specs.Search.{Search}
-use Rattle.ac_util.specs.Text.{plain_patterns, text}
+use Rattle.std.proofs.Common.{◌≡◌, ℕ, ◌≤◌, List, ◌++◌, length, length-append, ap, subst, sym, ◌∙◌, arith, option_map}
+use Rattle.ac_util.specs.Prelude.{MatchKind, pick, plain, plain_patterns, Search, text}
 use Rattle.ac_util.proofs.PiecesLemmas.{slice_range-append}
 use Rattle.ac_util.proofs.Spans.{inward, pick-from_text, pick-in_text, pick-out_again}
 use Rattle.ac_util.proofs.Standing.{IsPickIn}

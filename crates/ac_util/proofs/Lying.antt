@@ -1,16 +1,7 @@
 -- Where the matches of an input lie, and how many a walk has.
-use Rattle.std.proofs.Common.{◌≡◌, ℕ, zero, suc, ◌+◌, ◌-◌, ◌≤◌, Bool, true, false, length, refl, ◌∙◌, arith, Option, Some, None}
-use Rattle.std.specs.Prelude.{All, Contains, IfSome}
+use Rattle.std.proofs.Common.{◌≡◌, ℕ, zero, suc, ◌+◌, ◌-◌, ◌≤◌, Bool, true, false, length, refl, ◌∙◌, arith, Option, Some, None, All, Contains, IfSome}
 use Rattle.std.proofs.lemmas.List.Elements.{All-nil, All-cons, All-weaker, All-contains_itself}
-use Rattle.ac_util.specs.declared.search.MatchKind.{MatchKind}
-use Rattle.ac_util.specs.Occurrence.{Occurrence}
-use Rattle.ac_util.specs.Search.{Search, Occurs, from}
-use Rattle.ac_util.specs.Listing.{all}
-use Rattle.ac_util.specs.Pick.{order_of, pick}
-use Rattle.ac_util.specs.Walk.{repeats, unless_repeated, next_match, continued, walk_after}
-use Rattle.ac_util.specs.Asked.{Asked}
-use Rattle.ac_util.specs.Built.{Built, found, search_in, walked}
-use Rattle.ac_util.specs.Inside.{LiesIn}
+use Rattle.ac_util.specs.Prelude.{all, Asked, Built, continued, found, from, LiesIn, MatchKind, next_match, Occurrence, Occurs, order_of, pick, repeats, Search, search_in, unless_repeated, walk_after, walked}
 use Rattle.ac_util.proofs.Listing.{Occurs-from_all}
 use Rattle.ac_util.proofs.Walks.{pick-Occurs, next-in_span}
 

@@ -1,18 +1,13 @@
 -- Which bytes are marked as those with which patterns begin, and the bytes that are marked.
-use Rattle.std.proofs.Common.{◌≡◌, ℕ, zero, suc, ◌+◌, ◌-◌, ◌<◌, ◌≤◌, Bool, true, false, cond, ◌||◌, ◌⊎◌, List, [], ◌∷◌, ◌++◌, length, length-append, length-take, get_or, set, take, Some, None, inl, inr, refl, ap, sym, ◌∙◌, arith}
-use Rattle.std.specs.Prelude.{◌==◌, ◌&&◌, not, filter, slice_get}
+use Rattle.std.proofs.Common.{◌≡◌, ℕ, zero, suc, ◌+◌, ◌-◌, ◌<◌, ◌≤◌, Bool, true, false, cond, ◌||◌, ◌⊎◌, List, [], ◌∷◌, ◌++◌, length, length-append, length-take, get_or, set, take, Some, None, inl, inr, refl, ap, sym, ◌∙◌, arith, ◌==◌, ◌&&◌, not, filter, slice_get}
 use Rattle.std.specs.List.{list_any, range_with_len}
 use Rattle.std.proofs.lemmas.Bool.{eq-eqb, false≢true, le-leb, lt-leb, or_left, or_right, true≢false}
 use Rattle.std.proofs.lemmas.Bool.Decides.{nat_tests}
 use Rattle.std.proofs.lemmas.Grind.{common_steps}
 use Rattle.std.proofs.lemmas.List.{append-nil}
 use Rattle.std.proofs.lemmas.List.Elements.{filter-append}
-use Rattle.ac_util.specs.declared.prefilter.FirstBytes.{FirstBytes}
-use Rattle.ac_util.specs.declared.prefilter.FirstBytes.TheVariants.{One, Two, Three}
-use Rattle.ac_util.specs.Node.{is_empty}
-use Rattle.ac_util.specs.Prefilters.{BeginWith, MOST_BYTES, MOST_PATTERNS, begins_with, first_bytes, first_bytes_of, is_one_of, marked, skip_among, skip_by_bytes, skip_for}
-use Rattle.ac_util.specs.Prefilters.Skip.{FirstOf, Needle}
-use Rattle.ac_util.specs.Sameness.{plain_byte, same_byte}
+use Rattle.ac_util.specs.Prelude.{begins_with, BeginWith, first_bytes, first_bytes_of, FirstBytes, FirstOf, is_empty, is_one_of, marked, MOST_BYTES, MOST_PATTERNS, One, plain_byte, same_byte, skip_among, skip_by_bytes, skip_for, Three, Two}
+use Rattle.ac_util.specs.Prefilters.Skip.{Needle}
 use Rattle.ac_util.proofs.Lists.{IsIn, IsIn-filter, IsIn-range, none-from_nil}
 use Rattle.ac_util.proofs.PlainListing.{range-more}
 

@@ -1,14 +1,8 @@
 -- Nodes of automata, as the definitions compute them: tables of what is asked and what the answer is.
 use Prim.Native.String.{String}
 use Rattle.std.specs.Prelude.{◌≡◌, ℕ, List, [], ◌∷◌, None, Some, codes, map, refl, slice_index}
-use Rattle.ac_util.specs.declared.search.MatchKind.{MatchKind}
-use Rattle.ac_util.specs.declared.search.MatchKind.TheVariants.{Standard, LeftmostFirst, LeftmostLongest}
+use Rattle.ac_util.specs.Prelude.{failure, LeftmostFirst, LeftmostLongest, looks, matches, MatchKind, No, Node, Standard, state_count, step, Yes}
 use Rattle.ac_util.specs.declared.search.Anchored.{Anchored}
-use Rattle.ac_util.specs.declared.search.Anchored.TheVariants.{No, Yes}
-use Rattle.ac_util.specs.Node.{Node, failure, step}
-use Rattle.ac_util.specs.Matches.{matches}
-use Rattle.ac_util.specs.Looks.{looks}
-use Rattle.ac_util.specs.Sizes.{state_count}
 use Rattle.ac_util.proofs.SearchRows.{nested_words, pronouns}
 
 -- the node of a string, and the one byte of a string

@@ -1,15 +1,6 @@
 -- A span that is one place longer: its pick, by the matches of the node that an automaton reaches at its end.
-use Rattle.std.proofs.Common.{◌≡◌, ℕ, zero, suc, ◌+◌, ◌<◌, ◌≤◌, Bool, true, false, List, [], ◌∷◌, ◌++◌, length, get_or, refl, ap, sym, ◌∙◌, subst, arith, Option, Some, None}
-use Rattle.std.specs.Prelude.{option_map, slice_range}
-use Rattle.ac_util.specs.declared.search.MatchKind.{MatchKind}
-use Rattle.ac_util.specs.declared.search.MatchKind.TheVariants.{Standard}
-use Rattle.ac_util.specs.Occurrence.{Occurrence}
-use Rattle.ac_util.specs.Sameness.{plain, plain_byte}
-use Rattle.ac_util.specs.Search.{Search}
-use Rattle.ac_util.specs.Pick.{IsFirst, order_of, pick}
-use Rattle.ac_util.specs.Node.{Node, is_leftmost, reached, step}
-use Rattle.ac_util.specs.Matches.{matches}
-use Rattle.ac_util.specs.Text.{outward, plain_patterns, text, one_longer, longer_by, found_at_end, ending}
+use Rattle.std.proofs.Common.{◌≡◌, ℕ, zero, suc, ◌+◌, ◌<◌, ◌≤◌, Bool, true, false, List, [], ◌∷◌, ◌++◌, length, get_or, refl, ap, sym, ◌∙◌, subst, arith, Option, Some, None, option_map, slice_range}
+use Rattle.ac_util.specs.Prelude.{ending, found_at_end, is_leftmost, IsFirst, longer_by, matches, MatchKind, Node, Occurrence, one_longer, order_of, outward, pick, plain, plain_byte, plain_patterns, reached, Search, Standard, step, text}
 use Rattle.ac_util.proofs.Picks.{same_occurrence, pick-from_IsPick}
 use Rattle.ac_util.proofs.Reached.{step-reached}
 use Rattle.ac_util.proofs.Found.{matches-reached}

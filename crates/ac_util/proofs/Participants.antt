@@ -1,15 +1,10 @@
 -- Which patterns take part, which strings lead to nodes, and which patterns equal a string.
-use Rattle.std.proofs.Common.{◌≡◌, ℕ, ◌<◌, ◌≤◌, Bool, true, false, not, List, [], ◌∷◌, ◌++◌, length, take, inl, inr, refl, ap, sym, ◌∙◌, subst, arith}
-use Rattle.std.specs.Prelude.{nat_eq, bytes_eq}
+use Rattle.std.proofs.Common.{◌≡◌, ℕ, ◌<◌, ◌≤◌, Bool, true, false, not, List, [], ◌∷◌, ◌++◌, length, take, inl, inr, refl, ap, sym, ◌∙◌, subst, arith, nat_eq, bytes_eq}
 use Rattle.std.specs.List.{range_with_len, starts_with}
 use Rattle.std.proofs.lemmas.Bool.{or_right, false≢true, false_from_ne_true, not_from_true, cases_lt}
 use Rattle.std.proofs.lemmas.List.{length-take-le, get_or-take}
 use Rattle.std.proofs.lemmas.Slice.Eq.{bytes_eq-Decides}
-use Rattle.ac_util.specs.declared.search.MatchKind.{MatchKind}
-use Rattle.ac_util.specs.declared.search.MatchKind.TheVariants.{Standard, LeftmostFirst, LeftmostLongest}
-use Rattle.ac_util.specs.Search.{pattern_of}
-use Rattle.ac_util.specs.Node.{is_leftmost, begins_with_pattern, participates, participants, is_empty, is_node}
-use Rattle.ac_util.specs.Matches.{equal_to}
+use Rattle.ac_util.specs.Prelude.{begins_with_pattern, equal_to, is_empty, is_leftmost, is_node, LeftmostFirst, LeftmostLongest, MatchKind, participants, participates, pattern_of, Standard}
 use Rattle.ac_util.proofs.Lists.{IsIn, IsIn-at, IsIn-filter, IsIn-from_filter, IsIn-range, IsIn-from_range, IsOrdered, IsOrdered-filter, IsOrdered-range, nil-from_none}
 use Rattle.ac_util.proofs.Prefixes.{starts_with-itself, starts_with-front, starts_with-more, starts_with-whole, starts_with-trans, list_any-weaker, list_any-from_IsIn, first_any}
 

@@ -1,13 +1,7 @@
 -- The computed pick is the occurrence that comes first by the kind's order, and the only one.
-use Rattle.std.proofs.Common.{◌≡◌, ℕ, ◌+◌, Bool, true, false, cond, List, [], ◌∷◌, length, inl, inr, refl, ap, sym, ◌∙◌, subst, arith, Option, Some, None}
-use Rattle.std.specs.Prelude.{MatchOption, slice_get}
+use Rattle.std.proofs.Common.{◌≡◌, ℕ, ◌+◌, Bool, true, false, cond, List, [], ◌∷◌, length, inl, inr, refl, ap, sym, ◌∙◌, subst, arith, Option, Some, None, MatchOption, slice_get}
 use Rattle.std.proofs.lemmas.Bool.Decides.{nat_tests}
-use Rattle.ac_util.specs.declared.search.MatchKind.{MatchKind}
-use Rattle.ac_util.specs.declared.search.MatchKind.TheVariants.{Standard, LeftmostFirst, LeftmostLongest}
-use Rattle.ac_util.specs.Occurrence.{Occurrence, occurrence}
-use Rattle.ac_util.specs.Search.{Search, Occurs, pattern_of}
-use Rattle.ac_util.specs.Listing.{all, IsBefore}
-use Rattle.ac_util.specs.Pick.{IsFirst, IsFirstByEnd, IsPick, beats, better, best, pick}
+use Rattle.ac_util.specs.Prelude.{all, beats, best, better, IsBefore, IsFirst, IsFirstByEnd, IsPick, LeftmostFirst, LeftmostLongest, MatchKind, Occurrence, occurrence, Occurs, pattern_of, pick, Search, Standard}
 use Rattle.ac_util.proofs.Lists.{IsIn, IsOrdered}
 use Rattle.ac_util.proofs.Listing.{all-has, all-only, all-ordered}
 

@@ -1,15 +1,10 @@
 -- The plain find: it tries one place after another and keeps the best match so far.
-use Rattle.std.proofs.Common.{◌≡◌, ℕ, ◌+◌, ◌<◌, ◌≤◌, Bool, true, false, cond, List, [], length, get_or, ◌⊎◌, inl, inr, refl, ap, sym, ◌∙◌, subst, arith, Option, Some, None}
-use Rattle.std.specs.Prelude.{MatchOption}
+use Rattle.std.proofs.Common.{◌≡◌, ℕ, ◌+◌, ◌<◌, ◌≤◌, Bool, true, false, cond, List, [], length, get_or, ◌⊎◌, inl, inr, refl, ap, sym, ◌∙◌, subst, arith, Option, Some, None, MatchOption}
 use Rattle.std.specs.Borrow.{Bor}
 use Rattle.std.proofs.lemmas.List.{length-map}
 use Rattle.std.proofs.Math.ListN.{get_or-map}
 use Rattle.std.proofs.lemmas.Bool.{cases_lt, cases_eq}
-use Rattle.ac_util.specs.declared.search.MatchKind.{MatchKind}
-use Rattle.ac_util.specs.Occurrence.{Occurrence, occurrence}
-use Rattle.ac_util.specs.Search.{Search, Occurs, pattern_of}
-use Rattle.ac_util.specs.Borrowed.{bytes_of}
-use Rattle.ac_util.specs.Pick.{IsFirst, IsPick, beats, better, pick}
+use Rattle.ac_util.specs.Prelude.{beats, better, bytes_of, IsFirst, IsPick, MatchKind, Occurrence, occurrence, Occurs, pattern_of, pick, Search}
 use Rattle.ac_util.proofs.Picks.{beats-true, beats-false, IsFirst-itself, IsFirst-trans, pick-from_IsPick, same_occurrence, end_from}
 
 -- r is the pick among the occurrences at places that were tried

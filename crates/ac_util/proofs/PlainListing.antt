@@ -1,14 +1,11 @@
 -- One more number, start or end tried adds what occurs there.
-use Rattle.std.proofs.Common.{◌≡◌, ℕ, zero, suc, ◌+◌, ◌-◌, Bool, true, false, cond, List, [], ◌∷◌, ◌++◌, map, refl, ap, sym, ◌∙◌, arith}
-use Rattle.std.specs.Prelude.{filter, flat_map, IsTrue, ◌↔◌}
+use Rattle.std.proofs.Common.{◌≡◌, ℕ, zero, suc, ◌+◌, ◌-◌, Bool, true, false, cond, List, [], ◌∷◌, ◌++◌, map, refl, ap, sym, ◌∙◌, arith, filter, flat_map, IsTrue, ◌↔◌}
 use Rattle.std.specs.List.{range_with_len}
 use Rattle.std.proofs.lemmas.Grind.{flat_map-append}
 use Rattle.std.proofs.lemmas.List.{append-nil, append_assoc}
 use Rattle.std.proofs.lemmas.List.Elements.{filter-append}
 use Rattle.std.proofs.lemmas.List.FromFn.{filter_of_map_range_with_len_more}
-use Rattle.ac_util.specs.Occurrence.{Occurrence, occurrence}
-use Rattle.ac_util.specs.Search.{Search, Occurs, occurs}
-use Rattle.ac_util.specs.Listing.{all, places_ending_at}
+use Rattle.ac_util.specs.Prelude.{all, Occurrence, occurrence, Occurs, occurs, places_ending_at, Search}
 use Rattle.ac_util.proofs.Listing.{occurs-true, Occurs-from_test}
 
 -- what a list of places adds

@@ -1,18 +1,10 @@
 -- The plain replacement: what is written at each match, and that a walk can be replaced.
-use Rattle.std.proofs.Common.{◌≡◌, ℕ, zero, suc, ◌+◌, ◌-◌, ◌<◌, ◌≤◌, Bool, true, false, List, [], ◌∷◌, ◌++◌, drop, length, get_or, refl, ap, sym, ◌∙◌, subst, arith, add-one, Option, Some, None}
-use Rattle.std.specs.Prelude.{All, AllPairs, slice_range, slice_index_or}
+use Rattle.std.proofs.Common.{◌≡◌, ℕ, zero, suc, ◌+◌, ◌-◌, ◌<◌, ◌≤◌, Bool, true, false, List, [], ◌∷◌, ◌++◌, drop, length, get_or, refl, ap, sym, ◌∙◌, subst, arith, add-one, Option, Some, None, All, AllPairs, slice_range, slice_index_or}
 use Rattle.std.specs.Borrow.{Bor}
 use Rattle.std.proofs.lemmas.List.{append_assoc, get_or-map, get_or_default}
 use Rattle.std.proofs.lemmas.List.Elements.{All-cons, All-nil, All-get_or}
 use Rattle.std.proofs.Math.Seq.{drop-cons}
-use Rattle.ac_util.specs.declared.search.MatchKind.{MatchKind}
-use Rattle.ac_util.specs.Occurrence.{Occurrence}
-use Rattle.ac_util.specs.Search.{Search, from}
-use Rattle.ac_util.specs.Pick.{pick}
-use Rattle.ac_util.specs.Walk.{repeats, unless_repeated, next_match, continued, walk_after, walk}
-use Rattle.ac_util.specs.Borrowed.{bytes_of}
-use Rattle.ac_util.specs.Plain.{IsReplaceable, EndsBy}
-use Rattle.ac_util.specs.Replaced.{replaced, replaced_from}
+use Rattle.ac_util.specs.Prelude.{bytes_of, continued, EndsBy, from, IsReplaceable, MatchKind, next_match, Occurrence, pick, repeats, replaced, replaced_from, Search, unless_repeated, walk, walk_after}
 use Rattle.ac_util.proofs.Walks.{pick-Occurs, next-in_span, walk-ordered}
 
 -- the match of this number, where there is one, starts from this place on

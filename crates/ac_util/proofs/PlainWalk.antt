@@ -1,12 +1,7 @@
 -- The plain walk: what is left of it after each match.
-use Rattle.std.proofs.Common.{◌≡◌, ℕ, ◌+◌, ◌-◌, ◌<◌, ◌≤◌, List, [], ◌∷◌, ◌++◌, refl, ap, sym, ◌∙◌, arith, Option, Some, None}
-use Rattle.std.specs.Prelude.{MatchOption}
+use Rattle.std.proofs.Common.{◌≡◌, ℕ, ◌+◌, ◌-◌, ◌<◌, ◌≤◌, List, [], ◌∷◌, ◌++◌, refl, ap, sym, ◌∙◌, arith, Option, Some, None, MatchOption}
 use Rattle.std.proofs.lemmas.List.{append_assoc}
-use Rattle.ac_util.specs.declared.search.MatchKind.{MatchKind}
-use Rattle.ac_util.specs.Occurrence.{Occurrence}
-use Rattle.ac_util.specs.Search.{Search, from}
-use Rattle.ac_util.specs.Pick.{pick}
-use Rattle.ac_util.specs.Walk.{next_match, walk_after, walk}
+use Rattle.ac_util.specs.Prelude.{from, MatchKind, next_match, Occurrence, pick, Search, walk, walk_after}
 use Rattle.ac_util.proofs.Walks.{pick-Occurs, next-in_span, next-beyond, walk_after-None, walk_after-Some}
 
 -- a span in which something is picked starts no later than it ends

@@ -1,11 +1,8 @@
 -- A step leads from the node that an automaton has reached to the one that it reaches with one more byte.
-use Rattle.std.proofs.Common.{◌≡◌, ◌≢◌, ℕ, suc, Bool, true, false, ◌&&◌, cond, List, [], ◌∷◌, ◌++◌, inl, inr, refl, ap, sym, ◌∙◌, Option, Some, None}
-use Rattle.std.specs.Prelude.{find, option_map}
+use Rattle.std.proofs.Common.{◌≡◌, ◌≢◌, ℕ, suc, Bool, true, false, ◌&&◌, cond, List, [], ◌∷◌, ◌++◌, inl, inr, refl, ap, sym, ◌∙◌, Option, Some, None, find, option_map}
 use Rattle.std.proofs.lemmas.Bool.{cond-false, cond-true, false_from_ne_true, false≢true, cases_Bool}
-use Rattle.ac_util.specs.declared.search.MatchKind.{MatchKind}
+use Rattle.ac_util.specs.Prelude.{begins_with_pattern, is_leftmost, is_node, last_start, least_start, MatchKind, No, Node, open_suffixes, reached, starting_by, step, suffixes, Yes}
 use Rattle.ac_util.specs.declared.search.Anchored.{Anchored}
-use Rattle.ac_util.specs.declared.search.Anchored.TheVariants.{No, Yes}
-use Rattle.ac_util.specs.Node.{Node, is_leftmost, is_node, suffixes, begins_with_pattern, least_start, last_start, starting_by, open_suffixes, reached, step}
 use Rattle.ac_util.proofs.Participants.{begins-more, is_node-more, is_node-begins}
 
 -- whether no match may start after the beginning of w any more

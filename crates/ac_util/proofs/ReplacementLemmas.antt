@@ -1,9 +1,6 @@
 -- What the steps of a replacement leave, by what each call does.
-use Rattle.std.proofs.Common.{◌≡◌, ℕ, List, [], ◌∷◌, ◌++◌, drop, inl, inr, refl, ap, sym, subst, ◌∙◌, append_assoc, append-nil, Bool, Option, None, Some}
-use Rattle.std.specs.Prelude.{slice_index_or, slice_range}
-use Rattle.ac_util.specs.Occurrence.{Occurrence}
-use Rattle.ac_util.specs.Replaced.{exchanged_from, replaced}
-use Rattle.ac_util.specs.Replacement.{AlwaysWrites, Answer, AppendsAll, AppendsBeginning, CallsNoMore, Fails, GoesOn, MatchAnswer, OnlyAppends, Replacing, ReplacementSteps, Turn, WritesText, asked_by}
+use Rattle.std.proofs.Common.{◌≡◌, ℕ, List, [], ◌∷◌, ◌++◌, drop, inl, inr, refl, ap, sym, subst, ◌∙◌, append_assoc, append-nil, Bool, Option, None, Some, slice_index_or, slice_range}
+use Rattle.ac_util.specs.Prelude.{AlwaysWrites, Answer, AppendsAll, AppendsBeginning, asked_by, CallsNoMore, exchanged_from, Fails, GoesOn, MatchAnswer, Occurrence, OnlyAppends, replaced, ReplacementSteps, Replacing, Turn, WritesText}
 
 module _ {S R E : Type 0} (appends : List ℕ → S → Option E → S → Type 0)
     (calls : Occurrence → List ℕ → S → R → S → Type 0) (asks : R → Answer E) (haystack : List ℕ) where

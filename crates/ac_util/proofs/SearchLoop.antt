@@ -1,16 +1,7 @@
 -- A search that reads byte by byte: what it has picked so far stays the pick.
-use Rattle.std.proofs.Common.{◌≡◌, ℕ, zero, suc, ◌+◌, ◌<◌, ◌≤◌, Bool, true, false, List, [], ◌∷◌, ◌++◌, length, ◌⊎◌, inl, inr, refl, ap, sym, ◌∙◌, subst, arith, Option, Some, None}
-use Rattle.std.specs.Prelude.{◌==◌, if◌then◌else◌}
-use Rattle.ac_util.specs.declared.search.MatchKind.{MatchKind}
-use Rattle.ac_util.specs.declared.search.MatchKind.TheVariants.{Standard, LeftmostFirst, LeftmostLongest}
+use Rattle.std.proofs.Common.{◌≡◌, ℕ, zero, suc, ◌+◌, ◌<◌, ◌≤◌, Bool, true, false, List, [], ◌∷◌, ◌++◌, length, ◌⊎◌, inl, inr, refl, ap, sym, ◌∙◌, subst, arith, Option, Some, None, ◌==◌, if◌then◌else◌}
+use Rattle.ac_util.specs.Prelude.{credit, depth, ending, failure, found_at_end, is_leftmost, is_node, LeftmostFirst, LeftmostLongest, longer_by, looks, looks_by, looks_within, MatchKind, No, Node, Occurrence, one_longer, order_of, pick, plain_patterns, reached, Search, Standard, step, text, Yes}
 use Rattle.ac_util.specs.declared.search.Anchored.{Anchored}
-use Rattle.ac_util.specs.declared.search.Anchored.TheVariants.{No, Yes}
-use Rattle.ac_util.specs.Occurrence.{Occurrence}
-use Rattle.ac_util.specs.Search.{Search}
-use Rattle.ac_util.specs.Pick.{order_of, pick}
-use Rattle.ac_util.specs.Node.{Node, is_leftmost, is_node, failure, depth, reached, step}
-use Rattle.ac_util.specs.Looks.{looks_within, looks, looks_by, credit}
-use Rattle.ac_util.specs.Text.{plain_patterns, text, one_longer, longer_by, found_at_end, ending}
 use Rattle.ac_util.proofs.Failures.{looks-paid}
 use Rattle.ac_util.proofs.OneLonger.{pick-longer_stays, pick-longer_becomes, first-longer_stays, first-longer_becomes, pick-dead, first-dead}
 

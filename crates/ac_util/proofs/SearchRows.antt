@@ -1,13 +1,6 @@
 -- Searches with their answers, as the definitions compute them: tables of what is asked and what the answer is.
 use Rattle.std.specs.Prelude.{◌≡◌, ℕ, true, false, List, [], ◌∷◌, ◌++◌, Option, None, Some, length, map, codes, refl}
-use Rattle.ac_util.specs.declared.search.MatchKind.{MatchKind}
-use Rattle.ac_util.specs.declared.search.MatchKind.TheVariants.{Standard, LeftmostFirst, LeftmostLongest}
-use Rattle.ac_util.specs.declared.search.Anchored.TheVariants.{No, Yes}
-use Rattle.ac_util.specs.Occurrence.{Occurrence, occurrence}
-use Rattle.ac_util.specs.Search.{Search}
-use Rattle.ac_util.specs.Listing.{all}
-use Rattle.ac_util.specs.Pick.{order_of, pick}
-use Rattle.ac_util.specs.Walk.{walk, walk_after}
+use Rattle.ac_util.specs.Prelude.{all, LeftmostFirst, LeftmostLongest, MatchKind, No, Occurrence, occurrence, order_of, pick, Search, Standard, walk, walk_after, Yes}
 
 -- a search of a whole text, unanchored, where case counts
 abbrev pub in_text : List (List ℕ) → List ℕ → Search

@@ -1,24 +1,11 @@
 -- A stream under a leftmost kind: the matches that are decided stay as more of it comes, and no other starts before them.
-use Rattle.std.proofs.Common.{◌≡◌, ℕ, ◌+◌, ◌-◌, ◌<◌, ◌≤◌, true, List, [], ◌∷◌, ◌++◌, length, get_or, length-append, length-drop, take, drop, inl, inr, refl, ap, sym, ◌∙◌, subst, arith, Option, None, Some}
-use Rattle.std.specs.Prelude.{All, nat_eq, slice_range}
+use Rattle.std.proofs.Common.{◌≡◌, ℕ, ◌+◌, ◌-◌, ◌<◌, ◌≤◌, true, List, [], ◌∷◌, ◌++◌, length, get_or, length-append, length-drop, take, drop, inl, inr, refl, ap, sym, ◌∙◌, subst, arith, Option, None, Some, All, nat_eq, slice_range}
 use Rattle.std.specs.List.{starts_with}
 use Rattle.std.proofs.Math.Seq.{drop-append_seam, take-append_seam, take-take}
 use Rattle.std.proofs.lemmas.Bool.{cases_lt, false_from_ne_true}
 use Rattle.std.proofs.lemmas.List.{drop-append-le, get_or-map, get_or-take, length-map, length-take-le, take-append-drop, take-map}
 use Rattle.std.proofs.lemmas.List.Elements.{All-cons, All-nil}
-use Rattle.ac_util.specs.declared.search.MatchKind.{MatchKind}
-use Rattle.ac_util.specs.declared.search.MatchKind.TheVariants.{Standard, LeftmostFirst, LeftmostLongest}
-use Rattle.ac_util.specs.Asked.{asked_whole}
-use Rattle.ac_util.specs.Built.{Built, search_in}
-use Rattle.ac_util.specs.Node.{is_leftmost, participates}
-use Rattle.ac_util.specs.Occurrence.{Occurrence, occurrence}
-use Rattle.ac_util.specs.Pick.{IsFirst, IsPick, pick}
-use Rattle.ac_util.specs.Sameness.{plain, plain_byte}
-use Rattle.ac_util.specs.Search.{Occurs, Search, from, pattern_of}
-use Rattle.ac_util.specs.Settled.{AreDecided, IsOpen, IsSettledAt, NoneOpen}
-use Rattle.ac_util.specs.Stream.{streamed}
-use Rattle.ac_util.specs.Text.{plain_patterns}
-use Rattle.ac_util.specs.Walk.{continued, next_match, walk_after}
+use Rattle.ac_util.specs.Prelude.{AreDecided, asked_whole, Built, continued, from, is_leftmost, IsFirst, IsOpen, IsPick, IsSettledAt, LeftmostFirst, LeftmostLongest, MatchKind, next_match, NoneOpen, Occurrence, occurrence, Occurs, participates, pattern_of, pick, plain, plain_byte, plain_patterns, Search, search_in, Standard, streamed, walk_after}
 use Rattle.ac_util.proofs.Lists.{IsIn-at}
 use Rattle.ac_util.proofs.Participants.{takes_part}
 use Rattle.ac_util.proofs.Picks.{first_unique, pick-IsPick}

@@ -1,11 +1,9 @@
 -- The shortest and the longest of patterns: when the shortest is empty, and which lengths all of them have.
-use Rattle.std.proofs.Common.{◌≡◌, ℕ, zero, suc, ◌<◌, ◌≤◌, true, false, List, [], ◌∷◌, length, inl, inr, sym, ◌∙◌, arith}
-use Rattle.std.specs.Prelude.{◌↔◌, ◌==◌}
+use Rattle.std.proofs.Common.{◌≡◌, ℕ, zero, suc, ◌<◌, ◌≤◌, true, false, List, [], ◌∷◌, length, inl, inr, sym, ◌∙◌, arith, ◌↔◌, ◌==◌}
 use Rattle.std.specs.List.{list_any}
 use Rattle.std.proofs.lemmas.Bool.{or_cases, or_left, or_right, false≢true, cases_lt}
 use Rattle.std.proofs.lemmas.Bool.Decides.{nat_tests}
-use Rattle.ac_util.specs.Search.{pattern_of}
-use Rattle.ac_util.specs.Sizes.{longest_len, shortest_len}
+use Rattle.ac_util.specs.Prelude.{longest_len, pattern_of, shortest_len}
 
 -- the shortest is empty exactly if some pattern is
 pub shortest-empty : (ps : List (List ℕ)) → (shortest_len ps ≡ 0) ↔ (list_any (λ p. length p == 0) ps ≡ true)

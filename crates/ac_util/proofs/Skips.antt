@@ -1,22 +1,13 @@
 -- What a prefilter tells of a span, and what that promises of a search of the span.
-use Rattle.std.proofs.Common.{◌≡◌, ℕ, zero, suc, ◌+◌, ◌-◌, ◌<◌, ◌≤◌, Bool, true, false, List, [], ◌∷◌, length, get_or, Option, Some, None, option_map, inl, inr, refl, ap, sym, ◌∙◌, subst, arith, length-take, length-drop, get_or-take, get_or-drop}
-use Rattle.std.specs.Prelude.{slice_range}
+use Rattle.std.proofs.Common.{◌≡◌, ℕ, zero, suc, ◌+◌, ◌-◌, ◌<◌, ◌≤◌, Bool, true, false, List, [], ◌∷◌, length, get_or, Option, Some, None, option_map, inl, inr, refl, ap, sym, ◌∙◌, subst, arith, length-take, length-drop, get_or-take, get_or-drop, slice_range}
 use Rattle.std.specs.List.{list_any}
 use Rattle.std.proofs.lemmas.Bool.{eq-eqb, cases_lt, false_from_ne_true, false≢true}
 use Rattle.std.proofs.lemmas.List.Folds.{list_any_at}
 use Rattle.memchr.specs.Find.{IsFirst, IsFirstByte, FindsNeedle, OccursAt, Passes}
-use Rattle.ac_util.specs.declared.prefilter.Candidate.{Candidate}
+use Rattle.ac_util.specs.Prelude.{begins_with, BeginWith, Candidate, FirstOf, is_empty, is_one_of, IsPick, IsSkipFor, LeftmostFirst, LeftmostLongest, match_told, MatchKind, Occurrence, occurrence, Occurs, pattern_of, pick, plain_byte, Promises, Search, search_over, Skip, Standard, start_told, Tells}
 use Rattle.ac_util.specs.declared.prefilter.Candidate.TheVariants.{None as Nothing}
-use Rattle.ac_util.specs.declared.search.MatchKind.{MatchKind}
-use Rattle.ac_util.specs.declared.search.MatchKind.TheVariants.{Standard, LeftmostFirst, LeftmostLongest}
-use Rattle.ac_util.specs.Node.{is_empty}
-use Rattle.ac_util.specs.Occurrence.{Occurrence, occurrence}
-use Rattle.ac_util.specs.Pick.{IsPick, pick}
 use Rattle.ac_util.specs.Pick as Order
-use Rattle.ac_util.specs.Prefilters.{BeginWith, IsSkipFor, Promises, Skip, Tells, begins_with, is_one_of, match_told, search_over, start_told}
-use Rattle.ac_util.specs.Prefilters.Skip.{FirstOf, Needle}
-use Rattle.ac_util.specs.Sameness.{plain_byte}
-use Rattle.ac_util.specs.Search.{Search, Occurs, pattern_of}
+use Rattle.ac_util.specs.Prefilters.Skip.{Needle}
 use Rattle.ac_util.proofs.OneLonger.{none-past_end}
 use Rattle.ac_util.proofs.Picks.{pick-IsPick, pick-from_IsPick, same_occurrence}
 use Rattle.ac_util.proofs.SamenessLemmas.{IsSame-at, IsSame-from_places}

@@ -1,16 +1,9 @@
 -- What occurs in the span of a search is what stands in the span's text: bytes outside the span never count.
-use Rattle.std.proofs.Common.{◌≡◌, ℕ, zero, suc, ◌+◌, ◌-◌, ◌<◌, ◌≤◌, List, [], ◌∷◌, ◌++◌, length, take, drop, get_or, refl, ap, sym, ◌∙◌, subst, arith, Option, Some, None, length-drop, length-take}
-use Rattle.std.specs.Prelude.{slice_range, option_map}
+use Rattle.std.proofs.Common.{◌≡◌, ℕ, zero, suc, ◌+◌, ◌-◌, ◌<◌, ◌≤◌, List, [], ◌∷◌, ◌++◌, length, take, drop, get_or, refl, ap, sym, ◌∙◌, subst, arith, Option, Some, None, length-drop, length-take, slice_range, option_map}
 use Rattle.std.proofs.lemmas.List.{length-map, take-map, take-take, drop-drop, take_more, map-append, get_or-drop, drop-map}
 use Rattle.std.proofs.Math.ListN.{get_or-map}
 use Rattle.std.proofs.lemmas.Slice.Eq.{bytes_eq-Decides}
-use Rattle.ac_util.specs.declared.search.MatchKind.{MatchKind}
-use Rattle.ac_util.specs.declared.search.MatchKind.TheVariants.{Standard, LeftmostFirst, LeftmostLongest}
-use Rattle.ac_util.specs.Occurrence.{Occurrence, occurrence}
-use Rattle.ac_util.specs.Sameness.{plain_byte, plain}
-use Rattle.ac_util.specs.Search.{Search, Occurs, pattern_of}
-use Rattle.ac_util.specs.Pick.{IsPick, IsFirst, pick}
-use Rattle.ac_util.specs.Text.{cut, outward, plain_patterns, text, one_longer}
+use Rattle.ac_util.specs.Prelude.{cut, IsFirst, IsPick, LeftmostFirst, LeftmostLongest, MatchKind, Occurrence, occurrence, Occurs, one_longer, outward, pattern_of, pick, plain, plain_byte, plain_patterns, Search, Standard, text}
 use Rattle.ac_util.proofs.Picks.{pick-IsPick, pick-from_IsPick, same_occurrence}
 use Rattle.ac_util.proofs.Standing.{Stands, place_of, IsPickIn, Stands-end}
 

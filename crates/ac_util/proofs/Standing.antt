@@ -1,17 +1,10 @@
 -- Where patterns stand in a text, and how one more byte changes that.
-use Rattle.std.proofs.Common.{◌≡◌, ℕ, suc, ◌+◌, ◌<◌, ◌≤◌, true, List, [], ◌∷◌, ◌++◌, length, drop, ◌⊎◌, inl, inr, refl, ap, sym, subst, arith, Option, length-drop}
-use Rattle.std.specs.Prelude.{nat_eq, MatchOption}
+use Rattle.std.proofs.Common.{◌≡◌, ℕ, suc, ◌+◌, ◌<◌, ◌≤◌, true, List, [], ◌∷◌, ◌++◌, length, drop, ◌⊎◌, inl, inr, refl, ap, sym, subst, arith, Option, length-drop, nat_eq, MatchOption}
 use Rattle.std.specs.List.{starts_with}
 use Rattle.std.proofs.lemmas.Bool.{cases_Bool, cases_lt}
 use Rattle.std.proofs.lemmas.List.{drop-append-le, length_push}
-use Rattle.ac_util.specs.declared.search.MatchKind.{MatchKind}
-use Rattle.ac_util.specs.declared.search.MatchKind.TheVariants.{Standard, LeftmostFirst, LeftmostLongest}
+use Rattle.ac_util.specs.Prelude.{is_leftmost, IsFirst, LeftmostFirst, LeftmostLongest, MatchKind, No, Occurrence, occurrence, pattern_of, Standard, Yes}
 use Rattle.ac_util.specs.declared.search.Anchored.{Anchored}
-use Rattle.ac_util.specs.declared.search.Anchored.TheVariants.{No, Yes}
-use Rattle.ac_util.specs.Occurrence.{Occurrence, occurrence}
-use Rattle.ac_util.specs.Search.{pattern_of}
-use Rattle.ac_util.specs.Pick.{IsFirst}
-use Rattle.ac_util.specs.Node.{is_leftmost}
 use Rattle.ac_util.proofs.Prefixes.{starts_with-more, starts_with-whole, starts_with-length, starts_with-equal}
 use Rattle.ac_util.proofs.Participants.{Prefixes}
 

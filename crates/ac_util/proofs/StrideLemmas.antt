@@ -1,6 +1,5 @@
 -- The stride is the least power of two that is not below the number of classes.
-use Rattle.std.proofs.Common.{◌≡◌, ℕ, zero, suc, ◌+◌, ◌<◌, ◌≤◌, ◌^◌, Bool, true, false, cond, List, inl, inr, refl, ap, ◌∙◌, Option, Some, arith}
-use Rattle.std.specs.Prelude.{nat_le, find, unwrap_or}
+use Rattle.std.proofs.Common.{◌≡◌, ℕ, zero, suc, ◌+◌, ◌<◌, ◌≤◌, ◌^◌, Bool, true, false, cond, List, inl, inr, refl, ap, ◌∙◌, Option, Some, arith, nat_le, find, unwrap_or}
 use Rattle.std.specs.List.{range_with_len}
 use Rattle.std.proofs.lemmas.Bool.{cases_lt, leb-true, leb-false}
 use Rattle.ac_util.specs.Classes.{alphabet_len, stride2, stride, AreClasses}

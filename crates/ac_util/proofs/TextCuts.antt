@@ -1,6 +1,5 @@
 -- A text that occurs in a text cuts no character of it, with case or without.
-use Rattle.std.proofs.Common.{◌≡◌, ◌≢◌, ℕ, suc, ◌+◌, ◌<◌, ◌≤◌, Bool, true, false, List, [], ◌∷◌, ◌++◌, length, get_or, take, drop, inl, inr, refl, sym, ap, ap₂, ◌∙◌, subst, arith, append_assoc, append-nil, Option, Some, None}
-use Rattle.std.specs.Prelude.{All, IfSome}
+use Rattle.std.proofs.Common.{◌≡◌, ◌≢◌, ℕ, suc, ◌+◌, ◌<◌, ◌≤◌, Bool, true, false, List, [], ◌∷◌, ◌++◌, length, get_or, take, drop, inl, inr, refl, sym, ap, ap₂, ◌∙◌, subst, arith, append_assoc, append-nil, Option, Some, None, All, IfSome}
 use Rattle.std.specs.Str.{IsCharBoundary, IsUtf8}
 use Rattle.std.proofs.lemmas.Bool.{and_parts, cases_lt}
 use Rattle.std.proofs.lemmas.List.Elements.{All-weaker}
@@ -8,14 +7,7 @@ use Rattle.std.proofs.lemmas.List.{drop-map, get_or-drop, get_or-map, get_or-tak
 use Rattle.std.proofs.lemmas.Str.{IsCharBoundary-at_seam, IsCharBoundary-from_rest, IsCharBoundary-start, IsUtf8-append, IsUtf8-drop, IsUtf8-encode, IsUtf8-nil, IsUtf8-past_char, encode_ascii, inside_one}
 use Rattle.std.proofs.lemmas.Str.Ascii.{lowercase_ascii, lowercase_is}
 use Rattle.std.proofs.Math.Utf8.{scalar, scalars, encode, encodes, low_scalar}
-use Rattle.ac_util.specs.Occurrence.{Occurrence}
-use Rattle.ac_util.specs.Search.{pattern_of}
-use Rattle.ac_util.specs.Sameness.{plain_byte, plain}
-use Rattle.ac_util.specs.Asked.{Asked}
-use Rattle.ac_util.specs.Built.{Built, found, search_in, walked}
-use Rattle.ac_util.specs.Listing.{all}
-use Rattle.ac_util.specs.Inside.{LiesIn}
-use Rattle.ac_util.specs.Texts.{AreTexts, IsBetweenCharacters}
+use Rattle.ac_util.specs.Prelude.{all, AreTexts, Asked, Built, found, IsBetweenCharacters, LiesIn, Occurrence, pattern_of, plain, plain_byte, search_in, walked}
 use Rattle.ac_util.proofs.Lying.{found-IfSome, listed-lie, walked-lie}
 
 -- a byte of no ASCII letter keeps its class, and so does the small form of one

@@ -2,26 +2,8 @@
 -- sameness.
 use Prim.Native.String.{String}
 use Rattle.std.specs.Prelude.{◌≡◌, ℕ, Bool, true, false, List, [], ◌∷◌, ◌++◌, Option, None, Some, map, take, codes, refl}
-use Rattle.ac_util.specs.declared.search.MatchKind.{MatchKind}
-use Rattle.ac_util.specs.declared.search.MatchKind.TheVariants.{Standard, LeftmostFirst, LeftmostLongest}
-use Rattle.ac_util.specs.declared.search.StartKind.{StartKind}
-use Rattle.ac_util.specs.declared.search.StartKind.TheVariants.{Both, Unanchored, Anchored as AnchoredAlone}
-use Rattle.ac_util.specs.declared.search.Anchored.TheVariants.{No, Yes}
-use Rattle.ac_util.specs.declared.error.MatchError.{MatchError}
-use Rattle.ac_util.specs.declared.error.MatchError.TheVariants.{InvalidInputAnchored, InvalidInputUnanchored}
-use Rattle.ac_util.specs.declared.error.MatchError.TheVariants.{UnsupportedOverlapping}
-use Rattle.ac_util.specs.declared.error.MatchError.TheVariants.{UnsupportedEmpty}
-use Rattle.ac_util.specs.Sameness.{same_byte, same_string}
-use Rattle.ac_util.specs.Occurrence.{Occurrence, occurrence}
-use Rattle.ac_util.specs.Search.{Search}
-use Rattle.ac_util.specs.Listing.{all, item_at, place_after}
-use Rattle.ac_util.specs.Pick.{pick}
-use Rattle.ac_util.specs.Walk.{walk, walk_after}
-use Rattle.ac_util.specs.Replaced.{replaced, whole_characters}
-use Rattle.ac_util.specs.Refusal.{Call, refusal, Find, Replace, OverlappingByState, OverlappingIterator, Stream}
-use Rattle.ac_util.specs.Built.{Built}
-use Rattle.ac_util.specs.Stream.{held, streamed, without_last}
-use Rattle.ac_util.specs.Sizes.{longest_len}
+use Rattle.ac_util.specs.Prelude.{all, Both, Built, Call, Find, held, InvalidInputAnchored, InvalidInputUnanchored, item_at, LeftmostFirst, LeftmostLongest, longest_len, MatchError, MatchKind, No, Occurrence, occurrence, OverlappingByState, OverlappingIterator, pick, place_after, refusal, Replace, replaced, same_byte, same_string, Search, Standard, StartKind, Stream, streamed, Unanchored, UnsupportedEmpty, UnsupportedOverlapping, walk, walk_after, whole_characters, without_last, Yes}
+use Rattle.ac_util.specs.declared.search.StartKind.TheVariants.{Anchored as AnchoredAlone}
 use Rattle.ac_util.proofs.SearchRows.{in_text, at_start, append_words, append_text}
 
 -- a haystack of bytes in which the walk's matches are exchanged for texts

@@ -1,8 +1,7 @@
 //! What every engine has, whatever its states are.
 ghost use Rattle.std.specs.Prelude.{◌≡◌, IfSome, MatchResult, option_map};
 ghost use Rattle.ac_util.specs.declared.error.BuildError.TheVariants.{Memory};
-ghost use Rattle.ac_util.specs.Prefilters.{IsSkipFor, skip_for, skip_of};
-ghost use Rattle.ac_util.specs.Sizes.{longest_len, shortest_len};
+ghost use Rattle.ac_automaton.specs.Util.{IsSkipFor, longest_len, shortest_len, skip_for, skip_of};
 
 use super::lengths::{longest_of, shortest_of};
 use ac_util::error::BuildError;
@@ -28,8 +27,7 @@ pub struct Common<A: Allocator = Global> {
 
 impl<A: Allocator> Model for Common<A> {
     ghost use Rattle.std.specs.Prelude.{◌≡◌, IfSome, option_map};
-    ghost use Rattle.ac_util.specs.Prefilters.{IsSkipFor, skip_for, skip_of};
-    ghost use Rattle.ac_util.specs.Sizes.{longest_len, shortest_len};
+    ghost use Rattle.ac_automaton.specs.Util.{IsSkipFor, longest_len, shortest_len, skip_for, skip_of};
     ghost use Rattle.ac_automaton.specs.Common.{CommonView};
 
     ghost Value = { CommonView };

@@ -1,12 +1,6 @@
 //! The core of every find.
 ghost use Rattle.std.specs.Prelude.{◌≡◌, ◌+◌, ◌<◌, ◌≤◌, ◌↔◌, false, true, IsTrue, length, None, Some, MatchResult};
-ghost use Rattle.ac_util.specs.declared.search.MatchKind.TheVariants.{Standard};
-ghost use Rattle.ac_util.specs.Built.{find_refusal, found, search_in};
-ghost use Rattle.ac_util.specs.Inputs.{asked};
-ghost use Rattle.ac_util.specs.Node.{is_leftmost};
-ghost use Rattle.ac_util.specs.Pick.{order_of};
-ghost use Rattle.ac_util.specs.Prefilters.{skip_of};
-ghost use Rattle.ac_util.specs.Refusal.{AnswersUnless, start_refusal};
+ghost use Rattle.ac_automaton.specs.Util.{AnswersUnless, asked, find_refusal, found, is_leftmost, order_of, search_in, skip_of, Standard, start_refusal};
 ghost use Rattle.ac_automaton.specs.Finders.{picking_of};
 ghost use Rattle.ac_automaton.specs.Finds.{HasSearched, asked_of};
 ghost use Rattle.ac_automaton.specs.Progress.{search_of, work_of};
@@ -102,11 +96,7 @@ pub struct Finder<'a, A: Automaton> {
 
 impl<'a, A: Automaton> Model for Finder<'a, A> {
     ghost use Rattle.std.specs.Prelude.{◌≡◌, false, true, [], None, Some, IfSome, if◌then◌else◌};
-    ghost use Rattle.ac_util.specs.declared.search.Anchored.TheVariants.{No};
-    ghost use Rattle.ac_util.specs.declared.search.MatchKind.TheVariants.{Standard};
-    ghost use Rattle.ac_util.specs.Node.{is_leftmost};
-    ghost use Rattle.ac_util.specs.Prefilters.{skip_of};
-    ghost use Rattle.ac_util.specs.Refusal.{start_refusal};
+    ghost use Rattle.ac_automaton.specs.Util.{is_leftmost, No, skip_of, Standard, start_refusal};
     ghost use Rattle.ac_automaton.specs.Finders.{Finding, picking_of};
     ghost use Rattle.ac_automaton.specs.Skipping.{Skips};
 
@@ -213,8 +203,7 @@ impl<'a, A: Automaton> Finder<'a, A> {
 }
 
 impl<'a, A: Automaton> Scanner<'a, A> {
-    ghost use Rattle.ac_util.specs.Counts.{Counts};
-    ghost use Rattle.ac_util.specs.Node.{Node};
+    ghost use Rattle.ac_automaton.specs.Util.{Counts, Node};
     ghost use Rattle.ac_automaton.specs.Automata.{IsState};
     ghost use Rattle.ac_automaton.specs.Finds.{IsAnswered, IsReady, picking_by};
     ghost use Rattle.ac_automaton.specs.Progress.{Work};

@@ -1,11 +1,7 @@
 //! All occurrences, one after another: overlapping search by a state, and by an iterator.
 ghost use Rattle.std.specs.Prelude.{◌≡◌, ◌≢◌, ◌⊎◌, ℕ, ◌∷◌, ◌≤◌, List, [], None, Some, IfSome, MatchOption, MatchResult, length};
 ghost use Rattle.std.specs.Iterator.{item_count};
-ghost use Rattle.ac_util.specs.declared.search.MatchKind.TheVariants.{Standard};
-ghost use Rattle.ac_util.specs.Built.{overlapping_iter_refusal, overlapping_refusal, search_in};
-ghost use Rattle.ac_util.specs.Inputs.{asked};
-ghost use Rattle.ac_util.specs.Prefilters.{skip_of};
-ghost use Rattle.ac_util.specs.Refusal.{AnswersUnless, start_refusal};
+ghost use Rattle.ac_automaton.specs.Util.{AnswersUnless, asked, overlapping_iter_refusal, overlapping_refusal, search_in, skip_of, Standard, start_refusal};
 ghost use Rattle.ac_automaton.specs.Overlaps.{GivesNext, IsPlaced, ListsNext, fresh, listing_begun};
 ghost use Rattle.ac_automaton.specs.Progress.{work_of};
 

@@ -1,9 +1,6 @@
 //! Matches exchanged for texts, by a list or by a closure, in bytes and in text.
 ghost use Rattle.std.specs.Prelude.{◌≡◌, length, string_bytes};
-ghost use Rattle.ac_util.specs.Borrowed.{bytes_of};
-ghost use Rattle.ac_util.specs.Built.{exchanged, exchanged_in_text, replace_refusal};
-ghost use Rattle.ac_util.specs.Replaced.{is_whole, replaced};
-ghost use Rattle.ac_util.specs.Replacing.{AnswersWhole, MakesSteps, StepsLead};
+ghost use Rattle.ac_automaton.specs.Util.{AnswersWhole, bytes_of, exchanged, exchanged_in_text, is_whole, MakesSteps, replace_refusal, replaced, StepsLead};
 
 use super::Automaton;
 use super::walk::FindIter;

@@ -1,8 +1,6 @@
 //! The search of a stream: what a reader gives is read into a buffer, and its matches are given one after another.
 ghost use Rattle.std.specs.Prelude.{◌≡◌, ◌≢◌, ◌⊎◌, ◌≤◌, ◌<◌, ◌+◌, ◌-◌, ◌*◌, MatchOption, MatchResult, None, Some, drop, false, true, if◌then◌else◌, length, max, min, slice_range, take, ⊤};
-ghost use Rattle.ac_util.specs.Built.{stream_refusal};
-ghost use Rattle.ac_util.specs.Device.{Reads};
-ghost use Rattle.ac_util.specs.StreamReplacing.{IsNear, IsStreamRefused};
+ghost use Rattle.ac_automaton.specs.Util.{IsNear, IsStreamRefused, Reads, stream_refusal};
 ghost use Rattle.ac_automaton.specs.declared.automaton.stream.Phase.TheVariants.{Ended, Open};
 ghost use Rattle.ac_automaton.specs.Streams.{Fills, GivesEarly, GivesLast, GivesRead, StreamsOn, kept_from, kept_len, stream_begun};
 

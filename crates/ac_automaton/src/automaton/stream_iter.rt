@@ -1,8 +1,7 @@
 //! The matches of a stream, one after another.
 ghost use Rattle.std.specs.Prelude.{◌≡◌, MatchResult, None, ⊤};
 ghost use Rattle.std.specs.Iterator.{at_most};
-ghost use Rattle.ac_util.specs.Built.{stream_refusal};
-ghost use Rattle.ac_util.specs.StreamReplacing.{IsStreamRefused};
+ghost use Rattle.ac_automaton.specs.Util.{IsStreamRefused, stream_refusal};
 ghost use Rattle.ac_automaton.specs.Streams.{GivesItem, ReadsItem, items_left, kept_len, stream_begun};
 
 use super::Automaton;

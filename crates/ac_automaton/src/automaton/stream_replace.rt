@@ -1,11 +1,6 @@
 //! Replacement in a stream: its bytes are written as they were read, with each match exchanged by a list or by a closure.
 ghost use Rattle.std.specs.Prelude.{◌≡◌, ◌⊎◌, ℕ, ◌<◌, List, MatchResult, None, Result, length};
-ghost use Rattle.ac_util.specs.Borrowed.{bytes_of};
-ghost use Rattle.ac_util.specs.Built.{stream_refusal};
-ghost use Rattle.ac_util.specs.Occurrence.{Occurrence};
-ghost use Rattle.ac_util.specs.Replacement.{Replacing};
-ghost use Rattle.ac_util.specs.StreamReplacing.{FailsToReplace, FailsToReplaceWith, IsStreamRefused, ReplacesStream, ReplacesStreamWith};
-ghost use Rattle.ac_util.specs.declared.error.StreamError.{StreamError};
+ghost use Rattle.ac_automaton.specs.Util.{bytes_of, FailsToReplace, FailsToReplaceWith, IsStreamRefused, Occurrence, ReplacesStream, ReplacesStreamWith, Replacing, stream_refusal, StreamError};
 ghost use Rattle.ac_automaton.specs.Exchanges.{CallsBy, FailsBy, FailsToExchange, HasExchanged, ReplacesBy, WritesTexts};
 
 use super::Automaton;

@@ -1,11 +1,7 @@
 //! The matches of a walk, one after another.
 ghost use Rattle.std.specs.Prelude.{◌≡◌, ◌+◌, ◌<◌, ◌≤◌, ℕ, IfSome, length};
 ghost use Rattle.std.specs.Iterator.{item_count};
-ghost use Rattle.ac_util.specs.declared.search.MatchKind.TheVariants.{Standard};
-ghost use Rattle.ac_util.specs.Built.{find_refusal};
-ghost use Rattle.ac_util.specs.Inputs.{asked};
-ghost use Rattle.ac_util.specs.Refusal.{AnswersUnless};
-ghost use Rattle.ac_util.specs.Walk.{next_match, repeats};
+ghost use Rattle.ac_automaton.specs.Util.{AnswersUnless, asked, find_refusal, next_match, repeats, Standard};
 ghost use Rattle.ac_automaton.specs.Finds.{HasSearched};
 ghost use Rattle.ac_automaton.specs.Iterators.{Finds, GoesOn, after, begun, kept_place, walking_of};
 ghost use Rattle.ac_automaton.specs.Progress.{search_of, work_of};

@@ -1,8 +1,7 @@
 //! A trie with failure links: small, and quickly built.
 ghost use Rattle.std.specs.Prelude.{◌≡◌, ◌≢◌, IfSome, List, MatchResult, None};
 ghost use Rattle.std.proofs.Common.{inr, refl};
-ghost use Rattle.ac_util.specs.Borrowed.{bytes_of};
-ghost use Rattle.ac_util.specs.Node.{Node};
+ghost use Rattle.ac_automaton.specs.Util.{bytes_of, Node};
 ghost use Rattle.ac_automaton.specs.Builds.{IsEngineBuilt, RefusesBy, state_refusal, usual_engine_settings};
 ghost use Rattle.ac_automaton.specs.Tries.{IsRoot, IsTrie, IsTrieState, listed_within, stands-lists};
 ghost use Rattle.ac_automaton.specs.declared.nfa.noncontiguous.state.State.{State};

@@ -1,10 +1,6 @@
 -- What a build of a contiguous NFA is asked for, what it answers, and why it may be refused.
 use Rattle.std.specs.Prelude.{◌≡◌, ℕ, nat_lt, Bool, true, List, length, Option, Some, None, if◌then◌else◌}
-use Rattle.ac_util.specs.declared.error.BuildError.{BuildError}
-use Rattle.ac_util.specs.declared.error.BuildError.TheVariants.{StateIdOverflow}
-use Rattle.ac_util.specs.declared.primitives.TheConstants.{GREATEST}
-use Rattle.ac_util.specs.Built.{Built}
-use Rattle.ac_util.specs.Classes.{alphabet_len}
+use Rattle.ac_automaton.specs.Util.{alphabet_len, BuildError, Built, GREATEST, StateIdOverflow}
 use Rattle.ac_automaton.specs.Builds.{EngineSettings, IsAllowed, engine_built_by, refusal_or, state_refusal, usual_engine_settings}
 use Rattle.ac_engines.specs.Classes.{classes_by}
 use Rattle.ac_engines.specs.Contiguous.{ContiguousView}

@@ -1,9 +1,7 @@
 -- Packing states one after another.
 use Rattle.std.specs.Prelude.{◌≡◌, ℕ, ◌+◌, ◌≤◌, Bool, List, [], ◌++◌, drop, length, nat_eq, slice_get, Some, if◌then◌else◌}
 use Rattle.ac_util.specs.declared.search.Anchored.{Anchored}
-use Rattle.ac_util.specs.declared.search.Anchored.TheVariants.{No, Yes}
-use Rattle.ac_util.specs.Classes.{alphabet_len}
-use Rattle.ac_util.specs.Node.{Node}
+use Rattle.ac_automaton.specs.Util.{alphabet_len, No, Node, Yes}
 use Rattle.ac_automaton.specs.declared.nfa.noncontiguous.state.TheConstants.{ANCHORED_START, START}
 use Rattle.ac_engines.specs.Contiguous.{spelling_at}
 use Rattle.ac_engines.specs.Contiguous.Plans.{HasPlaces, MayPack, PackPlan, has_matches, packed_of, places_of, size_at, total}

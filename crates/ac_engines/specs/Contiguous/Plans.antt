@@ -1,14 +1,8 @@
 -- Where the states of the contiguous engine are placed.
 use Rattle.std.specs.Prelude.{◌≡◌, ℕ, zero, suc, ◌+◌, ◌<◌, ◌≤◌, nat_lt, Bool, true, false, List, length, slice_get, slice_index_or, Option, Some, None, if◌then◌else◌}
-use Rattle.ac_util.specs.declared.primitives.TheConstants.{GREATEST}
-use Rattle.ac_util.specs.declared.search.Anchored.TheVariants.{No}
-use Rattle.ac_util.specs.Classes.{AreClasses, SetsApart, alphabet_len}
-use Rattle.ac_util.specs.Node.{Node}
-use Rattle.ac_util.specs.Sizes.{longest_len}
+use Rattle.ac_automaton.specs.Util.{alphabet_len, AreClasses, GREATEST, longest_len, No, Node, SetsApart}
 use Rattle.ac_automaton.specs.declared.nfa.noncontiguous.state.TheConstants.{ANCHORED_START, START}
-use Rattle.ac_automaton.specs.Automata.{matches_of}
-use Rattle.ac_automaton.specs.Readers.{AreNodes}
-use Rattle.ac_automaton.specs.Tries.{Trie}
+use Rattle.ac_automaton.specs.Prelude.{AreNodes, matches_of, Trie}
 use Rattle.ac_engines.specs.Dfa.Filling.{place_in}
 use Rattle.ac_engines.specs.Contiguous.{ContiguousView, Places}
 use Rattle.ac_engines.specs.Contiguous.Sizes.{node_words}

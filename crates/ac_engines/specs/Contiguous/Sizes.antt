@@ -1,12 +1,8 @@
 -- How many words the contiguous engine takes.
 use Rattle.std.specs.Prelude.{ℕ, ◌+◌, ◌*◌, List, [], ◌∷◌, length, Some, None}
 use Rattle.std.specs.List.{sum_by}
-use Rattle.ac_util.specs.declared.search.Anchored.TheVariants.{No}
-use Rattle.ac_util.specs.Built.{Built}
-use Rattle.ac_util.specs.Node.{Node}
-use Rattle.ac_util.specs.Sizes.{inner_nodes}
-use Rattle.ac_automaton.specs.Automata.{matches_of, plain_of}
-use Rattle.ac_automaton.specs.Readers.{own_bytes}
+use Rattle.ac_automaton.specs.Util.{Built, inner_nodes, No, Node}
+use Rattle.ac_automaton.specs.Prelude.{matches_of, own_bytes, plain_of}
 use Rattle.ac_engines.specs.declared.nfa.contiguous.format.Format.{Format}
 use Rattle.ac_engines.specs.declared.nfa.contiguous.format.Format.TheVariants.{Dense}
 use Rattle.ac_engines.specs.Contiguous.Formats.{format_of, words_of_state}

@@ -1,15 +1,7 @@
 -- What a build of a DFA is asked for, what it answers, and why it may be refused.
 use Rattle.std.specs.Prelude.{◌≡◌, ℕ, ◌-◌, ◌*◌, nat_lt, Bool, true, List, length, Option, Some, None, if◌then◌else◌}
-use Rattle.ac_util.specs.declared.error.BuildError.{BuildError}
-use Rattle.ac_util.specs.declared.error.BuildError.TheVariants.{StateIdOverflow}
-use Rattle.ac_util.specs.declared.primitives.TheConstants.{GREATEST}
-use Rattle.ac_util.specs.declared.search.StartKind.{StartKind}
-use Rattle.ac_util.specs.declared.search.StartKind.TheVariants.{Unanchored}
-use Rattle.ac_util.specs.Built.{Built}
-use Rattle.ac_util.specs.Classes.{stride, stride2}
-use Rattle.ac_util.specs.Sizes.{state_count}
-use Rattle.ac_automaton.specs.Automata.{plain_of}
-use Rattle.ac_automaton.specs.Builds.{EngineSettings, IsAllowed, engine_built_by, refusal_or, state_refusal, usual_engine_settings}
+use Rattle.ac_automaton.specs.Util.{BuildError, Built, GREATEST, StartKind, state_count, StateIdOverflow, stride, stride2, Unanchored}
+use Rattle.ac_automaton.specs.Prelude.{engine_built_by, EngineSettings, IsAllowed, plain_of, refusal_or, state_refusal, usual_engine_settings}
 use Rattle.ac_engines.specs.Classes.{classes_by}
 use Rattle.ac_engines.specs.Dfa.{DfaView}
 use Rattle.ac_engines.specs.Dfa.Layouts.{table_rows}

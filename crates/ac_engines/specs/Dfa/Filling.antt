@@ -1,17 +1,8 @@
 -- Filling the rows of a table from a trie with failure links.
 use Rattle.std.specs.Prelude.{◌≡◌, ◌≢◌, ◌⊎◌, ℕ, ◌+◌, ◌*◌, ◌<◌, ◌≤◌, List, [], ◌∷◌, ◌++◌, Contains, bytes_eq, length, slice_get, slice_index_or, if◌then◌else◌, Some, None}
 use Rattle.ac_util.specs.declared.search.Anchored.{Anchored}
-use Rattle.ac_util.specs.declared.search.Anchored.TheVariants.{No, Yes}
-use Rattle.ac_util.specs.declared.primitives.TheConstants.{GREATEST}
-use Rattle.ac_util.specs.declared.search.StartKind.{StartKind}
-use Rattle.ac_util.specs.Built.{Built}
-use Rattle.ac_util.specs.Classes.{SetsApart, alphabet_len, class_at}
-use Rattle.ac_automaton.specs.Readers.{AreNodes}
-use Rattle.ac_automaton.specs.Tries.{Trie}
-use Rattle.ac_util.specs.Node.{Node}
-use Rattle.ac_util.specs.Refusal.{start_refusal}
-use Rattle.ac_util.specs.Sameness.{plain_byte}
-use Rattle.ac_automaton.specs.Automata.{step_of}
+use Rattle.ac_automaton.specs.Util.{alphabet_len, Built, class_at, GREATEST, No, Node, plain_byte, SetsApart, start_refusal, StartKind, Yes}
+use Rattle.ac_automaton.specs.Prelude.{AreNodes, step_of, Trie}
 use Rattle.ac_engines.specs.Dfa.{anchored_shift, entry, number_of}
 
 -- what a table is filled from: what it is built from, the class of each byte, how many entries a row has, which node

@@ -1,10 +1,7 @@
 //! Builds of a DFA.
 ghost use Rattle.std.specs.Prelude.{◌≡◌, ◌<◌, ◌≤◌, ◌+◌, ◌-◌, ◌*◌, ◌^◌, IfOk, List, length, MatchResult, None};
-ghost use Rattle.ac_util.specs.declared.error.BuildError.TheVariants.{StateIdOverflow};
-ghost use Rattle.ac_util.specs.declared.primitives.TheConstants.{GREATEST};
+ghost use Rattle.ac_automaton.specs.Util.{bytes_of, GREATEST, Node, StateIdOverflow};
 ghost use Rattle.ac_util.specs.declared.search.StartKind;
-ghost use Rattle.ac_util.specs.Borrowed.{bytes_of};
-ghost use Rattle.ac_util.specs.Node.{Node};
 ghost use Rattle.ac_automaton.specs.Builds.{IsRefusedExactly, RefusesBy, fits};
 ghost use Rattle.ac_engines.specs.Dfa.Builds.{IsDfaBuilt, IsDfaFrom, dfa_refusal, dfa_refusal_by, usual_dfa_settings};
 ghost use Rattle.ac_engines.specs.Dfa.Filling.{FilledUpTo, MayFill};

@@ -1,10 +1,8 @@
 //! Filling the rows of a table.
 ghost use Rattle.std.specs.Prelude.{◌≡◌, ◌≢◌, ◌⊎◌, ◌&&◌, if◌then◌else◌, ℕ, ◌+◌, ◌<◌, ◌≤◌, List, [], Some, length, slice_index_or};
-ghost use Rattle.ac_util.specs.declared.primitives.TheConstants.{GREATEST};
-ghost use Rattle.ac_util.specs.Node.{Node, begins_with_pattern, is_leftmost};
-ghost use Rattle.ac_automaton.specs.Automata.{plain_of};
+ghost use Rattle.ac_automaton.specs.Util.{begins_with_pattern, GREATEST, is_leftmost, Node};
+ghost use Rattle.ac_automaton.specs.Prelude.{own_bytes, plain_of};
 ghost use Rattle.ac_util.specs.declared.search.Anchored;
-ghost use Rattle.ac_automaton.specs.Readers.{own_bytes};
 ghost use Rattle.ac_engines.specs.Dfa.Filling.{FilledUpTo, HasFilled, HasRow, HasSet, MayFill, MayFillRow, row_at, sheet_of};
 ghost use Rattle.ac_engines.specs.Dfa.{anchored_shift};
 

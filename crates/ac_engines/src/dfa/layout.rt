@@ -1,13 +1,9 @@
 //! Where the rows of a table stand.
 ghost use Rattle.std.specs.Prelude.{◌≡◌, ◌∷◌, [], ℕ, ◌+◌, ◌-◌, ◌*◌, ◌^◌, ◌≤◌, ◌<◌, IfOk, List, Some, length, slice_get};
-ghost use Rattle.ac_util.specs.declared.primitives.TheConstants.{GREATEST};
+ghost use Rattle.ac_automaton.specs.Util.{AreBounds, GREATEST, Node, pieces, state_count};
 ghost use Rattle.ac_util.specs.declared.search.StartKind;
-ghost use Rattle.ac_util.specs.Node.{Node};
-ghost use Rattle.ac_util.specs.Pieces.{AreBounds, pieces};
-ghost use Rattle.ac_util.specs.Sizes.{state_count};
 ghost use Rattle.ac_automaton.specs.declared.nfa.noncontiguous.state.TheConstants.{FIRST_INNER, START};
-ghost use Rattle.ac_automaton.specs.Automata.{plain_of};
-ghost use Rattle.ac_automaton.specs.Readers.{AreNodes};
+ghost use Rattle.ac_automaton.specs.Prelude.{AreNodes, plain_of};
 ghost use Rattle.ac_engines.specs.Dfa.Layouts.{HasNode, HasPlaced, IsLayout, first_lists, rows_each, table_rows};
 
 use super::lists::MatchLists;

@@ -1,9 +1,7 @@
 //! The match lists of states, one after another.
 ghost use Rattle.std.specs.Prelude.{◌≡◌, ◌+◌, ◌<◌, ◌++◌, ◌∷◌, [], IfOk, List, length, slice_get, slice_index_or, Some};
-ghost use Rattle.ac_util.specs.Node.{Node};
-ghost use Rattle.ac_util.specs.Pieces.{AreBounds, pieces};
-ghost use Rattle.ac_automaton.specs.Automata.{matches_of};
-ghost use Rattle.ac_automaton.specs.Readers.{AreNodes};
+ghost use Rattle.ac_automaton.specs.Util.{AreBounds, Node, pieces};
+ghost use Rattle.ac_automaton.specs.Prelude.{AreNodes, matches_of};
 ghost use Rattle.ac_engines.specs.Dfa.Layouts.{HasNode, row_lists};
 
 use ac_automaton::automaton::{Automaton, MatchRest, is_due};

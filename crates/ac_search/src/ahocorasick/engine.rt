@@ -1,16 +1,8 @@
 //! The engines of a searcher and their iterators. This file alone tells them apart.
 ghost use Rattle.std.specs.Prelude.{◌≡◌, ◌⊎◌, IfOk, MatchResult, None, length, string_bytes, ⊤};
-ghost use Rattle.ac_util.specs.Borrowed.{bytes_of};
-ghost use Rattle.ac_util.specs.Built.{exchanged, exchanged_in_text, find_refusal, found, overlapping_iter_refusal, overlapping_refusal, replace_refusal, search_in, stream_refusal};
-ghost use Rattle.ac_util.specs.Inputs.{asked};
-ghost use Rattle.ac_util.specs.Refusal.{AnswersUnless};
-ghost use Rattle.ac_util.specs.Replaced.{replaced};
-ghost use Rattle.ac_util.specs.Replacing.{AnswersWhole, MakesSteps, StepsLead};
-ghost use Rattle.ac_util.specs.Sizes.{longest_len, shortest_len};
-ghost use Rattle.ac_util.specs.StreamReplacing.{FailsToReplace, FailsToReplaceWith, IsStreamRefused, ReplacesStream, ReplacesStreamWith};
-ghost use Rattle.ac_automaton.specs.Iterators.{GoesOn, begun};
-ghost use Rattle.ac_automaton.specs.Overlaps.{GivesNext, IsPlaced, ListsNext, listing_begun};
-ghost use Rattle.ac_automaton.specs.Streams.{GivesRead, StreamsOn, kept_len, stream_begun};
+ghost use Rattle.ac_automaton.specs.Util.{AnswersUnless, AnswersWhole, asked, bytes_of, exchanged, exchanged_in_text, FailsToReplace, FailsToReplaceWith, find_refusal, found, IsStreamRefused, longest_len, MakesSteps, overlapping_iter_refusal, overlapping_refusal, replace_refusal, replaced, ReplacesStream, ReplacesStreamWith, search_in, shortest_len, StepsLead, stream_refusal};
+ghost use Rattle.ac_automaton.specs.Prelude.{begun, GivesRead, GoesOn, IsPlaced, kept_len, listing_begun, ListsNext, stream_begun, StreamsOn};
+ghost use Rattle.ac_automaton.specs.Overlaps.{GivesNext};
 ghost use Rattle.ac_search.specs.Engines.{built_of, filters_of, listing_in, name_of, states_of, streaming_in, walking_in};
 ghost use Rattle.ac_search.specs.Searchers.{looks_allowed};
 ghost use Rattle.ac_search.specs.States.{listed_in, stands_in};

@@ -1,9 +1,6 @@
 //! Replacement by a searcher.
 ghost use Rattle.std.specs.Prelude.{◌≡◌, Err, IfErr, IfOk, MatchResult, None, Ok, Some, length, string_bytes};
-ghost use Rattle.ac_util.specs.Borrowed.{bytes_of};
-ghost use Rattle.ac_util.specs.Built.{exchanged, exchanged_in_text, replace_refusal};
-ghost use Rattle.ac_util.specs.Replaced.{replaced};
-ghost use Rattle.ac_util.specs.Replacing.{AnswersWhole, MakesSteps, StepsLead};
+ghost use Rattle.ac_automaton.specs.Util.{AnswersWhole, bytes_of, exchanged, exchanged_in_text, MakesSteps, replace_refusal, replaced, StepsLead};
 
 use super::{AhoCorasick, check_start};
 use ac_util::error::ReplaceError;

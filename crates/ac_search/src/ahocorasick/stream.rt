@@ -1,9 +1,7 @@
 //! The search of a stream by a searcher.
 ghost use Rattle.std.specs.Prelude.{◌≡◌, ◌⊎◌, Err, IfErr, IfOk, MatchResult, None, Ok, length, ⊤};
 ghost use Rattle.std.specs.Iterator.{at_most};
-ghost use Rattle.ac_util.specs.Borrowed.{bytes_of};
-ghost use Rattle.ac_util.specs.Built.{stream_refusal};
-ghost use Rattle.ac_util.specs.StreamReplacing.{FailsToReplace, FailsToReplaceWith, IsStreamRefused, ReplacesStream, ReplacesStreamWith};
+ghost use Rattle.ac_automaton.specs.Util.{bytes_of, FailsToReplace, FailsToReplaceWith, IsStreamRefused, ReplacesStream, ReplacesStreamWith, stream_refusal};
 ghost use Rattle.ac_automaton.specs.Streams.{GivesItem, GivesRead, ReadsItem, StreamsOn, items_left, kept_len};
 ghost use Rattle.ac_search.specs.StreamsBegun.{HasBegun, HasBegunOver};
 

@@ -7,8 +7,7 @@
 //! that of its parent: along a pattern each byte makes the target at most one byte longer, and each failure link
 //! makes it shorter, so a build follows few of them. It counts none.
 ghost use Rattle.std.specs.Prelude.{◌≡◌, ◌≢◌, ◌++◌, ◌∷◌, [], ℕ, ◌+◌, ◌<◌, ◌≤◌, Bool, List, IfOk, MatchResult, None, Some, length, map, slice_get};
-ghost use Rattle.ac_util.specs.declared.primitives.TheConstants.{GREATEST};
-ghost use Rattle.ac_util.specs.Sameness.{plain};
+ghost use Rattle.ac_automaton.specs.Util.{GREATEST, plain};
 ghost use Rattle.ac_automaton.specs.Builds.{IsRefused, too_many_states};
 ghost use Rattle.ac_automaton.specs.Growths.{Branches, EndsPatterns, HasBegun, HasChildIn, HasPushed, HasSorted, IsNotPushed, IsWhole, LinkIsDue, MayBranch, Waits, nodes_of, source_of, word};
 ghost use Rattle.ac_automaton.specs.Sorted.{IsOrder};

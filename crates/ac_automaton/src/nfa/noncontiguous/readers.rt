@@ -1,7 +1,6 @@
 //! Readers of a trie's states. The DFA and the contiguous NFA are built by these alone.
 ghost use Rattle.std.specs.Prelude.{◌≡◌, ◌≢◌, ℕ, ◌+◌, ◌<◌, ◌≤◌, List, ◌∷◌, Some, length, slice_get};
-ghost use Rattle.ac_util.specs.Node.{Node, depth, failure};
-ghost use Rattle.ac_util.specs.Sizes.{state_count};
+ghost use Rattle.ac_automaton.specs.Util.{depth, failure, Node, state_count};
 ghost use Rattle.ac_automaton.specs.Automata.{plain_of};
 ghost use Rattle.ac_automaton.specs.Readers.{AreNodes, HasOwn, IsOwn, own_bytes};
 

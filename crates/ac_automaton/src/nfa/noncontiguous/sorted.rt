@@ -1,9 +1,7 @@
 //! The patterns that take part, sorted by their bytes.
 ghost use Rattle.std.specs.Prelude.{◌≡◌, ◌≢◌, ℕ, ◌+◌, ◌-◌, ◌<◌, ◌≤◌, Bool, List, true, false, nat_eq, All, IfOk, IsTrue, OnOk, length, map, slice_get, take};
 ghost use Rattle.std.specs.List.{AllWithin, HoldsAt, starts_with};
-ghost use Rattle.ac_util.specs.declared.primitives.TheConstants.{GREATEST};
-ghost use Rattle.ac_util.specs.declared.search.MatchKind.TheVariants.{LeftmostFirst, Standard};
-ghost use Rattle.ac_util.specs.Sameness.{plain};
+ghost use Rattle.ac_automaton.specs.Util.{GREATEST, LeftmostFirst, plain, Standard};
 ghost use Rattle.ac_automaton.specs.Sorted.{AreListed, AreSorted, IsOrder, byte_at, compared, is_prefix, key_at, keyed, numbers};
 
 use ac_util::patterns::{Patterns, plain_byte};

@@ -1,10 +1,8 @@
 //! The states of a trie with failure links, and the walks over them.
 ghost use Rattle.std.specs.Prelude.{◌≡◌, ◌≢◌, ℕ, ◌+◌, ◌-◌, ◌<◌, ◌≤◌, [], IfSome, Some, length, slice_get, slice_index};
 ghost use Rattle.std.specs.List.Sorted.{IsStrictlyIncreasing};
-ghost use Rattle.ac_util.specs.Counts.{more_looks};
+ghost use Rattle.ac_automaton.specs.Util.{more_looks, Node, plain_byte, step};
 ghost use Rattle.ac_util.specs.Looks.{looks as looks_of_node};
-ghost use Rattle.ac_util.specs.Node.{Node, step};
-ghost use Rattle.ac_util.specs.Sameness.{plain_byte};
 ghost use Rattle.ac_automaton.specs.Tries.{HasState, IsRoot, IsTarget, Meaning, TakesFrom, all_matches, transition_bytes, dead_state, transitions_of};
 
 use crate::automaton::MatchRest;

@@ -1,7 +1,6 @@
 //! The forms in which states are packed, and how many words they take.
 ghost use Rattle.std.specs.Prelude.{◌≡◌, ◌<◌, ◌≤◌, MatchResult};
-ghost use Rattle.ac_util.specs.declared.error.BuildError.TheVariants.{StateIdOverflow};
-ghost use Rattle.ac_util.specs.declared.primitives.TheConstants.{GREATEST};
+ghost use Rattle.ac_automaton.specs.Util.{GREATEST, StateIdOverflow};
 ghost use Rattle.ac_engines.specs.Contiguous.Formats.{format_of, words_of_state};
 
 use ac_util::error::BuildError;

@@ -1,8 +1,6 @@
 //! Packing the states of a trie.
 ghost use Rattle.std.specs.Prelude.{◌≡◌, ℕ, ◌<◌, ◌≤◌, ◌++◌, IfOk, List, Some, [], length, slice_get, slice_index_or};
-ghost use Rattle.ac_util.specs.declared.primitives.TheConstants.{GREATEST};
-ghost use Rattle.ac_util.specs.Classes.{alphabet_len};
-ghost use Rattle.ac_util.specs.Node.{Node};
+ghost use Rattle.ac_automaton.specs.Util.{alphabet_len, GREATEST, Node};
 ghost use Rattle.ac_engines.specs.Contiguous.{IsContiguous};
 ghost use Rattle.ac_engines.specs.Contiguous.Plans.{packed_of, places_of};
 ghost use Rattle.ac_engines.specs.Contiguous.Packs.{AreReady, HasPushed, IsPlaced, state_spelling, state_words};

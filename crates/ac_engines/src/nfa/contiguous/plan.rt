@@ -1,9 +1,6 @@
 //! Which form the states of a trie take, and where each is placed.
 ghost use Rattle.std.specs.Prelude.{◌≡◌, ℕ, ◌+◌, ◌≤◌, ◌∷◌, IfOk, List, Some, [], length, slice_get};
-ghost use Rattle.ac_util.specs.declared.primitives.TheConstants.{GREATEST};
-ghost use Rattle.ac_util.specs.declared.search.Anchored.TheVariants.{No};
-ghost use Rattle.ac_util.specs.Classes.{AreClasses, SetsApart, alphabet_len};
-ghost use Rattle.ac_util.specs.Node.{Node};
+ghost use Rattle.ac_automaton.specs.Util.{alphabet_len, AreClasses, GREATEST, No, Node, SetsApart};
 ghost use Rattle.ac_automaton.specs.Automata.{matches_of};
 ghost use Rattle.ac_engines.specs.Contiguous.Plans.{HasPlaces, HasWords, MayPack, front_end, has_matches};
 ghost use Rattle.ac_engines.specs.Contiguous.Sizes.{node_format, node_words, packed_words};

@@ -1,8 +1,6 @@
 //! The step from state to state along failure links.
 ghost use Rattle.std.specs.Prelude.{◌≡◌, ℕ, ◌<◌};
-ghost use Rattle.ac_util.specs.Classes.{class_at};
-ghost use Rattle.ac_util.specs.Counts.{more_looks};
-ghost use Rattle.ac_util.specs.Node.{Node};
+ghost use Rattle.ac_automaton.specs.Util.{class_at, more_looks, Node};
 ghost use Rattle.ac_automaton.specs.Automata.{looks_of, step_of};
 ghost use Rattle.ac_engines.specs.Contiguous.{ContiguousView, IsContiguousState};
 

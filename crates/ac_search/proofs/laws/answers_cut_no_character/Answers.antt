@@ -1,9 +1,6 @@
 use Rattle.std.proofs.Common.{arith}
 use Rattle.std.proofs.lemmas.List.Elements.{recursion_from_All}
-use Rattle.ac_util.specs.Built.{search_in, walked}
-use Rattle.ac_util.specs.Inputs.{asked}
-use Rattle.ac_util.specs.Listing.{all}
-use Rattle.ac_util.specs.Texts.{IsBetweenCharacters}
+use Rattle.ac_automaton.specs.Util.{all, asked, IsBetweenCharacters, search_in, walked}
 use Rattle.ac_util.proofs.TextCuts.{found-between, listed-between, walked-between}
 use Rattle.ac_search.proofs.laws.answers_cut_no_character.Goals as goal
 

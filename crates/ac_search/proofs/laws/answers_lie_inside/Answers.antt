@@ -1,9 +1,6 @@
 use Rattle.std.proofs.Common.{◌≤◌, length, arith}
 use Rattle.std.proofs.lemmas.List.Elements.{All-weaker, recursion_from_All}
-use Rattle.ac_util.specs.Built.{search_in, walked}
-use Rattle.ac_util.specs.Inputs.{asked}
-use Rattle.ac_util.specs.Inside.{LiesIn}
-use Rattle.ac_util.specs.Listing.{all}
+use Rattle.ac_automaton.specs.Util.{all, asked, LiesIn, search_in, walked}
 use Rattle.ac_util.proofs.Lying.{found-IfSome, walked-lie, length-walked, listed-lie}
 use Rattle.ac_search.proofs.laws.answers_lie_inside.Goals as goal
 

@@ -1,5 +1,4 @@
-use Rattle.ac_util.specs.Built.{search_in}
-use Rattle.ac_util.specs.Pick.{order_of}
+use Rattle.ac_automaton.specs.Util.{order_of, search_in}
 use Rattle.ac_search.proofs.SomeMatch.{picked-something}
 use Rattle.ac_search.proofs.laws.finds_if_something_occurs.Goals as goal
 

@@ -1,10 +1,5 @@
-use Rattle.std.proofs.Common.{◌≡◌, ◌+◌, ℕ, zero, suc, subst, arith, [], ◌∷◌, ◌++◌, List, take, ap, sym, ◌∙◌, Some}
-use Rattle.std.specs.Prelude.{slice_get}
-use Rattle.ac_search.specs.Asked.{Asked, asked_whole}
-use Rattle.ac_search.specs.Built.{search_in}
-use Rattle.ac_search.specs.Listing.{all, item_at, place_after}
-use Rattle.ac_search.specs.Occurrence.{Occurrence}
-use Rattle.ac_search.specs.Places.{HasPlace, place_in}
+use Rattle.std.proofs.Common.{◌≡◌, ◌+◌, ℕ, zero, suc, subst, arith, [], ◌∷◌, ◌++◌, List, take, ap, sym, ◌∙◌, Some, slice_get}
+use Rattle.ac_search.specs.Prelude.{all, Asked, asked_whole, HasPlace, item_at, Occurrence, place_after, place_in, search_in}
 use Rattle.ac_util.proofs.ListingBeginning.{item-some}
 use Rattle.ac_search.proofs.tests.all_by_state.Goals as goal
 

@@ -1,8 +1,5 @@
 use Rattle.std.proofs.Common.{◌≡◌, ◌-◌, length, take}
-use Rattle.ac_search.specs.Asked.{asked_whole}
-use Rattle.ac_search.specs.Built.{search_in}
-use Rattle.ac_search.specs.Listing.{all}
-use Rattle.ac_search.specs.Places.{HasPlace, place_in}
+use Rattle.ac_search.specs.Prelude.{all, asked_whole, HasPlace, place_in, search_in}
 use Rattle.ac_search.proofs.tests.all_by_state.Given as goal
 
 -- as many items as the state says were found

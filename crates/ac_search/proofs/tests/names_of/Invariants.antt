@@ -1,6 +1,5 @@
 use Rattle.std.specs.List.{AllByRecursion}
-use Rattle.ac_search.specs.Asked.{asked_whole}
-use Rattle.ac_search.specs.Inside.{LiesIn}
+use Rattle.ac_search.specs.Prelude.{asked_whole, LiesIn}
 use Rattle.ac_search.proofs.tests.names_of.Given as goal
 
 abbrev pub invariant-loop-m : goal.invariant-loop-m

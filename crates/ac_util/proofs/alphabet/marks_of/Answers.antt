@@ -2,8 +2,7 @@ use Rattle.std.proofs.Common.{ℕ, ◌||◌, List, [], Bool, take, refl, ap, sym
 use Rattle.std.specs.List.{list_any}
 use Rattle.std.proofs.lemmas.List.Folds.{list_any_more}
 use Rattle.std.proofs.lemmas.Option.{get_or_from_slice_get}
-use Rattle.ac_util.specs.Classes.{stands_in}
-use Rattle.ac_util.specs.Sameness.{plain_byte, same_byte}
+use Rattle.ac_util.specs.Prelude.{plain_byte, same_byte, stands_in}
 use Rattle.ac_util.proofs.ClassLists.{none_marked}
 use Rattle.ac_util.proofs.alphabet.marks_of.Goals as goal
 

@@ -1,6 +1,5 @@
 use Rattle.std.proofs.Common.{◌≡◌, ℕ, false, length, take, get_or}
-use Rattle.ac_util.specs.Classes.{stands_in}
-use Rattle.ac_util.specs.Sameness.{plain_byte}
+use Rattle.ac_util.specs.Prelude.{plain_byte, stands_in}
 use Rattle.ac_util.proofs.alphabet.marks_of.Given as goal
 
 -- the bytes of the patterns so far are marked

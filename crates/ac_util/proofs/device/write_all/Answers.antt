@@ -1,5 +1,4 @@
-use Rattle.std.proofs.Common.{◌≡◌, ◌+◌, ◌<◌, ◌≤◌, ℕ, List, length, length-drop, take, drop, ap, ◌∙◌, subst, arith}
-use Rattle.std.specs.Prelude.{slice_range}
+use Rattle.std.proofs.Common.{◌≡◌, ◌+◌, ◌<◌, ◌≤◌, ℕ, List, length, length-drop, take, drop, ap, ◌∙◌, subst, arith, slice_range}
 use Rattle.std.specs.Io.KnownBytes.{Appends}
 use Rattle.ac_util.specs.Device.{Writing}
 use Rattle.ac_util.proofs.Devices.{append-more, beginning, not-idle, rest-range, take-short, was-idle}

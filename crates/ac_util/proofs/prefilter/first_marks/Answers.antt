@@ -3,8 +3,7 @@ use Rattle.std.specs.List.{list_any}
 use Rattle.std.proofs.Math.Bool.{or-false}
 use Rattle.std.proofs.lemmas.List.Folds.{list_any_more}
 use Rattle.std.proofs.lemmas.Option.{get_or_from_slice_get}
-use Rattle.ac_util.specs.Prefilters.{begins_with}
-use Rattle.ac_util.specs.Sameness.{plain_byte}
+use Rattle.ac_util.specs.Prelude.{begins_with, plain_byte}
 use Rattle.ac_util.proofs.ClassLists.{none_marked}
 use Rattle.ac_util.proofs.Marks.{begins_with-first, begins_with-none, marked_more}
 use Rattle.ac_util.proofs.prefilter.first_marks.Goals as goal

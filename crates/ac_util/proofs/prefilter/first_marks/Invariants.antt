@@ -1,7 +1,6 @@
 use Rattle.std.proofs.Common.{◌≡◌, ℕ, false, length, take, get_or}
 use Rattle.std.specs.List.{list_any}
-use Rattle.ac_util.specs.Prefilters.{begins_with}
-use Rattle.ac_util.specs.Sameness.{plain_byte}
+use Rattle.ac_util.specs.Prelude.{begins_with, plain_byte}
 use Rattle.ac_util.proofs.prefilter.first_marks.Given as goal
 
 -- the first bytes of the patterns so far are marked

@@ -1,13 +1,8 @@
-use Rattle.std.proofs.Common.{◌≡◌, [], ap, sym, subst, ◌∙◌, inl, inr, arith, Option, Some}
+use Rattle.std.proofs.Common.{◌≡◌, [], ap, sym, subst, ◌∙◌, inl, inr, arith, Option, Some, MatchOption}
 use Rattle.std.proofs.lemmas.Bool.{cases_lt, false≢true}
-use Rattle.std.specs.Prelude.{MatchOption}
-use Rattle.ac_util.specs.Built.{search_in}
+use Rattle.ac_automaton.specs.Util.{asked, search_in, Span}
 use Rattle.ac_util.specs.declared.search.Anchored.{Anchored}
-use Rattle.ac_util.specs.declared.search.Span.{Span}
-use Rattle.ac_util.specs.Inputs.{asked}
-use Rattle.ac_automaton.specs.declared.automaton.overlap.Reached.{Reached}
-use Rattle.ac_automaton.specs.Overlaps.{place_by}
-use Rattle.ac_automaton.specs.Scans.{Scan, in_memory, scan_by}
+use Rattle.ac_automaton.specs.Prelude.{in_memory, place_by, Reached, Scan, scan_by}
 use Rattle.ac_automaton.proofs.ListLoop.{arrived}
 use Rattle.ac_automaton.proofs.Overlapping.{GoesOnFrom, by_state-served, gives-moved, goes_on-there, past_end-gives}
 use Rattle.ac_automaton.proofs.automaton.overlap.try_find_overlapping.Given.{Over}

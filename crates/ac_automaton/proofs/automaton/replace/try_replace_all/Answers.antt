@@ -1,13 +1,8 @@
-use Rattle.std.proofs.Common.{◌≡◌, ◌∙◌, ◌++◌, ℕ, true, [], List, ap, arith, get_or, sym, subst, length}
-use Rattle.std.specs.Prelude.{slice_range, string_bytes}
+use Rattle.std.proofs.Common.{◌≡◌, ◌∙◌, ◌++◌, ℕ, true, [], List, ap, arith, get_or, sym, subst, length, slice_range, string_bytes}
 use Rattle.std.specs.Borrow.{Bor}
 use Rattle.std.specs.Str.{IsCharBoundary}
 use Rattle.std.proofs.lemmas.Str.{IsCharBoundary-start}
-use Rattle.ac_util.specs.Asked.{Asked}
-use Rattle.ac_util.specs.Borrowed.{bytes_of}
-use Rattle.ac_util.specs.Built.{walked}
-use Rattle.ac_util.specs.Occurrence.{Occurrence}
-use Rattle.ac_util.specs.Replaced.{is_whole, replaced_from, whole_characters}
+use Rattle.ac_automaton.specs.Util.{Asked, bytes_of, is_whole, Occurrence, replaced_from, walked, whole_characters}
 use Rattle.ac_util.proofs.Exchanges.{AreInOrder, exchanged-in_order, gap-text-written, in_order-earlier, is_whole-ends, whole_characters-skip, whole_characters-take}
 use Rattle.ac_automaton.specs.Iterators.{Walking}
 use Rattle.ac_automaton.proofs.automaton.replace.try_replace_all.Goals as goal

@@ -1,8 +1,6 @@
 use Rattle.std.proofs.Common.{◌≡◌, ◌++◌, length, string_bytes}
 use Rattle.std.specs.Str.{IsCharBoundary}
-use Rattle.ac_util.specs.Borrowed.{bytes_of}
-use Rattle.ac_util.specs.Built.{exchanged_in_text}
-use Rattle.ac_util.specs.Replaced.{replaced, replaced_from, whole_characters}
+use Rattle.ac_automaton.specs.Util.{bytes_of, exchanged_in_text, replaced, replaced_from, whole_characters}
 use Rattle.ac_util.proofs.Exchanges.{AreInOrder}
 use Rattle.ac_automaton.proofs.automaton.replace.try_replace_all.Given as goal
 

@@ -1,9 +1,5 @@
 use Rattle.std.proofs.Common.{◌∙◌, ◌++◌, ℕ, List, ap, sym, subst, length}
-use Rattle.ac_util.specs.Asked.{Asked}
-use Rattle.ac_util.specs.Borrowed.{bytes_of}
-use Rattle.ac_util.specs.Built.{walked}
-use Rattle.ac_util.specs.Occurrence.{Occurrence}
-use Rattle.ac_util.specs.Replaced.{replaced_from}
+use Rattle.ac_automaton.specs.Util.{Asked, bytes_of, Occurrence, replaced_from, walked}
 use Rattle.ac_util.proofs.Exchanges.{AreInOrder, exchanged-in_order}
 use Rattle.ac_automaton.specs.Iterators.{Walking}
 use Rattle.ac_automaton.proofs.automaton.replace.try_replace_all_bytes.Goals as goal

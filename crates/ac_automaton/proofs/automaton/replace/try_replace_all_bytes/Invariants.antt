@@ -1,7 +1,5 @@
 use Rattle.std.proofs.Common.{◌≡◌, ◌++◌, length}
-use Rattle.ac_util.specs.Borrowed.{bytes_of}
-use Rattle.ac_util.specs.Built.{exchanged}
-use Rattle.ac_util.specs.Replaced.{replaced, replaced_from}
+use Rattle.ac_automaton.specs.Util.{bytes_of, exchanged, replaced, replaced_from}
 use Rattle.ac_util.proofs.Exchanges.{AreInOrder}
 use Rattle.ac_automaton.proofs.automaton.replace.try_replace_all_bytes.Given as goal
 

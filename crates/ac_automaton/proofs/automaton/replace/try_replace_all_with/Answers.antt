@@ -1,13 +1,7 @@
-use Rattle.std.proofs.Common.{◌≡◌, ◌∙◌, ◌++◌, ℕ, true, [], List, ap, arith, refl, sym, subst, length, of_calls, rules}
-use Rattle.std.specs.Prelude.{string_bytes}
+use Rattle.std.proofs.Common.{◌≡◌, ◌∙◌, ◌++◌, ℕ, true, [], List, ap, arith, refl, sym, subst, length, of_calls, rules, string_bytes}
 use Rattle.std.specs.Str.{IsCharBoundary}
 use Rattle.std.proofs.lemmas.Str.{IsCharBoundary-start}
-use Rattle.ac_util.specs.Replaced.{is_whole, whole_characters}
-use Rattle.ac_util.specs.Asked.{Asked}
-use Rattle.ac_util.specs.Built.{exchanged_in_text, replace_refusal, walked}
-use Rattle.ac_util.specs.Inputs.{asked}
-use Rattle.ac_util.specs.Occurrence.{Occurrence}
-use Rattle.ac_util.specs.Replacing.{StepsLead}
+use Rattle.ac_automaton.specs.Util.{Asked, asked, exchanged_in_text, is_whole, Occurrence, replace_refusal, StepsLead, walked, whole_characters}
 use Rattle.ac_util.proofs.Exchanges.{AreInOrder, exchanged-in_order, in_order-earlier, is_whole-ends, whole_characters-skip, whole_characters-take}
 use Rattle.ac_automaton.specs.Iterators.{Walking}
 use Rattle.ac_automaton.proofs.Exchanging.{LeadsOn, leads-begin, leads-end, leads-end_refused, leads-out, leads-refused, leads-skip, leads-stop, leads-turn, stops-by_memory, unrefused}

@@ -1,7 +1,6 @@
 use Rattle.std.proofs.Common.{length, string_bytes}
 use Rattle.std.specs.Str.{IsCharBoundary}
-use Rattle.ac_util.specs.Built.{exchanged_in_text}
-use Rattle.ac_util.specs.Replaced.{whole_characters}
+use Rattle.ac_automaton.specs.Util.{exchanged_in_text, whole_characters}
 use Rattle.ac_util.proofs.Exchanges.{AreInOrder}
 use Rattle.ac_automaton.proofs.Exchanging.{LeadsOn}
 use Rattle.ac_automaton.proofs.automaton.replace.try_replace_all_with.Given as goal

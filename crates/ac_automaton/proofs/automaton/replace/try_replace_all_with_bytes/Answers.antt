@@ -1,9 +1,5 @@
 use Rattle.std.proofs.Common.{◌≡◌, ◌∙◌, ◌++◌, ℕ, [], List, ap, refl, sym, subst, length, of_calls, rules}
-use Rattle.ac_util.specs.Asked.{Asked}
-use Rattle.ac_util.specs.Built.{exchanged, replace_refusal, walked}
-use Rattle.ac_util.specs.Inputs.{asked}
-use Rattle.ac_util.specs.Occurrence.{Occurrence}
-use Rattle.ac_util.specs.Replacing.{StepsLead}
+use Rattle.ac_automaton.specs.Util.{Asked, asked, exchanged, Occurrence, replace_refusal, StepsLead, walked}
 use Rattle.ac_util.proofs.Exchanges.{AreInOrder, exchanged-in_order}
 use Rattle.ac_automaton.specs.Iterators.{Walking}
 use Rattle.ac_automaton.proofs.Exchanging.{LeadsOn, leads-begin, leads-end, leads-end_refused, leads-out, leads-refused, leads-stop, leads-turn, slice_to_end, stops-by_memory, unrefused}

@@ -1,11 +1,7 @@
-use Rattle.std.proofs.Common.{◌≡◌, ◌∙◌, ◌+◌, ◌≤◌, ℕ, List, Some, Ok, Err, length, take, refl, sym, ap, subst, arith}
-use Rattle.std.specs.Prelude.{slice_range}
+use Rattle.std.proofs.Common.{◌≡◌, ◌∙◌, ◌+◌, ◌≤◌, ℕ, List, Some, Ok, Err, length, take, refl, sym, ap, subst, arith, slice_range}
 use Rattle.std.proofs.lemmas.Option.{slice_get_within}
-use Rattle.ac_util.specs.Device.{WritesAll, WritesUntilFailure}
-use Rattle.ac_util.specs.Stream.{error_of}
-use Rattle.ac_util.specs.StreamReplacing.{IsNear}
-use Rattle.ac_automaton.specs.Exchanges.{HasReplaced, Steps}
-use Rattle.ac_automaton.specs.Streams.{GivesMatch, HasGivenSettled, IsSettledIn, Streaming, matches_so_far}
+use Rattle.ac_automaton.specs.Util.{error_of, IsNear, WritesAll, WritesUntilFailure}
+use Rattle.ac_automaton.specs.Prelude.{GivesMatch, HasGivenSettled, HasReplaced, IsSettledIn, matches_so_far, Steps, Streaming}
 use Rattle.ac_automaton.proofs.Places.{refused-by}
 use Rattle.ac_automaton.proofs.StreamExchanging.{exchange-fails, gap-fails, replaced-match, replaced-settled, settled-fails}
 use Rattle.ac_automaton.proofs.automaton.stream_replace.exchange_read.Goals as goal

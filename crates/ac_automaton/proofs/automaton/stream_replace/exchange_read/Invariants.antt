@@ -1,8 +1,6 @@
 use Rattle.std.proofs.Common.{◌≡◌, ◌-◌, length}
-use Rattle.ac_util.specs.Occurrence.{Occurrence}
-use Rattle.ac_util.specs.Replacement.{Replacing}
-use Rattle.ac_automaton.specs.Exchanges.{HasReplaced}
-use Rattle.ac_automaton.specs.Streams.{matches_so_far}
+use Rattle.ac_automaton.specs.Util.{Occurrence, Replacing}
+use Rattle.ac_automaton.specs.Prelude.{HasReplaced, matches_so_far}
 use Rattle.ac_automaton.proofs.automaton.stream_replace.exchange_read.Given as goal
 
 -- whatever was done before, some more of the matches were exchanged

@@ -1,5 +1,4 @@
-use Rattle.std.proofs.Common.{◌≤◌, Bool, inr, length, sym, subst, arith}
-use Rattle.std.specs.Prelude.{MatchBool}
+use Rattle.std.proofs.Common.{◌≤◌, Bool, inr, length, sym, subst, arith, MatchBool}
 use Rattle.ac_util.specs.StreamReplacing.{IsNear}
 use Rattle.ac_automaton.specs.Streams.{FillsMore, IsSettledIn, MeetsEnd, Streaming}
 use Rattle.ac_automaton.proofs.Places.{match-by, refused-by}

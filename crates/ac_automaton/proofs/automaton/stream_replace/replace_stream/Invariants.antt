@@ -1,6 +1,5 @@
 use Rattle.std.proofs.Common.{◌-◌, ◌≤◌, length}
-use Rattle.ac_util.specs.Occurrence.{Occurrence}
-use Rattle.ac_util.specs.StreamReplacing.{IsNear}
+use Rattle.ac_automaton.specs.Util.{IsNear, Occurrence}
 use Rattle.ac_automaton.specs.Streams.{IsSettledIn}
 use Rattle.ac_automaton.proofs.StreamExchanging.{IsReplacing}
 use Rattle.ac_automaton.proofs.automaton.stream_replace.replace_stream.Given as goal

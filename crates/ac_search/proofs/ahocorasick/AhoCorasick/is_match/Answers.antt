@@ -1,8 +1,5 @@
 use Rattle.std.proofs.Common.{◌∙◌, ap}
-use Rattle.ac_util.specs.declared.search.MatchKind.TheVariants.{Standard}
-use Rattle.ac_util.specs.Built.{found, search_in}
-use Rattle.ac_util.specs.Asked.{Asked}
-use Rattle.ac_util.specs.Inputs.{asked}
+use Rattle.ac_automaton.specs.Util.{Asked, asked, found, search_in, Standard}
 use Rattle.ac_search.proofs.SomeMatch.{some-match}
 use Rattle.ac_search.proofs.ahocorasick.AhoCorasick.is_match.Goals as goal
 

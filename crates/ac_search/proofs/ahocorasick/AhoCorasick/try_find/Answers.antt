@@ -1,11 +1,7 @@
 use Rattle.std.proofs.Common.{◌≡◌, ap, subst, sym, ◌∙◌, None}
 use Rattle.ac_util.specs.declared.search.Anchored.{Anchored}
-use Rattle.ac_util.specs.declared.search.StartKind.{StartKind}
-use Rattle.ac_util.specs.Built.{find_refusal, found}
-use Rattle.ac_util.specs.Inputs.{asked}
-use Rattle.ac_util.specs.Refusal.{AnswersUnless, start_refusal}
-use Rattle.ac_search.specs.Engines.{built_of}
-use Rattle.ac_search.specs.Searchers.{Searcher}
+use Rattle.ac_automaton.specs.Util.{AnswersUnless, asked, find_refusal, found, start_refusal, StartKind}
+use Rattle.ac_search.specs.Prelude.{built_of, Searcher}
 use Rattle.ac_search.proofs.Served.{served}
 use Rattle.ac_search.proofs.ahocorasick.AhoCorasick.try_find.Goals as goal
 

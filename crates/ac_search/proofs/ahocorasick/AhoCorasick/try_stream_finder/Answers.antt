@@ -1,10 +1,6 @@
 use Rattle.std.proofs.Common.{◌≡◌, subst, None}
-use Rattle.ac_util.specs.declared.search.Anchored.TheVariants.{No}
-use Rattle.ac_util.specs.Built.{stream_refusal}
-use Rattle.ac_util.specs.Refusal.{start_refusal}
-use Rattle.ac_search.specs.Engines.{built_of, streaming_in}
-use Rattle.ac_search.specs.Searchers.{Searcher}
-use Rattle.ac_search.specs.StreamsBegun.{HasBegun}
+use Rattle.ac_automaton.specs.Util.{No, start_refusal, stream_refusal}
+use Rattle.ac_search.specs.Prelude.{built_of, HasBegun, Searcher, streaming_in}
 use Rattle.ac_search.proofs.Served.{stream-served}
 use Rattle.ac_search.proofs.ahocorasick.AhoCorasick.try_stream_finder.Goals as goal
 

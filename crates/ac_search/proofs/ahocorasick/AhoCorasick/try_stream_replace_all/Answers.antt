@@ -1,12 +1,6 @@
-use Rattle.std.proofs.Common.{◌≡◌, subst, None}
-use Rattle.std.specs.Prelude.{◌⊎◌, MatchResult}
-use Rattle.ac_util.specs.declared.search.Anchored.TheVariants.{No}
-use Rattle.ac_util.specs.Built.{stream_refusal}
-use Rattle.ac_util.specs.Refusal.{start_refusal}
-use Rattle.ac_util.specs.Borrowed.{bytes_of}
-use Rattle.ac_util.specs.StreamReplacing.{FailsToReplace, IsStreamRefused, ReplacesStream}
-use Rattle.ac_search.specs.Engines.{built_of}
-use Rattle.ac_search.specs.Searchers.{Searcher}
+use Rattle.std.proofs.Common.{◌≡◌, subst, None, ◌⊎◌, MatchResult}
+use Rattle.ac_automaton.specs.Util.{bytes_of, FailsToReplace, IsStreamRefused, No, ReplacesStream, start_refusal, stream_refusal}
+use Rattle.ac_search.specs.Prelude.{built_of, Searcher}
 use Rattle.ac_search.proofs.StreamsServed.{replaced-served}
 use Rattle.ac_search.proofs.ahocorasick.AhoCorasick.try_stream_replace_all.Goals as goal
 

@@ -1,11 +1,6 @@
-use Rattle.std.proofs.Common.{◌≡◌, subst, None}
-use Rattle.std.specs.Prelude.{◌⊎◌, MatchResult}
-use Rattle.ac_util.specs.declared.search.Anchored.TheVariants.{No}
-use Rattle.ac_util.specs.Built.{stream_refusal}
-use Rattle.ac_util.specs.Refusal.{start_refusal}
-use Rattle.ac_util.specs.StreamReplacing.{FailsToReplaceWith, IsStreamRefused, ReplacesStreamWith}
-use Rattle.ac_search.specs.Engines.{built_of}
-use Rattle.ac_search.specs.Searchers.{Searcher}
+use Rattle.std.proofs.Common.{◌≡◌, subst, None, ◌⊎◌, MatchResult}
+use Rattle.ac_automaton.specs.Util.{FailsToReplaceWith, IsStreamRefused, No, ReplacesStreamWith, start_refusal, stream_refusal}
+use Rattle.ac_search.specs.Prelude.{built_of, Searcher}
 use Rattle.ac_search.proofs.StreamsServed.{exchanged-served}
 use Rattle.ac_search.proofs.ahocorasick.AhoCorasick.try_stream_replace_all_with.Goals as goal
 

@@ -1,5 +1,4 @@
-use Rattle.std.proofs.Common.{Result, Ok, Err, rules, string_bytes}
-use Rattle.std.specs.Prelude.{MatchResult}
+use Rattle.std.proofs.Common.{Result, Ok, Err, rules, string_bytes, MatchResult}
 use Rattle.ac_search.specs.Built.{exchanged_in_text}
 use Rattle.ac_search.proofs.tests.replace.mark.Goals as goal
 

@@ -1,5 +1,4 @@
-use Rattle.std.proofs.Common.{[], Result, Ok, Err, rules}
-use Rattle.std.specs.Prelude.{IfOk, MatchResult}
+use Rattle.std.proofs.Common.{[], Result, Ok, Err, rules, IfOk, MatchResult}
 use Rattle.ac_search.specs.Built.{exchanged}
 use Rattle.ac_search.proofs.tests.replace.remove.Goals as goal
 

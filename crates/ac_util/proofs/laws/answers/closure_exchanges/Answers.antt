@@ -1,5 +1,4 @@
-use Rattle.ac_util.specs.declared.error.ReplaceError.{ReplaceError}
-use Rattle.ac_util.specs.Replacement.{Calls}
+use Rattle.ac_util.specs.Prelude.{Calls, ReplaceError}
 use Rattle.ac_util.proofs.ReplacementLemmas.{closure-begins, closure-exchanges, closure-keeps}
 use Rattle.ac_util.proofs.laws.answers.closure_exchanges.Goals as goal
 

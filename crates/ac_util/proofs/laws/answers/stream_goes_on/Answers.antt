@@ -1,7 +1,6 @@
 use Rattle.std.proofs.Common.{List, ap, length, take, ◌∙◌}
 use Rattle.std.proofs.Math.Seq.{take-append_seam}
-use Rattle.ac_util.specs.Occurrence.{Occurrence}
-use Rattle.ac_util.specs.Stream.{streamed}
+use Rattle.ac_util.specs.Prelude.{Occurrence, streamed}
 use Rattle.ac_util.proofs.GoesOn.{streamed-begins}
 use Rattle.ac_util.proofs.laws.answers.stream_goes_on.Goals as goal
 

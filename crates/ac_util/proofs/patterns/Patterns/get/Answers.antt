@@ -1,8 +1,7 @@
 use Rattle.std.proofs.Common.{◌≤◌, length, ap, ◌∙◌, arith}
 use Rattle.ac_util.proofs.PiecesLemmas.{length-pieces}
 use Rattle.ac_util.proofs.LimitLemmas.{All-slice_get}
-use Rattle.ac_util.specs.Pieces.{pieces}
-use Rattle.ac_util.specs.declared.primitives.TheConstants.{GREATEST}
+use Rattle.ac_util.specs.Prelude.{GREATEST, pieces}
 use Rattle.ac_util.proofs.patterns.Patterns.get.Goals as goal
 
 -- there is one bound more than there are patterns

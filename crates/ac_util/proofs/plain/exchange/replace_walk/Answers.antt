@@ -1,7 +1,5 @@
-use Rattle.std.proofs.Common.{◌∙◌, length, ap, sym, subst, arith}
-use Rattle.std.specs.Prelude.{All, AllPairs}
-use Rattle.ac_util.specs.Plain.{IsReplaceable, EndsBy}
-use Rattle.ac_util.specs.Search.{Search}
+use Rattle.std.proofs.Common.{◌∙◌, length, ap, sym, subst, arith, All, AllPairs}
+use Rattle.ac_util.specs.Prelude.{EndsBy, IsReplaceable, Search}
 use Rattle.ac_util.proofs.PlainReplaced.{walk-IsReplaceable, walk-EndsBy}
 use Rattle.ac_util.proofs.plain.exchange.replace_walk.Goals as goal
 

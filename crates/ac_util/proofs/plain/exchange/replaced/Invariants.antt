@@ -1,6 +1,5 @@
 use Rattle.std.proofs.Common.{◌≡◌, ◌++◌, ◌≤◌, drop, length}
-use Rattle.ac_util.specs.Borrowed.{bytes_of}
-use Rattle.ac_util.specs.Replaced.{replaced, replaced_from}
+use Rattle.ac_util.specs.Prelude.{bytes_of, replaced, replaced_from}
 use Rattle.ac_util.proofs.PlainReplaced.{StartsFrom}
 use Rattle.ac_util.proofs.plain.exchange.replaced.Given as goal
 

@@ -1,6 +1,5 @@
 use Rattle.std.proofs.Common.{◌+◌, ◌-◌, ◌∙◌, [], arith, ap}
-use Rattle.ac_util.specs.Listing.{places_ending_at}
-use Rattle.ac_util.specs.Search.{Search}
+use Rattle.ac_util.specs.Prelude.{places_ending_at, Search}
 use Rattle.ac_util.proofs.PlainListing.{added_more, all-from_ends}
 use Rattle.ac_util.proofs.plain.list.listing.Goals as goal
 

@@ -1,5 +1,4 @@
-use Rattle.std.proofs.Common.{◌≡◌, ◌+◌, ◌-◌, ◌≤◌}
-use Rattle.std.specs.Prelude.{flat_map}
+use Rattle.std.proofs.Common.{◌≡◌, ◌+◌, ◌-◌, ◌≤◌, flat_map}
 use Rattle.std.specs.List.{range_with_len}
 use Rattle.ac_util.specs.Listing.{places_ending_at}
 use Rattle.ac_util.proofs.PlainListing.{occurring}

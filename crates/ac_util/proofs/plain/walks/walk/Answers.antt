@@ -1,8 +1,5 @@
 use Rattle.std.proofs.Common.{◌≡◌, ◌++◌, ◌∙◌, ◌<◌, ℕ, ap, sym, subst, None, Some, Option}
-use Rattle.ac_util.specs.declared.search.MatchKind.{MatchKind}
-use Rattle.ac_util.specs.Occurrence.{Occurrence}
-use Rattle.ac_util.specs.Walk.{walk, next_match}
-use Rattle.ac_util.specs.Search.{Search, from}
+use Rattle.ac_util.specs.Prelude.{from, MatchKind, next_match, Occurrence, Search, walk}
 use Rattle.ac_util.proofs.PlainWalk.{walk_from, room_after, EndsWithin, next-EndsWithin, room-falls, taken, begun}
 use Rattle.ac_util.proofs.plain.walks.walk.Goals as goal
 

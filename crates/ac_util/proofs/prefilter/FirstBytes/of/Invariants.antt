@@ -1,5 +1,4 @@
-use Rattle.std.proofs.Common.{◌≡◌, ◌≤◌, length, take}
-use Rattle.std.specs.Prelude.{filter}
+use Rattle.std.proofs.Common.{◌≡◌, ◌≤◌, length, take, filter}
 use Rattle.std.specs.List.{range_with_len}
 use Rattle.ac_util.proofs.Marks.{is_marked}
 use Rattle.ac_util.proofs.prefilter.FirstBytes.of.Given as goal

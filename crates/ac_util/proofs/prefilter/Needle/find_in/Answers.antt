@@ -1,8 +1,6 @@
-use Rattle.std.proofs.Common.{◌≡◌, ◌+◌, ◌∙◌, ℕ, List, length, Some, None, ap, sym, subst}
-use Rattle.std.specs.Prelude.{slice_range}
+use Rattle.std.proofs.Common.{◌≡◌, ◌+◌, ◌∙◌, ℕ, List, length, Some, None, ap, sym, subst, slice_range}
 use Rattle.memchr.specs.Find.{FindsNeedle}
-use Rattle.ac_util.specs.Occurrence.{Occurrence, occurrence}
-use Rattle.ac_util.specs.Prefilters.{match_told}
+use Rattle.ac_util.specs.Prelude.{match_told, Occurrence, occurrence}
 use Rattle.ac_util.proofs.Skips.{needle_found}
 use Rattle.ac_util.proofs.prefilter.Needle.find_in.Goals as goal
 

@@ -1,7 +1,6 @@
 use Rattle.std.proofs.Common.{◌≡◌, ◌∙◌, ℕ, List, [], ◌∷◌, Bool, false, true, length, inl, inr, sym, subst, ap, arith}
 use Rattle.std.specs.List.{list_any}
-use Rattle.ac_util.specs.Node.{is_empty}
-use Rattle.ac_util.specs.Prefilters.{BeginWith, first_bytes_of, skip_for}
+use Rattle.ac_util.specs.Prelude.{BeginWith, first_bytes_of, is_empty, skip_for}
 use Rattle.ac_util.proofs.Marks.{first_few, marked-BeginWith, marked-first_bytes, only_one, skip_for-bytes, skip_for-many_bytes, skip_for-needle, too_many}
 use Rattle.ac_util.proofs.prefilter.Prefilter.of.Goals as goal
 

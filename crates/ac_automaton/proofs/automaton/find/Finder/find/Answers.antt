@@ -1,16 +1,8 @@
-use Rattle.std.proofs.Common.{◌≡◌, ℕ, List, refl, subst, sym, arith, Option}
+use Rattle.std.proofs.Common.{◌≡◌, ℕ, List, refl, subst, sym, arith, Option, IfSome}
 use Rattle.std.specs.Borrow.{Bor}
-use Rattle.std.specs.Prelude.{IfSome}
-use Rattle.ac_util.specs.declared.prefilter.Prefilter.{Prefilter}
-use Rattle.ac_util.specs.declared.search.Anchored.TheVariants.{No}
-use Rattle.ac_util.specs.Counts.{Counts, Taped}
-use Rattle.ac_util.specs.Prefilters.{skip_of}
-use Rattle.ac_automaton.specs.declared.automaton.scan.Cursor.{Cursor}
-use Rattle.ac_automaton.specs.Finders.{Finding}
-use Rattle.ac_automaton.specs.Finds.{HasSearched, IsReady, picking_by}
-use Rattle.ac_automaton.specs.Progress.{search_of, work_of}
-use Rattle.ac_automaton.specs.Scans.{Scan, ScanText, ScansTo, in_memory, scan_by, search_through}
-use Rattle.ac_automaton.specs.Skipping.{Skips}
+use Rattle.ac_automaton.specs.Util.{Counts, No, Prefilter, skip_of, Taped}
+use Rattle.ac_automaton.specs.Prelude.{Cursor, Finding, HasSearched, in_memory, picking_by, Scan, scan_by, ScansTo, ScanText, search_of, search_through, Skips, work_of}
+use Rattle.ac_automaton.specs.Finds.{IsReady}
 use Rattle.ac_automaton.proofs.FindLoop.{picked-start, searched-nothing}
 use Rattle.ac_automaton.proofs.FindSkipping.{ready-passed, skip-some}
 use Rattle.ac_automaton.proofs.ReadOn.{alive-start, at-start, scans-nothing}

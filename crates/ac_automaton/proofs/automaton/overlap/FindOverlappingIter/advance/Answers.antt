@@ -1,9 +1,6 @@
 use Rattle.std.proofs.Common.{◌≡◌, ap, sym, subst, ◌∙◌, List, ℕ, Option, Some, None}
 use Rattle.ac_util.specs.Occurrence.{Occurrence}
-use Rattle.ac_automaton.specs.declared.automaton.overlap.Reached.{Reached}
-use Rattle.ac_automaton.specs.Overlaps.{IsListing, ListsNext, Overlapping, overlapping_by}
-use Rattle.ac_automaton.specs.Progress.{work_of}
-use Rattle.ac_automaton.specs.Scans.{Scan, ScanText, in_memory, scan_by}
+use Rattle.ac_automaton.specs.Prelude.{in_memory, IsListing, ListsNext, Overlapping, overlapping_by, Reached, Scan, scan_by, ScanText, work_of}
 use Rattle.ac_automaton.proofs.Overlapping.{lists-next, lists-past_end, listing-goes_on}
 use Rattle.ac_automaton.proofs.automaton.overlap.FindOverlappingIter.advance.Given.{Over}
 use Rattle.ac_automaton.proofs.automaton.overlap.FindOverlappingIter.advance.Goals.{After-self}

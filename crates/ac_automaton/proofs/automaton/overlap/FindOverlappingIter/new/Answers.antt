@@ -1,17 +1,8 @@
 use Rattle.std.proofs.Common.{◌≡◌, ℕ, ◌≤◌, List, false, ap, refl, sym, subst, ◌∙◌, inl, inr, Option, Some, None}
 use Rattle.std.proofs.lemmas.Bool.{cases_lt, false≢true}
 use Rattle.ac_util.specs.declared.search.Anchored.{Anchored}
-use Rattle.ac_util.specs.declared.search.Anchored.TheVariants.{No, Yes}
-use Rattle.ac_util.specs.declared.search.Span.{Span}
-use Rattle.ac_util.specs.Counts.{no_counts}
-use Rattle.ac_util.specs.Inputs.{asked}
-use Rattle.ac_util.specs.Node.{Node}
-use Rattle.ac_util.specs.Refusal.{start_refusal}
-use Rattle.ac_automaton.specs.declared.automaton.overlap.Reached.{Reached}
-use Rattle.ac_automaton.specs.Automata.{Lists}
-use Rattle.ac_automaton.specs.Overlaps.{IsListing, given_by, overlapping_of}
-use Rattle.ac_automaton.specs.Progress.{nothing_done, search_of}
-use Rattle.ac_automaton.specs.Scans.{Scan, in_memory, scan_by, search_through}
+use Rattle.ac_automaton.specs.Util.{asked, No, no_counts, Node, Span, start_refusal, Yes}
+use Rattle.ac_automaton.specs.Prelude.{given_by, in_memory, IsListing, Lists, nothing_done, overlapping_of, Reached, Scan, scan_by, search_of, search_through}
 use Rattle.ac_automaton.proofs.ListLoop.{arrived}
 use Rattle.ac_automaton.proofs.Overlapping.{goes_on-start, iterator-served, listing-starts}
 use Rattle.ac_automaton.proofs.automaton.overlap.FindOverlappingIter.new.Given.{Over}

@@ -1,6 +1,5 @@
 use Rattle.std.proofs.Common.{subst, sym, Some, None}
-use Rattle.ac_util.specs.Pick.{order_of}
-use Rattle.ac_util.specs.Prefilters.{Promises, Skip, Tells, search_over}
+use Rattle.ac_automaton.specs.Util.{order_of, Promises, search_over, Skip, Tells}
 use Rattle.ac_automaton.proofs.FindSkipping.{picks-none, searched-told, told-none}
 use Rattle.ac_automaton.proofs.automaton.scan.Scanner.find_needle.Goals as goal
 

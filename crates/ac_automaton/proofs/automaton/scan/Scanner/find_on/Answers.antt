@@ -1,9 +1,7 @@
 use Rattle.std.proofs.Common.{◌≡◌, false, refl, sym, ◌∙◌}
 use Rattle.std.proofs.lemmas.Bool.{false≢true}
 use Rattle.ac_util.proofs.SearchLoop.{GoesOn}
-use Rattle.ac_automaton.specs.declared.automaton.scan.Scanner.{Scanner}
-use Rattle.ac_automaton.specs.Finds.{FitsIn}
-use Rattle.ac_automaton.specs.Scans.{IsAlive, Scan, ScanText, in_memory, node, scan_by}
+use Rattle.ac_automaton.specs.Prelude.{FitsIn, in_memory, IsAlive, node, Scan, scan_by, Scanner, ScanText}
 use Rattle.ac_automaton.proofs.FindAhead.{IsUnanswered, answer-there, decided-there, ends-there, unanswered-unless, picked-none, picked-some}
 use Rattle.ac_automaton.proofs.FindLoop.{goes_on-by, goes_on-none, order, searched}
 use Rattle.ac_automaton.proofs.ReadOn.{node-fits, scans-on}

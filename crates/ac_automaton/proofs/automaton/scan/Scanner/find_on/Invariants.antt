@@ -1,9 +1,6 @@
-use Rattle.std.proofs.Common.{◌≡◌, ◌-◌, ◌≤◌}
-use Rattle.std.specs.Prelude.{IfSome}
-use Rattle.ac_util.specs.declared.search.MatchKind.TheVariants.{Standard}
-use Rattle.ac_util.specs.Pick.{pick}
-use Rattle.ac_automaton.specs.Progress.{Work, work_of}
-use Rattle.ac_automaton.specs.Scans.{scan_by, IsAt, Scan, ScanText, ScansTo, in_memory}
+use Rattle.std.proofs.Common.{◌≡◌, ◌-◌, ◌≤◌, IfSome}
+use Rattle.ac_automaton.specs.Util.{pick, Standard}
+use Rattle.ac_automaton.specs.Prelude.{in_memory, IsAt, Scan, scan_by, ScansTo, ScanText, Work, work_of}
 use Rattle.ac_automaton.proofs.FindLoop.{order, up_to}
 use Rattle.ac_automaton.proofs.automaton.scan.Scanner.find_on.Given as goal
 

@@ -1,12 +1,8 @@
 use Rattle.std.proofs.Common.{◌≡◌, ◌≢◌, ◌⊎◌, ◌<◌, ◌≤◌, [], ap, sym, subst, ◌∙◌, inl, inr, arith, Option, None}
 use Rattle.std.proofs.lemmas.Bool.{false≢true}
-use Rattle.ac_util.specs.Counts.{Counts, Taped}
-use Rattle.ac_util.specs.Occurrence.{Occurrence}
-use Rattle.ac_automaton.specs.declared.automaton.overlap.Reached.{Reached}
-use Rattle.ac_automaton.specs.declared.automaton.scan.Cursor.{Cursor}
-use Rattle.ac_automaton.specs.Overlaps.{HasGiven, HasMoved, due_in, given_in}
-use Rattle.ac_automaton.specs.Progress.{work_of}
-use Rattle.ac_automaton.specs.Scans.{IsAlive, PassesNoMatch, Scan, ScanText, ScansTo, in_memory, node, scan_by, search_through}
+use Rattle.ac_automaton.specs.Util.{Counts, Occurrence, Taped}
+use Rattle.ac_automaton.specs.Prelude.{Cursor, due_in, given_in, HasMoved, in_memory, IsAlive, node, PassesNoMatch, Reached, Scan, scan_by, ScansTo, ScanText, search_through, work_of}
+use Rattle.ac_automaton.specs.Overlaps.{HasGiven}
 use Rattle.ac_automaton.proofs.ListLoop.{HasComeOn, come-on, has-moved}
 use Rattle.ac_automaton.proofs.ReadOn.{scans-on}
 use Rattle.ac_automaton.proofs.automaton.scan.Scanner.next_item.Given.{Over}

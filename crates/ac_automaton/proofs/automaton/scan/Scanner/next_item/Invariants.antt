@@ -1,6 +1,5 @@
 use Rattle.std.proofs.Common.{◌≡◌, ◌-◌}
-use Rattle.ac_automaton.specs.Progress.{work_of}
-use Rattle.ac_automaton.specs.Scans.{Scan, ScansTo, in_memory, scan_by}
+use Rattle.ac_automaton.specs.Prelude.{in_memory, Scan, scan_by, ScansTo, work_of}
 use Rattle.ac_automaton.proofs.ListLoop.{HasComeOn}
 use Rattle.ac_automaton.proofs.automaton.scan.Scanner.next_item.Given as goal
 

@@ -1,8 +1,7 @@
 use Rattle.std.proofs.Common.{◌≡◌, ◌<◌, ◌≤◌, ◌+◌, ℕ, length, refl, ap, sym, ◌∙◌, arith}
 use Rattle.std.proofs.lemmas.Bool.{false≢true}
 use Rattle.ac_util.specs.Counts.{Taped}
-use Rattle.ac_automaton.specs.Progress.{work_of}
-use Rattle.ac_automaton.specs.Scans.{scan_by, IsAlive, PassesNoMatch, Scan, ScanText}
+use Rattle.ac_automaton.specs.Prelude.{IsAlive, PassesNoMatch, Scan, scan_by, ScanText, work_of}
 use Rattle.ac_automaton.proofs.ReadAhead.{along-next, along-passed, along-passes, along-start}
 use Rattle.ac_automaton.proofs.Skipping.{alive-skipped, skipped-on, skipped-onward}
 use Rattle.ac_automaton.proofs.automaton.scan.Scanner.skip_on.Given.{Over}

@@ -1,6 +1,5 @@
 use Rattle.std.proofs.Common.{◌≡◌, ◌-◌, ◌<◌, ◌≤◌}
-use Rattle.ac_automaton.specs.Progress.{work_of}
-use Rattle.ac_automaton.specs.Scans.{scan_by, IsAlive, Scan, ScanText}
+use Rattle.ac_automaton.specs.Prelude.{IsAlive, Scan, scan_by, ScanText, work_of}
 use Rattle.ac_automaton.proofs.ReadAhead.{IsAlong}
 use Rattle.ac_automaton.proofs.automaton.scan.Scanner.skip_on.Given as goal
 

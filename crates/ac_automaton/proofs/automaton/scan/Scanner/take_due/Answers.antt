@@ -1,7 +1,7 @@
 use Rattle.std.proofs.Common.{◌≡◌, ◌-◌, ℕ, true, ap, sym, subst, ◌∙◌, arith, Some}
 use Rattle.ac_util.specs.Occurrence.{Occurrence, occurrence}
-use Rattle.ac_automaton.specs.Overlaps.{HasGiven, is_due}
-use Rattle.ac_automaton.specs.Scans.{Scan, in_memory, scan_by}
+use Rattle.ac_automaton.specs.Prelude.{in_memory, is_due, Scan, scan_by}
+use Rattle.ac_automaton.specs.Overlaps.{HasGiven}
 use Rattle.ac_automaton.proofs.Due.{counts}
 use Rattle.ac_automaton.proofs.ListLoop.{due-short, gives-first}
 use Rattle.ac_automaton.proofs.automaton.scan.Scanner.take_due.Given.{Over}

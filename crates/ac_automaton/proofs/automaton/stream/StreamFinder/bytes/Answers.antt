@@ -1,5 +1,4 @@
-use Rattle.std.proofs.Common.{◌∙◌, ◌-◌, ◌≤◌, List, ℕ, ap, drop, length, subst, sym, take}
-use Rattle.std.specs.Prelude.{slice_range}
+use Rattle.std.proofs.Common.{◌∙◌, ◌-◌, ◌≤◌, List, ℕ, ap, drop, length, subst, sym, take, slice_range}
 use Rattle.ac_automaton.specs.Streams.{Streaming}
 use Rattle.ac_automaton.proofs.StreamFilling.{buffer-shows}
 use Rattle.ac_automaton.proofs.automaton.stream.StreamFinder.bytes.Goals as goal

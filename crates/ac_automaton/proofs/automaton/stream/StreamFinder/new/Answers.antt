@@ -1,10 +1,6 @@
-use Rattle.std.proofs.Common.{◌≡◌, ◌≢◌, ◌*◌, ℕ, List, ◌∙◌, true, refl, length, sym, ap, arith}
-use Rattle.std.specs.Prelude.{max, min, not}
+use Rattle.std.proofs.Common.{◌≡◌, ◌≢◌, ◌*◌, ℕ, List, ◌∙◌, true, refl, length, sym, ap, arith, max, min, not}
 use Rattle.ac_util.specs.declared.error.StreamError.TheVariants.{Memory}
-use Rattle.ac_util.specs.declared.search.MatchKind.{MatchKind}
-use Rattle.ac_util.specs.declared.search.MatchKind.TheVariants.{LeftmostFirst, LeftmostLongest, Standard}
-use Rattle.ac_util.specs.Node.{is_leftmost}
-use Rattle.ac_util.specs.Stream.{buffer_len}
+use Rattle.ac_automaton.specs.Util.{buffer_len, is_leftmost, LeftmostFirst, LeftmostLongest, MatchKind, Standard}
 use Rattle.ac_automaton.specs.Streams.{stream_begun}
 use Rattle.ac_automaton.proofs.Places.{refused-by}
 use Rattle.ac_automaton.proofs.StreamFilling.{most-kept, streams-begin}

@@ -1,13 +1,9 @@
-use Rattle.std.proofs.Common.{◌≡◌, ◌∙◌, ◌+◌, ◌++◌, ℕ, List, [], Bool, length, refl, take, length-append, sym, subst, ap, arith}
-use Rattle.std.specs.Prelude.{MatchBool}
+use Rattle.std.proofs.Common.{◌≡◌, ◌∙◌, ◌+◌, ◌++◌, ℕ, List, [], Bool, length, refl, take, length-append, sym, subst, ap, arith, MatchBool}
 use Rattle.std.proofs.KnownBytes.{Consumes-nil}
 use Rattle.std.proofs.lemmas.List.{append-nil}
-use Rattle.ac_util.specs.Stream.{streamed}
-use Rattle.ac_util.specs.StreamReplacing.{IsNear}
+use Rattle.ac_automaton.specs.Util.{IsNear, streamed}
 use Rattle.ac_util.proofs.Devices.{fails-on, reads-on}
-use Rattle.ac_automaton.specs.declared.automaton.stream.Phase.{Phase}
-use Rattle.ac_automaton.specs.declared.automaton.stream.Phase.TheVariants.{Ended, Open}
-use Rattle.ac_automaton.specs.Streams.{FillsMore, GivesEarly, GoesOnBy, HasGivenSettled, IsSettledIn, MeetsEnd, Streaming}
+use Rattle.ac_automaton.specs.Prelude.{Ended, FillsMore, GivesEarly, GoesOnBy, HasGivenSettled, IsSettledIn, MeetsEnd, Open, Phase, Streaming}
 use Rattle.ac_automaton.proofs.StreamEnds.{gives-last}
 use Rattle.ac_automaton.proofs.StreamFilling.{failed-as, read-as, stays-given}
 use Rattle.ac_automaton.proofs.automaton.stream.StreamFinder.next.Goals as goal

@@ -1,7 +1,6 @@
 use Rattle.std.proofs.Common.{◌≡◌, ◌-◌, ◌++◌, ℕ, List, length}
 use Rattle.ac_util.specs.Device.{ReadsSome}
-use Rattle.ac_automaton.specs.declared.automaton.stream.Phase.TheVariants.{Open}
-use Rattle.ac_automaton.specs.Streams.{KeepsGiven}
+use Rattle.ac_automaton.specs.Prelude.{KeepsGiven, Open}
 use Rattle.ac_automaton.proofs.automaton.stream.StreamFinder.next.Given as goal
 
 -- so far some bytes were read, and no match was given

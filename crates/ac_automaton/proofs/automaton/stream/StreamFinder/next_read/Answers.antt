@@ -1,13 +1,8 @@
 use Rattle.std.proofs.Common.{◌≡◌, ◌≢◌, ◌⊎◌, ◌↔◌, ◌∙◌, ◌+◌, ◌-◌, ◌<◌, ◌≤◌, Bool, true, false, List, ℕ, None, inl, inr, refl, length, sym, ap, subst, arith}
 use Rattle.std.proofs.lemmas.Bool.{false≢true}
-use Rattle.ac_util.specs.declared.search.Anchored.TheVariants.{No}
-use Rattle.ac_util.specs.Node.{Node}
-use Rattle.ac_util.specs.Pick.{order_of}
+use Rattle.ac_automaton.specs.Util.{No, Node, order_of}
 use Rattle.ac_util.proofs.SearchLoop.{GoesOn}
-use Rattle.ac_automaton.specs.declared.automaton.stream.Phase.TheVariants.{Ended}
-use Rattle.ac_automaton.specs.Finds.{IsAnswered}
-use Rattle.ac_automaton.specs.Scans.{IsAlive, ScanText}
-use Rattle.ac_automaton.specs.Streams.{HasReadOn, Inside, IsStreaming, Streaming}
+use Rattle.ac_automaton.specs.Prelude.{Ended, HasReadOn, Inside, IsAlive, IsAnswered, IsStreaming, ScanText, Streaming}
 use Rattle.ac_automaton.proofs.FindAhead.{IsUnanswered, unanswered-unless}
 use Rattle.ac_automaton.proofs.StreamGiving.{gives-next, streams-anew}
 use Rattle.ac_automaton.proofs.StreamKeeping.{gives-settled, streams-on}

@@ -1,6 +1,5 @@
 use Rattle.std.proofs.Common.{◌≡◌, ℕ, refl, sym, subst, ◌≤◌, length, List, Option, Some}
-use Rattle.ac_automaton.specs.Iterators.{last_after, walking_of}
-use Rattle.ac_automaton.specs.Progress.{work_of}
+use Rattle.ac_automaton.specs.Prelude.{last_after, walking_of, work_of}
 use Rattle.ac_automaton.proofs.WalkLoop.{HasGone, has-gone}
 use Rattle.ac_automaton.proofs.automaton.walk.FindIter.advance.Given.{Over}
 use Rattle.ac_automaton.proofs.automaton.walk.FindIter.advance.Goals.{After-after-self-inside}

@@ -1,5 +1,4 @@
-use Rattle.std.proofs.Common.{◌∷◌, Some, ap, sym, ◌∙◌, arith}
-use Rattle.std.specs.Prelude.{slice_get}
+use Rattle.std.proofs.Common.{◌∷◌, Some, ap, sym, ◌∙◌, arith, slice_get}
 use Rattle.ac_automaton.specs.declared.nfa.noncontiguous.state.State.{State}
 use Rattle.ac_automaton.proofs.Reading.{IsRead, is-read, reads}
 use Rattle.ac_automaton.proofs.nfa.noncontiguous.NFA.fail.Given.{Over}

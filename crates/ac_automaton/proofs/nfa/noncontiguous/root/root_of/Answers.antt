@@ -1,5 +1,4 @@
-use Rattle.std.proofs.Common.{◌+◌, ℕ, ◌<◌, sym, subst, rules}
-use Rattle.std.specs.Prelude.{slice_index}
+use Rattle.std.proofs.Common.{◌+◌, ℕ, ◌<◌, sym, subst, rules, slice_index}
 use Rattle.ac_automaton.specs.Tries.{HasState, RootTells}
 use Rattle.ac_automaton.proofs.Roots.{told-push}
 use Rattle.ac_automaton.proofs.nfa.noncontiguous.root.root_of.Goals as goal

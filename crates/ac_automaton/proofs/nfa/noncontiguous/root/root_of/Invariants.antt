@@ -1,5 +1,4 @@
-use Rattle.std.proofs.Common.{◌≡◌, ℕ, ◌<◌, length}
-use Rattle.std.specs.Prelude.{slice_index}
+use Rattle.std.proofs.Common.{◌≡◌, ℕ, ◌<◌, length, slice_index}
 use Rattle.ac_automaton.specs.Tries.{RootTells}
 use Rattle.ac_automaton.proofs.nfa.noncontiguous.root.root_of.Given as goal
 

@@ -1,6 +1,5 @@
 -- The patterns below the number are listed.
-use Rattle.std.proofs.Common.{◌≡◌, ◌≤◌, length, map, take}
-use Rattle.std.specs.Prelude.{All}
+use Rattle.std.proofs.Common.{◌≡◌, ◌≤◌, length, map, take, All}
 use Rattle.std.specs.List.{range_with_len}
 use Rattle.ac_util.specs.declared.primitives.TheConstants.{GREATEST}
 use Rattle.ac_automaton.proofs.nfa.noncontiguous.sorted.listed.Given as goal

@@ -1,10 +1,6 @@
-use Rattle.std.proofs.Common.{◌≡◌, ℕ, arith, subst, sym, ◌∙◌}
-use Rattle.std.specs.Prelude.{IfSome}
-use Rattle.ac_automaton.specs.Tries.{IsRoot, RootTells}
-use Rattle.ac_util.specs.Node.{Node}
-use Rattle.ac_util.specs.declared.search.Anchored.TheVariants.{No, Yes}
-use Rattle.ac_automaton.specs.declared.nfa.noncontiguous.state.TheConstants.{START}
-use Rattle.ac_automaton.specs.Tries.{HasState, Meaning, Represents}
+use Rattle.std.proofs.Common.{◌≡◌, ℕ, arith, subst, sym, ◌∙◌, IfSome}
+use Rattle.ac_automaton.specs.Prelude.{HasState, IsRoot, Meaning, Represents, RootTells, START}
+use Rattle.ac_automaton.specs.Util.{No, Node, Yes}
 use Rattle.ac_automaton.proofs.Follows.{Ended, onward-start, represented, ends-root, ends-target, ends-anchored, ends-outer, goes-on, leads-inner}
 use Rattle.ac_automaton.proofs.nfa.noncontiguous.state.follow.Goals as goal
 use Rattle.ac_automaton.proofs.nfa.noncontiguous.state.follow.Goals.{in-Yes, in-No, in_default, in_default-matches, After-index-states-as_usize, After-look_in_root, After-must, In-Some-look, Then-as_usize-lt-FIRST_INNER}

@@ -1,10 +1,8 @@
-use Rattle.std.proofs.Common.{◌≡◌, ℕ, length, refl, ap, sym, ◌∙◌, arith, inl, inr}
-use Rattle.std.specs.Prelude.{Some, slice_get}
+use Rattle.std.proofs.Common.{◌≡◌, ℕ, length, refl, ap, sym, ◌∙◌, arith, inl, inr, Some, slice_get}
 use Rattle.std.proofs.lemmas.Bool.{cases_lt}
 use Rattle.std.proofs.lemmas.Option.{slice_get_read}
 use Rattle.ac_util.proofs.Lists.{IsIn-from_Contains, IsIn-from_map}
-use Rattle.ac_automaton.specs.declared.nfa.noncontiguous.state.Transition.{Transition}
-use Rattle.ac_automaton.specs.Tries.{transition_bytes}
+use Rattle.ac_automaton.specs.Prelude.{Transition, transition_bytes}
 use Rattle.ac_automaton.proofs.Places.{get-same, place-of}
 use Rattle.ac_automaton.proofs.nfa.noncontiguous.state.target_among.Goals as goal
 

@@ -1,6 +1,5 @@
 use Rattle.std.proofs.Common.{length, refl, ap, arith, ◌∙◌, []}
-use Rattle.ac_util.specs.declared.search.Anchored.TheVariants.{No}
-use Rattle.ac_util.specs.Classes.{alphabet_len}
+use Rattle.ac_automaton.specs.Util.{alphabet_len, No}
 use Rattle.ac_util.proofs.Reached.{stops}
 use Rattle.ac_automaton.specs.Automata.{plain_of}
 use Rattle.ac_engines.specs.Dfa.Filling.{Filling}

@@ -1,7 +1,6 @@
 use Rattle.std.proofs.Common.{ap, sym, inl, inr, arith, ◌∙◌}
 use Rattle.std.proofs.lemmas.Bool.{cases_lt}
-use Rattle.ac_util.specs.Node.{is_leftmost}
-use Rattle.ac_util.specs.Sizes.{shortest_len}
+use Rattle.ac_automaton.specs.Util.{is_leftmost, shortest_len}
 use Rattle.ac_engines.specs.Dfa.Filling.{Filling}
 use Rattle.ac_engines.proofs.Starts.{missing-dead, missing-start}
 use Rattle.ac_engines.proofs.dfa.fill.Filler.missing.Goals.{else-is_leftmost-via-then-is_leftmost+else-min_pattern_len-eq0, else-is_leftmost-via-else-is_leftmost}

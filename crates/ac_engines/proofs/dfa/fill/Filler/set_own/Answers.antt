@@ -1,10 +1,6 @@
 use Rattle.std.proofs.Common.{ap, sym, subst, arith, length, ◌∙◌, ◌++◌, ◌∷◌, [], Some, take_all}
-use Rattle.ac_util.specs.Classes.{alphabet_len, class_at}
-use Rattle.ac_util.specs.Sameness.{plain_byte}
-use Rattle.ac_util.specs.Sizes.{state_count}
-use Rattle.ac_automaton.specs.Automata.{plain_of}
-use Rattle.ac_automaton.specs.Readers.{AreNodes, IsOwn, own_bytes}
-use Rattle.ac_automaton.specs.Tries.{Trie}
+use Rattle.ac_automaton.specs.Util.{alphabet_len, class_at, plain_byte, state_count}
+use Rattle.ac_automaton.specs.Prelude.{AreNodes, IsOwn, own_bytes, plain_of, Trie}
 use Rattle.ac_engines.specs.Dfa.Filling.{Filling, HasSet, sheet_of}
 use Rattle.ac_engines.proofs.Owning.{next-row, numbered-below, own-more, own_bytes-starts, row-room}
 use Rattle.ac_engines.proofs.Setting.{set-none}

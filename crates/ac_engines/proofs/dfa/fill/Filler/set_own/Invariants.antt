@@ -1,5 +1,4 @@
-use Rattle.std.proofs.Common.{ℕ, List, length, take}
-use Rattle.std.specs.Prelude.{Some}
+use Rattle.std.proofs.Common.{ℕ, List, length, take, Some}
 use Rattle.ac_util.specs.Node.{Node}
 use Rattle.ac_automaton.specs.Readers.{own_bytes}
 use Rattle.ac_engines.specs.Dfa.Filling.{HasRow, HasSet, sheet_of}

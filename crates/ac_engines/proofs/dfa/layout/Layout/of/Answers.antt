@@ -1,9 +1,7 @@
 use Rattle.std.proofs.Common.{◌≡◌, ◌*◌, ◌+◌, ◌-◌, ◌^◌, ◌<◌, ℕ, Some, [], ap, sym, subst, ◌∙◌, arith, length}
 use Rattle.std.proofs.lemmas.Nat.{pow_pos}
 use Rattle.std.proofs.lemmas.Bool.{false≢true}
-use Rattle.ac_util.specs.declared.search.Anchored.TheVariants.{No}
-use Rattle.ac_util.specs.Sizes.{state_count}
-use Rattle.ac_util.specs.Pieces.{pieces}
+use Rattle.ac_automaton.specs.Util.{No, pieces, state_count}
 use Rattle.ac_automaton.specs.Automata.{plain_of}
 use Rattle.ac_automaton.proofs.Heads.{nil-from_not}
 use Rattle.ac_engines.specs.Dfa.Layouts.{rows_each, table_rows}

@@ -1,9 +1,6 @@
 use Rattle.std.proofs.Common.{List, length}
-use Rattle.ac_util.specs.Node.{Node}
-use Rattle.ac_util.specs.Pieces.{AreBounds, pieces}
-use Rattle.ac_util.specs.Sizes.{state_count}
-use Rattle.ac_automaton.specs.Automata.{plain_of}
-use Rattle.ac_automaton.specs.Readers.{AreNodes}
+use Rattle.ac_automaton.specs.Util.{AreBounds, Node, pieces, state_count}
+use Rattle.ac_automaton.specs.Prelude.{AreNodes, plain_of}
 use Rattle.ac_engines.specs.Dfa.Layouts.{table_rows}
 use Rattle.ac_engines.proofs.LaidUpTo.{IsLaidUpTo, plan_of}
 use Rattle.ac_engines.proofs.dfa.layout.Layout.of.Given as goal

@@ -1,11 +1,7 @@
-use Rattle.std.proofs.Common.{refl, ◌≡◌, ◌++◌, ◌∷◌, [], List, length, Some, ℕ, ap, sym, ◌∙◌, arith}
-use Rattle.std.specs.Prelude.{slice_get}
-use Rattle.ac_util.specs.Node.{Node}
-use Rattle.ac_util.specs.Pieces.{AreBounds, pieces}
+use Rattle.std.proofs.Common.{refl, ◌≡◌, ◌++◌, ◌∷◌, [], List, length, Some, ℕ, ap, sym, ◌∙◌, arith, slice_get}
+use Rattle.ac_automaton.specs.Util.{AreBounds, Node, pieces}
 use Rattle.ac_util.proofs.PiecesLemmas.{one_more_piece}
-use Rattle.ac_automaton.specs.Automata.{matches_of}
-use Rattle.ac_automaton.specs.Readers.{AreNodes}
-use Rattle.ac_automaton.specs.Overlaps.{is_due}
+use Rattle.ac_automaton.specs.Prelude.{AreNodes, is_due, matches_of}
 use Rattle.ac_engines.proofs.Listing.{all-listed, has-first, may-begin, none-listed, one-more, others-left}
 use Rattle.ac_engines.proofs.dfa.lists.MatchLists.add.Given.{Over}
 use Rattle.ac_engines.proofs.dfa.lists.MatchLists.add.Goals.{In_ok-push-2, in-Some+then-not-is_due, in_default}

@@ -1,5 +1,4 @@
-use Rattle.std.proofs.Common.{◌≡◌, List, length, Some}
-use Rattle.std.specs.Prelude.{slice_get}
+use Rattle.std.proofs.Common.{◌≡◌, List, length, Some, slice_get}
 use Rattle.ac_util.specs.Node.{Node}
 use Rattle.ac_automaton.specs.Readers.{AreNodes}
 use Rattle.ac_engines.proofs.Listing.{HasListed, MayRead, rest_of}

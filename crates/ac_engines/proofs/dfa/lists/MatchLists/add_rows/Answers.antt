@@ -1,7 +1,6 @@
 use Rattle.std.proofs.Common.{◌≡◌, ◌++◌, ◌∷◌, [], IfOk, List, ℕ, ap, subst, ◌∙◌}
 use Rattle.std.proofs.lemmas.List.{append_assoc}
-use Rattle.ac_util.specs.declared.search.Anchored.TheVariants.{No, Yes}
-use Rattle.ac_util.specs.Pieces.{pieces}
+use Rattle.ac_automaton.specs.Util.{No, pieces, Yes}
 use Rattle.ac_automaton.specs.Automata.{matches_of}
 use Rattle.ac_engines.proofs.dfa.lists.MatchLists.add_rows.Goals as goal
 

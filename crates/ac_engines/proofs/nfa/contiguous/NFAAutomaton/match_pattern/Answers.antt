@@ -1,5 +1,4 @@
-use Rattle.std.proofs.Common.{ap, sym, subst, ◌∙◌, ◌<◌, List, ℕ, length, arith, Some}
-use Rattle.std.specs.Prelude.{slice_index_or}
+use Rattle.std.proofs.Common.{ap, sym, subst, ◌∙◌, ◌<◌, List, ℕ, length, arith, Some, slice_index_or}
 use Rattle.ac_util.specs.Classes.{alphabet_len}
 use Rattle.std.proofs.lemmas.Option.{slice_get-get_or}
 use Rattle.ac_engines.specs.Contiguous.{ContiguousView, match_list_at}

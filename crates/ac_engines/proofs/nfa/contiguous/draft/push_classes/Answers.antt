@@ -1,7 +1,6 @@
 use Rattle.std.proofs.Common.{◌++◌, map, ap, ◌∙◌}
 use Rattle.std.specs.Slice.Iter.{chunks_rest, chunks_size}
-use Rattle.ac_engines.specs.declared.nfa.contiguous.state.Edge.{Edge}
-use Rattle.ac_engines.specs.Contiguous.Words.{class_words}
+use Rattle.ac_engines.specs.Prelude.{class_words, Edge}
 use Rattle.ac_engines.proofs.PushingClasses.{next-classes, no-classes}
 use Rattle.ac_engines.proofs.nfa.contiguous.draft.push_classes.Goals as goal
 

@@ -1,8 +1,7 @@
 use Rattle.std.proofs.Common.{◌∙◌, ◌++◌, ◌∷◌, [], map, ap, sym, subst}
 use Rattle.std.proofs.lemmas.List.{length-replicate}
 use Rattle.std.specs.Vec.{vec_len}
-use Rattle.ac_engines.specs.declared.nfa.contiguous.state.TheConstants.{DENSE}
-use Rattle.ac_engines.specs.Contiguous.Words.{HasTargets, target_by}
+use Rattle.ac_engines.specs.Prelude.{DENSE, HasTargets, target_by}
 use Rattle.std.specs.List.{range_with_len}
 use Rattle.ac_engines.proofs.SettingTargets.{all-targets, blank-after, resized, written-after}
 use Rattle.ac_engines.proofs.PushedStates.{two-pushed}

@@ -1,6 +1,5 @@
 use Rattle.std.proofs.Common.{List, take_all, subst}
-use Rattle.ac_engines.specs.declared.nfa.contiguous.state.Edge.{Edge}
-use Rattle.ac_engines.specs.Contiguous.Words.{HasTargets}
+use Rattle.ac_engines.specs.Prelude.{Edge, HasTargets}
 use Rattle.ac_engines.proofs.SettingTargets.{no-target, next-target}
 use Rattle.ac_engines.proofs.nfa.contiguous.draft.set_targets.Goals as goal
 

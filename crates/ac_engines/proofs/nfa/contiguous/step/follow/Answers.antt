@@ -1,16 +1,10 @@
 use Rattle.std.proofs.Common.{◌≡◌, ℕ, ◌<◌, List, length, refl, Some, None, ap, sym, subst, ◌∙◌, arith}
 use Rattle.std.proofs.lemmas.Bool.{false≢true}
 use Rattle.ac_util.specs.declared.search.Anchored.{Anchored}
-use Rattle.ac_util.specs.declared.search.Anchored.TheVariants.{No, Yes}
-use Rattle.ac_util.specs.Classes.{alphabet_len, class_at}
-use Rattle.ac_util.specs.Counts.{Counts}
-use Rattle.ac_util.specs.Node.{Node}
+use Rattle.ac_automaton.specs.Util.{alphabet_len, class_at, Counts, No, Node, Yes}
 use Rattle.ac_automaton.specs.Automata.{step_of}
 use Rattle.ac_util.proofs.ClassLists.{class_at-below}
-use Rattle.ac_engines.specs.declared.nfa.contiguous.state.TheConstants.{FAIL}
-use Rattle.ac_engines.specs.Contiguous.{ContiguousView, IsContiguousState, spelling_at}
-use Rattle.ac_engines.specs.Contiguous.Sizes.{node_format}
-use Rattle.ac_engines.specs.Contiguous.Words.{BeginsWith, named, target_by}
+use Rattle.ac_engines.specs.Prelude.{BeginsWith, ContiguousView, FAIL, IsContiguousState, named, node_format, spelling_at, target_by}
 use Rattle.ac_engines.proofs.Follow.{Ended, Onward, onward-start, ends-anchored, ends-target, begins-at, goes-on, stands-small, stands-within}
 use Rattle.ac_engines.proofs.PackedSteps.{are-named, target_of}
 use Rattle.ac_engines.proofs.Spellings.{none-named, some-named}

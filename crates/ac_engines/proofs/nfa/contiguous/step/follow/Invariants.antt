@@ -1,6 +1,5 @@
 use Rattle.std.proofs.Common.{◌≡◌, ℕ, ◌<◌, ◌+◌, ◌-◌}
-use Rattle.ac_util.specs.Classes.{class_at}
-use Rattle.ac_util.specs.Node.{Node}
+use Rattle.ac_automaton.specs.Util.{class_at, Node}
 use Rattle.ac_engines.specs.Contiguous.{ContiguousView, IsContiguousState}
 use Rattle.ac_engines.proofs.Follow.{Onward}
 use Rattle.ac_engines.proofs.nfa.contiguous.step.follow.Given as goal

@@ -1,8 +1,6 @@
-use Rattle.std.proofs.Common.{◌≡◌, ℕ, List, [], ◌∷◌, ◌++◌, length, length-append, refl, ap, sym, ◌∙◌, subst, arith}
-use Rattle.std.specs.Prelude.{Some, slice_get}
-use Rattle.ac_automaton.specs.Builds.{IsRefused, too_many_states}
-use Rattle.ac_automaton.specs.Growths.{EndsPatterns, HasBranched, HasChild, HasSorted, IsReady, Source, grown_meaning, nodes_of, source_of, word}
-use Rattle.ac_automaton.specs.Tries.{miss}
+use Rattle.std.proofs.Common.{◌≡◌, ℕ, List, [], ◌∷◌, ◌++◌, length, length-append, refl, ap, sym, ◌∙◌, subst, arith, Some, slice_get}
+use Rattle.ac_automaton.specs.Prelude.{EndsPatterns, grown_meaning, HasBranched, HasChild, HasSorted, IsRefused, miss, nodes_of, Source, source_of, too_many_states, word}
+use Rattle.ac_automaton.specs.Growths.{IsReady}
 use Rattle.ac_automaton.proofs.Branched.{has-branched, link-due, still-meant, whole_state}
 use Rattle.ac_automaton.proofs.Branching.{IsBranching, IsBranchingFrom, IsRun, Site, branching-begins, child-deep, goes-on, has-child, string}
 use Rattle.ac_automaton.proofs.Child.{branching-goes_on}

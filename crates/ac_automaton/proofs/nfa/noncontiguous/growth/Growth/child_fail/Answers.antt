@@ -1,10 +1,7 @@
-use Rattle.std.proofs.Common.{◌≢◌, refl, sym, ◌∙◌, ap}
-use Rattle.std.specs.Prelude.{Some, slice_get}
+use Rattle.std.proofs.Common.{◌≢◌, refl, sym, ◌∙◌, ap, Some, slice_get}
 use Rattle.std.proofs.lemmas.Bool.{false≢true}
-use Rattle.ac_util.specs.declared.search.Anchored.TheVariants.{No}
-use Rattle.ac_util.specs.Node.{Node, step}
-use Rattle.ac_automaton.specs.Growths.{grown_meaning, nodes_of, word}
-use Rattle.ac_automaton.specs.Tries.{miss}
+use Rattle.ac_automaton.specs.Util.{No, Node, step}
+use Rattle.ac_automaton.specs.Prelude.{grown_meaning, miss, nodes_of, word}
 use Rattle.ac_automaton.proofs.Places.{None-tested, Some-tested}
 use Rattle.ac_automaton.proofs.ChildFails.{fail-pattern, fail-start, fail-step, fail-state}
 use Rattle.ac_automaton.proofs.nfa.noncontiguous.growth.Growth.child_fail.Goals as goal

@@ -1,11 +1,7 @@
-use Rattle.std.proofs.Common.{◌≡◌, ◌+◌, ◌<◌, ◌≤◌, Bool, ℕ, List, length, map, sym, ◌∙◌, refl, ap, subst, arith, Some}
-use Rattle.std.specs.Prelude.{slice_get}
+use Rattle.std.proofs.Common.{◌≡◌, ◌+◌, ◌<◌, ◌≤◌, Bool, ℕ, List, length, map, sym, ◌∙◌, refl, ap, subst, arith, Some, slice_get}
 use Rattle.std.proofs.lemmas.Option.{slice_get_read}
-use Rattle.ac_util.specs.declared.search.MatchKind.{MatchKind}
-use Rattle.ac_util.specs.Sameness.{plain}
-use Rattle.ac_automaton.specs.Builds.{IsRefused, too_many_states}
-use Rattle.ac_automaton.specs.Growths.{IsWhole, MayBranch, Source}
-use Rattle.ac_automaton.specs.Sorted.{IsOrder, Sorted, numbers}
+use Rattle.ac_automaton.specs.Util.{MatchKind, plain}
+use Rattle.ac_automaton.specs.Prelude.{IsOrder, IsRefused, IsWhole, MayBranch, numbers, Sorted, Source, too_many_states}
 use Rattle.ac_automaton.proofs.Places.{refused-by}
 use Rattle.ac_automaton.proofs.WholeTries.{IsGoingFrom, begun-order, going-on, going-ready, start-going, start-ready, sorted-plain, whole-few, whole-trie}
 use Rattle.ac_automaton.proofs.nfa.noncontiguous.growth.Growth.grow.Given.{Over}

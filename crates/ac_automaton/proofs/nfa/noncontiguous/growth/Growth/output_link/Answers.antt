@@ -1,6 +1,5 @@
 use Rattle.std.proofs.Common.{◌<◌, ◌≤◌, ℕ, length, subst, sym, arith, Some}
-use Rattle.ac_automaton.specs.declared.nfa.noncontiguous.state.State.{State}
-use Rattle.ac_automaton.specs.Tries.{Links}
+use Rattle.ac_automaton.specs.Prelude.{Links, State}
 use Rattle.ac_automaton.proofs.Grown.{state-read}
 use Rattle.ac_automaton.proofs.Linking.{link-far, link-here, link-behind}
 use Rattle.ac_automaton.proofs.nfa.noncontiguous.growth.Growth.output_link.Goals as goal

@@ -1,9 +1,6 @@
-use Rattle.std.proofs.Common.{map, subst}
-use Rattle.std.specs.Prelude.{MatchResult}
-use Rattle.ac_util.specs.declared.search.MatchKind.{MatchKind}
-use Rattle.ac_util.specs.Sameness.{plain}
-use Rattle.ac_automaton.specs.Builds.{IsRefused, too_many_states}
-use Rattle.ac_automaton.specs.Growths.{IsWhole}
+use Rattle.std.proofs.Common.{map, subst, MatchResult}
+use Rattle.ac_automaton.specs.Util.{MatchKind, plain}
+use Rattle.ac_automaton.specs.Prelude.{IsRefused, IsWhole, too_many_states}
 use Rattle.ac_automaton.proofs.nfa.noncontiguous.growth.TrieLists.of.Goals as goal
 
 pub grow-requires : goal.grow-requires

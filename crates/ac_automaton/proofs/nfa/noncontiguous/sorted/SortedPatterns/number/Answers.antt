@@ -1,7 +1,6 @@
 -- The view's numbers are those of the stored patterns.
-use Rattle.std.proofs.Common.{◌≡◌, ◌<◌, List, Some, length, ap, sym, ◌∙◌, arith}
+use Rattle.std.proofs.Common.{◌≡◌, ◌<◌, List, Some, length, ap, sym, ◌∙◌, arith, slice_get}
 use Rattle.std.proofs.lemmas.List.{length-map}
-use Rattle.std.specs.Prelude.{slice_get}
 use Rattle.ac_automaton.specs.Sorted.{Keyed, Sorted, numbers, keyed}
 use Rattle.ac_automaton.proofs.Sorting.{number_at}
 use Rattle.ac_automaton.proofs.nfa.noncontiguous.sorted.SortedPatterns.number.Goals as goal

@@ -1,8 +1,7 @@
 -- Only under LeftmostFirst are there patterns that take no part.
 use Rattle.std.proofs.Common.{map, sym, subst}
 use Rattle.std.proofs.lemmas.Result.{IfOk-weaker}
-use Rattle.ac_util.specs.declared.search.MatchKind.TheVariants.{Standard}
-use Rattle.ac_util.specs.Sameness.{plain}
+use Rattle.ac_automaton.specs.Util.{plain, Standard}
 use Rattle.ac_automaton.specs.Sorted.{AreSorted}
 use Rattle.ac_automaton.proofs.Keeping.{IsOrder-all}
 use Rattle.ac_automaton.proofs.nfa.noncontiguous.sorted.SortedPatterns.of.Goals as goal

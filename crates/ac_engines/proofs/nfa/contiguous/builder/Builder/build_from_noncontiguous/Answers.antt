@@ -1,8 +1,7 @@
 use Rattle.std.proofs.Common.{◌≡◌, ◌∙◌, ap, sym, subst, arith, length, ℕ, List}
-use Rattle.ac_automaton.specs.Common.{common_of}
 use Rattle.ac_automaton.specs.declared.nfa.noncontiguous.state.TheConstants.{ANCHORED_START, START}
-use Rattle.ac_engines.specs.Contiguous.{IsContiguous, ContiguousView}
-use Rattle.ac_engines.specs.Contiguous.Plans.{PackPlan, places_of}
+use Rattle.ac_automaton.specs.Prelude.{common_of}
+use Rattle.ac_engines.specs.Prelude.{ContiguousView, IsContiguous, PackPlan, places_of}
 use Rattle.ac_engines.proofs.PackedBuilding.{packed-same, read-place, starts-placed}
 use Rattle.ac_engines.proofs.nfa.contiguous.builder.Builder.build_from_noncontiguous.Goals as goal
 

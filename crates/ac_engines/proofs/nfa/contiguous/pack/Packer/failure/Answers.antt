@@ -1,11 +1,7 @@
-use Rattle.std.proofs.Common.{◌≡◌, ap, sym, subst, arith, ◌∙◌, ◌∷◌, Some}
-use Rattle.std.specs.Prelude.{slice_get}
+use Rattle.std.proofs.Common.{◌≡◌, ap, sym, subst, arith, ◌∙◌, ◌∷◌, Some, slice_get}
 use Rattle.ac_util.specs.Node.{failure}
-use Rattle.ac_automaton.specs.Automata.{plain_of}
-use Rattle.ac_automaton.specs.Readers.{AreNodes}
-use Rattle.ac_automaton.specs.Tries.{Trie}
-use Rattle.ac_engines.specs.Contiguous.Plans.{PackPlan}
-use Rattle.ac_engines.specs.Contiguous.Packs.{Packer}
+use Rattle.ac_automaton.specs.Prelude.{AreNodes, plain_of, Trie}
+use Rattle.ac_engines.specs.Prelude.{Packer, PackPlan}
 use Rattle.ac_engines.proofs.StateSpellings.{failure-none, failure-spelled}
 use Rattle.ac_engines.proofs.nfa.contiguous.pack.Packer.failure.Goals as goal
 

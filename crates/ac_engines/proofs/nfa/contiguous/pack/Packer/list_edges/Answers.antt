@@ -1,9 +1,7 @@
 use Rattle.std.proofs.Common.{ap, sym, subst, arith, ◌∙◌, Some, take_all, length}
 use Rattle.ac_util.specs.Classes.{class_at}
-use Rattle.ac_automaton.specs.Readers.{AreNodes, IsOwn, own_bytes}
-use Rattle.ac_automaton.specs.Tries.{Trie}
-use Rattle.ac_engines.specs.Contiguous.Plans.{PackPlan}
-use Rattle.ac_engines.specs.Contiguous.Packs.{Packer, state_spelling}
+use Rattle.ac_automaton.specs.Prelude.{AreNodes, IsOwn, own_bytes, Trie}
+use Rattle.ac_engines.specs.Prelude.{Packer, PackPlan, state_spelling}
 use Rattle.ac_engines.proofs.StateSpellings.{edges-count, edges-next, own-numbered, string-of}
 use Rattle.ac_engines.proofs.nfa.contiguous.pack.Packer.list_edges.Goals as goal
 

@@ -1,5 +1,4 @@
-use Rattle.std.proofs.Common.{◌≡◌, List, take, Some}
-use Rattle.std.specs.Prelude.{slice_get}
+use Rattle.std.proofs.Common.{◌≡◌, List, take, Some, slice_get}
 use Rattle.ac_util.specs.Node.{Node}
 use Rattle.ac_engines.specs.Contiguous.Packs.{AreReady, state_spelling}
 use Rattle.ac_engines.proofs.nfa.contiguous.pack.Packer.list_edges.Given as goal

@@ -2,10 +2,8 @@ use Rattle.std.proofs.Common.{◌≡◌, ℕ, ◌++◌, ◌∷◌, [], List, len
 use Rattle.std.proofs.lemmas.List.{append_assoc, append-nil}
 use Rattle.ac_util.specs.declared.search.Anchored.TheVariants.{No}
 use Rattle.ac_automaton.specs.declared.automaton.overlap.MatchRest.{MatchRest}
-use Rattle.ac_automaton.specs.Automata.{IsState}
-use Rattle.ac_automaton.specs.Tries.{IsTrieState, Trie, stands-lists}
-use Rattle.ac_engines.specs.Contiguous.Plans.{PackPlan, packed_of, places_of}
-use Rattle.ac_engines.specs.Contiguous.Packs.{Packer, anchored_of}
+use Rattle.ac_automaton.specs.Prelude.{IsState, IsTrieState, stands-lists, Trie}
+use Rattle.ac_engines.specs.Prelude.{anchored_of, packed_of, Packer, PackPlan, places_of}
 use Rattle.ac_engines.proofs.Listing.{rest_of}
 use Rattle.ac_engines.proofs.StateSpellings.{matches-spelled}
 use Rattle.ac_engines.proofs.nfa.contiguous.pack.Packer.list_matches.Goals.{After-plan}

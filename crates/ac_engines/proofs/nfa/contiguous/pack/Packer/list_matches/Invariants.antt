@@ -1,10 +1,6 @@
-use Rattle.std.proofs.Common.{◌≡◌, ◌++◌, List, length, Some}
-use Rattle.std.specs.Prelude.{slice_get}
-use Rattle.ac_util.specs.declared.search.Anchored.TheVariants.{No}
-use Rattle.ac_util.specs.Node.{Node}
-use Rattle.ac_automaton.specs.Automata.{IsState, matches_of}
-use Rattle.ac_automaton.specs.Readers.{AreNodes}
-use Rattle.ac_automaton.specs.Tries.{IsTrieState}
+use Rattle.std.proofs.Common.{◌≡◌, ◌++◌, List, length, Some, slice_get}
+use Rattle.ac_automaton.specs.Util.{No, Node}
+use Rattle.ac_automaton.specs.Prelude.{AreNodes, IsState, IsTrieState, matches_of}
 use Rattle.ac_engines.proofs.Listing.{rest_of}
 use Rattle.ac_engines.proofs.nfa.contiguous.pack.Packer.list_matches.Given as goal
 

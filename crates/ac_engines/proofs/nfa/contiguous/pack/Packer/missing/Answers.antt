@@ -1,10 +1,8 @@
 use Rattle.std.proofs.Common.{ap, sym, inl, inr, arith, slice_index_or, ◌∙◌}
 use Rattle.std.proofs.lemmas.Bool.{cases_lt}
-use Rattle.ac_util.specs.Node.{is_leftmost}
-use Rattle.ac_util.specs.Sizes.{shortest_len}
+use Rattle.ac_automaton.specs.Util.{is_leftmost, shortest_len}
 use Rattle.ac_automaton.specs.Tries.{Trie}
-use Rattle.ac_engines.specs.Contiguous.Plans.{PackPlan}
-use Rattle.ac_engines.specs.Contiguous.Packs.{Packer}
+use Rattle.ac_engines.specs.Prelude.{Packer, PackPlan}
 use Rattle.ac_engines.proofs.Starts.{missing-dead, missing-start}
 use Rattle.ac_engines.proofs.StateSpellings.{missing-fails, missing-unanchored}
 use Rattle.ac_engines.proofs.nfa.contiguous.pack.Packer.missing.Goals.{else-is_leftmost-via-then-is_leftmost+else-min_pattern_len-eq0, else-is_leftmost-via-else-is_leftmost}

@@ -1,8 +1,7 @@
 use Rattle.std.proofs.Common.{List, ℕ, ◌++◌, ◌∙◌, ap}
 use Rattle.ac_util.specs.Classes.{alphabet_len}
 use Rattle.ac_util.proofs.ClassLists.{alphabet_len-few}
-use Rattle.ac_engines.specs.declared.nfa.contiguous.format.Format.TheVariants.{Dense}
-use Rattle.ac_engines.specs.Contiguous.Words.{spelled}
+use Rattle.ac_engines.specs.Prelude.{Dense, spelled}
 use Rattle.ac_engines.proofs.PackedStates.{are-packed, dead_spelling, words-long}
 use Rattle.ac_engines.proofs.nfa.contiguous.pack.Packer.pack.Goals as goal
 

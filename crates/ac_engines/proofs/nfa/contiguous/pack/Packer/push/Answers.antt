@@ -1,12 +1,7 @@
-use Rattle.std.proofs.Common.{◌≡◌, ◌++◌, ap, sym, subst, ◌∙◌, List, map, Some}
-use Rattle.std.specs.Prelude.{IfOk, slice_get}
+use Rattle.std.proofs.Common.{◌≡◌, ◌++◌, ap, sym, subst, ◌∙◌, List, map, Some, IfOk, slice_get}
 use Rattle.std.specs.List.Sorted.{IsStrictlyIncreasing}
-use Rattle.ac_util.specs.Classes.{alphabet_len}
-use Rattle.ac_util.specs.Node.{Node}
-use Rattle.ac_engines.specs.declared.nfa.contiguous.state.Edge.{Edge}
-use Rattle.ac_engines.specs.Contiguous.Plans.{MayPack, PackPlan}
-use Rattle.ac_engines.specs.Contiguous.Packs.{AreReady, Packer, state_spelling}
-use Rattle.ac_engines.specs.Contiguous.Sizes.{node_format}
+use Rattle.ac_automaton.specs.Util.{alphabet_len, Node}
+use Rattle.ac_engines.specs.Prelude.{AreReady, Edge, MayPack, node_format, Packer, PackPlan, state_spelling}
 use Rattle.ac_engines.proofs.StateSpellings.{spelled-by_parts, state-spells}
 use Rattle.ac_engines.proofs.nfa.contiguous.pack.Packer.push.Given.{Over}
 use Rattle.ac_engines.proofs.nfa.contiguous.pack.Packer.push.Goals.{After-alphabet_len}

@@ -1,9 +1,7 @@
-use Rattle.std.proofs.Common.{◌≡◌, ◌++◌, ap, sym, subst, ◌∙◌, arith, length, Some}
-use Rattle.std.specs.Prelude.{slice_get}
+use Rattle.std.proofs.Common.{◌≡◌, ◌++◌, ap, sym, subst, ◌∙◌, arith, length, Some, slice_get}
 use Rattle.std.specs.Cmp.{booleans_Decides}
 use Rattle.std.proofs.lemmas.Bool.{false≢true}
-use Rattle.ac_engines.specs.Contiguous.Plans.{HasWords, MayPack, PackPlan, has_matches}
-use Rattle.ac_engines.specs.Contiguous.Packs.{Packer, state_words}
+use Rattle.ac_engines.specs.Prelude.{has_matches, HasWords, MayPack, Packer, PackPlan, state_words}
 use Rattle.ac_engines.proofs.PlanSums.{has-words, named-below, plan-states}
 use Rattle.ac_engines.proofs.Pushing.{HasPushedUpTo, passed-over, pushed-all, pushed-next, pushed-none}
 use Rattle.ac_engines.proofs.nfa.contiguous.pack.Packer.push_where.Goals.{After-must-sid, then-is_match-front+in_ok-push, else-is_match-front}

@@ -1,10 +1,7 @@
 use Rattle.std.proofs.Common.{◌≡◌, ◌≤◌, length, refl, ap, sym, subst, ◌∙◌, arith}
 use Rattle.ac_util.specs.Node.{depth}
-use Rattle.ac_automaton.specs.Readers.{AreNodes, own_bytes}
-use Rattle.ac_automaton.specs.Tries.{Trie}
-use Rattle.ac_engines.specs.Contiguous.Formats.{format_of}
-use Rattle.ac_engines.specs.Contiguous.Plans.{PackPlan}
-use Rattle.ac_engines.specs.Contiguous.Sizes.{node_format}
+use Rattle.ac_automaton.specs.Prelude.{AreNodes, own_bytes, Trie}
+use Rattle.ac_engines.specs.Prelude.{format_of, node_format, PackPlan}
 use Rattle.ac_engines.proofs.InnerStates.{inner-long}
 use Rattle.ac_engines.proofs.nfa.contiguous.plan.Plan.format.Goals as goal
 

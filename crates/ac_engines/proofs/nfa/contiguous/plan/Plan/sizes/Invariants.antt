@@ -1,6 +1,5 @@
 use Rattle.std.proofs.Common.{◌≡◌, ◌+◌, ◌*◌, ◌≤◌, List, None, true, false}
-use Rattle.ac_util.specs.declared.primitives.TheConstants.{GREATEST}
-use Rattle.ac_util.specs.Node.{Node}
+use Rattle.ac_automaton.specs.Util.{GREATEST, Node}
 use Rattle.ac_engines.specs.Contiguous.Plans.{MayPack, size_of}
 use Rattle.ac_engines.proofs.PlanSums.{before}
 use Rattle.ac_engines.proofs.nfa.contiguous.plan.Plan.sizes.Given as goal

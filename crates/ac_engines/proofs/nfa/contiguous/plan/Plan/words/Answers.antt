@@ -1,9 +1,7 @@
 use Rattle.std.proofs.Common.{length, ap, sym, subst, ◌∙◌, arith}
 use Rattle.ac_util.specs.Classes.{alphabet_len}
-use Rattle.ac_automaton.specs.Readers.{AreNodes, own_bytes}
-use Rattle.ac_automaton.specs.Tries.{Trie}
-use Rattle.ac_engines.specs.Contiguous.Formats.{words_of_state}
-use Rattle.ac_engines.specs.Contiguous.Plans.{PackPlan}
+use Rattle.ac_automaton.specs.Prelude.{AreNodes, own_bytes, Trie}
+use Rattle.ac_engines.specs.Prelude.{PackPlan, words_of_state}
 use Rattle.ac_engines.proofs.MatchCounts.{own_bytes-few}
 use Rattle.ac_engines.proofs.WordCounts.{node_words-most}
 use Rattle.ac_engines.proofs.nfa.contiguous.plan.Plan.words.Goals as goal

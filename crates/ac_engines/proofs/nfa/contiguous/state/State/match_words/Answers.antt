@@ -1,5 +1,4 @@
-use Rattle.std.proofs.Common.{◌∙◌, List, ℕ, ap, sym, arith}
-use Rattle.std.specs.Prelude.{slice_index_or}
+use Rattle.std.proofs.Common.{◌∙◌, List, ℕ, ap, sym, arith, slice_index_or}
 use Rattle.ac_engines.proofs.Spellings.{dense-lists, has-failure, sparse-lists}
 use Rattle.ac_engines.proofs.nfa.contiguous.state.State.match_words.Goals as goal
 

@@ -1,7 +1,5 @@
 use Rattle.std.proofs.Common.{◌≡◌, ℕ, ◌*◌, drop, length}
-use Rattle.ac_engines.specs.declared.nfa.contiguous.format.Format.TheVariants.{Sparse}
-use Rattle.ac_engines.specs.declared.nfa.contiguous.state.TheConstants.{FAIL}
-use Rattle.ac_engines.specs.Contiguous.Words.{BeginsWith, Spelling, target_by}
+use Rattle.ac_engines.specs.Prelude.{BeginsWith, FAIL, Sparse, Spelling, target_by}
 use Rattle.ac_engines.proofs.nfa.contiguous.state.State.sparse_target.Given as goal
 
 -- the class isn't that of the transitions before those of the next word

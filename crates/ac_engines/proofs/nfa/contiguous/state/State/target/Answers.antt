@@ -1,5 +1,4 @@
-use Rattle.std.proofs.Common.{◌∙◌, List, ℕ, Some, ap, sym, arith}
-use Rattle.std.specs.Prelude.{slice_index_or}
+use Rattle.std.proofs.Common.{◌∙◌, List, ℕ, Some, ap, sym, arith, slice_index_or}
 use Rattle.ac_engines.specs.Contiguous.Words.{named, target_by}
 use Rattle.ac_engines.proofs.Spellings.{has-failure, named-none, named-some, leads-at, leads-one, is-dense, is-one, is-sparse}
 use Rattle.ac_engines.proofs.nfa.contiguous.state.State.target.Goals as goal

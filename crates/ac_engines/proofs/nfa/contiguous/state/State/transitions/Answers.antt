@@ -1,5 +1,4 @@
-use Rattle.std.proofs.Common.{◌≡◌, ◌+◌, ◌-◌, ◌∙◌, List, ℕ, length, take, drop, refl, ap, sym, arith}
-use Rattle.std.specs.Prelude.{slice_index_or}
+use Rattle.std.proofs.Common.{◌≡◌, ◌+◌, ◌-◌, ◌∙◌, List, ℕ, length, take, drop, refl, ap, sym, arith, slice_index_or}
 use Rattle.std.proofs.lemmas.List.{length-map}
 use Rattle.ac_engines.proofs.Spellings.{dense-lists, has-failure, is-one, is-sparse, leads-one, splits-at}
 use Rattle.ac_engines.proofs.Transitions.{dense-transitions, one-transition, sparse-targets, sparse-transitions}

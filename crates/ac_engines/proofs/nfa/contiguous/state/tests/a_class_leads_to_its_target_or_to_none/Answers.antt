@@ -1,6 +1,5 @@
 use Rattle.std.proofs.Common.{List, ℕ, subst, sym, arith}
-use Rattle.ac_engines.specs.declared.nfa.contiguous.format.Format.TheVariants.{Sparse}
-use Rattle.ac_engines.specs.Contiguous.Words.{BeginsWith}
+use Rattle.ac_engines.specs.Prelude.{BeginsWith, Sparse}
 use Rattle.ac_engines.proofs.Vectors.{five-named, five_edges, sparse-begins}
 use Rattle.ac_engines.proofs.nfa.contiguous.state.tests.a_class_leads_to_its_target_or_to_none.Goals as goal
 

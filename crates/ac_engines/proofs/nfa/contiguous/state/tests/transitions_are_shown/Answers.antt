@@ -1,6 +1,5 @@
 use Rattle.std.proofs.Common.{List, ℕ, subst, sym}
-use Rattle.ac_engines.specs.declared.nfa.contiguous.format.Format.TheVariants.{Dense}
-use Rattle.ac_engines.specs.Contiguous.Words.{BeginsWith}
+use Rattle.ac_engines.specs.Prelude.{BeginsWith, Dense}
 use Rattle.ac_engines.proofs.Vectors.{dense-begins, three_classes}
 use Rattle.ac_engines.proofs.nfa.contiguous.state.tests.transitions_are_shown.Goals as goal
 

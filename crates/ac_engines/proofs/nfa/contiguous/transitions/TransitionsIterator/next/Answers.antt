@@ -1,7 +1,6 @@
 use Rattle.std.proofs.Common.{List, Option, sym, subst, ◌∙◌}
 use Rattle.std.specs.Iterator.{YieldsFirst}
-use Rattle.ac_engines.specs.declared.nfa.contiguous.state.Edge.{Edge}
-use Rattle.ac_engines.specs.Contiguous.Words.{class_of_place}
+use Rattle.ac_engines.specs.Prelude.{class_of_place, Edge}
 use Rattle.ac_engines.proofs.Transitions.{first-edge, goes-on, none-left}
 use Rattle.ac_engines.proofs.nfa.contiguous.transitions.TransitionsIterator.next.Goals as goal
 
