@@ -66,7 +66,7 @@ module _ (trie : Trie) (nodes : List Node) where
         represents = reads is_trie s (get_or nodes s None) (slice_get-get_or nodes s None (omega arith)) t is;
       }
 
-  -- what a state tells that stands for a node
+  -- what a state says that stands for a node
   module _ (s : ℕ) (u : Node) (t : State) (r : Represents (meaning_of trie nodes) s u t) where
     -- its transitions are by the bytes that lead on
     own-is : transition_bytes (transitions_of trie.transitions t) ≡ own_bytes trie.built u

@@ -19,7 +19,7 @@ pub record EngineSettings : Type 0 where
 abbrev pub usual_engine_settings : EngineSettings
 usual_engine_settings = record { kind = Standard; fold = false; prefilter = true }
 
--- a trie with failure links over these patterns, which has both starts
+-- a noncontiguous NFA over these patterns, which has both starts
 abbrev pub engine_built_by : EngineSettings → List (List ℕ) → Built
 engine_built_by settings patterns = record {
   patterns = patterns;

@@ -1,4 +1,4 @@
--- What the readers of a trie with failure links tell: the node of each state number, and its own transitions.
+-- What the readers of a noncontiguous NFA return: the node of each state number, and its own transitions.
 use Rattle.std.specs.Prelude.{◌≡◌, ℕ, ◌<◌, Bool, false, List, [], ◌∷◌, ◌++◌, length, filter, slice_get, None, Some}
 use Rattle.std.specs.List.{range_with_len}
 use Rattle.ac_automaton.specs.Util.{Built, is_node, Node, plain_byte}

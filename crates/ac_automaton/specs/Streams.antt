@@ -97,7 +97,7 @@ pub record FailsToFill (old new : Streaming) (reader new_reader : Reading) (e : 
   pub reads : FailsToRead (length old.bytes) reader new_reader [] e
   pub same : new ≡ record old { front = new.front; phase = Failed }
 
--- a read was made, which tells whether some bytes came
+-- a read was made, which says whether some bytes came
 abbrev pub Fills : Bool → Streaming → Result Bool StreamError → Streaming → Reading → Reading → Type 0
 Fills ends old result new reader new_reader =
     MatchResult result

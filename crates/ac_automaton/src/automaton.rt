@@ -49,7 +49,7 @@ pub trait Automaton {
     type Memory: Allocator;
 
     /// How many looks at states a search may take for each byte that it reads, on the whole: 2 where failed
-    /// transitions are followed one after another, 1 in a table.
+    /// transitions are followed one after another, 1 by a DFA.
     const LOOKS: usize;
 
     ghost LOOKS: { ℕ };

@@ -1,4 +1,4 @@
--- A table whose rows are laid out and filled.
+-- A DFA whose rows are laid out and filled.
 use Rattle.std.proofs.Common.{◌≡◌, ◌≢◌, ◌⊎◌, inl, inr, ℕ, zero, suc, ◌+◌, ◌-◌, ◌*◌, ◌^◌, ◌<◌, ◌≤◌, Bool, true, false, List, [], ◌∷◌, length, slice_index_or, refl, ap, sym, ◌∙◌, arith, Some, None}
 use Rattle.std.proofs.lemmas.Option.{slice_get_within}
 use Rattle.std.proofs.lemmas.Bool.{cases_lt, le-ltb}
@@ -14,7 +14,7 @@ use Rattle.ac_engines.proofs.Owning.{row-room}
 use Rattle.ac_engines.proofs.RowLists.{anchored_shift-rows}
 use Rattle.ac_engines.proofs.StateRows.{rows-apart}
 
--- the classes by which a table steps are those of all bytes
+-- the classes by which a DFA steps are those of all bytes
 classes_by-AreClasses : (byte_classes fold : Bool) (patterns : List (List ℕ))
     → AreClasses (classes_by byte_classes fold patterns)
 classes_by-AreClasses true fold patterns = classes_of-AreClasses fold patterns
@@ -38,13 +38,13 @@ no-refusal : (start_kind : StartKind) (classes : List ℕ) (states : ℕ)
 no-refusal start_kind classes states last =
     rw (le-ltb GREATEST ((table_rows start_kind states - 1) * stride classes) last) refl
 
--- the classes of a table have room in its rows, and set each byte of a pattern apart
+-- the classes of a DFA have room in its rows, and set each byte of a pattern apart
 pub record HasClasses (built : Built) (classes : List ℕ) (exponent : ℕ) : Type 0 where
   pub are : AreClasses classes
   pub apart : SetsApart built.fold built.patterns classes
   pub room : alphabet_len classes ≤ 2 ^ exponent
 
--- those by which a table steps do
+-- those by which a DFA steps do
 has-classes : (built : Built) (byte_classes : Bool) (classes : List ℕ) (exponent : ℕ)
     → classes ≡ classes_by byte_classes built.fold built.patterns → exponent ≡ stride2 classes
     → HasClasses built classes exponent
@@ -236,6 +236,6 @@ module _ (trie : Trie) (start_kind : StartKind) (classes : List ℕ) (exponent :
                     ∙ anchored_shift-rows start_kind anchored first.0 (2 ^ exponent),
               )
 
-      -- and the layout tells which of them have matches
+      -- and the layout says which of them have matches
       pub has-matches-among : HasMatchesAmong table first end
       has-matches-among = record { early = layout.early; late = layout.late; starts = layout.starts }

@@ -1,4 +1,4 @@
--- A walk along the failure targets of packed words: it keeps where the byte leads at last, and counts its looks.
+-- A walk along the failure targets of a contiguous NFA: it keeps where the byte leads at last, and counts its looks.
 use Rattle.std.proofs.Common.{◌≡◌, ◌≢◌, ℕ, ◌+◌, ◌<◌, ◌≤◌, List, drop, length, refl, ap, subst, sym, ◌∙◌, arith, Some, None}
 use Rattle.ac_automaton.specs.Util.{alphabet_len, Counts, depth, GREATEST, IsNode, more_looks, No, Node, plain_byte, Yes}
 use Rattle.ac_util.specs.declared.search.Anchored.{Anchored}

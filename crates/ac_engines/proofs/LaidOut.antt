@@ -1,4 +1,4 @@
--- A table whose states all have their rows is laid out.
+-- A DFA whose states all have their rows is laid out.
 use Rattle.std.proofs.Common.{◌≡◌, inl, inr, ℕ, ◌+◌, ◌*◌, ◌/◌, ◌<◌, ◌≤◌, List, [], length, slice_index_or, ap, sym, ◌∙◌, arith, Some, None, slice_get}
 use Rattle.std.proofs.lemmas.List.{get_or_append_left, get_or_past}
 use Rattle.std.proofs.lemmas.Option.{slice_get_within}

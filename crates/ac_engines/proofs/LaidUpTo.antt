@@ -29,7 +29,7 @@ pub record Plan : Type 0 where
   pub nodes : List Node
   pub stride : ℕ
 
--- the plan of a table, where it is known which nodes the states of the trie stand for
+-- the plan of a DFA, where it is known which nodes the states of the trie stand for
 abbrev pub plan_of : Trie → StartKind → ℕ → List Node → Plan
 plan_of trie start_kind stride2 nodes = record {
   start_kind = start_kind;

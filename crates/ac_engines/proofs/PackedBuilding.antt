@@ -1,4 +1,4 @@
--- What a build of packed words has made.
+-- What a build of a contiguous NFA has made.
 use Rattle.std.proofs.Common.{◌≡◌, ℕ, ◌<◌, List, length, ap, arith, sym, ◌∙◌, slice_index_or}
 use Rattle.std.proofs.lemmas.Grind.{get_or_default_zero}
 use Rattle.std.proofs.lemmas.Option.{slice_get_within}

@@ -1,4 +1,4 @@
--- Where a state of packed words leads, by the node that it stands for.
+-- Where a state of a contiguous NFA leads, by the node that it stands for.
 use Rattle.std.proofs.Common.{◌≡◌, ◌≢◌, ℕ, ◌+◌, ◌<◌, Bool, true, false, List, [], ◌∷◌, ◌++◌, ◌⊎◌, inl, inr, refl, ap, sym, ◌∙◌, arith, Some, None, ◌&&◌, if◌then◌else◌, slice_index_or}
 use Rattle.std.proofs.lemmas.Bool.{cond-true, cond-false}
 use Rattle.std.proofs.lemmas.List.Elements.{All-map, Contains-get_or}
@@ -29,7 +29,7 @@ module _ (p : ContiguousView) (at : Places) (h : IsContiguous p at) where
   own-none : (w : List ℕ) (b : ℕ) → leads_on p.built (Some w) b ≡ false → own (Some w) b ≡ None
   own-none w b none = cond-false (leads_on p.built (Some w) b) (Some (w ++ plain_byte p.built.fold b ∷ [])) None none
 
-  -- what a target tells that isn't FAIL
+  -- what a target says that isn't FAIL
   pub record Leads (anchored : Anchored) (v : Node) (b : ℕ) : Type 0 where
     pub number : target_of p at anchored v b ≡ number_at at anchored (step_of p.built anchored v b)
     pub looks : looks_of 2 p.built anchored v b ≡ 1

@@ -1,4 +1,4 @@
--- The rows of a table, filled one after another.
+-- The rows of a DFA, filled one after another.
 use Rattle.std.proofs.Common.{◌≡◌, ◌≢◌, inl, inr, ℕ, zero, suc, ◌+◌, ◌<◌, ◌≤◌, List, length, slice_index_or, refl, ap, sym, ◌∙◌, arith, Some, None, slice_get}
 use Rattle.std.proofs.lemmas.Bool.{cases_lt}
 use Rattle.std.proofs.lemmas.Option.{slice_get_within}
@@ -141,7 +141,7 @@ module _ (f : Filling) (nodes : List Node) (size s : ℕ) (w : List ℕ) (h : Ha
           filled-beside p (narrow f nodes size h.may) No (Some w) (row_at p Yes (Some w)) f.stride between new
           (inl (let rows = both-rows both in omega arith)) second.beside first.filled
 
--- a table for one start has rows for its searches alone
+-- a DFA for one start has rows for its searches alone
 pub only-unanchored : (kind : StartKind) → kind ≡ Unanchored → (other : Anchored) → start_refusal kind other ≡ None
     → other ≡ No
 only-unanchored kind is No supported = refl
@@ -153,7 +153,7 @@ only-anchored kind is Yes supported = refl
 only-anchored kind is No supported = let refused = rw is at supported in absurd cc
 
 module _ (f : Filling) (nodes : List Node) (size : ℕ) (may : MayFill f nodes size) where
-  -- a table with nothing but dead entries has the rows of the first two states filled
+  -- a DFA with nothing but dead entries has the rows of the first two states filled
   pub filled-none : (entries : List ℕ) → length entries ≡ size → ((k : ℕ) → slice_index_or entries k 0 ≡ 0)
       → FilledUpTo f nodes size 2 entries
   filled-none entries long blank = record {

@@ -1,4 +1,4 @@
--- The rows of a node and their lists, by the starts that a table has.
+-- The rows of a node and their lists, by the starts that a DFA has.
 use Rattle.std.proofs.Common.{◌≡◌, ◌⊎◌, inl, inr, ℕ, zero, suc, ◌+◌, ◌-◌, ◌*◌, ◌<◌, ◌≤◌, List, [], ◌∷◌, ◌++◌, length, slice_index_or, refl, ap, sym, ◌∙◌, arith, Some, None}
 use Rattle.std.proofs.Math.Nat.{mul-div_cancel}
 use Rattle.std.proofs.lemmas.Nat.{mul-le}
@@ -57,7 +57,7 @@ none-left Both states = omega arith
 none-left Unanchored states = omega arith
 none-left AnchoredAlone states = omega arith
 
--- a table has the first four rows, and those of each other state
+-- a DFA has the first four rows, and those of each other state
 pub table_rows-each : (start_kind : StartKind) (states : ℕ) → 4 ≤ states
     → table_rows start_kind states ≡ 4 + rows_each start_kind * (states - 4)
 table_rows-each Both states enough = omega (arith, enough)
@@ -135,7 +135,7 @@ module _ (built : Built) where
   first_lists-none AnchoredAlone none (suc (suc (suc zero))) h = refl
   first_lists-none start_kind none (suc (suc (suc (suc k)))) h = absurd (omega arith)
 
--- the number of a row that ends within a table is small where that of the last row is
+-- the number of a row that ends within a DFA is small where that of the last row is
 pub small-number : (start_kind : StartKind) (row last stride : ℕ) → row + rows_each start_kind ≤ last
     → (last - 1) * stride ≤ GREATEST → row * stride ≤ GREATEST
 small-number start_kind row last stride within small =

@@ -27,7 +27,7 @@ TakesFoldedWords patterns rows =
     map (λ row. packed_words (built_of Standard true patterns) row.0 (alphabet_len (classes_by row.1 true patterns)))
     rows ≡ map (λ row. row.2) rows
 
--- which starts there are, and how many entries a table has where bytes share classes
+-- which starts there are, and how many entries a DFA has where bytes share classes
 abbrev TakesEntries : MatchKind → List (List ℕ) → List (StartKind × ℕ) → Type 0
 TakesEntries kind patterns rows =
     map (λ row. table_rows row.0 (state_count kind (plain_of (built_of kind false patterns)))

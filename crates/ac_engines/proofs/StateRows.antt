@@ -1,4 +1,4 @@
--- Which states of a trie have rows in a table, and that these stand apart.
+-- Which states of a trie have rows in a DFA, and that these stand apart.
 use Rattle.std.proofs.Common.{◌≡◌, ◌≢◌, ◌⊎◌, inl, inr, ℕ, zero, suc, ◌+◌, ◌*◌, ◌<◌, ◌≤◌, List, [], ◌∷◌, length, slice_index_or, refl, ap, arith, Some, None, slice_get}
 use Rattle.std.proofs.lemmas.Option.{slice_get_within}
 use Rattle.ac_automaton.specs.Util.{Both, class_at, failure, MatchKind, No, Node, StartKind, Unanchored, Yes}

@@ -8,7 +8,7 @@ use Rattle.ac_automaton.specs.Util.{alphabet_len, Both, Built, class_at, IsNode,
 use Rattle.ac_util.specs.declared.search.StartKind.TheVariants.{Anchored as AnchoredAlone}
 use Rattle.ac_automaton.specs.Prelude.{built_as, CommonView, matches_of, plain_of, step_of}
 
--- what a table was built from, and whether to have a prefilter; the class of each byte, the exponent of the length of
+-- what a DFA was built from, and whether to have a prefilter; the class of each byte, the exponent of the length of
 -- a row, the entries of all rows, and the match list of each row up to the last that has one
 pub record DfaView : Type 0 where
   pub built : Built
@@ -43,7 +43,7 @@ abbrev pub number_of : (List ℕ → ℕ) → ℕ → Node → ℕ
 number_of place shift None = 0
 number_of place shift (Some w) = place w + shift
 
--- the rows of a table stand for nodes; `place` tells at which entry the first row of a string's node begins. Row 0 is
+-- the rows of a DFA stand for nodes; `place` says at which entry the first row of a string's node begins. Row 0 is
 -- the dead node's, row 1 is no node's, rows 2 and 3 are kept for the start, and those of all other nodes come after
 -- these; no two nodes share a row. At the class of a byte a row has the state after that byte, and past the classes
 -- the dead state, which is 0. The match list of a row has the matches of its node

@@ -34,7 +34,7 @@ const DEAD: usize = 0;
 /// Its table has a row for each state, and in it an entry for each class of bytes: the state where a byte of that
 /// class leads, with all failure links followed when it was built. So a search looks at one state for each byte. A
 /// state's number is that of the first entry of its row. First stand the rows of the dead state and of the starts,
-/// then those of match states, then the others: so one compare or two tell what a search has to know of a state.
+/// then those of match states, then the others: so one compare or two say what a search has to know of a state.
 /// This ports `dfa::DFA`.
 #[derive(Drop)]
 pub struct DFA<A: Allocator = Global> {

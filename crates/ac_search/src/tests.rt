@@ -132,7 +132,7 @@ fn same<T: PartialEq + Debug + Drop>(rt: &impl Abort, found: T, wanted: T) {
     assert_eq!(rt; found, wanted);
 }
 
-/// The same, and tells what the search was made by.
+/// The same, and says what the search was made by.
 fn same_by<T: PartialEq + Debug + Drop, B: Debug>(rt: &impl Abort, found: T, wanted: T, by: &B) {
     assert_eq!(rt; found, wanted, "{by:?}");
 }

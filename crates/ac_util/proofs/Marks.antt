@@ -11,7 +11,7 @@ use Rattle.ac_util.specs.Prefilters.Skip.{Needle}
 use Rattle.ac_util.proofs.Lists.{IsIn, IsIn-filter, IsIn-range, none-from_nil}
 use Rattle.ac_util.proofs.PlainListing.{range-more}
 
--- a test of its length tells whether a pattern is empty
+-- a test of its length says whether a pattern is empty
 pub is_empty-length : (p : List ℕ) → is_empty p ≡ (length p == 0)
 is_empty-length [] = refl
 is_empty-length (b ∷ p) = grind (arith, nat_tests)

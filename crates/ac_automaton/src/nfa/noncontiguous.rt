@@ -1,4 +1,4 @@
-//! A trie with failure links: small, and quickly built.
+//! A noncontiguous NFA: small, and quickly built.
 ghost use Rattle.std.specs.Prelude.{◌≡◌, ◌≢◌, IfSome, List, MatchResult, None};
 ghost use Rattle.std.proofs.Common.{inr, refl};
 ghost use Rattle.ac_automaton.specs.Util.{bytes_of, Node};

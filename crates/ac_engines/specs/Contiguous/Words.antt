@@ -96,7 +96,7 @@ pub record HasTargets (old : List ℕ) (edges : List Edge) (now : List ℕ) : Ty
   pub each : (class : ℕ) → class < length old
       → slice_index_or now class 0 ≡ target_by (slice_index_or old class 0) edges class
 
--- the transitions that a state's words tell, in ascending order of their classes; a dense state tells where each class
+-- the transitions that a state's words tell, in ascending order of their classes; a dense state says where each class
 -- leads
 abbrev pub transitions_of : Format → ℕ → Spelling → List Edge
 transitions_of Dense classes s =

@@ -1,11 +1,11 @@
--- Filling the rows of a table from a trie with failure links.
+-- Filling the rows of a DFA from a noncontiguous NFA.
 use Rattle.std.specs.Prelude.{◌≡◌, ◌≢◌, ◌⊎◌, ℕ, ◌+◌, ◌*◌, ◌<◌, ◌≤◌, List, [], ◌∷◌, ◌++◌, Contains, bytes_eq, length, slice_get, slice_index_or, if◌then◌else◌, Some, None}
 use Rattle.ac_util.specs.declared.search.Anchored.{Anchored}
 use Rattle.ac_automaton.specs.Util.{alphabet_len, Built, class_at, GREATEST, No, Node, plain_byte, SetsApart, start_refusal, StartKind, Yes}
 use Rattle.ac_automaton.specs.Prelude.{AreNodes, step_of, Trie}
 use Rattle.ac_engines.specs.Dfa.{anchored_shift, entry, number_of}
 
--- what a table is filled from: what it is built from, the class of each byte, how many entries a row has, which node
+-- what a DFA is filled from: what it is built from, the class of each byte, how many entries a row has, which node
 -- each state of the trie stands for, and the number of each state's first row
 pub record Sheet : Type 0 where
   pub built : Built
@@ -87,7 +87,7 @@ pub record Filling : Type 0 where
   pub stride : ℕ
   pub numbers : List ℕ
 
--- the sheet of a table, where it is known which nodes the states of the trie stand for
+-- the sheet of a DFA, where it is known which nodes the states of the trie stand for
 abbrev pub sheet_of : Filling → List Node → Sheet
 sheet_of f nodes = record {
   built = record f.trie.built { start_kind = f.start_kind };

@@ -1,4 +1,4 @@
--- Where the rows of a table stand, and what they list.
+-- Where the rows of a DFA stand, and what they list.
 use Rattle.std.specs.Prelude.{◌≡◌, ◌⊎◌, ℕ, ◌+◌, ◌-◌, ◌*◌, ◌/◌, ◌<◌, ◌≤◌, List, [], ◌∷◌, ◌++◌, length, slice_get, slice_index_or, Some, None}
 use Rattle.ac_util.specs.declared.search.Anchored.{Anchored}
 use Rattle.ac_automaton.specs.Util.{Both, Built, No, Node, start_refusal, StartKind, Unanchored, Yes}
@@ -7,7 +7,7 @@ use Rattle.ac_automaton.specs.Prelude.{AreNodes, matches_of, Trie}
 use Rattle.ac_engines.specs.Dfa.Filling.{AreLaid}
 use Rattle.ac_engines.specs.Dfa.{anchored_shift}
 
--- how many rows a table has for a trie of so many states: one for each, or for both starts two for each but the first
+-- how many rows a DFA has for a trie of so many states: one for each, or for both starts two for each but the first
 -- four
 abbrev pub table_rows : StartKind → ℕ → ℕ
 table_rows Both states = 2 * states - 4
@@ -65,7 +65,7 @@ HasPlaced start_kind built u row lists back new_lists new_back =
 abbrev pub row_list : List (List ℕ) → ℕ → ℕ → List ℕ
 row_list lists stride s = slice_index_or lists (s / stride) []
 
--- the rows of a table are laid out: the number of each state's first row, the match list of each row, and from which
+-- the rows of a DFA are laid out: the number of each state's first row, the match list of each row, and from which
 -- number up to which the states stand that have matches
 pub record IsLayout (built : Built) (stride size : ℕ) (nodes : List Node) (numbers : List ℕ) (lists : List (List ℕ))
     (first end : ℕ) : Type 0 where

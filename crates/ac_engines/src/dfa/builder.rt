@@ -202,7 +202,7 @@ impl Builder {
     }
 }
 
-/// Returns how many entries a table has with so many rows, each two to the power of `stride2` long.
+/// Returns how many entries a DFA has with so many rows, each two to the power of `stride2` long.
 ///
 /// The number of a state is that of the first entry of its row, so the limit is one on where the last row begins.
 /// This ports the size and the limit of upstream's `Builder::build_from_noncontiguous`.

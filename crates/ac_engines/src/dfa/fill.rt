@@ -1,4 +1,4 @@
-//! Filling the rows of a table.
+//! Filling the rows of a DFA.
 ghost use Rattle.std.specs.Prelude.{◌≡◌, ◌≢◌, ◌⊎◌, ◌&&◌, if◌then◌else◌, ℕ, ◌+◌, ◌<◌, ◌≤◌, List, [], Some, length, slice_index_or};
 ghost use Rattle.ac_automaton.specs.Util.{begins_with_pattern, GREATEST, is_leftmost, Node};
 ghost use Rattle.ac_automaton.specs.Prelude.{own_bytes, plain_of};
@@ -14,7 +14,7 @@ use ac_util::search::{Anchored, StartKind};
 use std::alloc::Allocator;
 use std::marker::Model;
 
-/// What the rows of a table are filled by.
+/// What the rows of a DFA are filled by.
 #[derive(Drop)]
 pub(super) struct Filler<'a, A: Allocator> {
     pub(super) nfa: &'a NFA<A>,
@@ -153,7 +153,7 @@ impl<'a, A: Allocator> Filler<'a, A> {
         }
     }
 
-    /// Fills all rows of a table that has nothing but dead entries.
+    /// Fills all rows of a DFA that has nothing but dead entries.
     pub(super) fn fill(&self, table: &mut [StateID])
         requires may { (nodes : List Node) × MayFill self.now nodes (length table.old) }
         requires blank { (k : ℕ) → slice_index_or table.old k 0 ≡ 0 }

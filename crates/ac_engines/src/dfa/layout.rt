@@ -1,4 +1,4 @@
-//! Where the rows of a table stand.
+//! Where the rows of a DFA stand.
 ghost use Rattle.std.specs.Prelude.{◌≡◌, ◌∷◌, [], ℕ, ◌+◌, ◌-◌, ◌*◌, ◌^◌, ◌≤◌, ◌<◌, IfOk, List, Some, length, slice_get};
 ghost use Rattle.ac_automaton.specs.Util.{AreBounds, GREATEST, Node, pieces, state_count};
 ghost use Rattle.ac_util.specs.declared.search.StartKind;
@@ -13,7 +13,7 @@ use ac_util::primitives::StateID;
 use ac_util::search::StartKind;
 use std::alloc::{AllocError, Allocator};
 
-/// Where the rows of a table stand, and their match lists.
+/// Where the rows of a DFA stand, and their match lists.
 #[derive(Drop)]
 pub(super) struct Layout<A: Allocator> {
     /// The number of the first row of each state of the trie.
@@ -26,7 +26,7 @@ pub(super) struct Layout<A: Allocator> {
 }
 
 impl<A: Allocator + Clone> Layout<A> {
-    /// Lays out the rows of a table with these starts, which have two to the power of `stride2` entries.
+    /// Lays out the rows of a DFA with these starts, which have two to the power of `stride2` entries.
     ///
     /// # Errors
     /// `AllocError` where a request for memory is refused.
@@ -162,7 +162,7 @@ fn rows_each(start_kind: StartKind) -> usize
     }
 }
 
-/// Returns how many rows a table with these starts has for a trie of so many states.
+/// Returns how many rows a DFA with these starts has for a trie of so many states.
 pub(super) fn table_rows(start_kind: StartKind, states: usize) -> usize
     requires first { FIRST_INNER ≤ states }
     requires few { states ≤ GREATEST + 1 }

@@ -11,7 +11,7 @@ use ac_util::search::{Anchored, StartKind};
 use std::alloc::{AllocError, Allocator};
 use std::mem::size_of;
 
-/// The match lists of the first rows of a table, and where in one list of patterns each begins and the last one
+/// The match lists of the first rows of a DFA, and where in one list of patterns each begins and the last one
 /// ends. The rows after have none.
 #[derive(Clone, Drop)]
 pub(super) struct MatchLists<A: Allocator> {
@@ -82,7 +82,7 @@ impl<A: Allocator> MatchLists<A> {
         Ok(())
     }
 
-    /// Adds the lists of a state's rows in a table with these starts: that of unanchored searches, that of anchored
+    /// Adds the lists of a state's rows in a DFA with these starts: that of unanchored searches, that of anchored
     /// ones, or the one and then the other.
     ///
     /// # Errors

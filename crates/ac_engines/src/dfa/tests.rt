@@ -1,4 +1,4 @@
-//! The sizes of tables that were built.
+//! The sizes of DFAs that were built.
 use super::Builder;
 use ac_automaton::nfa::noncontiguous;
 use ac_util::search::MatchKind::{LeftmostFirst, Standard};

@@ -37,7 +37,7 @@ pub use format::{Format, check_words, format_of, state_words};
 ///
 /// It is made to take little memory, and a search looks at states at most twice for each byte that it reads. A
 /// state's number is the place of its first word. First stands the dead state, then those that have matches, then the
-/// others: so compares of the number tell what a search has to know of a state. It serves unanchored and anchored
+/// others: so compares of the number say what a search has to know of a state. It serves unanchored and anchored
 /// searches. This ports `nfa::contiguous::NFA`.
 #[derive(Drop)]
 pub struct NFA<A: Allocator = Global> {

@@ -66,7 +66,7 @@ impl Default for AhoCorasickBuilder {
 
 impl AhoCorasickBuilder {
     /// Returns a builder with the usual settings: `MatchKind::Standard`, unanchored searches alone, case
-    /// counts, the engine is chosen, a contiguous automaton's states of fewer than two bytes are dense, bytes that need
+    /// counts, the engine is chosen, a contiguous NFA's states of fewer than two bytes are dense, bytes that need
     /// not be told apart share a class, and there is a prefilter where the patterns have one.
     pub fn new() -> AhoCorasickBuilder
         ensures { result ≡ usual_settings }
@@ -126,11 +126,11 @@ impl AhoCorasickBuilder {
         self
     }
 
-    /// Sets which states of a contiguous automaton are dense, so that they have a target for each class of bytes: those
+    /// Sets which states of a contiguous NFA are dense, so that they have a target for each class of bytes: those
     /// of strings shorter than this many bytes. States of more than 127 transitions, the dead state and the starts are
     /// dense always. It is 2 unless set. The other engines have no use for it.
     ///
-    /// It changes no answer of a search. Where no engine was named, a contiguous automaton may be too large with more
+    /// It changes no answer of a search. Where no engine was named, a contiguous NFA may be too large with more
     /// dense states, and then the noncontiguous one serves.
     pub fn dense_depth(&mut self, depth: usize) -> &mut AhoCorasickBuilder
         ensures value { result.now ≡ record self.old { dense_depth = depth } }
@@ -140,7 +140,7 @@ impl AhoCorasickBuilder {
         self
     }
 
-    /// Sets whether bytes that need not be told apart share a class, so that a table or a contiguous automaton takes
+    /// Sets whether bytes that need not be told apart share a class, so that a DFA or a contiguous NFA takes
     /// less memory. They do unless set.
     ///
     /// It changes no answer of a search. Where no engine was named, an engine may be too large without classes, and then

@@ -676,7 +676,7 @@ fn an_engine_is_chosen(rt: HostRuntime) -> Result<(), Fail> {
     Ok(())
 }
 
-/// A number of patterns, a start kind, and whether a table and a contiguous automaton fit, with the engine.
+/// A number of patterns, a start kind, and whether a DFA and a contiguous NFA fit, with the engine.
 type Fitting = (usize, StartKind, bool, bool, AhoCorasickKind);
 
 const FITTINGS: [Fitting; 6] = [

@@ -1,4 +1,4 @@
-//! Builds of a trie with failure links.
+//! Builds of a noncontiguous NFA.
 ghost use Rattle.std.specs.Prelude.{◌≡◌, MatchResult};
 ghost use Rattle.ac_util.specs.Borrowed.{bytes_of};
 ghost use Rattle.ac_automaton.specs.Builds.{IsEngineBuilt, RefusesBy, state_refusal, usual_engine_settings};

@@ -1,4 +1,4 @@
-//! Growing a trie with failure links, breadth first.
+//! Growing a noncontiguous NFA, breadth first.
 //!
 //! A state is the range of the sorted patterns that have its string as a prefix. First in the range stand the
 //! patterns that equal the string; after them each run of patterns with one more byte in common is a child. So

@@ -1,4 +1,4 @@
-//! The states of a trie with failure links, and the walks over them.
+//! The states of a noncontiguous NFA, and the walks over them.
 ghost use Rattle.std.specs.Prelude.{◌≡◌, ◌≢◌, ℕ, ◌+◌, ◌-◌, ◌<◌, ◌≤◌, [], IfSome, Some, length, slice_get, slice_index};
 ghost use Rattle.std.specs.List.Sorted.{IsStrictlyIncreasing};
 ghost use Rattle.ac_automaton.specs.Util.{more_looks, Node, plain_byte, step};
@@ -156,7 +156,7 @@ pub(crate) struct TrieSlices<'a> {
 /// Returns where a byte leads from a state, and counts a look at each state on the way.
 ///
 /// An unanchored search goes on along the failure targets as long as there is no transition by the byte. Each
-/// target is a shorter string, so n bytes take at most 2n looks. At the start a root table tells where it goes on.
+/// target is a shorter string, so n bytes take at most 2n looks. At the start a root table says where it goes on.
 #[inline]
 pub(crate) fn follow(
     trie: TrieSlices<'_>,

@@ -135,7 +135,7 @@ loop-states-preserved c = λ g u same h.
     c.loop-states.at c.index-states-as_usize.result (rw c.as_usize-in-loop-states.ensures.value at c.index-states-as_usize.is)
     c.in_default-look.ensures.target c.args.anchored is_no (omega arith) (c.loop-states.invariant g u same h)
 
--- at the start a root table tells where an unanchored walk ends
+-- at the start a root table says where an unanchored walk ends
 module _ (c : After-look_in_root) where
   at_start : c.loop-states.at ≡ START
   at_start = sym c.as_usize.ensures.value ∙ c.if-as_usize-eq-START.true
