@@ -6,7 +6,7 @@ use Rattle.std.proofs.lemmas.Option.{slice_get_within}
 use Rattle.ac_automaton.specs.Util.{MatchKind, plain_byte}
 use Rattle.ac_util.proofs.Lists.{IsIn, IsOrdered}
 use Rattle.ac_automaton.specs.Prelude.{AreStates, byte_at, EndsPatterns, grown_meaning, HasChild, IsGrown, IsNext, IsRangeOf, key_at, Keyed, nodes_of, QueuedState, Source, State, Transition, Waits, word}
-use Rattle.ac_automaton.specs.Growths.{IsReady}
+use Rattle.ac_automaton.specs.Growths.{IsQueueReady}
 use Rattle.ac_automaton.proofs.Grown.{AreStates-more, IsGrown-later, nodes-inner, nodes-more}
 use Rattle.ac_automaton.proofs.Orders.{rank}
 use Rattle.ac_util.proofs.Prefixes.{starts_with-length}
@@ -59,7 +59,7 @@ pub record Site : Type 0 where
   pub transitions : List Transition
   pub queue : List QueuedState
   pub queued : QueuedState
-  pub ready : IsReady kind fold patterns sorted states transitions queue queued
+  pub ready : IsQueueReady kind fold patterns sorted states transitions queue queued
   pub patterns_end : ℕ
   pub ends : EndsPatterns sorted queued patterns_end
 
@@ -250,7 +250,7 @@ abbrev pub IsBranchingFrom : Source → List Transition → List QueuedState →
     → List Transition → List QueuedState → Type 0
 IsBranchingFrom from transitions queue queued end place new_transitions new_queue =
     (patterns : List (List ℕ))
-    (ready : IsReady from.kind from.sorted.fold patterns from.sorted.patterns from.states transitions queue
+    (ready : IsQueueReady from.kind from.sorted.fold patterns from.sorted.patterns from.states transitions queue
     queued)
     (ends : EndsPatterns from.sorted.patterns queued end)
     → IsBranching (record {

@@ -4,7 +4,7 @@ use Rattle.std.specs.Option.{is_some}
 use Rattle.std.proofs.lemmas.Bool.{cases_lt, false≢true}
 use Rattle.ac_util.specs.declared.search.Anchored.{Anchored}
 use Rattle.ac_automaton.specs.Util.{Built, is_leftmost, MatchKind, Node, Occurrence, order_of, pick, Span, Standard}
-use Rattle.ac_util.proofs.SearchLoop.{GoesOn}
+use Rattle.ac_util.proofs.SearchLoop.{SearchGoesOn}
 use Rattle.ac_automaton.specs.Prelude.{found_at, in_memory, IsAnswered, IsDecided, matches_of, NoMatchBetween, place_of, Scan}
 use Rattle.ac_automaton.proofs.FindLoop.{dead-stays, found-end, goes_on-by, node_at, order, picked-final, picked-newly, picked-still, q, up_to}
 use Rattle.ac_automaton.proofs.ReadOn.{node-start}
@@ -32,7 +32,7 @@ module _ (s : Scan) (stops : Bool) (bytes : List ℕ) (span : Span) where
 
   -- what was picked where it began to read ahead stays picked as long as no match is reached
   module _ {from at : ℕ} (ordered : span.start ≤ from) (inside : at ≤ length bytes)
-      (r : Option Occurrence) (goes : GoesOn s.built.kind (order s stops bytes span) r)
+      (r : Option Occurrence) (goes : SearchGoesOn s.built.kind (order s stops bytes span) r)
       (picked : r ≡ picked_to from) (quiet : NoMatchBetween s (in_memory bytes span) from at) where
     still-for : (n : ℕ) → from + n < at → r ≡ picked_to (from + n)
     still-for zero up = let e : from ≡ from + 0 = omega arith in picked ∙ ap picked_to e
@@ -73,7 +73,7 @@ module _ (s : Scan) (stops : Bool) (bytes : List ℕ) (span : Span) where
 
   -- a find that stops at the first match has it, or the find goes on
   kept-or-goes : (kind : MatchKind) (t : Bool) (r : Option Occurrence) → (t ≡ false → is_leftmost kind ≡ true)
-      → ((order_of kind t ≡ Standard) × ((m : Occurrence) × (r ≡ Some m))) ⊎ GoesOn kind (order_of kind t) r
+      → ((order_of kind t ≡ Standard) × ((m : Occurrence) × (r ≡ Some m))) ⊎ SearchGoesOn kind (order_of kind t) r
   kept-or-goes kind true (Some m) leftmost = inl (refl, (m, refl))
   kept-or-goes kind true None leftmost = inr (goes_on-by kind true None leftmost (λ _. refl))
   kept-or-goes kind false r leftmost = inr (goes_on-by kind false r leftmost (λ no. absurd (cc)))

@@ -6,8 +6,8 @@ use Rattle.ac_util.specs.declared.search.Anchored.{Anchored}
 use Rattle.ac_util.proofs.Beginning.{within, ends_by, pick-within}
 use Rattle.ac_util.proofs.Walks.{pick-in_span}
 use Rattle.ac_util.proofs.OneLonger.{pick-empty_none, pick-empty_some, none-past_end}
-use Rattle.ac_util.proofs.SearchLoop.{GoesOn, pick-goes_on, pick-found, pick-stays_dead}
-use Rattle.ac_automaton.specs.Prelude.{found_at, HasSearched, in_memory, IsAt, IsDecided, matches_of, most_looks, node, Picking, picking_by, place_of, ReadsTo, Scan, ScansTo, search_through, Tells, Work}
+use Rattle.ac_util.proofs.SearchLoop.{SearchGoesOn, pick-goes_on, pick-found, pick-stays_dead}
+use Rattle.ac_automaton.specs.Prelude.{found_at, HasSearched, in_memory, IsAt, IsDecided, matches_of, most_looks, node, Picking, picking_by, place_of, ReadsTo, Scan, ScansTo, search_through, HasReadMatch, Work}
 use Rattle.ac_automaton.proofs.ReadOn.{read-nothing, read-scanned}
 
 -- the dead node finds nothing
@@ -27,13 +27,13 @@ found-end built a u end m e = by (slice_get (matches_of built a u) 0) e
 -- a find that stops at the first match can go on as long as it has none; any other prefers what starts first
 pub goes_on-by : (kind : MatchKind) (stops : Bool) (r : Option Occurrence)
     → (stops ≡ false → is_leftmost kind ≡ true) → (stops ≡ true → r ≡ None)
-    → GoesOn kind (order_of kind stops) r
+    → SearchGoesOn kind (order_of kind stops) r
 goes_on-by kind true r leftmost none = inr (refl, none refl)
 goes_on-by kind false r leftmost none = inl (leftmost refl, refl)
 
 -- so where one goes on that picks as Standard does it has found nothing
 pub goes_on-none : (kind order : MatchKind) (r : Option Occurrence) (P : Occurrence → Type 0)
-    → GoesOn kind order r → order ≡ Standard → IfSome r P
+    → SearchGoesOn kind order r → order ≡ Standard → IfSome r P
 goes_on-none kind order r P (inl leftmost) standard =
     let other = sym leftmost.0 ∙ ap is_leftmost (sym leftmost.1 ∙ standard) in absurd (false≢true (sym other))
 goes_on-none kind order r P (inr first) standard =
@@ -107,7 +107,7 @@ module _ (s : Scan) (stops : Bool) (bytes : List ℕ) (span : Span) where
   module _ {state at : ℕ} {work new_work : Work} (is_at : IsAt s (in_memory bytes span) state at)
       (scans : ScansTo s (in_memory bytes span) span.start work at new_work) where
     -- each byte of what was picked was read
-    picked-told : (r : Option Occurrence) → r ≡ pick order (up_to at) → IfSome r (Tells span.start work new_work)
+    picked-told : (r : Option Occurrence) → r ≡ pick order (up_to at) → IfSome r (HasReadMatch span.start work new_work)
     picked-told None e = tt
     picked-told (Some m) e =
         let h = (pick-in_span order (up_to at) m (sym e)).to_high in
@@ -139,13 +139,13 @@ module _ (s : Scan) (stops : Bool) (bytes : List ℕ) (span : Span) where
 
   -- one more byte is read, after r was picked
   module _ (at : ℕ) (r : Option Occurrence) (ordered : span.start ≤ at) (room : at < length bytes)
-      (picked : r ≡ pick order (up_to at)) (goes : GoesOn s.built.kind order r) where
+      (picked : r ≡ pick order (up_to at)) (goes : SearchGoesOn s.built.kind order r) where
     -- what is found where the byte ends
     abbrev pub here : Option Occurrence
     here = found_at s.built s.anchored (node_at (at + 1)) (at + 1)
 
-    goes_on : GoesOn s.built.kind order (pick order (up_to at))
-    goes_on = subst (GoesOn s.built.kind order) picked goes
+    goes_on : SearchGoesOn s.built.kind order (pick order (up_to at))
+    goes_on = subst (SearchGoesOn s.built.kind order) picked goes
 
     -- nothing: r stays picked
     pub picked-still : here ≡ None → r ≡ pick order (up_to (at + 1))
@@ -171,10 +171,10 @@ module _ (s : Scan) (stops : Bool) (bytes : List ℕ) (span : Span) where
 
   -- where it is dead what was picked stays picked to the end
   pub dead-stays : (at : ℕ) (r : Option Occurrence) → span.start ≤ at → r ≡ pick order (up_to at)
-      → GoesOn s.built.kind order r → at ≤ span.end → span.end ≤ length bytes → node_at at ≡ None
+      → SearchGoesOn s.built.kind order r → at ≤ span.end → span.end ≤ length bytes → node_at at ≡ None
       → r ≡ pick order q
   dead-stays at r ordered picked goes up inside dead =
       picked
       ∙ sym (pick-stays_dead s.built.kind order (up_to at) (span.end - at) (omega arith) (omega arith) dead
-      (subst (GoesOn s.built.kind order) picked goes))
+      (subst (SearchGoesOn s.built.kind order) picked goes))
       ∙ ap (λ (h : ℕ). pick order (record q { high = h })) (omega arith)

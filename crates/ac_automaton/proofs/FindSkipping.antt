@@ -7,9 +7,9 @@ use Rattle.ac_util.specs.declared.prefilter.Candidate.TheVariants.{None as Nothi
 use Rattle.ac_util.specs.declared.search.Anchored.{Anchored}
 use Rattle.ac_util.specs.Prefilters.{Tells as SkipTells}
 use Rattle.ac_util.specs.Prefilters.Skip.{Needle}
-use Rattle.ac_util.proofs.SearchLoop.{GoesOn}
+use Rattle.ac_util.proofs.SearchLoop.{SearchGoesOn}
 use Rattle.ac_util.proofs.Walks.{pick-Occurs}
-use Rattle.ac_automaton.specs.Prelude.{Cursor, found_at, HasSearched, in_memory, node, PassesNoMatch, picking_by, ReadsTo, Scan, search_of, search_through, SkipsByNeedle, Tells, Work}
+use Rattle.ac_automaton.specs.Prelude.{Cursor, found_at, HasSearched, in_memory, node, PassesNoMatch, picking_by, ReadsTo, Scan, search_of, search_through, SkipsByNeedle, HasReadMatch, Work}
 use Rattle.ac_automaton.specs.Finds.{IsReady}
 use Rattle.ac_automaton.proofs.FindAhead.{found-nothing, picked-ahead, picked-there}
 use Rattle.ac_automaton.proofs.FindLoop.{goes_on-by, order, picked-start, up_to}
@@ -75,7 +75,7 @@ module _ (s : Scan) (bytes : List ℕ) (span : Span) {skip : Skip} (by : SkipsBy
   calls : new_counts.calls ≡ counts.calls + 1
   calls = ap (λ (c : Counts). c.calls) counted
 
-  tells : (r : Option Occurrence) → IfSome r (Tells span.start before after)
+  tells : (r : Option Occurrence) → IfSome r (HasReadMatch span.start before after)
   tells None = tt
   tells (Some m) =
       let c = calls in
@@ -140,7 +140,7 @@ module _ (s : Scan) (stops : Bool) (bytes : List ℕ) (span : Span) (free : s.an
   abbrev found : ℕ → Option Occurrence
   found k = found_at s.built s.anchored (node s (in_memory bytes span) k) k
 
-  goes : GoesOn s.built.kind (order s stops bytes span) None
+  goes : SearchGoesOn s.built.kind (order s stops bytes span) None
   goes = goes_on-by s.built.kind stops None leftmost (λ _. refl)
 
   none-at_start : span.start ≤ at → None ≡ picked_to span.start

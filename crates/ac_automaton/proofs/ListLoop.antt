@@ -11,7 +11,7 @@ use Rattle.ac_util.proofs.Listing.{all-only}
 use Rattle.ac_util.proofs.ListingBeginning.{ListsMore, all-dead, all-longer_by, item-none, item-some}
 use Rattle.ac_util.proofs.ListingLonger.{all-empty, all-longer}
 use Rattle.ac_automaton.specs.Prelude.{Cursor, due_in, given_in, HasMoved, in_memory, IsAt, IsListed, IsState, Lists, matches_of, MatchRest, node, node_at, PassesNoMatch, Reached, rest_in, Scan, ScanText, search_through, Work}
-use Rattle.ac_automaton.specs.Overlaps.{HasGiven}
+use Rattle.ac_automaton.specs.Overlaps.{HasGivenItem}
 use Rattle.ac_automaton.proofs.Due.{counts, listed-due, listed-numbered}
 use Rattle.ac_automaton.proofs.ReadOn.{node-fits}
 
@@ -152,7 +152,7 @@ module _ (s : Scan) (bytes : List ℕ) (span : Span) where
     -- it is given where it counts
     pub gives-first : (n : ℕ) (rest : MatchRest) → rest_in s.listed reached.rest ≡ n ∷ rest_in s.listed rest
         → counts s.built s.anchored (reached.at - span.start) n ≡ true → IsState s.stands rest.state
-        → HasGiven s t reached (Some (ending here n)) (record reached { rest = rest })
+        → HasGivenItem s t reached (Some (ending here n)) (record reached { rest = rest })
     gives-first n rest e counted state =
         let later = due_in s.listed q (record reached { rest = rest }) in
         let due = due-first n rest e ∙ ap (λ (t : Bool). cond t (n ∷ later) []) counted in
@@ -175,15 +175,15 @@ module _ (s : Scan) (bytes : List ℕ) (span : Span) where
         }
 
     -- else nothing is
-    nothing-due : due_in s.listed q reached ≡ [] → HasGiven s t reached None reached
+    nothing-due : due_in s.listed q reached ≡ [] → HasGivenItem s t reached None reached
     nothing-due none = record { state = refl; at = refl; due = (none, refl); ending = tt; leaves = on }
 
-    pub gives-none : rest_in s.listed reached.rest ≡ [] → HasGiven s t reached None reached
+    pub gives-none : rest_in s.listed reached.rest ≡ [] → HasGivenItem s t reached None reached
     gives-none none = nothing-due (ap (take_while (counts s.built s.anchored (reached.at - span.start))) none)
 
     pub gives-not : (n : ℕ) (rest : MatchRest) → rest_in s.listed reached.rest ≡ n ∷ rest_in s.listed rest
         → counts s.built s.anchored (reached.at - span.start) n ≡ false
-        → HasGiven s t reached None reached
+        → HasGivenItem s t reached None reached
     gives-not n rest e short =
         nothing-due (due-first n rest e
         ∙ ap (λ (t : Bool). cond t (n ∷ due_in s.listed q (record reached { rest = rest })) []) short)
@@ -199,7 +199,7 @@ module _ (s : Scan) (bytes : List ℕ) (span : Span) where
 
     -- the match given is the next item
     pub given-item : span.end ≤ length bytes → (m : Occurrence) (new_reached : Reached)
-        → HasGiven s t reached (Some m) new_reached → IsItem q (given_in s.listed q reached) m
+        → HasGivenItem s t reached (Some m) new_reached → IsItem q (given_in s.listed q reached) m
     given-item legal m new_reached gave =
         let more = goes_on legal in
         let later = map (ending here) (due_in s.listed q new_reached) in
@@ -212,7 +212,7 @@ module _ (s : Scan) (bytes : List ℕ) (span : Span) where
 
     -- and the place is one further
     pub given-place : (m : Occurrence) (new_reached : Reached)
-        → HasGiven s t reached (Some m) new_reached
+        → HasGivenItem s t reached (Some m) new_reached
         → given_in s.listed q new_reached ≡ given_in s.listed q reached + 1
     given-place m new_reached gave =
         let long = ap length on.listing
@@ -248,7 +248,7 @@ module _ (s : Scan) (bytes : List ℕ) (span : Span) where
     -- a match that was given, or that none is due at the end, is the next item of a listing that had given so many
     pub has-moved : (old : Reached) (found : Option Occurrence) (new_reached : Reached)
         → s.built.kind ≡ Standard → span.end ≤ length bytes
-        → given_in s.listed q reached ≡ given_in s.listed q old → HasGiven s t reached found new_reached
+        → given_in s.listed q reached ≡ given_in s.listed q old → HasGivenItem s t reached found new_reached
         → (found ≡ None → (reached.at ≡ span.end) ⊎ (node s t reached.at ≡ None)) → HasMoved s t old found new_reached
     has-moved old None new_reached standard legal as_many gave over =
         let past = subst (IsPast q) as_many (given-past standard legal gave.due.0 (over refl)) in

@@ -72,12 +72,12 @@ module _ (kind : MatchKind) (patterns : List (List ℕ)) (sorted : List Keyed)
       }
 
   -- the pattern of a number stands somewhere
-  pub record IsPlaced (n : ℕ) : Type 0 where
+  pub record IsInRange (n : ℕ) : Type 0 where
     pub place : ℕ
     pub stands : Stands place n
 
   -- and each pattern that takes part has a place
-  pub place-at : (n : ℕ) → IsIn n (participants kind patterns) → IsPlaced n
+  pub place-at : (n : ℕ) → IsIn n (participants kind patterns) → IsInRange n
   place-at n h =
       let p = place-of n (numbers sorted)
       (IsIn-from_Contains n (numbers sorted)

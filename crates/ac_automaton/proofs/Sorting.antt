@@ -28,12 +28,12 @@ use Rattle.ac_automaton.specs.Prelude.{AreListed, compared, IsOrder, Keyed, keye
 use Rattle.ac_automaton.proofs.Counting.{IsOrdered-from_AllPairs}
 
 -- the view has the number of the pattern that is stored at a place
-pub number_at : (fold : Bool) (sorted : List SortedPattern) (place : ℕ) (m : SortedPattern)
+pub sorted_number : (fold : Bool) (sorted : List SortedPattern) (place : ℕ) (m : SortedPattern)
     → place < length sorted
     → m ≡ get_or sorted place m → slice_get (numbers (keyed fold sorted)) place ≡ Some m.number
-number_at fold [] place m within is = absurd (omega arith)
-number_at fold (x ∷ sorted) zero m within is = ap (λ (w : SortedPattern). Some w.number) (sym is)
-number_at fold (x ∷ sorted) (suc place) m within is = number_at fold sorted place m (omega arith) is
+sorted_number fold [] place m within is = absurd (omega arith)
+sorted_number fold (x ∷ sorted) zero m within is = ap (λ (w : SortedPattern). Some w.number) (sym is)
+sorted_number fold (x ∷ sorted) (suc place) m within is = sorted_number fold sorted place m (omega arith) is
 
 -- one element more of a list of which f gives the first elements
 pub map-push : {X Y : Type 0} (f : X → Y) (all : List Y) (xs ys : List X) (n : ℕ) (x : X) → ys ≡ xs ++ x ∷ []

@@ -3,7 +3,7 @@ use Rattle.std.proofs.Common.{◌≡◌, ◌∙◌, ℕ, ◌+◌, Bool, List, �
 use Rattle.std.proofs.lemmas.Option.{slice_get_within}
 use Rattle.ac_automaton.specs.Util.{Occurrence, Reading, Standard, streamed, StreamError}
 use Rattle.ac_automaton.specs.Prelude.{Ended, EndsNow, Failed, GivesLast, GivesMatch, GivesNone, GoesOnBy, HasGivenSettled, IsSettledIn, KeepsGiven, matches_so_far, Open, Phase, Streaming, StreamsOn}
-use Rattle.ac_automaton.specs.Streams.{GivesNext}
+use Rattle.ac_automaton.specs.Streams.{GivesNextMatch}
 
 -- the end was met after some bytes more, or before; under Standard all matches were given before it was
 module _ (ends : Bool) (old between new : Streaming) (reader new_reader : Reading) (more : List ℕ)
@@ -32,7 +32,7 @@ module _ (ends : Bool) (old between new : Streaming) (reader new_reader : Readin
       }
 
   -- or one more
-  gives-next : (m : Occurrence) → GivesMatch between m new → GivesNext ends old m new reader new_reader
+  gives-next : (m : Occurrence) → GivesMatch between m new → GivesNextMatch ends old m new reader new_reader
   gives-next m gives =
       let ended : new.phase ≡ Ended = ap (λ (v : Streaming). v.phase) gives.same ∙ ap (λ (v : Streaming). v.phase) read in
       let next : slice_get (streamed old.built (old.bytes ++ more)) old.given ≡ Some m =

@@ -3,7 +3,7 @@ use Rattle.std.proofs.Common.{◌≡◌, ◌≢◌, ℕ, ◌+◌, ◌-◌, ◌<�
 use Rattle.std.specs.Option.{is_some}
 use Rattle.std.proofs.lemmas.Bool.{false≢true}
 use Rattle.ac_automaton.specs.Util.{is_leftmost, LeftmostFirst, LeftmostLongest, longest_len, MatchKind, No, Node, Occurrence, order_of, pick, Search, Span, Standard}
-use Rattle.ac_util.proofs.SearchLoop.{GoesOn}
+use Rattle.ac_util.proofs.SearchLoop.{SearchGoesOn}
 use Rattle.ac_util.proofs.Shortest.{longest-most}
 use Rattle.ac_util.proofs.Walks.{pick-Occurs}
 use Rattle.ac_automaton.specs.Prelude.{Cursor, FitsIn, found_at, HasReadOn, in_memory, Inside, IsAlive, IsAt, IsStreaming, node, NoMatchBetween, PassesNoMatch, Scan, ScanText, stream_from, Streaming, Work}
@@ -62,7 +62,7 @@ module _ (stands : ℕ → Node → Type 0) (listed : ℕ → List ℕ) (most : 
 
   -- it goes on as long as it hasn't stopped at a match
   pub goes-on-with : (r : Option Occurrence) → (i.stops ≡ true → r ≡ None)
-      → GoesOn v.built.kind (order_of v.built.kind i.stops) r
+      → SearchGoesOn v.built.kind (order_of v.built.kind i.stops) r
   goes-on-with r none = goes_on-by v.built.kind i.stops r leftmost none
 
   -- it has read on to a place
@@ -113,7 +113,7 @@ module _ (stands : ℕ → Node → Type 0) (listed : ℕ → List ℕ) (most : 
           none-in_stream stands listed v.built most filters v.bytes i.buffer v.front i.filled i.begun inv.counted inv.holds
           at cursor.at on.is_at.onward within passes.none
 
-      module _ (further : at < cursor.at) (goes : GoesOn v.built.kind (order_of v.built.kind i.stops) picked)
+      module _ (further : at < cursor.at) (goes : SearchGoesOn v.built.kind (order_of v.built.kind i.stops) picked)
           (found : Option Occurrence)
           (finds : found ≡ found_at v.built No (node stream_scan stream_text cursor.at) (v.front + cursor.at)) where
         finds-there : found ≡ found_there (v.front + cursor.at)

@@ -5,8 +5,8 @@ use Rattle.std.proofs.lemmas.Bool.Decides.{nat_tests}
 use Rattle.std.proofs.lemmas.List.{get_or_past, length-map, length_push}
 use Rattle.std.proofs.lemmas.Option.{slice_get_within}
 use Rattle.ac_automaton.specs.Util.{MatchKind, Node, pattern_of, plain, plain_byte}
-use Rattle.ac_automaton.specs.Prelude.{ANCHORED_START, AreStates, byte_at, dead_state, FIRST_INNER, first_states, grown_meaning, Growth, HasBegun, HasBranched, IsGrown, IsOrder, IsTrie, key_at, Keyed, Meaning, nodes_of, numbers, NumbersNodes, QueuedState, Represents, Sorted, START, State, state_at, too_many_states, Transition, trie_of, Waits, word}
-use Rattle.ac_automaton.specs.Growths.{IsReady}
+use Rattle.ac_automaton.specs.Prelude.{ANCHORED_START, AreStates, byte_at, dead_state, FIRST_INNER, first_states, grown_meaning, Growth, HasRoot, HasBranched, IsGrown, IsOrder, IsTrie, key_at, Keyed, Meaning, nodes_of, numbers, NumbersNodes, QueuedState, Represents, Sorted, START, State, state_at, too_many_states, Transition, trie_of, Waits, word}
+use Rattle.ac_automaton.specs.Growths.{IsQueueReady}
 use Rattle.ac_automaton.proofs.Grown.{AreStates-push, IsGrown-later, nodes-inner}
 use Rattle.ac_automaton.proofs.ListsOf.{listed_within-matches}
 use Rattle.ac_automaton.proofs.StateCount.{numbers-nodes, too_many_states-none}
@@ -127,7 +127,7 @@ module _ (kind : MatchKind) (fold : Bool) (patterns : List (List ℕ)) (sorted :
   pub start-ready : (p : QueuedState) → IsOrder kind patterns sorted
       → ((place depth b : ℕ) → byte_at sorted depth place ≡ Some b → plain_byte fold b ≡ b)
       → Waits kind patterns sorted [] START p → p.depth ≡ 0
-      → IsReady kind fold patterns sorted first_states [] [] p
+      → IsQueueReady kind fold patterns sorted first_states [] [] p
   start-ready p order settled waits depth = record {
     order = order;
     settled = settled;
@@ -200,7 +200,7 @@ module _ (kind : MatchKind) (fold : Bool) (patterns : List (List ℕ)) (sorted :
   -- the first in the queue that isn't whole is next
   pub going-ready : {states : List State} {transitions : List Transition} {queue : List QueuedState} {at : ℕ}
       {p : QueuedState} → IsGoing states transitions queue at → slice_get queue at ≡ Some p
-      → IsReady kind fold patterns sorted states transitions queue p
+      → IsQueueReady kind fold patterns sorted states transitions queue p
   going-ready {queue = queue} {at = at} {p = p} h e = record {
     order = h.order;
     settled = h.settled;
@@ -241,7 +241,7 @@ IsGoingFrom kind sorted states transitions queue at =
 
 -- the patterns of a trie that begins to grow are in order
 pub begun-order : {Z : Type 0} (fold : Bool) (texts : List (List ℕ)) (growth : Growth Z)
-    → HasBegun fold texts growth
+    → HasRoot fold texts growth
     → IsOrder growth.kind (map (plain growth.sorted.fold) texts) growth.sorted.patterns
 begun-order fold texts growth begun =
     subst (λ (f : Bool). IsOrder growth.kind (map (plain f) texts) growth.sorted.patterns)

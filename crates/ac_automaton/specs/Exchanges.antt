@@ -3,7 +3,7 @@ use Rattle.std.specs.Prelude.{◌≡◌, ◌⊎◌, ℕ, ◌≤◌, Bool, List, 
 use Rattle.std.specs.Borrow.{Bor, MutBor}
 use Rattle.std.specs.Fn.{Mut}
 use Rattle.std.specs.declared.io.Error.{Error}
-use Rattle.ac_automaton.specs.Util.{Answer, Built, Calls, Fails, FailsToRead, GoesOn, IsNear, IsSettled, IsSettledBy, Occurrence, Reading, ReadsAll, ReplacementSteps, Replacing, streamed, StreamError, WritesPiece, Writing}
+use Rattle.ac_automaton.specs.Util.{Answer, Built, Calls, Fails, FailsToRead, Continues, IsNear, IsSettled, IsSettledBy, Occurrence, Reading, ReadsAll, ReplacementSteps, Replacing, streamed, StreamError, WritesPiece, Writing}
 use Rattle.ac_util.specs.declared.error.StreamError.TheVariants.{Io}
 use Rattle.ac_automaton.specs.Streams.{IsSettledIn, Streaming, matches_so_far}
 
@@ -14,7 +14,7 @@ error_in (Err e) = Some e
 
 -- and what it asks for: to go on, or to end with the error
 abbrev pub asked_by_answer : Result (Unit {0}) StreamError → Answer StreamError
-asked_by_answer (Ok done) = GoesOn
+asked_by_answer (Ok done) = Continues
 asked_by_answer (Err e) = Fails e
 
 -- the text of the match's pattern was written, or a beginning of it

@@ -20,7 +20,7 @@ asked_of bytes start end anchored earliest = record {
 
 -- unless the prefilter was called, the place of reading is past the match, and each byte from the start of the
 -- span to the end of the match was read
-pub record Tells (start : ℕ) (work new_work : Work) (m : Occurrence) : Type 0 where
+pub record HasReadMatch (start : ℕ) (work new_work : Work) (m : Occurrence) : Type 0 where
   pub place : new_work.counts.calls ≡ work.counts.calls → m.end ≤ max start new_work.place
   pub reads : new_work.counts.calls ≡ work.counts.calls
       → work.counts.reads + (m.end - start) ≤ new_work.counts.reads
@@ -41,7 +41,7 @@ IsDecided kind order q found place =
 pub record HasSearched (picking : Picking) (q : Search) (found : Option Occurrence) (work new_work : Work) : Type 0 where
   pub answer : found ≡ pick picking.order q
   pub read : HasRead (most_looks q.anchored picking.most) (may_skip picking.filters q) q.low q.high work new_work
-  pub tells : IfSome found (Tells q.low work new_work)
+  pub tells : IfSome found (HasReadMatch q.low work new_work)
   pub stops : picking.order ≡ Standard → IfSome found (ReadsTo q.low work new_work)
   pub dead : StopsAtDead picking.kind q new_work.place
   pub decided : new_work.counts.calls ≡ work.counts.calls

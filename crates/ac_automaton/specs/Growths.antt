@@ -97,7 +97,7 @@ module _ (kind : MatchKind) (patterns : List (List ℕ)) (sorted : List Keyed) w
     pub parents : (k : ℕ) (q : QueuedState) → slice_get queue k ≡ Some q → HasParent whole queue q
 
   -- the next state is the start
-  pub record IsFirst (queue : List QueuedState) (s : ℕ) (p : QueuedState) : Type 0 where
+  pub record IsFirstQueued (queue : List QueuedState) (s : ℕ) (p : QueuedState) : Type 0 where
     pub number : s ≡ START
     pub empty : queue ≡ []
     pub depth : p.depth ≡ 0
@@ -110,7 +110,7 @@ module _ (kind : MatchKind) (patterns : List (List ℕ)) (sorted : List Keyed) w
 
   -- the next state is the start, or the first in the queue that isn't complete
   abbrev pub IsNext : List QueuedState → ℕ → QueuedState → Type 0
-  IsNext queue s p = IsFirst queue s p ⊎ IsQueued queue s p
+  IsNext queue s p = IsFirstQueued queue s p ⊎ IsQueued queue s p
 
 module _ (kind : MatchKind) (fold : Bool) (patterns : List (List ℕ)) (sorted : List Keyed) where
   -- what the numbers mean as far as the trie has grown
@@ -125,7 +125,7 @@ module _ (kind : MatchKind) (fold : Bool) (patterns : List (List ℕ)) (sorted :
   }
 
   -- all states before the next one are complete
-  pub record IsReady (states : List State) (transitions : List Transition) (queue : List QueuedState)
+  pub record IsQueueReady (states : List State) (transitions : List Transition) (queue : List QueuedState)
       (p : QueuedState) : Type 0 where
     pub order : IsOrder kind patterns sorted
     pub settled : (place depth b : ℕ) → byte_at sorted depth place ≡ Some b → plain_byte fold b ≡ b
@@ -170,7 +170,7 @@ source_of growth = record { kind = growth.kind; sorted = growth.sorted; states =
 -- a growing trie may branch at a queued state
 abbrev pub MayBranch : {Z : Type 0} → List (List ℕ) → Growth Z → QueuedState → Type 0
 MayBranch patterns growth queued =
-    IsReady growth.kind growth.sorted.fold patterns growth.sorted.patterns growth.states.items
+    IsQueueReady growth.kind growth.sorted.fold patterns growth.sorted.patterns growth.states.items
     growth.transitions.items growth.queue.items queued
 
 -- it has branched there, and the complete state is t
@@ -194,7 +194,7 @@ pub record LinkIsDue (g : Meaning) (s : ℕ) (u : List ℕ) (fail : ℕ) : Type 
   pub start : u ≡ [] → fail < s → (fail < START) × (slice_get g.nodes fail ≡ Some None)
 
 -- a trie of the patterns begins to grow: with its first two states, and nothing in the queue
-pub record HasBegun {Z : Type 0} (fold : Bool) (texts : List (List ℕ)) (growth : Growth Z) : Type 0 where
+pub record HasRoot {Z : Type 0} (fold : Bool) (texts : List (List ℕ)) (growth : Growth Z) : Type 0 where
   pub sorts : AreSorted growth.kind fold texts growth.sorted
   pub two : growth.states.items ≡ first_states
   pub no_transitions : growth.transitions.items ≡ []

@@ -62,7 +62,7 @@ pub record MayList (s : Scan) (span : Span) (tape : Taped) (reached : Reached) :
 
 -- the match that is due first where the automaton stands was given and passed over, or there is none; the automaton
 -- stands where it did
-pub record HasGiven (s : Scan) (t : ScanText) (reached : Reached) (found : Option Occurrence) (new_reached : Reached)
+pub record HasGivenItem (s : Scan) (t : ScanText) (reached : Reached) (found : Option Occurrence) (new_reached : Reached)
     : Type 0 where
   pub state : new_reached.state ≡ reached.state
   pub at : new_reached.at ≡ reached.at

@@ -4,8 +4,8 @@ pub use Rattle.ac_automaton.specs.Builds.{engine_built_by, EngineSettings, IsAll
 pub use Rattle.ac_automaton.specs.Common.{built_as, common_of, CommonView}
 pub use Rattle.ac_automaton.specs.Exchanges.{asked_by_answer, CallsBy, error_in, FailsBy, FailsToExchange, HasExchanged, HasReplaced, ReplacesBy, StartFrom, Steps, WritesTexts}
 pub use Rattle.ac_automaton.specs.Finders.{Finding, Picking}
-pub use Rattle.ac_automaton.specs.Finds.{FitsIn, found_at, HasSearched, IsAnswered, IsDecided, picking_by, place_of, ReadsTo, Tells}
-pub use Rattle.ac_automaton.specs.Growths.{EndsPatterns, first_states, grown_meaning, HasBegun, HasBranched, HasChild, HasSorted, IsGrown, IsNext, IsNotPushed, IsRangeOf, IsWhole, leading, LinkIsDue, MayBranch, nodes_of, Source, source_of, Waits, word}
+pub use Rattle.ac_automaton.specs.Finds.{FitsIn, found_at, HasSearched, IsAnswered, IsDecided, picking_by, place_of, ReadsTo, HasReadMatch}
+pub use Rattle.ac_automaton.specs.Growths.{EndsPatterns, first_states, grown_meaning, HasRoot, HasBranched, HasChild, HasSorted, IsGrown, IsNext, IsNotPushed, IsRangeOf, IsWhole, leading, LinkIsDue, MayBranch, nodes_of, Source, source_of, Waits, word}
 pub use Rattle.ac_automaton.specs.Iterators.{after, begun, Finds, GoesOn, HasFound, IsUnderWay, kept_place, last_after, Walking, walking_of}
 pub use Rattle.ac_automaton.specs.Overlaps.{due_in, given_by, given_in, HasListed, HasMoved, is_due, IsListed, IsListing, IsPlaced, listing_begun, ListsNext, Overlapping, overlapping_by, overlapping_of, place_by, rest_in, Takes}
 pub use Rattle.ac_automaton.specs.Progress.{Grows, HasRead, most_looks, node_at, nothing_done, Reaches, search_of, Work, work_of}

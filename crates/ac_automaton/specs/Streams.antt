@@ -114,7 +114,7 @@ GoesOnBy ends phase new_phase reader new_reader more = ⊥
 
 -- the next match of all that was read was given, once more was read where that was needed; those given before stay, and
 -- bytes are kept from its end on. Under Standard it was given before the end was met
-pub record GivesNext (ends : Bool) (old : Streaming) (m : Occurrence) (new : Streaming) (reader new_reader : Reading)
+pub record GivesNextMatch (ends : Bool) (old : Streaming) (m : Occurrence) (new : Streaming) (reader new_reader : Reading)
     : Type 0 where
   pub more : List ℕ
   pub reads : GoesOnBy ends old.phase new.phase reader new_reader more
@@ -165,7 +165,7 @@ GivesNone Failed ends old new reader new_reader = (new ≡ old) × (new_reader �
 abbrev pub StreamsOn : Bool → Streaming → Option (Result Occurrence StreamError) → Streaming → Reading → Reading → Type 0
 StreamsOn ends old result new reader new_reader =
     MatchOption result (GivesNone old.phase ends old new reader new_reader)
-    (λ item. MatchResult item (λ m. GivesNext ends old m new reader new_reader)
+    (λ item. MatchResult item (λ m. GivesNextMatch ends old m new reader new_reader)
     (λ e. GivesError old e new reader new_reader))
 
 -- once the end was met there is nothing to read: the next match was given, or there is none any more
@@ -254,8 +254,8 @@ pub record StreamReading : Type 0 where
   pub reader : Reading
 
 -- the iterator has given the next item, and more was read where that was needed
-abbrev pub GivesItem : Bool → StreamReading → Option (Result Occurrence StreamError) → StreamReading → Type 0
-GivesItem ends old item new = StreamsOn ends old.stream item new.stream old.reader new.reader
+abbrev pub GivesStreamItem : Bool → StreamReading → Option (Result Occurrence StreamError) → StreamReading → Type 0
+GivesStreamItem ends old item new = StreamsOn ends old.stream item new.stream old.reader new.reader
 
 -- it has given the next match without a read, or there is none
 abbrev pub ReadsItem : StreamReading → Option Occurrence → StreamReading → Type 0

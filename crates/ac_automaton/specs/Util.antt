@@ -22,7 +22,7 @@ pub use Rattle.ac_util.specs.Prefilters.{begins_with, BeginWith, is_one_of, IsSk
 pub use Rattle.ac_util.specs.Prefilters.Skip.{FirstOf}
 pub use Rattle.ac_util.specs.Refusal.{AnswersUnless, empty_refusal, Find, first_refusal, form_refusal, kind_refusal, OverlappingByState, OverlappingIterator, refusal, Replace, start_refusal, Stream}
 pub use Rattle.ac_util.specs.Replaced.{is_whole, replaced, replaced_from, whole_characters}
-pub use Rattle.ac_util.specs.Replacement.{Answer, AppendsAll, asked_by, Calls, Fails, GoesOn, MatchAnswer, ReplacementSteps, Replacing, Turn}
+pub use Rattle.ac_util.specs.Replacement.{Answer, AppendsAll, asked_by, Calls, Fails, Continues, MatchAnswer, ReplacementSteps, Replacing, Turn}
 pub use Rattle.ac_util.specs.Replacing.{AnswersWhole, MakesSteps, MatchReplaceError, StepsLead}
 pub use Rattle.ac_util.specs.Sameness.{plain, plain_byte}
 pub use Rattle.ac_util.specs.Search.{from, Occurs, pattern_of, Search}

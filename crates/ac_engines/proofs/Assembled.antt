@@ -8,7 +8,7 @@ use Rattle.ac_util.proofs.ClassLists.{class_at-below, classes_of-AreClasses, cla
 use Rattle.ac_util.proofs.NodeCount.{inner_nodes-has}
 use Rattle.ac_util.proofs.StrideLemmas.{stride-enough}
 use Rattle.ac_automaton.specs.Prelude.{AreNodes, plain_of, Trie}
-use Rattle.ac_engines.specs.Prelude.{anchored_shift, classes_by, DfaView, FilledUpTo, Filling, HasMatchesAmong, HasRow, IsDfa, IsFilled, IsLayout, MayFill, place_in, rows_refusal, sheet_of, table_rows, width}
+use Rattle.ac_engines.specs.Prelude.{anchored_shift, classes_by, DfaView, FilledUpTo, Filling, HasMatchesAmong, HasRow, IsDfa, IsFilled, IsLayout, MayFill, first_row_in, rows_refusal, sheet_of, table_rows, width}
 use Rattle.ac_engines.proofs.Numbered.{after-starts, place-row, place-start}
 use Rattle.ac_engines.proofs.Owning.{row-room}
 use Rattle.ac_engines.proofs.RowLists.{anchored_shift-rows}
@@ -134,8 +134,8 @@ module _ (trie : Trie) (start_kind : StartKind) (classes : List ℕ) (exponent :
 
     -- the rows of an earlier state and of a later one stand apart
     ordered-apart : (s t : ℕ) (v w : List ℕ) → HasRow filling nodes size s v → HasRow filling nodes size t w → s < t
-        → (place_in nodes numbers v + width (sheet_of filling nodes) ≤ place_in nodes numbers w)
-        ⊎ (place_in nodes numbers w + width (sheet_of filling nodes) ≤ place_in nodes numbers v)
+        → (first_row_in nodes numbers v + width (sheet_of filling nodes) ≤ first_row_in nodes numbers w)
+        ⊎ (first_row_in nodes numbers w + width (sheet_of filling nodes) ≤ first_row_in nodes numbers v)
     ordered-apart s t v w first later order =
         let within = slice_get_within nodes t (Some w) later.named in
         let count = may.laid.count in
@@ -148,8 +148,8 @@ module _ (trie : Trie) (start_kind : StartKind) (classes : List ℕ) (exponent :
 
     -- so do those of any two strings
     strings-apart : (s t : ℕ) (v w : List ℕ) → HasRow filling nodes size s v → HasRow filling nodes size t w → v ≢ w
-        → (place_in nodes numbers v + width (sheet_of filling nodes) ≤ place_in nodes numbers w)
-        ⊎ (place_in nodes numbers w + width (sheet_of filling nodes) ≤ place_in nodes numbers v)
+        → (first_row_in nodes numbers v + width (sheet_of filling nodes) ≤ first_row_in nodes numbers w)
+        ⊎ (first_row_in nodes numbers w + width (sheet_of filling nodes) ≤ first_row_in nodes numbers v)
     strings-apart s t v w one two other = elim (cases_lt s t) [
       | inl before ↦ ordered-apart s t v w one two before
       | inr later ↦ elim (cases_lt t s) [
@@ -177,7 +177,7 @@ module _ (trie : Trie) (start_kind : StartKind) (classes : List ℕ) (exponent :
       }
 
       -- rows that are laid out and filled stand for the nodes
-      pub are-table : IsDfa table (place_in nodes numbers)
+      pub are-table : IsDfa table (first_row_in nodes numbers)
       are-table = record {
         narrow = narrow;
         dead = filled.dead;
@@ -226,7 +226,7 @@ module _ (trie : Trie) (start_kind : StartKind) (classes : List ℕ) (exponent :
               state.1.named anchored supported
 
           row-of : (w : List ℕ) → IsNode trie.built.kind (plain_of trie.built) (Some w) → (anchored : Anchored)
-              → (row : ℕ) × (place_in nodes numbers w + anchored_shift start_kind anchored (2 ^ exponent) ≡ row * 2 ^ exponent)
+              → (row : ℕ) × (first_row_in nodes numbers w + anchored_shift start_kind anchored (2 ^ exponent) ≡ row * 2 ^ exponent)
           row-of w node anchored =
               let state = state-of w node in
               let first = first-row state.0 w state.1 in (

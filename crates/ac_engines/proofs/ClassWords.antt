@@ -6,8 +6,8 @@ use Rattle.std.proofs.lemmas.List.Elements.{All-drop}
 use Rattle.ac_engines.specs.Prelude.{AreNamed, class_words, Edge, FAIL, first_of, target_by, word_of}
 
 -- the classes and the targets of transitions
-abbrev pub classes_of : List Edge → List ℕ
-classes_of es = map (λ e. e.class) es
+abbrev pub edge_classes : List Edge → List ℕ
+edge_classes es = map (λ e. e.class) es
 
 abbrev pub targets_of : List Edge → List ℕ
 targets_of es = map (λ e. e.target) es
@@ -67,7 +67,7 @@ picks-one false a missing = miss (a ∷ []) missing
 module _ (class : ℕ) where
   -- what the first class word of transitions tells of where a class leads: its four classes are those of the first
   -- transitions, and the words after it are those of the other transitions
-  pub record Tells (es : List Edge) (word : ℕ) (words : List ℕ) : Type 0 where
+  pub record ReadsWord (es : List Edge) (word : ℕ) (words : List ℕ) : Type 0 where
     pub a : ℕ
     pub b : ℕ
     pub c : ℕ
@@ -77,7 +77,7 @@ module _ (class : ℕ) where
     pub c_small : c < 256
     pub d_small : d < 256
     pub word_is : word ≡ word_of a b c d
-    pub after : words ≡ class_words (classes_of (drop 4 es))
+    pub after : words ≡ class_words (edge_classes (drop 4 es))
     pub picks : Picks (targets_of es) (first_of a b c d class) (target_by FAIL es class)
         (target_by FAIL (drop 4 es) class)
 
@@ -89,7 +89,7 @@ module _ (class : ℕ) where
   others v w vs ws same = sym (ap (λ (ns : List ℕ). drop 1 ns) same)
 
   pub tells : (es : List Edge) (word : ℕ) (words : List ℕ) → All (λ e. e.class < 256) es
-      → class_words (classes_of es) ≡ word ∷ words → Tells es word words
+      → class_words (edge_classes es) ≡ word ∷ words → ReadsWord es word words
   unfolding class_words target_by
   tells [] word words small are = absurd (let none = ap (λ (ns : List ℕ). length ns) are in omega (arith, none))
   tells (a ∷ []) word words small are = record {
@@ -140,15 +140,15 @@ module _ (class : ℕ) where
     b_small = small 1 a (omega arith);
     c_small = small 2 a (omega arith);
     d_small = small 3 a (omega arith);
-    word_is = first _ word (class_words (classes_of es)) words are;
-    after = others _ word (class_words (classes_of es)) words are;
+    word_is = first _ word (class_words (edge_classes es)) words are;
+    after = others _ word (class_words (edge_classes es)) words are;
     picks = picks-four (a.class == class) (b.class == class) (c.class == class) (d.class == class)
         a.target b.target c.target d.target (targets_of es) (target_by FAIL es class);
   }
 
   -- four transitions on stand the others of one word on
   drop-class_words : (es : List Edge) (index : ℕ)
-      → drop index (class_words (classes_of es)) ≡ class_words (classes_of (drop (4 * index) es))
+      → drop index (class_words (edge_classes es)) ≡ class_words (edge_classes (drop (4 * index) es))
   unfolding class_words
   drop-class_words es zero = refl
   drop-class_words [] (suc index) = rw (drop-nil {A = Edge} (4 * suc index)) refl
@@ -164,12 +164,12 @@ module _ (class : ℕ) where
 
   -- each class word tells of the transitions that it stands for and of those after
   pub tells-at : (es : List Edge) (index : ℕ) → All (λ e. e.class < 256) es
-      → index < length (class_words (classes_of es))
-      → Tells (drop (4 * index) es) (slice_index_or (class_words (classes_of es)) index 0)
-      (drop (suc index) (class_words (classes_of es)))
+      → index < length (class_words (edge_classes es))
+      → ReadsWord (drop (4 * index) es) (slice_index_or (class_words (edge_classes es)) index 0)
+      (drop (suc index) (class_words (edge_classes es)))
   tells-at es index small within =
       tells (drop (4 * index) es) _ _ (All-drop (λ e. e.class < 256) (4 * index) es small)
-      (sym (drop-class_words es index) ∙ drop-cons (class_words (classes_of es)) index 0 within)
+      (sym (drop-class_words es index) ∙ drop-cons (class_words (edge_classes es)) index 0 within)
 
 -- the targets of transitions that lead to states are none that no state has
 pub target-named : (es : List Edge) (at : ℕ) → AreNamed es → at < length (targets_of es)
@@ -188,12 +188,12 @@ length-class_words (a ∷ b ∷ []) = refl
 length-class_words (a ∷ b ∷ c ∷ []) = refl
 length-class_words (a ∷ b ∷ c ∷ d ∷ classes) = let more = length-class_words classes in omega arith
 
-module _ (es : List Edge) (front : List ℕ) (is : front ≡ class_words (classes_of es)) (class index : ℕ) where
+module _ (es : List Edge) (front : List ℕ) (is : front ≡ class_words (edge_classes es)) (class index : ℕ) where
   -- after the last class word there are no transitions
   pub none-left : length front ≤ index → target_by FAIL (drop (4 * index) es) class ≡ FAIL
   unfolding target_by
   none-left past =
-      let enough = length-class_words (classes_of es) in
+      let enough = length-class_words (edge_classes es) in
       let same = length-map es (λ e. e.class) in
       let counts = ap (λ (ns : List ℕ). length ns) is in
       rw (drop_all (4 * index) es (omega (arith, enough, same, counts, past))) refl

@@ -44,7 +44,7 @@ stands-small p anchored s u h =
     let small = h.is_contiguous.small in let within = stands-within p anchored s u h in omega arith
 
 -- on the way to where the byte leads from a node, the walk is at a state, and has counted what it took to come there
-pub record Onward (p : ContiguousView) (anchored : Anchored) (b : ℕ) (u : Node) (old now : Counts) (s : ℕ) : Type 0 where
+pub record WalkGoesOnward (p : ContiguousView) (anchored : Anchored) (b : ℕ) (u : Node) (old now : Counts) (s : ℕ) : Type 0 where
   pub node : Node
   pub stands : IsContiguousState p anchored s node
   pub steps : step_of p.built anchored u b ≡ step_of p.built anchored node b
@@ -54,13 +54,13 @@ pub record Onward (p : ContiguousView) (anchored : Anchored) (b : ℕ) (u : Node
   pub counted : now ≡ more_looks taken old
 
 -- at its end it is where the byte leads, and has counted all looks
-pub record Ended (p : ContiguousView) (anchored : Anchored) (b : ℕ) (u : Node) (old new : Counts) (next : ℕ) : Type 0 where
+pub record WalkHasEnded (p : ContiguousView) (anchored : Anchored) (b : ℕ) (u : Node) (old new : Counts) (next : ℕ) : Type 0 where
   pub steps : IsContiguousState p anchored next (step_of p.built anchored u b)
   pub looks : new ≡ more_looks (looks_of 2 p.built anchored u b) old
 
 module _ (p : ContiguousView) (anchored : Anchored) (b : ℕ) (u : Node) (old : Counts) where
   -- before the first look the walk is on the way
-  pub onward-start : (s : ℕ) → IsContiguousState p anchored s u → Onward p anchored b u old old s
+  pub onward-start : (s : ℕ) → IsContiguousState p anchored s u → WalkGoesOnward p anchored b u old old s
   onward-start s h = record {
     node = u;
     stands = h;
@@ -78,7 +78,7 @@ module _ (p : ContiguousView) (anchored : Anchored) (b : ℕ) (u : Node) (old : 
           let long = node-length p.built.kind p.built.fold p.built.patterns w stands.node in
           omega arith
 
-  module _ (now new : Counts) (s : ℕ) (o : Onward p anchored b u old now s) (more : new ≡ more_looks 1 now) where
+  module _ (now new : Counts) (s : ℕ) (o : WalkGoesOnward p anchored b u old now s) (more : new ≡ more_looks 1 now) where
     -- with one look more the walk has counted all
     counted-last : looks_of 2 p.built anchored o.node b ≡ 1 → new ≡ more_looks (looks_of 2 p.built anchored u b) old
     counted-last one =
@@ -87,7 +87,7 @@ module _ (p : ContiguousView) (anchored : Anchored) (b : ℕ) (u : Node) (old : 
 
     -- it ends at a target
     pub ends-target : (next : ℕ) → b < 256 → next ≡ target_of p o.stands.at anchored o.node b → next ≢ FAIL
-        → Ended p anchored b u old new next
+        → WalkHasEnded p anchored b u old new next
     ends-target next byte is some =
         let leads = (reads p o.stands.at o.stands.is_contiguous anchored o.node b byte).leads (λ e. some (is ∙ e)) in
         record {
@@ -102,7 +102,7 @@ module _ (p : ContiguousView) (anchored : Anchored) (b : ℕ) (u : Node) (old : 
 
     -- or at the dead state, if it is anchored
     pub ends-anchored : b < 256 → target_of p o.stands.at anchored o.node b ≡ FAIL → anchored ≡ Yes
-        → Ended p anchored b u old new 0
+        → WalkHasEnded p anchored b u old new 0
     ends-anchored byte fail is-yes =
         let ends = (reads p o.stands.at o.stands.is_contiguous anchored o.node b byte).ends fail is-yes in
         record {
@@ -121,7 +121,7 @@ module _ (p : ContiguousView) (anchored : Anchored) (b : ℕ) (u : Node) (old : 
 
     -- else it goes on at the failure target
     pub goes-on : (failure : ℕ) → b < 256 → target_of p o.stands.at anchored o.node b ≡ FAIL → anchored ≡ No
-        → failure ≡ (spelling_at p o.stands.at anchored o.node).failure → Onward p anchored b u old new failure
+        → failure ≡ (spelling_at p o.stands.at anchored o.node).failure → WalkGoesOnward p anchored b u old new failure
     goes-on failure byte fail is-no is =
         let on = (reads p o.stands.at o.stands.is_contiguous anchored o.node b byte).goes fail is-no in
         record {

@@ -10,7 +10,7 @@ use Rattle.ac_engines.proofs.LaidUpTo.{Apart, HasRows, IsLaidUpTo, Plan, each, k
 
 module _ (p : Plan) where
   -- one state more has its rows, between front and back
-  record GoesOn (s row : ℕ) (lists : List (List ℕ)) (back : ℕ) (new_lists : List (List ℕ)) (new_back last : ℕ) : Type 0 where
+  record LaysOn (s row : ℕ) (lists : List (List ℕ)) (back : ℕ) (new_lists : List (List ℕ)) (new_back last : ℕ) : Type 0 where
     added : List (List ℕ)
     is : new_lists ≡ lists ++ added
     nearer : new_back ≤ back
@@ -31,7 +31,7 @@ module _ (p : Plan) where
         (named : slice_get p.nodes s ≡ Some u) where
       -- in front
       in-front : IsInFront p.start_kind p.built u row lists back new_lists new_back
-          → GoesOn s row lists back new_lists new_back last
+          → LaysOn s row lists back new_lists new_back last
       in-front front =
           let e = each-room p.start_kind (length p.nodes) s left in
           let r = h.room in
@@ -62,7 +62,7 @@ module _ (p : Plan) where
 
       -- or at the back
       at-back : IsAtBack p.start_kind p.built u row lists back new_lists new_back
-          → GoesOn s row lists back new_lists new_back last
+          → LaysOn s row lists back new_lists new_back last
       at-back side =
           let e = each-room p.start_kind (length p.nodes) s left in
           let r = h.room in
@@ -90,7 +90,7 @@ module _ (p : Plan) where
 
       -- it has its rows wherever it was given them
       goes-on : HasPlaced p.start_kind p.built u row lists back new_lists new_back
-          → GoesOn s row lists back new_lists new_back last
+          → LaysOn s row lists back new_lists new_back last
       goes-on placed = elim placed [ inl front ↦ in-front front | inr side ↦ at-back side ]
 
       -- its rows end within the table, so its number is small
@@ -102,7 +102,7 @@ module _ (p : Plan) where
           small-number p.start_kind row last p.stride (omega (arith, before, w)) small
 
       -- and stand apart from those of the states before
-      apart-from : (t n : ℕ) → GoesOn s row lists back new_lists new_back last → HasRows p lists back last t n
+      apart-from : (t n : ℕ) → LaysOn s row lists back new_lists new_back last → HasRows p lists back last t n
           → Apart p n (row * p.stride)
       apart-from t n on rows = elim rows.place [
         | inl front ↦

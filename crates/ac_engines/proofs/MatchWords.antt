@@ -5,7 +5,7 @@ use Rattle.std.proofs.lemmas.List.{get_or_append_left, length-append}
 use Rattle.ac_engines.specs.Prelude.{match_spelling, ONE_MATCH}
 
 -- what the first word of some matches tells: it is the only one of them, or their number
-pub record Reads (matches words : List ℕ) : Type 0 where
+pub record ReadsMatches (matches words : List ℕ) : Type 0 where
   pub some : 0 < length words
   pub one : ONE_MATCH ≤ slice_index_or words 0 0 → length matches ≡ 1
   pub first : ONE_MATCH ≤ slice_index_or words 0 0
@@ -16,7 +16,7 @@ pub record Reads (matches words : List ℕ) : Type 0 where
       → slice_index_or words (1 + index) 0 ≡ slice_index_or matches index 0
 
 pub reads : (matches rest words : List ℕ) → words ≡ match_spelling matches ++ rest → matches ≢ []
-    → length matches < ONE_MATCH → Reads matches words
+    → length matches < ONE_MATCH → ReadsMatches matches words
 reads [] rest words are some few = absurd (some refl)
 reads (p ∷ []) rest words are some few =
     let first = ap (λ (ns : List ℕ). slice_index_or ns 0 0) are in

@@ -3,7 +3,7 @@ use Rattle.std.proofs.Common.{◌≡◌, ◌≢◌, inl, inr, ℕ, zero, suc, �
 use Rattle.ac_util.specs.Node.{Node}
 use Rattle.ac_util.proofs.NodeCount.{inner_nodes-only}
 use Rattle.ac_automaton.specs.Prelude.{AreNodes, plain_of, Trie}
-use Rattle.ac_engines.specs.Dfa.Filling.{Filling, HasRow, place_in}
+use Rattle.ac_engines.specs.Dfa.Filling.{Filling, HasRow, first_row_in}
 use Rattle.ac_engines.proofs.Places.{place-at}
 
 module _ (trie : Trie) (nodes : List Node) (h : AreNodes trie nodes) where
@@ -28,12 +28,12 @@ module _ (trie : Trie) (nodes : List Node) (h : AreNodes trie nodes) where
 
   -- its row is the one of its state
   pub place-inner : (numbers : List ℕ) (s : ℕ) (w : List ℕ) → length numbers ≡ length nodes → 4 ≤ s
-      → slice_get nodes s ≡ Some (Some w) → place_in nodes numbers w ≡ slice_index_or numbers s 0
+      → slice_get nodes s ≡ Some (Some w) → first_row_in nodes numbers w ≡ slice_index_or numbers s 0
   place-inner numbers s w count inner named = place-at nodes numbers w s count named (first-inner s w inner named)
 
   -- the empty string has that of the unanchored start
   pub place-start : (numbers : List ℕ) → length numbers ≡ length nodes
-      → place_in nodes numbers [] ≡ slice_index_or numbers 2 0
+      → first_row_in nodes numbers [] ≡ slice_index_or numbers 2 0
   place-start numbers count = place-at nodes numbers [] 2 count h.start first
     where
       first : (t : ℕ) → t < 2 → slice_get nodes t ≢ Some (Some [])
@@ -53,7 +53,7 @@ after-starts trie nodes h (suc (suc (suc (suc s)))) w some named = omega arith
 module _ (f : Filling) (nodes : List Node) (size : ℕ) where
   -- the rows of a string begin at the number of its state
   pub place-row : (s : ℕ) (w : List ℕ) → HasRow f nodes size s w
-      → place_in nodes f.numbers w ≡ slice_index_or f.numbers s 0
+      → first_row_in nodes f.numbers w ≡ slice_index_or f.numbers s 0
   place-row s w h = elim h.place [
     | inl start ↦
         let named = rw start at h.named in

@@ -36,7 +36,7 @@ starts-placed q nodes numbers may places =
     omega arith
 
 -- what was read at a place of the same list
-pub read-place : (xs ys : List ℕ) (k n : ℕ) → k < length xs → xs ≡ ys → n ≡ slice_index_or xs k n
+pub read-number : (xs ys : List ℕ) (k n : ℕ) → k < length xs → xs ≡ ys → n ≡ slice_index_or xs k n
     → n ≡ slice_index_or ys k 0
-read-place xs ys k n within same read =
+read-number xs ys k n within same read =
     read ∙ get_or_default_zero xs k n within ∙ ap (λ (ns : List ℕ). slice_index_or ns k 0) same

@@ -9,7 +9,7 @@ use Rattle.ac_util.proofs.ClassLists.{alphabet_len-few}
 use Rattle.ac_util.proofs.NodeCount.{inner_nodes-has}
 use Rattle.ac_automaton.specs.declared.nfa.noncontiguous.state.TheConstants.{START}
 use Rattle.ac_automaton.specs.Prelude.{matches_of, own_bytes, plain_of}
-use Rattle.ac_engines.specs.Prelude.{AreReady, BeginsWith, ContiguousView, Dense, FAIL, Format, front_end, has_matches, HasPushed, IsContiguous, match_list_at, node_format, number_at, One, packed_of, packed_words, Packer, place_at, Places, places_of, size_at, size_of, Sparse, spelled, Spelling, spelling_at, state_spelling, total, words_of_state}
+use Rattle.ac_engines.specs.Prelude.{AreReady, BeginsWith, ContiguousView, Dense, FAIL, Format, front_end, has_matches, HasPushedWords, IsContiguous, match_list_at, node_format, number_at, One, packed_of, packed_words, Packer, place_at, Places, places_of, size_at, size_of, Sparse, spelled, Spelling, spelling_at, state_spelling, total, words_of_state}
 use Rattle.ac_engines.proofs.Decoding.{listed-none, listed-spelled}
 use Rattle.ac_engines.proofs.Numbered.{place-inner, place-start}
 use Rattle.ac_engines.proofs.PackedSums.{total-grows}
@@ -151,7 +151,7 @@ module _ (f : Packer) (nodes : List Node) (ready : AreReady f nodes) where
 
   -- the words of the dead state, then those of the states that have matches, and then those of the others
   module _ (dead front words : List ℕ) (first : dead ≡ spelled Dense (alphabet_len f.plan.classes) dead_spelling)
-      (in_front : HasPushed f nodes true dead front) (after : HasPushed f nodes false front words) where
+      (in_front : HasPushedWords f nodes true dead front) (after : HasPushedWords f nodes false front words) where
     -- the state of the dead node
     dead-begins : BeginsWith dead Dense (alphabet_len f.plan.classes) dead_spelling
     dead-begins =
@@ -271,7 +271,7 @@ module _ (f : Packer) (nodes : List Node) (ready : AreReady f nodes) where
     spelled-matches anchored (x ∷ w) = refl
 
     -- what stands at the number of a string
-    record Tells (anchored : Anchored) (w : List ℕ) : Type 0 where
+    record StandsWithin (anchored : Anchored) (w : List ℕ) : Type 0 where
       within : number_at (places f nodes ready words) anchored (Some w) < length words
       late : FAIL < number_at (places f nodes ready words) anchored (Some w)
       matched : (number_at (places f nodes ready words) anchored (Some w) < front_end f.plan nodes)
@@ -280,10 +280,10 @@ module _ (f : Packer) (nodes : List Node) (ready : AreReady f nodes) where
           ≡ matches_of f.plan.trie.built No (Some w)
 
     tells : (anchored : Anchored) (w : List ℕ) → IsNode f.plan.trie.built.kind (plain_of f.plan.trie.built) (Some w)
-        → Tells anchored w
+        → StandsWithin anchored w
     tells anchored w node = by (has_matches f.plan nodes (Some w)) refl
       where
-        by : (t : Bool) → has_matches f.plan nodes (Some w) ≡ t → Tells anchored w
+        by : (t : Bool) → has_matches f.plan nodes (Some w) ≡ t → StandsWithin anchored w
         by true is =
             let at = has-place f nodes ready words anchored w node in
             let there = state-begins at.state (Some w) at.reached at.named in

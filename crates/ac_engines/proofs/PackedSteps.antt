@@ -39,7 +39,7 @@ module _ (p : ContiguousView) (at : Places) (h : IsContiguous p at) where
   onward v = miss p.built.kind (plain_of p.built) v
 
   -- it goes on at the failure target, which is shorter
-  pub record GoesOn (v : Node) (b : ℕ) : Type 0 where
+  pub record StepsOn (v : Node) (b : ℕ) : Type 0 where
     pub failure : (spelling_at p at No v).failure ≡ number_at at No (onward v)
     pub node : IsNode p.built.kind (plain_of p.built) (onward v)
     pub steps : step_of p.built No v b ≡ step_of p.built No (onward v) b
@@ -47,10 +47,10 @@ module _ (p : ContiguousView) (at : Places) (h : IsContiguous p at) where
     pub shorter : depth (onward v) < depth v
 
   -- what is read at a state: a target is the answer, and FAIL ends an anchored search, or another goes on
-  pub record Reads (anchored : Anchored) (v : Node) (b : ℕ) : Type 0 where
+  pub record ReadsStep (anchored : Anchored) (v : Node) (b : ℕ) : Type 0 where
     pub leads : target_of p at anchored v b ≢ FAIL → Leads anchored v b
     pub ends : target_of p at anchored v b ≡ FAIL → anchored ≡ Yes → step_of p.built anchored v b ≡ None
-    pub goes : target_of p at anchored v b ≡ FAIL → anchored ≡ No → GoesOn v b
+    pub goes : target_of p at anchored v b ≡ FAIL → anchored ≡ No → StepsOn v b
 
   -- the string that is longer by a byte
   abbrev longer : List ℕ → ℕ → List ℕ
@@ -113,7 +113,7 @@ module _ (p : ContiguousView) (at : Places) (h : IsContiguous p at) where
   are-named anchored (Some (x ∷ w)) = own-named (x ∷ w)
 
   reads-on : (anchored : Anchored) (w : List ℕ) (b : ℕ) → b < 256 → leads_on p.built (Some w) b ≡ true
-      → Reads anchored (Some w) b
+      → ReadsStep anchored (Some w) b
   reads-on anchored w b byte leads =
       let never : target_of p at anchored (Some w) b ≢ FAIL =
       λ e. after-fail anchored w (plain_byte p.built.fold b) leads (sym (target-longer anchored w b byte leads) ∙ e) in
@@ -141,7 +141,7 @@ module _ (p : ContiguousView) (at : Places) (h : IsContiguous p at) where
   home-is true = inl refl
   home-is false = inr refl
 
-  reads-start : (b : ℕ) → b < 256 → leads_on p.built (Some []) b ≡ false → Reads No (Some []) b
+  reads-start : (b : ℕ) → b < 256 → leads_on p.built (Some []) b ≡ false → ReadsStep No (Some []) b
   reads-start b byte none =
       let target = no-target p at h.apart (number_at at No (onward (Some []))) [] b byte none in
       record {
@@ -156,7 +156,7 @@ module _ (p : ContiguousView) (at : Places) (h : IsContiguous p at) where
       }
 
   reads-anchored : (w : List ℕ) (b : ℕ) → target_of p at Yes (Some w) b ≡ FAIL → leads_on p.built (Some w) b ≡ false
-      → Reads Yes (Some w) b
+      → ReadsStep Yes (Some w) b
   reads-anchored w b target none = record {
     leads = λ some. absurd (some target);
     ends = λ fail yes. own-none w b none;
@@ -164,7 +164,7 @@ module _ (p : ContiguousView) (at : Places) (h : IsContiguous p at) where
   }
 
   reads-inner : (x : ℕ) (w : List ℕ) (b : ℕ) → b < 256 → leads_on p.built (Some (x ∷ w)) b ≡ false
-      → Reads No (Some (x ∷ w)) b
+      → ReadsStep No (Some (x ∷ w)) b
   reads-inner x w b byte none =
       let target = no-target p at h.apart FAIL (x ∷ w) b byte none in
       let off = own-none (x ∷ w) b none in
@@ -183,7 +183,7 @@ module _ (p : ContiguousView) (at : Places) (h : IsContiguous p at) where
       }
 
   -- what is read at any state
-  pub reads : (anchored : Anchored) (v : Node) (b : ℕ) → b < 256 → Reads anchored v b
+  pub reads : (anchored : Anchored) (v : Node) (b : ℕ) → b < 256 → ReadsStep anchored v b
   unfolding target_by
   reads anchored None b byte = record {
     leads = λ some. record { number = dead-number anchored; looks = dead-looks anchored };
@@ -200,7 +200,7 @@ module _ (p : ContiguousView) (at : Places) (h : IsContiguous p at) where
       dead-looks Yes = refl
   reads anchored (Some w) b byte = go anchored w (leads_on p.built (Some w) b) refl
     where
-      go : (anchored : Anchored) (w : List ℕ) (t : Bool) → leads_on p.built (Some w) b ≡ t → Reads anchored (Some w) b
+      go : (anchored : Anchored) (w : List ℕ) (t : Bool) → leads_on p.built (Some w) b ≡ t → ReadsStep anchored (Some w) b
       go anchored w true leads = reads-on anchored w b byte leads
       go No [] false none = reads-start b byte none
       go Yes [] false none = reads-anchored [] b (no-target p at h.apart FAIL [] b byte none) none

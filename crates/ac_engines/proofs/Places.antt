@@ -2,7 +2,7 @@
 use Rattle.std.proofs.Common.{◌≡◌, ◌≢◌, ℕ, zero, suc, ◌<◌, Bool, true, false, List, [], ◌∷◌, length, slice_index_or, refl, ap, ◌∙◌, arith, Some, None, bytes_eq, slice_get, if◌then◌else◌}
 use Rattle.std.proofs.lemmas.Slice.Eq.{bytes_eq-Decides}
 use Rattle.ac_util.specs.Node.{Node}
-use Rattle.ac_engines.specs.Dfa.Filling.{place_in}
+use Rattle.ac_engines.specs.Dfa.Filling.{first_row_in}
 
 -- what a test answers that decides the equality of two strings
 taken : (v w : List ℕ) (n m : ℕ) → v ≡ w → (if bytes_eq v w then n else m) ≡ n
@@ -15,13 +15,13 @@ passed v w n m false e other = rw e refl
 -- the first state that stands for a string tells its number
 pub place-at : (nodes : List Node) (numbers : List ℕ) (w : List ℕ) (s : ℕ) → length numbers ≡ length nodes
     → slice_get nodes s ≡ Some (Some w) → ((t : ℕ) → t < s → slice_get nodes t ≢ Some (Some w))
-    → place_in nodes numbers w ≡ slice_index_or numbers s 0
+    → first_row_in nodes numbers w ≡ slice_index_or numbers s 0
 place-at [] numbers w s long there first = absurd cc
 place-at (v ∷ vs) [] w s long there first = absurd (omega arith)
 place-at (None ∷ vs) (n ∷ ns) w zero long there first = absurd cc
 place-at (None ∷ vs) (n ∷ ns) w (suc s) long there first =
     place-at vs ns w s (omega arith) there (λ t before. first (suc t) (omega arith))
-place-at (Some v ∷ vs) (n ∷ ns) w zero long there first = taken v w n (place_in vs ns w) cc
+place-at (Some v ∷ vs) (n ∷ ns) w zero long there first = taken v w n (first_row_in vs ns w) cc
 place-at (Some v ∷ vs) (n ∷ ns) w (suc s) long there first =
-    passed v w n (place_in vs ns w) (bytes_eq v w) refl (λ same. first 0 (omega arith) (ap (λ u. Some (Some u)) same))
+    passed v w n (first_row_in vs ns w) (bytes_eq v w) refl (λ same. first 0 (omega arith) (ap (λ u. Some (Some u)) same))
     ∙ place-at vs ns w s (omega arith) there (λ t before. first (suc t) (omega arith))

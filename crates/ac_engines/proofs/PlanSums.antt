@@ -27,7 +27,7 @@ abbrev pub before : PackPlan → List Node → Bool → ℕ → ℕ
 before q nodes front s = total (size_at q nodes front) s
 
 -- a state takes so many words, among those in front or among the others
-pub record Takes (q : PackPlan) (nodes : List Node) (s : ℕ) (matched : Bool) (words : ℕ) : Type 0 where
+pub record TakesSize (q : PackPlan) (nodes : List Node) (s : ℕ) (matched : Bool) (words : ℕ) : Type 0 where
   pub place : place_at q nodes s
       ≡ cond matched (size_of q nodes None + before q nodes true s) (front_end q nodes + before q nodes false s)
   pub front : before q nodes true (s + 1) ≡ before q nodes true s + cond matched words 0
@@ -52,7 +52,7 @@ module _ (q : PackPlan) (nodes : List Node) where
         ∙ either-size (has_matches q nodes u) (size_of q nodes u)
 
     -- what it takes up, by whether it has matches
-    pub takes : (t : Bool) (n : ℕ) → t ≡ has_matches q nodes u → n ≡ size_of q nodes u → Takes q nodes s t n
+    pub takes : (t : Bool) (n : ℕ) → t ≡ has_matches q nodes u → n ≡ size_of q nodes u → TakesSize q nodes s t n
     takes t n is words = record {
       place = cond-false (nat_lt s START) 0 (placed q nodes s (slice_get nodes s)) (le-ltb s START reached)
           ∙ ap (placed q nodes s) named

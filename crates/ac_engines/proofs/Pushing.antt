@@ -7,7 +7,7 @@ use Rattle.ac_automaton.specs.Util.{alphabet_len, Node}
 use Rattle.ac_automaton.specs.declared.nfa.noncontiguous.state.TheConstants.{START}
 use Rattle.ac_automaton.specs.Prelude.{own_bytes}
 use Rattle.ac_automaton.proofs.Places.{get-same}
-use Rattle.ac_engines.specs.Prelude.{anchored_of, AreReady, BeginsWith, has_matches, HasPushed, node_format, packed_of, Packer, places_of, size_at, size_of, state_spelling, state_words, words_of_state}
+use Rattle.ac_engines.specs.Prelude.{anchored_of, AreReady, BeginsWith, has_matches, HasPushedWords, node_format, packed_of, Packer, places_of, size_at, size_of, state_spelling, state_words, words_of_state}
 use Rattle.ac_engines.proofs.PackedSums.{total-grows}
 use Rattle.ac_engines.proofs.PlanSums.{before, before-starts, takes}
 use Rattle.ac_engines.proofs.PushedStates.{begins-before, begins-after, length-spelled}
@@ -35,7 +35,7 @@ module _ (f : Packer) (nodes : List Node) where
 
   -- all were pushed at last
   pub pushed-all : (front : Bool) (old new : List ℕ) → HasPushedUpTo front (length nodes) old new
-      → HasPushed f nodes front old new
+      → HasPushedWords f nodes front old new
   pushed-all front old new h = record {
     pushed = h.pushed;
     same = h.same;

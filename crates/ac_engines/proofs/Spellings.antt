@@ -9,13 +9,13 @@ use Rattle.std.proofs.lemmas.List.{append_assoc, drop_at, get_or-drop, get_or_ap
 use Rattle.std.proofs.lemmas.Option.{same_Some}
 use Rattle.std.proofs.lemmas.List.FromFn.{get_or-map-range_with_len, length-map-range_with_len}
 use Rattle.ac_engines.specs.Prelude.{AreNamed, BeginsWith, class_words, DENSE, Dense, Edge, FAIL, Format, match_spelling, named, ONE, One, one_spelling, Sparse, spelled, Spelling, target_by}
-use Rattle.ac_engines.proofs.ClassWords.{classes_of, length-class_words, targets_of}
+use Rattle.ac_engines.proofs.ClassWords.{edge_classes, length-class_words, targets_of}
 
 -- as many class words as the code counts hold the classes of the transitions
 counted : (es : List Edge) (transitions : ℕ) → transitions ≡ length es
-    → length (class_words (classes_of es)) ≡ div_ceil transitions 4
+    → length (class_words (edge_classes es)) ≡ div_ceil transitions 4
 counted es transitions are =
-    let enough = length-class_words (classes_of es) in
+    let enough = length-class_words (edge_classes es) in
     let times = div_ceil_times transitions 4 (omega arith) in
     let same = length-map es (λ e. e.class) in
     omega (arith, enough, times.0, times.1, same, are)
@@ -47,14 +47,14 @@ none-named target names = by (target == FAIL) refl
 module _ (words : List ℕ) (classes : ℕ) (s : Spelling) where
   -- the words of a sparse state, one part after the other
   pub sparse-words : (h : BeginsWith words Sparse classes s)
-      → words ≡ length s.edges ∷ s.failure ∷ class_words (classes_of s.edges)
+      → words ≡ length s.edges ∷ s.failure ∷ class_words (edge_classes s.edges)
       ++ (targets_of s.edges ++ (match_spelling s.matches ++ h.rest))
   unfolding spelled
   sparse-words h =
       h.words_are
       ∙ ap (λ (ns : List ℕ). length s.edges ∷ s.failure ∷ ns)
-      (append_assoc (class_words (classes_of s.edges) ++ targets_of s.edges) (match_spelling s.matches) h.rest
-      ∙ append_assoc (class_words (classes_of s.edges)) (targets_of s.edges) (match_spelling s.matches ++ h.rest))
+      (append_assoc (class_words (edge_classes s.edges) ++ targets_of s.edges) (match_spelling s.matches) h.rest
+      ∙ append_assoc (class_words (edge_classes s.edges)) (targets_of s.edges) (match_spelling s.matches ++ h.rest))
 
   -- all words after the first two
   abbrev pub after : List ℕ
@@ -64,7 +64,7 @@ module _ (words : List ℕ) (classes : ℕ) (s : Spelling) where
   pub record SplitsAt (transitions count : ℕ) : Type 0 where
     pub long : 2 ≤ length words
     pub enough : count ≤ length after
-    pub front : take count after ≡ class_words (classes_of s.edges)
+    pub front : take count after ≡ class_words (edge_classes s.edges)
     pub more : List ℕ
     pub back : drop count after ≡ targets_of s.edges ++ more
     pub small : All (λ e. e.class < 256) s.edges
@@ -73,17 +73,17 @@ module _ (words : List ℕ) (classes : ℕ) (s : Spelling) where
       → count ≡ div_ceil transitions 4 → SplitsAt transitions count
   splits-at transitions count h are counts =
       let more = match_spelling s.matches ++ h.rest in
-      let tail : drop 2 words ≡ class_words (classes_of s.edges) ++ (targets_of s.edges ++ more) =
+      let tail : drop 2 words ≡ class_words (edge_classes s.edges) ++ (targets_of s.edges ++ more) =
       ap (λ (ns : List ℕ). drop 2 ns) (sparse-words h) in
-      let all : after ≡ class_words (classes_of s.edges) ++ (targets_of s.edges ++ more) =
+      let all : after ≡ class_words (edge_classes s.edges) ++ (targets_of s.edges ++ more) =
       take_all (length words - 2) (drop 2 words) (rw (length-drop 2 words) (omega arith)) ∙ tail in
-      let same : count ≡ length (class_words (classes_of s.edges)) = counts ∙ sym (counted s.edges transitions are) in
+      let same : count ≡ length (class_words (edge_classes s.edges)) = counts ∙ sym (counted s.edges transitions are) in
       record {
         long = rw (sparse-words h) (omega arith);
-        enough = rw (all, same, length-append (class_words (classes_of s.edges)) (targets_of s.edges ++ more)) (omega arith);
-        front = rw (all, same) (take-append_seam (class_words (classes_of s.edges)) (targets_of s.edges ++ more));
+        enough = rw (all, same, length-append (class_words (edge_classes s.edges)) (targets_of s.edges ++ more)) (omega arith);
+        front = rw (all, same) (take-append_seam (class_words (edge_classes s.edges)) (targets_of s.edges ++ more));
         more = more;
-        back = rw all (drop_at (class_words (classes_of s.edges)) (targets_of s.edges ++ more) count (sym same));
+        back = rw all (drop_at (class_words (edge_classes s.edges)) (targets_of s.edges ++ more) count (sym same));
         small = λ k d within. let low = h.below k d within in omega (arith, low, h.few);
       }
 
@@ -257,9 +257,9 @@ module _ (words : List ℕ) (classes : ℕ) (s : Spelling) where
       let transitions = is ∙ (form-sparse h).0 in
       let same = counted s.edges low transitions in
       let targets = length-map s.edges (λ e. e.target) in
-      let both = length-append (class_words (classes_of s.edges)) (targets_of s.edges) in
+      let both = length-append (class_words (edge_classes s.edges)) (targets_of s.edges) in
       lists-from (2 + count + low)
-      (length s.edges ∷ s.failure ∷ (class_words (classes_of s.edges) ++ targets_of s.edges)) h.rest
+      (length s.edges ∷ s.failure ∷ (class_words (edge_classes s.edges) ++ targets_of s.edges)) h.rest
       (sparse-words h ∙ ap (λ (ns : List ℕ). length s.edges ∷ s.failure ∷ ns)
-      (sym (append_assoc (class_words (classes_of s.edges)) (targets_of s.edges) (match_spelling s.matches ++ h.rest))))
+      (sym (append_assoc (class_words (edge_classes s.edges)) (targets_of s.edges) (match_spelling s.matches ++ h.rest))))
       (omega (arith, transitions, same, targets, both, counts))

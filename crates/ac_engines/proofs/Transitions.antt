@@ -8,13 +8,13 @@ use Rattle.std.proofs.Math.Seq.{take-append_seam}
 use Rattle.std.proofs.lemmas.List.{get_or_append_left, length-map}
 use Rattle.std.proofs.lemmas.List.Elements.{All-drop}
 use Rattle.std.proofs.lemmas.List.FromFn.{length-map-range_with_len}
-use Rattle.ac_engines.specs.Prelude.{BeginsWith, class_of_place, class_words, Dense, Edge, edges_from, Format, match_spelling, One, packed_class, Sparse, Spelling, target_by, transitions_of, word_of}
-use Rattle.ac_engines.proofs.ClassWords.{classes_of, targets_of}
+use Rattle.ac_engines.specs.Prelude.{BeginsWith, class_of_place, class_words, Dense, Edge, edges_from, Format, match_spelling, One, packed_class, Sparse, Spelling, target_by, spelled_transitions, word_of}
+use Rattle.ac_engines.proofs.ClassWords.{edge_classes, targets_of}
 use Rattle.ac_engines.proofs.Spellings.{after, dense-words, form, form-dense, form-one, form-sparse, one-words, splits-at}
 
 -- the targets of transitions, by the classes of these, make up the transitions
 edges-from : (class_of : ℕ → ℕ) (place : ℕ) (es : List Edge)
-    → ((k : ℕ) → k < length es → class_of (place + k) ≡ slice_index_or (classes_of es) k 0)
+    → ((k : ℕ) → k < length es → class_of (place + k) ≡ slice_index_or (edge_classes es) k 0)
     → edges_from class_of place (targets_of es) ≡ es
 unfolding edges_from
 edges-from class_of place [] are = refl
@@ -78,7 +78,7 @@ packed-four a b c d words classes (suc (suc (suc (suc place)))) bytes others =
 
 -- the class at a place of class words is that of the transition at that place
 packed-class : (es : List Edge) (place : ℕ) → All (λ e. e.class < 256) es → place < length es
-    → packed_class (class_words (classes_of es)) place ≡ slice_index_or (classes_of es) place 0
+    → packed_class (class_words (edge_classes es)) place ≡ slice_index_or (edge_classes es) place 0
 unfolding class_words
 packed-class [] place small low = absurd (omega (arith, low))
 packed-class (a ∷ []) place small low =
@@ -95,7 +95,7 @@ packed-class (a ∷ b ∷ c ∷ []) place small low =
     (omega (arith, low))
     ∙ get_or_append_left (a.class ∷ b.class ∷ c.class ∷ []) (c.class ∷ []) 0 place low
 packed-class (a ∷ b ∷ c ∷ d ∷ es) place small low =
-    packed-four a.class b.class c.class d.class (class_words (classes_of es)) (classes_of es) place
+    packed-four a.class b.class c.class d.class (class_words (edge_classes es)) (edge_classes es) place
     (small 0 a (omega arith), small 1 b (omega arith), small 2 c (omega arith), small 3 d (omega arith))
     (λ k after. packed-class es k (All-drop (λ e. e.class < 256) 4 (a ∷ b ∷ c ∷ d ∷ es) small)
     (omega (arith, low, after)))
@@ -104,7 +104,7 @@ module _ (words : List ℕ) (classes : ℕ) (s : Spelling) (targets : List ℕ) 
   -- a dense state has a target for each class
   pub dense-transitions : (format : Format) → BeginsWith words format classes s → form words classes s ≡ 255
       → targets ≡ take classes (drop 2 words)
-      → edges_from (class_of_place None) 0 targets ≡ transitions_of format classes s
+      → edges_from (class_of_place None) 0 targets ≡ spelled_transitions format classes s
   dense-transitions Dense h tells are =
       let all = map (target_by s.missing s.edges) (range_with_len 0 classes) in
       let more = match_spelling s.matches ++ h.rest in
@@ -121,7 +121,7 @@ module _ (words : List ℕ) (classes : ℕ) (s : Spelling) (targets : List ℕ) 
   -- a state with one transition has one target, and its class stands beside the form
   pub one-transition : (format : Format) (class : ℕ) → BeginsWith words format classes s → form words classes s ≡ 254
       → class ≡ slice_index_or words 0 0 / 256 % 256 → targets ≡ take 1 (drop 2 words)
-      → edges_from (class_of_place None) class targets ≡ transitions_of format classes s
+      → edges_from (class_of_place None) class targets ≡ spelled_transitions format classes s
   unfolding edges_from
   one-transition Dense class h tells is are =
       let dense = form-dense words classes s h in absurd (omega (arith, dense, tells))
@@ -153,7 +153,7 @@ module _ (words : List ℕ) (classes : ℕ) (s : Spelling) (targets : List ℕ) 
       → BeginsWith words format classes s → transitions ≡ form words classes s → transitions ≢ 255 → transitions ≢ 254
       → count ≡ div_ceil transitions 4 → front.now ≡ take count (after words classes s)
       → targets ≡ take transitions (drop count (after words classes s))
-      → edges_from (class_of_place (Some front)) 0 targets ≡ transitions_of format classes s
+      → edges_from (class_of_place (Some front)) 0 targets ≡ spelled_transitions format classes s
   sparse-transitions Dense transitions count front h is dense one words_are front_is are =
       absurd (dense (is ∙ form-dense words classes s h))
   sparse-transitions One transitions count front h is dense one words_are front_is are =

@@ -14,8 +14,8 @@ HasPlace searcher asked state =
     (search_in searcher.built asked) state
 
 -- how many items of that listing were given
-abbrev pub place_in : Searcher → Asked → OverlappingState → ℕ
-place_in searcher asked state = place_by (listed_in searcher.states) (search_in searcher.built asked) state
+abbrev pub rank_in : Searcher → Asked → OverlappingState → ℕ
+rank_in searcher asked state = place_by (listed_in searcher.states) (search_in searcher.built asked) state
 
 -- a call has given the next item of the listing, or none past its end, and the state stands for the place after it
 abbrev pub GivesItem : Searcher → Asked → OverlappingState → OverlappingState → Type 0

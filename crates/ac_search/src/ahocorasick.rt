@@ -4,7 +4,7 @@ ghost use Rattle.std.specs.Iterator.Runs.{YieldsInOrder};
 ghost use Rattle.ac_automaton.specs.Util.{AnswersUnless, asked, bytes_of, find_refusal, found, item_at, longest_len, Occurrence, Occurs, overlapping_iter_refusal, overlapping_refusal, place_after, search_in, shortest_len, start_refusal};
 ghost use Rattle.ac_automaton.specs.Prelude.{begun, GoesOn, listing_begun, ListsNext, RefusesBy};
 ghost use Rattle.ac_search.specs.Engines.{Supports, searcher_of};
-ghost use Rattle.ac_search.specs.Places.{GivesItem, HasPlace, place_in};
+ghost use Rattle.ac_search.specs.Places.{GivesItem, HasPlace, rank_in};
 ghost use Rattle.ac_search.specs.Searchers.{IsBuilt, engine_refusal, looks_allowed, usual_settings};
 
 use ac_automaton::automaton::OverlappingState;
@@ -152,10 +152,10 @@ impl<A: Allocator> AhoCorasick<A> {
         requires supported { overlapping_refusal self.now.built (asked input) ≡ None }
         requires placed { HasPlace self.now (asked input) state.old }
         ensures item { state.new.found ≡ item_at (search_in self.now.built (asked input.entry))
-            (place_in self.now (asked input.entry) state.old) }
-        ensures place { place_in self.now (asked input.entry) state.new
+            (rank_in self.now (asked input.entry) state.old) }
+        ensures place { rank_in self.now (asked input.entry) state.new
             ≡ place_after (search_in self.now.built (asked input.entry))
-            (place_in self.now (asked input.entry) state.old) }
+            (rank_in self.now (asked input.entry) state.old) }
         ensures placed { HasPlace self.now (asked input.entry) state.new }
     {
         let Ok(()) = self.try_find_overlapping(input, state) else {

@@ -5,6 +5,7 @@ ghost use Rattle.ac_search.specs.Asked.{asked_whole};
 ghost use Rattle.ac_search.specs.Texts.{AreTexts};
 
 use crate::MatchKind::{LeftmostFirst, LeftmostLongest, Standard};
+use crate::StartKind::{Both, Unanchored};
 use crate::laws::{answers_cut_no_character, answers_lie_inside};
 use crate::{
     AhoCorasick, AhoCorasickBuilder, AhoCorasickKind, Anchored, BuildError, Input, Match,
@@ -25,22 +26,27 @@ mod stream;
 /// A pattern number, a start and an end.
 type Told = (usize, usize, usize);
 
+/// Why a search is refused.
+const NOT_ANCHORED: Option<MatchError> = Some(MatchError::InvalidInputAnchored);
+
+const NOT_UNANCHORED: Option<MatchError> = Some(MatchError::InvalidInputUnanchored);
+
+const NOT_FIRST: Option<MatchError> = Some(MatchError::UnsupportedOverlapping {
+    got: LeftmostFirst,
+});
+
+const NOT_LONGEST: Option<MatchError> = Some(MatchError::UnsupportedOverlapping {
+    got: LeftmostLongest,
+});
+
 /// The start kinds that rule out an anchoring, and with which error; then those that rule out none.
 const STARTS: &[(StartKind, Anchored, Option<MatchError>)] = &[
-    (
-        StartKind::Unanchored,
-        Anchored::Yes,
-        Some(MatchError::InvalidInputAnchored),
-    ),
-    (
-        StartKind::Anchored,
-        Anchored::No,
-        Some(MatchError::InvalidInputUnanchored),
-    ),
-    (StartKind::Unanchored, Anchored::No, None),
+    (Unanchored, Anchored::Yes, NOT_ANCHORED),
+    (StartKind::Anchored, Anchored::No, NOT_UNANCHORED),
+    (Unanchored, Anchored::No, None),
     (StartKind::Anchored, Anchored::Yes, None),
-    (StartKind::Both, Anchored::No, None),
-    (StartKind::Both, Anchored::Yes, None),
+    (Both, Anchored::No, None),
+    (Both, Anchored::Yes, None),
 ];
 
 /// Patterns, a haystack, and the listing.
@@ -86,44 +92,34 @@ type Refusals = (
 
 const OVERLAPPING_REFUSALS: &[Refusals] = &[
     (
-        StartKind::Unanchored,
+        Unanchored,
         LeftmostFirst,
         Anchored::No,
-        Some(MatchError::UnsupportedOverlapping { got: LeftmostFirst }),
-        Some(MatchError::UnsupportedOverlapping { got: LeftmostFirst }),
+        NOT_FIRST,
+        NOT_FIRST,
     ),
     (
-        StartKind::Unanchored,
+        Unanchored,
         LeftmostFirst,
         Anchored::Yes,
-        Some(MatchError::InvalidInputAnchored),
-        Some(MatchError::InvalidInputAnchored),
+        NOT_ANCHORED,
+        NOT_ANCHORED,
     ),
     (
         StartKind::Anchored,
         LeftmostLongest,
         Anchored::No,
-        Some(MatchError::InvalidInputUnanchored),
-        Some(MatchError::InvalidInputUnanchored),
+        NOT_UNANCHORED,
+        NOT_UNANCHORED,
     ),
+    (Both, Standard, Anchored::Yes, None, NOT_ANCHORED),
+    (Unanchored, Standard, Anchored::No, None, None),
     (
-        StartKind::Both,
-        Standard,
-        Anchored::Yes,
-        None,
-        Some(MatchError::InvalidInputAnchored),
-    ),
-    (StartKind::Unanchored, Standard, Anchored::No, None, None),
-    (
-        StartKind::Both,
+        Both,
         LeftmostLongest,
         Anchored::Yes,
-        Some(MatchError::UnsupportedOverlapping {
-            got: LeftmostLongest,
-        }),
-        Some(MatchError::UnsupportedOverlapping {
-            got: LeftmostLongest,
-        }),
+        NOT_LONGEST,
+        NOT_LONGEST,
     ),
 ];
 
@@ -289,7 +285,7 @@ fn matches_of_texts_cut_no_character(rt: HostRuntime) -> Result<(), Fail> {
 fn a_new_searcher_tells_its_settings(rt: HostRuntime) -> Result<(), Fail> {
     let searcher = AhoCorasick::new(rt.alloc(), &[b"he", b"she", b"hers"])?;
     same(&rt, searcher.kind(), AhoCorasickKind::DFA);
-    same(&rt, searcher.start_kind(), StartKind::Unanchored);
+    same(&rt, searcher.start_kind(), Unanchored);
     same(&rt, searcher.match_kind(), Standard);
     same(&rt, searcher.min_pattern_len(), 2);
     same(&rt, searcher.max_pattern_len(), 4);
@@ -317,10 +313,10 @@ fn each_setting_counts(rt: HostRuntime) -> Result<(), Fail> {
     same(&rt, walked.as_slice(), [(0, 0, 6)].as_slice());
     builder.ascii_case_insensitive(true);
     builder.kind(Some(AhoCorasickKind::NoncontiguousNFA));
-    builder.start_kind(StartKind::Both);
+    builder.start_kind(Both);
     let all = builder.build(rt.alloc(), &patterns)?;
     same(&rt, all.match_kind(), LeftmostFirst);
-    same(&rt, all.start_kind(), StartKind::Both);
+    same(&rt, all.start_kind(), Both);
     same(&rt, all.kind(), AhoCorasickKind::NoncontiguousNFA);
     let walked = walk_of(rt.alloc(), &all, Input::new(b"appendage APP"))?;
     same(&rt, walked.as_slice(), [(0, 0, 6), (2, 10, 13)].as_slice());
@@ -331,7 +327,7 @@ fn each_setting_counts(rt: HostRuntime) -> Result<(), Fail> {
 fn a_clone_answers_equally(rt: HostRuntime) -> Result<(), Fail> {
     let mut builder = AhoCorasickBuilder::new();
     builder.match_kind(LeftmostLongest);
-    builder.start_kind(StartKind::Both);
+    builder.start_kind(Both);
     builder.ascii_case_insensitive(true);
     let settings = builder.clone();
     builder.ascii_case_insensitive(false);
@@ -345,7 +341,7 @@ fn a_clone_answers_equally(rt: HostRuntime) -> Result<(), Fail> {
     same(&rt, walked.as_slice(), wanted.as_slice());
     same(&rt, clone.kind(), AhoCorasickKind::ContiguousNFA);
     same(&rt, clone.match_kind(), LeftmostLongest);
-    same(&rt, clone.start_kind(), StartKind::Both);
+    same(&rt, clone.start_kind(), Both);
     same(&rt, clone.patterns_len(), 3);
     Ok(())
 }

@@ -12,7 +12,7 @@ use Rattle.ac_util.proofs.Participants.{Prefixes, Equals, begins-from_Prefixes, 
 use Rattle.ac_util.proofs.Prefixes.{starts_with-itself}
 use Rattle.ac_util.proofs.Reached.{stops}
 use Rattle.ac_util.proofs.Found.{matches-nil, matches-cons}
-use Rattle.ac_util.proofs.Standing.{Stands, place_of, IsPickIn, first-by_start, first-one_on, first-at_one_end, Prefixes-cases, Prefixes-length, Prefixes-equal, Stands-more, Stands-cases, Stands-behind, Stands-from_behind, Stands-from_Prefixes}
+use Rattle.ac_util.proofs.Standing.{Stands, standing_at, IsPickIn, first-by_start, first-one_on, first-at_one_end, Prefixes-cases, Prefixes-length, Prefixes-equal, Stands-more, Stands-cases, Stands-behind, Stands-from_behind, Stands-from_Prefixes}
 
 -- the front of an empty list is empty
 pub append_nil_left : (xs ys : List ℕ) → xs ++ ys ≡ [] → xs ≡ []
@@ -24,7 +24,7 @@ module _ (kind : MatchKind) (patterns : List (List ℕ)) where
   own u = equal_to kind patterns u
 
   abbrev front_place : ℕ → Occurrence
-  front_place n = place_of patterns n 0
+  front_place n = standing_at patterns n 0
 
   -- a pattern that takes part, is a prefix of w and is preferred to prefix n or is n itself
   record Preferred (w : List ℕ) (n j : ℕ) : Type 0 where
@@ -74,7 +74,7 @@ module _ (kind : MatchKind) (patterns : List (List ℕ)) where
   -- pattern j stands at place k of w and is no worse than pattern n at s
   record Better (anchored : Anchored) (w : List ℕ) (n s j k : ℕ) : Type 0 where
     stands : Stands patterns anchored w j k
-    first : IsFirst kind (place_of patterns j k) (place_of patterns n s)
+    first : IsFirst kind (standing_at patterns j k) (standing_at patterns n s)
 
   better_front : (anchored : Anchored) (w : List ℕ) (b n : ℕ) → own (w ++ b ∷ []) ≡ []
       → Prefixes patterns (w ++ b ∷ []) n
@@ -94,7 +94,7 @@ module _ (kind : MatchKind) (patterns : List (List ℕ)) where
     record {
       stands = Stands-from_Prefixes patterns No [] n h.prefixes;
       first =
-          first-by_start kind (place_of patterns n 0) (place_of patterns n 1) (omega arith) (inr (omega arith));
+          first-by_start kind (standing_at patterns n 0) (standing_at patterns n 1) (omega arith) (inr (omega arith));
     },
   )
   better_free [] b n (suc (suc s)) none h = absurd (let i = h.within in omega arith)
@@ -119,7 +119,7 @@ module _ (kind : MatchKind) (patterns : List (List ℕ)) where
             0,
             record {
               stands = Stands-from_Prefixes patterns No (x ∷ w) p.0 p.1;
-              first = first-by_start kind (place_of patterns p.0 0) (place_of patterns n (suc s)) (omega arith)
+              first = first-by_start kind (standing_at patterns p.0 0) (standing_at patterns n (suc s)) (omega arith)
                   (inl both.0);
             },
           )
@@ -157,7 +157,7 @@ module _ (kind : MatchKind) (patterns : List (List ℕ)) where
     as_long = h.as_long;
     first = (λ n s stands.
         let p = better_than anchored w b n s none stands in
-        IsFirst-trans kind m (place_of patterns p.0 p.1) (place_of patterns n s)
+        IsFirst-trans kind m (standing_at patterns p.0 p.1) (standing_at patterns n s)
         (h.first p.0 p.1 p.2.stands) p.2.first);
   }
 
@@ -170,7 +170,7 @@ module _ (kind : MatchKind) (patterns : List (List ℕ)) where
     pub stands : Stands patterns anchored v i k
     pub whole : k + length (pattern_of patterns i) ≡ length v
     pub first : (n s : ℕ) → Stands patterns anchored v n s → Counts v n s
-        → IsFirst kind (place_of patterns i k) (place_of patterns n s)
+        → IsFirst kind (standing_at patterns i k) (standing_at patterns n s)
 
   -- the first of the patterns that are v
   own_least : (v : List ℕ) (i : ℕ) (rest : List ℕ) → own v ≡ i ∷ rest → (n : ℕ) → Equals kind patterns v n
@@ -251,13 +251,13 @@ module _ (kind : MatchKind) (patterns : List (List ℕ)) where
   }
     where
       first : (n s : ℕ) → Stands patterns anchored v n s → Counts v n s
-          → IsFirst kind (front_place i) (place_of patterns n s)
+          → IsFirst kind (front_place i) (standing_at patterns n s)
       first n zero stands counts = head_front v i rest e n stands.prefixes counts
       first n (suc s) stands (inl leftmost) =
-          first-by_start kind (front_place i) (place_of patterns n (suc s)) (omega arith) (inl leftmost)
+          first-by_start kind (front_place i) (standing_at patterns n (suc s)) (omega arith) (inl leftmost)
       first n (suc s) stands (inr ends) =
           let l = own_whole v i rest e in
-          first-by_start kind (front_place i) (place_of patterns n (suc s)) (omega arith) (inr (omega arith))
+          first-by_start kind (front_place i) (standing_at patterns n (suc s)) (omega arith) (inr (omega arith))
 
   -- where none is, the head is that of the text without its first byte
   head_behind : (x : ℕ) (v : List ℕ) (i k : ℕ) → own (x ∷ v) ≡ [] → stops kind patterns (x ∷ v) ≡ false
@@ -287,7 +287,7 @@ module _ (kind : MatchKind) (patterns : List (List ℕ)) where
       counts_behind n s (inr e) = inr (omega arith)
 
       first : (n s : ℕ) → Stands patterns No (x ∷ v) n s → Counts (x ∷ v) n s
-          → IsFirst kind (place_of patterns i (suc k)) (place_of patterns n s)
+          → IsFirst kind (standing_at patterns i (suc k)) (standing_at patterns n s)
       first n zero stands counts = absurd (no_front n stands.prefixes (is_leftmost kind) refl counts)
       first n (suc s) stands counts =
           first-one_on kind patterns i k n s
@@ -334,7 +334,7 @@ module _ (kind : MatchKind) (patterns : List (List ℕ)) where
   -- under a leftmost kind it is the pick
   pub pick-becomes : (anchored : Anchored) (v : List ℕ) (i k : ℕ) → is_leftmost kind ≡ true
       → IsHead anchored v i k
-      → IsPickIn kind patterns anchored v (Some (place_of patterns i k))
+      → IsPickIn kind patterns anchored v (Some (standing_at patterns i k))
   pick-becomes anchored v i k leftmost h =
       record { stands = h.stands; as_long = refl; first = λ n s stands. h.first n s stands (inl leftmost) }
 
@@ -342,14 +342,14 @@ module _ (kind : MatchKind) (patterns : List (List ℕ)) where
   pub first-becomes : (anchored : Anchored) (w : List ℕ) (b i k : ℕ)
       → ((n s : ℕ) → ¬ Stands patterns anchored w n s)
       → IsHead anchored (w ++ b ∷ []) i k
-      → IsPickIn Standard patterns anchored (w ++ b ∷ []) (Some (place_of patterns i k))
+      → IsPickIn Standard patterns anchored (w ++ b ∷ []) (Some (standing_at patterns i k))
   first-becomes anchored w b i k none h = record {
     stands = h.stands;
     as_long = refl;
     first = (λ n s stands.
         let ends = new_end n s stands in
         let whole = h.whole in
-        first-at_one_end kind (place_of patterns i k) (place_of patterns n s) (omega arith)
+        first-at_one_end kind (standing_at patterns i k) (standing_at patterns n s) (omega arith)
         (h.first n s stands (inr ends)));
   }
     where
@@ -386,7 +386,7 @@ module _ (kind : MatchKind) (patterns : List (List ℕ)) where
   -- nothing ends before the start, so under each order its head is the pick of the empty text
   pub start-becomes : (order : MatchKind) (anchored : Anchored) (i k : ℕ) → IsHead anchored [] i k
       → ((a b : Occurrence) → a.end ≡ b.end → IsFirst kind a b → IsFirst order a b)
-      → IsPickIn order patterns anchored [] (Some (place_of patterns i k))
+      → IsPickIn order patterns anchored [] (Some (standing_at patterns i k))
   start-becomes order anchored i k h also = record {
     stands = h.stands;
     as_long = refl;
@@ -394,6 +394,6 @@ module _ (kind : MatchKind) (patterns : List (List ℕ)) where
         let f = start_stands anchored n s stands in
         let l = Prefixes-length patterns [] n f.1 in
         let w = h.whole in
-        also (place_of patterns i k) (place_of patterns n s) (omega arith)
+        also (standing_at patterns i k) (standing_at patterns n s) (omega arith)
         (h.first n s stands (inr (omega arith))));
   }

@@ -2,7 +2,7 @@
 use Rattle.std.proofs.Common.{◌≡◌, ℕ, zero, suc, ◌+◌, ◌-◌, ◌<◌, ◌≤◌, Bool, true, false, ◌||◌, cond, List, [], ◌∷◌, ◌++◌, map, get_or, ◌⊎◌, inl, inr, refl, ap, sym, ◌∙◌, subst, Some, None, add-one, arith, nat_eq}
 use Rattle.std.specs.List.{list_any, starts_with}
 use Rattle.std.proofs.lemmas.Bool.{or_cases, or_left, or_right, and_parts, cases_lt, cond-false, false≢true, false_from_ne_true}
-use Rattle.ac_util.specs.Prelude.{class_of, is_empty, is_node, IsLawful, MatchKind, No, Node, participants, pattern_of, plain, plain_byte, same_byte, stands_in, step, Yes}
+use Rattle.ac_util.specs.Prelude.{class_of, is_empty, is_node, IsLawful, MatchKind, No, Node, participants, pattern_of, plain, plain_byte, same_byte, is_in_patterns, step, Yes}
 use Rattle.ac_util.specs.declared.search.Anchored.{Anchored}
 use Rattle.ac_util.proofs.NodeCount.{any_passes}
 use Rattle.ac_util.proofs.Prefixes.{list_any-weaker}
@@ -75,7 +75,7 @@ module _ (fold : Bool) (patterns : List (List ℕ)) where
   class b = class_of fold patterns b
 
   abbrev pub stands : ℕ → Bool
-  stands b = stands_in fold patterns b
+  stands b = is_in_patterns fold patterns b
 
   -- a byte that ends a node stands in a pattern
   pub stands-from_node : (kind : MatchKind) (v : List ℕ) (b : ℕ)

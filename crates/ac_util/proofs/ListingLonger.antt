@@ -10,7 +10,7 @@ use Rattle.ac_util.proofs.Picks.{same_occurrence}
 use Rattle.ac_util.proofs.Prefixes.{starts_with-itself}
 use Rattle.ac_util.proofs.Participants.{IsIn-equal_to, IsIn-from_equal_to, equal_to-ordered}
 use Rattle.ac_util.proofs.Found.{matches-nil, matches-cons}
-use Rattle.ac_util.proofs.Standing.{Stands, place_of, Prefixes-equal, Stands-behind, Stands-from_behind, Stands-from_Prefixes}
+use Rattle.ac_util.proofs.Standing.{Stands, standing_at, Prefixes-equal, Stands-behind, Stands-from_behind, Stands-from_Prefixes}
 use Rattle.ac_util.proofs.Spans.{pattern_length, text_length, Stands-from_Occurs, Occurs-from_Stands}
 use Rattle.ac_util.proofs.OneLonger.{found-text}
 use Rattle.std.specs.List.{starts_with}
@@ -151,7 +151,7 @@ module _ (q : Search) (order : q.low ≤ q.high) (inside : q.high ≤ length q.h
       let l = pattern_length q order inside n in
       let w = r.1.whole in
       subst (Occurs q)
-      (same_occurrence (outward q.low (place_of (plain_patterns q) n r.0)) (ending q n) refl (omega arith)
+      (same_occurrence (outward q.low (standing_at (plain_patterns q) n r.0)) (ending q n) refl (omega arith)
       (omega arith))
       (Occurs-from_Stands q order inside n r.0 r.1.stands)
 

@@ -4,19 +4,19 @@ use Rattle.ac_util.specs.Prelude.{ending, found_at_end, is_leftmost, IsFirst, lo
 use Rattle.ac_util.proofs.Picks.{same_occurrence, pick-from_IsPick}
 use Rattle.ac_util.proofs.Reached.{step-reached}
 use Rattle.ac_util.proofs.Found.{matches-reached}
-use Rattle.ac_util.proofs.Standing.{Stands, place_of, IsPickIn, first-at_one_end}
+use Rattle.ac_util.proofs.Standing.{Stands, standing_at, IsPickIn, first-at_one_end}
 use Rattle.ac_util.proofs.Advance.{IsHead, head, pick-stays, pick-becomes, first-becomes, start-stays, start-becomes}
 use Rattle.ac_util.proofs.Spans.{inward, pattern_length, text_length, text_longer, pick-from_text, pick-in_text, pick-out_again, nothing-past_end}
 
 -- a head of the text, told from the haystack's front, ends where the span does
 ending-head : (kind : MatchKind) (q : Search) (i k : ℕ) → q.low ≤ q.high → q.high ≤ length q.haystack
     → IsHead kind (plain_patterns q) q.anchored (text q) i k
-    → outward q.low (place_of (plain_patterns q) i k) ≡ ending q i
+    → outward q.low (standing_at (plain_patterns q) i k) ≡ ending q i
 ending-head kind q i k order inside h =
     let l = pattern_length q order inside i in
     let t = text_length q order inside in
     let w = h.whole in
-    same_occurrence (outward q.low (place_of (plain_patterns q) i k)) (ending q i) refl (omega arith)
+    same_occurrence (outward q.low (standing_at (plain_patterns q) i k)) (ending q i) refl (omega arith)
     (omega arith)
 
 -- what is found at the end is found in the whole text
@@ -63,7 +63,7 @@ module _ (kind : MatchKind) (q : Search) (order : q.low ≤ q.high) (room : q.hi
       head kind (plain_patterns q) q.anchored (text q ++ byte_in q ∷ []) i rest (sym now-text ∙ e)
 
   ends_there : (i k : ℕ) → IsHead kind (plain_patterns q) q.anchored (text q ++ byte_in q ∷ []) i k
-      → outward q.low (place_of (plain_patterns q) i k) ≡ ending (one_longer q) i
+      → outward q.low (standing_at (plain_patterns q) i k) ≡ ending (one_longer q) i
   ends_there i k h =
       ending-head kind (one_longer q) i k (omega arith) (omega arith)
       (subst (λ (w : List ℕ). IsHead kind (plain_patterns q) q.anchored w i k)
@@ -75,7 +75,7 @@ module _ (kind : MatchKind) (q : Search) (order : q.low ≤ q.high) (room : q.hi
       → pick kind (one_longer q) ≡ Some (ending (one_longer q) i)
   pick-longer_becomes leftmost i rest e =
       let h = longer_head i rest e in
-      sym (longer kind (Some (place_of (plain_patterns q) i h.0))
+      sym (longer kind (Some (standing_at (plain_patterns q) i h.0))
       (pick-becomes kind (plain_patterns q) q.anchored (text q ++ byte_in q ∷ []) i h.0 leftmost h.1))
       ∙ ap (λ (o : Occurrence). Some o) (ends_there i h.0 h.1)
 
@@ -99,7 +99,7 @@ module _ (kind : MatchKind) (q : Search) (order : q.low ≤ q.high) (room : q.hi
       → pick Standard (one_longer q) ≡ Some (ending (one_longer q) i)
   first-longer_becomes none i rest e =
       let h = longer_head i rest e in
-      sym (longer Standard (Some (place_of (plain_patterns q) i h.0))
+      sym (longer Standard (Some (standing_at (plain_patterns q) i h.0))
       (first-becomes kind (plain_patterns q) q.anchored (text q) (byte_in q) i h.0
       (nothing_stands Standard none) h.1))
       ∙ ap (λ (o : Occurrence). Some o) (ends_there i h.0 h.1)
@@ -147,9 +147,9 @@ module _ (kind : MatchKind) (q : Search) (empty : q.low ≡ q.high) (inside : q.
       subst (λ (w : List ℕ). IsHead kind (plain_patterns q) q.anchored w i h.0)
       (sym (text-empty q empty)) h.1 in
       sym (pick-from_text q (omega arith) inside (order_of kind earliest)
-      (Some (place_of (plain_patterns q) i h.0))
+      (Some (standing_at (plain_patterns q) i h.0))
       (subst (λ (w : List ℕ). IsPickIn (order_of kind earliest) (plain_patterns q) q.anchored w
-      (Some (place_of (plain_patterns q) i h.0))) (sym (text-empty q empty))
+      (Some (standing_at (plain_patterns q) i h.0))) (sym (text-empty q empty))
       (start-becomes kind (plain_patterns q) (order_of kind earliest) q.anchored i h.0 h.1
       (same_order earliest))))
       ∙ ap (λ (o : Occurrence). Some o) (ending-head kind q i h.0 (omega arith) inside there)

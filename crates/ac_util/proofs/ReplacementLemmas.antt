@@ -1,6 +1,6 @@
 -- What the steps of a replacement leave, by what each call does.
 use Rattle.std.proofs.Common.{◌≡◌, ℕ, List, [], ◌∷◌, ◌++◌, drop, inl, inr, refl, ap, sym, subst, ◌∙◌, append_assoc, append-nil, Bool, Option, None, Some, slice_index_or, slice_range}
-use Rattle.ac_util.specs.Prelude.{AlwaysWrites, Answer, AppendsAll, AppendsBeginning, asked_by, CallsNoMore, exchanged_from, Fails, GoesOn, MatchAnswer, Occurrence, OnlyAppends, replaced, ReplacementSteps, Replacing, Turn, WritesText}
+use Rattle.ac_util.specs.Prelude.{AlwaysWrites, Answer, AppendsAll, AppendsBeginning, asked_by, CallsNoMore, exchanged_from, Fails, Continues, MatchAnswer, Occurrence, OnlyAppends, replaced, ReplacementSteps, Replacing, Turn, WritesText}
 
 module _ {S R E : Type 0} (appends : List ℕ → S → Option E → S → Type 0)
     (calls : Occurrence → List ℕ → S → R → S → Type 0) (asks : R → Answer E) (haystack : List ℕ) where
@@ -22,7 +22,7 @@ module _ {S R E : Type 0} (appends : List ℕ → S → Option E → S → Type 
             (appends (drop m.end haystack) h.1 end t) (λ failure. (end ≡ Some failure) × (t ≡ h.1))
             → (ReplacementSteps appends calls asks haystack m.end ms h.1 end t → P h.1 → P t)
             → P h.1 → P t
-        by GoesOn later on q = on later q
+        by Continues later on q = on later q
         by CallsNoMore later on q = appended (drop m.end haystack) h.1 t end later q
         by (Fails failure) later on q = subst P (sym later.1) q
 
@@ -32,7 +32,7 @@ module _ {S R E : Type 0} (appends : List ℕ → S → Option E → S → Type 
       (appended : (bytes : List ℕ) (s t : S) → appends bytes s None t → holds t ≡ holds s ++ bytes)
       (cut : (bytes : List ℕ) (s t : S) (end : Option E) → appends bytes s end t → (rest : List ℕ) × (holds t ++ rest ≡ holds s ++ bytes))
       (called : (m : Occurrence) (slice : List ℕ) (s t : S) (r : R) → calls m slice s r t
-      → (asks r ≡ GoesOn) × (holds t ≡ holds s ++ write m slice)) where
+      → (asks r ≡ Continues) × (holds t ≡ holds s ++ write m slice)) where
     -- a turn writes the gap and what the match is exchanged for
     turn-writes : (place : ℕ) (m : Occurrence) (s t : S) (r : R) (later : List ℕ)
         → Turn appends calls asks haystack place m s r t
@@ -57,11 +57,11 @@ module _ {S R E : Type 0} (appends : List ℕ → S → Option E → S → Type 
         by : (answer : Answer E) → MatchAnswer answer
             (ReplacementSteps appends calls asks haystack m.end ms h.1 None t)
             (appends (drop m.end haystack) h.1 None t) (λ failure. (None ≡ Some failure) × (t ≡ h.1))
-            → answer ≡ GoesOn
+            → answer ≡ Continues
             → (ReplacementSteps appends calls asks haystack m.end ms h.1 None t
             → holds t ≡ holds h.1 ++ exchanged_from haystack write m.end ms)
             → holds t ≡ holds s ++ exchanged_from haystack write place (m ∷ ms)
-        by GoesOn later goes on =
+        by Continues later goes on =
             on later ∙ turn-writes place m s h.1 h.0 (exchanged_from haystack write m.end ms) h.2
         by CallsNoMore later goes on = absurd (cc)
         by (Fails failure) later goes on = absurd (cc)
@@ -85,11 +85,11 @@ module _ {S R E : Type 0} (appends : List ℕ → S → Option E → S → Type 
         by : (answer : Answer E) → MatchAnswer answer
             (ReplacementSteps appends calls asks haystack m.end ms h.1 end t)
             (appends (drop m.end haystack) h.1 end t) (λ failure. (end ≡ Some failure) × (t ≡ h.1))
-            → answer ≡ GoesOn
+            → answer ≡ Continues
             → (ReplacementSteps appends calls asks haystack m.end ms h.1 end t
             → (rest : List ℕ) × (holds t ++ rest ≡ holds h.1 ++ exchanged_from haystack write m.end ms))
             → (rest : List ℕ) × (holds t ++ rest ≡ holds s ++ exchanged_from haystack write place (m ∷ ms))
-        by GoesOn later goes on =
+        by Continues later goes on =
             let rest = on later in
             (rest.0, rest.1 ∙ turn-writes place m s h.1 h.0 (exchanged_from haystack write m.end ms) h.2)
         by CallsNoMore later goes on = absurd (cc)
@@ -125,7 +125,7 @@ module _ (E : Type 0) {F D : Type 0} (calls : Occurrence → List ℕ → Replac
     (holds : D → List ℕ) (write : Occurrence → List ℕ → List ℕ) (writes : AlwaysWrites calls holds write)
     (haystack : List ℕ) where
   asks_on : (m : Occurrence) (slice : List ℕ) (s t : Replacing F D) (r : Bool) → calls m slice s r t
-      → (asked_by {E = E} r ≡ GoesOn) × (holds t.destination ≡ holds s.destination ++ write m slice)
+      → (asked_by {E = E} r ≡ Continues) × (holds t.destination ≡ holds s.destination ++ write m slice)
   asks_on m slice s t r call =
       let writes = writes m slice s r t call in (ap (asked_by {E = E}) writes.0, writes.1)
 
@@ -177,7 +177,7 @@ module _ (E : Type 0) {F D : Type 0} (calls : Occurrence → List ℕ → Replac
 module _ (E : Type 0) (haystack : List ℕ) (texts : List (List ℕ)) where
   on_texts : (m : Occurrence) (slice : List ℕ) (s t : Replacing (Unit {0}) (List ℕ)) (r : Bool)
       → WritesText texts m slice s r t
-      → (asked_by {E = E} r ≡ GoesOn) × (t.destination ≡ s.destination ++ slice_index_or texts m.pattern [])
+      → (asked_by {E = E} r ≡ Continues) × (t.destination ≡ s.destination ++ slice_index_or texts m.pattern [])
   on_texts m slice s t r call = (ap (asked_by {E = E}) call.0, call.1)
 
   pub text-replaces : (ms : List Occurrence) (s t : Replacing (Unit {0}) (List ℕ))

@@ -7,13 +7,13 @@ use Rattle.ac_util.proofs.OneLonger.{pick-longer_stays, pick-longer_becomes, fir
 
 -- a search by this order over an automaton of this kind, which has picked r, can go on: it prefers what starts
 -- first, as the automaton does, or it stops at the first match and has none yet
-abbrev pub GoesOn : MatchKind → MatchKind → Option Occurrence → Type 0
-GoesOn kind order r = ((is_leftmost kind ≡ true) × (order ≡ kind)) ⊎ ((order ≡ Standard) × (r ≡ None))
+abbrev pub SearchGoesOn : MatchKind → MatchKind → Option Occurrence → Type 0
+SearchGoesOn kind order r = ((is_leftmost kind ≡ true) × (order ≡ kind)) ⊎ ((order ≡ Standard) × (r ≡ None))
 
 -- as long as one that stops at the first match has none
 pub goes_on-while : (kind : MatchKind) (earliest : Bool) (r : Option Occurrence)
     → (order_of kind earliest ≡ Standard → r ≡ None)
-    → GoesOn kind (order_of kind earliest) r
+    → SearchGoesOn kind (order_of kind earliest) r
 goes_on-while Standard true r h = inr (refl, h refl)
 goes_on-while Standard false r h = inr (refl, h refl)
 goes_on-while LeftmostFirst true r h = inr (refl, h refl)
@@ -24,7 +24,7 @@ goes_on-while LeftmostLongest false r h = inl (refl, refl)
 module _ (kind order : MatchKind) (q : Search) (ordered : q.low ≤ q.high)
     (room : q.high < length q.haystack) where
   -- without a match at the new end the pick stays
-  pub pick-goes_on : GoesOn kind order (pick order q) → found_at_end kind (one_longer q) ≡ []
+  pub pick-goes_on : SearchGoesOn kind order (pick order q) → found_at_end kind (one_longer q) ≡ []
       → pick order (one_longer q) ≡ pick order q
   pick-goes_on (inl leftmost) none =
       ap (λ (k : MatchKind). pick k (one_longer q)) leftmost.1
@@ -36,7 +36,7 @@ module _ (kind order : MatchKind) (q : Search) (ordered : q.low ≤ q.high)
       ∙ sym first.1
 
   -- with one it is the first of them
-  pub pick-found : GoesOn kind order (pick order q) → (i : ℕ) (rest : List ℕ)
+  pub pick-found : SearchGoesOn kind order (pick order q) → (i : ℕ) (rest : List ℕ)
       → found_at_end kind (one_longer q) ≡ i ∷ rest
       → pick order (one_longer q) ≡ Some (ending (one_longer q) i)
   pick-found (inl leftmost) i rest e =
@@ -50,7 +50,7 @@ module _ (kind order : MatchKind) (q : Search) (ordered : q.low ≤ q.high)
 -- from the dead node on the pick stays
 pub pick-stays_dead : (kind order : MatchKind) (q : Search) (n : ℕ) → q.low ≤ q.high
     → q.high + n ≤ length q.haystack
-    → reached kind (plain_patterns q) q.anchored (text q) ≡ None → GoesOn kind order (pick order q)
+    → reached kind (plain_patterns q) q.anchored (text q) ≡ None → SearchGoesOn kind order (pick order q)
     → pick order (longer_by q n) ≡ pick order q
 pick-stays_dead kind order q n ordered room dead (inl leftmost) =
     ap (λ (k : MatchKind). pick k (longer_by q n)) leftmost.1

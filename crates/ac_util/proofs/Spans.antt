@@ -5,7 +5,7 @@ use Rattle.std.proofs.Math.ListN.{get_or-map}
 use Rattle.std.proofs.lemmas.Slice.Eq.{bytes_eq-Decides}
 use Rattle.ac_util.specs.Prelude.{cut, IsFirst, IsPick, LeftmostFirst, LeftmostLongest, MatchKind, Occurrence, occurrence, Occurs, one_longer, outward, pattern_of, pick, plain, plain_byte, plain_patterns, Search, Standard, text}
 use Rattle.ac_util.proofs.Picks.{pick-IsPick, pick-from_IsPick, same_occurrence}
-use Rattle.ac_util.proofs.Standing.{Stands, place_of, IsPickIn, Stands-end}
+use Rattle.ac_util.proofs.Standing.{Stands, standing_at, IsPickIn, Stands-end}
 
 -- a part of the first m elements is a part of the list
 pub take_drop_take : {X : Type 0} (n k m : ℕ) (xs : List X) → k + n ≤ m
@@ -159,7 +159,7 @@ module _ (q : Search) (order : q.low ≤ q.high) (inside : q.high ≤ length q.h
 
   -- and what stands in the text occurs
   pub Occurs-from_Stands : (n s : ℕ) → Stands (plain_patterns q) q.anchored (text q) n s
-      → Occurs q (outward q.low (place_of (plain_patterns q) n s))
+      → Occurs q (outward q.low (standing_at (plain_patterns q) n s))
   Occurs-from_Stands n s h =
       let p = pattern_of (plain_patterns q) n in
       let l = pattern_length n in
@@ -180,10 +180,10 @@ module _ (q : Search) (order : q.low ≤ q.high) (inside : q.high ≤ length q.h
 
   -- an occurrence is the place of its pattern at its start
   outward_inward : (o : Occurrence) → Occurs q o
-      → outward q.low (place_of (plain_patterns q) o.pattern (o.start - q.low)) ≡ o
+      → outward q.low (standing_at (plain_patterns q) o.pattern (o.start - q.low)) ≡ o
   outward_inward o h =
       let l = pattern_length o.pattern in let a = h.as_long in let b = h.from_low in
-      same_occurrence (outward q.low (place_of (plain_patterns q) o.pattern (o.start - q.low))) o refl
+      same_occurrence (outward q.low (standing_at (plain_patterns q) o.pattern (o.start - q.low))) o refl
       (omega arith) (omega arith)
 
   -- the pick in the text is one of the search
@@ -192,10 +192,10 @@ module _ (q : Search) (order : q.low ≤ q.high) (inside : q.high ≤ length q.h
   is_pick kind None h = λ o occurs. h o.pattern (o.start - q.low) (Stands-from_Occurs o occurs)
   is_pick kind (Some m) h = (
     subst (λ (o : Occurrence). Occurs q (outward q.low o))
-        (same_occurrence (place_of (plain_patterns q) m.pattern m.start) m refl refl h.as_long)
+        (same_occurrence (standing_at (plain_patterns q) m.pattern m.start) m refl refl h.as_long)
         (Occurs-from_Stands m.pattern m.start h.stands),
     λ o occurs. subst (λ (b : Occurrence). IsFirst kind (outward q.low m) b) (outward_inward o occurs)
-        (first-outward kind q.low m (place_of (plain_patterns q) o.pattern (o.start - q.low))
+        (first-outward kind q.low m (standing_at (plain_patterns q) o.pattern (o.start - q.low))
         (h.first o.pattern (o.start - q.low) (Stands-from_Occurs o occurs))),
   )
 
@@ -208,15 +208,15 @@ module _ (q : Search) (order : q.low ≤ q.high) (inside : q.high ≤ length q.h
   in_text : (kind : MatchKind) (r : Option Occurrence) → IsPick kind q r
       → IsPickIn kind (plain_patterns q) q.anchored (text q) (option_map (inward q.low) r)
   in_text kind None h =
-      λ n s stands. h (outward q.low (place_of (plain_patterns q) n s)) (Occurs-from_Stands n s stands)
+      λ n s stands. h (outward q.low (standing_at (plain_patterns q) n s)) (Occurs-from_Stands n s stands)
   in_text kind (Some m) h = record {
     stands = Stands-from_Occurs m h.0;
     as_long = (let l = pattern_length m.pattern in let a = h.0.as_long in let b = h.0.from_low in omega arith);
     first = (λ n s stands.
-        first-from_outward kind q.low (inward q.low m) (place_of (plain_patterns q) n s)
-        (subst (λ (a : Occurrence). IsFirst kind a (outward q.low (place_of (plain_patterns q) n s)))
+        first-from_outward kind q.low (inward q.low m) (standing_at (plain_patterns q) n s)
+        (subst (λ (a : Occurrence). IsFirst kind a (outward q.low (standing_at (plain_patterns q) n s)))
         (sym (inward_outward m h.0))
-        (h.1 (outward q.low (place_of (plain_patterns q) n s)) (Occurs-from_Stands n s stands))));
+        (h.1 (outward q.low (standing_at (plain_patterns q) n s)) (Occurs-from_Stands n s stands))));
   }
     where
       inward_outward : (o : Occurrence) → Occurs q o → outward q.low (inward q.low o) ≡ o

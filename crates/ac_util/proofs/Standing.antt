@@ -15,15 +15,15 @@ pub record Stands (patterns : List (List ℕ)) (anchored : Anchored) (w : List �
   pub at_front : anchored ≡ Yes → s ≡ 0
 
 -- its place there
-abbrev pub place_of : List (List ℕ) → ℕ → ℕ → Occurrence
-place_of patterns n s = occurrence n s (s + length (pattern_of patterns n))
+abbrev pub standing_at : List (List ℕ) → ℕ → ℕ → Occurrence
+standing_at patterns n s = occurrence n s (s + length (pattern_of patterns n))
 
 -- m stands in w, and nothing that stands there is preferred to it
 pub record IsBestIn (kind : MatchKind) (patterns : List (List ℕ)) (anchored : Anchored) (w : List ℕ)
     (m : Occurrence) : Type 0 where
   pub stands : Stands patterns anchored w m.pattern m.start
   pub as_long : m.start + length (pattern_of patterns m.pattern) ≡ m.end
-  pub first : (n s : ℕ) → Stands patterns anchored w n s → IsFirst kind m (place_of patterns n s)
+  pub first : (n s : ℕ) → Stands patterns anchored w n s → IsFirst kind m (standing_at patterns n s)
 
 -- r is that, or it is None and nothing stands in w
 abbrev pub IsPickIn : MatchKind → List (List ℕ) → Anchored → List ℕ → Option Occurrence → Type 0
@@ -42,8 +42,8 @@ first-by_start LeftmostLongest a b l e =
 
 -- the order stays where both places are one further on
 pub first-one_on : (kind : MatchKind) (patterns : List (List ℕ)) (j k n s : ℕ)
-    → IsFirst kind (place_of patterns j k) (place_of patterns n s)
-    → IsFirst kind (place_of patterns j (suc k)) (place_of patterns n (suc s))
+    → IsFirst kind (standing_at patterns j k) (standing_at patterns n s)
+    → IsFirst kind (standing_at patterns j (suc k)) (standing_at patterns n (suc s))
 first-one_on Standard patterns j k n s f = record {
   ends = (let e = f.ends in omega arith);
   starts = (λ e. let g = f.starts (omega arith) in omega arith);

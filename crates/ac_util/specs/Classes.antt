@@ -23,15 +23,15 @@ pub record IsLawful (class : ℕ → ℕ) (kind : MatchKind) (fold : Bool) (patt
       ≡ step kind (map (plain fold) patterns) anchored u (plain_byte fold b)
 
 -- whether the byte stands in some pattern, in either case where case is ignored
-abbrev pub stands_in : Bool → List (List ℕ) → ℕ → Bool
-stands_in fold patterns b = list_any (λ p. list_any (same_byte fold b) p) patterns
+abbrev pub is_in_patterns : Bool → List (List ℕ) → ℕ → Bool
+is_in_patterns fold patterns b = list_any (λ p. list_any (same_byte fold b) p) patterns
 
 -- the class of a byte: it rises at each byte that stands in a pattern, and at the byte after it
 unfoldable pub class_of : Bool → List (List ℕ) → ℕ → ℕ
 class_of fold patterns zero = 0
 class_of fold patterns (suc b) =
     class_of fold patterns b
-    + (if stands_in fold patterns (suc b) || stands_in fold patterns b then 1 else 0)
+    + (if is_in_patterns fold patterns (suc b) || is_in_patterns fold patterns b then 1 else 0)
 
 -- the classes of all bytes
 unfoldable pub classes_of : Bool → List (List ℕ) → List ℕ
@@ -66,5 +66,5 @@ pub record AreClasses (classes : List ℕ) : Type 0 where
 
 -- each byte of a pattern has a class of its own
 pub record SetsApart (fold : Bool) (patterns : List (List ℕ)) (classes : List ℕ) : Type 0 where
-  pub own : (a b : ℕ) → a < 256 → b < 256 → stands_in fold patterns b ≡ true
+  pub own : (a b : ℕ) → a < 256 → b < 256 → is_in_patterns fold patterns b ≡ true
       → class_at classes a ≡ class_at classes b → a ≡ b

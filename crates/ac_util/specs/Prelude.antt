@@ -2,7 +2,7 @@
 pub use Rattle.ac_util.specs.Asked.{Asked, asked_whole}
 pub use Rattle.ac_util.specs.Borrowed.{bytes_of}
 pub use Rattle.ac_util.specs.Built.{Built, exchanged, found, search_in, walked}
-pub use Rattle.ac_util.specs.Classes.{alphabet_len, AreClasses, class_at, IsLawful, SetsApart, stands_in}
+pub use Rattle.ac_util.specs.Classes.{alphabet_len, AreClasses, class_at, IsLawful, SetsApart, is_in_patterns}
 unfoldable pub use Rattle.ac_util.specs.Classes.{class_of, classes_of, singletons}
 pub use Rattle.ac_util.specs.Device.{idle, Reading, ReadsAll, ReadsSome, Took}
 pub use Rattle.ac_util.specs.Inside.{LiesIn}
@@ -22,7 +22,7 @@ unfoldable pub use Rattle.ac_util.specs.Prefilters.{first_bytes}
 pub use Rattle.ac_util.specs.Prefilters.Skip.{FirstOf}
 pub use Rattle.ac_util.specs.Refusal.{Call, Find, OverlappingByState, OverlappingIterator, refusal, Replace, Stream}
 pub use Rattle.ac_util.specs.Replaced.{exchanged_from, is_char_boundary, is_whole, replaced, replaced_from, whole_characters}
-pub use Rattle.ac_util.specs.Replacement.{AlwaysWrites, Answer, AppendsAll, AppendsBeginning, asked_by, Calls, CallsNoMore, Fails, GoesOn, MatchAnswer, OnlyAppends, ReplacementSteps, Replacing, Turn, WritesText}
+pub use Rattle.ac_util.specs.Replacement.{AlwaysWrites, Answer, AppendsAll, AppendsBeginning, asked_by, Calls, CallsNoMore, Fails, Continues, MatchAnswer, OnlyAppends, ReplacementSteps, Replacing, Turn, WritesText}
 pub use Rattle.ac_util.specs.Sameness.{plain, plain_byte, same_byte, same_string}
 pub use Rattle.ac_util.specs.Search.{from, may_start, Occurs, occurs, pattern_of, Search}
 pub use Rattle.ac_util.specs.Settled.{AreDecided, IsOpen, IsSettledAt, NoneOpen}

@@ -6,13 +6,13 @@ use Rattle.ac_util.specs.Occurrence.{Occurrence}
 
 -- what the answer of a call asks for: to go on, to call no more, or to end at once with a failure
 pub data Answer (E : Type 0) : Type 0 where
-  GoesOn : Answer E
+  Continues : Answer E
   CallsNoMore : Answer E
   Fails : E → Answer E
 
 -- one of three things, by what an answer asks for
 abbrev pub MatchAnswer : {E : Type 0} → Answer E → Type 0 → Type 0 → (E → Type 0) → Type 0
-MatchAnswer GoesOn on last fails = on
+MatchAnswer Continues on last fails = on
 MatchAnswer CallsNoMore on last fails = last
 MatchAnswer (Fails failure) on last fails = fails failure
 
@@ -75,7 +75,7 @@ pub record Calls {F D R : Type 0}
 
 -- true asks to go on, false to call no more
 abbrev pub asked_by : {E : Type 0} → Bool → Answer E
-asked_by true = GoesOn
+asked_by true = Continues
 asked_by false = CallsNoMore
 
 -- the text of the match's pattern is appended, and the answer asks to go on

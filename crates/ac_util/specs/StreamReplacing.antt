@@ -13,7 +13,7 @@ use Rattle.ac_util.specs.Built.{Built}
 use Rattle.ac_util.specs.Device.{Reading, ReadsAll, ReadsSome, ReadsTooMany, ReadsUntilFailure, Writing, WritesAll, WritesUntilFailure}
 use Rattle.ac_util.specs.Occurrence.{Occurrence}
 use Rattle.ac_util.specs.Replaced.{replaced}
-use Rattle.ac_util.specs.Replacement.{Answer, Calls, Fails, GoesOn, Replacing, ReplacementSteps}
+use Rattle.ac_util.specs.Replacement.{Answer, Calls, Fails, Continues, Replacing, ReplacementSteps}
 use Rattle.ac_util.specs.Settled.{IsSettledAt}
 use Rattle.ac_util.specs.Sizes.{longest_len}
 use Rattle.ac_util.specs.Stream.{error_of, held, streamed, without_last}
@@ -70,7 +70,7 @@ module _ {F D : Type 0} (told : D → Writing) where
 
 -- what the answer of a closure asks for: to go on, or to end at once with its error
 abbrev pub asked_by_result : Result (Unit {0}) Error → Answer StreamError
-asked_by_result (Ok done) = GoesOn
+asked_by_result (Ok done) = Continues
 asked_by_result (Err e) = Fails (Io e)
 
 module _ {F D : Type 0} (told : D → Writing)

@@ -1,7 +1,7 @@
 //! Classes of bytes that an automaton need not tell apart, so that its rows of transitions are short.
 ghost use Rattle.std.specs.Prelude.{◌≡◌, ℕ, ◌<◌, ◌≤◌, ◌||◌, slice_index_or, false};
 ghost use Rattle.std.specs.List.{list_any};
-ghost use Rattle.ac_util.specs.Classes.{alphabet_len, class_at, classes_of, singletons, stands_in, stride, stride2};
+ghost use Rattle.ac_util.specs.Classes.{alphabet_len, class_at, classes_of, singletons, is_in_patterns, stride, stride2};
 ghost use Rattle.ac_util.specs.Sameness.{plain_byte, same_byte};
 
 use crate::patterns::{Patterns, plain_byte};
@@ -108,7 +108,7 @@ impl ByteClasses {
 
 /// Marks the plain bytes that stand in some pattern.
 fn marks_of<A: Allocator>(patterns: &Patterns<A>, fold: bool) -> [bool; 256]
-    ensures { (b : ℕ) → slice_index_or result (plain_byte fold b) false ≡ stands_in fold patterns.now b }
+    ensures { (b : ℕ) → slice_index_or result (plain_byte fold b) false ≡ is_in_patterns fold patterns.now b }
 {
     let mut marks = [false; 256];
     for number in 0..patterns.len() {

@@ -1,9 +1,7 @@
 //! Laws of the definitions. Each is the contract of a function that does nothing and has no condition.
 //!
-//! `answers` are for users of a search, `layers` for whoever writes an engine or a search, and `values` are
-//! laws of the plain types.
+//! `answers` are for users of a search, and `values` are laws of the plain types.
 pub mod answers;
-pub mod layers;
 pub mod values;
 
 pub use answers::{
@@ -12,13 +10,9 @@ pub use answers::{
     sameness_is_by_letter, settled_stays, steps_replace, stream_goes_on, tests_decide,
     text_closure_exchanges, walk_goes_on, walk_has_beginnings, walk_is_in_order, walk_is_short,
 };
-pub use layers::{
-    classes_are_lawful, classes_set_apart, dead_is_the_end, failures_step_alike,
-    first_pick_follows, listing_follows, looks_are_paid, matches_follow, nodes_are_counted,
-    nodes_begin_early, pick_begins, pick_follows, steps_follow, strides_have_room,
-};
 pub use values::{
-    clones_are_equal, clones_take_no_memory, defaults_are_told, equal_values_hash_equally,
-    errors_compare_by_their_fields, greatest_number_is_told, numbers_compare_as_numbers,
+    classes_are_lawful, classes_set_apart, clones_are_equal, clones_take_no_memory,
+    defaults_are_told, equal_values_hash_equally, errors_compare_by_their_fields,
+    greatest_number_is_told, numbers_compare_as_numbers, strides_have_room,
     values_compare_by_their_fields, values_hash_by_their_fields,
 };

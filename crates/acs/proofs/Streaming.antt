@@ -15,7 +15,7 @@ use Rattle.ac_util.proofs.Devices.{fails-after, reads-on, reads-out}
 use Rattle.ac_util.proofs.Lists.{drop-slice_get}
 use Rattle.ac_automaton.specs.declared.automaton.stream.Phase.{Phase}
 use Rattle.ac_automaton.specs.declared.automaton.stream.Phase.TheVariants.{Ended, Failed, Open}
-use Rattle.ac_automaton.specs.Streams.{EndsNow, GivesError, GivesMatch, GivesNext, GivesNone, GoesOnBy, HasGivenSettled, KeepsGiven, Streaming, matches_so_far, stream_begun}
+use Rattle.ac_automaton.specs.Streams.{EndsNow, GivesError, GivesMatch, GivesNextMatch, GivesNone, GoesOnBy, HasGivenSettled, KeepsGiven, Streaming, matches_so_far, stream_begun}
 use Rattle.acs.specs.declared.fault.Fault.{Fault}
 use Rattle.acs.specs.declared.request.Mode.TheVariants.{Stream}
 use Rattle.acs.specs.declared.run.Outcome.{Outcome}
@@ -203,7 +203,7 @@ module _ {ends : Bool} {built : Built} {v : Streaming} {reader new_reader : Read
       by Ended reads gives = ends-there gives
       by Failed reads gives = absurd reads
 
-  module _ {later : Reading} {m : Occurrence} {w : Streaming} (gives : GivesNext ends v m w new_reader later) where
+  module _ {later : Reading} {m : Occurrence} {w : Streaming} (gives : GivesNextMatch ends v m w new_reader later) where
     -- the next match is the first one whose line isn't written
     pub next-printing : IsPrinting (matches_so_far w) (m ∷ drop w.given (matches_so_far w)) writer new_writer text outcome
     next-printing =

@@ -154,7 +154,7 @@ fn start_of<A: Automaton>(automaton: &A, anchored: Anchored) -> Result<StateID, 
 }
 
 impl<'a, A: Automaton> Scanner<'a, A> {
-    ghost use Rattle.ac_automaton.specs.Overlaps.{HasGiven, HasMoved, IsListed, MayList};
+    ghost use Rattle.ac_automaton.specs.Overlaps.{HasGivenItem, HasMoved, IsListed, MayList};
     ghost use Rattle.ac_automaton.specs.Scans.{ScansTo, in_memory};
     ghost use Rattle.ac_automaton.specs.Skipping.{SkipsByBytes};
 
@@ -181,7 +181,7 @@ impl<'a, A: Automaton> Scanner<'a, A> {
             (in_memory bytes self.now.span) reached.old }
         ensures { (bytes : List ℕ) → IsListed (⟦<A as Scans>⟧.scan self.now.automaton.now self.now.anchored)
             (in_memory bytes self.now.span) reached.old
-            → HasGiven (⟦<A as Scans>⟧.scan self.now.automaton.now self.now.anchored) (in_memory bytes self.now.span) reached.old result
+            → HasGivenItem (⟦<A as Scans>⟧.scan self.now.automaton.now self.now.anchored) (in_memory bytes self.now.span) reached.old result
             reached.new }
     {
         let (pattern, rest) = self.automaton.take_match(reached.rest)?;

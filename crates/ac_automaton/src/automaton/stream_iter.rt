@@ -2,7 +2,7 @@
 ghost use Rattle.std.specs.Prelude.{◌≡◌, MatchResult, None, ⊤};
 ghost use Rattle.std.specs.Iterator.{at_most};
 ghost use Rattle.ac_automaton.specs.Util.{IsStreamRefused, stream_refusal};
-ghost use Rattle.ac_automaton.specs.Streams.{GivesItem, ReadsItem, items_left, kept_len, stream_begun};
+ghost use Rattle.ac_automaton.specs.Streams.{GivesStreamItem, ReadsItem, items_left, kept_len, stream_begun};
 
 use super::Automaton;
 use super::stream::StreamFinder;
@@ -74,7 +74,7 @@ impl<'a, A: Automaton, R: Source + Drop, Z: Allocator> StreamFindIter<'a, A, R, 
     /// Returns the next match of the stream, and reads more of it where that is needed.
     #[inline]
     fn advance(&mut self) -> Option<Result<Match, StreamError>>
-        ensures { GivesItem R.empty_means_end self.old result self.new }
+        ensures { GivesStreamItem R.empty_means_end self.old result self.new }
     {
         self.finder.next(&mut self.reader)
     }
@@ -83,7 +83,7 @@ impl<'a, A: Automaton, R: Source + Drop, Z: Allocator> StreamFindIter<'a, A, R, 
 impl<'a, A: Automaton, R: Source + Drop, Z: Allocator> Iterator for StreamFindIter<'a, A, R, Z> {
     type Item = Result<Match, StreamError>;
 
-    ghost next_gives = { GivesItem R.empty_means_end };
+    ghost next_gives = { GivesStreamItem R.empty_means_end };
 
     ghost remaining = { λ s. at_most (items_left s) };
 

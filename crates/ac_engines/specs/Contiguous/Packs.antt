@@ -34,7 +34,7 @@ module _ (f : Packer) (nodes : List Node) where
       spelled (node_format f.plan.trie.built f.plan.dense_depth u) (alphabet_len f.plan.classes) (state_spelling s u)
 
   -- all states that have matches were pushed, or all others: each stands after those before it
-  pub record HasPushed (front : Bool) (old new : List ℕ) : Type 0 where
+  pub record HasPushedWords (front : Bool) (old new : List ℕ) : Type 0 where
     pub pushed : List ℕ
     pub same : new ≡ old ++ pushed
     pub long : length new ≡ length old + total (size_at f.plan nodes front) (length nodes)
@@ -43,7 +43,7 @@ module _ (f : Packer) (nodes : List Node) where
         (node_format f.plan.trie.built f.plan.dense_depth u) (alphabet_len f.plan.classes) (state_spelling s u)
 
 -- the state is a start or stands after the starts
-pub record IsPlaced (f : Packer) (s : ℕ) : Type 0 where
+pub record HasPlaceIn (f : Packer) (s : ℕ) : Type 0 where
   pub nodes : List Node
   pub ready : AreReady f nodes
   pub node : Node

@@ -3,7 +3,7 @@ use Rattle.std.specs.Prelude.{◌≡◌, ℕ, zero, suc, ◌+◌, ◌<◌, ◌�
 use Rattle.ac_automaton.specs.Util.{alphabet_len, AreClasses, GREATEST, longest_len, No, Node, SetsApart}
 use Rattle.ac_automaton.specs.declared.nfa.noncontiguous.state.TheConstants.{ANCHORED_START, START}
 use Rattle.ac_automaton.specs.Prelude.{AreNodes, matches_of, Trie}
-use Rattle.ac_engines.specs.Dfa.Filling.{place_in}
+use Rattle.ac_engines.specs.Dfa.Filling.{first_row_in}
 use Rattle.ac_engines.specs.Contiguous.{ContiguousView, Places}
 use Rattle.ac_engines.specs.Contiguous.Sizes.{node_words}
 
@@ -78,7 +78,7 @@ module _ (q : PackPlan) (nodes : List Node) where
 
   abbrev pub places_of : List ℕ → Places
   places_of numbers = record {
-    place = place_in nodes numbers;
+    place = first_row_in nodes numbers;
     anchored_start = slice_index_or numbers ANCHORED_START 0;
   }
 

@@ -98,11 +98,11 @@ pub record HasTargets (old : List ℕ) (edges : List Edge) (now : List ℕ) : Ty
 
 -- the transitions that a state's words tell, in ascending order of their classes; a dense state says where each class
 -- leads
-abbrev pub transitions_of : Format → ℕ → Spelling → List Edge
-transitions_of Dense classes s =
+abbrev pub spelled_transitions : Format → ℕ → Spelling → List Edge
+spelled_transitions Dense classes s =
     map (λ class. record { class = class; target = target_by s.missing s.edges class }) (range_with_len 0 classes)
-transitions_of One classes s = s.edges
-transitions_of Sparse classes s = s.edges
+spelled_transitions One classes s = s.edges
+spelled_transitions Sparse classes s = s.edges
 
 -- the class at a place of class words
 abbrev pub packed_class : List ℕ → ℕ → ℕ

@@ -15,16 +15,16 @@ pub record Sheet : Type 0 where
   pub numbers : List ℕ
 
 -- the number of the first of the states that stand for a string
-abbrev pub place_in : List Node → List ℕ → List ℕ → ℕ
-place_in [] numbers w = 0
-place_in (v ∷ vs) [] w = 0
-place_in (None ∷ vs) (n ∷ ns) w = place_in vs ns w
-place_in (Some v ∷ vs) (n ∷ ns) w = if bytes_eq v w then n else place_in vs ns w
+abbrev pub first_row_in : List Node → List ℕ → List ℕ → ℕ
+first_row_in [] numbers w = 0
+first_row_in (v ∷ vs) [] w = 0
+first_row_in (None ∷ vs) (n ∷ ns) w = first_row_in vs ns w
+first_row_in (Some v ∷ vs) (n ∷ ns) w = if bytes_eq v w then n else first_row_in vs ns w
 
 module _ (p : Sheet) where
   -- where the row of a node begins
   abbrev pub row_at : Anchored → Node → ℕ
-  row_at anchored u = number_of (place_in p.nodes p.numbers) (anchored_shift p.built.start_kind anchored p.stride) u
+  row_at anchored u = number_of (first_row_in p.nodes p.numbers) (anchored_shift p.built.start_kind anchored p.stride) u
 
   -- in the row of a node the entries past the classes are dead
   abbrev pub EndsDead : Anchored → Node → List ℕ → Type 0

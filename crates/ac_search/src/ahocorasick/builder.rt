@@ -198,7 +198,12 @@ impl AhoCorasickBuilder {
         }
         let dfa_fits = self.dfa().fits(nfa);
         let contiguous_fits = self.contiguous().fits(nfa);
-        choose_kind(nfa.patterns_len(), self.start_kind, dfa_fits, contiguous_fits)
+        choose_kind(
+            nfa.patterns_len(),
+            self.start_kind,
+            dfa_fits,
+            contiguous_fits,
+        )
     }
 
     /// Returns the engine of this name, built from an automaton.
@@ -231,9 +236,10 @@ impl AhoCorasickBuilder {
         ensures dense_depth { result.dense_depth ≡ self.now.dense_depth }
         ensures byte_classes { result.byte_classes ≡ self.now.byte_classes }
     {
-        let mut builder = contiguous::Builder::new();
-        builder.dense_depth(self.dense_depth).byte_classes(self.byte_classes);
-        builder
+        let mut contiguous = contiguous::Builder::new();
+        contiguous.dense_depth(self.dense_depth);
+        contiguous.byte_classes(self.byte_classes);
+        contiguous
     }
 
     /// Returns the builder of a DFA with these starts and classes.
@@ -241,8 +247,9 @@ impl AhoCorasickBuilder {
         ensures start_kind { result.start_kind ≡ self.now.start_kind }
         ensures byte_classes { result.byte_classes ≡ self.now.byte_classes }
     {
-        let mut builder = dfa::Builder::new();
-        builder.start_kind(self.start_kind).byte_classes(self.byte_classes);
-        builder
+        let mut dfa = dfa::Builder::new();
+        dfa.start_kind(self.start_kind);
+        dfa.byte_classes(self.byte_classes);
+        dfa
     }
 }

@@ -2,7 +2,7 @@
 ghost use Rattle.std.specs.Prelude.{◌≡◌, ◌⊎◌, Err, IfErr, IfOk, MatchResult, None, Ok, length, ⊤};
 ghost use Rattle.std.specs.Iterator.{at_most};
 ghost use Rattle.ac_automaton.specs.Util.{bytes_of, FailsToReplace, FailsToReplaceWith, IsStreamRefused, ReplacesStream, ReplacesStreamWith, stream_refusal};
-ghost use Rattle.ac_automaton.specs.Streams.{GivesItem, GivesRead, ReadsItem, StreamsOn, items_left, kept_len};
+ghost use Rattle.ac_automaton.specs.Streams.{GivesStreamItem, GivesRead, ReadsItem, StreamsOn, items_left, kept_len};
 ghost use Rattle.ac_search.specs.StreamsBegun.{HasBegun, HasBegunOver};
 
 use super::engine::EngineStreamFinder;
@@ -260,7 +260,7 @@ impl<'a, R: Source + Drop, A: Allocator, Z: Allocator> StreamFindIter<'a, R, A, 
     /// Returns the next match of the stream, and reads more of it where that is needed.
     #[inline]
     fn advance(&mut self) -> Option<Result<Match, StreamError>>
-        ensures { GivesItem R.empty_means_end self.old result self.new }
+        ensures { GivesStreamItem R.empty_means_end self.old result self.new }
     {
         self.finder.next(&mut self.reader)
     }
@@ -269,7 +269,7 @@ impl<'a, R: Source + Drop, A: Allocator, Z: Allocator> StreamFindIter<'a, R, A, 
 impl<'a, R: Source + Drop, A: Allocator, Z: Allocator> Iterator for StreamFindIter<'a, R, A, Z> {
     type Item = Result<Match, StreamError>;
 
-    ghost next_gives = { GivesItem R.empty_means_end };
+    ghost next_gives = { GivesStreamItem R.empty_means_end };
 
     ghost remaining = { λ s. at_most (items_left s) };
 

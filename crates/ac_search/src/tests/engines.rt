@@ -1,6 +1,8 @@
 use super::replace::{IN_BYTES, IN_TEXT, push_number};
 use super::{LISTINGS, OVERLAPPING_REFUSALS, STARTS, Told, same, same_by, told, walk_of};
+use crate::AhoCorasickKind::{ContiguousNFA, DFA, NoncontiguousNFA};
 use crate::MatchKind::{LeftmostFirst, LeftmostLongest, Standard};
+use crate::StartKind::{Both, Unanchored};
 use crate::{
     AhoCorasick, AhoCorasickBuilder, AhoCorasickKind, Anchored, Input, MatchError, MatchKind,
     OverlappingState, ReplaceError, StartKind, choose_kind,
@@ -22,9 +24,9 @@ struct Engine {
 /// The engines, and that one is chosen.
 pub(super) const KINDS: [Option<AhoCorasickKind>; 4] = [
     None,
-    Some(AhoCorasickKind::NoncontiguousNFA),
-    Some(AhoCorasickKind::ContiguousNFA),
-    Some(AhoCorasickKind::DFA),
+    Some(NoncontiguousNFA),
+    Some(ContiguousNFA),
+    Some(DFA),
 ];
 
 /// Whether bytes share classes, and whether there may be a prefilter.
@@ -55,13 +57,34 @@ fn engines(alloc: Global) -> Result<Vec<Engine>, AllocError> {
 
 const EACH: &[MatchKind] = &[Standard, LeftmostFirst, LeftmostLongest];
 
-/// What the walk of a haystack gives under each of some match kinds.
-struct Row {
-    kinds: &'static [MatchKind],
-    patterns: &'static [&'static [u8]],
-    haystack: &'static [u8],
-    walk: &'static [Told],
-}
+const STANDARD: &[MatchKind] = &[Standard];
+
+const FIRST: &[MatchKind] = &[LeftmostFirst];
+
+const LONGEST: &[MatchKind] = &[LeftmostLongest];
+
+const LEFTMOST: &[MatchKind] = &[LeftmostFirst, LeftmostLongest];
+
+/// Match kinds, patterns, a haystack, and its walk under each of the kinds.
+type Row = (
+    &'static [MatchKind],
+    &'static [&'static [u8]],
+    &'static [u8],
+    &'static [Told],
+);
+
+const FRUIT: &[&[u8]] = &[b"apple", b"maple", b"Snapple"];
+
+const LIKES: &[u8] = b"Nobody likes maple in their apple flavored Snapple.";
+
+/// A long pattern that fails at its last byte.
+const FAILS_LATE: &[&[u8]] = &[b"a", b"abcdefghi", b"hz", b"abcdefgh"];
+
+const FAILS_LATER: &[&[u8]] = &[b"b", b"abcdefghi", b"hz", b"abcdefgh"];
+
+const NAMES: &[&[u8]] = &[b"Samwise", b"Sam"];
+
+const FOO: &[&[u8]] = &[b"foo", b"bar", b"quux"];
 
 const WORDS: &[&[u8]] = &[b"append", b"appendage", b"app"];
 
@@ -71,227 +94,82 @@ const SENTENCE: &[u8] = b"append the app to the appendage";
 const PREFIXES: &[&[u8]] = &[b"b", b"abc", b"abcd"];
 
 const WALKS: [Row; 22] = [
-    Row {
-        kinds: EACH,
-        patterns: &[b"apple", b"maple", b"Snapple"],
-        haystack: b"Nobody likes maple in their apple flavored Snapple.",
-        walk: &[(1, 13, 18), (0, 28, 33), (2, 43, 50)],
-    },
-    Row {
-        kinds: &[Standard],
-        patterns: PREFIXES,
-        haystack: b"abcd",
-        walk: &[(0, 1, 2)],
-    },
-    Row {
-        kinds: &[LeftmostFirst],
-        patterns: PREFIXES,
-        haystack: b"abcd",
-        walk: &[(1, 0, 3)],
-    },
-    Row {
-        kinds: &[LeftmostLongest],
-        patterns: PREFIXES,
-        haystack: b"abcd",
-        walk: &[(2, 0, 4)],
-    },
-    Row {
-        kinds: &[Standard],
-        patterns: WORDS,
-        haystack: SENTENCE,
-        walk: &[(2, 0, 3), (2, 11, 14), (2, 22, 25)],
-    },
-    Row {
-        kinds: &[LeftmostFirst],
-        patterns: WORDS,
-        haystack: SENTENCE,
-        walk: &[(0, 0, 6), (2, 11, 14), (0, 22, 28)],
-    },
-    Row {
-        kinds: &[LeftmostLongest],
-        patterns: WORDS,
-        haystack: SENTENCE,
-        walk: &[(0, 0, 6), (2, 11, 14), (1, 22, 31)],
-    },
-    Row {
-        kinds: &[Standard],
-        patterns: &[b"", b"a"],
-        haystack: b"a",
-        walk: &[(0, 0, 0), (0, 1, 1)],
-    },
-    Row {
-        kinds: &[LeftmostLongest],
-        patterns: &[b"", b"a"],
-        haystack: b"ba",
-        walk: &[(0, 0, 0), (1, 1, 2)],
-    },
-    Row {
-        kinds: &[LeftmostFirst],
-        patterns: &[b"a", b"abcdefghi", b"hz", b"abcdefgh"],
-        haystack: b"abcdefghz",
-        walk: &[(0, 0, 1), (2, 7, 9)],
-    },
-    Row {
-        kinds: &[LeftmostLongest],
-        patterns: &[b"a", b"abcdefghi", b"hz", b"abcdefgh"],
-        haystack: b"abcdefghz",
-        walk: &[(3, 0, 8)],
-    },
-    Row {
-        kinds: &[LeftmostFirst, LeftmostLongest],
-        patterns: &[b"b", b"abcdefghi", b"hz", b"abcdefgh"],
-        haystack: b"abcdefghz",
-        walk: &[(3, 0, 8)],
-    },
-    Row {
-        kinds: &[LeftmostFirst],
-        patterns: &[b"abc", b"bd", b""],
-        haystack: b"abd",
-        walk: &[(2, 0, 0), (1, 1, 3)],
-    },
-    Row {
-        kinds: EACH,
-        patterns: &[b"ab", b"ab"],
-        haystack: b"abab",
-        walk: &[(0, 0, 2), (0, 2, 4)],
-    },
-    Row {
-        kinds: &[LeftmostFirst],
-        patterns: PREFIXES,
-        haystack: b"foo abcd",
-        walk: &[(1, 4, 7)],
-    },
-    Row {
-        kinds: EACH,
-        patterns: PREFIXES,
-        haystack: b"xb",
-        walk: &[(0, 1, 2)],
-    },
-    Row {
-        kinds: &[Standard],
-        patterns: &[b"Samwise", b"Sam"],
-        haystack: b"Samwise",
-        walk: &[(1, 0, 3)],
-    },
-    Row {
-        kinds: &[LeftmostFirst],
-        patterns: &[b"Samwise", b"Sam"],
-        haystack: b"Samwise",
-        walk: &[(0, 0, 7)],
-    },
-    Row {
-        kinds: EACH,
-        patterns: &[b"aba"],
-        haystack: b"ababa",
-        walk: &[(0, 0, 3)],
-    },
-    Row {
-        kinds: &[Standard],
-        patterns: &[b"a", b"aa"],
-        haystack: b"aaa",
-        walk: &[(0, 0, 1), (0, 1, 2), (0, 2, 3)],
-    },
-    Row {
-        kinds: EACH,
-        patterns: &[b""],
-        haystack: b"",
-        walk: &[(0, 0, 0)],
-    },
-    Row {
-        kinds: EACH,
-        patterns: &[],
-        haystack: b"abc",
-        walk: &[],
-    },
+    (EACH, FRUIT, LIKES, &[(1, 13, 18), (0, 28, 33), (2, 43, 50)]),
+    (STANDARD, PREFIXES, b"abcd", &[(0, 1, 2)]),
+    (FIRST, PREFIXES, b"abcd", &[(1, 0, 3)]),
+    (LONGEST, PREFIXES, b"abcd", &[(2, 0, 4)]),
+    (
+        STANDARD,
+        WORDS,
+        SENTENCE,
+        &[(2, 0, 3), (2, 11, 14), (2, 22, 25)],
+    ),
+    (
+        FIRST,
+        WORDS,
+        SENTENCE,
+        &[(0, 0, 6), (2, 11, 14), (0, 22, 28)],
+    ),
+    (
+        LONGEST,
+        WORDS,
+        SENTENCE,
+        &[(0, 0, 6), (2, 11, 14), (1, 22, 31)],
+    ),
+    (STANDARD, &[b"", b"a"], b"a", &[(0, 0, 0), (0, 1, 1)]),
+    (LONGEST, &[b"", b"a"], b"ba", &[(0, 0, 0), (1, 1, 2)]),
+    (FIRST, FAILS_LATE, b"abcdefghz", &[(0, 0, 1), (2, 7, 9)]),
+    (LONGEST, FAILS_LATE, b"abcdefghz", &[(3, 0, 8)]),
+    (LEFTMOST, FAILS_LATER, b"abcdefghz", &[(3, 0, 8)]),
+    (
+        FIRST,
+        &[b"abc", b"bd", b""],
+        b"abd",
+        &[(2, 0, 0), (1, 1, 3)],
+    ),
+    (EACH, &[b"ab", b"ab"], b"abab", &[(0, 0, 2), (0, 2, 4)]),
+    (FIRST, PREFIXES, b"foo abcd", &[(1, 4, 7)]),
+    (EACH, PREFIXES, b"xb", &[(0, 1, 2)]),
+    (STANDARD, NAMES, b"Samwise", &[(1, 0, 3)]),
+    (FIRST, NAMES, b"Samwise", &[(0, 0, 7)]),
+    (EACH, &[b"aba"], b"ababa", &[(0, 0, 3)]),
+    (
+        STANDARD,
+        &[b"a", b"aa"],
+        b"aaa",
+        &[(0, 0, 1), (0, 1, 2), (0, 2, 3)],
+    ),
+    (EACH, &[b""], b"", &[(0, 0, 0)]),
+    (EACH, &[], b"abc", &[]),
 ];
 
 /// The same with `earliest`.
 const EARLIEST_WALKS: [Row; 3] = [
-    Row {
-        kinds: EACH,
-        patterns: PREFIXES,
-        haystack: b"abcd",
-        walk: &[(0, 1, 2)],
-    },
-    Row {
-        kinds: EACH,
-        patterns: PREFIXES,
-        haystack: b"foo abcd",
-        walk: &[(0, 5, 6)],
-    },
-    Row {
-        kinds: EACH,
-        patterns: PREFIXES,
-        haystack: b"abcdabcd",
-        walk: &[(0, 1, 2), (0, 5, 6)],
-    },
+    (EACH, PREFIXES, b"abcd", &[(0, 1, 2)]),
+    (EACH, PREFIXES, b"foo abcd", &[(0, 5, 6)]),
+    (EACH, PREFIXES, b"abcdabcd", &[(0, 1, 2), (0, 5, 6)]),
 ];
 
 /// The same of anchored walks.
 const ANCHORED_WALKS: [Row; 9] = [
-    Row {
-        kinds: EACH,
-        patterns: &[b"abc", b"bd"],
-        haystack: b"abd",
-        walk: &[],
-    },
-    Row {
-        kinds: &[LeftmostLongest],
-        patterns: &[b"", b"a"],
-        haystack: b"ba",
-        walk: &[(0, 0, 0), (1, 1, 2)],
-    },
-    Row {
-        kinds: &[LeftmostFirst],
-        patterns: PREFIXES,
-        haystack: b"foo abcd",
-        walk: &[],
-    },
-    Row {
-        kinds: &[Standard, LeftmostFirst],
-        patterns: PREFIXES,
-        haystack: b"abcd",
-        walk: &[(1, 0, 3)],
-    },
-    Row {
-        kinds: &[LeftmostLongest],
-        patterns: PREFIXES,
-        haystack: b"abcd",
-        walk: &[(2, 0, 4)],
-    },
-    Row {
-        kinds: EACH,
-        patterns: PREFIXES,
-        haystack: b"abd",
-        walk: &[],
-    },
-    Row {
-        kinds: EACH,
-        patterns: PREFIXES,
-        haystack: b"xb",
-        walk: &[],
-    },
-    Row {
-        kinds: &[LeftmostFirst],
-        patterns: &[b"foo", b"bar", b"quux"],
-        haystack: b"fooquuxbar foo",
-        walk: &[(0, 0, 3), (2, 3, 7), (1, 7, 10)],
-    },
-    Row {
-        kinds: EACH,
-        patterns: &[b""],
-        haystack: b"",
-        walk: &[(0, 0, 0)],
-    },
+    (EACH, &[b"abc", b"bd"], b"abd", &[]),
+    (LONGEST, &[b"", b"a"], b"ba", &[(0, 0, 0), (1, 1, 2)]),
+    (FIRST, PREFIXES, b"foo abcd", &[]),
+    (&[Standard, LeftmostFirst], PREFIXES, b"abcd", &[(1, 0, 3)]),
+    (LONGEST, PREFIXES, b"abcd", &[(2, 0, 4)]),
+    (EACH, PREFIXES, b"abd", &[]),
+    (EACH, PREFIXES, b"xb", &[]),
+    (
+        FIRST,
+        FOO,
+        b"fooquuxbar foo",
+        &[(0, 0, 3), (2, 3, 7), (1, 7, 10)],
+    ),
+    (EACH, &[b""], b"", &[(0, 0, 0)]),
 ];
 
 /// The same of anchored walks with `earliest`.
-const ANCHORED_EARLIEST_WALKS: [Row; 1] = [Row {
-    kinds: EACH,
-    patterns: PREFIXES,
-    haystack: b"abcd",
-    walk: &[(1, 0, 3)],
-}];
+const ANCHORED_EARLIEST_WALKS: [Row; 1] = [(EACH, PREFIXES, b"abcd", &[(1, 0, 3)])];
 
 /// Returns a builder that takes this engine.
 fn builder_of(engine: &Engine, kind: MatchKind, start_kind: StartKind) -> AhoCorasickBuilder {
@@ -344,14 +222,14 @@ struct Search {
 fn compare_rows(rt: &impl Abort, alloc: Global, rows: &[Row], search: &Search) -> Result<(), Fail> {
     for engine in &engines(alloc)? {
         for start_kind in search.start_kinds {
-            for row in rows {
-                for &kind in row.kinds {
+            for &(kinds, patterns, haystack, walk) in rows {
+                for &kind in kinds {
                     let builder = builder_of(engine, kind, start_kind);
-                    let searcher = builder.build(alloc, row.patterns)?.clone()?;
-                    let input = Input::new(row.haystack).anchored(search.anchored);
+                    let searcher = builder.build(alloc, patterns)?.clone()?;
+                    let input = Input::new(haystack).anchored(search.anchored);
                     let answers = answers_of(alloc, &searcher, input.earliest(search.earliest))?;
-                    let first = row.walk.first().copied();
-                    same_by(rt, answers.walk.as_slice(), row.walk, &builder);
+                    let first = walk.first().copied();
+                    same_by(rt, answers.walk.as_slice(), walk, &builder);
                     same_by(rt, answers.find, first, &builder);
                     same_by(rt, answers.is_match, first.is_some(), &builder);
                 }
@@ -364,7 +242,7 @@ fn compare_rows(rt: &impl Abort, alloc: Global, rows: &[Row], search: &Search) -
 #[test]
 fn each_engine_walks_alike(rt: HostRuntime) -> Result<(), Fail> {
     let mut search = Search {
-        start_kinds: [StartKind::Unanchored, StartKind::Both],
+        start_kinds: [Unanchored, Both],
         anchored: Anchored::No,
         earliest: false,
     };
@@ -376,7 +254,7 @@ fn each_engine_walks_alike(rt: HostRuntime) -> Result<(), Fail> {
 #[test]
 fn each_engine_walks_alike_from_its_start(rt: HostRuntime) -> Result<(), Fail> {
     let mut search = Search {
-        start_kinds: [StartKind::Anchored, StartKind::Both],
+        start_kinds: [StartKind::Anchored, Both],
         anchored: Anchored::Yes,
         earliest: false,
     };
@@ -391,7 +269,7 @@ fn each_engine_ignores_case_alike(rt: HostRuntime) -> Result<(), Fail> {
     let wanted = [(0, 0, 3), (1, 4, 7), (2, 8, 11)];
     for engine in &engines(rt.alloc())? {
         for &kind in EACH {
-            let mut builder = builder_of(engine, kind, StartKind::Unanchored);
+            let mut builder = builder_of(engine, kind, Unanchored);
             let counts = builder.build(rt.alloc(), &patterns)?;
             same(
                 &rt,
@@ -440,7 +318,7 @@ const WITHIN_LETTERS: [Told; 6] = [
 #[test]
 fn each_engine_lists_alike(rt: HostRuntime) -> Result<(), Fail> {
     for engine in &engines(rt.alloc())? {
-        for start_kind in [StartKind::Unanchored, StartKind::Both] {
+        for start_kind in [Unanchored, Both] {
             let builder = builder_of(engine, Standard, start_kind);
             for &(patterns, haystack, wanted) in LISTINGS {
                 let searcher = builder.build(rt.alloc(), patterns)?;
@@ -459,7 +337,7 @@ fn each_engine_lists_alike(rt: HostRuntime) -> Result<(), Fail> {
 fn each_engine_lists_alike_from_its_start(rt: HostRuntime) -> Result<(), Fail> {
     let input = Input::new(SENTENCE).anchored(Anchored::Yes);
     for engine in &engines(rt.alloc())? {
-        for start_kind in [StartKind::Anchored, StartKind::Both] {
+        for start_kind in [StartKind::Anchored, Both] {
             let searcher = builder_of(engine, Standard, start_kind).build(rt.alloc(), WORDS)?;
             let mut state = OverlappingState::start();
             searcher.try_find_overlapping(input, &mut state)?;
@@ -494,7 +372,7 @@ fn each_engine_tells_many_bytes_apart(rt: HostRuntime) -> Result<(), Fail> {
     let patterns: Vec<&[u8]> = haystack.chunks(2).collect(rt.alloc())?;
     for engine in &engines(rt.alloc())? {
         for count in [127, 128] {
-            let builder = builder_of(engine, Standard, StartKind::Unanchored);
+            let builder = builder_of(engine, Standard, Unanchored);
             let patterns: Vec<&[u8]> = patterns.iter().copied().take(count).collect(rt.alloc())?;
             let searcher = builder.build(rt.alloc(), &patterns)?;
             let walked = walk_of(rt.alloc(), &searcher, Input::new(&haystack))?;
@@ -511,7 +389,7 @@ fn each_engine_tells_many_bytes_apart(rt: HostRuntime) -> Result<(), Fail> {
 #[test]
 fn each_engine_finds_from_where_its_span_begins(rt: HostRuntime) -> Result<(), Fail> {
     for engine in &engines(rt.alloc())? {
-        let builder = builder_of(engine, LeftmostFirst, StartKind::Both);
+        let builder = builder_of(engine, LeftmostFirst, Both);
         let searcher = builder.build(rt.alloc(), &[b"b", b"abc", b"abcd"])?;
         let whole = Input::new(b"foo abcd");
         for anchored in [Anchored::No, Anchored::Yes] {
@@ -526,14 +404,14 @@ fn each_engine_finds_from_where_its_span_begins(rt: HostRuntime) -> Result<(), F
 fn each_engine_exchanges_alike(rt: HostRuntime) -> Result<(), Fail> {
     for engine in &engines(rt.alloc())? {
         for &(patterns, kind, texts, haystack, wanted) in IN_BYTES {
-            let builder = builder_of(engine, kind, StartKind::Both);
+            let builder = builder_of(engine, kind, Both);
             let searcher = builder.build(rt.alloc(), patterns)?;
             assert!(rt; texts.len() == searcher.patterns_len());
             let replaced = searcher.try_replace_all_bytes(rt.alloc(), haystack, texts)?;
             same_by(&rt, replaced.as_slice(), wanted, &builder);
         }
         for &(patterns, kind, texts, haystack, wanted) in IN_TEXT {
-            let builder = builder_of(engine, kind, StartKind::Unanchored);
+            let builder = builder_of(engine, kind, Unanchored);
             let searcher = builder.build(rt.alloc(), patterns)?;
             assert!(rt; texts.len() == searcher.patterns_len());
             let replaced = searcher.try_replace_all(rt.alloc(), haystack, texts)?;
@@ -547,7 +425,7 @@ fn each_engine_exchanges_alike(rt: HostRuntime) -> Result<(), Fail> {
 fn each_engine_calls_closures_alike(rt: HostRuntime) -> Result<(), Fail> {
     let sentence = "append the app to the appendage";
     for engine in &engines(rt.alloc())? {
-        let builder = builder_of(engine, LeftmostFirst, StartKind::Unanchored);
+        let builder = builder_of(engine, LeftmostFirst, Unanchored);
         let searcher = builder.build(rt.alloc(), WORDS)?;
         let mut told = String::from_str(rt.alloc(), "pre")?;
         searcher.try_replace_all_with(sentence, &mut told, |found, _, destination| {
@@ -615,52 +493,22 @@ fn each_engine_refuses_alike(rt: HostRuntime) -> Result<(), Fail> {
 type Choice = (usize, StartKind, Option<AhoCorasickKind>, AhoCorasickKind);
 
 const CHOICES: [Choice; 9] = [
-    (0, StartKind::Anchored, None, AhoCorasickKind::DFA),
-    (100, StartKind::Unanchored, None, AhoCorasickKind::DFA),
-    (
-        101,
-        StartKind::Unanchored,
-        None,
-        AhoCorasickKind::ContiguousNFA,
-    ),
-    (1, StartKind::Both, None, AhoCorasickKind::ContiguousNFA),
-    (
-        101,
-        StartKind::Both,
-        Some(AhoCorasickKind::DFA),
-        AhoCorasickKind::DFA,
-    ),
-    (
-        1,
-        StartKind::Unanchored,
-        Some(AhoCorasickKind::DFA),
-        AhoCorasickKind::DFA,
-    ),
-    (
-        1,
-        StartKind::Unanchored,
-        Some(AhoCorasickKind::ContiguousNFA),
-        AhoCorasickKind::ContiguousNFA,
-    ),
-    (
-        1,
-        StartKind::Unanchored,
-        Some(AhoCorasickKind::NoncontiguousNFA),
-        AhoCorasickKind::NoncontiguousNFA,
-    ),
-    (
-        0,
-        StartKind::Both,
-        Some(AhoCorasickKind::NoncontiguousNFA),
-        AhoCorasickKind::NoncontiguousNFA,
-    ),
+    (0, StartKind::Anchored, None, DFA),
+    (100, Unanchored, None, DFA),
+    (101, Unanchored, None, ContiguousNFA),
+    (1, Both, None, ContiguousNFA),
+    (101, Both, Some(DFA), DFA),
+    (1, Unanchored, Some(DFA), DFA),
+    (1, Unanchored, Some(ContiguousNFA), ContiguousNFA),
+    (1, Unanchored, Some(NoncontiguousNFA), NoncontiguousNFA),
+    (0, Both, Some(NoncontiguousNFA), NoncontiguousNFA),
 ];
 
 #[test]
 fn an_engine_is_chosen(rt: HostRuntime) -> Result<(), Fail> {
     let searcher = AhoCorasick::new(rt.alloc(), &[b"foo", b"bar", b"quux", b"baz"])?;
-    same(&rt, searcher.kind(), AhoCorasickKind::DFA);
-    same(&rt, searcher.start_kind(), StartKind::Unanchored);
+    same(&rt, searcher.kind(), DFA);
+    same(&rt, searcher.start_kind(), Unanchored);
     same(&rt, searcher.match_kind(), Standard);
     same(&rt, searcher.min_pattern_len(), 3);
     same(&rt, searcher.max_pattern_len(), 4);
@@ -680,36 +528,12 @@ fn an_engine_is_chosen(rt: HostRuntime) -> Result<(), Fail> {
 type Fitting = (usize, StartKind, bool, bool, AhoCorasickKind);
 
 const FITTINGS: [Fitting; 6] = [
-    (100, StartKind::Unanchored, true, true, AhoCorasickKind::DFA),
-    (0, StartKind::Anchored, true, true, AhoCorasickKind::DFA),
-    (
-        100,
-        StartKind::Anchored,
-        false,
-        true,
-        AhoCorasickKind::ContiguousNFA,
-    ),
-    (
-        100,
-        StartKind::Anchored,
-        false,
-        false,
-        AhoCorasickKind::NoncontiguousNFA,
-    ),
-    (
-        101,
-        StartKind::Unanchored,
-        true,
-        true,
-        AhoCorasickKind::ContiguousNFA,
-    ),
-    (
-        1,
-        StartKind::Both,
-        true,
-        true,
-        AhoCorasickKind::ContiguousNFA,
-    ),
+    (100, Unanchored, true, true, DFA),
+    (0, StartKind::Anchored, true, true, DFA),
+    (100, StartKind::Anchored, false, true, ContiguousNFA),
+    (100, StartKind::Anchored, false, false, NoncontiguousNFA),
+    (101, Unanchored, true, true, ContiguousNFA),
+    (1, Both, true, true, ContiguousNFA),
 ];
 
 #[test]
@@ -745,7 +569,7 @@ fn each_engine_keeps_to_the_span(rt: HostRuntime) -> Result<(), Fail> {
         for &(patterns, haystack, start, end, wanted) in SPANS {
             assert!(rt; end <= haystack.len() && start.saturating_sub(end) <= 1);
             for &kind in EACH {
-                let builder = builder_of(engine, kind, StartKind::Unanchored);
+                let builder = builder_of(engine, kind, Unanchored);
                 let searcher = builder.build(rt.alloc(), patterns)?;
                 let input = Input::new(haystack).range(start..end);
                 same_by(&rt, find_of(&searcher, input)?, wanted, &(start, end));
@@ -758,7 +582,7 @@ fn each_engine_keeps_to_the_span(rt: HostRuntime) -> Result<(), Fail> {
 #[test]
 fn each_engine_tells_the_lengths_of_no_patterns(rt: HostRuntime) -> Result<(), Fail> {
     for engine in &engines(rt.alloc())? {
-        let builder = builder_of(engine, Standard, StartKind::Unanchored);
+        let builder = builder_of(engine, Standard, Unanchored);
         let searcher = builder.build(rt.alloc(), &[])?;
         same(&rt, searcher.min_pattern_len(), usize::MAX);
         same(&rt, searcher.max_pattern_len(), 0);

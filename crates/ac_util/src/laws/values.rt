@@ -1,5 +1,5 @@
-//! Of the plain types: how values compare, are hashed and are cloned.
-ghost use Rattle.std.specs.Prelude.{◌≡◌, ℕ, ◌++◌, ◌↔◌, true};
+//! Of the plain types: how values compare, are hashed and are cloned, and what classes of bytes are.
+ghost use Rattle.std.specs.Prelude.{◌≡◌, ℕ, ◌^◌, ◌<◌, ◌≤◌, ◌++◌, ◌∷◌, [], ◌↔◌, Bool, List, map, true};
 ghost use Rattle.std.specs.Hash as fed;
 ghost use Rattle.std.specs.Ordering.{nat_cmp};
 ghost use Rattle.ac_util.specs.declared.error.BuildError.{BuildError};
@@ -13,7 +13,10 @@ ghost use Rattle.ac_util.specs.declared.search.MatchKind.{MatchKind};
 ghost use Rattle.ac_util.specs.declared.search.Span.{Span};
 ghost use Rattle.ac_util.specs.declared.search.input.Input.{Input as AnInput};
 ghost use Rattle.ac_util.specs.declared.search.StartKind.{StartKind};
+ghost use Rattle.ac_util.specs.Classes.{AreClasses, IsLawful, SetsApart, alphabet_len, class_at, class_of, classes_of, singletons, is_in_patterns, stride, stride2};
 ghost use Rattle.ac_util.specs.Inputs.{asked};
+ghost use Rattle.ac_util.specs.Node.{is_node};
+ghost use Rattle.ac_util.specs.Sameness.{plain, plain_byte};
 ghost use Rattle.ac_util.specs.Occurrence.{Occurrence};
 
 use crate::error::{BuildError, MatchError, ReplaceError};
@@ -130,4 +133,38 @@ pub fn defaults_are_told()
 /// The greatest number of a pattern or a state is 2,147,483,646.
 pub fn greatest_number_is_told()
     ensures { GREATEST ≡ 2147483646 }
+{}
+
+/// An automaton may step by the classes of its patterns' bytes, or by each byte as a class of its own. The last
+/// two say it of the classes as they are read from their list.
+pub fn classes_are_lawful()
+    ensures of_patterns { (fold : Bool) (kind : MatchKind) (patterns : List (List ℕ))
+        → IsLawful (class_of fold patterns) kind fold patterns }
+    ensures singletons { (fold : Bool) (kind : MatchKind) (patterns : List (List ℕ))
+        → IsLawful (λ b. b) kind fold patterns }
+    ensures of_patterns_read { (fold : Bool) (kind : MatchKind) (patterns : List (List ℕ))
+        → IsLawful (class_at (classes_of fold patterns)) kind fold patterns }
+    ensures singletons_read { (fold : Bool) (kind : MatchKind) (patterns : List (List ℕ))
+        → IsLawful (class_at singletons) kind fold patterns }
+{}
+
+/// Each byte of a pattern has a class of its own, and only such a byte leads on from a node.
+pub fn classes_set_apart()
+    ensures of_patterns { (fold : Bool) (patterns : List (List ℕ))
+        → SetsApart fold patterns (classes_of fold patterns) }
+    ensures singletons { (fold : Bool) (patterns : List (List ℕ)) → SetsApart fold patterns singletons }
+    ensures nodes { (fold : Bool) (kind : MatchKind) (patterns : List (List ℕ)) (u : List ℕ) (b : ℕ)
+        → is_node kind (map (plain fold) patterns) (u ++ plain_byte fold b ∷ []) ≡ true
+        → is_in_patterns fold patterns b ≡ true }
+{}
+
+/// A stride has room for each class, and no lesser power of two has.
+pub fn strides_have_room()
+    ensures of_patterns { (fold : Bool) (patterns : List (List ℕ))
+        → AreClasses (classes_of fold patterns) }
+    ensures singletons { AreClasses singletons }
+    ensures below { (classes : List ℕ) → AreClasses classes → (b : ℕ) → b < 256
+        → class_at classes b < alphabet_len classes }
+    ensures enough { (classes : List ℕ) → AreClasses classes → alphabet_len classes ≤ stride classes }
+    ensures least { (classes : List ℕ) (k : ℕ) → alphabet_len classes ≤ 2 ^ k → stride2 classes ≤ k }
 {}

@@ -4,6 +4,7 @@ use ac_search::{Bytes, FromRead, IntoWrite, Written};
 use devices::{Drops, Narrow, Pauses};
 use rows::{ENDINGS, RUNS};
 use std::alloc::{AllocError, Global};
+use std::process::Abort;
 use std::test::Fail;
 
 mod devices;
@@ -57,16 +58,46 @@ fn with_engine<'w>(
     exchanged.collect(alloc)
 }
 
+/// Returns the pieces of a text between separators.
+fn pieces<'t>(
+    rt: &impl Abort,
+    alloc: Global,
+    text: &'t str,
+    separator: u8,
+) -> Result<Vec<&'t str>, AllocError> {
+    let mut pieces = Vec::new(alloc);
+    for piece in text.as_bytes().split(|&byte| byte == separator) {
+        pieces.push(str::from_utf8(piece).expect(rt, "the text is ASCII"))?;
+    }
+    Ok(pieces)
+}
+
+/// Returns the bytes of a text in which `/` stands for the end of a line.
+fn lines_of(alloc: Global, text: &str) -> Result<Vec<u8>, AllocError> {
+    let bytes = text.as_bytes().iter().map(|&byte| match byte {
+        b'/' => b'\n',
+        _ => byte,
+    });
+    bytes.collect(alloc)
+}
+
 #[test]
 fn lines_are_written(rt: HostRuntime) -> Result<(), Fail> {
-    for &(name, words, input, wanted, ending) in RUNS {
-        for engine in ["noncontiguous", "contiguous", "dfa", "auto"] {
-            let words = with_engine(rt.alloc(), words, engine)?;
-            let mut reader = Bytes::new(input.as_bytes());
-            let mut writer = Written::new(rt.alloc());
-            let answer = run(rt.alloc(), &words, &mut reader, &mut writer);
-            assert_eq!(rt; answer, ending, "{name}");
-            assert_eq!(rt; writer.bytes(), wanted.as_bytes(), "{name}");
+    for &(ending, runs) in RUNS {
+        for row in runs {
+            let fields = pieces(&rt, rt.alloc(), row, b'|')?;
+            assert!(rt; fields.len() == 3, "{row}");
+            let words = pieces(&rt, rt.alloc(), fields[0], b' ')?;
+            let input = lines_of(rt.alloc(), fields[1])?;
+            let wanted = lines_of(rt.alloc(), fields[2])?;
+            for engine in ["noncontiguous", "contiguous", "dfa", "auto"] {
+                let words = with_engine(rt.alloc(), &words, engine)?;
+                let mut reader = Bytes::new(input.as_slice());
+                let mut writer = Written::new(rt.alloc());
+                let answer = run(rt.alloc(), &words, &mut reader, &mut writer);
+                assert_eq!(rt; answer, ending, "{row}");
+                assert_eq!(rt; writer.bytes(), wanted.as_slice(), "{row}");
+            }
         }
     }
     Ok(())

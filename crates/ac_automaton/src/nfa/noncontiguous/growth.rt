@@ -9,7 +9,7 @@
 ghost use Rattle.std.specs.Prelude.{◌≡◌, ◌≢◌, ◌++◌, ◌∷◌, [], ℕ, ◌+◌, ◌<◌, ◌≤◌, Bool, List, IfOk, MatchResult, None, Some, length, map, slice_get};
 ghost use Rattle.ac_automaton.specs.Util.{GREATEST, plain};
 ghost use Rattle.ac_automaton.specs.Builds.{IsRefused, too_many_states};
-ghost use Rattle.ac_automaton.specs.Growths.{Branches, EndsPatterns, HasBegun, HasChildIn, HasPushed, HasSorted, IsNotPushed, IsWhole, LinkIsDue, MayBranch, Waits, nodes_of, source_of, word};
+ghost use Rattle.ac_automaton.specs.Growths.{Branches, EndsPatterns, HasRoot, HasChildIn, HasPushed, HasSorted, IsNotPushed, IsWhole, LinkIsDue, MayBranch, Waits, nodes_of, source_of, word};
 ghost use Rattle.ac_automaton.specs.Sorted.{IsOrder};
 ghost use Rattle.ac_automaton.specs.Tries.{AreStates, Links, Meaning, miss};
 
@@ -102,7 +102,7 @@ impl<'p, A: Allocator + Clone> Growth<'p, A> {
         kind: MatchKind,
         fold: bool,
     ) -> Result<Growth<'p, A>, AllocError>
-        ensures begun { IfOk result (HasBegun fold patterns.now) }
+        ensures begun { IfOk result (HasRoot fold patterns.now) }
         ensures kind { IfOk result (λ growth. growth.kind ≡ kind) }
     {
         let alloc = patterns.allocator();
@@ -125,8 +125,8 @@ impl<'p, A: Allocator + Clone> Growth<'p, A> {
     /// `StateIdOverflow` where there are more nodes than state numbers, `Memory` where a request for memory is
     /// refused.
     fn grow(mut self) -> Result<TrieLists<A>, BuildError>
-        requires begun { (fold : Bool) × (texts : List (List ℕ)) × HasBegun fold texts self }
-        ensures { (fold : Bool) (texts : List (List ℕ)) → HasBegun fold texts self.entry
+        requires begun { (fold : Bool) × (texts : List (List ℕ)) × HasRoot fold texts self }
+        ensures { (fold : Bool) (texts : List (List ℕ)) → HasRoot fold texts self.entry
             → MatchResult result
             (λ lists. IsWhole texts fold self.entry.kind
             lists.order.items lists.transitions.items lists.states.items)

@@ -3,7 +3,7 @@ ghost use Rattle.std.specs.Prelude.{◌≡◌, ℕ, ◌<◌, ◌≤◌, ◌++◌
 ghost use Rattle.ac_automaton.specs.Util.{alphabet_len, GREATEST, Node};
 ghost use Rattle.ac_engines.specs.Contiguous.{IsContiguous};
 ghost use Rattle.ac_engines.specs.Contiguous.Plans.{packed_of, places_of};
-ghost use Rattle.ac_engines.specs.Contiguous.Packs.{AreReady, HasPushed, IsPlaced, state_spelling, state_words};
+ghost use Rattle.ac_engines.specs.Contiguous.Packs.{AreReady, HasPushedWords, HasPlaceIn, state_spelling, state_words};
 ghost use Rattle.ac_engines.specs.Contiguous.Sizes.{packed_words};
 ghost use Rattle.ac_engines.specs.Contiguous.Words.{spelled};
 ghost use Rattle.ac_engines.specs.declared.nfa.contiguous.format.Format;
@@ -55,7 +55,7 @@ impl<'a, A: Allocator> Packer<'a, A> {
     /// # Errors
     /// `AllocError` where a request for memory is refused.
     fn list_edges(&self, edges: &mut Vec<Edge, A>, sid: StateID) -> Result<(), AllocError>
-        requires state { IsPlaced self.now sid }
+        requires state { HasPlaceIn self.now sid }
         ensures { (nodes : List Node) (u : Node) → AreReady self.now nodes → slice_get nodes sid ≡ Some u
             → IfOk result (λ _. edges.new.items ≡ (state_spelling self.now nodes sid u).edges) }
     {
@@ -77,7 +77,7 @@ impl<'a, A: Allocator> Packer<'a, A> {
     /// # Errors
     /// `AllocError` where a request for memory is refused.
     fn list_matches(&self, matches: &mut Vec<PatternID, A>, sid: StateID) -> Result<(), AllocError>
-        requires state { IsPlaced self.now sid }
+        requires state { HasPlaceIn self.now sid }
         ensures { (nodes : List Node) (u : Node) → AreReady self.now nodes → slice_get nodes sid ≡ Some u
             → IfOk result (λ _. matches.new.items ≡ (state_spelling self.now nodes sid u).matches) }
     {
@@ -96,7 +96,7 @@ impl<'a, A: Allocator> Packer<'a, A> {
 
     /// Returns the place of a state's failure target. The starts have none, which is told as 0.
     fn failure(&self, sid: StateID) -> u32
-        requires state { IsPlaced self.now sid }
+        requires state { HasPlaceIn self.now sid }
         ensures { (nodes : List Node) (u : Node) → AreReady self.now nodes → slice_get nodes sid ≡ Some u
             → result ≡ (state_spelling self.now nodes sid u).failure }
     {
@@ -110,7 +110,7 @@ impl<'a, A: Allocator> Packer<'a, A> {
     /// Returns where a byte leads from a state that doesn't lead on: from the unanchored start back to it, unless
     /// under a leftmost kind an empty pattern has begun the match, and from the others nowhere.
     fn missing(&self, sid: StateID) -> u32
-        requires state { IsPlaced self.now sid }
+        requires state { HasPlaceIn self.now sid }
         ensures { (nodes : List Node) (u : Node) → AreReady self.now nodes → slice_get nodes sid ≡ Some u
             → result ≡ (state_spelling self.now nodes sid u).missing }
     {
@@ -131,7 +131,7 @@ impl<'a, A: Allocator> Packer<'a, A> {
     /// # Errors
     /// `AllocError` where a request for memory is refused.
     fn push(&self, pages: &mut Pages<A>, sid: StateID) -> Result<(), AllocError>
-        requires state { IsPlaced self.now sid }
+        requires state { HasPlaceIn self.now sid }
         ensures { (nodes : List Node) (u : Node) → AreReady self.now nodes → slice_get nodes sid ≡ Some u
             → IfOk result (λ _. pages.new.words.items ≡ pages.old.words.items ++ state_words self.now nodes sid u) }
     {
@@ -184,7 +184,7 @@ impl<'a, A: Allocator> Packer<'a, A> {
     fn push_where(&self, pages: &mut Pages<A>, front: bool) -> Result<(), AllocError>
         requires ready { (nodes : List Node) × AreReady self.now nodes }
         ensures { (nodes : List Node) → AreReady self.now nodes
-            → IfOk result (λ _. HasPushed self.now nodes front pages.old.words.items pages.new.words.items) }
+            → IfOk result (λ _. HasPushedWords self.now nodes front pages.old.words.items pages.new.words.items) }
     {
         let plan = self.plan;
         for state in START..plan.nfa.states_len() {

@@ -2,7 +2,7 @@
 ghost use Rattle.std.specs.Prelude.{◌≡◌, ◌≢◌, ℕ, ◌+◌, ◌<◌, ◌≤◌, ◌++◌, [], drop, length, slice_index};
 ghost use Rattle.ac_util.specs.Counts.{more_looks};
 ghost use Rattle.ac_engines.specs.declared.nfa.contiguous.format.Format.{Format};
-ghost use Rattle.ac_engines.specs.Contiguous.Words.{AreNamed, BeginsWith, Spelling, first_of, match_spelling, named, target_by, transitions_of, word_of};
+ghost use Rattle.ac_engines.specs.Contiguous.Words.{AreNamed, BeginsWith, Spelling, first_of, match_spelling, named, target_by, spelled_transitions, word_of};
 
 use super::format::{CLASSES_A_WORD, HEAD};
 use super::transitions::Transitions;
@@ -118,7 +118,7 @@ impl<'a> State<'a> {
     pub(super) fn transitions(self, classes: usize) -> Transitions<'a>
         requires { (format : Format) × (s : Spelling) × BeginsWith self.words.now format classes s }
         ensures { (format : Format) (s : Spelling) → BeginsWith self.entry.words.now format classes s
-            → result ≡ transitions_of format classes s }
+            → result ≡ spelled_transitions format classes s }
     {
         let [form, only, _, _] = self.words[0].to_le_bytes();
         if form == DENSE {

@@ -1,5 +1,5 @@
 use Rattle.std.proofs.Common.{◌≡◌, ◌+◌, ℕ, zero, suc, subst, arith, [], ◌∷◌, ◌++◌, List, take, ap, sym, ◌∙◌, Some, slice_get}
-use Rattle.ac_search.specs.Prelude.{all, Asked, asked_whole, HasPlace, item_at, Occurrence, place_after, place_in, search_in}
+use Rattle.ac_search.specs.Prelude.{all, Asked, asked_whole, HasPlace, item_at, Occurrence, place_after, rank_in, search_in}
 use Rattle.ac_util.proofs.ListingBeginning.{item-some}
 use Rattle.ac_search.proofs.tests.all_by_state.Goals as goal
 
@@ -17,13 +17,13 @@ loop-m-preserved c =
     let searcher = c.args.searcher.now in
     let asked = asked_whole c.args.haystack.now in
     let q = search_in searcher.built asked in
-    let place = place_in searcher asked c.loop-m.state in
+    let place = rank_in searcher asked c.loop-m.state in
     let state = c.find_overlapping.new.state in
     let item = subst (λ (a : Asked). state.found
-    ≡ item_at (search_in searcher.built a) (place_in searcher a c.loop-m.state)) c.new.ensures.value
+    ≡ item_at (search_in searcher.built a) (rank_in searcher a c.loop-m.state)) c.new.ensures.value
     c.find_overlapping.ensures.item in
-    let after = subst (λ (a : Asked). place_in searcher a state
-    ≡ place_after (search_in searcher.built a) (place_in searcher a c.loop-m.state)) c.new.ensures.value
+    let after = subst (λ (a : Asked). rank_in searcher a state
+    ≡ place_after (search_in searcher.built a) (rank_in searcher a c.loop-m.state)) c.new.ensures.value
     c.find_overlapping.ensures.place in
     let some : item_at q place ≡ Some c.in-Some.m = sym item ∙ sym c.get_match.ensures ∙ c.in-Some.is in
     let goes_on = item-some q place c.in-Some.m some in

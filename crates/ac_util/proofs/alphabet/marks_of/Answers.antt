@@ -2,7 +2,7 @@ use Rattle.std.proofs.Common.{ℕ, ◌||◌, List, [], Bool, take, refl, ap, sym
 use Rattle.std.specs.List.{list_any}
 use Rattle.std.proofs.lemmas.List.Folds.{list_any_more}
 use Rattle.std.proofs.lemmas.Option.{get_or_from_slice_get}
-use Rattle.ac_util.specs.Prelude.{plain_byte, same_byte, stands_in}
+use Rattle.ac_util.specs.Prelude.{plain_byte, same_byte, is_in_patterns}
 use Rattle.ac_util.proofs.ClassLists.{none_marked}
 use Rattle.ac_util.proofs.alphabet.marks_of.Goals as goal
 
@@ -22,6 +22,6 @@ loop-number-preserved g c =
       marked = λ b.
           c.mark.ensures b
           ∙ ap (λ (t : Bool). t || list_any (same_byte fold b) c.get.result.now) (c.loop-number.invariant.marked b)
-          ∙ ap (λ (p : List ℕ). stands_in fold (take number patterns) b || list_any (same_byte fold b) p) (sym pattern)
+          ∙ ap (λ (p : List ℕ). is_in_patterns fold (take number patterns) b || list_any (same_byte fold b) p) (sym pattern)
           ∙ sym (list_any_more (λ p. list_any (same_byte fold b) p) patterns number [] (omega arith));
     }

@@ -1,5 +1,5 @@
 use Rattle.std.proofs.Common.{◌≡◌, ℕ, false, length, take, get_or}
-use Rattle.ac_util.specs.Prelude.{plain_byte, stands_in}
+use Rattle.ac_util.specs.Prelude.{plain_byte, is_in_patterns}
 use Rattle.ac_util.proofs.alphabet.marks_of.Given as goal
 
 -- the bytes of the patterns so far are marked
@@ -7,5 +7,5 @@ abbrev pub invariant-loop-number : goal.invariant-loop-number
 invariant-loop-number g l = record {
   whole : length l.marks ≡ 256;
   marked : (b : ℕ) → get_or l.marks (plain_byte l.fold b) false
-      ≡ stands_in l.fold (take l.number l.patterns) b;
+      ≡ is_in_patterns l.fold (take l.number l.patterns) b;
 }

@@ -1,6 +1,6 @@
 use Rattle.std.proofs.Common.{drop, refl}
 use Rattle.std.specs.Prelude.{string_bytes}
-use Rattle.ac_automaton.specs.Streams.{GivesError, GivesNext, matches_so_far}
+use Rattle.ac_automaton.specs.Streams.{GivesError, GivesNextMatch, matches_so_far}
 use Rattle.acs.specs.declared.run.Outcome.TheVariants.{Found}
 use Rattle.acs.specs.Faults.{stream_fault_of}
 use Rattle.acs.specs.Printed.{FailsToPrintStream, HasPrintedRead}
@@ -34,7 +34,7 @@ returns-in_err-print_line g c =
     let read = g.R.Source.told in
     let wrote = g.W.Sink.told in
     let w = c.next.new.self in
-    let gives : GivesNext g.R.Source.empty_means_end c.loop-item.finder c.in_ok-m.m w (read c.loop-item.reader) (read c.next.new.reader) =
+    let gives : GivesNextMatch g.R.Source.empty_means_end c.loop-item.finder c.in_ok-m.m w (read c.loop-item.reader) (read c.next.new.reader) =
     rw c.in_ok-m.was at c.in-Some.ensures in
     refused-by c.from_residual-in_err-print_line.result c.in_err-print_line.field-0.0 _
     (FailsToPrintStream g.R.Source.empty_means_end c.args.finder.now.built (read c.args.reader.now)
@@ -50,7 +50,7 @@ loop-item-smaller g c =
     let read = g.R.Source.told in
     let wrote = g.W.Sink.told in
     let w = c.next.new.self in
-    let gives : GivesNext g.R.Source.empty_means_end c.loop-item.finder c.in_ok-m.m w (read c.loop-item.reader) (read c.next.new.reader) =
+    let gives : GivesNextMatch g.R.Source.empty_means_end c.loop-item.finder c.in_ok-m.m w (read c.loop-item.reader) (read c.next.new.reader) =
     rw c.in_ok-m.was at c.in-Some.ensures in
     let printed : HasPrintedRead w c.print_read.new.finder (wrote c.args.writer.now) (wrote c.print_read.new.writer)
     (string_bytes c.print_read.new.text) Found =
@@ -64,7 +64,7 @@ loop-item-preserved g c =
     let read = g.R.Source.told in
     let wrote = g.W.Sink.told in
     let w = c.next.new.self in
-    let gives : GivesNext g.R.Source.empty_means_end c.loop-item.finder c.in_ok-m.m w (read c.loop-item.reader) (read c.next.new.reader) =
+    let gives : GivesNextMatch g.R.Source.empty_means_end c.loop-item.finder c.in_ok-m.m w (read c.loop-item.reader) (read c.next.new.reader) =
     rw c.in_ok-m.was at c.in-Some.ensures in
     printed-more c.loop-item.invariant gives
     (c.in_ok-print_read.ensures (wrote c.args.writer.now)
@@ -77,7 +77,7 @@ returns-in_err-print_read g c =
     let read = g.R.Source.told in
     let wrote = g.W.Sink.told in
     let w = c.next.new.self in
-    let gives : GivesNext g.R.Source.empty_means_end c.loop-item.finder c.in_ok-m.m w (read c.loop-item.reader) (read c.next.new.reader) =
+    let gives : GivesNextMatch g.R.Source.empty_means_end c.loop-item.finder c.in_ok-m.m w (read c.loop-item.reader) (read c.next.new.reader) =
     rw c.in_ok-m.was at c.in-Some.ensures in
     refused-by c.from_residual-in_err-print_read.result c.in_err-print_read.field-0.0 _
     (FailsToPrintStream g.R.Source.empty_means_end c.args.finder.now.built (read c.args.reader.now)

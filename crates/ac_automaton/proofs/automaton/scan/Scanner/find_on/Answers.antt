@@ -1,6 +1,6 @@
 use Rattle.std.proofs.Common.{◌≡◌, false, refl, sym, ◌∙◌}
 use Rattle.std.proofs.lemmas.Bool.{false≢true}
-use Rattle.ac_util.proofs.SearchLoop.{GoesOn}
+use Rattle.ac_util.proofs.SearchLoop.{SearchGoesOn}
 use Rattle.ac_automaton.specs.Prelude.{FitsIn, in_memory, IsAlive, node, Scan, scan_by, Scanner, ScanText}
 use Rattle.ac_automaton.proofs.FindAhead.{IsUnanswered, answer-there, decided-there, ends-there, unanswered-unless, picked-none, picked-some}
 use Rattle.ac_automaton.proofs.FindLoop.{goes_on-by, goes_on-none, order, searched}
@@ -55,7 +55,7 @@ module _ (g : Over) (c : After-is_decided g) where
         unanswered-unless c.args.stops c.args.self.now.span.end c.loop-state.at (node s t c.loop-state.at) c.loop-state.last
         (λ answered. false≢true (sym undecided ∙ (c.is_decided.ensures _ c.loop-state.invariant.is_at.there).1 answered))
 
-    goes : GoesOn s.built.kind (order s c.args.stops c.args.tape.now.bytes c.args.self.now.span) c.loop-state.last
+    goes : SearchGoesOn s.built.kind (order s c.args.stops c.args.tape.now.bytes c.args.self.now.span) c.loop-state.last
     goes = goes_on-by s.built.kind c.args.stops c.loop-state.last c.requires.leftmost unanswered.none
 
     alive : IsAlive s t (record { state = c.loop-state.state; at = c.loop-state.at })

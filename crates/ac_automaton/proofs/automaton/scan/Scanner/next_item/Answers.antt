@@ -2,7 +2,7 @@ use Rattle.std.proofs.Common.{◌≡◌, ◌≢◌, ◌⊎◌, ◌<◌, ◌≤�
 use Rattle.std.proofs.lemmas.Bool.{false≢true}
 use Rattle.ac_automaton.specs.Util.{Counts, Occurrence, Taped}
 use Rattle.ac_automaton.specs.Prelude.{Cursor, due_in, given_in, HasMoved, in_memory, IsAlive, node, PassesNoMatch, Reached, Scan, scan_by, ScansTo, ScanText, search_through, work_of}
-use Rattle.ac_automaton.specs.Overlaps.{HasGiven}
+use Rattle.ac_automaton.specs.Overlaps.{HasGivenItem}
 use Rattle.ac_automaton.proofs.ListLoop.{HasComeOn, come-on, has-moved}
 use Rattle.ac_automaton.proofs.ReadOn.{scans-on}
 use Rattle.ac_automaton.proofs.automaton.scan.Scanner.next_item.Given.{Over}
@@ -21,7 +21,7 @@ module _ (g : Over) (c : After-take_due g) where
   abbrev t : ScanText
   t = in_memory c.args.tape.now.bytes c.args.self.now.span
 
-  gave : HasGiven s t c.loop-found.reached c.take_due.result c.take_due.new.reached
+  gave : HasGivenItem s t c.loop-found.reached c.take_due.result c.take_due.new.reached
   gave = c.take_due.ensures c.args.tape.now.bytes c.loop-found.invariant.on.leaves
 
   -- it is the next item, and so is None at the end
@@ -37,7 +37,7 @@ module _ (g : Over) (c : After-take_due g) where
   stayed : c.take_due.result ≡ None
       → (due_in s.listed (search_through s t) c.loop-found.reached ≡ []) × (c.take_due.new.reached ≡ c.loop-found.reached)
   stayed none =
-      (subst (λ (r : Option Occurrence). HasGiven s t c.loop-found.reached r c.take_due.new.reached) none gave).due
+      (subst (λ (r : Option Occurrence). HasGivenItem s t c.loop-found.reached r c.take_due.new.reached) none gave).due
 
 pub returns-in-Some-clause-moved : goal.returns-in-Some-clause-moved
 returns-in-Some-clause-moved g c =

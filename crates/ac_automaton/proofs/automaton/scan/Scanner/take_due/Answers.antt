@@ -1,7 +1,7 @@
 use Rattle.std.proofs.Common.{◌≡◌, ◌-◌, ℕ, true, ap, sym, subst, ◌∙◌, arith, Some}
 use Rattle.ac_util.specs.Occurrence.{Occurrence, occurrence}
 use Rattle.ac_automaton.specs.Prelude.{in_memory, is_due, Scan, scan_by}
-use Rattle.ac_automaton.specs.Overlaps.{HasGiven}
+use Rattle.ac_automaton.specs.Overlaps.{HasGivenItem}
 use Rattle.ac_automaton.proofs.Due.{counts}
 use Rattle.ac_automaton.proofs.ListLoop.{due-short, gives-first}
 use Rattle.ac_automaton.proofs.automaton.scan.Scanner.take_due.Given.{Over}
@@ -33,7 +33,7 @@ pub returns : goal.returns
 returns g c = λ bytes on.
     let d = (goal.at.returns g c).Else-not-is_due in
     let reached = c.args.reached.now in
-    subst (λ (m : Occurrence). HasGiven (s g d) (in_memory bytes c.args.self.now.span) reached (Some m)
+    subst (λ (m : Occurrence). HasGivenItem (s g d) (in_memory bytes c.args.self.now.span) reached (Some m)
     (record reached { rest = c.in_ok-pattern.rest }))
     (ap (λ (len : ℕ). occurrence c.in_ok-pattern.pattern (reached.at - len) reached.at) (sym c.pattern_len-len.ensures)
     ∙ sym c.new.ensures.value)

@@ -1,7 +1,7 @@
 use Rattle.std.proofs.Common.{◌≡◌, ◌≢◌, ◌⊎◌, ◌↔◌, ◌∙◌, ◌+◌, ◌-◌, ◌<◌, ◌≤◌, Bool, true, false, List, ℕ, None, inl, inr, refl, length, sym, ap, subst, arith}
 use Rattle.std.proofs.lemmas.Bool.{false≢true}
 use Rattle.ac_automaton.specs.Util.{No, Node, order_of}
-use Rattle.ac_util.proofs.SearchLoop.{GoesOn}
+use Rattle.ac_util.proofs.SearchLoop.{SearchGoesOn}
 use Rattle.ac_automaton.specs.Prelude.{Ended, HasReadOn, Inside, IsAlive, IsAnswered, IsStreaming, ScanText, Streaming}
 use Rattle.ac_automaton.proofs.FindAhead.{IsUnanswered, unanswered-unless}
 use Rattle.ac_automaton.proofs.StreamGiving.{gives-next, streams-anew}
@@ -77,7 +77,7 @@ module _ (g : Over) (c : After-is_decided g) where
           unanswered-unless c.self.inside.stops c.self.inside.filled c.loop-scanner.at here c.loop-scanner.picked
           (λ answered. false≢true (sym undecided ∙ (c.is_decided.ensures _ on.is_at.there).1 answered))
 
-      goes : GoesOn seen.built.kind (order_of seen.built.kind i.stops) c.loop-scanner.picked
+      goes : SearchGoesOn seen.built.kind (order_of seen.built.kind i.stops) c.loop-scanner.picked
       goes =
           goes-on-with stands listed g.A.Automaton.LOOKS filters i seen inv c.loop-scanner.picked
           (λ first. unanswered.none (sym (inv.stops ∙ sym c.self.invariant.stops) ∙ first))

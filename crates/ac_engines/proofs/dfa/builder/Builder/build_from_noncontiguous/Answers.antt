@@ -1,7 +1,7 @@
 use Rattle.std.proofs.Common.{◌≡◌, ◌∙◌, refl, sym}
 use Rattle.ac_util.specs.Pieces.{pieces}
 use Rattle.ac_automaton.specs.Common.{common_of}
-use Rattle.ac_engines.specs.Dfa.Filling.{place_in}
+use Rattle.ac_engines.specs.Dfa.Filling.{first_row_in}
 use Rattle.ac_engines.proofs.Assembled.{are-table, has-matches-among, may-fill, planned}
 use Rattle.ac_engines.proofs.dfa.builder.Builder.build_from_noncontiguous.Goals as goal
 
@@ -42,7 +42,7 @@ invariant_of-result g c =
     c.in_ok-clone-2.ensures.cases ∙ c.common.ensures in
     rw common (record {
       is_dfa = (
-        place_in nodes.0 layout.numbers.items,
+        first_row_in nodes.0 layout.numbers.items,
         are-table
             c.args.nfa.now c.self.inside.start_kind c.classes_for-classes.result c.stride2-stride2.result
             layout.numbers.items nodes.0 _ may c.in_ok-table.table.items lists layout.first_match layout.match_end

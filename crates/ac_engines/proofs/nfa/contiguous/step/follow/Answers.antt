@@ -5,7 +5,7 @@ use Rattle.ac_automaton.specs.Util.{alphabet_len, class_at, Counts, No, Node, Ye
 use Rattle.ac_automaton.specs.Automata.{step_of}
 use Rattle.ac_util.proofs.ClassLists.{class_at-below}
 use Rattle.ac_engines.specs.Prelude.{BeginsWith, ContiguousView, FAIL, IsContiguousState, named, node_format, spelling_at, target_by}
-use Rattle.ac_engines.proofs.Follow.{Ended, Onward, onward-start, ends-anchored, ends-target, begins-at, goes-on, stands-small, stands-within}
+use Rattle.ac_engines.proofs.Follow.{WalkHasEnded, WalkGoesOnward, onward-start, ends-anchored, ends-target, begins-at, goes-on, stands-small, stands-within}
 use Rattle.ac_engines.proofs.PackedSteps.{are-named, target_of}
 use Rattle.ac_engines.proofs.Spellings.{none-named, some-named}
 use Rattle.ac_engines.proofs.nfa.contiguous.step.follow.Goals as goal
@@ -44,7 +44,7 @@ look-requires c =
 
 module _ (c : After-look) (p : ContiguousView) (b : ℕ) (u : Node) (same : p.words ≡ c.args.words.now) (byte : b < 256)
     (class : c.args.class ≡ class_at p.classes b) (h : IsContiguousState p c.args.anchored c.args.from u) where
-  abbrev here : Onward p c.args.anchored b u c.args.looks.now c.loop-next.looks c.loop-next.at
+  abbrev here : WalkGoesOnward p c.args.anchored b u c.args.looks.now c.loop-next.looks c.loop-next.at
   here = c.loop-next.invariant p b u same byte class h
 
   -- the words that were read are those of the walk's state
@@ -65,7 +65,7 @@ module _ (c : After-look) (p : ContiguousView) (b : ℕ) (u : Node) (same : p.wo
       (spelling_at p here.stands.at c.args.anchored here.node).edges class)) class
 
   -- at a target the walk ends
-  at-target : (next : ℕ) → c.look.result ≡ Some next → Ended p c.args.anchored b u c.args.looks.now c.look.new.looks next
+  at-target : (next : ℕ) → c.look.result ≡ Some next → WalkHasEnded p c.args.anchored b u c.args.looks.now c.look.new.looks next
   at-target next some =
       let is = some-named (target_of p here.stands.at c.args.anchored here.node b) next (sym target-is ∙ some) in
       ends-target p c.args.anchored b u c.args.looks.now c.loop-next.looks c.look.new.looks c.loop-next.at here
@@ -77,7 +77,7 @@ module _ (c : After-look) (p : ContiguousView) (b : ℕ) (u : Node) (same : p.wo
 
   -- or at the dead state, if it is anchored
   at-dead : c.look.result ≡ None → c.args.anchored ≡ Yes
-      → Ended p c.args.anchored b u c.args.looks.now c.look.new.looks 0
+      → WalkHasEnded p c.args.anchored b u c.args.looks.now c.look.new.looks 0
   at-dead none is-yes =
       ends-anchored p c.args.anchored b u c.args.looks.now c.loop-next.looks c.look.new.looks c.loop-next.at here
       c.look.ensures.counted byte (at-none none) is-yes

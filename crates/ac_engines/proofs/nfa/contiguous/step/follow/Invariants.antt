@@ -1,14 +1,14 @@
 use Rattle.std.proofs.Common.{◌≡◌, ℕ, ◌<◌, ◌+◌, ◌-◌}
 use Rattle.ac_automaton.specs.Util.{class_at, Node}
 use Rattle.ac_engines.specs.Contiguous.{ContiguousView, IsContiguousState}
-use Rattle.ac_engines.proofs.Follow.{Onward}
+use Rattle.ac_engines.proofs.Follow.{WalkGoesOnward}
 use Rattle.ac_engines.proofs.nfa.contiguous.step.follow.Given as goal
 
 -- whatever the words were packed from, the walk is on the way to where the byte leads
 abbrev pub invariant-loop-next : goal.invariant-loop-next
 invariant-loop-next l =
     (p : ContiguousView) (b : ℕ) (u : Node) → p.words ≡ l.words → b < 256 → l.class ≡ class_at p.classes b
-    → IsContiguousState p l.anchored l.fn.from u → Onward p l.anchored b u l.fn.looks l.looks l.at
+    → IsContiguousState p l.anchored l.fn.from u → WalkGoesOnward p l.anchored b u l.fn.looks l.looks l.at
 
 abbrev pub decreases-loop-next : goal.decreases-loop-next
 decreases-loop-next l = 18446744073709551617 + l.fn.looks.looks - l.looks.looks

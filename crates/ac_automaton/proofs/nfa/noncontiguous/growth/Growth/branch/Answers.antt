@@ -1,6 +1,6 @@
 use Rattle.std.proofs.Common.{◌≡◌, ℕ, List, [], ◌∷◌, ◌++◌, length, length-append, refl, ap, sym, ◌∙◌, subst, arith, Some, slice_get}
 use Rattle.ac_automaton.specs.Prelude.{EndsPatterns, grown_meaning, HasBranched, HasChild, HasSorted, IsRefused, miss, nodes_of, Source, source_of, too_many_states, word}
-use Rattle.ac_automaton.specs.Growths.{IsReady}
+use Rattle.ac_automaton.specs.Growths.{IsQueueReady}
 use Rattle.ac_automaton.proofs.Branched.{has-branched, link-due, still-meant, whole_state}
 use Rattle.ac_automaton.proofs.Branching.{IsBranching, IsBranchingFrom, IsRun, Site, branching-begins, child-deep, goes-on, has-child, string}
 use Rattle.ac_automaton.proofs.Child.{branching-goes_on}
@@ -14,7 +14,7 @@ use Rattle.ac_automaton.proofs.nfa.noncontiguous.growth.Growth.branch.Goals.{Aft
 module _ (g : Over) (c : At-loop-place g) where
   abbrev Ready : List (List ℕ) → Source → Type 0
   Ready patterns from =
-      IsReady from.kind from.sorted.fold patterns from.sorted.patterns from.states
+      IsQueueReady from.kind from.sorted.fold patterns from.sorted.patterns from.states
       c.args.self.now.transitions.items c.args.self.now.queue.items c.args.queued
 
   abbrev Ends : Source → Type 0

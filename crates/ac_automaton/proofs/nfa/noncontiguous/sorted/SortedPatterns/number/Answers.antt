@@ -2,7 +2,7 @@
 use Rattle.std.proofs.Common.{◌≡◌, ◌<◌, List, Some, length, ap, sym, ◌∙◌, arith, slice_get}
 use Rattle.std.proofs.lemmas.List.{length-map}
 use Rattle.ac_automaton.specs.Sorted.{Keyed, Sorted, numbers, keyed}
-use Rattle.ac_automaton.proofs.Sorting.{number_at}
+use Rattle.ac_automaton.proofs.Sorting.{sorted_number}
 use Rattle.ac_automaton.proofs.nfa.noncontiguous.sorted.SortedPatterns.number.Goals as goal
 
 pub returns : goal.returns
@@ -13,5 +13,5 @@ returns g c =
     let long : length c.args.self.now.patterns ≡ length items = ap length view ∙ length-map items _ in
     let within : c.args.place < length items = omega (arith, long, c.requires.within) in
     ap (λ (m : List Keyed). slice_get (numbers m) c.args.place) view
-    ∙ number_at c.self.inside.fold items c.args.place c.index.result.now within c.index.ensures
+    ∙ sorted_number c.self.inside.fold items c.args.place c.index.result.now within c.index.ensures
     ∙ ap Some (sym c.must.ensures.value)

@@ -2,7 +2,7 @@ use Rattle.std.proofs.Common.{◌≡◌, ◌∙◌, ap, sym, subst, arith, lengt
 use Rattle.ac_automaton.specs.declared.nfa.noncontiguous.state.TheConstants.{ANCHORED_START, START}
 use Rattle.ac_automaton.specs.Prelude.{common_of}
 use Rattle.ac_engines.specs.Prelude.{ContiguousView, IsContiguous, PackPlan, places_of}
-use Rattle.ac_engines.proofs.PackedBuilding.{packed-same, read-place, starts-placed}
+use Rattle.ac_engines.proofs.PackedBuilding.{packed-same, read-number, starts-placed}
 use Rattle.ac_engines.proofs.nfa.contiguous.builder.Builder.build_from_noncontiguous.Goals as goal
 
 -- each state has a place
@@ -49,9 +49,9 @@ invariant_of-result g c =
           (common ∙ ap (λ (q : PackPlan). common_of q.trie.built q.trie.filters) (sym plan))
           nodes.1.are_nodes.is_trie.both
           (ap (λ (q : PackPlan). q.dense_depth) (sym plan)) (ap (λ (q : PackPlan). q.classes) (sym plan))
-          (read-place c.in_ok-numbers.numbers.items c.deref.result.now START c.index.result.now
+          (read-number c.in_ok-numbers.numbers.items c.deref.result.now START c.index.result.now
           (omega (arith, placed)) (sym numbers) c.index.ensures)
-          (read-place c.in_ok-numbers.numbers.items c.deref.result.now ANCHORED_START c.index-2.result.now
+          (read-number c.in_ok-numbers.numbers.items c.deref.result.now ANCHORED_START c.index-2.result.now
           placed (sym numbers) c.index-2.ensures)
           (c.sizes-sizes.ensures.match_end nodes.0 nodes.1)))
           (c.in_ok-words.ensures.packed nodes.0

@@ -2,7 +2,7 @@ use Rattle.std.proofs.Common.{◌≡◌, ◌∷◌, [], ℕ, Bool, List, Some, s
 use Rattle.std.proofs.lemmas.List.{length-append}
 use Rattle.ac_util.specs.Node.{Node}
 use Rattle.ac_engines.specs.Contiguous.Plans.{MayPack, size_of}
-use Rattle.ac_engines.proofs.PlanSums.{Takes, back-within, before-starts, front-within, has-words, named-below, places-first, places-more, plan-states, takes}
+use Rattle.ac_engines.proofs.PlanSums.{TakesSize, back-within, before-starts, front-within, has-words, named-below, places-first, places-more, plan-states, takes}
 use Rattle.ac_engines.proofs.nfa.contiguous.plan.Plan.numbers.Goals.{then-is_match+in_ok-push, else-is_match+in_ok-push-2}
 use Rattle.ac_engines.proofs.nfa.contiguous.plan.Plan.numbers.Goals as goal
 
@@ -86,7 +86,7 @@ loop-state-preserved g c = elim c.if-is_match.branch [
     more : (t : Bool) → c.is_match.result ≡ t → (words : ℕ)
         → ((nodes : List Node) (u : Node) → MayPack c.args.self.now nodes → slice_get nodes c.must-sid.result ≡ Some u
         → words ≡ size_of c.args.self.now nodes u)
-        → (nodes : List Node) → MayPack c.args.self.now nodes → Takes c.args.self.now nodes c.loop-state.state t words
+        → (nodes : List Node) → MayPack c.args.self.now nodes → TakesSize c.args.self.now nodes c.loop-state.state t words
     more t is words sized nodes may =
         let q = c.args.self.now in
         let own = named-below q nodes may _ _ c.loop-state.state c.self.view_is c.states_len-state-end.ensures.value

@@ -1,7 +1,7 @@
 use Rattle.std.proofs.Common.{◌≡◌, ◌+◌, Bool, List, None, Some, slice_get, true, false, length, ap, sym, ◌∙◌, arith}
 use Rattle.ac_util.specs.Node.{Node}
 use Rattle.ac_engines.specs.Contiguous.Plans.{MayPack, size_of}
-use Rattle.ac_engines.proofs.PlanSums.{Takes, before, before-starts, has-words, named-below, plan-states, sizes-whole, takes}
+use Rattle.ac_engines.proofs.PlanSums.{TakesSize, before, before-starts, has-words, named-below, plan-states, sizes-whole, takes}
 use Rattle.ac_engines.proofs.nfa.contiguous.plan.Plan.sizes.Goals.{then-is_match, else-is_match}
 use Rattle.ac_engines.proofs.nfa.contiguous.plan.Plan.sizes.Goals as goal
 
@@ -65,7 +65,7 @@ loop-state-preserved g c = elim c.if-is_match.branch [
 ]
   where
     more : (t : Bool) → c.is_match.result ≡ t → (nodes : List Node) → MayPack c.args.self.now nodes
-        → Takes c.args.self.now nodes c.loop-state.state t c.words-words.result
+        → TakesSize c.args.self.now nodes c.loop-state.state t c.words-words.result
     more t is nodes may =
         let q = c.args.self.now in
         let own = named-below q nodes may _ _ c.loop-state.state c.self.view_is c.states_len-state-end.ensures.value

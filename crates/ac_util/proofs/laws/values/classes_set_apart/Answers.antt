@@ -1,6 +1,6 @@
 use Rattle.ac_util.proofs.ClassLemmas.{stands-from_node}
 use Rattle.ac_util.proofs.ClassLists.{classes_of-set_apart, singletons-set_apart}
-use Rattle.ac_util.proofs.laws.layers.classes_set_apart.Goals as goal
+use Rattle.ac_util.proofs.laws.values.classes_set_apart.Goals as goal
 
 pub returns-clause-of_patterns : goal.returns-clause-of_patterns
 returns-clause-of_patterns c = classes_of-set_apart

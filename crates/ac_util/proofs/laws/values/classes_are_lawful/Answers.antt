@@ -1,6 +1,6 @@
 use Rattle.ac_util.proofs.ClassLemmas.{bytes-lawful, class_of-lawful}
 use Rattle.ac_util.proofs.ClassLists.{classes_of-lawful, singletons-lawful}
-use Rattle.ac_util.proofs.laws.layers.classes_are_lawful.Goals as goal
+use Rattle.ac_util.proofs.laws.values.classes_are_lawful.Goals as goal
 
 pub returns-clause-of_patterns : goal.returns-clause-of_patterns
 returns-clause-of_patterns c = λ fold kind patterns. class_of-lawful fold patterns kind

@@ -1,6 +1,6 @@
 use Rattle.ac_util.proofs.ClassLists.{class_at-below, classes_of-AreClasses, singletons-AreClasses}
 use Rattle.ac_util.proofs.StrideLemmas.{stride2-least, stride-enough}
-use Rattle.ac_util.proofs.laws.layers.strides_have_room.Goals as goal
+use Rattle.ac_util.proofs.laws.values.strides_have_room.Goals as goal
 
 pub returns-clause-of_patterns : goal.returns-clause-of_patterns
 returns-clause-of_patterns c = classes_of-AreClasses
