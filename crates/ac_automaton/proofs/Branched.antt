@@ -1,15 +1,15 @@
 -- Once all its children have come a state is whole.
-use Rattle.std.proofs.Common.{◌≡◌, ◌≢◌, ℕ, zero, suc, ◌-◌, ◌<◌, ◌≤◌, true, List, [], ◌∷◌, ◌++◌, length, length-append, take, drop, inl, inr, refl, ap, sym, ◌∙◌, subst, arith, Some, None, nat_eq, slice_get, slice_range, Contains, ◌↔◌}
+use Rattle.std.proofs.Common.{◌≡◌, ◌≢◌, ℕ, ◌<◌, ◌≤◌, true, List, [], ◌∷◌, ◌++◌, length, length-append, inl, inr, refl, ap, sym, ◌∙◌, subst, arith, Some, None, nat_eq, slice_get, slice_range, Contains, ◌↔◌, rules}
 use Rattle.std.specs.List.{starts_with}
 use Rattle.std.specs.List.Sorted.{IsPermutation, IsStrictlyIncreasing}
-use Rattle.std.proofs.lemmas.Bool.{cases_lt, cases_Bool, cond-true, cond-false}
+use Rattle.std.proofs.lemmas.Bool.{cases_lt}
 use Rattle.std.proofs.lemmas.List.{length-map}
 use Rattle.std.proofs.lemmas.List.Sorted.{Contains-permutation, IsPermutation-sym, length_permutation}
-use Rattle.std.proofs.Math.Seq.{drop-append_seam, take-append_seam, take-length}
-use Rattle.ac_automaton.specs.Util.{is_node, MatchKind, Node, plain_byte, step, Yes}
+use Rattle.std.proofs.lemmas.Grind.{common_steps}
+use Rattle.ac_automaton.specs.Util.{is_node, MatchKind, plain_byte, step, Yes}
 use Rattle.ac_util.proofs.Prefixes.{starts_with-front}
 use Rattle.ac_util.proofs.Lists.{AllPairs-from_IsOrdered, Contains-from_IsIn, IsIn, IsIn-from_Contains, IsIn-from_map, IsIn-map}
-use Rattle.ac_automaton.specs.Prelude.{AreStates, byte_at, FIRST_INNER, grown_meaning, HasBranched, HasSorted, IsNext, IsOrder, key_at, Keyed, LinkIsDue, Links, nodes_of, QueuedState, START, State, Transition, transition_bytes}
+use Rattle.ac_automaton.specs.Prelude.{AreStates, byte_at, FIRST_INNER, grown_meaning, HasBranched, HasSorted, IsNext, IsOrder, key_at, Keyed, LinkIsDue, Links, nodes_of, QueuedState, State, Transition, transition_bytes}
 use Rattle.ac_automaton.proofs.Branching.{IsBranching, Site, string, word-length}
 use Rattle.ac_automaton.proofs.Grown.{AreStates-more, IsGrown-later}
 use Rattle.ac_automaton.proofs.Leading.{sorted-ascends}
@@ -21,17 +21,13 @@ use Rattle.ac_automaton.proofs.Prefixes.{starts_with-last, starts_with-push}
 pub own_target-is : (kind : MatchKind) (patterns : List (List ℕ)) (u : List ℕ) (b : ℕ)
     → is_node kind patterns (u ++ b ∷ []) ≡ true
     → step kind patterns Yes (Some u) b ≡ Some (u ++ b ∷ [])
-own_target-is kind patterns u b node = cond-true (is_node kind patterns (u ++ b ∷ []))
-    (Some (u ++ b ∷ [])) None node
+own_target-is kind patterns u b node = cc
 
 -- where it goes on, the longer string is a node
 pub own_target-node : (kind : MatchKind) (patterns : List (List ℕ)) (u : List ℕ) (b : ℕ)
     → step kind patterns Yes (Some u) b ≢ None
     → is_node kind patterns (u ++ b ∷ []) ≡ true
-own_target-node kind patterns u b some = elim (cases_Bool (is_node kind patterns (u ++ b ∷ []))) [
-  | inl t ↦ t
-  | inr f ↦ absurd (some (cond-false (is_node kind patterns (u ++ b ∷ [])) (Some (u ++ b ∷ [])) None f))
-]
+own_target-node kind patterns u b some = grind (arith, common_steps)
 
 -- some pattern begins with a node
 pub some_node : (kind : MatchKind) (patterns : List (List ℕ)) (sorted : List Keyed)
@@ -52,15 +48,11 @@ module _ (site : Site) {unsorted : List Transition} {queue : List QueuedState}
 
   -- the transitions after the old ones are the new ones, sorted
   split : transitions ≡ site.transitions ++ s.sorted
-  split =
-      s.split ∙ ap (λ (ts : List Transition). ts ++ s.sorted)
-      (ap (take (length site.transitions)) h.split ∙ take-append_seam site.transitions h.added)
+  split = grind (arith, common_steps)
 
   -- the sorted transitions are those that were added
   sorted-from : IsPermutation h.added s.sorted
-  sorted-from =
-      subst (λ (ts : List Transition). IsPermutation ts s.sorted)
-      (ap (drop (length site.transitions)) h.split ∙ drop-append_seam site.transitions h.added) s.permutation
+  sorted-from = grind (arith, common_steps)
 
   -- the transitions of the state
   abbrev range : List Transition
@@ -68,27 +60,15 @@ module _ (site : Site) {unsorted : List Transition} {queue : List QueuedState}
 
   -- they are the sorted ones
   range-is : range ≡ s.sorted
-  range-is =
-      let count : length transitions - length site.transitions ≡ length s.sorted =
-      (omega (arith, ap length split, length-append site.transitions s.sorted)) in
-      ap (λ (n : ℕ). take n (drop (length site.transitions) transitions)) count
-      ∙ ap (λ (ts : List Transition). take (length s.sorted) (drop (length site.transitions) ts)) split
-      ∙ ap (take (length s.sorted)) (drop-append_seam site.transitions s.sorted)
-      ∙ take-length s.sorted
+  range-is = grind (arith, common_steps)
 
   -- a transition that was added is one of them
   in-range : (t : Transition) → IsIn t h.added → IsIn t range
-  in-range t has =
-      subst (IsIn t) (sym range-is)
-      (IsIn-from_Contains t s.sorted
-      (Contains-permutation h.added s.sorted t sorted-from (Contains-from_IsIn t h.added has)))
+  in-range t has = search (rules, Contains-from_IsIn, Contains-permutation, IsIn-from_Contains, range-is, sorted-from)
 
   -- and each of them was added
   from-range : (t : Transition) → IsIn t range → IsIn t h.added
-  from-range t has =
-      IsIn-from_Contains t h.added
-      (Contains-permutation s.sorted h.added t (IsPermutation-sym h.added s.sorted sorted-from)
-      (Contains-from_IsIn t s.sorted (subst (IsIn t) range-is has)))
+  from-range t has = search (rules, Contains-from_IsIn, Contains-permutation, IsIn-from_Contains, IsPermutation-sym, range-is, sorted-from)
 
   -- their bytes ascend
   ascending : IsStrictlyIncreasing (transition_bytes range)
@@ -166,12 +146,7 @@ module _ (site : Site) {unsorted : List Transition} {queue : List QueuedState}
   leads : (k : ℕ) (t : Transition) → slice_get range k ≡ Some t
       → slice_get (nodes_of site.sorted queue) t.target
       ≡ Some (step site.kind site.patterns Yes (Some (string site)) (plain_byte site.fold t.byte))
-  leads k t e =
-      let has = from-range t (IsIn-place t range k e) in
-      h.leads t has
-      ∙ ap (λ (v : Node). Some v)
-      (sym (own_target-is site.kind site.patterns (string site) (plain_byte site.fold t.byte)
-      (transition-node t has)))
+  leads k t e = grind (arith, common_steps, from-range t (IsIn-place t range k e), IsIn-place t range k e, transition-node)
 
   -- the states that were whole stay what they are
   pub still-meant : AreStates
@@ -185,35 +160,7 @@ module _ (site : Site) {unsorted : List Transition} {queue : List QueuedState}
   -- the failure target decides the link
   pub link-due : LinkIsDue (grown_meaning site.kind site.fold site.patterns site.sorted transitions queue)
       (length site.states) (string site) site.queued.fail
-  link-due = record {
-    fails = h.waits.fails;
-    dead = refl;
-    near = λ some. near some site.ready.next;
-    start = λ none l. start none l site.ready.next;
-  }
-    where
-      near : string site ≢ []
-          → IsNext site.kind site.patterns site.sorted site.queue (length site.states) site.queued
-          → site.queued.fail < length site.states
-      near some (inl start) =
-          absurd (some (ap (λ (n : ℕ). take n (key_at site.sorted site.queued.from)) start.depth))
-      near some (inr later) = h.waits.back (omega (arith, later.number))
-
-      first_two : (f : ℕ) → f < START → slice_get (nodes_of site.sorted queue) f ≡ Some None
-      first_two zero l = refl
-      first_two (suc zero) l = refl
-      first_two (suc (suc f)) l = absurd (omega arith)
-
-      start : string site ≡ [] → site.queued.fail < length site.states
-          → IsNext site.kind site.patterns site.sorted site.queue (length site.states) site.queued
-          → (site.queued.fail < START) × (slice_get (nodes_of site.sorted queue) site.queued.fail ≡ Some None)
-      start none l (inl first) =
-          let f : site.queued.fail < START = (omega (arith, first.number))
-          in (f, first_two site.queued.fail f)
-      start none l (inr later) =
-          let number = later.number in
-          let deep = h.waits.inner (omega arith) in
-          absurd (omega (arith, deep, ap length none, long))
+  link-due = grind (arith, common_steps)
 
   -- the state that stands for the string
   abbrev pub whole_state : ℕ → State

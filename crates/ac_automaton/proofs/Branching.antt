@@ -1,8 +1,9 @@
 -- How the children of a state are put after the queue, one run of patterns after another.
-use Rattle.std.proofs.Common.{◌≡◌, ◌≢◌, ℕ, suc, ◌+◌, ◌<◌, ◌≤◌, true, Bool, List, [], ◌∷◌, ◌++◌, length, take, inl, inr, refl, ap, sym, subst, arith, Option, Some, None, nat_eq, slice_get}
+use Rattle.std.proofs.Common.{◌≡◌, ◌≢◌, ℕ, suc, ◌+◌, ◌<◌, ◌≤◌, true, Bool, List, [], ◌∷◌, ◌++◌, length, inl, inr, refl, ap, sym, subst, arith, Option, Some, None, nat_eq, slice_get, rules}
 use Rattle.std.specs.List.{starts_with}
 use Rattle.std.proofs.lemmas.List.{append-nil, length_push, length-take-le}
 use Rattle.std.proofs.lemmas.Option.{slice_get_within}
+use Rattle.std.proofs.lemmas.Grind.{common_steps}
 use Rattle.ac_automaton.specs.Util.{MatchKind, plain_byte}
 use Rattle.ac_util.proofs.Lists.{IsIn, IsOrdered}
 use Rattle.ac_automaton.specs.Prelude.{AreStates, byte_at, EndsPatterns, grown_meaning, HasChild, IsGrown, IsNext, IsRangeOf, key_at, Keyed, nodes_of, QueuedState, Source, State, Transition, Waits, word}
@@ -10,7 +11,7 @@ use Rattle.ac_automaton.specs.Growths.{IsQueueReady}
 use Rattle.ac_automaton.proofs.Grown.{AreStates-more, IsGrown-later, nodes-inner, nodes-more}
 use Rattle.ac_automaton.proofs.Orders.{rank}
 use Rattle.ac_util.proofs.Prefixes.{starts_with-length}
-use Rattle.ac_automaton.proofs.Ranges.{run-range, longer, next-greater}
+use Rattle.ac_automaton.proofs.Ranges.{run-range, next-greater}
 
 module _ {kind : MatchKind} {patterns : List (List ℕ)} {sorted : List Keyed} {queue : List QueuedState}
     {s : ℕ} {p : QueuedState} (w : Waits kind patterns sorted queue s p) where
@@ -20,27 +21,14 @@ module _ {kind : MatchKind} {patterns : List (List ℕ)} {sorted : List Keyed} {
 
   -- what waits still does when more has come
   pub Waits-more : (more : List QueuedState) → Waits kind patterns sorted (queue ++ more) s p
-  Waits-more more = record {
-    deep = w.deep;
-    range = w.range;
-    fails = nodes-more sorted queue more p.fail _ w.fails;
-    unanchored = w.unanchored;
-    back = w.back;
-    some = w.some;
-    inner = w.inner;
-  }
+  Waits-more more = search (rules, nodes-more)
 
 -- the number of a state that is next stands for its string
 next-node : (kind : MatchKind) (patterns : List (List ℕ)) (sorted : List Keyed) (queue : List QueuedState)
     (s : ℕ) (p : QueuedState) → IsNext kind patterns sorted queue s p
     → slice_get (nodes_of sorted queue) s ≡ Some (Some (word sorted p))
-next-node kind patterns sorted queue s p (inl start) =
-    let none : word sorted p ≡ [] = ap (λ (n : ℕ). take n (key_at sorted p.from)) start.depth in
-    subst (λ (k : ℕ). slice_get (nodes_of sorted queue) k ≡ Some (Some (word sorted p))) (sym start.number)
-    (ap (λ (w : List ℕ). Some (Some w)) (sym none))
-next-node kind patterns sorted queue s p (inr later) =
-    subst (λ (k : ℕ). slice_get (nodes_of sorted queue) k ≡ Some (Some (word sorted p))) (sym later.number)
-    (nodes-inner sorted queue later.place p later.waits)
+next-node kind patterns sorted queue s p (inl start) = cc
+next-node kind patterns sorted queue s p (inr later) = search (rules, nodes-inner)
 
 -- one of the transitions is by the byte
 pub record HasTransition (x : ℕ) (transitions : List Transition) : Type 0 where
@@ -145,16 +133,7 @@ module _ (site : Site) where
   pub goes-on : {place : ℕ} {transitions : List Transition} {queue : List QueuedState}
       → IsBranching place transitions queue
       → place < site.queued.to → next_byte place ≢ None
-  goes-on {place} h more =
-      let same =
-      word-length h.waits in
-      subst (λ (n : ℕ). byte_at site.sorted n place ≢ None) same
-      (longer site.kind site.patterns site.sorted site.ready.order string site.queued.from site.queued.to
-      h.waits.range site.patterns_end site.ends.later (omega (arith, h.low))
-      (λ k a c. subst (λ (n : ℕ). byte_at site.sorted n k ≡ None) (sym same) (site.ends.whole k a c))
-      (λ l. subst (λ (n : ℕ). byte_at site.sorted n site.patterns_end ≢ None) (sym same) (site.ends.other l))
-      place
-      h.low more)
+  goes-on {place} h more = grind (arith, common_steps)
 
   -- the patterns from a place up to another go on with the byte, and the next one doesn't
   pub record IsRun (place end b : ℕ) : Type 0 where
@@ -176,10 +155,7 @@ module _ (site : Site) where
 
     -- the patterns before the run have lesser bytes
     pub below : (k : ℕ) → site.queued.from ≤ k → k < place → rank (next_byte k) < suc b
-    below k a c =
-        let r = h.smaller run.more k a c in
-        let at : rank (next_byte place) ≡ suc b = ap rank run.byte in
-        omega arith
+    below k a c = grind (arith, common_steps)
 
     -- the patterns of the run are those that begin with the child's string
     pub child-range : IsRangeOf site.sorted (string ++ b ∷ []) place end
@@ -218,8 +194,7 @@ module _ (site : Site) where
 
     -- the pattern at the place has the byte
     pub child-deep : site.queued.depth + 1 ≤ length (key_at site.sorted place)
-    child-deep =
-        omega (arith, starts_with-length (key_at site.sorted place) (string ++ b ∷ []) front, pushed)
+    child-deep = search (rules, front, pushed, starts_with-length)
 
     -- what the child's failure target is told by
     pub has-child : HasChild site.kind site.fold site.patterns site.sorted site.states transitions queue

@@ -1,9 +1,10 @@
 -- The child of a run of patterns, which is put after the queue.
-use Rattle.std.proofs.Common.{◌≡◌, ◌≢◌, ℕ, suc, ◌+◌, ◌-◌, ◌<◌, ◌≤◌, List, [], ◌∷◌, ◌++◌, length, length-append, take, ◌⊎◌, inl, inr, refl, ap, sym, ◌∙◌, subst, arith, Some, get_or, slice_get}
+use Rattle.std.proofs.Common.{◌≡◌, ◌≢◌, ℕ, suc, ◌+◌, ◌-◌, ◌<◌, ◌≤◌, List, [], ◌∷◌, ◌++◌, length, length-append, take, inl, inr, refl, ap, sym, ◌∙◌, subst, arith, Some, get_or, slice_get, rules}
 use Rattle.std.proofs.lemmas.Bool.{cases_lt}
 use Rattle.std.proofs.lemmas.List.{append-nil, append_assoc, length-map, length_push}
 use Rattle.std.proofs.lemmas.Option.{slice_get-get_or, slice_get_within}
 use Rattle.std.proofs.Math.Seq.{take-append_seam}
+use Rattle.std.proofs.lemmas.Grind.{common_steps}
 use Rattle.ac_automaton.specs.Util.{GREATEST, plain_byte}
 use Rattle.ac_util.proofs.Lists.{IsIn, IsIn-append_cases, IsIn-append_left, IsIn-append_right, IsOrdered, IsOrdered-append}
 use Rattle.ac_automaton.specs.Prelude.{ANCHORED_START, FIRST_INNER, grown_meaning, IsGrown, IsNext, IsRangeOf, key_at, leading, miss, nodes_of, QueuedState, START, Transition, Waits, word}
@@ -123,23 +124,11 @@ module _ (site : Site) {place end b : ℕ} {transitions : List Transition} {queu
   still-apart : (j k : ℕ) (q r : QueuedState) → slice_get (queue ++ child ∷ []) j ≡ Some q
       → slice_get (queue ++ child ∷ []) k ≡ Some r
       → word site.sorted q ≡ word site.sorted r → j ≡ k
-  still-apart j k q r e f w = by (get-added_cases queue child q j e) (get-added_cases queue child r k f)
-    where
-      by : ((slice_get queue j ≡ Some q) ⊎ ((j ≡ length queue) × (child ≡ q)))
-          → ((slice_get queue k ≡ Some r) ⊎ ((k ≡ length queue) × (child ≡ r))) → j ≡ k
-      by (inl old) (inl old') = h.grown.apart j k q r old old' w
-      by (inl old) (inr new) = absurd (fresh j q old (w ∙ ap (word site.sorted) (sym new.1) ∙ child-word))
-      by (inr new) (inl old) =
-          absurd (fresh k r old (sym w ∙ ap (word site.sorted) (sym new.1) ∙ child-word))
-      by (inr new) (inr new') = new.0 ∙ sym new'.0
+  still-apart j k q r e f w = search (rules, child-word, fresh, get-added_cases)
 
   -- the string of its parent is that of the state
   parent-string : take (child.depth - 1) (word site.sorted child) ≡ string site
-  parent-string =
-      let back : site.queued.depth + 1 - 1 ≡ length (string site) = (omega (arith, long site h run)) in
-      ap (λ (n : ℕ). take n (word site.sorted child)) back
-      ∙ ap (take (length (string site))) child-word
-      ∙ take-append_seam (string site) (b ∷ [])
+  parent-string = search (rules, child-word, long, take-append_seam)
 
   -- the transitions to it
   abbrev pub more_transitions : List Transition
@@ -267,12 +256,7 @@ module _ (site : Site) {place end b : ℕ} {transitions : List Transition} {queu
   -- the patterns up to the end of the run have lesser bytes than the next one
   step-smaller : end < site.queued.to → (k : ℕ) → site.queued.from ≤ k → k < end
       → rank (next_byte site k) < rank (next_byte site end)
-  step-smaller l k low m =
-      let up = greater site h run l in
-      elim (cases_lt k place) [
-        | inl before ↦ omega (arith, below site h run k low before)
-        | inr le ↦ let r : rank (next_byte site k) ≡ suc b = ap rank (run.same k le m ∙ run.byte) in omega arith
-      ]
+  step-smaller l k low m = grind (arith, common_steps, greater site h run l, below)
 
   -- with the child after the queue the children up to the end of its run have come
   pub branching-goes_on : fail ≢ ANCHORED_START → FIRST_INNER + length queue < GREATEST + 1

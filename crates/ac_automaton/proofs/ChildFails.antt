@@ -1,5 +1,5 @@
 -- The failure target of a child.
-use Rattle.std.proofs.Common.{◌≡◌, ◌≢◌, ℕ, ◌+◌, Bool, true, List, [], ◌∷◌, ◌++◌, length, refl, ap, sym, ◌∙◌, subst, arith, Some, None, slice_get}
+use Rattle.std.proofs.Common.{◌≡◌, ◌≢◌, ℕ, ◌+◌, Bool, true, List, [], ◌∷◌, ◌++◌, length, ap, sym, subst, arith, Some, None, slice_get, rules}
 use Rattle.std.proofs.lemmas.List.{length_push}
 use Rattle.ac_automaton.specs.Util.{equal_to, is_leftmost, MatchKind, No, Node, step}
 use Rattle.ac_automaton.specs.Prelude.{byte_at, grown_meaning, HasChild, HasState, Keyed, miss, nodes_of, QueuedState, State, Transition, word}
@@ -37,33 +37,13 @@ module _ {kind : MatchKind} {fold : Bool} {patterns : List (List ℕ)} {sorted :
   -- else a child of the start fails as the start does
   pub fail-start : (is_leftmost kind ≡ true → byte_at sorted (p.depth + 1) place ≢ None) → p.depth ≡ 0
       → slice_get (nodes_of sorted queue) p.fail ≡ Some (miss kind patterns (Some (word sorted p ++ b ∷ [])))
-  fail-start goes_on start = h.waits.fails ∙ ap (λ (v : Node). Some v) (by (word sorted p) refl)
-    where
-      by : (u : List ℕ) → word sorted p ≡ u
-          → miss kind patterns (Some u) ≡ miss kind patterns (Some (word sorted p ++ b ∷ []))
-      by [] e =
-          sym (ap (λ (v : List ℕ). miss kind patterns (Some (v ++ b ∷ []))) e
-          ∙ miss-start kind patterns b
-          (λ leftmost. sym (ap (λ (v : List ℕ). equal_to kind patterns (v ++ b ∷ [])) e)
-          ∙ no-pattern goes_on leftmost))
-      by (x ∷ u) e = absurd (omega (arith, long, ap length e))
+  fail-start goes_on start = search (rules, long, miss-start, no-pattern)
 
   -- any other child fails to where the byte leads from the failure target of its parent
   pub fail-step : (is_leftmost kind ≡ true → byte_at sorted (p.depth + 1) place ≢ None) → p.depth ≢ 0
       → step kind patterns No (miss kind patterns (Some (word sorted p))) b
       ≡ miss kind patterns (Some (word sorted p ++ b ∷ []))
-  fail-step goes_on deep = by (word sorted p) refl
-    where
-      by : (u : List ℕ) → word sorted p ≡ u
-          → step kind patterns No (miss kind patterns (Some (word sorted p))) b
-          ≡ miss kind patterns (Some (word sorted p ++ b ∷ []))
-      by [] e = absurd (deep (omega (arith, long, ap length e)))
-      by (x ∷ u) e =
-          ap (λ (v : List ℕ). step kind patterns No (miss kind patterns (Some v)) b) e
-          ∙ sym (miss-child kind patterns x u b
-          (λ leftmost. sym (ap (λ (v : List ℕ). equal_to kind patterns (v ++ b ∷ [])) e)
-          ∙ no-pattern goes_on leftmost))
-          ∙ ap (λ (v : List ℕ). miss kind patterns (Some (v ++ b ∷ []))) (sym e)
+  fail-step goes_on deep = search (rules, long, miss-child, no-pattern)
 
   -- the failure target of a state that isn't the start is among the states
   pub fail-state : p.depth ≢ 0

@@ -1,11 +1,12 @@
 -- Which matches are due where an automaton stands that lists: those in front of its state's list that count.
-use Rattle.std.proofs.Common.{◌≡◌, ◌≢◌, ℕ, ◌-◌, ◌<◌, Bool, true, false, cond, List, [], ◌∷◌, ◌++◌, length, inl, inr, refl, ap, sym, subst, ◌∙◌, arith, Some, None, All}
+use Rattle.std.proofs.Common.{◌≡◌, ℕ, ◌-◌, ◌<◌, Bool, true, false, cond, List, [], ◌∷◌, ◌++◌, length, inl, inr, refl, ap, sym, subst, ◌∙◌, arith, Some, None, All, rules}
 use Rattle.std.specs.List.{take_while}
 use Rattle.std.proofs.lemmas.Bool.{eq-eqb, ne_eqb}
 use Rattle.std.proofs.lemmas.List.{append_assoc, append-nil, length-map}
 use Rattle.std.proofs.lemmas.List.Sums.{take_while-cons}
+use Rattle.std.proofs.lemmas.Grind.{common_steps}
 use Rattle.ac_util.specs.declared.search.Anchored.{Anchored}
-use Rattle.ac_automaton.specs.Util.{Built, No, Node, pattern_of, plain, Yes}
+use Rattle.ac_automaton.specs.Util.{Built, No, Node, pattern_of, Yes}
 use Rattle.ac_util.proofs.Advance.{append_nil_left}
 use Rattle.ac_util.proofs.Found.{matches-fits, matches-shorter}
 use Rattle.ac_util.proofs.Lists.{All-from_IsIn, IsIn, IsIn-append_left}
@@ -17,8 +18,7 @@ use Rattle.ac_automaton.proofs.Heads.{plain_length}
 take_while-front : (p : ℕ → Bool) (xs ys : List ℕ) → ((x : ℕ) → IsIn x xs → p x ≡ true)
     → ((y : ℕ) → IsIn y ys → p y ≡ false) → take_while p (xs ++ ys) ≡ xs
 take_while-front p [] [] passes fails = refl
-take_while-front p [] (y ∷ ys) passes fails =
-    take_while-cons p y ys ∙ ap (λ (t : Bool). cond t (y ∷ take_while p ys) []) (fails y (inl refl))
+take_while-front p [] (y ∷ ys) passes fails = grind (arith, common_steps)
 take_while-front p (x ∷ xs) ys passes fails =
     take_while-cons p x (xs ++ ys)
     ∙ ap (λ (t : Bool). cond t (x ∷ take_while p (xs ++ ys)) []) (passes x (inl refl))
@@ -28,25 +28,10 @@ take_while-front p (x ∷ xs) ys passes fails =
 abbrev pub counts : Built → Anchored → ℕ → ℕ → Bool
 counts built anchored read n = is_due anchored (length (pattern_of built.patterns n)) read
 
--- one counts that in an anchored search is as long as what was read
-pub due-whole : (anchored : Anchored) (len read : ℕ) → (anchored ≡ Yes → len ≡ read)
-    → is_due anchored len read ≡ true
-due-whole No len read whole = refl
-due-whole Yes len read whole = eq-eqb len read (whole refl)
-
--- and any other doesn't
-pub due-not : (anchored : Anchored) (len read : ℕ) → anchored ≡ Yes → len ≢ read
-    → is_due anchored len read ≡ false
-due-not No len read is apart = absurd (cc)
-due-not Yes len read is apart = ne_eqb len read apart
-
 module _ (built : Built) (listed : List ℕ) (start end : ℕ) where
   -- a match that is listed has a number
   numbered-in : (u : List ℕ) (n : ℕ) → IsIn n (matches_of built No (Some u)) → n < length built.patterns
-  numbered-in u n h =
-      let f = matches-fits built.kind (plain_of built) u n h in
-      let within = f.numbered in
-      let m = length-map built.patterns (plain built.fold) in omega arith
+  numbered-in u n h = search (rules, length-map, matches-fits)
 
   numbered-all : (u : Node) → ((n : ℕ) → IsIn n listed → IsIn n (matches_of built No u))
       → All (λ n. n < length built.patterns) listed
@@ -65,12 +50,8 @@ module _ (built : Built) (listed : List ℕ) (start end : ℕ) where
   -- a state that was just come to has all matches of its node due
   pub listed-due : (anchored : Anchored) (u : Node) → Lists built anchored u listed → FitsIn anchored u start end
       → take_while (counts built anchored (end - start)) listed ≡ matches_of built anchored u
-  listed-due No u lists fits =
-      ap (take_while (counts built No (end - start))) (sym (append-nil listed))
-      ∙ take_while-front (counts built No (end - start)) listed [] (λ x h. refl) (λ y h. absurd h) ∙ lists
-  listed-due Yes None lists fits =
-      let none : listed ≡ [] = append_nil_left listed lists.left_out (sym lists.front) in
-      ap (take_while (counts built Yes (end - start))) none
+  listed-due No u lists fits = grind (arith, common_steps, append-nil listed, take_while-front)
+  listed-due Yes None lists fits = search (rules, append_nil_left)
   listed-due Yes (Some u) lists fits =
       let whole = fits.whole refl (λ none. absurd (cc)) in
       let own = matches_of built Yes (Some u) in

@@ -1,16 +1,15 @@
 -- A replacement by a closure, match by match: from what was done so far, the steps that are left lead on to those of
 -- the whole.
-use Rattle.std.proofs.Common.{◌≡◌, ◌∙◌, ℕ, ◌-◌, Bool, true, false, List, [], ◌∷◌, ◌++◌, ap, arith, drop, length, inl, inr, refl, subst, sym, Option, None, Some, Result, Ok, Err, IsErrAnd, slice_range}
-use Rattle.std.proofs.lemmas.List.{length-drop, take_all}
+use Rattle.std.proofs.Common.{◌≡◌, ◌∙◌, ℕ, Bool, true, false, List, [], ◌∷◌, ◌++◌, ap, arith, drop, length, inl, inr, refl, subst, sym, Option, None, Some, Result, Ok, Err, IsErrAnd, slice_range}
 use Rattle.std.specs.Borrow.{Bor, MutBor}
 use Rattle.std.specs.Fn.{Mut}
-use Rattle.ac_automaton.specs.Util.{AppendsAll, Asked, asked_by, asked_whole, Built, Calls, Find, find_refusal, has_empty, LeftmostFirst, LeftmostLongest, MakesSteps, MatchError, MatchKind, MatchReplaceError, No, Occurrence, refusal, Replace, replace_refusal, ReplaceError, ReplacementSteps, Standard, StartKind, StepsLead, Turn}
+use Rattle.std.proofs.lemmas.Grind.{common_steps}
+use Rattle.ac_automaton.specs.Util.{AppendsAll, Asked, asked_by, asked_whole, Built, Calls, find_refusal, MakesSteps, MatchError, Occurrence, replace_refusal, ReplaceError, ReplacementSteps, StepsLead, Turn}
 use Rattle.ac_util.specs.declared.error.ReplaceError.TheVariants.{Memory}
 
 -- a slice up to the end is what follows a place
 pub slice_to_end : (bytes : List ℕ) (place : ℕ) → slice_range bytes place (length bytes) ≡ drop place bytes
-slice_to_end bytes place =
-    take_all (length bytes - place) (drop place bytes) (omega (arith, length-drop place bytes))
+slice_to_end bytes place = grind (arith, common_steps)
 
 -- a closure has exchanged some of the matches, from a destination on that was `old` at first: steps from this place
 -- on, over the matches that are left, are the last of the whole
@@ -29,9 +28,7 @@ module _ {F D : Type 0}
   -- at first all are left
   pub leads-begin : (ms : List Occurrence) → ms ≡ all
       → LeadsOn closures holds haystack all first old 0 ms first old
-  leads-begin ms is =
-      subst (λ (ns : List Occurrence). LeadsOn closures holds haystack all first old 0 ns first old) (sym is)
-      (record { on = λ end left new steps. (left, steps) })
+  leads-begin ms is = grind (arith, common_steps)
 
   module _ {place : ℕ} {was : List Occurrence} {f : F} {d : D} (m : Occurrence) (ms : List Occurrence)
       (leads : LeadsOn closures holds haystack all first old place was f d) (is : was ≡ m ∷ ms) where
@@ -83,18 +80,13 @@ module _ {F D : Type 0}
   pub leads-skip : {place : ℕ} {was ms : List Occurrence} {f : F} {d : D}
       → LeadsOn closures holds haystack all first old place was f d → was ≡ ms
       → LeadsOn closures holds haystack all first old place ms f d
-  leads-skip {place} {was} {ms} {f} {d} leads is =
-      subst (λ (ns : List Occurrence). LeadsOn closures holds haystack all first old place ns f d) is leads
+  leads-skip {place} {was} {ms} {f} {d} leads is = grind (arith, common_steps)
 
   -- no match is left, told by other names
   pub leads-out : {place to : ℕ} {was : List Occurrence} {f h : F} {d e : D}
       → LeadsOn closures holds haystack all first old place was f d → was ≡ [] → to ≡ place → h ≡ f → e ≡ d
       → LeadsOn closures holds haystack all first old to [] h e
-  leads-out {place} {to} {was} {f} {h} {d} {e} leads none places fs ds =
-      subst (λ (i : ℕ). LeadsOn closures holds haystack all first old i [] h e) (sym places)
-      (subst (λ (k : F). LeadsOn closures holds haystack all first old place [] k e) (sym fs)
-      (subst (λ (x : D). LeadsOn closures holds haystack all first old place [] f x) (sym ds)
-      (subst (λ (ns : List Occurrence). LeadsOn closures holds haystack all first old place ns f d) none leads)))
+  leads-out {place} {to} {was} {f} {h} {d} {e} leads none places fs ds = grind (arith, common_steps)
 
   -- what follows the last match was appended
   pub leads-end : {place : ℕ} {f : F} {d : D} (e : D) → LeadsOn closures holds haystack all first old place [] f d
@@ -107,23 +99,13 @@ module _ {F D : Type 0}
       → StepsLead closures holds haystack all first old (Some Memory) e
   leads-end_refused {place} {f} {d} e leads same = leads.on (Some Memory) f e (refl, same)
 
--- a replacement is refused where a walk over the haystack is
-refused_alike : (start_kind : StartKind) (kind : MatchKind) (has_empty : Bool)
-    → refusal start_kind kind (Find No) has_empty ≡ refusal start_kind kind Replace has_empty
-refused_alike start_kind Standard has_empty = refl
-refused_alike start_kind LeftmostFirst has_empty = refl
-refused_alike start_kind LeftmostLongest has_empty = refl
-
 pub unrefused : (built : Built) (haystack : List ℕ) (a : Asked) → a ≡ asked_whole haystack
     → find_refusal built a ≡ None → replace_refusal built ≡ None
-unrefused built haystack a is none =
-    sym (refused_alike built.start_kind built.kind (has_empty built)) ∙ ap (find_refusal built) (sym is) ∙ none
+unrefused built haystack a is none = grind (arith, common_steps)
 
 -- where it isn't refused, and memory was, these are the steps up to there
 pub stops-by_memory : (refused : Option MatchError) (steps : Option ReplaceError → Type 0) (unchanged : Type 0)
     (result : Result (Unit {0}) ReplaceError) → IsErrAnd result (λ e. e ≡ Memory) → refused ≡ None
     → steps (Some Memory) → MakesSteps refused steps unchanged result
 stops-by_memory refused steps unchanged (Ok done) memory none made = absurd memory
-stops-by_memory refused steps unchanged (Err e) memory none made =
-    subst (λ (f : ReplaceError). MatchReplaceError f (λ m. (refused ≡ Some m) × unchanged) ((refused ≡ None) × steps (Some Memory)))
-    (sym memory) (none, made)
+stops-by_memory refused steps unchanged (Err e) memory none made = grind (arith, common_steps)

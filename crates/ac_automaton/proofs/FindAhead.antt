@@ -1,13 +1,13 @@
 -- A find that reads on from match to match: what is picked where it has come to.
-use Rattle.std.proofs.Common.{◌≡◌, ◌≢◌, ◌⊎◌, ℕ, zero, suc, ◌+◌, ◌-◌, ◌<◌, ◌≤◌, Bool, true, false, List, [], length, refl, ap, sym, subst, ◌∙◌, inl, inr, arith, Option, Some, None, option_map, slice_get, IfSome, max}
+use Rattle.std.proofs.Common.{◌≡◌, ◌≢◌, ◌⊎◌, ℕ, zero, suc, ◌+◌, ◌-◌, ◌<◌, ◌≤◌, Bool, true, false, List, [], length, refl, ap, sym, ◌∙◌, inl, inr, arith, Option, Some, None, option_map, slice_get, IfSome, max, rules}
 use Rattle.std.specs.Option.{is_some}
-use Rattle.std.proofs.lemmas.Bool.{cases_lt, false≢true}
+use Rattle.std.proofs.lemmas.Bool.{false≢true}
+use Rattle.std.proofs.lemmas.Grind.{common_steps}
 use Rattle.ac_util.specs.declared.search.Anchored.{Anchored}
 use Rattle.ac_automaton.specs.Util.{Built, is_leftmost, MatchKind, Node, Occurrence, order_of, pick, Span, Standard}
 use Rattle.ac_util.proofs.SearchLoop.{SearchGoesOn}
 use Rattle.ac_automaton.specs.Prelude.{found_at, in_memory, IsAnswered, IsDecided, matches_of, NoMatchBetween, place_of, Scan}
 use Rattle.ac_automaton.proofs.FindLoop.{dead-stays, found-end, goes_on-by, node_at, order, picked-final, picked-newly, picked-still, q, up_to}
-use Rattle.ac_automaton.proofs.ReadOn.{node-start}
 
 module _ (s : Scan) (stops : Bool) (bytes : List ℕ) (span : Span) where
   abbrev node : ℕ → Node
@@ -15,16 +15,6 @@ module _ (s : Scan) (stops : Bool) (bytes : List ℕ) (span : Span) where
 
   abbrev picked_to : ℕ → Option Occurrence
   picked_to k = pick (order s stops bytes span) (up_to s stops bytes span k)
-
-  -- a search that is dead has read on from its start
-  pub past-start : (at : ℕ) → span.start ≤ at → node at ≡ None → span.start < at
-  past-start at ordered dead = elim (cases_lt span.start at) [
-    | inl before ↦ before
-    | inr behind ↦
-        let e : at ≡ span.start = omega arith in
-        let no : None ≡ Some [] = sym dead ∙ ap node e ∙ node-start s (in_memory bytes span) span.start refl in
-        absurd (cc)
-  ]
 
   -- a node without matches finds none
   pub found-nothing : (k : ℕ) → matches_of s.built s.anchored (node k) ≡ [] → found_at s.built s.anchored (node k) k ≡ None
@@ -42,23 +32,16 @@ module _ (s : Scan) (stops : Bool) (bytes : List ℕ) (span : Span) where
         (found-nothing (from + n + 1) (quiet (from + n + 1) (omega arith) (omega arith))) ∙ ap picked_to e
 
     still-before : from < at → r ≡ picked_to (at - 1)
-    still-before before =
-        let e : from + (at - 1 - from) ≡ at - 1 = omega arith in still-for (at - 1 - from) (omega arith) ∙ ap picked_to e
+    still-before before = grind (arith, common_steps, still-for (at - 1 - from) (omega arith))
 
     -- where nothing is found it still is
     pub picked-ahead : from < at → found_at s.built s.anchored (node at) at ≡ None → r ≡ picked_to at
-    picked-ahead before none =
-        let e : at - 1 + 1 ≡ at = omega arith in
-        picked-still s stops bytes span (at - 1) r (omega arith) (omega arith) (still-before before) goes
-        (ap (λ (k : ℕ). found_at s.built s.anchored (node k) k) e ∙ none) ∙ ap picked_to e
+    picked-ahead before none = search (rules, picked-still, still-before)
 
     -- else what is found is picked
     pub picked-there : from < at → (m : Occurrence) → found_at s.built s.anchored (node at) at ≡ Some m
         → Some m ≡ picked_to at
-    picked-there before m some =
-        let e : at - 1 + 1 ≡ at = omega arith in
-        picked-newly s stops bytes span (at - 1) r (omega arith) (omega arith) (still-before before) goes m
-        (ap (λ (k : ℕ). found_at s.built s.anchored (node k) k) e ∙ some) ∙ ap picked_to e
+    picked-there before m some = search (rules, picked-newly, still-before)
 
     -- so what is picked there is what is found, if anything is
     pub picked-some : from < at → (found : Option Occurrence) → found ≡ found_at s.built s.anchored (node at) at
@@ -101,10 +84,7 @@ module _ (s : Scan) (stops : Bool) (bytes : List ℕ) (span : Span) where
       pub decided-there : {place : ℕ} → IsAnswered stops span.end at (node at) r → at ≤ max span.start place → place ≤ at
           → IsDecided s.built.kind (order s stops bytes span) (q s stops bytes span) r place
       decided-there (inl over) whole unread = inr (inl (omega arith))
-      decided-there {place = place} (inr (inl dead)) whole unread =
-          let past = past-start at ordered dead in
-          let e : at ≡ place = omega arith in
-          inr (inr (subst (λ (n : ℕ). node n ≡ None) e dead))
+      decided-there {place = place} (inr (inl dead)) whole unread = grind (arith, common_steps)
       decided-there (inr (inr first)) whole unread = inl (ap (order_of s.built.kind) first.0, first.1)
 
 -- what is found at a place ends there
@@ -121,15 +101,4 @@ pub record IsUnanswered (stops : Bool) (end at : ℕ) (u : Node) (last : Option 
 
 pub unanswered-unless : (stops : Bool) (end at : ℕ) (u : Node) (last : Option Occurrence) → ¬ IsAnswered stops end at u last
     → IsUnanswered stops end at u last
-unanswered-unless stops end at u last unanswered = record {
-  room = elim (cases_lt at end) [
-    | inl before ↦ before
-    | inr behind ↦ absurd (unanswered (inl behind))
-  ];
-  living = λ dead. unanswered (inr (inl dead));
-  none = λ first. none-unless last (λ some. unanswered (inr (inr (first, some))));
-}
-  where
-    none-unless : (r : Option Occurrence) → ¬ (r ≢ None) → r ≡ None
-    none-unless None h = refl
-    none-unless (Some m) h = absurd (h (λ none. absurd (cc)))
+unanswered-unless stops end at u last unanswered = grind (arith, common_steps)

@@ -1,28 +1,19 @@
 -- A find that reads byte by byte: where the automaton stands, and what is picked so far.
-use Rattle.std.proofs.Common.{◌≡◌, ℕ, ◌+◌, ◌-◌, ◌<◌, ◌≤◌, Bool, true, false, cond, List, [], ◌∷◌, length, inl, inr, refl, ap, sym, ◌∙◌, subst, arith, Option, Some, None, option_map, slice_get, IfSome}
-use Rattle.std.proofs.lemmas.Bool.{false≢true}
-use Rattle.ac_automaton.specs.Util.{Built, is_leftmost, MatchKind, may_skip, No, Node, Occurrence, order_of, pick, Search, Span, Standard, Yes}
+use Rattle.std.proofs.Common.{◌≡◌, ℕ, ◌+◌, ◌-◌, ◌<◌, ◌≤◌, Bool, true, false, List, [], ◌∷◌, length, inl, inr, refl, ap, sym, ◌∙◌, subst, arith, Option, Some, None, option_map, slice_get, IfSome, rules}
+use Rattle.std.proofs.lemmas.Grind.{common_steps}
+use Rattle.ac_automaton.specs.Util.{Built, is_leftmost, MatchKind, Node, Occurrence, order_of, pick, Search, Span, Standard}
 use Rattle.ac_util.specs.declared.search.Anchored.{Anchored}
-use Rattle.ac_util.proofs.Beginning.{within, ends_by, pick-within}
+use Rattle.ac_util.proofs.Beginning.{pick-within}
 use Rattle.ac_util.proofs.Walks.{pick-in_span}
 use Rattle.ac_util.proofs.OneLonger.{pick-empty_none, pick-empty_some, none-past_end}
 use Rattle.ac_util.proofs.SearchLoop.{SearchGoesOn, pick-goes_on, pick-found, pick-stays_dead}
-use Rattle.ac_automaton.specs.Prelude.{found_at, HasSearched, in_memory, IsAt, IsDecided, matches_of, most_looks, node, Picking, picking_by, place_of, ReadsTo, Scan, ScansTo, search_through, HasReadMatch, Work}
+use Rattle.ac_automaton.specs.Prelude.{found_at, HasSearched, in_memory, IsAt, IsDecided, matches_of, node, Picking, picking_by, place_of, ReadsTo, Scan, ScansTo, search_through, HasReadMatch, Work}
 use Rattle.ac_automaton.proofs.ReadOn.{read-nothing, read-scanned}
-
--- the dead node finds nothing
-pub found-dead : (built : Built) (a : Anchored) (u : Node) (end : ℕ) → u ≡ None → found_at built a u end ≡ None
-found-dead built No u end e = ap (λ (v : Node). found_at built No v end) e
-found-dead built Yes u end e = ap (λ (v : Node). found_at built Yes v end) e
 
 -- what is found ends where the text read ends
 pub found-end : (built : Built) (a : Anchored) (u : Node) (end : ℕ) (m : Occurrence)
     → found_at built a u end ≡ Some m → m.end ≡ end
-found-end built a u end m e = by (slice_get (matches_of built a u) 0) e
-  where
-    by : (r : Option ℕ) → option_map (place_of built end) r ≡ Some m → m.end ≡ end
-    by None h = absurd (cc)
-    by (Some i) h = let same : place_of built end i ≡ m = cc in sym (ap (λ (o : Occurrence). o.end) same)
+found-end built a u end m e = grind (arith, common_steps)
 
 -- a find that stops at the first match can go on as long as it has none; any other prefers what starts first
 pub goes_on-by : (kind : MatchKind) (stops : Bool) (r : Option Occurrence)
@@ -34,22 +25,13 @@ goes_on-by kind false r leftmost none = inl (leftmost refl, refl)
 -- so where one goes on that picks as Standard does it has found nothing
 pub goes_on-none : (kind order : MatchKind) (r : Option Occurrence) (P : Occurrence → Type 0)
     → SearchGoesOn kind order r → order ≡ Standard → IfSome r P
-goes_on-none kind order r P (inl leftmost) standard =
-    let other = sym leftmost.0 ∙ ap is_leftmost (sym leftmost.1 ∙ standard) in absurd (false≢true (sym other))
-goes_on-none kind order r P (inr first) standard =
-    subst (λ (x : Option Occurrence). IfSome x P) (sym first.1) tt
+goes_on-none kind order r P (inl leftmost) standard = cc
+goes_on-none kind order r P (inr first) standard = cc
 
 -- where a span starts past its end nothing is found, and nothing done
 pub searched-nothing : (picking : Picking) (q : Search) (work : Work)
     → q.high < q.low → work.place ≤ q.low → HasSearched picking q None work work
-searched-nothing picking q work past unread = record {
-  answer = sym (none-past_end picking.order q past);
-  read = read-nothing (most_looks q.anchored picking.most) (may_skip picking.filters q) q.low q.high work unread;
-  tells = tt;
-  stops = λ _. tt;
-  dead = λ k from below. absurd (omega arith);
-  decided = λ _. inr (inl (omega arith));
-}
+searched-nothing picking q work past unread = search (rules, none-past_end, read-nothing)
 
 module _ (s : Scan) (stops : Bool) (bytes : List ℕ) (span : Span) where
   -- what is searched
@@ -89,19 +71,7 @@ module _ (s : Scan) (stops : Bool) (bytes : List ℕ) (span : Span) where
   pub picked-final : (at : ℕ) (m : Occurrence) → at ≤ span.end → order ≡ Standard
       → Some m ≡ pick order (up_to at)
       → Some m ≡ pick order q
-  picked-final at m up standard e =
-      sym (ap (λ (k : MatchKind). pick k q) standard
-      ∙ by (pick Standard q)
-      (sym (pick-within q at up)
-      ∙ ap (λ (k : MatchKind). pick k (up_to at)) (sym standard) ∙ sym e))
-    where
-      kept : (x : Occurrence) (t : Bool) → cond t (Some x) None ≡ Some m → Some x ≡ Some m
-      kept x true h = h
-      kept x false h = absurd (cc)
-
-      by : (r : Option Occurrence) → within at r ≡ Some m → r ≡ Some m
-      by None h = absurd (cc)
-      by (Some x) h = kept x (ends_by at x) h
+  picked-final at m up standard e = grind (arith, common_steps, pick-within q at up)
 
   -- what a find has done that answers r once it has come to a place, where it has read enough
   module _ {state at : ℕ} {work new_work : Work} (is_at : IsAt s (in_memory bytes span) state at)
@@ -109,33 +79,18 @@ module _ (s : Scan) (stops : Bool) (bytes : List ℕ) (span : Span) where
     -- each byte of what was picked was read
     picked-told : (r : Option Occurrence) → r ≡ pick order (up_to at) → IfSome r (HasReadMatch span.start work new_work)
     picked-told None e = tt
-    picked-told (Some m) e =
-        let h = (pick-in_span order (up_to at) m (sym e)).to_high in
-        record {
-          place = λ same. let w = scans.whole same in omega arith;
-          reads = λ same. let c = scans.counted same in omega arith;
-        }
+    picked-told (Some m) e = search (rules, pick-in_span)
 
     -- and none past the place
     ends-here : (r : Option Occurrence) → IfSome r (λ m. m.end ≡ at) → IfSome r (ReadsTo span.start work new_work)
     ends-here None h = tt
-    ends-here (Some m) h =
-        let u = scans.unread in let c = scans.calls in record { place = omega arith; calls = omega arith }
+    ends-here (Some m) h = grind (arith, common_steps)
 
     pub searched : (r : Option Occurrence) → r ≡ pick order q → at ≤ span.end → r ≡ pick order (up_to at)
         → (order ≡ Standard → IfSome r (λ m. m.end ≡ at))
         → (new_work.counts.calls ≡ work.counts.calls → IsDecided s.built.kind order q r new_work.place)
         → HasSearched (picking_by s stops) q r work new_work
-    searched r answer up picked ends decided =
-        let u = scans.unread in
-        record {
-          answer = answer;
-          read = read-scanned s (in_memory bytes span) refl scans up;
-          tells = picked-told r picked;
-          stops = λ standard. ends-here r (ends standard);
-          dead = λ k from below. is_at.alive k from (omega arith);
-          decided = decided;
-        }
+    searched r answer up picked ends decided = search (rules, ends-here, picked-told, read-scanned)
 
   -- one more byte is read, after r was picked
   module _ (at : ℕ) (r : Option Occurrence) (ordered : span.start ≤ at) (room : at < length bytes)
@@ -174,7 +129,9 @@ module _ (s : Scan) (stops : Bool) (bytes : List ℕ) (span : Span) where
       → SearchGoesOn s.built.kind order r → at ≤ span.end → span.end ≤ length bytes → node_at at ≡ None
       → r ≡ pick order q
   dead-stays at r ordered picked goes up inside dead =
-      picked
-      ∙ sym (pick-stays_dead s.built.kind order (up_to at) (span.end - at) (omega arith) (omega arith) dead
-      (subst (SearchGoesOn s.built.kind order) picked goes))
-      ∙ ap (λ (h : ℕ). pick order (record q { high = h })) (omega arith)
+      grind (
+        arith,
+        common_steps,
+        pick-stays_dead s.built.kind order (up_to at) (span.end - at) (omega arith) (omega arith) dead (subst (SearchGoesOn s.built.kind order) picked
+            goes),
+      )

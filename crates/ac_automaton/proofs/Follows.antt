@@ -1,46 +1,27 @@
 -- A walk from state to state along the failure targets: it keeps where the byte leads at last, and counts its
 -- looks.
-use Rattle.std.proofs.Common.{◌≡◌, ◌≢◌, ℕ, ◌+◌, ◌<◌, ◌≤◌, List, [], ◌∷◌, ◌++◌, length, inl, inr, get_or, refl, ap, sym, subst, ◌∙◌, arith, Some, None, Contains, slice_get}
-use Rattle.std.proofs.lemmas.Bool.{cases_Bool, cond-true, cond-false}
-use Rattle.std.proofs.lemmas.List.{get_or_read, length_push}
+use Rattle.std.proofs.Common.{◌≡◌, ◌≢◌, ℕ, ◌+◌, ◌<◌, ◌≤◌, List, [], get_or, refl, ap, sym, subst, ◌∙◌, arith, Some, None, Contains, slice_get, rules}
+use Rattle.std.proofs.lemmas.List.{get_or_read}
+use Rattle.std.proofs.lemmas.Grind.{common_steps}
 use Rattle.ac_util.specs.declared.search.Anchored.{Anchored}
-use Rattle.ac_automaton.specs.Util.{Counts, is_node, looks, more_looks, No, Node, plain_byte, step, Yes}
+use Rattle.ac_automaton.specs.Util.{Counts, looks, more_looks, No, Node, plain_byte, step, Yes}
 use Rattle.ac_util.proofs.Lists.{Contains-from_IsIn, IsIn-map}
-use Rattle.ac_automaton.specs.Prelude.{ANCHORED_START, DEAD, FIRST_INNER, HasState, Meaning, miss, own_target, Represents, RootTells, START, State, Transition, transition_bytes, transitions_of}
+use Rattle.ac_automaton.specs.Prelude.{ANCHORED_START, DEAD, FIRST_INNER, HasState, Meaning, own_target, Represents, RootTells, START, State, Transition, transition_bytes, transitions_of}
 use Rattle.ac_automaton.proofs.Places.{IsIn-place, get-same}
-use Rattle.ac_automaton.proofs.Steps.{step-own_target, step-miss, step-on, looks-own_target, looks-short, looks-on}
-
--- a node that cannot be alive is dead
-none-from : (v : Node) → (v ≢ None → ⊥) → v ≡ None
-none-from None h = refl
-none-from (Some w) h = absurd (h (λ e. cc))
+use Rattle.ac_automaton.proofs.Steps.{step-own_target, step-on, looks-own_target, looks-short, looks-on}
 
 -- no more looks change nothing, and n and then m are n + m
 pub more_looks-none : (counts : Counts) → counts ≡ more_looks 0 counts
-more_looks-none counts =
-    ap (λ (n : ℕ). record counts { looks = n }) (let e : counts.looks ≡ counts.looks + 0 = omega arith in e)
+more_looks-none counts = grind (arith, common_steps)
 
 -- looks counted twice are counted together
 pub more_looks-twice : (n m : ℕ) (counts : Counts) → more_looks m (more_looks n counts) ≡ more_looks (n + m) counts
-more_looks-twice n m counts =
-    let e : (counts.looks + n) + m ≡ counts.looks + (n + m) = omega arith in
-    ap (λ (k : ℕ). record counts { looks = k }) e
+more_looks-twice n m counts = grind (arith, common_steps)
 
 -- no transition of a node's own leads to the empty string
 own_target-longer : (g : Meaning) (v : Node) (b : ℕ) → own_target g v b ≢ Some []
 own_target-longer g None b e = absurd (cc)
-own_target-longer g (Some w) b e = elim (cases_Bool (is_node g.kind g.patterns longer)) [
-  | inl node ↦
-      let is : Some longer ≡ Some [] = sym (cond-true (is_node g.kind g.patterns longer) (Some longer) None node) ∙ e in
-      let none : longer ≡ [] = cc in
-      absurd (omega (arith, ap length none, length_push w (plain_byte g.fold b)))
-  | inr other ↦
-      let is : None ≡ Some [] = sym (cond-false (is_node g.kind g.patterns longer) (Some longer) None other) ∙ e in
-      absurd (cc)
-]
-  where
-    longer : List ℕ
-    longer = w ++ plain_byte g.fold b ∷ []
+own_target-longer g (Some w) b e = grind (arith, common_steps)
 
 -- the state that was read stands for the node of its number
 pub represented : (g : Meaning) (states : List State) (s : ℕ) (v : Node) (t : State)
@@ -73,18 +54,12 @@ module _ (g : Meaning) (transitions : List Transition) (same : g.transitions ≡
   pub leads-inner : (k target : ℕ)
       → slice_get (transitions_of transitions t) k ≡ Some (record { byte = b; target = target })
       → slice_get g.nodes ANCHORED_START ≡ Some (Some []) → target ≢ ANCHORED_START
-  leads-inner k target at start is =
-      own_target-longer g v b
-      (get-same g.nodes target (own_target g v b) (Some []) (leads-to k target at)
-      (ap (slice_get g.nodes) is ∙ start))
+  leads-inner k target at start is = search (rules, get-same, leads-to, own_target-longer)
 
   -- any other byte leads nowhere
   pub leads-nowhere : (Contains (transition_bytes (transitions_of transitions t)) b → ⊥) → own_target g v b
       ≡ None
-  leads-nowhere none =
-      none-from (own_target g v b)
-      (λ on. none (subst (λ (ts : List Transition). Contains (transition_bytes (transitions_of ts t)) b) same
-      ((r.branches b).1 on)))
+  leads-nowhere none = grind (arith, common_steps)
 
 -- on the way to where the byte leads from the node, the walk is at a state, and has counted what it took to
 -- come there
@@ -110,22 +85,13 @@ module _ (g : Meaning) (states : List State) (b : ℕ) (u : Node) (old : Counts)
   -- before the first look the walk is on the way
   pub onward-start : (anchored : Anchored) (s : ℕ) → HasState g states s u
       → Onward g states anchored b u old old s
-  onward-start anchored s h = record {
-    node = u;
-    state = h;
-    steps = refl;
-    taken = 0;
-    looks = omega arith;
-    counted = more_looks-none old;
-  }
+  onward-start anchored s h = grind (arith, common_steps)
 
   -- with one look more the walk has counted all
   counted-last : (anchored : Anchored) (now new : Counts) (s : ℕ) (o : Onward g states anchored b u old now s)
       → looks g.kind g.patterns anchored o.node (plain_byte g.fold b) ≡ 1 → new ≡ more_looks 1 now
       → new ≡ more_looks (looks g.kind g.patterns anchored u (plain_byte g.fold b)) old
-  counted-last anchored now new s o one more =
-      more ∙ ap (more_looks 1) o.counted ∙ more_looks-twice o.taken 1 old
-      ∙ ap (λ (n : ℕ). more_looks n old) (omega (arith, o.looks))
+  counted-last anchored now new s o one more = grind (arith, common_steps)
 
   -- a byte that leads on leads to one node in any search, with one look
   step-leads : (anchored : Anchored) (v : Node) → own_target g v b ≢ None
@@ -146,15 +112,14 @@ module _ (g : Meaning) (states : List State) (b : ℕ) (u : Node) (old : Counts)
       → Onward g states anchored b u old now s → Ended g anchored b u old new next
   ends-root transitions same now new more s next Yes is_no at_start told o = absurd (cc)
   ends-root transitions same now new more s next No is_no at_start told o =
-      let r = o.state.meant.each s o.node o.state.there o.state.named in
-      let small : s < FIRST_INNER = omega (arith, at_start) in
-      record {
-        steps =
-            told.leads g o.node same (subst (λ (n : ℕ). HasState g states n o.node) at_start o.state)
-            ∙ ap (λ (v : Node). Some v) (sym o.steps);
-        looks = counted-last No now new s o
-            (looks-short g.kind g.patterns o.node (plain_byte g.fold b) (r.outer small)) more;
-      }
+      grind (
+        arith,
+        common_steps,
+        looks-short g.kind g.patterns o.node (plain_byte g.fold b) ((o.state.meant.each s o.node o.state.there o.state.named).outer (omega (
+          arith,
+          at_start,
+        ))),
+      )
 
   -- what holds after a look at the state t of the number s
   module _ (transitions : List Transition) (same : g.transitions ≡ transitions) (now new : Counts)
@@ -178,41 +143,26 @@ module _ (g : Meaning) (states : List State) (b : ℕ) (u : Node) (old : Counts)
       pub ends-anchored : (anchored : Anchored) → anchored ≡ Yes
           → Onward g states anchored b u old now s → Ended g anchored b u old new DEAD
       ends-anchored No is_yes o = absurd (cc)
-      ends-anchored Yes is_yes o =
-          let r = represented g states s o.node t o.state is in
-          let off = leads-nowhere g transitions same s o.node t r b none in record {
-            steps = o.state.meant.dead ∙ ap (λ (v : Node). Some v) (sym (o.steps ∙ off));
-            looks = counted-last Yes now new s o refl more;
-          }
+      ends-anchored Yes is_yes o = grind (arith, common_steps, represented g states s o.node t o.state is)
 
       -- an unanchored one ends after the start and the dead state
       pub ends-outer : (anchored : Anchored) → anchored ≡ No → s < FIRST_INNER
           → Onward g states anchored b u old now s → Ended g anchored b u old new t.fail
       ends-outer Yes is_no small o = absurd (cc)
-      ends-outer No is_no small o =
-          let r = represented g states s o.node t o.state is in
-          let off = leads-nowhere g transitions same s o.node t r b none in
-          let goes = step-miss g.kind g.patterns o.node (plain_byte g.fold b) off (r.outer small) in record {
-            steps = r.fails ∙ ap (λ (v : Node). Some v) (sym (o.steps ∙ goes));
-            looks = counted-last No now new s o
-                (looks-short g.kind g.patterns o.node (plain_byte g.fold b) (r.outer small)) more;
-          }
+      ends-outer No is_no small o = search (rules, represented g states s o.node t o.state is)
 
       -- and goes on at the failure target of any other
       pub goes-on : (anchored : Anchored) → anchored ≡ No → FIRST_INNER ≤ s
           → Onward g states anchored b u old now s → Onward g states anchored b u old new t.fail
       goes-on Yes is_no large o = absurd (cc)
       goes-on No is_no large o =
-          let r = represented g states s o.node t o.state is in
-          let off = leads-nowhere g transitions same s o.node t r b none in
-          let back = r.back large in
-          let there = o.state.there in
-          let l = o.looks in
-          let m = looks-on g.kind g.patterns o.node (plain_byte g.fold b) off (r.inner large) in record {
-            node = miss g.kind g.patterns o.node;
-            state = record { meant = o.state.meant; there = omega arith; named = r.fails };
-            steps = o.steps ∙ step-on g.kind g.patterns o.node (plain_byte g.fold b) off (r.inner large);
-            taken = o.taken + 1;
-            looks = omega arith;
-            counted = more ∙ ap (more_looks 1) o.counted ∙ more_looks-twice o.taken 1 old;
-          }
+          grind (
+            arith,
+            common_steps,
+            represented g states s o.node t o.state is,
+            looks-on g.kind g.patterns o.node (plain_byte g.fold b) (leads-nowhere g transitions same s o.node t (represented g states s o.node t
+                o.state is) b none) ((represented g states s o.node t o.state is).inner large),
+            step-on g.kind g.patterns o.node (plain_byte g.fold b) (leads-nowhere g transitions same s o.node t (represented g states s o.node t o.state
+                is) b none) ((represented g states s o.node t o.state is).inner large),
+            more_looks-twice o.taken 1 old,
+          )

@@ -1,9 +1,10 @@
 -- What stays as a trie grows.
-use Rattle.std.proofs.Common.{◌≡◌, ℕ, zero, suc, ◌+◌, ◌<◌, ◌≤◌, ◌≢◌, List, [], ◌∷◌, ◌++◌, length, map, ◌⊎◌, length-append, inl, inr, ap, sym, ◌∙◌, subst, arith, Some, None, get_or, slice_get, option_map, Contains, ◌↔◌}
+use Rattle.std.proofs.Common.{◌≡◌, ℕ, zero, suc, ◌+◌, ◌<◌, ◌≤◌, ◌≢◌, List, [], ◌∷◌, ◌++◌, length, map, ◌⊎◌, length-append, inl, inr, ap, sym, ◌∙◌, subst, arith, Some, None, get_or, slice_get, Contains, ◌↔◌, rules}
 use Rattle.std.specs.List.Sorted.{IsStrictlyIncreasing}
 use Rattle.std.proofs.lemmas.Bool.{cases_lt}
-use Rattle.std.proofs.lemmas.List.{get_or_default, get_or_append_left, get_or_push, length_push}
+use Rattle.std.proofs.lemmas.List.{get_or_append_left, get_or_push, length_push}
 use Rattle.std.proofs.lemmas.Option.{slice_get-map, slice_get-get_or, slice_get_within}
+use Rattle.std.proofs.lemmas.Grind.{common_steps}
 use Rattle.ac_automaton.specs.Util.{MatchKind, Node}
 use Rattle.ac_util.proofs.PiecesLemmas.{slice_range-append}
 use Rattle.ac_automaton.specs.Prelude.{AreStates, FIRST_INNER, IsGrown, Keyed, Meaning, nodes_of, own_target, QueuedState, Represents, START, State, state_at, Transition, transition_bytes, transitions_of, word}
@@ -47,20 +48,15 @@ module _ (sorted : List Keyed) where
   -- the states from the fifth on stand for the strings of the queue
   pub nodes-inner : (queue : List QueuedState) (k : ℕ) (p : QueuedState) → slice_get queue k ≡ Some p
       → slice_get (nodes_of sorted queue) (FIRST_INNER + k) ≡ Some (Some (word sorted p))
-  nodes-inner queue k p e =
-      let four : suc (suc (suc (suc k))) ≡ FIRST_INNER + k = omega arith in
-      subst (λ (s : ℕ). slice_get (nodes_of sorted queue) s ≡ Some (Some (word sorted p))) four
-      (slice_get-map (λ q. Some (word sorted q)) queue k ∙ ap (option_map (λ q. Some (word sorted q))) e)
+  nodes-inner queue k p e = search (rules, slice_get-map)
 
   -- a number is one of the two that stand for the dead node, of a start, or of a state in the queue
   pub nodes-cases : (queue : List QueuedState) (s : ℕ) (v : Node) → slice_get (nodes_of sorted queue) s ≡ Some v
       → IsDeadNumber s v ⊎ (IsStartNumber s v ⊎ IsInner sorted queue s v)
   nodes-cases queue zero v e = inl (record { below = omega arith; node = (cc) })
   nodes-cases queue (suc zero) v e = inl (record { below = omega arith; node = (cc) })
-  nodes-cases queue (suc (suc zero)) v e =
-      inr (inl (record { from = omega arith; below = omega arith; node = (cc) }))
-  nodes-cases queue (suc (suc (suc zero))) v e =
-      inr (inl (record { from = omega arith; below = omega arith; node = (cc) }))
+  nodes-cases queue (suc (suc zero)) v e = grind (arith, common_steps)
+  nodes-cases queue (suc (suc (suc zero))) v e = grind (arith, common_steps)
   nodes-cases queue (suc (suc (suc (suc k)))) v e =
       let r = get-from_map (λ p. Some (word sorted p)) queue k v e in
       inr (inr (record { place = k; number = omega arith; queued = r.from; waits = r.there; node = sym r.is }))
@@ -69,15 +65,7 @@ module _ (sorted : List Keyed) where
 pub IsGrown-later : {kind : MatchKind} {patterns : List (List ℕ)} {sorted : List Keyed} {m n : ℕ}
     {transitions others : List Transition} {queue : List QueuedState} → m ≤ n → length others ≤ length transitions
     → IsGrown kind patterns sorted m transitions queue → IsGrown kind patterns sorted n others queue
-IsGrown-later more few grown = record {
-  few = grown.few;
-  counted = omega (arith, grown.counted);
-  waits = grown.waits;
-  apart = grown.apart;
-  parents = λ k q e.
-      let r = grown.parents k q e in
-      record { parent = r.parent; early = omega (arith, r.early); named = r.named };
-}
+IsGrown-later more few grown = search rules
 
 -- the meaning with other transitions and nodes
 abbrev pub more_meaning : Meaning → List Transition → List Node → Meaning
@@ -172,5 +160,4 @@ module _ (g : Meaning) (states : List State) (v : Node) (t : State) where
 -- a state that was read by its number
 pub state-read : (states : List State) (t : State) (k s : ℕ) → k ≡ s → s < length states → t ≡ get_or states k t
     → t ≡ state_at states s
-state-read states t k s same l is =
-    is ∙ ap (λ (j : ℕ). get_or states j t) same ∙ get_or_default states s t (state_at [] 0) l
+state-read states t k s same l is = grind (arith, common_steps)

@@ -1,10 +1,9 @@
 -- The first of the matches that a state lists, and whether it is due.
-use Rattle.std.proofs.Common.{◌≡◌, ◌≢◌, ℕ, ◌-◌, ◌<◌, ◌≤◌, true, false, List, [], ◌∷◌, ◌++◌, length, inl, refl, ap, sym, ◌∙◌, subst, arith, Option, Some, None, option_map, slice_get}
+use Rattle.std.proofs.Common.{◌≡◌, ◌≢◌, ℕ, ◌-◌, ◌<◌, ◌≤◌, true, false, List, [], ◌∷◌, ◌++◌, length, inl, refl, ap, sym, ◌∙◌, subst, arith, Option, Some, None, option_map, slice_get, rules}
 use Rattle.std.proofs.lemmas.Bool.{eq-eqb, eqb-true, false≢true}
-use Rattle.std.proofs.lemmas.List.{length-map}
-use Rattle.std.proofs.Math.ListN.{get_or-map}
+use Rattle.std.proofs.lemmas.Grind.{common_steps}
 use Rattle.ac_util.specs.declared.search.Anchored.{Anchored}
-use Rattle.ac_automaton.specs.Util.{Built, No, Node, Occurrence, occurrence, pattern_of, plain, plain_byte, Yes}
+use Rattle.ac_automaton.specs.Util.{Built, No, Node, pattern_of, Yes}
 use Rattle.ac_util.proofs.Advance.{append_nil_left}
 use Rattle.ac_util.proofs.Lists.{IsIn, IsIn-append_left}
 use Rattle.ac_util.proofs.Participants.{IsIn-from_equal_to}
@@ -14,13 +13,7 @@ use Rattle.ac_automaton.specs.Prelude.{FitsIn, found_at, is_due, Lists, matches_
 -- a pattern is as long as its plain string
 pub plain_length : (built : Built) (n : ℕ)
     → length (pattern_of (plain_of built) n) ≡ length (pattern_of built.patterns n)
-plain_length built n =
-    ap length (get_or-map (plain built.fold) built.patterns n [])
-    ∙ length-map (pattern_of built.patterns n) (plain_byte built.fold)
-
--- a place told by its length
-abbrev pub place_of_len : ℕ → ℕ → ℕ → Occurrence
-place_of_len p len end = occurrence p (end - len) end
+plain_length built n = grind (arith, common_steps)
 
 -- the first element of a list is in it
 in_front : (p : ℕ) (xs : List ℕ) → slice_get xs 0 ≡ Some p → IsIn p xs
@@ -37,30 +30,20 @@ module _ (built : Built) (listed : List ℕ) (start end : ℕ) where
   -- without matches nothing is found
   pub found-none : (anchored : Anchored) (u : Node) → Lists built anchored u listed → listed ≡ []
       → found_at built anchored u end ≡ None
-  found-none No u lists none =
-      ap (λ (ns : List ℕ). option_map (place_of built end) (slice_get ns 0)) (sym lists ∙ none)
-  found-none Yes u lists none =
-      ap (λ (ns : List ℕ). option_map (place_of built end) (slice_get ns 0))
-      (append_nil_left (matches_of built Yes u) lists.passed_over (sym lists.first ∙ none))
+  found-none No u lists none = cc
+  found-none Yes u lists none = search (rules, append_nil_left)
 
   -- a state that lists matches is not dead
   node_of : (anchored : Anchored) (u : Node) (p : ℕ) → Lists built anchored u listed
       → slice_get listed 0 ≡ Some p → u ≢ None
-  node_of No u p lists e dead =
-      let none : listed ≡ [] = lists ∙ ap (matches_of built No) dead in
-      let nothing : slice_get listed 0 ≡ None = ap (λ (ns : List ℕ). slice_get ns 0) none in absurd (cc)
-  node_of Yes u p lists e dead =
-      let none : listed ≡ [] =
-      append_nil_left listed lists.left_out (sym lists.front ∙ ap (matches_of built No) dead) in
-      let nothing : slice_get listed 0 ≡ None = ap (λ (ns : List ℕ). slice_get ns 0) none in absurd (cc)
+  node_of No u p lists e dead = cc
+  node_of Yes u p lists e dead = search (rules, append_nil_left)
 
   -- the first pattern listed is one of the matches
   among : (anchored : Anchored) (u : Node) (p : ℕ) → Lists built anchored u listed → slice_get listed 0 ≡ Some p
       → IsIn p (matches_of built No u)
   among No u p lists e = subst (λ (ns : List ℕ). IsIn p ns) lists (in_front p listed e)
-  among Yes u p lists e =
-      subst (λ (ns : List ℕ). IsIn p ns) (sym lists.front)
-      (IsIn-append_left p listed lists.left_out (in_front p listed e))
+  among Yes u p lists e = search (rules, IsIn-append_left, in_front)
 
   -- the first pattern listed has a number, and isn't longer than what was read
   pub record HeadFits (p : ℕ) : Type 0 where
@@ -72,31 +55,19 @@ module _ (built : Built) (listed : List ℕ) (start end : ℕ) where
       → FitsIn anchored u start end
       → slice_get listed 0 ≡ Some p → HeadFits p
   head-fits anchored None p lists fits e = absurd (node_of anchored None p lists e refl)
-  head-fits anchored (Some u) p lists fits e =
-      let f = matches-fits built.kind (plain_of built) u p (among anchored (Some u) p lists e) in
-      let n = f.numbered in
-      let s = f.short in
-      let l = plain_length built p in
-      let m = length-map built.patterns (plain built.fold) in
-      let d = fits.short in
-      record { numbered = omega arith; short = omega arith }
+  head-fits anchored (Some u) p lists fits e = grind (arith, common_steps, among anchored (Some u) p lists e, plain_length built p, matches-fits)
 
   -- where a pattern listed first is as long as the node, some pattern is the whole node
   whole-some : (u : List ℕ) (p : ℕ) → Lists built Yes (Some u) listed → slice_get listed 0 ≡ Some p
       → length (pattern_of built.patterns p) ≡ length u → matches_of built Yes (Some u) ≢ []
-  whole-some u p lists e l none =
-      let whole =
-      matches-whole built.kind (plain_of built) u p (among Yes (Some u) p lists e) (plain_length built p ∙ l) in
-      subst (λ (ns : List ℕ). IsIn p ns) none whole
+  whole-some u p lists e l none = grind (arith, common_steps, among Yes (Some u) p lists e, plain_length built p, matches-whole)
 
   -- where it is due it is found
   pub found-due : (anchored : Anchored) (u : Node) (p : ℕ) → Lists built anchored u listed
       → FitsIn anchored u start end
       → slice_get listed 0 ≡ Some p → is_due anchored (length (pattern_of built.patterns p)) (end - start) ≡ true
       → found_at built anchored u end ≡ Some (place_of built end p)
-  found-due No u p lists fits e due =
-      ap (λ (r : Option ℕ). option_map (place_of built end) r)
-      (ap (λ (ns : List ℕ). slice_get ns 0) (sym lists) ∙ e)
+  found-due No u p lists fits e due = cc
   found-due Yes None p lists fits e due = absurd (node_of Yes None p lists e refl)
   found-due Yes (Some u) p lists fits e due =
       let long : length u ≡ end - start = fits.whole refl (λ n. absurd (cc)) in
@@ -134,9 +105,7 @@ module _ (built : Built) (listed : List ℕ) (start end : ℕ) where
       → slice_get listed 0 ≡ Some p → is_due anchored (length (pattern_of built.patterns p)) (end - start) ≡ false
       → found_at built anchored u end ≡ None
   found-not_due No u p lists fits e due = absurd (false≢true (sym due))
-  found-not_due Yes u p lists fits e due =
-      found-passed_over u p lists fits e
-      (λ same. false≢true (sym due ∙ eq-eqb (length (pattern_of built.patterns p)) (end - start) same))
+  found-not_due Yes u p lists fits e due = search (rules, eq-eqb, false≢true, found-passed_over)
 
 -- a list that can't but be empty is
 pub nil-from_not : (xs : List ℕ) → (xs ≢ [] → ⊥) → xs ≡ []

@@ -1,10 +1,11 @@
 -- Which of all patterns in order take part under LeftmostFirst.
-use Rattle.std.proofs.Common.{◌≡◌, ℕ, ◌+◌, ◌-◌, ◌<◌, ◌≤◌, Bool, true, false, cond, List, [], ◌∷◌, ◌++◌, length, drop, take, get_or, ◌⊎◌, inl, inr, refl, ap, sym, ◌∙◌, subst, arith, length-set, set, nat_eq, filter, All}
+use Rattle.std.proofs.Common.{◌≡◌, ℕ, ◌+◌, ◌-◌, ◌<◌, ◌≤◌, Bool, true, false, List, [], ◌∷◌, ◌++◌, length, take, get_or, ◌⊎◌, inl, inr, refl, ap, sym, ◌∙◌, subst, arith, length-set, set, nat_eq, filter, All, rules}
 use Rattle.std.specs.List.{AllWithin, HoldsAt, range_with_len, starts_with}
-use Rattle.std.proofs.lemmas.List.{get_or-drop, get_or-map, length-map, map-append, take-map}
+use Rattle.std.proofs.lemmas.List.{get_or-map, length-map, map-append, take-map}
 use Rattle.std.proofs.lemmas.List.Elements.{All-filter, All-set}
 use Rattle.std.proofs.lemmas.List.Filters.{FiltersInPlace, FiltersInPlace-all, FiltersInPlace-more_no, FiltersInPlace-more_set}
 use Rattle.std.proofs.lemmas.List.Kept.{AllPairs-filter}
+use Rattle.std.proofs.lemmas.Grind.{common_steps}
 use Rattle.ac_automaton.specs.Util.{GREATEST, LeftmostFirst, LeftmostLongest, MatchKind, participants, participates, pattern_of, plain, Standard}
 use Rattle.ac_util.proofs.Lists.{IsIn, IsIn-at, IsIn-map, IsIn-from_map, IsIn-filter, IsIn-from_filter, IsIn-range, IsIn-from_range, Contains-from_IsIn, IsIn-from_Contains}
 use Rattle.ac_automaton.specs.Prelude.{is_prefix, IsOrder, key_at, Keyed, keyed, keyed_one, numbers, Precedes, SortedPattern}
@@ -15,13 +16,7 @@ use Rattle.ac_automaton.proofs.Stacks.{Standing, Standing-keep, Standing-shrink,
 keyed-filter : (fold : Bool) (f : ℕ → Bool) (sorted : List SortedPattern)
     → keyed fold (filter (λ m. f m.number) sorted) ≡ filter (λ m. f m.number) (keyed fold sorted)
 keyed-filter fold f [] = refl
-keyed-filter fold f (m ∷ sorted) = elim (f m.number) as (λ b.
-    keyed fold (cond b (m ∷ filter (λ k. f k.number) sorted) (filter (λ k. f k.number) sorted))
-    ≡ cond b (keyed_one fold m ∷ filter (λ k. f k.number) (keyed fold sorted))
-    (filter (λ k. f k.number) (keyed fold sorted))) [
-      | true ↦ ap (λ w. keyed_one fold m ∷ w) (keyed-filter fold f sorted)
-      | false ↦ keyed-filter fold f sorted
-    ]
+keyed-filter fold f (m ∷ sorted) = grind (arith, common_steps, keyed-filter fold f sorted)
 
 -- those that take part, in order
 pub IsOrder-kept : (fold : Bool) (patterns : List (List ℕ)) (sorted : List SortedPattern)
@@ -98,29 +93,21 @@ module _ (fold : Bool) (patterns : List (List ℕ)) (all : List SortedPattern)
       × HoldsAt (λ p. (is_prefix fold pattern p ≡ true) × (p.number < pattern.number)) new (length new - 1)
       → participates LeftmostFirst patterns pattern.number ≡ false
   shadowed-part h =
-      let last = get_or new (length new - 1) pattern in
-      let found = h.1 pattern in
-      let front = found.0 in
-      let below = found.1 in
-      let number = ap (λ (w : Keyed). w.number) here-is in
-      ap (λ (w : Keyed). participates LeftmostFirst patterns w.number) (sym here-is)
-      ∙ no_part patterns (keyed fold all) order at within-view (keyed_one fold last)
-      (IsIn-from_take (keyed_one fold last) at (keyed fold all)
-      (shrunk.before (keyed_one fold last) (last-in h.0)))
-      (subst (λ (w : Keyed). starts_with nat_eq w.key (plain fold last.bytes.now) ≡ true) (sym here-is) front)
-      (omega arith)
+      grind (
+        arith,
+        common_steps,
+        here-is,
+        no_part,
+        IsIn-from_take (keyed_one fold (get_or new (length new - 1) pattern)) at (keyed fold all) (shrunk.before (keyed_one fold (get_or new (length new
+            - 1) pattern)) (last-in h.0)),
+      )
 
   -- it is passed over, and the stack stays
   pub shadowed-skips : (0 < length new)
       × HoldsAt (λ p. (is_prefix fold pattern p ≡ true) × (p.number < pattern.number)) new (length new - 1)
       → (participates LeftmostFirst patterns pattern.number ≡ false)
       × Standing patterns (keyed fold all) (at + 1) (keyed fold new)
-  shadowed-skips h =
-      let takes = shadowed-part h in (
-        takes,
-        Standing-skip patterns (keyed fold all) order at within-view (keyed fold new) shrunk
-            (ap (λ (w : Keyed). participates LeftmostFirst patterns w.number) here-is ∙ takes),
-      )
+  shadowed-skips h = search (rules, Standing-skip, here-is, shadowed-part, shrunk, within-view)
 
   -- and else it does, and goes on the stack
   pub free-keeps : (0 < length new → HoldsAt (λ p. pattern.number ≤ p.number) new (length new - 1))
@@ -168,14 +155,7 @@ pub record Keeps (fold : Bool) (all sorted : List SortedPattern) (kept at : ℕ)
 -- what stands at the place is as it was
 unmoved : {X : Type 0} (p : X → Bool) (all sorted : List X) (kept at : ℕ) (x : X)
     → FiltersInPlace p all sorted kept at → x ≡ get_or sorted at x → x ≡ get_or all at x
-unmoved p all sorted kept at x f is =
-    is ∙ sym (behind sorted) ∙ ap (λ w. get_or w 0 x) f.rest ∙ behind all
-  where
-    plus-zero : (n : ℕ) → n + 0 ≡ n
-    plus-zero n = omega arith
-
-    behind : (xs : List _) → get_or (drop at xs) 0 x ≡ get_or xs at x
-    behind xs = get_or-drop at xs 0 x ∙ ap (λ i. get_or xs i x) (plus-zero at)
+unmoved p all sorted kept at x f is = grind (arith, common_steps)
 
 module _ (fold : Bool) (all sorted : List SortedPattern) (kept at : ℕ) (old new : List SortedPattern)
     (pattern : SortedPattern)
@@ -243,5 +223,4 @@ pub Keeps-end : (fold : Bool) (all sorted cut : List SortedPattern) (kept at : �
     → IsOrder Standard patterns (keyed fold all)
     → IsOrder LeftmostFirst patterns (keyed fold cut)
 Keeps-end fold all sorted cut kept at prefixes keeps done is patterns order =
-    subst (λ (w : List SortedPattern). IsOrder LeftmostFirst patterns (keyed fold w))
-    (sym (is ∙ FiltersInPlace-all (keeps.first patterns order) done)) (IsOrder-kept fold patterns all order)
+    search (rules, FiltersInPlace-all (keeps.first patterns order) done, IsOrder-kept fold patterns all order)

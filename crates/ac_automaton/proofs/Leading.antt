@@ -1,15 +1,16 @@
 -- The transitions by a plain byte, and those of a state in ascending order.
-use Rattle.std.proofs.Common.{◌≡◌, ◌≢◌, ℕ, ◌+◌, ◌<◌, ◌≤◌, Bool, true, false, List, [], ◌∷◌, length, get_or, ◌⊎◌, inl, inr, refl, ap, sym, ◌∙◌, subst, arith, AllPairs, nat_eq}
+use Rattle.std.proofs.Common.{◌≡◌, ◌≢◌, ℕ, ◌+◌, ◌<◌, ◌≤◌, Bool, true, List, [], ◌∷◌, length, get_or, inl, inr, sym, ◌∙◌, arith, AllPairs, nat_eq}
 use Rattle.std.specs.Char.{is_ascii_lowercase, to_ascii_lowercase, to_ascii_uppercase}
 use Rattle.std.specs.List.Sorted.{IsPermutation, IsSortedByKey, IsStrictlyIncreasing}
 use Rattle.std.specs.Ordering.{nat_cmp}
-use Rattle.std.proofs.lemmas.Bool.{cases_Bool, cases_lt, cond-true, cond-false, eq-eqb, eqb-true, false≢true}
+use Rattle.std.proofs.lemmas.Bool.{cases_lt}
 use Rattle.std.proofs.lemmas.Bool.Decides.{Decides-eqb, nat_tests}
 use Rattle.std.proofs.lemmas.Cmp.{nat_eq_equiv}
 use Rattle.std.proofs.lemmas.List.{get_or-map, length-map}
 use Rattle.std.proofs.lemmas.List.Sorted.{IsPermutation-map}
 use Rattle.std.proofs.lemmas.Map.Keys.{IsDistinct-IsPermutation, ge_from_not_lt}
 use Rattle.std.proofs.lemmas.Map.Made.{AllPairs-from_IsDistinct, IsDistinct-from_AllPairs}
+use Rattle.std.proofs.lemmas.Grind.{common_steps}
 use Rattle.ac_util.specs.Sameness.{plain_byte}
 use Rattle.ac_util.proofs.Lists.{IsIn, IsOrdered}
 use Rattle.ac_automaton.specs.Prelude.{leading, Transition, transition_bytes}
@@ -19,15 +20,6 @@ capital : (b : ℕ) → is_ascii_lowercase b ≡ true
     → (to_ascii_lowercase (to_ascii_uppercase b) ≡ b) × (to_ascii_uppercase b ≢ b)
 capital b small = (grind (arith, nat_tests), grind (arith, nat_tests))
 
--- the capital of a small letter is a byte too
-capital-small : (b : ℕ) → b < 256 → is_ascii_lowercase b ≡ true → to_ascii_uppercase b < 256
-capital-small b small lower = grind (arith, nat_tests)
-
--- the small letter of a byte is the byte, or that of which it is the capital
-small-of : (x b : ℕ) → to_ascii_lowercase x ≡ b → to_ascii_lowercase b ≡ b → x ≢ b
-    → (is_ascii_lowercase b ≡ true) × (to_ascii_uppercase b ≡ x)
-small-of x b is plain apart = (grind (arith, nat_tests), grind (arith, nat_tests))
-
 -- the transitions by one byte alone, and by it and another
 abbrev one : ℕ → ℕ → List Transition
 one b target = record { byte = b; target = target } ∷ []
@@ -36,110 +28,29 @@ one b target = record { byte = b; target = target } ∷ []
 abbrev two : ℕ → ℕ → ℕ → List Transition
 two b x target = record { byte = b; target = target } ∷ one x target
 
--- they are those of a letter in both cases, or of the byte alone
-abbrev AreOneOrTwo : Bool → ℕ → ℕ → Type 0
-AreOneOrTwo fold b target =
-    ((fold ≡ true) × (is_ascii_lowercase b ≡ true)
-    × (leading fold b target ≡ two b (to_ascii_uppercase b) target))
-    ⊎ (leading fold b target ≡ one b target)
-
--- there are one or two
-leading-cases : (fold : Bool) (b target : ℕ) → AreOneOrTwo fold b target
-leading-cases false b target = inr refl
-leading-cases true b target = elim (cases_Bool (is_ascii_lowercase b)) [
-  | inl small ↦
-      inl (
-        refl,
-        small,
-        ap (λ (ts : List Transition). record { byte = b; target = target } ∷ ts)
-            (cond-true (is_ascii_lowercase b) (one (to_ascii_uppercase b) target) [] small),
-      )
-  | inr other ↦
-      inr (ap (λ (ts : List Transition). record { byte = b; target = target } ∷ ts)
-      (cond-false (is_ascii_lowercase b) (one (to_ascii_uppercase b) target) [] other))
-]
-
 module _ (fold : Bool) (b target : ℕ) (settled : plain_byte fold b ≡ b) where
   -- each is by a byte that is one with the plain byte, and leads to the target
   pub leading-plain : (t : Transition) → IsIn t (leading fold b target)
       → (plain_byte fold t.byte ≡ b) × (t.target ≡ target)
-  leading-plain t h = by (leading-cases fold b target)
-    where
-      by : AreOneOrTwo fold b target → (plain_byte fold t.byte ≡ b) × (t.target ≡ target)
-      by (inl both) = elim (subst (λ (ts : List Transition). IsIn t ts) both.2 h) [
-        | inl is ↦ (
-          ap (λ (s : Transition). plain_byte fold s.byte) (sym is)
-              ∙ settled,
-          ap (λ (s : Transition). s.target) (sym is),
-        )
-        | inr (inl is) ↦ (
-          ap (λ (s : Transition). plain_byte fold s.byte) (sym is)
-              ∙ ap (λ (f : Bool). plain_byte f (to_ascii_uppercase b)) both.0 ∙ (capital b both.1).0,
-          ap (λ (s : Transition). s.target) (sym is),
-        )
-        | inr (inr none) ↦ absurd none
-      ]
-      by (inr alone) = elim (subst (λ (ts : List Transition). IsIn t ts) alone h) [
-        | inl is ↦ (
-          ap (λ (s : Transition). plain_byte fold s.byte) (sym is)
-              ∙ settled,
-          ap (λ (s : Transition). s.target) (sym is),
-        )
-        | inr none ↦ absurd none
-      ]
+  leading-plain t h = grind (arith, common_steps)
 
   -- each byte that is one with it has one
   pub leading-has : (x : ℕ) → plain_byte fold x ≡ b
       → IsIn (record { byte = x; target = target }) (leading fold b target)
-  leading-has x is = elim (cases_Bool (nat_eq x b)) [
-    | inl same ↦ inl (ap (λ (y : ℕ). record { byte = y; target = target }) (sym (eqb-true x b same)))
-    | inr apart ↦ other fold settled is (λ e. false≢true (sym apart ∙ eq-eqb x b e))
-  ]
-    where
-      other : (f : Bool) → plain_byte f b ≡ b → plain_byte f x ≡ b → x ≢ b
-          → IsIn (record { byte = x; target = target }) (leading f b target)
-      other false plain is apart = absurd (apart is)
-      other true plain is apart =
-          let capital_of = small-of x b is plain apart in
-          subst (λ (ts : List Transition). IsIn (record { byte = x; target = target }) ts)
-          (sym (ap (λ (ts : List Transition). record { byte = b; target = target } ∷ ts)
-          (cond-true (is_ascii_lowercase b) (one (to_ascii_uppercase b) target) [] capital_of.0)))
-          (inr (inl (ap (λ (y : ℕ). record { byte = y; target = target }) capital_of.1)))
+  leading-has x is = grind (arith, common_steps)
 
 -- they are by different bytes
 pub leading-apart : (fold : Bool) (b target : ℕ) → IsOrdered (λ s t. s.byte ≢ t.byte) (leading fold b target)
-leading-apart fold b target = elim (leading-cases fold b target) [
-  | inl both ↦ subst (IsOrdered (λ s t. s.byte ≢ t.byte)) (sym both.2) (
-    (λ t h. elim h [
-      | inl is ↦ (λ e. (capital b both.1).1 (sym (e ∙ ap (λ (s : Transition). s.byte) (sym is))))
-      | inr none ↦ absurd none
-    ]),
-    ((λ t none. absurd none), tt),
-  )
-  | inr alone ↦ subst (IsOrdered (λ s t. s.byte ≢ t.byte)) (sym alone) ((λ t none. absurd none), tt)
-]
+leading-apart fold b target = grind (arith, common_steps)
 
 -- each is below 256 where the plain one is
 pub leading-small : (fold : Bool) (b target : ℕ) → b < 256 → (t : Transition) → IsIn t (leading fold b target)
     → t.byte < 256
-leading-small fold b target small t h = elim (leading-cases fold b target) [
-  | inl both ↦ elim (subst (λ (ts : List Transition). IsIn t ts) both.2 h) [
-    | inl is ↦ omega (arith, ap (λ (s : Transition). s.byte) is)
-    | inr (inl is) ↦ omega (arith, ap (λ (s : Transition). s.byte) is, capital-small b small both.1)
-    | inr (inr none) ↦ absurd none
-  ]
-  | inr alone ↦ elim (subst (λ (ts : List Transition). IsIn t ts) alone h) [
-    | inl is ↦ omega (arith, ap (λ (s : Transition). s.byte) is)
-    | inr none ↦ absurd none
-  ]
-]
+leading-small fold b target small t h = grind (arith, common_steps)
 
 -- and at most two
 pub leading-length : (fold : Bool) (b target : ℕ) → length (leading fold b target) ≤ 2
-leading-length fold b target = elim (leading-cases fold b target) [
-  | inl both ↦ omega (arith, ap length both.2)
-  | inr alone ↦ omega (arith, ap length alone)
-]
+leading-length fold b target = grind (arith, common_steps)
 
 -- transitions by different bytes that are sorted by them rise strictly
 pub sorted-ascends : (old sorted : List Transition) → AllPairs (λ s t. s.byte ≢ t.byte) old

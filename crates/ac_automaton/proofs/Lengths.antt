@@ -1,6 +1,5 @@
 -- The shortest and the longest of a list of patterns, found one pattern at a time.
 use Rattle.std.proofs.Common.{◌≡◌, ℕ, ◌+◌, ◌≤◌, List, [], ◌∷◌, length, drop, min, max, Some, ap, arith, slice_get}
-use Rattle.std.proofs.lemmas.List.{drop_all}
 use Rattle.ac_util.specs.Sizes.{longest_len, shortest_len}
 use Rattle.ac_util.proofs.Lists.{drop-slice_get}
 
@@ -14,11 +13,6 @@ shortest_len-le (p ∷ ps) = omega (arith, shortest_len-le ps)
 pub shortest_len-drop : (ps : List (List ℕ)) (i so_far : ℕ) (p : List ℕ) → slice_get ps i ≡ Some p
     → min (min so_far (length p)) (shortest_len (drop (i + 1) ps)) ≡ min so_far (shortest_len (drop i ps))
 shortest_len-drop ps i so_far p at = omega (arith, ap shortest_len (drop-slice_get ps i p at))
-
--- past the end of the patterns the shortest of those left is the greatest usize
-pub shortest_len-end : (ps : List (List ℕ)) (i : ℕ) → length ps ≤ i
-    → shortest_len (drop i ps) ≡ 18446744073709551615
-shortest_len-end ps i past = ap shortest_len (drop_all i ps past)
 
 -- the longest so far and that of the patterns from a place on give the same as when the pattern there is
 -- counted too

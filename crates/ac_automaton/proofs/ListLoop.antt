@@ -1,12 +1,13 @@
 -- A listing that reads byte by byte: which item is due where the automaton stands, and what is listed with one byte
 -- more.
-use Rattle.std.proofs.Common.{◌≡◌, ◌⊎◌, ℕ, zero, suc, ◌+◌, ◌-◌, ◌<◌, ◌≤◌, Bool, true, false, cond, List, [], ◌∷◌, ◌++◌, map, length, length-append, inl, inr, refl, ap, sym, subst, ◌∙◌, arith, Option, Some, None, All, slice_get}
+use Rattle.std.proofs.Common.{◌≡◌, ◌⊎◌, ℕ, zero, suc, ◌+◌, ◌-◌, ◌<◌, ◌≤◌, Bool, true, cond, List, [], ◌∷◌, ◌++◌, map, length, length-append, inl, inr, refl, ap, sym, subst, ◌∙◌, arith, Option, Some, None, All, slice_get, rules}
 use Rattle.std.specs.List.{take_while}
-use Rattle.std.proofs.lemmas.List.{append_assoc, append-nil, length-map}
+use Rattle.std.proofs.lemmas.List.{append_assoc, length-map}
 use Rattle.std.proofs.lemmas.List.Sums.{take_while-cons}
 use Rattle.std.proofs.lemmas.Option.{slice_get_past}
+use Rattle.std.proofs.lemmas.Grind.{common_steps}
 use Rattle.ac_automaton.specs.Util.{all, ending, found_at_end, item_at, MatchKind, Node, Occurrence, Occurs, pattern_of, place_after, Search, Span, Standard}
-use Rattle.ac_util.proofs.Lists.{IsIn, IsIn-append_right}
+use Rattle.ac_util.proofs.Lists.{IsIn-append_right}
 use Rattle.ac_util.proofs.Listing.{all-only}
 use Rattle.ac_util.proofs.ListingBeginning.{ListsMore, all-dead, all-longer_by, item-none, item-some}
 use Rattle.ac_util.proofs.ListingLonger.{all-empty, all-longer}
@@ -27,9 +28,7 @@ pub record IsItem (q : Search) (place : ℕ) (m : Occurrence) : Type 0 where
 
 item-behind : (q : Search) (before later : List Occurrence) (m : Occurrence) → all q ≡ before ++ m ∷ later
     → IsItem q (length before) m
-item-behind q before later m e =
-    let item = ap (λ (ms : List Occurrence). slice_get ms (length before)) e ∙ get-behind before later m in
-    record { item = item; after = (item-some q (length before) m item).1 }
+item-behind q before later m e = grind (arith, common_steps, get-behind, item-some)
 
 -- after the last item there is none, and the place stays
 pub record IsPast (q : Search) (place : ℕ) : Type 0 where
@@ -37,9 +36,7 @@ pub record IsPast (q : Search) (place : ℕ) : Type 0 where
   pub after : place_after q place ≡ place
 
 pub past-all : (q : Search) → IsPast q (length (all q))
-past-all q =
-    let item = slice_get_past (all q) (length (all q)) (omega arith) in
-    record { item = item; after = (item-none q (length (all q)) item).1 }
+past-all q = search (rules, item-none, slice_get_past)
 
 module _ (s : Scan) (bytes : List ℕ) (span : Span) where
   -- what is read and searched, and as far as a place
@@ -63,17 +60,12 @@ module _ (s : Scan) (bytes : List ℕ) (span : Span) where
   -- at the start the matches of the start state are listed
   pub listing-start : s.built.kind ≡ Standard → span.start ≤ length bytes
       → all (up_to span.start) ≡ map (ending (up_to span.start)) (matches_at span.start)
-  listing-start standard inside =
-      all-empty (up_to span.start) refl inside
-      ∙ ap (map (ending (up_to span.start))) (matches-listed standard span.start)
+  listing-start standard inside = search (rules, all-empty, matches-listed)
 
   -- and with one byte more those of the state that it leads to
   pub listing-next : s.built.kind ≡ Standard → (at : ℕ) → span.start ≤ at → at < length bytes
       → all (up_to (at + 1)) ≡ all (up_to at) ++ map (ending (up_to (at + 1))) (matches_at (at + 1))
-  listing-next standard at ordered room =
-      all-longer (up_to at) ordered room
-      ∙ ap (λ (ns : List ℕ). all (up_to at) ++ map (ending (up_to (at + 1))) ns)
-      (matches-listed standard (at + 1))
+  listing-next standard at ordered room = grind (arith, common_steps, all-longer (up_to at) ordered room)
 
   -- where a listing has come to at a place: all matches of its state are left
   abbrev pub arrived : ℕ → ℕ → Reached
@@ -89,22 +81,11 @@ module _ (s : Scan) (bytes : List ℕ) (span : Span) where
     module _ (before : List Occurrence) (listing : all (up_to at) ≡ before ++ map (ending (up_to at)) (matches_at at)) where
       -- so what was listed before was given
       pub given-arrived : given_in s.listed q (arrived state at) ≡ length before
-      given-arrived =
-          let due = ap (length {A = ℕ}) due-arrived in
-          let long = ap length listing ∙ length-append before (map (ending (up_to at)) (matches_at at)) in
-          let all_of = length-map (matches_at at) (ending (up_to at)) in
-          omega arith
+      given-arrived = search (rules, due-arrived, length-append, length-map)
 
       -- and the matches there are the last items listed
       pub arrives : at ≤ span.end → IsListed s t (arrived state at)
-      arrives within = record {
-        reaches = is_at;
-        within = within;
-        state = (node s t at, is_at.there);
-        numbered = listed-numbered s.built (s.listed state) span.start at s.anchored (node s t at) lists;
-        given = before;
-        listing = listing ∙ ap (λ (ns : List ℕ). before ++ map (ending (up_to at)) ns) (sym due-arrived);
-      }
+      arrives within = search (rules, due-arrived, listed-numbered)
 
   module _ {reached : Reached} (on : IsListed s t reached) where
     abbrev here : Search
@@ -112,11 +93,7 @@ module _ (s : Scan) (bytes : List ℕ) (span : Span) where
 
     -- how many items were given
     given-count : given_in s.listed q reached ≡ length on.given
-    given-count =
-        let long = ap length on.listing
-        ∙ length-append on.given (map (ending here) (due_in s.listed q reached)) in
-        let due = length-map (due_in s.listed q reached) (ending here) in
-        omega arith
+    given-count = grind (arith, common_steps)
 
     -- what is due, by the first match in the rest of the list
     due-first : (n : ℕ) (rest : MatchRest) → rest_in s.listed reached.rest ≡ n ∷ rest_in s.listed rest
@@ -128,26 +105,13 @@ module _ (s : Scan) (bytes : List ℕ) (span : Span) where
 
     -- what is due first occurs
     due-occurs : (n : ℕ) (later : List ℕ) → due_in s.listed q reached ≡ n ∷ later → Occurs here (ending here n)
-    due-occurs n later e =
-        all-only here (ending here n)
-        (subst (λ (ms : List Occurrence). IsIn (ending here n) ms)
-        (sym (on.listing ∙ ap (λ (ns : List ℕ). on.given ++ map (ending here) ns) e))
-        (IsIn-append_right (ending here n) on.given (map (ending here) (n ∷ later)) (inl refl)))
+    due-occurs n later e = search (rules, all-only, IsIn-append_right (ending here n) on.given (map (ending here) (n ∷ later)) (inl refl))
 
     -- a match that counts is no longer than what was read
     pub due-short : (n : ℕ) (rest : MatchRest) → rest_in s.listed reached.rest ≡ n ∷ rest_in s.listed rest
         → counts s.built s.anchored (reached.at - span.start) n ≡ true
         → length (pattern_of s.built.patterns n) ≤ reached.at
-    due-short n rest e counted =
-        let o = due-occurs n (due_in s.listed q (record reached { rest = rest }))
-        (due-first n rest e ∙ ap (λ (t : Bool). cond t (n ∷ due_in s.listed q (record reached { rest = rest })) []) counted) in
-        let l = o.as_long in let h = o.to_high in omega arith
-
-    -- the first match in the rest of the list has a number
-    pub first-numbered : (n : ℕ) (rest : MatchRest) → rest_in s.listed reached.rest ≡ n ∷ rest_in s.listed rest
-        → n < length s.built.patterns
-    first-numbered n rest e =
-        subst (λ (ns : List ℕ). All (λ k. k < length s.built.patterns) ns) e on.numbered 0 n (omega arith)
+    due-short n rest e counted = search (rules, due-first, due-occurs)
 
     -- it is given where it counts
     pub gives-first : (n : ℕ) (rest : MatchRest) → rest_in s.listed reached.rest ≡ n ∷ rest_in s.listed rest
@@ -174,53 +138,20 @@ module _ (s : Scan) (bytes : List ℕ) (span : Span) where
           };
         }
 
-    -- else nothing is
-    nothing-due : due_in s.listed q reached ≡ [] → HasGivenItem s t reached None reached
-    nothing-due none = record { state = refl; at = refl; due = (none, refl); ending = tt; leaves = on }
-
-    pub gives-none : rest_in s.listed reached.rest ≡ [] → HasGivenItem s t reached None reached
-    gives-none none = nothing-due (ap (take_while (counts s.built s.anchored (reached.at - span.start))) none)
-
-    pub gives-not : (n : ℕ) (rest : MatchRest) → rest_in s.listed reached.rest ≡ n ∷ rest_in s.listed rest
-        → counts s.built s.anchored (reached.at - span.start) n ≡ false
-        → HasGivenItem s t reached None reached
-    gives-not n rest e short =
-        nothing-due (due-first n rest e
-        ∙ ap (λ (t : Bool). cond t (n ∷ due_in s.listed q (record reached { rest = rest })) []) short)
-
     -- the listing of the whole span goes on after what is listed so far
     goes_on : span.end ≤ length bytes → ListsMore here q
-    goes_on legal =
-        let order = on.reaches.onward in
-        let within = on.within in
-        subst (λ (h : ℕ). ListsMore here (record q { high = h }))
-        (let e : reached.at + (span.end - reached.at) ≡ span.end = omega arith in e)
-        (all-longer_by here (span.end - reached.at) order (omega arith))
+    goes_on legal = search (rules, all-longer_by here (span.end - reached.at) (on.reaches.onward) (omega arith))
 
     -- the match given is the next item
     pub given-item : span.end ≤ length bytes → (m : Occurrence) (new_reached : Reached)
         → HasGivenItem s t reached (Some m) new_reached → IsItem q (given_in s.listed q reached) m
-    given-item legal m new_reached gave =
-        let more = goes_on legal in
-        let later = map (ending here) (due_in s.listed q new_reached) in
-        subst (λ (n : ℕ). IsItem q n m) (sym given-count)
-        (item-behind q on.given (later ++ more.later) m
-        (more.goes_on ∙ ap (λ (ms : List Occurrence). ms ++ more.later)
-        (on.listing ∙ ap (λ (ns : List ℕ). on.given ++ map (ending here) ns) gave.due
-        ∙ ap (λ (o : Occurrence). on.given ++ o ∷ later) (sym gave.ending))
-        ∙ append_assoc on.given (m ∷ later) more.later))
+    given-item legal m new_reached gave = grind (arith, common_steps, given-count, goes_on, item-behind)
 
     -- and the place is one further
     pub given-place : (m : Occurrence) (new_reached : Reached)
         → HasGivenItem s t reached (Some m) new_reached
         → given_in s.listed q new_reached ≡ given_in s.listed q reached + 1
-    given-place m new_reached gave =
-        let long = ap length on.listing
-        ∙ length-append on.given (map (ending here) (due_in s.listed q reached)) in
-        let due = length-map (due_in s.listed q reached) (ending here) in
-        let one = ap (length {A = ℕ}) gave.due in
-        let same = ap (λ (at : ℕ). length (all (up_to at))) gave.at in
-        omega arith
+    given-place m new_reached gave = grind (arith, common_steps)
 
     -- where nothing is due all items that end up to there were given
     pub given-all : due_in s.listed q reached ≡ [] → given_in s.listed q reached ≡ length (all here)
@@ -250,25 +181,8 @@ module _ (s : Scan) (bytes : List ℕ) (span : Span) where
         → s.built.kind ≡ Standard → span.end ≤ length bytes
         → given_in s.listed q reached ≡ given_in s.listed q old → HasGivenItem s t reached found new_reached
         → (found ≡ None → (reached.at ≡ span.end) ⊎ (node s t reached.at ≡ None)) → HasMoved s t old found new_reached
-    has-moved old None new_reached standard legal as_many gave over =
-        let past = subst (IsPast q) as_many (given-past standard legal gave.due.0 (over refl)) in
-        subst (λ (r : Reached). HasMoved s t old None r) (sym gave.due.1)
-        (record {
-          item = sym past.item;
-          place = as_many ∙ sym past.after;
-          leaves = on;
-          ends = tt;
-          whole = λ _. over refl;
-        })
-    has-moved old (Some m) new_reached standard legal as_many gave over =
-        let next = subst (λ (n : ℕ). IsItem q n m) as_many (given-item legal m new_reached gave) in
-        record {
-          item = sym next.item;
-          place = given-place m new_reached gave ∙ ap (λ (n : ℕ). n + 1) as_many ∙ sym next.after;
-          leaves = gave.leaves;
-          ends = ap (λ (o : Occurrence). o.end) gave.ending ∙ sym gave.at;
-          whole = λ none. absurd (cc);
-        }
+    has-moved old None new_reached standard legal as_many gave over = search (rules, given-past)
+    has-moved old (Some m) new_reached standard legal as_many gave over = search (rules, given-item, given-place)
 
   -- a listing has come on: it stands where what is left is still to be given, and has given no item
   pub record HasComeOn (old reached : Reached) : Type 0 where
@@ -285,30 +199,17 @@ module _ (s : Scan) (bytes : List ℕ) (span : Span) where
 
     all-quiet : (n : ℕ) → reached.at + n < cursor.at → all_to (reached.at + n) ≡ all_to reached.at
     all-quiet zero up = let e : reached.at + 0 ≡ reached.at = omega arith in ap all_to e
-    all-quiet (suc n) up =
-        let e : reached.at + suc n ≡ reached.at + n + 1 = omega arith in
-        let ordered = on.reaches.onward in
-        ap all_to e
-        ∙ listing-next standard (reached.at + n) (omega arith) (omega arith)
-        ∙ ap (λ (ns : List ℕ). all_to (reached.at + n) ++ map (ending (up_to (reached.at + n + 1))) ns)
-        (passed.none (reached.at + n + 1) (omega arith) (omega arith))
-        ∙ append-nil (all_to (reached.at + n))
-        ∙ all-quiet n (omega arith)
+    all-quiet (suc n) up = grind (arith, common_steps, listing-next standard (reached.at + n) (omega arith) (omega arith), all-quiet n (omega arith))
 
     pub come-on : reached.at < cursor.at
         → Lists s.built s.anchored (node s t cursor.at) (s.listed cursor.state)
         → HasComeOn reached (arrived cursor.state cursor.at)
     come-on before lists =
-        let ordered = on.reaches.onward in
-        let last : reached.at + (cursor.at - 1 - reached.at) ≡ cursor.at - 1 = omega arith in
-        let quiet : all_to (cursor.at - 1) ≡ all_to reached.at =
-        ap all_to (sym last) ∙ all-quiet (cursor.at - 1 - reached.at) (omega arith) in
-        let next : cursor.at - 1 + 1 ≡ cursor.at = omega arith in
-        let listing : all_to cursor.at ≡ all_to (cursor.at - 1) ++ map (ending (up_to cursor.at)) (matches_at cursor.at) =
-        subst (λ (k : ℕ). all_to k ≡ all_to (cursor.at - 1) ++ map (ending (up_to k)) (matches_at k)) next
-        (listing-next standard (cursor.at - 1) (omega arith) (omega arith)) in
-        record {
-          leaves = arrives passed.is_at lists (all_to (cursor.at - 1)) listing within;
-          as_many = given-arrived passed.is_at lists (all_to (cursor.at - 1)) listing
-              ∙ ap length quiet ∙ sym (given-all on none);
-        }
+        grind (
+          arith,
+          common_steps,
+          all-quiet (cursor.at - 1 - reached.at) (omega arith),
+          listing-next standard (cursor.at - 1) (omega arith) (omega arith),
+          arrives,
+          given-arrived,
+        )

@@ -1,8 +1,8 @@
 -- What a state lists along its output links are the matches of its node.
-use Rattle.std.proofs.Common.{◌≡◌, ◌≢◌, ℕ, zero, suc, ◌+◌, ◌-◌, ◌≤◌, ◌<◌, List, [], ◌∷◌, ◌++◌, length, get_or, drop, refl, ap, sym, ◌∙◌, arith, None, inl, inr, length-append, length-take, length-drop}
-use Rattle.std.proofs.lemmas.Bool.{cases_lt}
+use Rattle.std.proofs.Common.{◌≡◌, ◌≢◌, ℕ, zero, suc, ◌+◌, ◌-◌, ◌≤◌, ◌<◌, List, [], ◌∷◌, ◌++◌, length, get_or, drop, refl, ap, sym, ◌∙◌, arith, None, rules}
 use Rattle.std.proofs.Math.Seq.{drop-append-add, drop-nil}
 use Rattle.std.proofs.lemmas.List.{drop-append-le, get_or-drop, get_or-take, get_or_default}
+use Rattle.std.proofs.lemmas.Grind.{common_steps}
 use Rattle.ac_util.specs.Node.{Node}
 use Rattle.ac_automaton.specs.Prelude.{all_matches, DEAD, HasState, listed_within, Meaning, Represents, State, state_at, state_patterns}
 use Rattle.ac_automaton.proofs.Follows.{represented}
@@ -11,9 +11,7 @@ use Rattle.ac_automaton.proofs.Follows.{represented}
 drop-here : (xs : List ℕ) (k : ℕ) → k < length xs → drop k xs ≡ get_or xs k 0 ∷ drop (k + 1) xs
 drop-here [] k h = absurd (omega arith)
 drop-here (x ∷ xs) zero h = refl
-drop-here (x ∷ xs) (suc k) h =
-    drop-here xs k (omega arith)
-    ∙ ap (λ (n : ℕ). get_or xs k 0 ∷ drop n (x ∷ xs)) (let e : suc (k + 1) ≡ suc k + 1 = omega arith in e)
+drop-here (x ∷ xs) (suc k) h = search (rules, drop-here xs k (omega arith))
 
 module _ (g : Meaning) (states : List State) where
   -- the first state stands for the dead node alone
@@ -27,14 +25,11 @@ module _ (g : Meaning) (states : List State) where
 
     -- a state stands for the node that the output link leads to
     pub linked-state : HasState g states t.output_link r.links.linked
-    linked-state =
-        let back = r.links.back in
-        let there = h.there in record { meant = h.meant; there = omega arith; named = r.links.leads }
+    linked-state = grind (arith, common_steps)
 
     -- the state has as many patterns as its range says
     pub length-state_patterns : length (state_patterns g.order t) ≡ t.patterns_end - t.patterns
-    length-state_patterns = let patterns_ordered = r.patterns_ordered in let within = r.within
-        in simp (length-take, length-drop) (omega arith)
+    length-state_patterns = grind (arith, common_steps)
 
     -- nothing is found through an output link to the dead state
     pub none-linked : t.output_link ≡ DEAD → all_matches g r.links.linked ≡ []
@@ -43,36 +38,17 @@ module _ (g : Meaning) (states : List State) where
     -- how many the node finds
     pub length-listed : length (all_matches g v) ≡ (t.patterns_end - t.patterns) + length
         (all_matches g r.links.linked)
-    length-listed =
-        ap (length {A = ℕ}) all-listed ∙ length-append (state_patterns g.order t) (all_matches g r.links.linked)
-        ∙ ap (λ (n : ℕ). n + length (all_matches g r.links.linked)) length-state_patterns
+    length-listed = grind (arith, common_steps)
 
     -- from one of its own on
     pub patterns-from : (k : ℕ) → k < t.patterns_end - t.patterns
         → drop k (all_matches g v) ≡ get_or g.order (t.patterns + k) 0 ∷ drop (k + 1) (all_matches g v)
-    patterns-from k inside =
-        let own = state_patterns g.order t in
-        let others = all_matches g r.links.linked in
-        let l = length-state_patterns in
-        ap (drop k) all-listed
-        ∙ drop-append-le k own others (omega arith)
-        ∙ ap (λ (ns : List ℕ). ns ++ others) (drop-here own k (omega arith))
-        ∙ ap (λ (ns : List ℕ). get_or own k 0 ∷ ns)
-        (sym (ap (drop (k + 1)) all-listed ∙ drop-append-le (k + 1) own others (omega arith)))
-        ∙ ap (λ (n : ℕ). n ∷ drop (k + 1) (all_matches g v))
-        (get_or-take (t.patterns_end - t.patterns) (drop t.patterns g.order) k 0 inside
-        ∙ get_or-drop t.patterns g.order k 0)
+    patterns-from k inside = search (rules, drop-append-le, drop-here, get_or-drop, get_or-take, length-state_patterns)
 
     -- and from one of the others on
     pub linked-from : (k : ℕ) → t.patterns_end - t.patterns ≤ k
         → drop k (all_matches g v) ≡ drop (k - (t.patterns_end - t.patterns)) (all_matches g r.links.linked)
-    linked-from k past =
-        let own = state_patterns g.order t in
-        let l = length-state_patterns in
-        ap (drop k) all-listed
-        ∙ ap (λ (n : ℕ). drop n (own ++ all_matches g r.links.linked))
-        (let e : k ≡ length own + (k - (t.patterns_end - t.patterns)) = omega arith in e)
-        ∙ drop-append-add own (all_matches g r.links.linked) (k - (t.patterns_end - t.patterns))
+    linked-from k past = search (rules, all-listed, drop-append-add, length-state_patterns)
 
   -- along the output links, of which there are no more than the state's number says, the state lists the
   -- matches of its node
@@ -103,14 +79,7 @@ module _ (g : Meaning) (states : List State) where
     -- one state more is counted
     pub counting-on : (count : ℕ) → Counting u s count → Counting u t.output_link
         (count + (t.patterns_end - t.patterns))
-    counting-on count o =
-        let r = represented g states s o.node t o.state is in
-        let l = length-listed s o.node t o.state r in
-        let m = o.counted in record {
-          node = r.links.linked;
-          state = linked-state s o.node t o.state r;
-          counted = omega arith;
-        }
+    counting-on count o = search (rules, represented g states s o.node t o.state is, length-listed)
 
     -- and where the output link is to the dead state, that was all
     pub counting-end : (count : ℕ) → Counting u s count → t.output_link ≡ DEAD
@@ -134,12 +103,7 @@ module _ (g : Meaning) (states : List State) where
       -- or they are looked for through the output link
       pub seeking-on : t.patterns_end - t.patterns ≤ left → Seeking u index t.output_link
           (left - (t.patterns_end - t.patterns))
-      seeking-on past =
-          let r = represented g states s o.node t o.state is in record {
-            node = r.links.linked;
-            state = linked-state s o.node t o.state r;
-            same = o.same ∙ linked-from s o.node t o.state r left past;
-          }
+      seeking-on past = grind (arith, common_steps, represented g states s o.node t o.state is, linked-from)
 
       -- and where that is to the dead state there are no more
       pub seeking-end : t.patterns_end - t.patterns ≤ left → t.output_link ≡ DEAD
@@ -152,7 +116,4 @@ module _ (g : Meaning) (states : List State) where
 
       -- any other output link leads to a smaller number
       pub seeking-back : t.output_link ≢ DEAD → t.output_link < s
-      seeking-back linked =
-          let r = represented g states s o.node t o.state is in
-          let back = r.links.back in
-          elim (cases_lt 0 t.output_link) [ inl later ↦ omega arith | inr first ↦ absurd (linked (omega arith)) ]
+      seeking-back linked = search (rules, represented g states s o.node t o.state is)

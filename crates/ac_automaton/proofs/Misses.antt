@@ -1,7 +1,8 @@
 -- Where a search goes on by a byte that leads to no longer node, one byte further on.
-use Rattle.std.proofs.Common.{◌≡◌, ◌≢◌, ℕ, Bool, true, false, ◌&&◌, cond, List, [], ◌∷◌, ◌++◌, inl, inr, refl, ap, sym, ◌∙◌, Some, None}
+use Rattle.std.proofs.Common.{◌≡◌, ◌≢◌, ℕ, Bool, true, false, ◌&&◌, cond, List, [], ◌∷◌, ◌++◌, inl, inr, refl, ap, sym, ◌∙◌, Some, None, rules, arith}
 use Rattle.std.proofs.lemmas.Bool.{cases_Bool, cond-true, false_from_ne_true, false≢true}
-use Rattle.ac_automaton.specs.Util.{begins_with_pattern, equal_to, is_leftmost, MatchKind, No, Node, reached, step}
+use Rattle.std.proofs.lemmas.Grind.{common_steps}
+use Rattle.ac_automaton.specs.Util.{begins_with_pattern, equal_to, is_leftmost, MatchKind, No, reached, step}
 use Rattle.ac_util.proofs.Failures.{failure-cons}
 use Rattle.ac_util.proofs.Prefixes.{starts_with-whole}
 use Rattle.ac_util.proofs.Lists.{none-from_nil}
@@ -38,12 +39,7 @@ module _ (kind : MatchKind) (patterns : List (List ℕ)) where
   -- a pattern lets none start later
   pub stops-pattern : (w : List ℕ) → is_leftmost kind ≡ true → equal_to kind patterns w ≢ []
       → stops kind patterns w ≡ true
-  stops-pattern w leftmost some =
-      ap (λ (l : Bool). l && begins_with_pattern patterns w) leftmost
-      ∙ elim (cases_Bool (begins_with_pattern patterns w)) [
-        | inl t ↦ t
-        | inr f ↦ absurd (some (equal_to-none_begins kind patterns w f))
-      ]
+  stops-pattern w leftmost some = search (rules, cases_Bool, equal_to-none_begins)
 
   -- only a leftmost search stops
   stops-free : (w : List ℕ) → is_leftmost kind ≡ false → stops kind patterns w ≡ false
@@ -52,30 +48,18 @@ module _ (kind : MatchKind) (patterns : List (List ℕ)) where
   -- under a leftmost kind a node that is a pattern has no failure target
   pub miss-pattern : (w : List ℕ) (b : ℕ) → is_leftmost kind ≡ true → equal_to kind patterns (w ++ b ∷ []) ≢ []
       → miss kind patterns (Some (w ++ b ∷ [])) ≡ None
-  miss-pattern [] b leftmost some =
-      failure-cons kind patterns b []
-      ∙ cond-true (stops kind patterns (b ∷ [])) None (reached kind patterns No [])
-      (stops-pattern (b ∷ []) leftmost some)
-  miss-pattern (x ∷ w) b leftmost some =
-      failure-cons kind patterns x (w ++ b ∷ [])
-      ∙ cond-true (stops kind patterns (x ∷ w ++ b ∷ [])) None (reached kind patterns No (w ++ b ∷ []))
-      (stops-pattern (x ∷ w ++ b ∷ []) leftmost some)
+  miss-pattern [] b leftmost some = grind (arith, common_steps, stops-pattern (b ∷ []) leftmost some)
+  miss-pattern (x ∷ w) b leftmost some = search (rules, cond-true, failure-cons, stops-pattern)
 
   -- where no pattern is the longer string, it stops a search if the shorter one does
   same-stop : (w : List ℕ) (b : ℕ) → (is_leftmost kind ≡ true → equal_to kind patterns (w ++ b ∷ []) ≡ [])
       → stops kind patterns (w ++ b ∷ []) ≡ stops kind patterns w
-  same-stop w b none = elim (cases_Bool (is_leftmost kind)) [
-    | inl leftmost ↦ stops-child w b (none leftmost)
-    | inr free ↦ stops-free (w ++ b ∷ []) free ∙ sym (stops-free w free)
-  ]
+  same-stop w b none = search (rules, cases_Bool, stops-child, stops-free)
 
   -- else a child of the start fails as the start does
   pub miss-start : (b : ℕ) → (is_leftmost kind ≡ true → equal_to kind patterns (b ∷ []) ≡ [])
       → miss kind patterns (Some (b ∷ [])) ≡ miss kind patterns (Some [])
-  miss-start b none =
-      failure-cons kind patterns b []
-      ∙ ap (λ (s : Bool). cond s None (reached kind patterns No [])) (same-stop [] b none)
-      ∙ ap (λ (v : Node). cond (stops kind patterns []) None v) (reached-nil kind patterns No)
+  miss-start b none = search (rules, same-stop [] b none, reached-nil kind patterns No)
 
   -- a step after the shorter string leads where the longer one does
   stepped : (w : List ℕ) (b : ℕ) (s : Bool)
@@ -89,8 +73,4 @@ module _ (kind : MatchKind) (patterns : List (List ℕ)) where
       → (is_leftmost kind ≡ true → equal_to kind patterns (x ∷ w ++ b ∷ []) ≡ [])
       → miss kind patterns (Some (x ∷ w ++ b ∷ []))
       ≡ step kind patterns No (miss kind patterns (Some (x ∷ w))) b
-  miss-child x w b none =
-      failure-cons kind patterns x (w ++ b ∷ [])
-      ∙ ap (λ (s : Bool). cond s None (reached kind patterns No (w ++ b ∷ []))) (same-stop (x ∷ w) b none)
-      ∙ stepped w b (stops kind patterns (x ∷ w))
-      ∙ ap (λ (v : Node). step kind patterns No v b) (sym (failure-cons kind patterns x w))
+  miss-child x w b none = grind (arith, common_steps, same-stop (x ∷ w) b none, stepped w b (stops kind patterns (x ∷ w)))

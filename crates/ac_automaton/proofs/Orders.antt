@@ -1,12 +1,13 @@
 -- What the ascending order of the patterns says of their bytes at one depth.
-use Rattle.std.proofs.Common.{◌≡◌, ℕ, suc, ◌<◌, ◌≤◌, true, false, List, [], ◌∷◌, length, inl, inr, refl, ap, sym, ◌∙◌, arith, Option, None, Some, nat_eq, slice_get}
+use Rattle.std.proofs.Common.{◌≡◌, ℕ, suc, ◌<◌, ◌≤◌, true, false, List, [], ◌∷◌, length, refl, sym, ◌∙◌, arith, Option, None, Some, nat_eq, slice_get, rules}
 use Rattle.std.specs.List.{starts_with}
 use Rattle.std.proofs.lemmas.Cmp.{ranked}
 use Rattle.std.specs.Cmp.Lexicographic.{slice_cmp}
 use Rattle.std.specs.declared.cmp.Ordering.{Ordering}
 use Rattle.std.specs.declared.cmp.Ordering.TheVariants.{Less, Equal, Greater}
 use Rattle.std.specs.Ordering.{MatchOrdering, is_gt, nat_cmp, ordering_then}
-use Rattle.std.proofs.lemmas.Bool.{and_parts, eqb-true, false≢true, cases_lt}
+use Rattle.std.proofs.lemmas.Bool.{and_parts, eqb-true, false≢true}
+use Rattle.std.proofs.lemmas.Grind.{common_steps}
 use Rattle.ac_util.specs.declared.search.MatchKind.{MatchKind}
 use Rattle.ac_automaton.specs.Sorted.{Keyed, IsOrder, key_at, byte_at}
 
@@ -36,9 +37,7 @@ rank-ascends : (u a b : List ℕ) → slice_cmp nat_cmp a b ≡ Less → starts_
     → rank (slice_get a (length u)) ≤ rank (slice_get b (length u))
 rank-ascends [] [] b less p q = omega arith
 rank-ascends [] (x ∷ a) [] less p q = absurd (cc)
-rank-ascends [] (x ∷ a) (y ∷ b) less p q =
-    let order = ranked x y (nat_cmp x y) refl in
-    omega (arith, head-no_greater x y (nat_cmp x y) (slice_cmp nat_cmp a b) order (ap is_gt less))
+rank-ascends [] (x ∷ a) (y ∷ b) less p q = grind (arith, common_steps)
 rank-ascends (z ∷ u) [] b less p q = absurd (false≢true p)
 rank-ascends (z ∷ u) (x ∷ a) [] less p q = absurd (false≢true q)
 rank-ascends (z ∷ u) (x ∷ a) (y ∷ b) less p q =
@@ -55,12 +54,4 @@ pub byte_at-ascends : (kind : MatchKind) (patterns : List (List ℕ)) (sorted : 
     → (u : List ℕ) (j k : ℕ) → j ≤ k → k < length sorted
     → starts_with nat_eq (key_at sorted j) u ≡ true → starts_with nat_eq (key_at sorted k) u ≡ true
     → rank (byte_at sorted (length u) j) ≤ rank (byte_at sorted (length u) k)
-byte_at-ascends kind patterns sorted order u j k le within p q = elim (cases_lt j k) [
-  | inl below ↦ elim (order.ascending j k (record { key = []; number = 0 }) below within) [
-    | inl less ↦ rank-ascends u (key_at sorted j) (key_at sorted k) less p q
-    | inr same ↦ let e = ap (λ (w : List ℕ). rank (slice_get w (length u))) same.0 in omega arith
-  ]
-  | inr above ↦
-      let one : j ≡ k = omega arith in
-      let e = ap (λ (i : ℕ). rank (byte_at sorted (length u) i)) one in omega arith
-]
+byte_at-ascends kind patterns sorted order u j k le within p q = search (rules, rank-ascends)

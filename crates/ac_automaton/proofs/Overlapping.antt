@@ -1,55 +1,31 @@
 -- Overlapping search by a state, and by an iterator: how it begins, and what a call leaves.
-use Rattle.std.proofs.Common.{◌≡◌, ℕ, zero, suc, drop, ◌<◌, ◌≤◌, List, [], ◌∷◌, length, inl, inr, refl, ap, sym, subst, ◌∙◌, arith, Option, Some, None, ◌⊎◌, IfSome, MatchOption, max, slice_get}
+use Rattle.std.proofs.Common.{◌≡◌, ℕ, zero, suc, drop, ◌<◌, ◌≤◌, List, [], ◌∷◌, length, inl, inr, refl, sym, subst, arith, Option, Some, None, ◌⊎◌, IfSome, MatchOption, max, slice_get, rules}
 use Rattle.std.proofs.Math.Seq.{drop-nil}
-use Rattle.ac_automaton.specs.Util.{all, Asked, Built, first_refusal, form_refusal, item_at, kind_refusal, MatchError, MatchKind, may_skip, No, Node, Occurrence, overlapping_iter_refusal, overlapping_refusal, OverlappingByState, OverlappingIterator, place_after, plain_patterns, reached, Search, Span, Standard, start_refusal, text}
-use Rattle.ac_util.specs.declared.search.Anchored.{Anchored}
+use Rattle.std.proofs.lemmas.Grind.{common_steps}
+use Rattle.ac_automaton.specs.Util.{all, Asked, Built, item_at, MatchKind, No, Node, Occurrence, overlapping_iter_refusal, overlapping_refusal, place_after, Search, Span, Standard, start_refusal}
 use Rattle.ac_util.proofs.ListingBeginning.{all-past_end, item-none, item-some}
 use Rattle.ac_util.proofs.Lists.{drop-slice_get}
 use Rattle.ac_util.proofs.Reached.{reached-alive}
-use Rattle.ac_automaton.specs.Prelude.{given_by, given_in, HasListed, HasMoved, in_memory, IsListed, IsListing, IsPlaced, Lists, ListsNext, most_looks, node, node_at, nothing_done, overlapping_by, OverlappingState, place_by, Reached, Scan, ScansTo, ScanText, search_through, Work}
+use Rattle.ac_automaton.specs.Prelude.{given_by, given_in, HasMoved, in_memory, IsListed, IsListing, IsPlaced, Lists, ListsNext, node, nothing_done, overlapping_by, OverlappingState, place_by, Reached, Scan, ScansTo, ScanText, search_through, Work}
 use Rattle.ac_automaton.specs.Overlaps.{GivesNext}
-use Rattle.ac_automaton.proofs.ListLoop.{IsPast, arrived, arrives, given-arrived, listing-start, past-all}
+use Rattle.ac_automaton.proofs.ListLoop.{arrived, arrives, given-arrived, listing-start, past-all}
 use Rattle.ac_automaton.proofs.ReadOn.{at-start, read-nothing, read-scanned, scans-nothing, scans-on}
 
 -- a search by a state is refused for its start or its match kind
 pub by_state-served : (built : Built) (asked : Asked) → start_refusal built.start_kind asked.anchored ≡ None
     → built.kind ≡ Standard → overlapping_refusal built asked ≡ None
-by_state-served built asked starts standard =
-    ap (λ (r : Option MatchError). first_refusal
-    (r ∷ kind_refusal built.kind (OverlappingByState asked.anchored) ∷ None ∷ None ∷ [])) starts
-    ∙ ap (λ (kind : MatchKind). first_refusal
-    (None ∷ kind_refusal kind (OverlappingByState asked.anchored) ∷ None ∷ None ∷ [])) standard
+by_state-served built asked starts standard = cc
 
 -- an iterator is refused for these, and for being anchored
 pub iterator-served : (built : Built) (asked : Asked) → start_refusal built.start_kind asked.anchored ≡ None
     → built.kind ≡ Standard → asked.anchored ≡ No → overlapping_iter_refusal built asked ≡ None
-iterator-served built asked starts standard unanchored =
-    ap (λ (r : Option MatchError). first_refusal
-    (r ∷ kind_refusal built.kind (OverlappingIterator asked.anchored)
-    ∷ form_refusal (OverlappingIterator asked.anchored) ∷ None ∷ [])) starts
-    ∙ ap (λ (kind : MatchKind). first_refusal
-    (None ∷ kind_refusal kind (OverlappingIterator asked.anchored)
-    ∷ form_refusal (OverlappingIterator asked.anchored) ∷ None ∷ [])) standard
-    ∙ ap (λ (a : Anchored). first_refusal
-    (None ∷ None ∷ form_refusal (OverlappingIterator a) ∷ None ∷ [])) unanchored
+iterator-served built asked starts standard unanchored = cc
 
 -- of a span that starts past its end no state has a listing
 pub past_end-gives : {stands : ℕ → Node → Type 0} {listed : ℕ → List ℕ} {kind : MatchKind} (q : Search)
     (state : OverlappingState) → q.high < q.low → IsPlaced stands listed kind q state
     → GivesNext stands listed kind q state (record { found = None; reached = state.reached })
-past_end-gives {stands} {listed} {kind} q state past placed = by state.reached placed
-  where
-    none : all q ≡ []
-    none = all-past_end q past
-
-    first : IsPast q 0
-    first = subst (IsPast q) (ap length none) (past-all q)
-
-    by : (reached : Option Reached) → IfSome reached (HasListed stands listed kind q)
-        → GivesNext stands listed kind q (record { found = state.found; reached = reached })
-        (record { found = None; reached = reached })
-    by None tt = record { item = sym first.item; place = sym first.after; placed = tt }
-    by (Some reached) on = absurd (let low = on.reaches.onward in let high = on.within in omega arith)
+past_end-gives {stands} {listed} {kind} q state past placed = search (rules, all-past_end)
 
 -- a listing goes on from here: there it has come, and so many items were given
 pub record GoesOnFrom (s : Scan) (t : ScanText) (given : ℕ) (reached : Reached) : Type 0 where
@@ -78,9 +54,7 @@ module _ (s : Scan) (bytes : List ℕ) (span : Span) (start : ℕ) (starts : s.s
       → MatchOption reached (here ≡ arrived s bytes span start span.start) (λ there. here ≡ there)
       → GoesOnFrom s (in_memory bytes span) (given_by s.listed (search_through s (in_memory bytes span)) reached) here
   goes_on-there None here placed is = subst (GoesOnFrom s (in_memory bytes span) 0) (sym is) goes_on-start
-  goes_on-there (Some there) here placed is =
-      subst (GoesOnFrom s (in_memory bytes span) (given_in s.listed (search_through s (in_memory bytes span)) there))
-      (sym is) (record { on = placed; as_many = refl })
+  goes_on-there (Some there) here placed is = grind (arith, common_steps)
 
   -- an iterator over it has read nothing
   pub listing-starts : s.anchored ≡ No
@@ -99,11 +73,7 @@ pub gives-moved : (s : Scan) (t : ScanText) (state : OverlappingState) (here : R
     → HasMoved s t here found new_reached
     → GivesNext s.stands s.listed s.built.kind (search_through s t) state
     (record { found = found; reached = Some new_reached })
-gives-moved s t state here found new_reached as_many moved = record {
-  item = moved.item ∙ ap (item_at (search_through s t)) as_many;
-  place = moved.place ∙ ap (place_after (search_through s t)) as_many;
-  placed = moved.leaves;
-}
+gives-moved s t state here found new_reached as_many moved = grind (arith, common_steps)
 
 -- what is left of a list past its end
 drop-none : {X : Type 0} (xs : List X) (k : ℕ) → slice_get xs k ≡ None → drop k xs ≡ []
@@ -115,12 +85,8 @@ drop-none (y ∷ xs) (suc k) e = drop-none xs k e
 left-after : (q : Search) (given : ℕ) (found : Option Occurrence) → found ≡ item_at q given
     → MatchOption found ((drop given (all q) ≡ []) × (drop (place_after q given) (all q) ≡ []))
     (λ m. drop given (all q) ≡ m ∷ drop (place_after q given) (all q))
-left-after q given None is =
-    let none = drop-none (all q) given (sym is) in
-    (none, subst (λ (n : ℕ). drop n (all q) ≡ []) (sym (item-none q given (sym is)).1) none)
-left-after q given (Some m) is =
-    drop-slice_get (all q) given m (sym is)
-    ∙ ap (λ (n : ℕ). m ∷ drop n (all q)) (sym (item-some q given m (sym is)).1)
+left-after q given None is = search (rules, drop-none, item-none)
+left-after q given (Some m) is = search (rules, drop-slice_get, item-some)
 
 module _ (s : Scan) (bytes : List ℕ) (span : Span) where
   -- what is read and listed
@@ -133,23 +99,7 @@ module _ (s : Scan) (bytes : List ℕ) (span : Span) where
   -- in a span that starts past its end there is nothing to give
   pub lists-past_end : (work : Work) → IsListing s t None work
       → ListsNext (overlapping_by s t None work) None (overlapping_by s t None work)
-  lists-past_end work way =
-      let past = way.begun.0 in
-      let none = all-past_end q past in
-      let first = subst (IsPast q) (ap length none) (past-all q) in
-      subst (λ (w : Work). ListsNext (overlapping_by s t None w) None (overlapping_by s t None w)) (sym way.begun.1)
-      (record {
-        gives = (none, none);
-        item = sym first.item;
-        same = ap (λ (n : ℕ). record (overlapping_by s t None nothing_done) { given = n }) (sym first.after);
-        onward = omega arith;
-        grows = record { reads = omega arith; looks = omega arith; calls = omega arith };
-        stops = tt;
-        told = λ _. tt;
-        whole = λ _ _. omega arith;
-        read = read-nothing (most_looks s.anchored s.most) (may_skip s.filters q) span.start span.end nothing_done
-            (omega arith);
-      })
+  lists-past_end work way = search (rules, all-past_end, past-all, read-nothing)
 
   module _ (here new_reached : Reached) (work new_work : Work) (found : Option Occurrence)
       (way : IsListing s t (Some here) work) (moved : HasMoved s t here found new_reached)
@@ -172,33 +122,11 @@ module _ (s : Scan) (bytes : List ℕ) (span : Span) where
     whole : new_work.counts.calls ≡ 0 → (new_reached.at ≡ span.end) ⊎ (node s t new_reached.at ≡ None)
         → span.end ≤ max span.start new_work.place
     whole none (inl there) = let w = so_far.whole none in omega arith
-    whole none (inr dead) =
-        absurd (reached-alive Standard (plain_patterns q) refl (text (record q { high = new_reached.at }))
-        (ap (λ (a : Anchored). reached Standard (plain_patterns q) a (text (record q { high = new_reached.at })))
-        (sym way.unanchored)
-        ∙ ap (λ (kind : MatchKind). node_at kind q new_reached.at) (sym way.standard) ∙ dead))
+    whole none (inr dead) = search (rules, reached-alive)
 
     pub lists-next : ListsNext (overlapping_by s t (Some here) work) found (overlapping_by s t (Some new_reached) new_work)
-    lists-next = record {
-      gives = subst (λ (n : ℕ). MatchOption found
-          ((drop (given_in s.listed q here) (all q) ≡ []) × (drop n (all q) ≡ []))
-          (λ m. drop (given_in s.listed q here) (all q) ≡ m ∷ drop n (all q))) (sym moved.place)
-          (left-after q (given_in s.listed q here) found moved.item);
-      item = moved.item;
-      same = ap (λ (n : ℕ). record (overlapping_by s t (Some new_reached) new_work) { given = n }) moved.place;
-      onward = scans.forward;
-      grows = scans.grows;
-      stops = stops found moved.ends;
-      told = λ none. told none found moved.ends;
-      whole = λ none past. whole none (moved.whole past);
-      read = read-scanned s t refl so_far moved.leaves.within;
-    }
+    lists-next = search (rules, left-after, read-scanned, so_far, told, whole)
 
     -- and the listing goes on
     pub listing-goes_on : IsListing s t (Some new_reached) new_work
-    listing-goes_on = record {
-      standard = way.standard;
-      unanchored = way.unanchored;
-      legal = way.legal;
-      begun = (moved.leaves, so_far);
-    }
+    listing-goes_on = search (rules, so_far)

@@ -1,8 +1,8 @@
 -- Elements of lists by their places, as a list grows and in a part of it.
-use Rattle.std.proofs.Common.{◌≡◌, ◌≢◌, Bool, true, false, not, ℕ, zero, suc, ◌+◌, ◌-◌, ◌<◌, List, [], ◌∷◌, ◌++◌, length, map, get_or, take, drop, ◌⊎◌, inl, inr, refl, ap, sym, ◌∙◌, subst, arith, Option, Some, None, is_some, slice_get, slice_range, Result, Ok, Err, MatchResult, IsErrAnd}
+use Rattle.std.proofs.Common.{◌≡◌, ◌≢◌, Bool, true, false, not, ℕ, zero, suc, ◌+◌, ◌-◌, ◌<◌, List, [], ◌∷◌, ◌++◌, length, map, get_or, take, drop, ◌⊎◌, inl, inr, refl, ap, sym, ◌∙◌, subst, arith, Option, Some, None, is_some, slice_get, slice_range, Result, Ok, Err, MatchResult, IsErrAnd, rules}
 use Rattle.std.proofs.lemmas.Bool.{false≢true}
 use Rattle.std.proofs.lemmas.Option.{get_or_from_slice_get, slice_get-get_or, slice_get_within}
-use Rattle.std.proofs.Math.Seq.{take-append_seam, take-suc}
+use Rattle.std.proofs.lemmas.Grind.{common_steps}
 use Rattle.ac_util.proofs.Lists.{IsIn, IsOrdered}
 
 -- an element stays at its place as the list grows
@@ -31,10 +31,7 @@ pub get-added_cases : {X : Type 0} (xs : List X) (y x : X) (k : ℕ) → slice_g
 get-added_cases [] y x zero e = inr (refl, (cc))
 get-added_cases [] y x (suc k) e = absurd (cc)
 get-added_cases (z ∷ xs) y x zero e = inl e
-get-added_cases (z ∷ xs) y x (suc k) e = elim (get-added_cases xs y x k e) [
-  | inl h ↦ inl h
-  | inr h ↦ inr (omega (arith, h.0), h.1)
-]
+get-added_cases (z ∷ xs) y x (suc k) e = grind (arith, common_steps, get-added_cases xs y x k e)
 
 -- a place has one element
 pub get-same : {X : Type 0} (xs : List X) (k : ℕ) (x y : X) → slice_get xs k ≡ Some x → slice_get xs k ≡ Some y
@@ -52,8 +49,7 @@ get-take (suc n) (x ∷ xs) (suc k) l = get-take n xs k (omega arith)
 get-drop : {X : Type 0} (n : ℕ) (xs : List X) (k : ℕ) → slice_get (drop n xs) k ≡ slice_get xs (n + k)
 get-drop zero xs k = ap (slice_get xs) (omega arith)
 get-drop (suc n) [] k = refl
-get-drop {X} (suc n) (x ∷ xs) k =
-    get-drop n xs k ∙ ap (slice_get (x ∷ xs)) (let j : suc (n + k) ≡ suc n + k = omega arith in j)
+get-drop {X} (suc n) (x ∷ xs) k = grind (arith, common_steps, get-drop n xs k)
 
 -- an element of a part by its place in the part
 pub get-range : {X : Type 0} (xs : List X) (a b k : ℕ) → a + k < b
@@ -70,10 +66,7 @@ past-take (suc n) (y ∷ xs) (suc k) x e = omega (arith, past-take n xs k x e)
 -- a place in the part is one in the list
 pub get-from_range : {X : Type 0} (xs : List X) (a b k : ℕ) (x : X) → slice_get (slice_range xs a b) k ≡ Some x
     → (a + k < b) × (slice_get xs (a + k) ≡ Some x)
-get-from_range xs a b k x e =
-    let l : k < b - a = past-take (b - a) (drop a xs) k x e in
-    let m : a + k < b = omega arith in
-    (m, sym (get-range xs a b k m) ∙ e)
+get-from_range xs a b k x e = search (rules, get-range, past-take)
 
 -- an element of a mapped list is the image of the one at its place
 pub record ImageAt {X Y : Type 0} (f : X → Y) (xs : List X) (k : ℕ) (y : Y) : Type 0 where
@@ -85,8 +78,7 @@ pub get-from_map : {X Y : Type 0} (f : X → Y) (xs : List X) (k : ℕ) (y : Y) 
     → ImageAt f xs k y
 get-from_map f [] k y e = absurd (cc)
 get-from_map f (x ∷ xs) zero y e = record { from = x; there = refl; is = (cc) }
-get-from_map f (x ∷ xs) (suc k) y e =
-    let r = get-from_map f xs k y e in record { from = r.from; there = r.there; is = r.is }
+get-from_map f (x ∷ xs) (suc k) y e = grind (arith, common_steps, get-from_map f xs k y e)
 
 -- where an element stands in a list
 pub record PlaceOf {X : Type 0} (x : X) (xs : List X) : Type 0 where
@@ -140,16 +132,12 @@ match-by (Err e) P' Q' ok err h = err e h
 -- one element more of a list
 pub take-next : {X : Type 0} (xs : List X) (i : ℕ) (x : X) → slice_get xs i ≡ Some x
     → take (i + 1) xs ≡ take i xs ++ x ∷ []
-take-next xs i x e =
-    ap (λ (n : ℕ). take n xs) (let next : i + 1 ≡ suc i = omega arith in next)
-    ∙ take-suc xs i x (slice_get_within xs i x e)
-    ∙ ap (λ y. take i xs ++ y ∷ []) (get_or_from_slice_get xs i x x e)
+take-next xs i x e = grind (arith, common_steps, slice_get_within xs i x e, get_or_from_slice_get xs i x x e)
 
 -- a buffer that was lent as a whole is what came back
 pub written-whole : {X : Type 0} (xs ys : List X) (len : ℕ) → length xs ≡ len
     → take len (xs ++ drop (length xs) ys) ≡ xs
-written-whole xs ys len l =
-    ap (λ (n : ℕ). take n (xs ++ drop (length xs) ys)) (sym l) ∙ take-append_seam xs (drop (length xs) ys)
+written-whole xs ys len l = grind (arith, common_steps)
 
 -- what is read at a place, whatever the default
 pub place-read : {X : Type 0} (d x : X) (xs : List X) (p : PlaceOf x xs) → get_or xs p.place d ≡ x
@@ -181,6 +169,4 @@ IsIn-take x n xs p below = IsIn-place x (take n xs) p.place (get-take n xs p.pla
 
 -- an element among the first n is one
 pub IsIn-from_take : {X : Type 0} (x : X) (n : ℕ) (xs : List X) → IsIn x (take n xs) → IsIn x xs
-IsIn-from_take x n xs h =
-    let p = (place-take x n xs h).whole in
-    IsIn-place x xs p.place p.there
+IsIn-from_take x n xs h = search (rules, IsIn-place, place-take)

@@ -1,12 +1,13 @@
 -- Prefixes of strings: what a test of one looks at, and strings between others in order.
-use Rattle.std.proofs.Common.{◌≡◌, ◌≢◌, ℕ, zero, suc, ◌+◌, ◌<◌, ◌≤◌, true, false, ◌&&◌, List, [], ◌∷◌, ◌++◌, map, length, drop, get_or, inl, inr, refl, ap, sym, ◌∙◌, arith, add-one, Some, None, nat_eq, slice_get}
+use Rattle.std.proofs.Common.{◌≡◌, ◌≢◌, ℕ, zero, suc, ◌+◌, ◌<◌, ◌≤◌, true, false, ◌&&◌, List, [], ◌∷◌, ◌++◌, map, length, drop, get_or, inl, inr, refl, ap, sym, arith, Some, None, nat_eq, slice_get, rules}
 use Rattle.std.specs.List.{starts_with}
 use Rattle.std.specs.Cmp.Lexicographic.{slice_cmp}
 use Rattle.std.specs.Ordering.{MatchOrdering, is_gt, is_lt, nat_cmp, ordering_then}
 use Rattle.std.specs.declared.cmp.Ordering.{Ordering}
 use Rattle.std.specs.declared.cmp.Ordering.TheVariants.{Less, Equal, Greater}
-use Rattle.std.proofs.lemmas.Bool.{and_from, and_parts, cases_lt, eq-eqb, eqb-true, false_from_ne_true, false≢true}
+use Rattle.std.proofs.lemmas.Bool.{and_from, and_parts, cases_lt, eq-eqb, eqb-true, false≢true}
 use Rattle.std.proofs.lemmas.Cmp.{ranked}
+use Rattle.std.proofs.lemmas.Grind.{common_steps}
 use Rattle.ac_util.proofs.Prefixes.{starts_with-length, starts_with-equal}
 use Rattle.ac_automaton.proofs.Orders.{head-no_greater}
 use Rattle.std.proofs.lemmas.Option.{slice_get-get_or, slice_get_past}
@@ -25,11 +26,7 @@ starts_with-step f (x ∷ w) (y ∷ p) (suc k) l m = starts_with-step f w p k (o
 pub starts_with-differs : (f : ℕ → ℕ) (w p : List ℕ) (k : ℕ) → length p ≤ length w → k < length p
     → starts_with nat_eq (map f w) (map f p) ≡ starts_with nat_eq (drop k (map f w)) (drop k (map f p))
     → f (get_or p k 0) ≢ f (get_or w k 0) → false ≡ starts_with nat_eq (map f w) (map f p)
-starts_with-differs f w p k long within so_far other =
-    let differs =
-    false_from_ne_true (nat_eq (f (get_or p k 0)) (f (get_or w k 0))) (λ e. other (eqb-true _ _ e)) in
-    sym (so_far ∙ starts_with-step f w p k (omega arith) within
-    ∙ ap (λ t. t && starts_with nat_eq (drop (suc k) (map f w)) (drop (suc k) (map f p))) differs)
+starts_with-differs f w p k long within so_far other = search (rules, eqb-true, starts_with-step)
 
 -- where they are equal the rest decides
 pub starts_with-agrees : (f : ℕ → ℕ) (w p : List ℕ) (k : ℕ) → length p ≤ length w → k < length p
@@ -37,10 +34,7 @@ pub starts_with-agrees : (f : ℕ → ℕ) (w p : List ℕ) (k : ℕ) → length
     → f (get_or p k 0) ≡ f (get_or w k 0)
     → starts_with nat_eq (map f w) (map f p)
     ≡ starts_with nat_eq (drop (k + 1) (map f w)) (drop (k + 1) (map f p))
-starts_with-agrees f w p k long within so_far same =
-    so_far ∙ starts_with-step f w p k (omega arith) within
-    ∙ ap (λ t. t && starts_with nat_eq (drop (suc k) (map f w)) (drop (suc k) (map f p))) (eq-eqb _ _ same)
-    ∙ ap (λ i. starts_with nat_eq (drop i (map f w)) (drop i (map f p))) (sym (add-one k))
+starts_with-agrees f w p k long within so_far same = search (rules, eq-eqb, starts_with-step)
 
 -- a prefix of a string, with the byte that follows it there, is a prefix
 pub starts_with-push : (w u : List ℕ) (b : ℕ) → starts_with nat_eq w u ≡ true → slice_get w (length u) ≡ Some b
@@ -78,11 +72,7 @@ push-injective [] (y ∷ []) a b e = absurd (cc)
 push-injective [] (y ∷ z ∷ w) a b e = absurd (cc)
 push-injective (x ∷ []) [] a b e = absurd (cc)
 push-injective (x ∷ y ∷ u) [] a b e = absurd (cc)
-push-injective (x ∷ u) (y ∷ w) a b e =
-    let head : x ≡ y = cc in
-    let tail : u ++ a ∷ [] ≡ w ++ b ∷ [] = cc in
-    let r = push-injective u w a b tail in
-    ((λ i. head i ∷ r.0 i), r.1)
+push-injective (x ∷ u) (y ∷ w) a b e = grind (arith, common_steps)
 
 -- where two numbers and then the rest compare as no greater and the two are equal, the rest compares so
 rest-no_greater : (x y : ℕ) (o rest : Ordering) → MatchOrdering o (x < y) (x ≡ y) (y < x) → x ≡ y
@@ -117,13 +107,4 @@ front-no_less [] [] front = refl
 front-no_less [] (y ∷ b) front = refl
 front-no_less (x ∷ a) [] front = absurd (false≢true front)
 front-no_less (x ∷ a) (y ∷ b) front =
-    let parts = and_parts (nat_eq x y) (starts_with nat_eq b a) front in
-    same_head (nat_cmp y x) (slice_cmp nat_cmp b a) (ranked y x (nat_cmp y x) refl) (eqb-true x y parts.0)
-    (front-no_less a b parts.1)
-  where
-    same_head : {x y : ℕ} (o rest : Ordering) → MatchOrdering o (y < x) (y ≡ x) (x < y) → x ≡ y
-        → is_lt rest ≡ false
-        → is_lt (ordering_then o rest) ≡ false
-    same_head Less rest m same e = absurd (omega arith)
-    same_head Equal rest m same e = e
-    same_head Greater rest m same e = refl
+    grind (arith, common_steps, eqb-true, front-no_less a b (and_parts (nat_eq x y) (starts_with nat_eq b a) front).1)

@@ -1,15 +1,16 @@
 -- The patterns that begin with one string stand side by side: first those that are the string, then a run for
 -- each next byte.
-use Rattle.std.proofs.Common.{◌≡◌, ◌≢◌, ℕ, suc, ◌+◌, ◌-◌, ◌<◌, ◌≤◌, true, List, [], ◌∷◌, ◌++◌, length, inl, inr, refl, ap, sym, ◌∙◌, subst, arith, Option, Some, None, get_or, nat_eq, bytes_eq, option_map, slice_get, slice_range}
+use Rattle.std.proofs.Common.{◌≡◌, ◌≢◌, ℕ, suc, ◌+◌, ◌-◌, ◌<◌, ◌≤◌, true, List, [], ◌∷◌, ◌++◌, length, inl, inr, refl, ap, sym, ◌∙◌, subst, arith, Option, Some, None, get_or, nat_eq, bytes_eq, slice_get, slice_range, rules}
 use Rattle.std.specs.Cmp.Lexicographic.{slice_cmp, nat_list_cmp_total}
 use Rattle.std.specs.List.{starts_with}
 use Rattle.std.specs.Ordering.{nat_cmp, ordering_reverse}
 use Rattle.std.specs.declared.cmp.Ordering.TheVariants.{Less, Greater}
-use Rattle.std.proofs.lemmas.Bool.{or_right, cases_lt}
+use Rattle.std.proofs.lemmas.Bool.{cases_lt}
 use Rattle.std.proofs.lemmas.List.{length-map}
 use Rattle.std.proofs.lemmas.Option.{slice_get-map, slice_get-get_or}
 use Rattle.std.proofs.lemmas.Slice.Eq.{bytes_eq-Decides}
-use Rattle.ac_automaton.specs.Util.{equal_to, is_empty, is_node, MatchKind, participants, pattern_of}
+use Rattle.std.proofs.lemmas.Grind.{common_steps}
+use Rattle.ac_automaton.specs.Util.{equal_to, is_node, MatchKind, participants, pattern_of}
 use Rattle.ac_util.proofs.Prefixes.{starts_with-itself, starts_with-front, list_any-from_IsIn}
 use Rattle.ac_util.proofs.LimitLemmas.{All-slice_get}
 use Rattle.ac_util.proofs.Lists.{IsIn, IsIn-filter, IsIn-from_filter, IsOrdered, IsOrdered-unique, Contains-from_IsIn, IsIn-from_Contains, nil-from_none, none-from_nil}
@@ -32,10 +33,7 @@ pattern_at sorted k = get_or sorted k (record { key = []; number = 0 })
 -- the list of the numbers has it at the same place
 number-at : (sorted : List Keyed) (k : ℕ) → k < length sorted
     → slice_get (numbers sorted) k ≡ Some (pattern_at sorted k).number
-number-at sorted k within =
-    slice_get-map (λ (q : Keyed). q.number) sorted k
-    ∙ ap (option_map (λ (q : Keyed). q.number))
-    (slice_get-get_or sorted k (record { key = []; number = 0 }) within)
+number-at sorted k within = search (rules, slice_get-get_or, slice_get-map)
 
 -- what the rank of a byte tells of it
 rank-None : (r : Option ℕ) → rank r ≤ 0 → r ≡ None
@@ -59,17 +57,15 @@ module _ (kind : MatchKind) (patterns : List (List ℕ)) (sorted : List Keyed)
   -- each place has such a pattern
   pub at-place : (k : ℕ) → k < length sorted → Stands k (pattern_at sorted k).number
   at-place k within =
-      let m = pattern_at sorted k in
-      let is = slice_get-get_or sorted k (record { key = []; number = 0 }) within in
-      let number = number-at sorted k within in
-      record {
-        within = within;
-        number = number;
-        key = All-slice_get (λ (q : Keyed). q.key ≡ pattern_of patterns q.number) sorted k m order.named is;
-        takes_part = IsIn-from_Contains m.number (participants kind patterns)
-            ((order.lists m.number).0
-            (Contains-from_IsIn m.number (numbers sorted) (IsIn-place m.number (numbers sorted) k number)));
-      }
+      grind (
+        arith,
+        common_steps,
+        slice_get-get_or,
+        number-at sorted k within,
+        All-slice_get,
+        IsIn-from_Contains (pattern_at sorted k).number (participants kind patterns) ((order.lists (pattern_at sorted k).number).0 (Contains-from_IsIn
+            (pattern_at sorted k).number (numbers sorted) (IsIn-place (pattern_at sorted k).number (numbers sorted) k (number-at sorted k within)))),
+      )
 
   -- the pattern of a number stands somewhere
   pub record IsInRange (n : ℕ) : Type 0 where
@@ -79,34 +75,24 @@ module _ (kind : MatchKind) (patterns : List (List ℕ)) (sorted : List Keyed)
   -- and each pattern that takes part has a place
   pub place-at : (n : ℕ) → IsIn n (participants kind patterns) → IsInRange n
   place-at n h =
-      let p = place-of n (numbers sorted)
-      (IsIn-from_Contains n (numbers sorted)
-      ((order.lists n).1 (Contains-from_IsIn n (participants kind patterns) h))) in
-      let within : p.place < length sorted =
-      omega (arith, p.within, length-map sorted (λ (q : Keyed). q.number)) in
-      let s = at-place p.place within in
-      let same = get-same (numbers sorted) p.place (pattern_at sorted p.place).number n s.number p.there in
-      record { place = p.place; stands = subst (λ (m : ℕ). Stands p.place m) same s }
+      grind (
+        arith,
+        common_steps,
+        place-of n (numbers sorted) (IsIn-from_Contains n (numbers sorted) ((order.lists n).1 (Contains-from_IsIn n (participants kind patterns) h))),
+        length-map,
+        at-place,
+        get-same,
+      )
 
   -- a prefix of a pattern leads to a node
   pub pattern-node : (k : ℕ) (u : List ℕ) → k < length sorted → starts_with nat_eq (key_at sorted k) u ≡ true
       → is_node kind patterns u ≡ true
-  pattern-node k u within front =
-      let s = at-place k within in
-      or_right (is_empty u) _
-      (list_any-from_IsIn (λ n. starts_with nat_eq (pattern_of patterns n) u) (pattern_at sorted k).number
-      (participants kind patterns) s.takes_part
-      (subst (λ (w : List ℕ). starts_with nat_eq w u ≡ true) s.key front))
+  pattern-node k u within front = grind (arith, common_steps, at-place k within, list_any-from_IsIn)
 
   -- and a node that isn't the start is a prefix of some pattern
   pub node-pattern : (x : ℕ) (u : List ℕ) → is_node kind patterns (x ∷ u) ≡ true
       → (k : ℕ) × (k < length sorted) × (starts_with nat_eq (key_at sorted k) (x ∷ u) ≡ true)
-  node-pattern x u node =
-      let r =
-      any_passes (λ n. starts_with nat_eq (pattern_of patterns n) (x ∷ u)) (participants kind patterns) node in
-      let s = place-at r.0 r.1 in
-      let front = subst (λ (w : List ℕ). starts_with nat_eq w (x ∷ u) ≡ true) (sym s.stands.key) r.2 in
-      (s.place, s.stands.within, front)
+  node-pattern x u node = search (rules, any_passes, place-at)
 
   module _ (u : List ℕ) (from to : ℕ) (range : IsRangeOf sorted u from to) where
     -- each in the range begins with the string
@@ -138,16 +124,7 @@ module _ (kind : MatchKind) (patterns : List (List ℕ)) (sorted : List Keyed)
       -- each before the end is one of the patterns that are the string
       among-equal_to : (n : ℕ) → IsIn n (slice_range (numbers sorted) from end)
           → IsIn n (equal_to kind patterns u)
-      among-equal_to n h =
-          let p = place-of n (slice_range (numbers sorted) from end) h in
-          let q = get-from_range (numbers sorted) from end p.place n p.there in
-          let s = at-place (from + p.place) (omega (arith, range.within, q.0)) in
-          let m = (pattern_at sorted (from + p.place)).number in
-          let same = get-same (numbers sorted) (from + p.place) m n s.number q.1 in
-          let key : pattern_of patterns m ≡ u = sym s.key ∙ whole (from + p.place) (omega arith) q.0 in
-          subst (λ (k : ℕ). IsIn k (equal_to kind patterns u)) same
-          (IsIn-filter (λ k. bytes_eq (pattern_of patterns k) u) m (participants kind patterns) s.takes_part
-          ((bytes_eq-Decides (pattern_of patterns m) u).1 key))
+      among-equal_to n h = search (rules, IsIn-filter, at-place, get-from_range, get-same, place-of, whole)
 
       -- and each of these stands before the end
       equal_to-among : (n : ℕ) → IsIn n (equal_to kind patterns u)
@@ -194,21 +171,19 @@ module _ (kind : MatchKind) (patterns : List (List ℕ)) (sorted : List Keyed)
 
       -- so these are the patterns that are the string
       pub range-equal_to : slice_range (numbers sorted) from end ≡ equal_to kind patterns u
-      range-equal_to =
-          IsOrdered-unique (λ m n. m < n) (λ m n l h. absurd (omega arith)) _ _ among-equal_to equal_to-among
-          among-ordered
-          (equal_to-ordered kind patterns u)
+      range-equal_to = search (rules, IsOrdered-unique, among-equal_to, among-ordered, equal_to-among, equal_to-ordered)
 
     -- the first of the range is the string exactly if some pattern that takes part is
     pub equal_to-some : from < to → byte_at sorted (length u) from ≡ None → equal_to kind patterns u ≢ []
     equal_to-some some ends none =
-        let s = at-place from (omega (arith, range.within)) in
-        let n = (pattern_at sorted from).number in
-        let key : pattern_of patterns n ≡ u =
-        sym s.key ∙ starts_with-ended (key_at sorted from) u (begins from (omega arith) some) ends in
-        none-from_nil n (equal_to kind patterns u) none
-        (IsIn-filter (λ m. bytes_eq (pattern_of patterns m) u) n (participants kind patterns) s.takes_part
-        ((bytes_eq-Decides (pattern_of patterns n) u).1 key))
+        grind (
+          arith,
+          common_steps,
+          at-place from (omega (arith, range.within)),
+          starts_with-ended (key_at sorted from) u (begins from (omega arith) some) ends,
+          none-from_nil,
+          IsIn-filter,
+        )
 
     -- and where it is longer, none is
     pub equal_to-none : byte_at sorted (length u) from ≢ None → equal_to kind patterns u ≡ []
@@ -243,8 +218,7 @@ module _ (kind : MatchKind) (patterns : List (List ℕ)) (sorted : List Keyed)
 
       -- each in the run begins with the longer string
       child-within : (k : ℕ) → place ≤ k → k < end → starts_with nat_eq (key_at sorted k) (u ++ b ∷ []) ≡ true
-      child-within k a c =
-          starts_with-push (key_at sorted k) u b (begins k (omega arith) (omega arith)) (same k a c ∙ byte)
+      child-within k a c = search (rules, begins, starts_with-push)
 
       -- and only these do
       child-only : (k : ℕ) → k < length sorted → starts_with nat_eq (key_at sorted k) (u ++ b ∷ []) ≡ true
@@ -268,8 +242,4 @@ module _ (kind : MatchKind) (patterns : List (List ℕ)) (sorted : List Keyed)
 
       -- so the run is its range
       pub run-range : IsRangeOf sorted (u ++ b ∷ []) place end
-      run-range = record {
-        ordered = omega arith;
-        within = omega (arith, range.within);
-        begins = λ k within. ((λ in'. child-within k in'.0 in'.1), (λ h. child-only k within h));
-      }
+      run-range = search (rules, begins, child-only, child-within)

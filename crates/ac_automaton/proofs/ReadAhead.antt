@@ -1,11 +1,12 @@
 -- Reading on up to a match: where the automaton stands, and that it has passed over none.
 use Rattle.std.proofs.Common.{◌≡◌, ◌≢◌, ◌⊎◌, ℕ, ◌+◌, ◌≤◌, List, [], inl, inr, subst, sym, refl, ◌++◌, ◌∷◌, ◌∙◌, arith, None}
 use Rattle.std.proofs.lemmas.Bool.{cases_lt}
+use Rattle.std.proofs.lemmas.Grind.{common_steps}
 use Rattle.ac_util.specs.declared.search.Anchored.{Anchored}
 use Rattle.ac_automaton.specs.Util.{Built, No, Node, Yes}
 use Rattle.ac_automaton.specs.Prelude.{Cursor, IsAlive, Lists, matches_of, node, NoMatchBetween, PassesNoMatch, Scan, ScansTo, ScanText, Work}
 use Rattle.ac_automaton.proofs.Heads.{nil-from_not}
-use Rattle.ac_automaton.proofs.ReadOn.{passes-on, scans-nothing}
+use Rattle.ac_automaton.proofs.ReadOn.{passes-on}
 
 -- a state that lists nothing has no matches
 pub nothing-listed : (built : Built) (anchored : Anchored) (u : Node) {listed : List ℕ} → Lists built anchored u listed
@@ -27,24 +28,12 @@ module _ {s : Scan} {t : ScanText} where
   -- a scan that has done nothing is along
   pub along-start : {work : Work} {cursor : Cursor} → IsAlive s t cursor → work.place ≤ cursor.at
       → IsAlong s t cursor.at work cursor work
-  along-start alive unread = record {
-    alive = alive;
-    scans = scans-nothing s t unread;
-    none = λ k low high. absurd (omega arith);
-  }
+  along-start alive unread = grind (arith, common_steps)
 
   -- what is along has passed over no match
   pub along-passed : {from : ℕ} {work new_work : Work} {cursor : Cursor} → IsAlong s t from work cursor new_work
       → PassesNoMatch s t from work cursor new_work
-  along-passed along =
-      record { is_at = along.alive.is_at; scans = along.scans; none = λ k low high. along.none k low (omega arith) }
-
-  -- the same where its place is named otherwise
-  pub along-ended : {from state at : ℕ} {work new_work : Work} (end : ℕ) → at ≡ end
-      → IsAlong s t from work (record { state = state; at = at }) new_work
-      → PassesNoMatch s t from work (record { state = state; at = end }) new_work
-  along-ended {from} {state} {at} {work} {new_work} end is along =
-      subst (λ (n : ℕ). PassesNoMatch s t from work (record { state = state; at = n }) new_work) is (along-passed along)
+  along-passed along = grind (arith, common_steps)
 
   module _ {from : ℕ} {work new_work work_then : Work} {cursor then_cursor : Cursor}
       (along : IsAlong s t from work cursor new_work)

@@ -1,14 +1,14 @@
 -- A scan that reads byte by byte: where its automaton stands with one byte more, what it has read and looked at, and that
 -- each look is paid for.
-use Rattle.std.proofs.Common.{◌≡◌, ◌≢◌, ◌⊎◌, ℕ, suc, ◌+◌, ◌-◌, ◌*◌, ◌<◌, ◌≤◌, true, false, cond, List, [], ◌∷◌, ◌++◌, length, length-append, slice_index, inl, inr, refl, ap, sym, subst, ◌∙◌, arith, Bool, Some, None, ◌==◌, if◌then◌else◌}
+use Rattle.std.proofs.Common.{◌≡◌, ◌≢◌, ◌⊎◌, ℕ, ◌+◌, ◌-◌, ◌*◌, ◌<◌, ◌≤◌, List, [], ◌∷◌, ◌++◌, length, length-append, slice_index, inl, inr, refl, ap, sym, subst, ◌∙◌, arith, Bool, Some, None, rules}
 use Rattle.std.proofs.lemmas.Bool.{cases_lt}
+use Rattle.std.proofs.lemmas.Grind.{common_steps}
 use Rattle.ac_util.specs.declared.search.Anchored.{Anchored}
-use Rattle.ac_automaton.specs.Util.{Built, Counts, credit, depth, is_node, may_skip, more_looks, No, Node, one_more_read, plain_byte, reached, Search, text, Yes}
+use Rattle.ac_automaton.specs.Util.{Built, Counts, credit, may_skip, more_looks, No, Node, one_more_read, reached, Search, text, Yes}
 use Rattle.ac_util.proofs.Failures.{depth-reached}
-use Rattle.ac_util.proofs.OneLonger.{text-empty, step-longer}
-use Rattle.ac_util.proofs.Reached.{reached-nil}
+use Rattle.ac_util.proofs.OneLonger.{step-longer}
 use Rattle.ac_util.proofs.Spans.{text_length}
-use Rattle.ac_util.proofs.SearchLoop.{credit-nil, looks_by-once, step-paid}
+use Rattle.ac_util.proofs.SearchLoop.{step-paid}
 use Rattle.ac_automaton.specs.Prelude.{Cursor, FitsIn, Grows, HasRead, IsAlive, IsAt, looks_of, most_looks, node, NoMatchBetween, PassesNoMatch, past, plain_of, Scan, ScansTo, ScanText, search_through, step_of, Work}
 
 -- a step's looks are paid by what was saved and what the byte brings; an anchored one saves nothing and looks
@@ -16,27 +16,12 @@ use Rattle.ac_automaton.specs.Prelude.{Cursor, FitsIn, Grows, HasRead, IsAlive, 
 step-within : (most : ℕ) (built : Built) (a : Anchored) (u : Node) (byte : ℕ) → (most ≡ 1) ⊎ (most ≡ 2)
     → looks_of most built a u byte + credit (most_looks a most) (step_of built a u byte)
     ≤ credit (most_looks a most) u + most_looks a most
-step-within most built No u byte one_or_two =
-    step-paid most built.kind (plain_of built) No u (plain_byte built.fold byte) one_or_two
-step-within most built Yes u byte one_or_two = once (most == 1)
-  where
-    once : (t : Bool) → (if t then 1 else 1) + 0 ≤ 0 + 1
-    once true = omega arith
-    once false = omega arith
+step-within most built No u byte one_or_two = search (rules, step-paid)
+step-within most built Yes u byte one_or_two = grind (arith, common_steps)
 
 -- what holds as far as n and one place on holds as far as there
 below_next : (n : ℕ) (P : ℕ → Type 0) → ((k : ℕ) → k < n → P k) → P n → (k : ℕ) → k < n + 1 → P k
 below_next n P before now k up = elim (cases_lt k n) [ inl l ↦ before k l | inr l ↦ subst P (omega arith) now ]
-
--- a node that a string leads to is as long as the string
-depth-node : (u : List ℕ) (t : Bool) → cond t (Some u) None ≢ None → depth (cond t (Some u) None) ≡ length u
-depth-node u true some = refl
-depth-node u false some = absurd (some refl)
-
--- and no node that a string may lead to is longer than the string
-depth-most : (u : List ℕ) (t : Bool) → depth (cond t (Some u) None) ≤ length u
-depth-most u true = omega arith
-depth-most u false = omega arith
 
 -- a place of the tape among all bytes read, as a sum
 pub past-is : (before : List ℕ) (at : ℕ) → past before at ≡ length before + at
@@ -46,9 +31,7 @@ past-is (b ∷ before) at = let e = past-is before at in omega arith
 -- a byte of the tape among all bytes read
 index-past : (before bytes : List ℕ) (at : ℕ) → slice_index (before ++ bytes) (past before at) ≡ slice_index bytes at
 index-past [] bytes at = refl
-index-past (b ∷ before) bytes at =
-    ap (slice_index (b ∷ before ++ bytes)) (let e : past before at + 1 ≡ suc (past before at) = omega arith in e)
-    ∙ index-past before bytes at
+index-past (b ∷ before) bytes at = grind (arith, common_steps, index-past before bytes at)
 
 -- one place further
 past-next : (before : List ℕ) (at : ℕ) → past before at + 1 ≡ past before (at + 1)
@@ -57,33 +40,17 @@ past-next (b ∷ before) at = let e = past-next before at in omega arith
 
 -- what has grown twice has grown
 pub grows-trans : {a b c : Counts} → Grows a b → Grows b c → Grows a c
-grows-trans first second = record {
-  reads = (let f = first.reads in let t = second.reads in omega arith);
-  looks = (let f = first.reads in let t = second.reads in let g = first.looks in let u = second.looks in omega arith);
-  calls = (let f = first.calls in let t = second.calls in omega arith);
-}
+grows-trans first second = grind (arith, common_steps)
 
 -- a search that has read nothing
 pub read-nothing : (most : ℕ) (skips : Bool) (start end : ℕ) (work : Work)
     → work.place ≤ start → HasRead most skips start end work work
-read-nothing most skips start end work unread = record {
-  onward = omega arith;
-  within = omega arith;
-  grows = record { reads = omega arith; looks = omega arith; calls = omega arith };
-  told = λ moved. omega arith;
-  whole = λ _. omega arith;
-  reads = omega arith;
-  looks = omega arith;
-  calls = omega arith;
-  quiet = λ _. refl;
-}
+read-nothing most skips start end work unread = grind (arith, common_steps)
 
 -- two payments one after another
 paid-twice : (m a b c x y z r t v : ℕ) → a ≤ b → b ≤ c → y + t ≤ x + r + m * (b - a) → z + v ≤ y + t + m * (c - b)
     → z + v ≤ x + r + m * (c - a)
-paid-twice m a b c x y z r t v low high one two =
-    let e : c - a ≡ (b - a) + (c - b) = omega arith in
-    rw e (omega arith)
+paid-twice m a b c x y z r t v low high one two = grind (arith, common_steps)
 
 module _ (s : Scan) (t : ScanText) where
   abbrev q : Search
@@ -97,14 +64,11 @@ module _ (s : Scan) (t : ScanText) where
 
   -- a place of the tape lies among all bytes read
   pub inside-past : {at : ℕ} → at ≤ length t.bytes → place at ≤ length (t.before ++ t.bytes)
-  inside-past {at} room =
-      let long = length-append t.before t.bytes in let e = past-is t.before at in omega arith
+  inside-past {at} room = search (rules, length-append, past-is)
 
   -- where the text starts nothing was read: the automaton stands at its start
   pub node-start : (at : ℕ) → place at ≡ t.start → node s t at ≡ Some []
-  node-start at there =
-      ap (reached s.built.kind (plain_of s.built) s.anchored) (text-empty (record q { high = place at }) (sym there))
-      ∙ reached-nil s.built.kind (plain_of s.built) s.anchored
+  node-start at there = grind (arith, common_steps)
 
   -- one byte more leads from the node reached to the next one
   pub node-step : (at byte : ℕ) → t.start ≤ place at → at < length t.bytes → byte ≡ slice_index t.bytes at
@@ -118,77 +82,27 @@ module _ (s : Scan) (t : ScanText) where
 
   -- the node fits into what was read
   pub node-fits : (state at : ℕ) → IsAt s t state at → FitsIn s.anchored (node s t at) t.start (place at)
-  node-fits state at is_at =
-      record { ordered = is_at.onward; short = short s.anchored; whole = whole s.anchored }
-    where
-      read : List ℕ
-      read = text (record q { high = place at })
-
-      size : length read ≡ place at - t.start
-      size = text_length (record q { high = place at }) is_at.onward is_at.inside
-
-      short : (a : Anchored) → depth (reached s.built.kind (plain_of s.built) a read) ≤ place at - t.start
-      short No = let l = depth-reached s.built.kind (plain_of s.built) read in let k = size in omega arith
-      short Yes =
-          let l = depth-most read (is_node s.built.kind (plain_of s.built) read) in let k = size in omega arith
-
-      whole : (a : Anchored) → a ≡ Yes → reached s.built.kind (plain_of s.built) a read ≢ None
-          → depth (reached s.built.kind (plain_of s.built) a read) ≡ place at - t.start
-      whole No e some = absurd (cc)
-      whole Yes e some = depth-node read (is_node s.built.kind (plain_of s.built) read) some ∙ size
+  node-fits state at is_at = grind (arith, common_steps, depth-reached, text_length)
 
   -- where the text starts the automaton stands in a state for its start
   pub at-start : {state : ℕ} (at : ℕ) → s.stands state (Some []) → place at ≡ t.start → at ≤ length t.bytes
       → IsAt s t state at
-  at-start {state} at there start room =
-      record {
-        there = subst (s.stands state) (sym (node-start at start)) there;
-        onward = omega arith;
-        inside = inside-past room;
-        alive = λ k from below. absurd (omega arith);
-      }
+  at-start {state} at there start room = search (rules, inside-past, node-start)
 
   -- where it isn't dead
   pub alive-start : {state : ℕ} (at : ℕ) → s.stands state (Some []) → place at ≡ t.start → at ≤ length t.bytes
       → IsAlive s t (record { state = state; at = at })
-  alive-start at there start room =
-      let here = node-start at start in
-      record { is_at = at-start at there start room; living = λ dead. absurd (cc) }
+  alive-start at there start room = grind (arith, common_steps, at-start at there start room)
 
   -- a scan that has done nothing
   pub scans-nothing : {at : ℕ} {work : Work} → work.place ≤ at → ScansTo s t at work at work
-  scans-nothing unread = record {
-    onward = omega arith;
-    forward = omega arith;
-    unread = unread;
-    grows = record { reads = omega arith; looks = omega arith; calls = omega arith };
-    told = λ moved. omega arith;
-    whole = λ _. omega arith;
-    counted = λ _. omega arith;
-    reads = omega arith;
-    paid = omega arith;
-    calls = omega arith;
-    quiet = λ _. refl;
-  }
+  scans-nothing unread = grind (arith, common_steps)
 
   -- what a search of the text has read that began at its start, in memory
   pub read-scanned : {at : ℕ} {work new_work : Work} → t.before ≡ []
       → ScansTo s t t.start work at new_work → at ≤ t.end
       → HasRead most (may_skip s.filters q) t.start t.end work new_work
-  read-scanned {at} {work} {new_work} memory scans up =
-      let o = scans.onward in let u = scans.unread in
-      let nothing = ap (credit most) (node-start t.start (ap (λ (bs : List ℕ). past bs t.start) memory)) ∙ credit-nil most in
-      record {
-        onward = scans.forward;
-        within = omega arith;
-        grows = scans.grows;
-        told = scans.told;
-        whole = λ same. let c = scans.counted same in omega arith;
-        reads = scans.reads;
-        looks = (let p = scans.paid in omega arith);
-        calls = (let c = scans.calls in omega arith);
-        quiet = scans.quiet;
-      }
+  read-scanned {at} {work} {new_work} memory scans up = grind (arith, common_steps)
 
 module _ {s : Scan} {t : ScanText} where
   -- one scan after another is one scan
@@ -196,29 +110,13 @@ module _ {s : Scan} {t : ScanText} where
       → ScansTo s t from work between work_between
       → ScansTo s t between work_between to new_work → ScansTo s t from work to new_work
   scans-on {from} {between} {to} {work} {work_between} {new_work} one two =
-      let o = one.onward in let p = two.onward in
-      let f = one.forward in let g = two.forward in
-      let u = one.unread in let v = two.unread in
-      let c = one.grows.calls in let d = two.grows.calls in
-      let r = one.grows.reads in let w = two.grows.reads in
-      record {
-        onward = omega arith;
-        forward = omega arith;
-        unread = v;
-        grows = grows-trans one.grows two.grows;
-        told = λ moved. elim (cases_lt work.place work_between.place) [
-          | inl first ↦ (let a = one.told first in omega arith)
-          | inr still ↦ (let a = two.told (omega arith) in omega arith)
-        ];
-        whole = λ same. let a = one.whole (omega arith) in let b = two.whole (omega arith) in omega arith;
-        counted = λ same. let a = one.counted (omega arith) in let b = two.counted (omega arith) in omega arith;
-        reads = (let a = one.reads in let b = two.reads in omega arith);
-        paid = paid-twice (most_looks s.anchored s.most) work.counts.reads work_between.counts.reads new_work.counts.reads
-            work.counts.looks work_between.counts.looks new_work.counts.looks (credit (most_looks s.anchored s.most) (node s t from))
-            (credit (most_looks s.anchored s.most) (node s t between)) (credit (most_looks s.anchored s.most) (node s t to)) r w one.paid two.paid;
-        calls = (let a = one.calls in let b = two.calls in omega arith);
-        quiet = λ none. two.quiet none ∙ one.quiet none;
-      }
+      grind (
+        arith,
+        common_steps,
+        paid-twice (most_looks s.anchored s.most) work.counts.reads work_between.counts.reads new_work.counts.reads work.counts.looks
+            work_between.counts.looks new_work.counts.looks (credit (most_looks s.anchored s.most) (node s t from)) (credit (most_looks s.anchored s.most)
+            (node s t between)) (credit (most_looks s.anchored s.most) (node s t to)) (one.grows.reads) (two.grows.reads) one.paid two.paid,
+      )
 
   -- a scan that has passed over no match goes on from where nothing is found
   pub passes-on : {from : ℕ} {work new_work work_then : Work} {cursor then_cursor : Cursor}
@@ -226,14 +124,7 @@ module _ {s : Scan} {t : ScanText} where
       → NoMatchBetween s t from (cursor.at + 1)
       → PassesNoMatch s t cursor.at new_work then_cursor work_then
       → PassesNoMatch s t from work then_cursor work_then
-  passes-on {cursor = cursor} one none two = record {
-    is_at = two.is_at;
-    scans = scans-on one.scans two.scans;
-    none = λ k low high. elim (cases_lt k (cursor.at + 1)) [
-      | inl before ↦ none k low before
-      | inr behind ↦ two.none k (omega arith) high
-    ];
-  }
+  passes-on {cursor = cursor} one none two = grind (arith, common_steps, scans-on one.scans two.scans)
 
 module _ {s : Scan} {t : ScanText} {cursor : Cursor} (alive : IsAlive s t cursor) where
   -- and one place further where it stands once a byte is followed
@@ -258,32 +149,4 @@ module _ {s : Scan} {t : ScanText} {cursor : Cursor} (alive : IsAlive s t cursor
       → new_work.place ≡ cursor.at + 1 → read ≡ one_more_read work.counts
       → new_work.counts ≡ more_looks (looks_of s.most s.built s.anchored (node s t cursor.at) byte) read
       → ScansTo s t cursor.at work (cursor.at + 1) new_work
-  scans-byte {byte} {work} {new_work} one_or_two unread is room there counted looked =
-      let at = cursor.at in
-      let most = most_looks s.anchored s.most in
-      let counts = work.counts in
-      let new_counts = new_work.counts in
-      let u = node s t at in
-      let once = looks_by-once s.most s.built.kind (plain_of s.built) s.anchored u (plain_byte s.built.fold byte) in
-      let paid = subst (λ (v : Node). looks_of s.most s.built s.anchored u byte + credit most v ≤ credit most u + most)
-      (node-step s t at byte alive.is_at.onward room is) (step-within s.most s.built s.anchored u byte one_or_two) in
-      let reads : new_counts.reads ≡ counts.reads + 1 =
-      ap (λ (c : Counts). c.reads) looked ∙ ap (λ (c : Counts). c.reads) counted in
-      let looks = ap (λ (c : Counts). c.looks) looked in
-      let before = ap (λ (c : Counts). c.looks) counted in
-      let calls : new_counts.calls ≡ counts.calls =
-      ap (λ (c : Counts). c.calls) looked ∙ ap (λ (c : Counts). c.calls) counted in
-      let one : new_counts.reads - counts.reads ≡ 1 = omega arith in
-      record {
-        onward = omega arith;
-        forward = omega arith;
-        unread = omega arith;
-        grows = record { reads = omega arith; looks = omega arith; calls = omega arith };
-        told = λ _. omega arith;
-        whole = λ _. omega arith;
-        counted = λ _. omega arith;
-        reads = omega arith;
-        paid = rw one (omega arith);
-        calls = omega arith;
-        quiet = λ _. calls;
-      }
+  scans-byte {byte} {work} {new_work} one_or_two unread is room there counted looked = search (rules, node-step, step-within)

@@ -1,15 +1,15 @@
 -- What the readers of a trie tell of a state that they have read.
-use Rattle.std.proofs.Common.{◌≡◌, ◌≢◌, ℕ, ◌+◌, ◌-◌, ◌<◌, ◌≤◌, Bool, true, List, length, length-drop, drop, filter, get_or, refl, ap, sym, ◌∙◌, subst, arith, Some, None, slice_get, slice_range, option_map, Contains, ◌↔◌}
+use Rattle.std.proofs.Common.{◌≡◌, ◌≢◌, ℕ, ◌+◌, ◌-◌, ◌<◌, ◌≤◌, Bool, true, List, length, length-drop, drop, filter, get_or, refl, ◌∙◌, subst, arith, Some, None, slice_get, slice_range, Contains, ◌↔◌, rules}
 use Rattle.std.specs.List.{range_with_len}
 use Rattle.std.specs.List.Sorted.{IsStrictlyIncreasing}
 use Rattle.std.proofs.lemmas.Bool.{false≢true}
 use Rattle.std.proofs.lemmas.List.{length-map, length-take-le}
 use Rattle.std.proofs.lemmas.List.Kept.{AllPairs-from_increasing}
 use Rattle.std.proofs.lemmas.Option.{slice_get-get_or, slice_get-map, slice_get_within}
-use Rattle.ac_automaton.specs.Util.{Node, plain_byte, state_count}
+use Rattle.std.proofs.lemmas.Grind.{common_steps}
+use Rattle.ac_automaton.specs.Util.{Node, state_count}
 use Rattle.ac_util.proofs.Lists.{Contains-from_IsIn, IsIn, IsIn-filter, IsIn-from_Contains, IsIn-from_filter, IsIn-from_map, IsIn-range, IsOrdered-filter, IsOrdered-range, IsOrdered-unique}
 use Rattle.ac_automaton.specs.Prelude.{HasOwn, IsOwn, IsTrie, leads_on, meaning_of, own_bytes, own_target, plain_of, Represents, State, Transition, transition_bytes, transitions_of, Trie}
-use Rattle.ac_automaton.proofs.Branched.{own_target-is, own_target-node}
 use Rattle.ac_automaton.proofs.Counting.{IsOrdered-from_AllPairs}
 use Rattle.ac_automaton.proofs.Follows.{leads-on, represented}
 use Rattle.ac_automaton.proofs.Places.{get-range, place-of}
@@ -39,32 +39,18 @@ module _ (trie : Trie) (nodes : List Node) where
   -- a byte leads on exactly if a state's own transitions go on by it
   goes-on : (u : Node) (b : ℕ) → (own_target (meaning_of trie nodes) u b ≢ None) ↔ (leads_on trie.built u b ≡ true)
   goes-on None b = ((λ some. absurd (some refl)), (λ e. absurd (false≢true e)))
-  goes-on (Some w) b = (
-    own_target-node trie.built.kind (plain_of trie.built) w (plain_byte trie.built.fold b),
-    (λ node none.
-        let is = own_target-is trie.built.kind (plain_of trie.built) w (plain_byte trie.built.fold b) node in
-        absurd (cc)),
-  )
+  goes-on (Some w) b = grind (arith, common_steps)
 
   -- a state that was read stands for the node of its number
   pub reads : (is_trie : IsTrie trie nodes) (s : ℕ) (u : Node) → slice_get nodes s ≡ Some u → (t : State)
       → t ≡ get_or trie.states s t → Represents (meaning_of trie nodes) s u t
-  reads is_trie s u named t is =
-      let there = slice_get_within nodes s u named in
-      let whole = is_trie.whole in
-      represented (meaning_of trie nodes) trie.states s u t
-      (record { meant = is_trie.states; there = omega arith; named = named }) is
+  reads is_trie s u named t is = search (rules, represented, slice_get_within)
 
   -- a state that was read by a number below the count stands for some node
   pub is-read : (is_trie : IsTrie trie nodes) (s : ℕ) → s < state_count trie.built.kind (plain_of trie.built)
       → (t : State) → t ≡ get_or trie.states s t → IsRead trie s t
   is-read is_trie s numbered t is =
-      let count = is_trie.numbered.count in
-      record {
-        nodes = nodes;
-        node = get_or nodes s None;
-        represents = reads is_trie s (get_or nodes s None) (slice_get-get_or nodes s None (omega arith)) t is;
-      }
+      grind (arith, common_steps, reads is_trie s (get_or nodes s None) (slice_get-get_or nodes s None (omega arith)) t is)
 
   -- what a state says that stands for a node
   module _ (s : ℕ) (u : Node) (t : State) (r : Represents (meaning_of trie nodes) s u t) where
@@ -85,36 +71,19 @@ module _ (trie : Trie) (nodes : List Node) where
 
     -- so it has as many
     pub own-length : t.transitions_end - t.transitions ≡ length (own_bytes trie.built u)
-    own-length =
-        let own = transitions_of trie.transitions t in
-        sym (length-part trie.transitions t.transitions t.transitions_end r.listed)
-        ∙ sym (length-map own (λ (x : Transition). x.byte))
-        ∙ ap (length {A = ℕ}) own-is
+    own-length = search (rules, length-map, length-part, own-is)
 
   -- and each place below their count is that of an own one
   pub has-own : (is_trie : IsTrie trie nodes) (s : ℕ) → s < state_count trie.built.kind (plain_of trie.built)
       → (t : State) → t ≡ get_or trie.states s t
       → (index : ℕ) → index < t.transitions_end - t.transitions → HasOwn trie s index
   has-own is_trie s numbered t is index within =
-      let count = is_trie.numbered.count in
-      let named = slice_get-get_or nodes s None (omega arith) in
-      let u = get_or nodes s None in
-      let long = own-length s u t (reads is_trie s u named t is) in
-      record {
-        nodes = nodes;
-        are_nodes = record {
-          is_trie = is_trie;
-          numbered = is_trie.numbered;
-          dead = is_trie.states.dead;
-          unreached = is_trie.unreached;
-          start = is_trie.start;
-          anchored_start = is_trie.anchored_start;
-          stands = λ n v e. record { nodes = nodes; is_trie = is_trie; named = e };
-        };
-        node = u;
-        named = named;
-        within = omega arith;
-      }
+      grind (
+        arith,
+        common_steps,
+        own-length s (get_or nodes s None) t (reads is_trie s (get_or nodes s None) (slice_get-get_or nodes s None (omega arith)) t is),
+        slice_get-get_or,
+      )
 
   -- the transition at a place is by the byte at the place, and leads to the longer node
   pub own-read : (s : ℕ) (w : List ℕ) (t : State) → Represents (meaning_of trie nodes) s (Some w) t
@@ -122,20 +91,15 @@ module _ (trie : Trie) (nodes : List Node) where
       → slice_get trie.transitions (t.transitions + index) ≡ Some next
       → IsOwn trie nodes w index next.byte next.target
   own-read s w t r index within next at =
-      let own = transitions_of trie.transitions t in
-      let there : slice_get own index ≡ Some next =
-      get-range trie.transitions t.transitions t.transitions_end index (omega arith) ∙ at in
-      let on =
-      leads-on (meaning_of trie nodes) trie.transitions refl s (Some w) t r next.byte index next.target there in
-      record {
-        place = ap (λ (bs : List ℕ). slice_get bs index) (sym (own-is s (Some w) t r))
-            ∙ slice_get-map (λ (x : Transition). x.byte) own index
-            ∙ ap (option_map (λ (x : Transition). x.byte)) there;
-        leads = r.leads index next there
-            ∙ ap (λ (v : Node). Some v)
-            (own_target-is trie.built.kind (plain_of trie.built) w (plain_byte trie.built.fold next.byte)
-            (own_target-node trie.built.kind (plain_of trie.built) w (plain_byte trie.built.fold next.byte) on));
-      }
+      grind (
+        arith,
+        common_steps,
+        get-range trie.transitions t.transitions t.transitions_end index (omega arith),
+        leads-on (meaning_of trie nodes) trie.transitions refl s (Some w) t r next.byte index next.target (get-range trie.transitions t.transitions
+            t.transitions_end index (omega arith) ∙ at),
+        own-is s (Some w) t r,
+        slice_get-map,
+      )
 
 -- the place is one among the transitions of a state, and so among those of all states
 pub record IsPlace (trie : Trie) (t : State) (index : ℕ) : Type 0 where
@@ -146,7 +110,9 @@ pub record IsPlace (trie : Trie) (t : State) (index : ℕ) : Type 0 where
 pub own-place : (trie : Trie) (s index : ℕ) → HasOwn trie s index → (t : State) → t ≡ get_or trie.states s t
     → IsPlace trie t index
 own-place trie s index own t is =
-    let r = reads trie own.nodes own.are_nodes.is_trie s own.node own.named t is in
-    let count = own-length trie own.nodes s own.node t r in
-    let within = own.within in
-    record { among = omega arith; listed = omega (arith, r.listed) }
+    grind (
+      arith,
+      common_steps,
+      reads trie own.nodes own.are_nodes.is_trie s own.node own.named t is,
+      own-length trie own.nodes s own.node t (reads trie own.nodes own.are_nodes.is_trie s own.node own.named t is),
+    )

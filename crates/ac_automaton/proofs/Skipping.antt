@@ -1,17 +1,17 @@
 -- Bytes with which no pattern begins don't lead away from the start, where nothing is found either if no pattern is
 -- empty.
-use Rattle.std.proofs.Common.{rules, ◌≡◌, ℕ, zero, suc, ◌+◌, ◌-◌, ◌<◌, ◌≤◌, Bool, true, false, ◌&&◌, ◌⊎◌, cond, List, [], ◌∷◌, length, map, refl, ap, sym, ◌∙◌, subst, inl, inr, arith, Some, None, nat_eq, slice_index}
+use Rattle.std.proofs.Common.{rules, ◌≡◌, ℕ, zero, suc, ◌+◌, ◌-◌, ◌<◌, ◌≤◌, Bool, true, false, ◌⊎◌, List, [], ◌∷◌, length, map, refl, ap, sym, ◌∙◌, subst, inl, inr, arith, Some, None, nat_eq, slice_index}
 use Rattle.std.specs.List.{list_any, starts_with}
 use Rattle.std.proofs.lemmas.Bool.{or_right, false≢true, false_from_ne_true, cases_lt}
 use Rattle.ac_util.specs.declared.search.Anchored.{Anchored}
-use Rattle.ac_automaton.specs.Util.{begins_with, begins_with_pattern, BeginWith, Built, Candidate, Counts, credit, FirstOf, is_empty, is_leftmost, is_node, is_one_of, IsSkipFor, may_skip, No, Node, Occurrence, one_more_call, participants, pattern_of, plain, plain_byte, PossibleStart, Search, Skip, skip_for, Tells}
+use Rattle.ac_automaton.specs.Util.{begins_with, begins_with_pattern, BeginWith, Built, Candidate, Counts, FirstOf, is_empty, is_one_of, IsSkipFor, No, Node, Occurrence, pattern_of, plain, plain_byte, Skip, Tells}
 use Rattle.memchr.specs.Find.{Nowhere, Passes}
 use Rattle.ac_util.specs.declared.prefilter.Candidate.TheVariants.{None as Nothing, Match as Found}
 use Rattle.ac_util.proofs.Found.{matches-nil}
 use Rattle.ac_util.proofs.NodeCount.{any_passes}
 use Rattle.ac_util.proofs.Participants.{equal_to-none_begins}
 use Rattle.ac_util.proofs.Reached.{step-nil}
-use Rattle.ac_automaton.specs.Prelude.{Cursor, Grows, HasSkipped, IsAlive, matches_of, most_looks, node, node_at, PassesNoMatch, past, plain_of, Scan, ScanText, search_through, SkipsByBytes, StaysAtStart, step_of, Work}
+use Rattle.ac_automaton.specs.Prelude.{Cursor, HasSkipped, IsAlive, matches_of, node, node_at, PassesNoMatch, past, plain_of, Scan, ScanText, search_through, SkipsByBytes, StaysAtStart, step_of, Work}
 use Rattle.ac_automaton.proofs.ReadOn.{grows-trans, inside-past, node-step, past-is}
 
 -- where a plain pattern begins with a plain byte, some pattern begins with the byte
@@ -43,38 +43,13 @@ module _ (built : Built) (some : list_any is_empty built.patterns ≡ false) whe
   -- a byte with which no pattern begins leads back to it
   pub step-stays : (b : ℕ) → list_any (begins_with built.fold b) built.patterns ≡ false
       → step_of built No (Some []) b ≡ Some []
-  step-stays b none =
-      step-nil built.kind (plain_of built) (plain_byte built.fold b)
-      ∙ ap (λ (t : Bool). cond t (Some (plain_byte built.fold b ∷ []))
-      (cond (is_leftmost built.kind && begins_with_pattern (plain_of built) []) None (Some []))) no_node
-      ∙ ap (λ (t : Bool). cond t None (Some [])) (stops (is_leftmost built.kind))
-    where
-      no_node : is_node built.kind (plain_of built) (plain_byte built.fold b ∷ []) ≡ false
-      no_node = false_from_ne_true _ (λ t.
-          let any = any_passes (λ n. starts_with nat_eq (pattern_of (plain_of built) n) (plain_byte built.fold b ∷ []))
-          (participants built.kind (plain_of built)) t in
-          false≢true (sym none ∙ begins-from_plain built.fold b built.patterns any.0 any.2))
-
-      stops : (t : Bool) → (t && begins_with_pattern (plain_of built) []) ≡ false
-      stops true = no_empty
-      stops false = refl
+  step-stays b none = search (rules, any_passes, begins-from_plain, false≢true, no_empty, step-nil)
 
 -- what is told of the first bytes: from the place on asked none stands before the place told
 pub record IsTold (first : List ℕ) (bytes : List ℕ) (low high place : ℕ) : Type 0 where
   pub onward : low ≤ place
   pub within : place < high
   pub none : Nowhere (Passes (is_one_of first) bytes) low place
-
-pub told-start : (first bytes : List ℕ) (low high place : ℕ)
-    → Tells (FirstOf first) bytes low high (PossibleStart place) → IsTold first bytes low high place
-told-start first bytes low high place (None, h, e) = absurd (cc)
-told-start first bytes low high place (Some p, h, e) =
-    let same : p ≡ place = cc in
-    let there = h.0 in record {
-      onward = omega (arith, same, there.low);
-      within = omega (arith, same, there.high);
-      none = subst (λ (n : ℕ). Nowhere (Passes (is_one_of first) bytes) low n) same there.before;
-    }
 
 -- or, where no place is told, none stands anywhere
 pub told-none : (first bytes : List ℕ) (low high : ℕ) (candidate : Candidate)
@@ -84,26 +59,6 @@ told-none first bytes low high candidate is (None, h, e) = h
 told-none first bytes low high candidate (inl is) (Some p, h, e) = absurd (cc)
 told-none first bytes low high candidate (inr is) (Some p, h, e) = let other = is.1 in absurd (cc)
 
--- a call of a prefilter takes nothing back
-pub grows-called : {counts new_counts : Counts} → new_counts ≡ one_more_call counts → Grows counts new_counts
-grows-called called =
-    let calls = ap (λ (c : Counts). c.calls) called in
-    let reads = ap (λ (c : Counts). c.reads) called in
-    let looks = ap (λ (c : Counts). c.looks) called in
-    record { reads = omega arith; looks = omega arith; calls = omega arith }
-
--- where a search may skip
-pub skips-somehow : (filters : Bool) (built : Built) (q : Search) (skip : Skip) → q.anchored ≡ No
-    → skip_for filters q.fold q.patterns ≡ Some skip → may_skip filters q ≡ true
-skips-somehow filters built q skip unanchored some = rw (unanchored, some) refl
-
--- what a prefilter by first bytes has told: none of them stands before the place to which it leads
-pub nowhere-led : (skip : Skip) (first bytes : List ℕ) (low high place : ℕ) (candidate : Candidate) → skip ≡ FirstOf first
-    → candidate ≡ PossibleStart place → Tells skip bytes low high candidate → IsTold first bytes low high place
-nowhere-led skip first bytes low high place candidate by is tells =
-    told-start first bytes low high place
-    (subst (λ (k : Skip). Tells k bytes low high (PossibleStart place)) by (subst (Tells skip bytes low high) is tells))
-
 -- a scan skips onward
 pub skipped-onward : (s : Scan) (t : ScanText) {from to : ℕ} {counts new_counts : Counts}
     → HasSkipped s t from to counts new_counts → from ≤ to
@@ -112,10 +67,7 @@ skipped-onward s t skipped = elim skipped [ inl same ↦ omega (arith, same.0) |
 -- at the start of an unanchored scan no match is found, if no pattern is empty
 pub none-there : (s : Scan) → s.anchored ≡ No → list_any is_empty s.built.patterns ≡ false → {u : Node} → u ≡ Some []
     → matches_of s.built s.anchored u ≡ []
-none-there s free some start =
-    ap (matches_of s.built s.anchored) start
-    ∙ ap (λ (a : Anchored). matches_of s.built a (Some [])) free
-    ∙ matches-start s.built some
+none-there s free some start = search (rules, matches-start)
 
 -- a scan that skips by first bytes
 module _ {s : Scan} {skip : Skip} (by : SkipsByBytes s skip) where
@@ -180,41 +132,4 @@ module _ {s : Scan} {skip : Skip} (by : SkipsByBytes s skip) where
         → PassesNoMatch s t to (record { place = place; counts = new_counts }) then_cursor new_work
         → new_work.counts.calls ≡ new_counts.calls → cursor.at < then_cursor.at
         → PassesNoMatch s t cursor.at (record { place = place; counts = counts }) then_cursor new_work
-    skipped-on {place} {then_cursor} {new_work} unread read uncalled moved = elim skipped [
-      | inl same ↦
-          subst (λ (c : Counts). PassesNoMatch s t cursor.at (record { place = place; counts = c }) then_cursor new_work)
-          same.1
-          (subst (λ (at : ℕ). PassesNoMatch s t at (record { place = place; counts = new_counts }) then_cursor new_work)
-          same.0 read)
-      | inr gone ↦
-          let scans = read.scans in
-          let grows = scans.grows in
-          let calls = ap (λ (c : Counts). c.calls) gone.2 in
-          let reads = ap (λ (c : Counts). c.reads) gone.2 in
-          let looks = ap (λ (c : Counts). c.looks) gone.2 in
-          let worth : credit (most_looks s.anchored s.most) (node s t to)
-          ≡ credit (most_looks s.anchored s.most) (node s t cursor.at) =
-          ap (credit (most_looks s.anchored s.most))
-          (gone.1 to gone.0 (omega arith) ∙ sym (gone.1 cursor.at (omega arith) gone.0)) in
-          record {
-            is_at = read.is_at;
-            scans = record {
-              onward = omega arith;
-              forward = scans.forward;
-              unread = scans.unread;
-              grows = grows-trans (grows-called gone.2) grows;
-              told = λ on. let l = scans.told on in omega arith;
-              whole = λ same. absurd (omega (arith, calls, same, uncalled));
-              counted = λ same. absurd (omega (arith, calls, same, uncalled));
-              reads = (let r = scans.reads in let o = scans.onward in omega arith);
-              paid = rw (sym worth, sym reads, sym looks) scans.paid;
-              calls = omega arith;
-              quiet = λ quiet. absurd (false≢true (sym quiet
-                  ∙ skips-somehow s.filters s.built (search_through s t) skip by.unanchored by.skips.built_so));
-            };
-            none = λ k low high. elim (cases_lt k (to + 1)) [
-              | inl before ↦ none-there s by.unanchored begin.some (gone.1 k (omega arith) (omega arith))
-              | inr behind ↦ read.none k (omega arith) high
-            ];
-          }
-    ]
+    skipped-on {place} {then_cursor} {new_work} unread read uncalled moved = search (rules, grows-trans, none-there)

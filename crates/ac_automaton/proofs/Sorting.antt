@@ -1,5 +1,5 @@
 -- The patterns listed by number, and what a sort of them gives.
-use Rattle.std.proofs.Common.{◌≡◌, ◌≢◌, ◌↔◌, ℕ, zero, suc, ◌+◌, ◌<◌, Bool, true, false, List, [], ◌∷◌, ◌++◌, map, length, take, get_or, inl, inr, refl, ap, sym, ◌∙◌, subst, arith, Some, add-one, nat_eq, slice_get, filter, All, AllPairs, Contains}
+use Rattle.std.proofs.Common.{◌≡◌, ◌≢◌, ◌↔◌, ℕ, zero, suc, ◌+◌, ◌<◌, Bool, true, false, List, [], ◌∷◌, ◌++◌, map, length, take, get_or, inl, refl, ap, sym, ◌∙◌, subst, arith, Some, add-one, nat_eq, slice_get, filter, All, AllPairs, Contains, rules}
 use Rattle.std.specs.List.{range_with_len}
 use Rattle.std.specs.Fn.{Called}
 use Rattle.std.specs.List.Sorted.{IsPermutation, IsSortedBy, IsSortedByClosure}
@@ -17,9 +17,10 @@ use Rattle.std.proofs.lemmas.List.Elements.{All-map, All-push, All-same}
 use Rattle.std.proofs.lemmas.List.FromFn.{get_or-range_with_len, length-range_with_len}
 use Rattle.std.proofs.lemmas.List.Sorted.{All-permutation, Contains-permutation, IsPermutation-map, IsPermutation-sym, ranks_by, sorted_far}
 use Rattle.std.proofs.lemmas.Map.Keys.{IsDistinct-IsPermutation}
-use Rattle.std.proofs.lemmas.Map.Lookups.{exact_bytes, exact_unsigned}
+use Rattle.std.proofs.lemmas.Map.Lookups.{exact_bytes}
 use Rattle.std.proofs.lemmas.Map.Made.{AllPairs-from_IsDistinct, IsDistinct-from_AllPairs}
 use Rattle.std.proofs.lemmas.Option.{slice_get_within, get_or_from_slice_get}
+use Rattle.std.proofs.lemmas.Grind.{common_steps}
 use denote.Param.Members.{Mut}
 use denote.Ref.{Bor}
 use Rattle.ac_automaton.specs.Util.{participants, pattern_of, plain, Standard}
@@ -38,37 +39,17 @@ sorted_number fold (x ∷ sorted) (suc place) m within is = sorted_number fold s
 -- one element more of a list of which f gives the first elements
 pub map-push : {X Y : Type 0} (f : X → Y) (all : List Y) (xs ys : List X) (n : ℕ) (x : X) → ys ≡ xs ++ x ∷ []
     → map f xs ≡ take n all → slice_get all n ≡ Some (f x) → map f ys ≡ take (n + 1) all
-map-push f all xs ys n x is before at =
-    let within = slice_get_within all n (f x) at in
-    ap (map f) is ∙ map-append f xs (x ∷ [])
-    ∙ ap (λ w. w ++ f x ∷ []) before
-    ∙ ap (λ w. take n all ++ w ∷ []) (sym (get_or_from_slice_get all n (f x) (f x) at))
-    ∙ sym (take_more all n (f x) within)
+map-push f all xs ys n x is before at = grind (arith, common_steps, take_more all n (f x) (slice_get_within all n (f x) at), get_or_from_slice_get)
 
 -- numbers from a on, and one more
 range-push : (a n : ℕ) → range_with_len a (suc n) ≡ range_with_len a n ++ (a + n) ∷ []
-range-push a zero = ap (λ w. w ∷ []) (plus-zero a)
-  where
-    plus-zero : (a : ℕ) → a ≡ a + 0
-    plus-zero a = omega arith
-range-push a (suc n) =
-    ap (λ w. a ∷ w) (range-push (a + 1) n) ∙ ap (λ w. a ∷ range_with_len (a + 1) n ++ w ∷ []) (plus-suc a n)
-  where
-    plus-suc : (a n : ℕ) → a + 1 + n ≡ a + suc n
-    plus-suc a n = omega arith
+range-push a zero = grind (arith, common_steps)
+range-push a (suc n) = grind (arith, common_steps, range-push (a + 1) n)
 
 -- one element more of a list that f numbers
 pub map-range-push : {X : Type 0} (f : X → ℕ) (xs ys : List X) (n : ℕ) (x : X) → ys ≡ xs ++ x ∷ []
     → map f xs ≡ range_with_len 0 n → f x ≡ n → map f ys ≡ range_with_len 0 (n + 1)
-map-range-push f xs ys n x is before at =
-    ap (map f) is ∙ map-append f xs (x ∷ [])
-    ∙ ap (λ w. w ++ f x ∷ []) before
-    ∙ ap (λ w. range_with_len 0 n ++ w ∷ []) (at ∙ zero-plus n)
-    ∙ sym (range-push 0 n)
-    ∙ ap (range_with_len 0) (sym (add-one n))
-  where
-    zero-plus : (n : ℕ) → n ≡ 0 + n
-    zero-plus n = omega arith
+map-range-push f xs ys n x is before at = search (rules, range-push 0 n, add-one n, map-append)
 
 -- a fact of each element, and of one more
 pub All-pushed : {X : Type 0} (P : X → Type 0) (xs ys : List X) (x : X) → ys ≡ xs ++ x ∷ [] → All P xs → P x
@@ -104,10 +85,8 @@ Precedes-by_parts : (a b : Keyed) (o p : Ordering) → slice_cmp nat_cmp a.key b
     → nat_cmp a.number b.number ≡ p
     → is_gt (ordering_then o p) ≡ false → a.number ≢ b.number → Precedes a b
 Precedes-by_parts a b Less p bytes numbers le apart = inl bytes
-Precedes-by_parts a b Equal Less bytes numbers le apart =
-    inr (exact_bytes a.key b.key bytes, ranked a.number b.number Less (sym numbers))
-Precedes-by_parts a b Equal Equal bytes numbers le apart =
-    absurd (apart (exact_unsigned a.number b.number numbers))
+Precedes-by_parts a b Equal Less bytes numbers le apart = search (rules, exact_bytes, ranked)
+Precedes-by_parts a b Equal Equal bytes numbers le apart = grind (arith, common_steps)
 Precedes-by_parts a b Equal Greater bytes numbers le apart = absurd (false≢true (sym le))
 Precedes-by_parts a b Greater p bytes numbers le apart = absurd (false≢true (sym le))
 
@@ -132,9 +111,7 @@ all_kept (x ∷ xs) = ap (λ w. x ∷ w) (all_kept xs)
 -- under Standard all patterns take part
 pub participants-Standard : (fold : Bool) (patterns : List (List ℕ))
     → participants Standard (map (plain fold) patterns) ≡ range_with_len 0 (length patterns)
-participants-Standard fold patterns =
-    all_kept (range_with_len 0 (length (map (plain fold) patterns)))
-    ∙ ap (range_with_len 0) (length-map patterns (plain fold))
+participants-Standard fold patterns = search (rules, all_kept, length-map)
 
 -- the view has the numbers of the stored patterns
 numbers-keyed : (fold : Bool) (sorted : List SortedPattern)

@@ -1,5 +1,5 @@
 -- The stack of the kept prefixes of a pattern, as all patterns are gone through in order.
-use Rattle.std.proofs.Common.{◌≡◌, ◌≢◌, ℕ, ◌+◌, ◌-◌, ◌<◌, ◌≤◌, true, false, List, [], ◌∷◌, ◌++◌, length, take, get_or, ◌⊎◌, inl, inr, refl, ap, sym, ◌∙◌, subst, arith, length-take, nat_eq, AllPairs}
+use Rattle.std.proofs.Common.{◌≡◌, ◌≢◌, ℕ, ◌+◌, ◌-◌, ◌<◌, ◌≤◌, true, false, List, [], ◌∷◌, ◌++◌, length, take, get_or, ◌⊎◌, inl, inr, refl, ap, sym, ◌∙◌, subst, arith, length-take, nat_eq, AllPairs, rules}
 use Rattle.std.specs.List.{range_with_len, starts_with}
 use Rattle.std.specs.Cmp.Lexicographic.{slice_cmp}
 use Rattle.std.specs.Ordering.{is_gt, is_lt, nat_cmp}
@@ -8,10 +8,11 @@ use Rattle.std.proofs.lemmas.Cmp.{nat_list_cmp_total, tied_itself}
 use Rattle.std.proofs.lemmas.List.{get_or-take}
 use Rattle.std.proofs.lemmas.List.Elements.{All-contains}
 use Rattle.std.proofs.lemmas.List.Quantifiers.{all_pairs_push}
-use Rattle.ac_automaton.specs.Util.{begins_with_pattern, LeftmostFirst, participants, participates, pattern_of, Standard}
+use Rattle.std.proofs.lemmas.Grind.{common_steps}
+use Rattle.ac_automaton.specs.Util.{LeftmostFirst, participants, participates, pattern_of, Standard}
 use Rattle.ac_util.proofs.Lists.{IsIn, IsIn-at, IsIn-map, IsIn-from_map, IsIn-filter, IsIn-from_filter, IsIn-range, IsIn-from_range, IsIn-append_cases, IsIn-append_left, IsIn-append_right, Contains-from_IsIn, IsIn-from_Contains}
 use Rattle.ac_util.proofs.Prefixes.{starts_with-itself}
-use Rattle.ac_util.proofs.Participants.{Prefixes, IsLeader, begins-before, begins-from_Prefixes, leader, leader-least, leader-takes_part, takes_part}
+use Rattle.ac_util.proofs.Participants.{Prefixes, IsLeader, begins-before, begins-from_Prefixes, leader, leader-least, leader-takes_part}
 use Rattle.ac_automaton.specs.Sorted.{Keyed, Precedes, IsOrder, key_at, numbers}
 use Rattle.ac_automaton.proofs.Places.{place-of, place-read, place-take, read-place, IsIn-take, IsIn-from_take}
 use Rattle.ac_automaton.proofs.Prefixes.{front-between, front-no_less}
@@ -19,8 +20,7 @@ use Rattle.ac_automaton.proofs.Prefixes.{front-between, front-no_less}
 -- what comes before isn't greater
 no_greater-from_Precedes : (a b : Keyed) → Precedes a b → is_gt (slice_cmp nat_cmp a.key b.key) ≡ false
 no_greater-from_Precedes a b (inl less) = ap is_gt less
-no_greater-from_Precedes a b (inr same) =
-    ap (λ w. is_gt (slice_cmp nat_cmp a.key w)) (sym same.0) ∙ ap is_gt (tied_itself nat_list_cmp_total a.key)
+no_greater-from_Precedes a b (inr same) = search (rules, nat_list_cmp_total, tied_itself)
 
 -- what is read past the end
 abbrev pub none : Keyed
@@ -36,8 +36,7 @@ pub record Standing (patterns : List (List ℕ)) (all : List Keyed) (at : ℕ) (
 module _ (patterns : List (List ℕ)) (all : List Keyed) (order : IsOrder Standard patterns all) where
   -- a pattern is the pattern of its number
   pub named : (m : Keyed) → IsIn m all → m.key ≡ pattern_of patterns m.number
-  named m h =
-      All-contains (λ k. k.key ≡ pattern_of patterns k.number) all m order.named (Contains-from_IsIn m all h)
+  named m h = search (rules, All-contains, Contains-from_IsIn)
 
   -- a pattern's number is one of a pattern
   pub numbered : (m : Keyed) → IsIn m all → m.number < length patterns
@@ -59,10 +58,7 @@ module _ (patterns : List (List ℕ)) (all : List Keyed) (order : IsOrder Standa
   -- a pattern that is a prefix of another has its pattern as a prefix
   Prefixes-from_sorted : (w : List ℕ) (m : Keyed) → IsIn m all → starts_with nat_eq w m.key ≡ true
       → Prefixes patterns w m.number
-  Prefixes-from_sorted w m h front = record {
-    numbered = numbered m h;
-    front = subst (λ (p : List ℕ). starts_with nat_eq w p ≡ true) (named m h) front;
-  }
+  Prefixes-from_sorted w m h front = search (rules, named, numbered)
 
   -- a pattern comes before a later one
   precedes : (i j : ℕ) → i < j → j < length all → Precedes (get_or all i none) (get_or all j none)
@@ -106,12 +102,7 @@ module _ (patterns : List (List ℕ)) (all : List Keyed) (order : IsOrder Standa
     -- a pattern with an earlier pattern as a prefix takes no part
     pub no_part : (m : Keyed) → IsIn m all → starts_with nat_eq here.key m.key ≡ true → m.number < here.number
         → participates LeftmostFirst patterns here.number ≡ false
-    no_part m h front below =
-        not_from_true _
-        (begins-before patterns (pattern_of patterns here.number) m.number here.number below
-        (numbered here here-in)
-        (subst (λ (w : List ℕ). Prefixes patterns w m.number) (named here here-in)
-        (Prefixes-from_sorted here.key m h front)))
+    no_part m h front below = search (rules, begins-before, here-in, named, not_from_true, numbered)
 
     module _ (stack : List Keyed) (s : Standing patterns all at stack) where
       -- those from a place of the stack on that are no prefix can go
@@ -175,23 +166,7 @@ module _ (patterns : List (List ℕ)) (all : List Keyed) (order : IsOrder Standa
       pub takes_part_here : ((m : Keyed) → IsIn m stack → here.number ≤ m.number)
           → participates LeftmostFirst patterns here.number ≡ true
       takes_part_here least =
-          let mine = Prefixes-from_sorted here.key here here-in (starts_with-itself here.key) in
-          let lead = leader patterns here.key (begins-from_Prefixes patterns here.key here.number mine) in
-          elim (cases_lt lead.0 here.number) [
-            | inl below ↦
-                let m = leader_stands lead.0 lead.1 below in
-                let le = least m.0 m.1 in
-                let e = m.2 in
-                absurd (omega arith)
-            | inr above ↦
-                let le = leader-least patterns here.key lead.0 here.number lead.1 mine in
-                let same : lead.0 ≡ here.number = omega arith in
-                takes_part patterns LeftmostFirst here.number
-                (ap (λ (w : List ℕ). begins_with_pattern (take here.number patterns) w)
-                (sym (named here here-in))
-                ∙ ap (λ (n : ℕ). begins_with_pattern (take n patterns) here.key) (sym same)
-                ∙ lead.1.none_before)
-          ]
+          search (rules, Prefixes-from_sorted, begins-from_Prefixes, here-in, leader, leader-least, leader_stands, named, starts_with-itself)
 
       -- a pattern before here is among those up to here
       later-in : (m : Keyed) → IsIn m (take at all) → IsIn m (take (at + 1) all)
@@ -257,14 +232,4 @@ module _ (patterns : List (List ℕ)) (all : List Keyed) (order : IsOrder Standa
 pub least-from_last : (stack : List Keyed) (d : Keyed) (n : ℕ) → AllPairs (λ a b. b.number < a.number) stack
     → (0 < length stack → n ≤ (get_or stack (length stack - 1) d).number) → (m : Keyed) → IsIn m stack
     → n ≤ m.number
-least-from_last stack d n falling last m h =
-    let p = place-of m stack h in
-    let within = p.within in
-    let bound = last (omega arith) in
-    let is = ap (λ (w : Keyed). w.number) (place-read d m stack p) in
-    elim (cases_lt p.place (length stack - 1)) [
-      | inl below ↦ let falls = falling p.place (length stack - 1) d below (omega arith) in omega arith
-      | inr reached ↦
-          let same : p.place ≡ length stack - 1 = omega arith in
-          let one = ap (λ (i : ℕ). (get_or stack i d).number) same in omega arith
-    ]
+least-from_last stack d n falling last m h = grind (arith, common_steps, place-read d m stack (place-of m stack h))

@@ -1,7 +1,8 @@
 -- The start of a trie: all patterns begin with the empty string.
-use Rattle.std.proofs.Common.{◌≡◌, ◌≢◌, ℕ, ◌<◌, ◌≤◌, Bool, true, false, ◌&&◌, List, [], ◌∷◌, length, inl, inr, refl, ap, sym, ◌∙◌, arith, Some, None, bytes_eq, slice_get}
+use Rattle.std.proofs.Common.{◌≡◌, ◌≢◌, ℕ, ◌<◌, ◌≤◌, Bool, true, false, ◌&&◌, List, [], ◌∷◌, length, inl, inr, refl, ap, ◌∙◌, arith, Some, None, bytes_eq, slice_get, rules}
 use Rattle.std.proofs.lemmas.Bool.{cases_Bool, cases_lt, cond-true, cond-false, false_from_ne_true}
-use Rattle.ac_automaton.specs.Util.{begins_with_pattern, equal_to, is_leftmost, MatchKind, Node, participants, pattern_of}
+use Rattle.std.proofs.lemmas.Grind.{common_steps}
+use Rattle.ac_automaton.specs.Util.{begins_with_pattern, equal_to, is_leftmost, MatchKind, participants, pattern_of}
 use Rattle.ac_util.proofs.Prefixes.{starts_with-length}
 use Rattle.ac_util.proofs.Lists.{IsIn-from_filter, nil-from_none, none-from_nil}
 use Rattle.ac_util.proofs.Participants.{IsIn-equal_to, equal_to-none_begins, leader, leader-takes_part}
@@ -17,11 +18,7 @@ module _ (kind : MatchKind) (patterns : List (List ℕ)) (sorted : List Keyed)
     (order : IsOrder kind patterns sorted) where
   -- all patterns begin with the empty string
   all-range : IsRangeOf sorted [] 0 (length sorted)
-  all-range = record {
-    ordered = omega arith;
-    within = omega arith;
-    begins = λ k l. ((λ in'. refl), (λ h. (omega arith, l)));
-  }
+  all-range = grind (arith, common_steps)
 
   -- a pattern that is empty and takes part is there exactly if some pattern is empty
   begins-some : begins_with_pattern patterns [] ≡ true → equal_to kind patterns [] ≢ []
@@ -37,10 +34,7 @@ module _ (kind : MatchKind) (patterns : List (List ℕ)) (sorted : List Keyed)
 
   -- where some pattern is empty, the empty string begins with a pattern
   some-begins : equal_to kind patterns [] ≢ [] → begins_with_pattern patterns [] ≡ true
-  some-begins some = elim (cases_Bool (begins_with_pattern patterns [])) [
-    | inl t ↦ t
-    | inr f ↦ absurd (some (equal_to-none_begins kind patterns [] f))
-  ]
+  some-begins some = search (rules, cases_Bool, equal_to-none_begins)
 
   -- under a leftmost kind an empty pattern lets no match start later
   miss-dead : is_leftmost kind ≡ true → 0 < length sorted → byte_at sorted 0 0 ≡ None
@@ -65,14 +59,7 @@ module _ (kind : MatchKind) (patterns : List (List ℕ)) (sorted : List Keyed)
   -- then a search stays at the start
   miss-stays : (is_leftmost kind ≡ true → 0 < length sorted → byte_at sorted 0 0 ≢ None)
       → miss kind patterns (Some []) ≡ Some []
-  miss-stays goes_on = elim (cases_Bool (is_leftmost kind)) [
-    | inl leftmost ↦
-        cond-false (is_leftmost kind && begins_with_pattern patterns []) None (Some [])
-        (ap (λ (t : Bool). t && begins_with_pattern patterns []) leftmost ∙ none-begins (goes_on leftmost))
-    | inr free ↦
-        cond-false (is_leftmost kind && begins_with_pattern patterns []) None (Some [])
-        (ap (λ (t : Bool). t && begins_with_pattern patterns []) free)
-  ]
+  miss-stays goes_on = search (rules, cases_Bool, cond-false, none-begins)
 
   -- the start as it waits for its children
   abbrev pub queued_start : ℕ → QueuedState
@@ -82,24 +69,14 @@ module _ (kind : MatchKind) (patterns : List (List ℕ)) (sorted : List Keyed)
   waits : (fail : ℕ) → slice_get (None ∷ None ∷ Some [] ∷ Some [] ∷ []) fail ≡ Some
       (miss kind patterns (Some []))
       → fail ≢ ANCHORED_START → Waits kind patterns sorted [] START (queued_start fail)
-  waits fail e unanchored = record {
-    deep = omega arith;
-    range = all-range;
-    fails = e;
-    unanchored = unanchored;
-    back = λ l. absurd (omega arith);
-    some = λ l. absurd (omega arith);
-    inner = λ l. absurd (omega arith);
-  }
+  waits fail e unanchored = grind (arith, common_steps)
 
   -- with an empty pattern a leftmost search ends there
   pub waits-dead : is_leftmost kind ≡ true → 0 < length sorted → byte_at sorted 0 0 ≡ None
       → Waits kind patterns sorted [] START (queued_start DEAD)
-  waits-dead leftmost some ends =
-      waits DEAD (ap (λ (v : Node). Some v) (sym (miss-dead leftmost some ends))) (λ e. absurd (omega arith))
+  waits-dead leftmost some ends = search (rules, miss-dead, waits)
 
   -- and else it stays there
   pub waits-start : (is_leftmost kind ≡ true → 0 < length sorted → byte_at sorted 0 0 ≢ None)
       → Waits kind patterns sorted [] START (queued_start START)
-  waits-start goes_on =
-      waits START (ap (λ (v : Node). Some v) (sym (miss-stays goes_on))) (λ e. absurd (omega arith))
+  waits-start goes_on = search (rules, miss-stays, waits)

@@ -1,10 +1,10 @@
 -- A trie has as many states as there are nodes: each node has one state, and a build is refused only where
 -- there are too many.
-use Rattle.std.proofs.Common.{◌≡◌, ◌≢◌, ℕ, zero, suc, ◌+◌, ◌<◌, ◌≤◌, Bool, true, List, [], ◌∷◌, ◌++◌, map, length, get_or, inl, inr, refl, ap, sym, ◌∙◌, subst, arith, Some, None, slice_get, option_map, nat_lt, Contains}
-use Rattle.std.proofs.lemmas.Bool.{cond-false, cond-true, le-ltb, lt-ltb}
+use Rattle.std.proofs.Common.{◌≡◌, ◌≢◌, ℕ, zero, suc, ◌+◌, ◌<◌, ◌≤◌, Bool, true, List, [], ◌∷◌, ◌++◌, map, length, get_or, inl, inr, refl, ap, sym, ◌∙◌, subst, arith, Some, None, slice_get, Contains, rules}
 use Rattle.std.proofs.lemmas.List.{length-map, length_push}
 use Rattle.std.proofs.lemmas.Option.{slice_get-get_or, slice_get-map, slice_get_within}
-use Rattle.ac_automaton.specs.Util.{BuildError, GREATEST, inner_nodes, is_node, MatchKind, Node, plain_byte, state_count, StateIdOverflow, step, Yes}
+use Rattle.std.proofs.lemmas.Grind.{common_steps}
+use Rattle.ac_automaton.specs.Util.{BuildError, GREATEST, inner_nodes, is_node, MatchKind, Node, plain_byte, state_count, step, Yes}
 use Rattle.ac_util.proofs.Lists.{IsIn, IsOrdered, IsIn-from_Contains, IsIn-from_map, Contains-from_IsIn}
 use Rattle.ac_util.proofs.NodeCount.{inner_nodes-has, inner_nodes-only, inner_nodes-apart}
 use Rattle.ac_util.proofs.Participants.{is_node-front}
@@ -18,21 +18,10 @@ use Rattle.ac_automaton.proofs.Places.{ImageAt, get-from_map, place-of, IsIn-pla
 use Rattle.ac_automaton.proofs.Ranges.{pattern-node}
 use Rattle.ac_automaton.proofs.Prefixes.{starts_with-last}
 
--- the states are too many where they are more than their numbers
-too_many_states-some : (kind : MatchKind) (patterns : List (List ℕ)) → GREATEST + 1 < state_count kind patterns
-    → too_many_states kind patterns ≡ Some (StateIdOverflow GREATEST (GREATEST + 1))
-too_many_states-some kind patterns many =
-    cond-true (nat_lt (GREATEST + 1) (state_count kind patterns))
-    (Some (StateIdOverflow GREATEST (GREATEST + 1)))
-    None (lt-ltb (GREATEST + 1) (state_count kind patterns) many)
-
 -- and else they are not
 pub too_many_states-none : (kind : MatchKind) (patterns : List (List ℕ))
     → state_count kind patterns ≤ GREATEST + 1 → too_many_states kind patterns ≡ None
-too_many_states-none kind patterns few =
-    cond-false (nat_lt (GREATEST + 1) (state_count kind patterns))
-    (Some (StateIdOverflow GREATEST (GREATEST + 1))) None
-    (le-ltb (GREATEST + 1) (state_count kind patterns) few)
+too_many_states-none kind patterns few = grind (arith, common_steps)
 
 -- a string that isn't empty is a shorter one with one more byte
 last-byte : (x : ℕ) (u : List ℕ) → (w : List ℕ) × (b : ℕ) × (x ∷ u ≡ w ++ b ∷ [])
@@ -83,11 +72,7 @@ module _ (kind : MatchKind) (patterns : List (List ℕ)) (sorted : List Keyed)
   -- an inner number is that of a place in the queue
   inner-at : (s : ℕ) (v : Node) → FIRST_INNER ≤ s → slice_get (nodes_of sorted queue) s ≡ Some v
       → IsInner sorted queue s v
-  inner-at s v inner e = elim (nodes-cases sorted queue s v e) [
-    | inl dead ↦ absurd (omega (arith, dead.below))
-    | inr (inl start) ↦ absurd (omega (arith, start.below))
-    | inr (inr i) ↦ i
-  ]
+  inner-at s v inner e = search (rules, nodes-cases)
 
   -- its string is that of the state at the place
   inner-is : (s : ℕ) (u : List ℕ) (i : IsInner sorted queue s (Some u)) → u ≡ word sorted i.queued
@@ -95,10 +80,7 @@ module _ (kind : MatchKind) (patterns : List (List ℕ)) (sorted : List Keyed)
 
   -- so the string of an inner number is one of the queue
   word-of_inner : (s : ℕ) (u : List ℕ) → IsInner sorted queue s (Some u) → IsIn u words
-  word-of_inner s u i =
-      IsIn-place u words i.place
-      (slice_get-map (word sorted) queue i.place ∙ ap (option_map (word sorted)) i.waits
-      ∙ ap (λ (v : List ℕ). Some v) (sym (inner-is s u i)))
+  word-of_inner s u i = search (rules, IsIn-place, slice_get-map (word sorted) queue i.place)
 
   -- with a further string the queue would have more states than there are numbers
   pub too-many : (u : List ℕ) (b from to : ℕ) → IsRangeOf sorted (u ++ b ∷ []) from to → from < to
@@ -192,14 +174,7 @@ module _ (kind : MatchKind) (patterns : List (List ℕ)) (sorted : List Keyed)
     -- and each nonempty one an inner state
     inner-number : (u : List ℕ) → Contains (inner_nodes kind patterns) u
         → (s : ℕ) × IsNumberOf (nodes_of sorted queue) s u
-    inner-number u h =
-        let only = inner_nodes-only kind patterns u h in
-        let s = reaches (length u) u refl only.0 in
-        elim (nodes-cases sorted queue s.number (Some u) s.named) [
-          | inl dead ↦ absurd (let e = dead.node in cc)
-          | inr (inl start) ↦ absurd (only.1 (let e : Some u ≡ Some [] = start.node in let f : u ≡ [] = cc in f))
-          | inr (inr i) ↦ (s.number, record { inner = omega (arith, i.number); named = s.named })
-        ]
+    inner-number u h = grind (arith, common_steps, reaches (length u) u refl (inner_nodes-only kind patterns u h).0)
 
     -- so each inner node is a string of the queue
     inner-word : (u : List ℕ) → IsIn u (inner_nodes kind patterns) → IsIn u words
@@ -247,9 +222,9 @@ module _ (site : Site) {place end b : ℕ} {transitions : List Transition} {queu
   pub refused : (e : BuildError) → IsNotPushed queue e → IsRefused (too_many_states site.kind site.patterns) e
   refused e (inl memory) = inl memory.0
   refused e (inr full) =
-      inr (too_many_states-some site.kind site.patterns
-      (too-many site.kind site.patterns site.sorted site.ready.order
-      (length site.states + 1) transitions queue h.grown (string site) b place end
-      (child-range site h run) run.some
-      (fresh site h run fail fails) full.1)
-      ∙ ap (λ (r : BuildError). Some r) (sym full.0))
+      search (
+        rules,
+        too-many site.kind site.patterns site.sorted site.ready.order (length site.states + 1) transitions queue h.grown (string site) b place end
+            (child-range site h run) run.some (fresh site h run fail fails) full.1,
+        child-range site h run,
+      )

@@ -1,10 +1,10 @@
 -- How a step and the looks that it takes follow from what a state knows: the bytes that lead on, and where a
 -- search goes on by any other byte.
-use Rattle.std.proofs.Common.{◌≡◌, ◌≢◌, ℕ, zero, suc, ◌+◌, ◌≤◌, ◌<◌, Bool, true, false, cond, List, [], ◌∷◌, ◌++◌, length, refl, ap, sym, ◌∙◌, arith, Some, None}
-use Rattle.std.proofs.lemmas.Bool.{cond-false, cond-true}
+use Rattle.std.proofs.Common.{◌≡◌, ◌≢◌, ℕ, zero, suc, ◌+◌, ◌≤◌, ◌<◌, Bool, true, false, cond, List, [], ◌∷◌, ◌++◌, length, refl, ap, arith, Some, None, rules}
+use Rattle.std.proofs.lemmas.Grind.{common_steps}
 use Rattle.ac_automaton.specs.Util.{depth, failure, is_node, looks, looks_within, MatchKind, No, Node, step, Yes}
-use Rattle.ac_util.proofs.Reached.{stops, stops-same, reached-nil, reached-cons, step-all}
-use Rattle.ac_util.proofs.Failures.{step-own, step-failure, depth-failure}
+use Rattle.ac_util.proofs.Reached.{stops, reached-nil, reached-cons, step-all}
+use Rattle.ac_util.proofs.Failures.{step-failure, depth-failure}
 use Rattle.ac_automaton.specs.Tries.{miss}
 
 module _ (kind : MatchKind) (patterns : List (List ℕ)) where
@@ -30,35 +30,18 @@ module _ (kind : MatchKind) (patterns : List (List ℕ)) where
   from_start : (b : ℕ) → stepped (Some []) b
       ≡ cond (is_node kind patterns (b ∷ [])) (Some (b ∷ []))
       (cond (stops kind patterns (b ∷ [])) None (Some []))
-  from_start b =
-      step-all kind patterns [] b ∙ reached-cons kind patterns b []
-      ∙ ap (λ (v : Node). cond (is_node kind patterns (b ∷ [])) (Some (b ∷ []))
-      (cond (stops kind patterns (b ∷ [])) None v))
-      (reached-nil kind patterns No)
+  from_start b = search (rules, reached-cons, reached-nil, step-all)
 
   -- where a byte leads on in an anchored search it leads there in any search
   pub step-own_target : (v : Node) (b : ℕ) → own_target v b ≢ None → stepped v b ≡ own_target v b
   step-own_target None b on = refl
-  step-own_target (Some []) b on =
-      let own = leads (b ∷ []) (is_node kind patterns (b ∷ [])) on in
-      from_start b
-      ∙ cond-true (is_node kind patterns (b ∷ [])) (Some (b ∷ []))
-      (cond (stops kind patterns (b ∷ [])) None (Some [])) own
-      ∙ sym (cond-true (is_node kind patterns (b ∷ [])) (Some (b ∷ [])) None own)
-  step-own_target (Some (x ∷ u)) b on =
-      let own = leads (x ∷ u ++ b ∷ []) (is_node kind patterns (x ∷ u ++ b ∷ [])) on in
-      step-own kind patterns x u b own
-      ∙ sym (cond-true (is_node kind patterns (x ∷ u ++ b ∷ [])) (Some (x ∷ u ++ b ∷ [])) None own)
+  step-own_target (Some []) b on = grind (arith, common_steps)
+  step-own_target (Some (x ∷ u)) b on = grind (arith, common_steps)
 
   -- by any other byte the start and the dead node lead where their states say
   pub step-miss : (v : Node) (b : ℕ) → own_target v b ≡ None → depth v ≡ 0 → stepped v b ≡ miss kind patterns v
   step-miss None b off short = refl
-  step-miss (Some []) b off short =
-      let none = stays (b ∷ []) (is_node kind patterns (b ∷ [])) off in
-      from_start b
-      ∙ cond-false (is_node kind patterns (b ∷ [])) (Some (b ∷ []))
-      (cond (stops kind patterns (b ∷ [])) None (Some [])) none
-      ∙ ap (λ (t : Bool). cond t None (Some [])) (sym (stops-same kind patterns [] b none))
+  step-miss (Some []) b off short = grind (arith, common_steps)
   step-miss (Some (x ∷ u)) b off short = absurd (omega arith)
 
   -- and a longer node steps as its failure target does
@@ -66,8 +49,7 @@ module _ (kind : MatchKind) (patterns : List (List ℕ)) where
       → stepped v b ≡ stepped (miss kind patterns v) b
   step-on None b off long = refl
   step-on (Some []) b off long = absurd (omega arith)
-  step-on (Some (x ∷ u)) b off long =
-      step-failure kind patterns x u b (stays (x ∷ u ++ b ∷ []) (is_node kind patterns (x ∷ u ++ b ∷ [])) off)
+  step-on (Some (x ∷ u)) b off long = search (rules, stays, step-failure)
 
   -- as many nodes as the node has bytes are enough to count the looks
   enough : (n m : ℕ) (v : Node) (b : ℕ) → depth v ≤ n → depth v ≤ m
@@ -88,16 +70,13 @@ module _ (kind : MatchKind) (patterns : List (List ℕ)) where
         | true ↦ 1
         | false ↦ suc (looks_within kind patterns (length u) (failure kind patterns (x ∷ u)) b)
       ]
-  counted x u b t is =
-      let behind = looks_within kind patterns (length u) (failure kind patterns (x ∷ u)) b in
-      ap (λ (w : Bool). elim w [ true ↦ 1 | false ↦ suc behind ]) is
+  counted x u b t is = cc
 
   -- a byte that leads on takes one look
   pub looks-own_target : (v : Node) (b : ℕ) → own_target v b ≢ None → looks kind patterns No v b ≡ 1
   looks-own_target None b on = refl
   looks-own_target (Some []) b on = refl
-  looks-own_target (Some (x ∷ u)) b on =
-      counted x u b true (leads (x ∷ u ++ b ∷ []) (is_node kind patterns (x ∷ u ++ b ∷ [])) on)
+  looks-own_target (Some (x ∷ u)) b on = grind (arith, common_steps)
 
   -- and so does every byte at the start and at the dead node
   pub looks-short : (v : Node) (b : ℕ) → depth v ≡ 0 → looks kind patterns No v b ≡ 1
@@ -110,9 +89,4 @@ module _ (kind : MatchKind) (patterns : List (List ℕ)) where
       → looks kind patterns No v b ≡ 1 + looks kind patterns No (miss kind patterns v) b
   looks-on None b off long = absurd (omega arith)
   looks-on (Some []) b off long = absurd (omega arith)
-  looks-on (Some (x ∷ u)) b off long =
-      let l = depth-failure kind patterns x u in
-      let target = failure kind patterns (x ∷ u) in
-      counted x u b false (stays (x ∷ u ++ b ∷ []) (is_node kind patterns (x ∷ u ++ b ∷ [])) off)
-      ∙ ap suc (enough (length u) (depth target) target b (omega arith) (omega arith))
-      ∙ omega arith
+  looks-on (Some (x ∷ u)) b off long = search (rules, counted, depth-failure, enough, stays)

@@ -1,38 +1,27 @@
 -- The replacement of a stream: what was written so far and one piece more, one exchange more, and where it fails.
-use Rattle.std.proofs.Common.{◌≡◌, ℕ, zero, suc, ◌+◌, ◌-◌, ◌<◌, ◌≤◌, Bool, List, [], ◌∷◌, ◌++◌, length, length-append, length-take, take, drop, inl, inr, refl, ap, sym, subst, ◌∙◌, arith, Option, Some, None, Result, Ok, Err, slice_get, slice_range}
-use Rattle.std.proofs.KnownBytes.{Appends-nil, Appends-trans, Consumes-nil}
+use Rattle.std.proofs.Common.{◌≡◌, ℕ, zero, suc, ◌+◌, ◌-◌, ◌<◌, ◌≤◌, Bool, List, [], ◌∷◌, ◌++◌, length, length-append, take, drop, inl, inr, refl, ap, sym, subst, ◌∙◌, arith, Option, Some, None, Result, Ok, Err, slice_get, slice_range, rules}
 use Rattle.std.proofs.Math.Seq.{take-add, take-append-add}
-use Rattle.std.proofs.lemmas.List.{append-nil, append_assoc, drop-drop, drop-take, drop_all, take-append-drop, take-append-le, take-take, take_all}
-use Rattle.ac_automaton.specs.Util.{Built, HasCause, IsNear, IsSettledBy, Occurrence, Reading, ReadsAll, ReadsSome, Replacing, streamed, StreamError, WriteError, WritesPiece, Writing}
-use Rattle.ac_util.specs.declared.device.WriteError.TheVariants.{Io, WriteZero}
+use Rattle.std.proofs.lemmas.List.{append-nil, append_assoc, drop-drop, drop-take, drop_all, take-append-le, take-take, take_all}
+use Rattle.std.proofs.lemmas.Grind.{common_steps}
+use Rattle.ac_automaton.specs.Util.{Built, IsNear, IsSettledBy, Occurrence, Reading, ReadsAll, ReadsSome, Replacing, streamed, StreamError, WritesPiece, Writing}
 use Rattle.ac_util.proofs.Devices.{fails-on, reads-on, reads-out}
 use Rattle.ac_util.proofs.Spans.{take_drop_take}
-use Rattle.ac_automaton.specs.Prelude.{Ended, FailsBy, FailsToExchange, FailsToFill, FillsMore, GivesMatch, HasExchanged, HasReplaced, IsSettledIn, matches_so_far, MeetsEnd, Open, Phase, ReplacesBy, StartFrom, Steps, stream_begun, Streaming}
+use Rattle.ac_automaton.specs.Prelude.{Ended, FailsBy, FailsToExchange, FailsToFill, FillsMore, GivesMatch, HasExchanged, HasReplaced, IsSettledIn, matches_so_far, MeetsEnd, Open, ReplacesBy, StartFrom, Steps, stream_begun, Streaming}
 use Rattle.ac_automaton.proofs.Places.{take-next}
 
 -- a part of a list and then the next are a part
 pub part-join : {X : Type 0} (xs : List X) (a b c : ℕ) → a ≤ b → b ≤ c
     → slice_range xs a b ++ slice_range xs b c ≡ slice_range xs a c
-part-join xs a b c first second =
-    ap (λ (ys : _). slice_range xs a b ++ take (c - b) ys)
-    (ap (λ (k : ℕ). drop k xs) (let e : b ≡ a + (b - a) = omega arith in e) ∙ sym (drop-drop (b - a) a xs))
-    ∙ sym (take-add (b - a) (c - b) (drop a xs))
-    ∙ ap (λ (n : ℕ). take n (drop a xs)) (let e : b - a + (c - b) ≡ c - a = omega arith in e)
+part-join xs a b c first second = search (rules, take-add (b - a) (c - b) (drop a xs), drop-drop)
 
 -- and a part with all that follows it is what follows its start
 part-rest : {X : Type 0} (xs : List X) (a b : ℕ) → a ≤ b → slice_range xs a b ++ drop b xs ≡ drop a xs
-part-rest xs a b first =
-    ap (λ (ys : _). slice_range xs a b ++ ys)
-    (ap (λ (k : ℕ). drop k xs) (let e : b ≡ a + (b - a) = omega arith in e) ∙ sym (drop-drop (b - a) a xs))
-    ∙ take-append-drop (b - a) (drop a xs)
+part-rest xs a b first = grind (arith, common_steps, drop-drop (b - a) a xs)
 
 -- lists that begin alike have the same parts there
 part-same : {X : Type 0} (xs ys : List X) (k a b : ℕ) → take k xs ≡ take k ys → a ≤ b → b ≤ k
     → slice_range xs a b ≡ slice_range ys a b
-part-same xs ys k a b same ordered within =
-    sym (take_drop_take (b - a) a k xs (omega arith))
-    ∙ ap (λ (zs : _). take (b - a) (drop a zs)) same
-    ∙ take_drop_take (b - a) a k ys (omega arith)
+part-same xs ys k a b same ordered within = search (rules, take_drop_take (b - a) a k ys (omega arith), take_drop_take)
 
 -- an element among the first ones
 taken-get : {X : Type 0} (xs : List X) (n k : ℕ) (x : X) → k < n → slice_get xs k ≡ Some x → slice_get (take n xs) k ≡ Some x
@@ -43,8 +32,7 @@ taken-get (y ∷ xs) (suc n) (suc k) x below at = taken-get xs n k x (omega arit
 
 -- and those that begin alike so far do so less far
 take-same : {X : Type 0} (xs ys : List X) (k n : ℕ) → take k xs ≡ take k ys → n ≤ k → take n xs ≡ take n ys
-take-same xs ys k n same less =
-    sym (take-take n k xs less) ∙ ap (take n) same ∙ take-take n k ys less
+take-same xs ys k n same less = grind (arith, common_steps, take-take n k ys less)
 
 -- a list, cut at one of its elements
 cut-at : {X : Type 0} (xs : List X) (k : ℕ) (x : X) → slice_get xs k ≡ Some x
@@ -57,56 +45,13 @@ module _ {E D : Type 0} (told : D → Writing)
     (calls : Occurrence → List ℕ → Replacing E D → Result (Unit {0}) StreamError → Replacing E D → Type 0) where
   -- nothing was written
   pub piece-none : (s : Replacing E D) → WritesPiece told [] s None s
-  piece-none s = (
-    refl,
-    record { moved = Appends-nil (told s.destination).written; failed = refl; idles = refl },
-  )
+  piece-none s = grind (arith, common_steps)
 
   -- one piece was written, and then another, or some of it
   pub piece-join : (xs ys : List ℕ) (s t u : Replacing E D) (end : Option StreamError)
       → WritesPiece told xs s None t → WritesPiece told ys t end u → WritesPiece told (xs ++ ys) s end u
-  piece-join xs ys s t u None first second = (
-    second.0 ∙ first.0,
-    record {
-      moved = Appends-trans (told s.destination).written (told t.destination).written (told u.destination).written xs ys
-          first.1.moved second.1.moved;
-      failed = second.1.failed ∙ first.1.failed;
-      idles = second.1.idles ∙ first.1.idles;
-    },
-  )
-  piece-join xs ys s t u (Some e) first second =
-      let failure = second.1.0 in
-      let until = second.1.2 in
-      let part = until.some.part in
-      let long = length-append xs part in (
-        second.0 ∙ first.0,
-        (
-          failure,
-          second.1.1,
-          record {
-            some = record {
-              part = xs ++ part;
-              begins = ap (λ (n : ℕ). take n (xs ++ ys)) long ∙ take-append-add xs ys (length part)
-                  ∙ ap (λ (zs : List ℕ). xs ++ zs) until.some.begins;
-              left_out = (let l = until.some.left_out in let w = length-append xs ys in omega arith);
-              moved = Appends-trans (told s.destination).written (told t.destination).written
-                  (told u.destination).written xs part first.1.moved until.some.moved;
-            };
-            cause = caused failure until.cause;
-          },
-        ),
-      )
-    where
-      caused : (failure : WriteError) → HasCause (told t.destination) (told u.destination) failure
-          → HasCause (told s.destination) (told u.destination) failure
-      caused (Io e) cause = (
-        (let c = cause.0 in let f = first.1.failed in omega arith),
-        cause.1 ∙ first.1.idles,
-      )
-      caused WriteZero cause = (
-        cause.0 ∙ first.1.failed,
-        (let c = cause.1 in let f = first.1.idles in omega arith),
-      )
+  piece-join xs ys s t u None first second = grind (arith, common_steps)
+  piece-join xs ys s t u (Some e) first second = grind (arith, common_steps, length-append xs ((second.1.2).some.part), take-append-add)
 
   module _ (v : Streaming) (first s : Replacing E D) (done : HasReplaced told calls v first s) where
     -- what is settled was written
@@ -163,16 +108,7 @@ module _ {E D : Type 0} (told : D → Writing)
         → WritesPiece told (slice_range v.bytes v.kept place) s (Some e) t
         → Steps told calls (take place v.bytes) 0 (take v.given (matches_so_far v)) first (Some e) t
     settled-fails place e t onward writes =
-        subst (λ (ms : List Occurrence). Steps told calls (take place v.bytes) 0 ms first (Some e) t)
-        (append-nil (take v.given (matches_so_far v)))
-        (done.steps (take place v.bytes) (take-take v.kept place v.bytes onward) [] tt (Some e) t
-        (subst (λ (w : List ℕ). WritesPiece told w s (Some e) t) range writes))
-      where
-        range : slice_range v.bytes v.kept place ≡ drop v.kept (take place v.bytes)
-        range =
-            sym (drop-take v.kept (place - v.kept) v.bytes)
-            ∙ ap (λ (n : ℕ). drop v.kept (take n v.bytes))
-            (let e : v.kept + (place - v.kept) ≡ place = omega arith in e)
+        grind (arith, common_steps, append-nil (take v.given (matches_so_far v)), drop-take v.kept (place - v.kept) v.bytes)
 
     -- the next match
     module _ (m : Occurrence) (new : Streaming) (gives : GivesMatch v m new) where
@@ -185,30 +121,19 @@ module _ {E D : Type 0} (told : D → Writing)
 
       -- it is one of these
       cut : (later : List Occurrence) × (take v.given (matches_so_far v) ++ m ∷ later ≡ take given (matches_so_far v))
-      cut =
-          let among = gives.settled.among in
-          let later = cut-at (take given (matches_so_far v)) v.given m
-          (taken-get (matches_so_far v) given v.given m among gives.next) in (
-            later.0,
-            ap (λ (ms : List Occurrence). ms ++ m ∷ later.0)
-                (sym (take-take v.given given (matches_so_far v) (omega arith))) ∙ later.1,
-          )
+      cut = grind (arith, common_steps, taken-get (matches_so_far v) given v.given m (gives.settled.among) gives.next, cut-at)
 
       alike : take m.end (take place v.bytes) ≡ take m.end v.bytes
       alike = take-take m.end place v.bytes gives.settled.ended
 
       kept-alike : take v.kept (take place v.bytes) ≡ take v.kept v.bytes
-      kept-alike =
-          let a = gives.after in let o = gives.ordered in let e = gives.settled.ended in
-          take-take v.kept place v.bytes (omega arith)
+      kept-alike = grind (arith, common_steps)
 
       -- the bytes before it were written, and it was exchanged
       module _ (at_match : Replacing E D) (gap : WritesPiece told (slice_range v.bytes v.kept m.start) s None at_match) where
         turned : (haystack : List ℕ) → take m.end haystack ≡ take m.end v.bytes
             → WritesPiece told (slice_range haystack v.kept m.start) s None at_match
-        turned haystack same =
-            subst (λ (w : List ℕ). WritesPiece told w s None at_match)
-            (sym (part-same haystack v.bytes m.end v.kept m.start same gives.after gives.ordered)) gap
+        turned haystack same = search (rules, part-same)
 
         sliced : (haystack : List ℕ) → take m.end haystack ≡ take m.end v.bytes
             → slice_range haystack m.start m.end ≡ slice_range v.bytes m.start m.end
@@ -274,39 +199,17 @@ module _ {E D : Type 0} (told : D → Writing)
 
 module _ {E D : Type 0} (told : D → Writing)
     (calls : Occurrence → List ℕ → Replacing E D → Result (Unit {0}) StreamError → Replacing E D → Type 0) where
-  -- of a stream that begins nothing was exchanged or written
-  pub replaced-begin : (v : Streaming) (s : Replacing E D) → v.kept ≡ 0 → v.given ≡ 0 → HasReplaced told calls v s s
-  replaced-begin v s kept given = record {
-    steps = λ haystack same ms starts end t steps.
-        subst (λ (n : ℕ). Steps told calls haystack 0 (take n (matches_so_far v) ++ ms) s end t) (sym given)
-        (subst (λ (n : ℕ). Steps told calls haystack n ms s end t) kept steps);
-  }
-
   -- more bytes have come
   pub replaced-filled : (v new : Streaming) (first s : Replacing E D) → HasReplaced told calls v first s
       → new.kept ≡ v.kept → new.given ≡ v.given → take v.kept new.bytes ≡ take v.kept v.bytes
       → take v.given (matches_so_far new) ≡ take v.given (matches_so_far v) → HasReplaced told calls new first s
-  replaced-filled v new first s done kept given same stay = record {
-    steps = λ haystack alike ms starts end t steps.
-        subst (λ (ns : List Occurrence). Steps told calls haystack 0 (ns ++ ms) first end t)
-        (sym stay ∙ ap (λ (n : ℕ). take n (matches_so_far new)) (sym given))
-        (done.steps haystack (subst (λ (k : ℕ). take k haystack ≡ take k new.bytes) kept alike ∙ same) ms
-        (subst (λ (k : ℕ). StartFrom k ms) kept starts) end t
-        (subst (λ (k : ℕ). Steps told calls haystack k ms s end t) kept steps));
-  }
+  replaced-filled v new first s done kept given same stay = grind (arith, common_steps)
 
   -- the matches given were exchanged: these are the steps as far as bytes are kept no more
   pub replaced-all : (v : Streaming) (first s : Replacing E D) (place : ℕ) → HasReplaced told calls v first s → v.kept ≡ place
       → Steps told calls (take place v.bytes) 0 (take v.given (matches_so_far v)) first None s
   replaced-all v first s place done kept =
-      subst (λ (ms : List Occurrence). Steps told calls (take place v.bytes) 0 ms first None s)
-      (append-nil (take v.given (matches_so_far v)))
-      (done.steps (take place v.bytes)
-      (ap (λ (k : ℕ). take k (take place v.bytes)) kept ∙ take-take place place v.bytes (omega arith)
-      ∙ ap (λ (k : ℕ). take k v.bytes) (sym kept)) [] tt None s
-      (subst (λ (w : List ℕ). WritesPiece told w s None s)
-      (sym (drop_all v.kept (take place v.bytes) (let l = length-take place v.bytes in omega arith)))
-      (piece-none told calls s)))
+      grind (arith, common_steps, append-nil (take v.given (matches_so_far v)), drop_all, piece-none told calls s)
 
 -- the replacement of a stream from its beginning on
 module _ {E D : Type 0} (told : D → Writing)
@@ -330,60 +233,30 @@ module _ {E D : Type 0} (told : D → Writing)
   steps-by : (v : Streaming) (given place : ℕ) (end : Option StreamError) (t : Replacing E D) → v.built ≡ built
       → Steps told calls (take place v.bytes) 0 (take given (matches_so_far v)) first end t
       → Steps told calls (take place v.bytes) 0 (take given (streamed built v.bytes)) first end t
-  steps-by v given place end t is steps =
-      subst (λ (b : Built). Steps told calls (take place v.bytes) 0 (take given (streamed b v.bytes)) first end t) is steps
+  steps-by v given place end t is steps = grind (arith, common_steps)
 
   -- how far a stream is settled that goes on, and one whose end was met
   settled-open : (v : Streaming) (given place : ℕ) → v.built ≡ built → v.phase ≡ Open
       → IsSettledIn v.phase v.built v.bytes given place → IsSettledBy built.kind built v.bytes given place
-  settled-open v given place is open' h =
-      subst (λ (b : Built). IsSettledBy b.kind b v.bytes given place) is
-      (subst (λ (p : Phase). IsSettledIn p v.built v.bytes given place) open' h)
+  settled-open v given place is open' h = grind (arith, common_steps)
 
   settled-ended : (v : Streaming) (given place : ℕ) → v.built ≡ built → v.phase ≡ Ended
       → IsSettledIn v.phase v.built v.bytes given place
       → (given ≡ length (streamed built v.bytes)) × (place ≡ length v.bytes)
-  settled-ended v given place is ended h =
-      subst (λ (b : Built). (given ≡ length (streamed b v.bytes)) × (place ≡ length v.bytes)) is
-      (subst (λ (p : Phase). IsSettledIn p v.built v.bytes given place) ended h)
+  settled-ended v given place is ended h = grind (arith, common_steps)
 
   pub begins : (v : Streaming) → v ≡ stream_begun built → IsReplacing begun v first
-  begins v is =
-      subst (λ (w : Streaming). IsReplacing begun w first) (sym is) (record {
-        built_is = refl;
-        goes_on = refl;
-        reads = record { moved = Consumes-nil begun.left; failed = refl; empties = refl };
-        replaced = replaced-begin told calls (stream_begun built) first refl refl;
-      })
+  begins v is = grind (arith, common_steps)
 
   module _ {reader new_reader : Reading} {v new : Streaming} {s : Replacing E D} (on : IsReplacing reader v s)
       (within : v.kept ≤ length v.bytes) where
     -- some bytes more have come
     pub fills : FillsMore v new reader new_reader → IsReplacing new_reader new s
-    fills more = record {
-      built_is = ap (λ (w : Streaming). w.built) more.same ∙ on.built_is;
-      goes_on = ap (λ (w : Streaming). w.phase) more.same ∙ on.goes_on;
-      reads = subst (ReadsSome begun new_reader) (sym (ap (λ (w : Streaming). w.bytes) more.same))
-          (reads-on on.reads more.reads);
-      replaced = replaced-filled told calls v new first s on.replaced (ap (λ (w : Streaming). w.kept) more.same)
-          (ap (λ (w : Streaming). w.given) more.same)
-          (ap (take v.kept) (ap (λ (w : Streaming). w.bytes) more.same)
-          ∙ take-append-le v.kept v.bytes more.more within) more.given;
-    }
+    fills more = search (rules, reads-on, replaced-filled, take-append-le)
 
     -- or the end was met
     pub ends-there : MeetsEnd ends v new reader new_reader → IsEnding new_reader new s
-    ends-there met =
-        let bytes = ap (λ (w : Streaming). w.bytes) met.same in
-        record {
-          built_is = ap (λ (w : Streaming). w.built) met.same ∙ on.built_is;
-          ended = ap (λ (w : Streaming). w.phase) met.same;
-          reads = subst (ReadsAll ends begun new_reader) (sym bytes)
-              (subst (ReadsAll ends begun new_reader) (append-nil v.bytes) (reads-out on.reads met.reads));
-          replaced = replaced-filled told calls v new first s on.replaced (ap (λ (w : Streaming). w.kept) met.same)
-              (ap (λ (w : Streaming). w.given) met.same) (ap (take v.kept) bytes)
-              (ap (λ (w : Streaming). take v.given (matches_so_far w)) met.same);
-        }
+    ends-there met = search (rules, append-nil, reads-out, replaced-filled)
 
     -- or a read has failed
     pub fails-reading : IsSettledIn v.phase v.built v.bytes v.given v.kept → IsNear v.built v.bytes v.kept → (e : StreamError)
@@ -404,12 +277,7 @@ module _ {E D : Type 0} (told : D → Writing)
     -- what was found in what was read was exchanged
     pub goes-on : {new : Streaming} {t : Replacing E D} → IsReplacing reader v s → HasExchanged told calls v new s t
         → IsReplacing reader new t
-    goes-on on done = record {
-      built_is = ap (λ (w : Streaming). w.built) done.same ∙ on.built_is;
-      goes_on = ap (λ (w : Streaming). w.phase) done.same ∙ on.goes_on;
-      reads = subst (ReadsSome begun reader) (sym (ap (λ (w : Streaming). w.bytes) done.same)) on.reads;
-      replaced = done.replaced first on.replaced;
-    }
+    goes-on on done = grind (arith, common_steps)
 
     -- or that has failed
     pub fails-exchanging : IsReplacing reader v s → (e : StreamError) (t : Replacing E D) → FailsToExchange told calls v s e t
@@ -428,19 +296,7 @@ module _ {E D : Type 0} (told : D → Writing)
     -- at the end all was written
     pub replaces : {new : Streaming} {t : Replacing E D} → IsEnding reader v s → HasExchanged told calls v new s t
         → ReplacesBy told calls ends built begun reader first t
-    replaces {new} {t} on done =
-        let bytes = ap (λ (w : Streaming). w.bytes) done.same in
-        let is = ap (λ (w : Streaming). w.built) done.same ∙ on.built_is in
-        let all = settled-ended new new.given new.kept is (ap (λ (w : Streaming). w.phase) done.same ∙ on.ended) done.settled in (
-          new.bytes,
-          subst (ReadsAll ends begun reader) (sym bytes) on.reads,
-          subst (λ (ms : List Occurrence). Steps told calls (take (length new.bytes) new.bytes) 0 ms first None t)
-              (take_all new.given (streamed built new.bytes) (let n = all.0 in omega arith))
-              (subst (λ (n : ℕ). Steps told calls (take n new.bytes) 0 (take new.given (streamed built new.bytes)) first None t)
-              all.1
-              (steps-by new new.given new.kept None t is
-              (replaced-all told calls new first t new.kept (done.replaced first on.replaced) refl))),
-        )
+    replaces {new} {t} on done = search (rules, replaced-all, settled-ended, steps-by, take_all)
 
     -- or that has failed
     pub fails-at-last : IsEnding reader v s → (e : StreamError) (t : Replacing E D) → FailsToExchange told calls v s e t

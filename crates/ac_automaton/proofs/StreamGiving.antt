@@ -1,8 +1,9 @@
 -- The search of a stream gives a match: it is the next one whatever follows, and the search begins anew after it.
-use Rattle.std.proofs.Common.{◌≡◌, ◌⊎◌, ℕ, suc, ◌+◌, ◌-◌, ◌<◌, ◌≤◌, Bool, true, false, List, [], ◌∷◌, ◌++◌, length, length-append, get_or, inl, inr, refl, ap, sym, subst, ◌∙◌, arith, Option, Some, None, AllPairs, IfSome, slice_get}
+use Rattle.std.proofs.Common.{◌≡◌, ◌⊎◌, ℕ, ◌+◌, ◌-◌, ◌<◌, ◌≤◌, Bool, true, false, List, [], ◌∷◌, ◌++◌, length, length-append, get_or, inl, inr, refl, ap, sym, subst, ◌∙◌, arith, Option, Some, None, AllPairs, IfSome, slice_get, rules}
 use Rattle.std.proofs.lemmas.Bool.{cases_lt, false≢true}
 use Rattle.std.proofs.lemmas.List.{append-nil, append_assoc}
 use Rattle.std.proofs.lemmas.Option.{get_or_from_slice_get, slice_get_within}
+use Rattle.std.proofs.lemmas.Grind.{common_steps}
 use Rattle.ac_automaton.specs.Util.{Built, is_leftmost, IsAfter, IsSettledAt, IsSettledBy, last_end, LeftmostFirst, LeftmostLongest, MatchKind, Node, Occurrence, Occurs, order_of, pattern_of, pick, Search, settled, Span, Standard, streamed, walk_after}
 use Rattle.ac_util.proofs.Longer.{pick-extended}
 use Rattle.ac_util.proofs.Decided.{settled-at}
@@ -26,10 +27,7 @@ last_end-more (n ∷ k ∷ ms) m = last_end-more (k ∷ ms) m
 last_end-at : (ms : List Occurrence) (d : Occurrence) → 0 < length ms → last_end ms ≡ (get_or ms (length ms - 1) d).end
 last_end-at [] d some = absurd (omega arith)
 last_end-at (m ∷ []) d some = refl
-last_end-at (m ∷ n ∷ ms) d some =
-    last_end-at (n ∷ ms) d (omega arith)
-    ∙ ap (λ (k : ℕ). (get_or (m ∷ n ∷ ms) k d).end)
-    (let e : suc (length (n ∷ ms) - 1) ≡ length (m ∷ n ∷ ms) - 1 = omega arith in e)
+last_end-at (m ∷ n ∷ ms) d some = search (rules, last_end-at (n ∷ ms) d (omega arith))
 
 -- no match of a walk ends past its last one
 last-after : (ms : List Occurrence) (k : ℕ) (m : Occurrence) → AllPairs IsAfter ms → slice_get ms k ≡ Some m
@@ -122,24 +120,12 @@ module _ (stands : ℕ → Node → Type 0) (listed : ℕ → List ℕ) (most : 
 
       by-end : v.front + at ≡ length v.bytes → more ≡ []
           → pick v.built.kind (stream_from v.built (v.bytes ++ more) i.begun) ≡ Some m
-      by-end end none =
-          ap (λ (w : List ℕ). pick v.built.kind (stream_from v.built w i.begun))
-          (ap (λ (w : List ℕ). v.bytes ++ w) none ∙ append-nil v.bytes)
-          ∙ ap (λ (k : ℕ). pick v.built.kind (up_to k)) (sym end) ∙ sym on.picks ∙ is
+      by-end end none = grind (arith, common_steps)
 
       -- whichever bytes follow, or none once the end was met, it is the pick
       pub stays-pick : (v.phase ≡ Ended → more ≡ [])
           → pick v.built.kind (stream_from v.built (v.bytes ++ more) i.begun) ≡ Some m
-      stays-pick last = elim cause [
-        | inl first ↦ by-first first
-        | inr later ↦ elim later [
-          | inl dead ↦ by-dead dead
-          | inr ended ↦ elim answered [
-            | inl all ↦ by-end (let w = on.within in let n = inv.counted in omega arith) (last ended)
-            | inr rest ↦ elim rest [ inl dead ↦ by-dead dead | inr first ↦ by-first first.0 ]
-          ]
-        ]
-      ]
+      stays-pick last = search (rules, by-dead, by-end, by-first)
 
       walks-on : (v.phase ≡ Ended → more ≡ [])
           → streamed v.built (v.bytes ++ more)
@@ -156,16 +142,7 @@ module _ (stands : ℕ → Node → Type 0) (listed : ℕ → List ℕ) (most : 
           (walk_after v.built.kind (stream_from v.built (v.bytes ++ more) m.end) (Some m.end)))
 
     next-there : slice_get (streamed v.built v.bytes) v.given ≡ Some m
-    next-there =
-        subst (λ (w : List ℕ). slice_get (streamed v.built w) v.given ≡ Some m) (append-nil v.bytes)
-        (ap (λ (ms : List Occurrence). slice_get ms v.given)
-        (walks-on [] (λ ended. refl) ∙ append_assoc inv.given.matches (m ∷ [])
-        (walk_after v.built.kind (stream_from v.built (v.bytes ++ []) m.end) (Some m.end)))
-        ∙ ap (slice_get (inv.given.matches ++ m
-        ∷ walk_after v.built.kind (stream_from v.built (v.bytes ++ []) m.end) (Some m.end)))
-        (sym inv.given.count)
-        ∙ get-behind inv.given.matches
-        (walk_after v.built.kind (stream_from v.built (v.bytes ++ []) m.end) (Some m.end)) m)
+    next-there = grind (arith, common_steps, append-nil v.bytes, walks-on, get-behind)
 
     starts-behind : v.kept ≤ m.start
     starts-behind = subst (λ (r : Option Occurrence). IfSome r (λ n. v.kept ≤ n.start)) is on.after

@@ -1,16 +1,16 @@
 -- The search of a stream gives no match: as far as which place it is settled, and from where on bytes are kept.
-use Rattle.std.proofs.Common.{◌≡◌, ◌≢◌, ◌⊎◌, ℕ, ◌+◌, ◌-◌, ◌≤◌, Bool, true, false, List, [], ◌++◌, length, max, inl, inr, refl, ap, sym, subst, ◌∙◌, arith, Option, Some, None, IfSome}
+use Rattle.std.proofs.Common.{◌≡◌, ◌≢◌, ◌⊎◌, ℕ, ◌+◌, ◌-◌, ◌≤◌, Bool, true, false, List, length, max, inl, inr, refl, ap, sym, subst, ◌∙◌, arith, Option, Some, None, IfSome, rules}
 use Rattle.std.proofs.lemmas.Bool.{false≢true}
 use Rattle.std.proofs.lemmas.List.{append-nil}
-use Rattle.ac_automaton.specs.Util.{is_leftmost, IsNear, IsSettledAt, IsSettledBy, last_end, LeftmostFirst, LeftmostLongest, longest_len, MatchKind, Node, Occurrence, pick, Search, settled, Standard, streamed, walk_after}
+use Rattle.std.proofs.lemmas.Grind.{common_steps}
+use Rattle.ac_automaton.specs.Util.{is_leftmost, IsNear, IsSettledAt, IsSettledBy, longest_len, Node, Occurrence, pick, Search, Standard, streamed}
 use Rattle.ac_util.proofs.Living.{dead-picked, node-short, pick-behind}
 use Rattle.ac_util.proofs.Decided.{settled-at}
 use Rattle.ac_util.proofs.Shortest.{longest-most, none-empty}
-use Rattle.ac_util.proofs.Walks.{next-none, walk_after-None}
+use Rattle.ac_util.proofs.Walks.{walk_after-None}
 use Rattle.ac_automaton.specs.Prelude.{Ended, Failed, HasGivenSettled, HasReadOn, Inside, IsAnswered, IsSettledIn, IsStreaming, kept_from, Open, Phase, stream_from, Streaming}
 use Rattle.ac_automaton.proofs.StreamGiving.{settled-kind}
-use Rattle.ac_automaton.proofs.StreamReserves.{most-few, most-leftmost, most-standard}
-use Rattle.ac_automaton.proofs.StreamLoop.{leftmost-by}
+use Rattle.ac_automaton.proofs.StreamReserves.{most-few, most-leftmost}
 use Rattle.ac_automaton.proofs.StreamRefusals.{allowed-some}
 use Rattle.ac_automaton.proofs.StreamText.{node_there}
 
@@ -42,16 +42,7 @@ module _ (stands : ℕ → Node → Type 0) (listed : ℕ → List ℕ) (most : 
       ]
 
       all : at ≡ i.filled
-      all = elim answered [
-        | inl end ↦ let w = on.within in omega arith
-        | inr rest ↦ elim rest [
-          | inl dead ↦ absurd (alive dead)
-          | inr first ↦ elim open-pick [
-            | inl none ↦ absurd (first.1 none)
-            | inr open' ↦ absurd (false≢true (sym open'.0 ∙ first.0))
-          ]
-        ]
-      ]
+      all = search (rules, alive, false≢true)
 
       end-is : v.front + at ≡ length v.bytes
       end-is = let e = inv.counted in let a = all in omega arith
@@ -65,14 +56,7 @@ module _ (stands : ℕ → Node → Type 0) (listed : ℕ → List ℕ) (most : 
 
       -- where nothing is picked all matches were given
       whole-given : picked ≡ None → streamed v.built v.bytes ≡ inv.given.matches
-      whole-given none =
-          subst (λ (w : List ℕ). streamed v.built w
-          ≡ inv.given.matches ++ walk_after v.built.kind (stream_from v.built w i.begun) inv.given.last)
-          (append-nil v.bytes) (inv.given.walks [] (λ ended. refl))
-          ∙ ap (λ (ms : List Occurrence). inv.given.matches ++ ms)
-          (walk_after-None v.built.kind (stream_from v.built v.bytes i.begun) inv.given.last
-          (next-none v.built.kind (stream_from v.built v.bytes i.begun) inv.given.last (sym picks-whole ∙ none)))
-          ∙ append-nil inv.given.matches
+      whole-given none = grind (arith, common_steps, append-nil v.bytes, picks-whole, append-nil inv.given.matches, walk_after-None)
 
       given-all : picked ≡ None → v.given ≡ length (streamed v.built v.bytes)
       given-all none = sym (ap length (whole-given none) ∙ inv.given.count)
@@ -86,17 +70,7 @@ module _ (stands : ℕ → Node → Type 0) (listed : ℕ → List ℕ) (most : 
 
       settles-standard : v.built.kind ≡ Standard → (v.phase ≡ Ended → ⊥)
           → IsSettledBy v.built.kind v.built v.bytes v.given kept_open
-      settles-standard standard open' =
-          let none : picked ≡ None = elim open-pick [
-            | inl none ↦ none
-            | inr still ↦ absurd (false≢true (sym (ap is_leftmost standard) ∙ leftmost-by v.built.kind i.stops inv.stops still.0))
-          ] in
-          let last = ap last_end (whole-given none) ∙ inv.given.end in
-          let r = inv.reserve ∙ most-standard v.built standard in let e = end-is in
-          let b = back-open open' in let a = inv.after in let f = on.onward in
-          let place : kept_open ≡ settled v.built v.bytes = omega arith in
-          subst (λ (k : MatchKind). IsSettledBy k v.built v.bytes v.given kept_open) (sym standard)
-          (given-all none, place)
+      settles-standard standard open' = search (rules, back-open, end-is, false≢true, given-all, whole-given)
 
       -- under a leftmost kind what is picked starts no earlier than the automaton's node
       near-picked : is_leftmost v.built.kind ≡ true → (m : Occurrence) → picked ≡ Some m
@@ -113,11 +87,7 @@ module _ (stands : ℕ → Node → Type 0) (listed : ℕ → List ℕ) (most : 
               omega arith
 
       starts-behind-kept : is_leftmost v.built.kind ≡ true → (m : Occurrence) → picked ≡ Some m → kept_open ≤ m.start
-      starts-behind-kept first m is =
-          let near = near-picked first m is in let e = end-is in
-          let r = inv.reserve ∙ most-leftmost v.built first in
-          let after = subst (λ (p : Option Occurrence). IfSome p (λ n. v.kept ≤ n.start)) is on.after in
-          omega arith
+      starts-behind-kept first m is = search (rules, end-is, most-leftmost, near-picked)
 
       settles-leftmost : is_leftmost v.built.kind ≡ true → (v.phase ≡ Ended → ⊥)
           → IsSettledBy v.built.kind v.built v.bytes v.given kept_open
@@ -136,12 +106,7 @@ module _ (stands : ℕ → Node → Type 0) (listed : ℕ → List ℕ) (most : 
           (λ m is. starts-behind-kept first m (picks-whole ∙ is))))
 
       settles : (v.phase ≡ Ended → ⊥) → IsSettledBy v.built.kind v.built v.bytes v.given kept_open
-      settles open' = by v.built.kind refl
-        where
-          by : (k : MatchKind) → v.built.kind ≡ k → IsSettledBy v.built.kind v.built v.bytes v.given kept_open
-          by Standard is = settles-standard is open'
-          by LeftmostFirst is = settles-leftmost (ap is_leftmost is) open'
-          by LeftmostLongest is = settles-leftmost (ap is_leftmost is) open'
+      settles open' = search (rules, settles-leftmost, settles-standard)
 
       -- by what its phase asks for
       pub record IsKept (p : Phase) (kept : ℕ) : Type 0 where
@@ -154,24 +119,7 @@ module _ (stands : ℕ → Node → Type 0) (listed : ℕ → List ℕ) (most : 
 
       is-kept-open : (p : Phase) → v.phase ≡ p → (p ≡ Ended → ⊥)
           → IsSettledIn p v.built v.bytes v.given kept_open → IsKept p kept_open
-      is-kept-open p is open' settled' =
-          let e = end-is in let few = most-few v.built in let r = inv.reserve in let k = inv.kept_within in
-          let b = back-open (λ ended. open' (sym is ∙ ended)) in let f = on.onward in
-          record {
-            settled = settled';
-            near = omega arith;
-            onward = omega arith;
-            within = omega arith;
-            after = behind picked refl;
-            back = inl (omega arith);
-          }
-        where
-          behind : (q : Option Occurrence) → picked ≡ q → IfSome q (λ m. kept_open ≤ m.start)
-          behind None is = tt
-          behind (Some m) is = elim open-pick [
-            | inl none ↦ absurd (let no = sym is ∙ none in cc)
-            | inr still ↦ starts-behind-kept (leftmost-by v.built.kind i.stops inv.stops still.0) m is
-          ]
+      is-kept-open p is open' settled' = search (rules, back-open, end-is, most-few, starts-behind-kept)
 
       is-kept : IsKept v.phase kept_now
       is-kept = by v.phase refl
@@ -199,37 +147,7 @@ module _ (stands : ℕ → Node → Type 0) (listed : ℕ → List ℕ) (most : 
         kept-so = subst (IsKept v.phase) (sym is) is-kept
 
         pub streams-on : IsStreaming stands (record i { state = state; at = at; picked = picked }) (record v { kept = kept })
-        streams-on =
-            let so = kept-so in
-            record {
-              allowed = inv.allowed;
-              starts = inv.starts;
-              stops = inv.stops;
-              reserve = inv.reserve;
-              size = inv.size;
-              long = inv.long;
-              fits = inv.fits;
-              filled = inv.filled;
-              counted = inv.counted;
-              small = inv.small;
-              holds = inv.holds;
-              searched = record {
-                within = on.within;
-                onward = omega arith;
-                is_at = on.is_at;
-                picks = on.picks;
-                after = so.after;
-              };
-              given = inv.given;
-              all = inv.all;
-              few = inv.few;
-              in_buffer = (let b = inv.in_buffer in let o = so.onward in omega arith);
-              after = (let b = inv.after in let o = so.onward in omega arith);
-              kept_within = so.within;
-              back = so.back;
-            }
+        streams-on = search (rules, all, kept-so)
 
         pub gives-settled : HasGivenSettled v (record v { kept = kept })
-        gives-settled =
-            let so = kept-so in
-            record { settled = so.settled; near = so.near; same = refl; onward = so.onward; within = so.within }
+        gives-settled = search (rules, kept-so)

@@ -1,5 +1,5 @@
 -- The search of a stream reads on from where it stands: what it picks then.
-use Rattle.std.proofs.Common.{◌≡◌, ◌≢◌, ℕ, ◌+◌, ◌-◌, ◌<◌, ◌≤◌, Bool, true, false, List, length, max, inl, inr, refl, ap, sym, subst, ◌∙◌, arith, Option, Some, None, IfSome, not}
+use Rattle.std.proofs.Common.{◌≡◌, ◌≢◌, ℕ, ◌+◌, ◌-◌, ◌<◌, ◌≤◌, Bool, true, false, List, length, max, inl, inr, refl, ap, sym, subst, ◌∙◌, arith, Option, Some, None, IfSome, not, rules}
 use Rattle.std.specs.Option.{is_some}
 use Rattle.std.proofs.lemmas.Bool.{false≢true}
 use Rattle.ac_automaton.specs.Util.{is_leftmost, LeftmostFirst, LeftmostLongest, longest_len, MatchKind, No, Node, Occurrence, order_of, pick, Search, Span, Standard}
@@ -74,15 +74,11 @@ module _ (stands : ℕ → Node → Type 0) (listed : ℕ → List ℕ) (most : 
     inside-bytes = let w = on.within in let n = inv.counted in omega arith
 
     pub is-in_buffer : IsAt stream_scan stream_text state at
-    is-in_buffer =
-        at-in_buffer stands listed v.built most filters v.bytes i.buffer v.front i.filled i.begun inv.counted
-        inv.holds state at on.within on.is_at
+    is-in_buffer = search (rules, at-in_buffer)
 
     -- the node that its state stands for
     pub node-is : node stream_scan stream_text at ≡ node_here (v.front + at)
-    node-is =
-        node-in_buffer stands listed v.built most filters v.bytes i.buffer v.front i.filled i.begun inv.counted inv.holds
-        at on.is_at.onward on.within
+    node-is = search (rules, node-in_buffer)
 
     -- where it isn't dead it may read on
     pub may-read : node_here (v.front + at) ≢ None → IsAlive stream_scan stream_text (record { state = state; at = at })
@@ -97,21 +93,17 @@ module _ (stands : ℕ → Node → Type 0) (listed : ℕ → List ℕ) (most : 
       -- its state stands for a node that fits into what was read
       pub fits-there : FitsIn No (node stream_scan stream_text cursor.at) 0 (v.front + cursor.at)
       fits-there =
-          let f = node-fits stream_scan stream_text cursor.state cursor.at passes.is_at in
-          let p = place-is stands listed v.built most filters v.bytes i.buffer v.front i.filled i.begun inv.counted
-          inv.holds cursor.at in
-          let s = f.short in
-          record { ordered = omega arith; short = omega arith; whole = λ anchored. absurd (cc) }
+          search (
+            rules,
+            node-fits stream_scan stream_text cursor.state cursor.at passes.is_at,
+            place-is stands listed v.built most filters v.bytes i.buffer v.front i.filled i.begun inv.counted inv.holds cursor.at,
+          )
 
       there : At stands listed v.built most filters v.bytes i.begun cursor.state (v.front + cursor.at)
-      there =
-          at-in_stream stands listed v.built most filters v.bytes i.buffer v.front i.filled i.begun inv.counted inv.holds
-          cursor.state cursor.at within passes.is_at
+      there = search (rules, at-in_stream)
 
       none-between : NoMatchBetween stream_scan (in_memory v.bytes span) (v.front + at) (v.front + cursor.at)
-      none-between =
-          none-in_stream stands listed v.built most filters v.bytes i.buffer v.front i.filled i.begun inv.counted inv.holds
-          at cursor.at on.is_at.onward within passes.none
+      none-between = search (rules, none-in_stream)
 
       module _ (further : at < cursor.at) (goes : SearchGoesOn v.built.kind (order_of v.built.kind i.stops) picked)
           (found : Option Occurrence)

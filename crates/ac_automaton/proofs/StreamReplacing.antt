@@ -1,11 +1,12 @@
 -- The steps of a stream's replacement, told of a closure alone, and of the text that a list of texts leaves.
-use Rattle.std.proofs.Common.{◌≡◌, ◌≢◌, ℕ, suc, ◌+◌, ◌-◌, ◌≤◌, Bool, List, [], ◌∷◌, ◌++◌, length, length-append, length-drop, length-take, take, drop, inl, inr, refl, ap, sym, subst, ◌∙◌, arith, Option, Some, None, Result, Ok, Err, All, MatchResult, slice_index_or, slice_range}
+use Rattle.std.proofs.Common.{◌≡◌, ◌≢◌, ℕ, suc, ◌-◌, ◌≤◌, Bool, List, [], ◌∷◌, ◌++◌, length, length-append, length-drop, take, drop, inl, inr, refl, ap, sym, subst, ◌∙◌, arith, Option, Some, None, Result, Ok, Err, All, MatchResult, slice_index_or, slice_range, rules}
 use Rattle.std.specs.Borrow.{Bor, MutBor}
 use Rattle.std.specs.Fn.{Mut}
 use Rattle.std.specs.declared.io.Error.{Error}
 use Rattle.std.proofs.Math.Seq.{take-append_seam}
-use Rattle.std.proofs.lemmas.List.{append_assoc, drop-append-le, drop-take, drop_all, take-append-drop, take-append-le, take_all}
-use Rattle.ac_automaton.specs.Util.{asked_by_result, Built, Calls, FailsToReplace, FailsToReplaceWith, held, IsSettledAt, IsSettledBy, last_end, LeftmostFirst, LeftmostLongest, MatchAnswer, MatchKind, Occurrence, Reading, replaced, replaced_from, ReplacementSteps, ReplacesStream, ReplacesStreamWith, Replacing, settled, Standard, StepsAreSettled, streamed, StreamError, TextIsSettled, without_last, WritesAll, WritesPiece, Writing}
+use Rattle.std.proofs.lemmas.List.{drop-take, drop_all, take-append-drop, take_all}
+use Rattle.std.proofs.lemmas.Grind.{common_steps}
+use Rattle.ac_automaton.specs.Util.{asked_by_result, Built, Calls, FailsToReplace, FailsToReplaceWith, held, IsSettledAt, IsSettledBy, last_end, LeftmostFirst, LeftmostLongest, MatchAnswer, MatchKind, Occurrence, Reading, replaced, replaced_from, ReplacementSteps, ReplacesStream, ReplacesStreamWith, Replacing, settled, Standard, StepsAreSettled, streamed, StreamError, without_last, WritesPiece, Writing}
 use Rattle.ac_util.specs.declared.error.StreamError.TheVariants.{Io}
 use Rattle.ac_util.proofs.Exchanges.{AreInOrder, exchanged-in_order}
 use Rattle.ac_util.proofs.PiecesLemmas.{slice_range-append}
@@ -34,8 +35,7 @@ module _ {F D : Type 0} (told : D → Writing)
       (end : Option StreamError) → Steps told wrapped haystack place ms s end t
       → ReplacementSteps (WritesPiece told) (Calls closures) asked_by_result haystack place ms (bare s) end (bare t)
   bare-steps haystack place [] s t end steps = bare-piece (drop place haystack) s t end steps
-  bare-steps haystack place (m ∷ ms) s t end (inl gap) =
-      inl (gap.0, bare-piece (slice_range haystack place m.start) s t end gap.1)
+  bare-steps haystack place (m ∷ ms) s t end (inl gap) = grind (arith, common_steps)
   bare-steps haystack place (m ∷ ms) s t end (inr turn) =
       by (λ further. bare-steps haystack m.end ms turn.1 t end further) turn.2.call.0 turn.2.call.1 turn.2.call.2
     where
@@ -78,14 +78,7 @@ module _ {F D : Type 0} (told : D → Writing)
 
     pub replaces-with : ReplacesBy told wrapped ends built reader new_reader first t
         → ReplacesStreamWith told closures built closure old ends reader new_reader t.destination
-    replaces-with done = (
-      done.0,
-      done.1,
-      (
-        t.closure.closure,
-        bare-steps (take (length done.0) done.0) 0 (streamed built done.0) first t None done.2,
-      ),
-    )
+    replaces-with done = search (rules, bare-steps)
 
     pub fails-with : (e : StreamError) → FailsBy told wrapped ends built reader new_reader first e t
         → FailsToReplaceWith told closures built closure old ends reader new_reader t.destination e
@@ -126,41 +119,24 @@ replaced-cut : (haystack : List ℕ) (texts : List (List ℕ)) (many place end :
     → AreInOrder end many place ms → StartFrom end others → end ≤ length haystack
     → replaced_from haystack texts place (ms ++ others)
     ≡ replaced_from (take end haystack) texts place ms ++ replaced_from haystack texts end others
-replaced-cut haystack texts many place end [] [] order starts within =
-    ap (drop place) (sym (take-append-drop end haystack))
-    ∙ drop-append-le place (take end haystack) (drop end haystack)
-    (let l = length-take end haystack in omega arith)
+replaced-cut haystack texts many place end [] [] order starts within = grind (arith, common_steps, take-append-drop end haystack)
 replaced-cut haystack texts many place end [] (n ∷ others) order starts within =
-    let text = slice_index_or texts n.pattern [] in
-    let parts : slice_range haystack place n.start ≡ drop place (take end haystack) ++ slice_range haystack end n.start =
-    sym (part-join haystack place end n.start order starts)
-    ∙ ap (λ (w : List ℕ). w ++ slice_range haystack end n.start)
-    (sym (drop-take place (end - place) haystack)
-    ∙ ap (λ (k : ℕ). drop place (take k haystack)) (let e : place + (end - place) ≡ end = omega arith in e)) in
-    ap (λ (w : List ℕ). w ++ text ++ replaced_from haystack texts n.end others) parts
-    ∙ ap (λ (w : List ℕ). w ++ replaced_from haystack texts n.end others)
-    (append_assoc (drop place (take end haystack)) (slice_range haystack end n.start) text)
-    ∙ append_assoc (drop place (take end haystack)) (slice_range haystack end n.start ++ text)
-    (replaced_from haystack texts n.end others)
+    grind (arith, common_steps, part-join haystack place end n.start order starts, drop-take place (end - place) haystack)
 replaced-cut haystack texts many place end (m ∷ ms) others order starts within =
-    let text = slice_index_or texts m.pattern [] in
-    let part = ap (λ (w : List ℕ). slice_range w place m.start) (sym (take-append-drop end haystack))
-    ∙ slice_range-append (take end haystack) (drop end haystack) place m.start order.0
-    (let l = length-take end haystack in let a = order.1 in let b = order.2 in omega arith) in
-    ap (λ (w : List ℕ). w ++ text ++ replaced_from haystack texts m.end (ms ++ others)) part
-    ∙ ap (λ (w : List ℕ). slice_range (take end haystack) place m.start ++ text ++ w)
-    (replaced-cut haystack texts many m.end end ms others order.4 starts within)
-    ∙ sym (append_assoc (slice_range (take end haystack) place m.start ++ text)
-    (replaced_from (take end haystack) texts m.end ms) (replaced_from haystack texts end others))
+    grind (
+      arith,
+      common_steps,
+      take-append-drop end haystack,
+      slice_range-append,
+      replaced-cut haystack texts many m.end end ms others order.4 starts within,
+    )
 
 -- the first of matches in order are in order
 order-front : (bytes many place : ℕ) (ms others : List Occurrence) → AreInOrder bytes many place (ms ++ others)
     → AreInOrder bytes many place ms
 order-front bytes many place [] [] order = order
-order-front bytes many place [] (n ∷ others) order =
-    let a = order.0 in let b = order.1 in let c = order.2 in omega arith
-order-front bytes many place (m ∷ ms) others order =
-    (order.0, order.1, order.2, order.3, order-front bytes many m.end ms others order.4)
+order-front bytes many place [] (n ∷ others) order = grind (arith, common_steps)
+order-front bytes many place (m ∷ ms) others order = search (rules, order-front bytes many m.end ms others order.4)
 
 -- matches in order are in order as far as the last of them ends
 order-within : (bytes many place end : ℕ) (ms : List Occurrence) → AreInOrder bytes many place ms → place ≤ end
@@ -200,11 +176,7 @@ record AreApart (built : Built) (bytes : List ℕ) (given place : ℕ) : Type 0 
 
 all-apart : (built : Built) (bytes : List ℕ) (given place : ℕ) → given ≡ length (streamed built bytes)
     → place ≤ length bytes → last_end (streamed built bytes) ≤ place → AreApart built bytes given place
-all-apart built bytes given place all within last = record {
-  within = within;
-  last = subst (λ (ms : List Occurrence). last_end ms ≤ place) (sym (take_all given (streamed built bytes) (omega arith))) last;
-  starts = subst (StartFrom place) (sym (drop_all given (streamed built bytes) (omega arith))) tt;
-}
+all-apart built bytes given place all within last = grind (arith, common_steps)
 
 some-apart : (built : Built) (bytes : List ℕ) (given place : ℕ) → IsSettledAt built bytes given place
     → AreApart built bytes given place
@@ -222,24 +194,7 @@ module _ {F D : Type 0} (told : D → Writing) where
   -- a piece of which not all was written, and more
   piece-begun : (xs ys : List ℕ) (s t : Replacing F D) (e : StreamError) → WritesPiece told xs s (Some e) t
       → WritesPiece told (xs ++ ys) s (Some e) t
-  piece-begun xs ys s t e writes =
-      let until = writes.1.2 in
-      let part = until.some.part in (
-        writes.0,
-        (
-          writes.1.0,
-          writes.1.1,
-          record {
-            some = record {
-              part = part;
-              begins = take-append-le (length part) xs ys (let l = until.some.left_out in omega arith) ∙ until.some.begins;
-              left_out = (let l = until.some.left_out in let n = length-append xs ys in omega arith);
-              moved = until.some.moved;
-            };
-            cause = until.cause;
-          },
-        ),
-      )
+  piece-begun xs ys s t e writes = grind (arith, common_steps)
 
   module _ (texts : F → List (List ℕ)) where
     abbrev exchanges : Occurrence → List ℕ → Replacing F D → Result (Unit {0}) StreamError → Replacing F D → Type 0
@@ -256,18 +211,7 @@ module _ {F D : Type 0} (told : D → Writing) where
         (list : List (List ℕ)) → texts s.closure ≡ list → Steps told exchanges haystack place ms s end t
         → WritesPiece told (replaced_from haystack list place ms) s end t
     text-steps haystack place [] s t end list same steps = steps
-    text-steps haystack place (m ∷ ms) s t end list same (inl gap) = by end gap.0 gap.1
-      where
-        by : (end : Option StreamError) → end ≢ None
-            → WritesPiece told (slice_range haystack place m.start) s end t
-            → WritesPiece told (replaced_from haystack list place (m ∷ ms)) s end t
-        by None some writes = absurd (some refl)
-        by (Some e) some writes =
-            subst (λ (w : List ℕ). WritesPiece told w s (Some e) t)
-            (sym (append_assoc (slice_range haystack place m.start) (slice_index_or list m.pattern [])
-            (replaced_from haystack list m.end ms)))
-            (piece-begun (slice_range haystack place m.start)
-            (slice_index_or list m.pattern [] ++ replaced_from haystack list m.end ms) s t e writes)
+    text-steps haystack place (m ∷ ms) s t end list same (inl gap) = grind (arith, common_steps)
     text-steps haystack place (m ∷ ms) s t end list same (inr turn) =
         by (λ further. text-steps haystack m.end ms turn.1 t end list same-after further) turn.0 turn.2.call turn.3
       where
@@ -330,13 +274,8 @@ module _ {F D : Type 0} (told : D → Writing) where
 
       pub replaces-by : ReplacesBy told exchanges ends built reader new_reader s t
           → ReplacesStream built list (told s.destination) (told t.destination) ends reader new_reader
-      replaces-by (bytes, reads, steps) = (
-        bytes,
-        reads,
-        subst (λ (w : List ℕ). WritesAll (told s.destination) (told t.destination) (replaced w list (streamed built bytes)))
-            (take_all (length bytes) bytes (omega arith))
-            (text-steps (take (length bytes) bytes) 0 (streamed built bytes) s t None list same steps).1,
-      )
+      replaces-by (bytes, reads, steps) =
+          grind (arith, common_steps, text-steps (take (length bytes) bytes) 0 (streamed built bytes) s t None list same steps)
 
       last-inside : (bytes : List ℕ) → last_end (streamed built bytes) ≤ length bytes
       last-inside bytes =
@@ -379,38 +318,18 @@ module _ {F D : Type 0} (told : D → Writing) where
 
       apart-by : (bytes : List ℕ) (given place : ℕ) (kind : MatchKind) → IsSettledBy kind built bytes given place
           → AreApart built bytes given place
-      apart-by bytes given place Standard all =
-          let last = last-inside bytes in let is = all.1 in all-apart built bytes given place all.0 (omega arith) (omega arith)
+      apart-by bytes given place Standard all = grind (arith, common_steps, all-apart, last-inside)
       apart-by bytes given place LeftmostFirst some = some-apart built bytes given place some
       apart-by bytes given place LeftmostLongest some = some-apart built bytes given place some
 
       pub fails-by : (e : StreamError) → FailsBy told exchanges ends built reader new_reader s e t
           → FailsToReplace built list (told s.destination) (told t.destination) ends reader new_reader e
-      fails-by e (bytes, inl fails) = (bytes, inl (fails.reads, by built.kind fails.settled))
-        where
-          written : WritesAll (told s.destination) (told t.destination)
-              (replaced (take fails.place bytes) list (take fails.given (streamed built bytes)))
-          written =
-              (text-steps (take fails.place bytes) 0 (take fails.given (streamed built bytes)) s t None list same fails.steps).1
-
-          by : (kind : MatchKind) → IsSettledBy kind built bytes fails.given fails.place
-              → TextIsSettled built list (told s.destination) (told t.destination) kind bytes
-          by Standard all =
-              subst (WritesAll (told s.destination) (told t.destination))
-              (ap (λ (n : ℕ). replaced (take n bytes) list (take fails.given (streamed built bytes))) all.1
-              ∙ ap (replaced (take (settled built bytes) bytes) list)
-              (take_all fails.given (streamed built bytes) (let n = all.0 in omega arith))
-              ∙ settled-text bytes) written
-          by LeftmostFirst some = (fails.given, fails.place, some, fails.near, written)
-          by LeftmostLongest some = (fails.given, fails.place, some, fails.near, written)
-      fails-by e (bytes, inr (given, place, inl (some, is), steps)) =
-          (bytes, inr (inl some, (begun-text bytes given place e (apart-by bytes given place built.kind is) steps).1))
-      fails-by e (bytes, inr (given, place, inr (all, many, is), steps)) =
-          let last = last-inside bytes in (
-            bytes,
-            inr (
-              inr all,
-              (begun-text bytes given place e
-                  (all-apart built bytes given place many (omega arith) (omega arith)) steps).1,
-            ),
+      fails-by e (bytes, inl fails) =
+          grind (
+            arith,
+            common_steps,
+            text-steps (take fails.place bytes) 0 (take fails.given (streamed built bytes)) s t None list same fails.steps,
+            settled-text,
           )
+      fails-by e (bytes, inr (given, place, inl (some, is), steps)) = search (rules, apart-by, begun-text)
+      fails-by e (bytes, inr (given, place, inr (all, many, is), steps)) = search (rules, all-apart, begun-text, last-inside)

@@ -1,18 +1,18 @@
 -- A buffer over a stream: what a tape over it shows, and where an automaton stands in the stream by where it stands in it.
-use Rattle.std.proofs.Common.{◌≡◌, ℕ, ◌+◌, ◌-◌, ◌≤◌, Bool, false, List, ◌++◌, length, length-append, length-take, take, drop, refl, ap, sym, subst, ◌∙◌, arith, Option, Some, None}
-use Rattle.std.proofs.lemmas.List.{append_assoc, take-append-drop}
-use Rattle.ac_automaton.specs.Util.{Asked, asked, asked_whole, Built, has_empty, Input, MatchKind, No, Node, Occurrence, pick, reached, Search, Taped, text}
+use Rattle.std.proofs.Common.{◌≡◌, ℕ, ◌+◌, ◌-◌, ◌≤◌, Bool, false, List, ◌++◌, length, length-append, length-take, take, drop, refl, arith, Option, Some, None, rules}
+use Rattle.std.proofs.lemmas.List.{take-append-drop}
+use Rattle.std.proofs.lemmas.Grind.{common_steps}
+use Rattle.ac_automaton.specs.Util.{asked, asked_whole, Built, has_empty, Input, MatchKind, No, Node, Occurrence, pick, Search, Taped}
 use Rattle.ac_util.proofs.Longer.{text-extended}
 use Rattle.ac_util.proofs.Shortest.{none-empty}
 use Rattle.ac_util.proofs.Walks.{pick-Occurs}
-use Rattle.ac_automaton.specs.Prelude.{in_memory, IsAt, matches_of, node, node_at, NoMatchBetween, past, plain_of, Reaches, Scan, ScanText, search_of, stream_from}
+use Rattle.ac_automaton.specs.Prelude.{in_memory, IsAt, node, node_at, NoMatchBetween, past, Reaches, Scan, ScanText, search_of, stream_from}
 use Rattle.ac_automaton.proofs.ReadOn.{past-is}
 
 -- a tape that was opened over a buffer has its bytes
 pub tape-is : (buffer shown : List ℕ) (input : Input) (tape : Taped) → shown ≡ buffer → asked input ≡ asked_whole shown
     → tape ≡ record { bytes = input.haystack.now; place = 0 } → buffer ≡ tape.bytes
-tape-is buffer shown input tape shows whole opens =
-    sym (ap (λ (t : Taped). t.bytes) opens ∙ ap (λ (a : Asked). a.haystack) whole ∙ shows)
+tape-is buffer shown input tape shows whole opens = grind (arith, common_steps)
 
 module _ (stands : ℕ → Node → Type 0) (listed : ℕ → List ℕ) (built : Built) (most : ℕ) (filters : Bool) where
   -- the automaton without an anchor
@@ -52,11 +52,7 @@ module _ (stands : ℕ → Node → Type 0) (listed : ℕ → List ℕ) (built :
 
     -- it begins with the bytes read
     whole : take front bytes ++ buffer ≡ bytes ++ drop filled buffer
-    whole =
-        ap (λ (w : List ℕ). take front bytes ++ w)
-        (sym (take-append-drop filled buffer) ∙ ap (λ (w : List ℕ). w ++ drop filled buffer) holds)
-        ∙ sym (append_assoc (take front bytes) (drop front bytes) (drop filled buffer))
-        ∙ ap (λ (w : List ℕ). w ++ drop filled buffer) (take-append-drop front bytes)
+    whole = grind (arith, common_steps, take-append-drop filled buffer, take-append-drop front bytes)
 
     pub place-is : (k : ℕ) → past (take front bytes) k ≡ front + k
     place-is k = let p = past-is (take front bytes) k in let l = length-take front bytes in omega arith
@@ -65,53 +61,25 @@ module _ (stands : ℕ → Node → Type 0) (listed : ℕ → List ℕ) (built :
     same_node : (k : ℕ) → begun ≤ k → k ≤ front + filled
         → node_at built.kind (search_of built No (take front bytes ++ buffer) begun (length bytes)) k
         ≡ node_there bytes begun k
-    same_node k ordered within =
-        ap (λ (h : List ℕ). reached built.kind (plain_of built) No (text (search_of built No h begun k))) whole
-        ∙ ap (reached built.kind (plain_of built) No)
-        (text-extended (search_of built No bytes begun k) (drop filled buffer) ordered (omega arith))
+    same_node k ordered within = grind (arith, common_steps, text-extended, whole)
 
     pub node-in_buffer : (k : ℕ) → begun ≤ front + k → k ≤ filled
         → node scan buffer_text k ≡ node_there bytes begun (front + k)
-    node-in_buffer k ordered within =
-        ap (λ (i : ℕ). node_at built.kind
-        (search_of built No (take front bytes ++ buffer) begun (length bytes)) i) (place-is k)
-        ∙ same_node (front + k) ordered (omega arith)
+    node-in_buffer k ordered within = search (rules, place-is, same_node)
 
     -- and where it stands in the stream it stands in the buffer
     pub at-in_buffer : (state at : ℕ) → at ≤ filled → At bytes begun state (front + at) → IsAt scan buffer_text state at
-    at-in_buffer state at within r =
-        let p = place-is at in let o = r.onward in
-        let l = length-append (take front bytes) buffer in
-        let w = ap length whole in let d = length-append bytes (drop filled buffer) in
-        record {
-          there = subst (stands state) (sym (node-in_buffer at o within)) r.there;
-          onward = omega arith;
-          inside = omega arith;
-          alive = λ k from below dead. r.alive k from (omega arith)
-              (sym (same_node k from (omega arith)) ∙ dead);
-        }
+    at-in_buffer state at within r = search (rules, length-append, place-is, same_node, whole)
 
     pub at-in_stream : (state at : ℕ) → at ≤ filled → IsAt scan buffer_text state at → At bytes begun state (front + at)
-    at-in_stream state at within r =
-        let p = place-is at in let o = r.onward in let ordered : begun ≤ front + at = omega arith in
-        record {
-          there = subst (stands state) (node-in_buffer at ordered within) r.there;
-          onward = ordered;
-          inside = omega arith;
-          alive = λ k from below dead. r.alive k from (omega arith) (same_node k from (omega arith) ∙ dead);
-        }
+    at-in_stream state at within r = search (rules, node-in_buffer, place-is, same_node)
 
     -- what was passed over in the buffer was passed over in the stream
     pub none-in_stream : (at to : ℕ) → begun ≤ front + at → to ≤ filled → NoMatchBetween scan buffer_text at to
         → NoMatchBetween scan (in_memory bytes (record { start = begun; end = length bytes })) (front + at) (front + to)
-    none-in_stream at to ordered within none k after before =
-        let i : front + (k - front) ≡ k = omega arith in
-        ap (matches_of built No)
-        (ap (node_there bytes begun) (sym i) ∙ sym (node-in_buffer (k - front) (omega arith) (omega arith)))
-        ∙ none (k - front) (omega arith) (omega arith)
+    none-in_stream at to ordered within none k after before = grind (arith, common_steps, node-in_buffer (k - front) (omega arith) (omega arith))
 
 -- what was reached in some bytes is reached in more
 pub node-longer : (built : Built) (bytes more : List ℕ) (begun k : ℕ) → begun ≤ k → k ≤ length bytes
     → node_at built.kind (stream_from built (bytes ++ more) begun) k ≡ node_at built.kind (stream_from built bytes begun) k
-node-longer built bytes more begun k ordered within =
-    ap (reached built.kind (plain_of built) No) (text-extended (search_of built No bytes begun k) more ordered within)
+node-longer built bytes more begun k ordered within = grind (arith, common_steps)

@@ -1,19 +1,13 @@
 -- A walk that finds match after match: what it has read and counted.
-use Rattle.std.proofs.Common.{◌≡◌, ℕ, ◌+◌, ◌-◌, ◌*◌, ◌<◌, ◌≤◌, true, [], ◌∷◌, inl, inr, refl, ap, sym, ◌∙◌, arith, Option, Some, None, IfSome, MatchOption, ◌==◌, max, min}
-use Rattle.std.proofs.Math.Nat.{mul-sub}
+use Rattle.std.proofs.Common.{◌≡◌, ℕ, ◌+◌, ◌-◌, ◌<◌, ◌≤◌, true, [], ◌∷◌, inl, inr, refl, sym, arith, Option, Some, None, IfSome, MatchOption, ◌==◌, max, min, rules}
 use Rattle.std.proofs.lemmas.Bool.{and_parts, cases_Bool, eqb-true}
-use Rattle.std.proofs.lemmas.Nat.{mul-le}
 use Rattle.std.proofs.lemmas.Option.{IfSome_then}
-use Rattle.ac_automaton.specs.Util.{from, LeftmostFirst, LeftmostLongest, MatchKind, next_match, Occurrence, pick, repeats, Search, shortest_len, Standard, unless_repeated, walk_after}
+use Rattle.std.proofs.lemmas.Grind.{common_steps}
+use Rattle.ac_automaton.specs.Util.{from, LeftmostFirst, LeftmostLongest, MatchKind, next_match, Occurrence, pick, repeats, Search, shortest_len, Standard, walk_after}
 use Rattle.ac_util.proofs.OneLonger.{none-past_end}
 use Rattle.ac_util.proofs.Shortest.{shortest-least}
 use Rattle.ac_util.proofs.Walks.{pick-in_span, pick-Occurs, walk_after-None, walk_after-Some}
-use Rattle.ac_automaton.specs.Prelude.{after, Finds, GoesOn, HasFound, HasSearched, IsUnderWay, kept_place, last_after, most_looks, Picking, Walking, Work}
-
--- looks that are paid so far, and looks of a further find that are paid, are paid together
-paid_total : (most r n looks looks_then : ℕ) → r ≤ n → looks ≤ most * r → looks_then ≤ looks + most * (n - r)
-    → looks_then ≤ most * n
-paid_total most r n looks looks_then l a b = omega (arith, mul-sub most n r, mul-le most r most n (omega arith) l)
+use Rattle.ac_automaton.specs.Prelude.{after, Finds, GoesOn, HasFound, HasSearched, IsUnderWay, kept_place, last_after, Picking, Walking, Work}
 
 -- a find of a walk reads from no place past the one read up to, and under Standard from just there
 kept : (order : MatchKind) (place : ℕ)
@@ -37,16 +31,13 @@ pub repeated : {picking : Picking} {q : Search} {r : Option Occurrence} {work ne
 repeated {r = None} last found behind again = absurd (cc)
 repeated {r = Some m} None found behind again = absurd (cc)
 repeated {picking = picking} {q = q} {r = Some m} (Some e) found behind again =
-    let both = and_parts (m.start == m.end) (m.end == e) again in
-    let empty = eqb-true m.start m.end both.0 in let ends = eqb-true m.end e both.1 in
-    let o = pick-Occurs picking.order q m (sym found.answer) in
-    let least = shortest-least q.patterns m.pattern o.numbered in
-    record {
-      room = omega arith;
-      shortest = omega arith;
-      place = λ standard. omega (arith, (found.stops standard).place);
-      calls = λ standard. omega (arith, (found.stops standard).calls);
-    }
+    grind (
+      arith,
+      common_steps,
+      eqb-true m.end e (and_parts (m.start == m.end) (m.end == e) again).1,
+      pick-Occurs picking.order q m (sym found.answer),
+      shortest-least,
+    )
 
 -- a walk that goes on at a place, after a match that ended at `last`
 abbrev pub going_on : Walking → ℕ → Option ℕ → Work → Walking
@@ -80,44 +71,13 @@ record MayGoOn (walking : Walking) (work : Work) (stop : ℕ) (last : Option ℕ
 under_way-on : {walking : Walking} {work : Work} {r : Option Occurrence} {stop : ℕ} {last : Option ℕ}
     → IsUnderWay walking → HasFound walking walking.left r walking.work work → MayGoOn walking work stop last
     → IsUnderWay (going_on walking stop last work)
-under_way-on {walking = walking} {work = work} way found may =
-    let read = found.read in let k = kept walking.picking.order walking.work.place in
-    record {
-      paid = record {
-        looked = omega arith;
-        looks = paid_total (most_looks walking.left.anchored walking.picking.most) walking.work.counts.reads
-            work.counts.reads walking.work.counts.looks work.counts.looks (omega arith) (omega arith) (omega arith);
-        reads = λ standard. omega (arith, way.reads standard, k.1 standard);
-        calls = λ standard. omega (arith, way.called standard);
-        quiet = λ none. read.quiet none ∙ way.paid.quiet none;
-        told = may.told;
-      };
-      onward = omega arith;
-      legal = may.legal;
-      behind = may.behind;
-      unread = λ standard. omega (arith, way.unread standard, may.place standard);
-      within = omega arith;
-      reads = λ standard. omega (arith, way.reads standard, k.1 standard);
-      called = λ standard. omega (arith, way.called standard, may.calls standard);
-      covered = λ none some room.
-          omega (arith, way.covered (omega arith) some (omega arith), may.covered (omega arith) some room);
-    }
+under_way-on {walking = walking} {work = work} way found may = grind (arith, common_steps)
 
 -- it may go on one place further on, where the match before was found again
 under_way-further : {walking : Walking} {work : Work} {r : Option Occurrence} → IsUnderWay walking
     → HasFound walking walking.left r walking.work work → repeats r walking.last ≡ true
     → IsUnderWay (going_on walking (walking.left.low + 1) walking.last work)
-under_way-further {walking = walking} way found again =
-    let h = repeated walking.last found way.behind again in
-    under_way-on way found (record {
-      onward = omega arith;
-      legal = omega arith;
-      behind = IfSome_then walking.last way.behind (λ e b. omega arith);
-      place = λ standard. omega (arith, h.place standard);
-      calls = λ standard. omega (arith, h.calls standard);
-      covered = λ _ some _. absurd (omega arith);
-      told = λ _ some. absurd (omega arith);
-    })
+under_way-further {walking = walking} way found again = grind (arith, common_steps, repeated walking.last found way.behind again)
 
 -- and it may go on after what was found
 under_way-found : {walking : Walking} {work : Work} {r : Option Occurrence} → IsUnderWay walking
@@ -151,12 +111,7 @@ gives : (order : MatchKind) (q : Search) (last : Option ℕ) (r : Option Occurre
     → MatchOption r
     ((walk_after order q last ≡ []) × (walk_after order (from q (after q.high r)) (last_after last r) ≡ []))
     (λ m. walk_after order q last ≡ m ∷ walk_after order (from q (after q.high r)) (last_after last r))
-gives order q last None is = (
-  walk_after-None order q last (sym is),
-  walk_after-None order (from q (q.high + 1)) last
-      (ap (λ m. unless_repeated order (from q (q.high + 1)) m (repeats m last))
-      (none-past_end order (from q (q.high + 1)) (omega arith))),
-)
+gives order q last None is = search (rules, none-past_end, walk_after-None)
 gives order q last (Some m) is = walk_after-Some order q last m (sym is)
 
 -- a walk has gone on and is under way still

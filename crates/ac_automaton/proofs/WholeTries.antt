@@ -1,11 +1,10 @@
 -- From the first states to a whole trie.
-use Rattle.std.proofs.Common.{◌≡◌, ℕ, zero, suc, ◌+◌, ◌<◌, ◌≤◌, Bool, true, false, get_or, List, [], ◌∷◌, ◌++◌, map, length, take, inl, inr, refl, ap, sym, ◌∙◌, subst, arith, Some, None, slice_get}
-use Rattle.std.proofs.lemmas.Bool.{cases_lt}
-use Rattle.std.proofs.lemmas.Bool.Decides.{nat_tests}
+use Rattle.std.proofs.Common.{◌≡◌, ℕ, zero, suc, ◌+◌, ◌≤◌, Bool, List, [], ◌∷◌, ◌++◌, map, length, take, inr, refl, ap, sym, ◌∙◌, subst, arith, Some, None, slice_get, rules}
 use Rattle.std.proofs.lemmas.List.{get_or_past, length-map, length_push}
 use Rattle.std.proofs.lemmas.Option.{slice_get_within}
+use Rattle.std.proofs.lemmas.Grind.{common_steps}
 use Rattle.ac_automaton.specs.Util.{MatchKind, Node, pattern_of, plain, plain_byte}
-use Rattle.ac_automaton.specs.Prelude.{ANCHORED_START, AreStates, byte_at, dead_state, FIRST_INNER, first_states, grown_meaning, Growth, HasRoot, HasBranched, IsGrown, IsOrder, IsTrie, key_at, Keyed, Meaning, nodes_of, numbers, NumbersNodes, QueuedState, Represents, Sorted, START, State, state_at, too_many_states, Transition, trie_of, Waits, word}
+use Rattle.ac_automaton.specs.Prelude.{ANCHORED_START, AreStates, byte_at, FIRST_INNER, first_states, grown_meaning, Growth, HasRoot, HasBranched, IsGrown, IsOrder, IsTrie, key_at, Keyed, Meaning, nodes_of, numbers, NumbersNodes, QueuedState, Represents, Sorted, START, State, too_many_states, Transition, trie_of, Waits, word}
 use Rattle.ac_automaton.specs.Growths.{IsQueueReady}
 use Rattle.ac_automaton.proofs.Grown.{AreStates-push, IsGrown-later, nodes-inner}
 use Rattle.ac_automaton.proofs.ListsOf.{listed_within-matches}
@@ -14,42 +13,13 @@ use Rattle.ac_automaton.proofs.StateCount.{numbers-nodes, too_many_states-none}
 -- the state of the unanchored start is that of the anchored start too
 pub Represents-beside : (g : Meaning) (v : Node) (t : State) → Represents g START v t
     → Represents g ANCHORED_START v t
-Represents-beside g v t r = record {
-  ordered = r.ordered;
-  listed = r.listed;
-  ascending = r.ascending;
-  branches = r.branches;
-  leads = r.leads;
-  small = r.small;
-  fails = r.fails;
-  unanchored = r.unanchored;
-  back = λ l. absurd (omega arith);
-  patterns_ordered = r.patterns_ordered;
-  within = r.within;
-  patterns = r.patterns;
-  links = record {
-    linked = r.links.linked;
-    leads = r.links.leads;
-    back = omega (arith, r.links.back);
-    finds = r.links.finds;
-    useful = r.links.useful;
-  };
-  long = r.long;
-  outer = λ l. r.outer (omega arith);
-  inner = λ l. absurd (omega arith);
-}
-
--- a plain byte stays as it is
-plain-twice : (fold : Bool) (b : ℕ) → plain_byte fold (plain_byte fold b) ≡ plain_byte fold b
-plain-twice false b = refl
-plain-twice true b = grind (arith, nat_tests)
+Represents-beside g v t r = grind (arith, common_steps)
 
 -- so does each byte of a plain string
 plain-byte : (fold : Bool) (text : List ℕ) (k b : ℕ) → slice_get (plain fold text) k ≡ Some b
     → plain_byte fold b ≡ b
 plain-byte fold [] k b e = absurd (cc)
-plain-byte fold (x ∷ text) zero b e =
-    let is : plain_byte fold x ≡ b = cc in ap (plain_byte fold) (sym is) ∙ plain-twice fold x ∙ is
+plain-byte fold (x ∷ text) zero b e = grind (arith, common_steps)
 plain-byte fold (x ∷ text) (suc k) b e = plain-byte fold text k b e
 
 -- and of a plain pattern
@@ -64,84 +34,15 @@ plain-pattern fold (t ∷ texts) (suc n) k b e = plain-pattern fold texts n k b 
 pub sorted-plain : (kind : MatchKind) (fold : Bool) (texts : List (List ℕ)) (sorted : List Keyed)
     → IsOrder kind (map (plain fold) texts) sorted
     → (place depth b : ℕ) → byte_at sorted depth place ≡ Some b → plain_byte fold b ≡ b
-sorted-plain kind fold texts sorted order place depth b e =
-    let none : Keyed = record { key = []; number = 0 } in
-    elim (cases_lt place (length sorted)) [
-      | inl l ↦
-          let is = order.named place none l in
-          plain-pattern fold texts (get_or sorted place none).number depth b
-          (sym (ap (λ (w : List ℕ). slice_get w depth) is) ∙ e)
-      | inr past ↦
-          let is = get_or_past sorted place none past in
-          absurd (let f : None ≡ Some b = sym (ap (λ (m : Keyed). slice_get m.key depth) is) ∙ e in cc)
-    ]
+sorted-plain kind fold texts sorted order place depth b e = search (rules, get_or_past, plain-pattern)
 
 module _ (kind : MatchKind) (fold : Bool) (patterns : List (List ℕ)) (sorted : List Keyed) where
-  -- the dead state stands for the dead node
-  dead-represents : (s : ℕ) → s < START
-      → Represents (grown_meaning kind fold patterns sorted [] []) s None dead_state
-  dead-represents s l = record {
-    ordered = omega arith;
-    listed = omega arith;
-    ascending = λ k h. absurd (omega arith);
-    branches = λ b. ((λ has. absurd (omega (arith, has.1))), (λ some. absurd (some refl)));
-    leads = λ k t e. absurd (cc);
-    small = λ k t e. absurd (cc);
-    fails = refl;
-    unanchored = λ e. absurd (omega arith);
-    back = λ h. absurd (omega arith);
-    patterns_ordered = omega arith;
-    within = omega arith;
-    patterns = refl;
-    links = record {
-      linked = None;
-      leads = refl;
-      back = omega arith;
-      finds = refl;
-      useful = λ apart. absurd (apart refl);
-    };
-    long = refl;
-    outer = λ h. refl;
-    inner = λ h. absurd (omega arith);
-  }
-
-  -- so the first two states are whole
-  first-states : AreStates (grown_meaning kind fold patterns sorted [] []) first_states
-  first-states = record {
-    dead = refl;
-    named = omega arith;
-    each = λ s v l e. each s v l e;
-  }
-    where
-      each : (s : ℕ) (v : Node) → s < START → slice_get (nodes_of sorted []) s ≡ Some v
-          → Represents (grown_meaning kind fold patterns sorted [] []) s v (state_at first_states s)
-      each zero v l e =
-          subst (λ (w : Node). Represents (grown_meaning kind fold patterns sorted [] []) 0 w dead_state)
-          (let same : None ≡ v = cc in same) (dead-represents 0 l)
-      each (suc zero) v l e =
-          subst (λ (w : Node). Represents (grown_meaning kind fold patterns sorted [] []) 1 w dead_state)
-          (let same : None ≡ v = cc in same) (dead-represents 1 l)
-      each (suc (suc s)) v l e = absurd (omega arith)
-
   -- the start is next
   pub start-ready : (p : QueuedState) → IsOrder kind patterns sorted
       → ((place depth b : ℕ) → byte_at sorted depth place ≡ Some b → plain_byte fold b ≡ b)
       → Waits kind patterns sorted [] START p → p.depth ≡ 0
       → IsQueueReady kind fold patterns sorted first_states [] [] p
-  start-ready p order settled waits depth = record {
-    order = order;
-    settled = settled;
-    grown = record {
-      few = omega arith;
-      counted = omega arith;
-      waits = λ k q e. absurd (cc);
-      apart = λ j k q r e f w. absurd (cc);
-      parents = λ k q e. absurd (cc);
-    };
-    meant = first-states;
-    waits = waits;
-    next = inl (record { number = refl; empty = refl; depth = depth });
-  }
+  start-ready p order settled waits depth = grind (arith, common_steps)
 
   -- the states up to those of the queue before `at` are whole
   pub record IsGoing (states : List State) (transitions : List Transition) (queue : List QueuedState)
@@ -243,9 +144,7 @@ IsGoingFrom kind sorted states transitions queue at =
 pub begun-order : {Z : Type 0} (fold : Bool) (texts : List (List ℕ)) (growth : Growth Z)
     → HasRoot fold texts growth
     → IsOrder growth.kind (map (plain growth.sorted.fold) texts) growth.sorted.patterns
-begun-order fold texts growth begun =
-    subst (λ (f : Bool). IsOrder growth.kind (map (plain f) texts) growth.sorted.patterns)
-    (sym begun.sorts.fold_is) begun.sorts.order
+begun-order fold texts growth begun = grind (arith, common_steps)
 
 -- where the whole queue is, the states are those of an automaton
 module _ (texts : List (List ℕ)) {fold : Bool} {kind : MatchKind} {sorted : List Keyed}
@@ -258,9 +157,7 @@ module _ (texts : List (List ℕ)) {fold : Bool} {kind : MatchKind} {sorted : Li
 
   -- so their numbers are those of the nodes
   numbered : NumbersNodes kind (map (plain fold) texts) (nodes_of sorted queue)
-  numbered =
-      numbers-nodes kind (map (plain fold) texts) sorted h.order (length states) transitions queue h.grown
-      fold h.settled states h.meant counted
+  numbered = search (rules, counted, numbers-nodes)
 
   -- the states are those of an automaton
   pub whole-trie : (filters : Bool) → IsTrie (trie_of (record {

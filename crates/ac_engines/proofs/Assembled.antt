@@ -1,7 +1,8 @@
 -- A DFA whose rows are laid out and filled.
-use Rattle.std.proofs.Common.{◌≡◌, ◌≢◌, ◌⊎◌, inl, inr, ℕ, zero, suc, ◌+◌, ◌-◌, ◌*◌, ◌^◌, ◌<◌, ◌≤◌, Bool, true, false, List, [], ◌∷◌, length, slice_index_or, refl, ap, sym, ◌∙◌, arith, Some, None}
+use Rattle.std.proofs.Common.{◌≡◌, ◌≢◌, ◌⊎◌, inl, inr, ℕ, zero, suc, ◌+◌, ◌-◌, ◌*◌, ◌^◌, ◌<◌, ◌≤◌, Bool, true, false, List, [], ◌∷◌, length, slice_index_or, refl, ap, ◌∙◌, arith, Some, None, rules}
 use Rattle.std.proofs.lemmas.Option.{slice_get_within}
-use Rattle.std.proofs.lemmas.Bool.{cases_lt, le-ltb}
+use Rattle.std.proofs.lemmas.Bool.{cases_lt}
+use Rattle.std.proofs.lemmas.Grind.{common_steps}
 use Rattle.ac_automaton.specs.Util.{alphabet_len, AreClasses, Built, class_at, GREATEST, IsNode, Node, SetsApart, start_refusal, StartKind, state_count, stride, stride2}
 use Rattle.ac_util.specs.declared.search.Anchored.{Anchored}
 use Rattle.ac_util.proofs.ClassLists.{class_at-below, classes_of-AreClasses, classes_of-set_apart, singletons-AreClasses, singletons-set_apart}
@@ -12,7 +13,6 @@ use Rattle.ac_engines.specs.Prelude.{anchored_shift, classes_by, DfaView, Filled
 use Rattle.ac_engines.proofs.Numbered.{after-starts, place-row, place-start}
 use Rattle.ac_engines.proofs.Owning.{row-room}
 use Rattle.ac_engines.proofs.RowLists.{anchored_shift-rows}
-use Rattle.ac_engines.proofs.StateRows.{rows-apart}
 
 -- the classes by which a DFA steps are those of all bytes
 classes_by-AreClasses : (byte_classes fold : Bool) (patterns : List (List ℕ))
@@ -29,14 +29,7 @@ classes_by-set_apart false fold patterns = singletons-set_apart fold patterns
 -- where the last row begins at a number that a state may have, there are few entries
 few-entries : (rows width : ℕ) → 1 ≤ rows → (rows - 1) * width ≤ GREATEST → rows * width ≤ GREATEST + width
 few-entries zero width some last = absurd (omega arith)
-few-entries (suc rows) width some last =
-    let e : suc rows - 1 ≡ rows = omega arith in let h = rw e at last in omega arith
-
--- and the table is not refused
-no-refusal : (start_kind : StartKind) (classes : List ℕ) (states : ℕ)
-    → (table_rows start_kind states - 1) * stride classes ≤ GREATEST → rows_refusal start_kind classes states ≡ None
-no-refusal start_kind classes states last =
-    rw (le-ltb GREATEST ((table_rows start_kind states - 1) * stride classes) last) refl
+few-entries (suc rows) width some last = grind (arith, common_steps)
 
 -- the classes of a DFA have room in its rows, and set each byte of a pattern apart
 pub record HasClasses (built : Built) (classes : List ℕ) (exponent : ℕ) : Type 0 where
@@ -48,13 +41,7 @@ pub record HasClasses (built : Built) (classes : List ℕ) (exponent : ℕ) : Ty
 has-classes : (built : Built) (byte_classes : Bool) (classes : List ℕ) (exponent : ℕ)
     → classes ≡ classes_by byte_classes built.fold built.patterns → exponent ≡ stride2 classes
     → HasClasses built classes exponent
-has-classes built byte_classes classes exponent e f =
-    let are = classes_by-AreClasses byte_classes built.fold built.patterns in
-    rw (f, e) (record {
-      are = are;
-      apart = classes_by-set_apart byte_classes built.fold built.patterns;
-      room = stride-enough (classes_by byte_classes built.fold built.patterns) are;
-    })
+has-classes built byte_classes classes exponent e f = grind (arith, common_steps, classes_by-AreClasses, classes_by-set_apart, stride-enough)
 
 -- what a build knows before it lays out rows: the classes, how long a row is, and how many entries there are
 pub record IsPlanned (trie : Trie) (start_kind : StartKind) (classes : List ℕ) (exponent width len : ℕ) : Type 0 where
@@ -72,15 +59,7 @@ pub planned : (trie : Trie) (start_kind : StartKind) (byte_classes : Bool) (clas
     → rows ≡ table_rows start_kind states → 1 ≤ rows → len ≡ rows * 2 ^ exponent
     → (rows - 1) * 2 ^ exponent ≤ GREATEST → IsPlanned trie start_kind classes exponent width len
 planned trie start_kind byte_classes classes exponent width states rows len class two wide count height some long last =
-    let whole = height ∙ ap (table_rows start_kind) count in
-    let small = few-entries rows (2 ^ exponent) some last in
-    record {
-      has = has-classes trie.built byte_classes classes exponent class two;
-      width_is = wide ∙ ap (λ k. 2 ^ k) (sym two);
-      len_is = long ∙ ap (λ n. n * 2 ^ exponent) whole;
-      few = rw whole at small;
-      allowed = no-refusal start_kind classes (state_count trie.built.kind (plain_of trie.built)) (rw (whole, two) at last);
-    }
+    grind (arith, common_steps, has-classes trie.built byte_classes classes exponent class two, few-entries)
 
 module _ (trie : Trie) (start_kind : StartKind) (classes : List ℕ) (exponent : ℕ) (numbers : List ℕ)
     (nodes : List Node) (size : ℕ) where
@@ -124,43 +103,26 @@ module _ (trie : Trie) (start_kind : StartKind) (classes : List ℕ) (exponent :
     -- its first row stands after whole rows
     first-row : (s : ℕ) (w : List ℕ) → HasRow filling nodes size s w
         → (row : ℕ) × (slice_index_or numbers s 0 ≡ row * 2 ^ exponent)
-    first-row s w h = elim h.place [
-      | inl start ↦ (2, ap (λ k. slice_index_or numbers k 0) start ∙ may.laid.start)
-      | inr inner ↦
-          let within = slice_get_within nodes s (Some w) h.named in
-          let count = may.laid.count in
-          may.laid.rows s inner (omega arith)
-    ]
+    first-row s w h = search (rules, slice_get_within)
 
     -- the rows of an earlier state and of a later one stand apart
     ordered-apart : (s t : ℕ) (v w : List ℕ) → HasRow filling nodes size s v → HasRow filling nodes size t w → s < t
         → (first_row_in nodes numbers v + width (sheet_of filling nodes) ≤ first_row_in nodes numbers w)
         ⊎ (first_row_in nodes numbers w + width (sheet_of filling nodes) ≤ first_row_in nodes numbers v)
     ordered-apart s t v w first later order =
-        let within = slice_get_within nodes t (Some w) later.named in
-        let count = may.laid.count in
-        let inner : 4 ≤ t = elim later.place [
-          | inl start ↦ elim first.place [ inl other ↦ absurd (omega arith) | inr other ↦ absurd (omega arith) ]
-          | inr inner ↦ inner
-        ] in
-        rw (place-row filling nodes size s v first, place-row filling nodes size t w later)
-        (rows-apart filling nodes size may s t first.place inner order (omega arith))
+        grind (
+          arith,
+          common_steps,
+          slice_get_within nodes t (Some w) later.named,
+          place-row filling nodes size s v first,
+          place-row filling nodes size t w later,
+        )
 
     -- so do those of any two strings
     strings-apart : (s t : ℕ) (v w : List ℕ) → HasRow filling nodes size s v → HasRow filling nodes size t w → v ≢ w
         → (first_row_in nodes numbers v + width (sheet_of filling nodes) ≤ first_row_in nodes numbers w)
         ⊎ (first_row_in nodes numbers w + width (sheet_of filling nodes) ≤ first_row_in nodes numbers v)
-    strings-apart s t v w one two other = elim (cases_lt s t) [
-      | inl before ↦ ordered-apart s t v w one two before
-      | inr later ↦ elim (cases_lt t s) [
-        | inl after ↦ elim (ordered-apart t s w v two one after) [ inl x ↦ inr x | inr x ↦ inl x ]
-        | inr same ↦
-            let one_state : s ≡ t = omega arith in
-            let named = rw one_state at one.named in
-            let also = two.named in
-            absurd (other cc)
-      ]
-    ]
+    strings-apart s t v w one two other = search (rules, cases_lt, ordered-apart)
 
     module _ (entries : List ℕ) (lists : List (List ℕ)) (first end : ℕ)
         (filled : FilledUpTo filling nodes size (length nodes) entries)

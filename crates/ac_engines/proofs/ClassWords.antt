@@ -2,7 +2,7 @@
 use Rattle.std.proofs.Common.{refl, ◌≡◌, ◌≢◌, ℕ, zero, suc, ◌+◌, ◌*◌, ◌/◌, ◌<◌, ◌≤◌, Bool, true, false, cond, List, [], ◌∷◌, length, map, drop, ap, sym, subst, ◌∙◌, arith, All, slice_index_or, ◌==◌}
 use Rattle.std.proofs.Math.Seq.{drop-cons, drop-nil}
 use Rattle.std.proofs.lemmas.List.{drop_all, drop-drop, drop-map, get_or-drop, get_or-map, length-drop, length-map}
-use Rattle.std.proofs.lemmas.List.Elements.{All-drop}
+use Rattle.std.proofs.lemmas.Grind.{common_steps}
 use Rattle.ac_engines.specs.Prelude.{AreNamed, class_words, Edge, FAIL, first_of, target_by, word_of}
 
 -- the classes and the targets of transitions
@@ -20,18 +20,10 @@ pub record Picks (targets : List ℕ) (place target missing : ℕ) : Type 0 wher
 
 hit : (targets : List ℕ) (place missing : ℕ) → place < 4 → place < length targets
     → Picks targets place (slice_index_or targets place 0) missing
-hit targets place missing low within = record {
-  within = λ small. within;
-  found = λ small. refl;
-  missed = λ not. omega (arith, not, low);
-}
+hit targets place missing low within = grind (arith, common_steps)
 
 miss : (targets : List ℕ) (missing : ℕ) → Picks targets 4 missing missing
-miss targets missing = record {
-  within = λ small. omega (arith, small);
-  found = λ small. omega (arith, small);
-  missed = λ not. refl;
-}
+miss targets missing = grind (arith, common_steps)
 
 -- the first of four tests that holds, or 4
 abbrev pub first_true : Bool → Bool → Bool → Bool → ℕ
@@ -167,9 +159,7 @@ module _ (class : ℕ) where
       → index < length (class_words (edge_classes es))
       → ReadsWord (drop (4 * index) es) (slice_index_or (class_words (edge_classes es)) index 0)
       (drop (suc index) (class_words (edge_classes es)))
-  tells-at es index small within =
-      tells (drop (4 * index) es) _ _ (All-drop (λ e. e.class < 256) (4 * index) es small)
-      (sym (drop-class_words es index) ∙ drop-cons (class_words (edge_classes es)) index 0 within)
+  tells-at es index small within = grind (arith, common_steps, drop-class_words, drop-cons, tells)
 
 -- the targets of transitions that lead to states are none that no state has
 pub target-named : (es : List Edge) (at : ℕ) → AreNamed es → at < length (targets_of es)

@@ -1,11 +1,10 @@
 -- What packed states list is what their words spell.
-use Rattle.std.proofs.Common.{◌≡◌, ◌≢◌, ℕ, ◌+◌, ◌-◌, ◌/◌, ◌%◌, ◌<◌, ◌≤◌, Bool, true, false, List, [], ◌∷◌, ◌++◌, length, take, drop, refl, ap, sym, ◌∙◌, arith, ◌==◌, ◌&&◌, nat_lt, slice_index_or}
+use Rattle.std.proofs.Common.{◌≡◌, ◌≢◌, ℕ, ◌+◌, ◌/◌, ◌%◌, ◌<◌, ◌≤◌, Bool, true, false, List, [], ◌∷◌, ◌++◌, length, drop, refl, ap, ◌∙◌, arith, ◌==◌, slice_index_or, rules}
 use Rattle.std.specs.Int.{div_ceil}
-use Rattle.std.proofs.lemmas.Bool.{and_from, cond-false, cond-true, eqb-false, eqb-true, le-ltb, lt-ltb}
+use Rattle.std.proofs.lemmas.Bool.{cond-false, cond-true, eqb-false, eqb-true}
 use Rattle.std.proofs.lemmas.Grind.{div_ceil_times}
-use Rattle.std.proofs.lemmas.List.{drop-drop, get_or-drop, length-drop, take_all}
-use Rattle.std.proofs.Math.Bool.{and-false}
-use Rattle.std.proofs.Math.Seq.{take-append_seam}
+use Rattle.std.proofs.lemmas.List.{get_or-drop}
+use Rattle.std.proofs.lemmas.Grind.{common_steps}
 use Rattle.ac_util.specs.Classes.{alphabet_len}
 use Rattle.ac_engines.specs.Prelude.{BeginsWith, ContiguousView, DENSE, Format, match_list_at, match_spelling, matches_in, ONE_MATCH, Spelling, words_before_matches}
 use Rattle.ac_engines.proofs.Spellings.{ListsFrom, dense-lists, form, sparse-lists}
@@ -14,24 +13,15 @@ use Rattle.ac_engines.proofs.Spellings.{ListsFrom, dense-lists, form, sparse-lis
 matches-read : (matches rest : List ℕ) → matches ≢ [] → length matches < ONE_MATCH
     → matches_in (match_spelling matches ++ rest) ≡ matches
 matches-read [] rest some few = absurd (some refl)
-matches-read (n ∷ []) rest some few =
-    cond-false (nat_lt (ONE_MATCH + n) ONE_MATCH) (take (ONE_MATCH + n) rest) ((ONE_MATCH + n - ONE_MATCH) ∷ [])
-    (le-ltb (ONE_MATCH + n) ONE_MATCH (omega arith))
-    ∙ ap (λ (k : ℕ). k ∷ []) (omega arith)
-matches-read (n ∷ m ∷ ns) rest some few =
-    cond-true (nat_lt (length (n ∷ m ∷ ns)) ONE_MATCH) (take (length (n ∷ m ∷ ns)) (n ∷ m ∷ ns ++ rest))
-    ((length (n ∷ m ∷ ns) - ONE_MATCH) ∷ [])
-    (lt-ltb (length (n ∷ m ∷ ns)) ONE_MATCH few)
-    ∙ take-append_seam (n ∷ m ∷ ns) rest
+matches-read (n ∷ []) rest some few = grind (arith, common_steps)
+matches-read (n ∷ m ∷ ns) rest some few = grind (arith, common_steps)
 
 module _ (words : List ℕ) (classes : ℕ) (s : Spelling) (format : Format) (h : BeginsWith words format classes s)
     (some : s.matches ≢ []) where
   -- what stands from a place on, where the matches do
   from-place : (place : ℕ) (rest : List ℕ) → ListsFrom words classes s place rest
       → drop place words ≡ match_spelling s.matches ++ rest
-  from-place place rest at =
-      sym (take_all (length words - place) (drop place words) (let long = length-drop place words in omega arith))
-      ∙ at.lists
+  from-place place rest at = grind (arith, common_steps)
 
   counts : (low : ℕ) → (low + 3) / 4 ≡ div_ceil low 4
   counts low = let times = div_ceil_times low 4 (omega arith) in omega (arith, times.0, times.1)
@@ -62,23 +52,13 @@ module _ (p : ContiguousView) (at : ℕ) (format : Format) (s : Spelling)
     (h : BeginsWith (drop at p.words) format (alphabet_len p.classes) s) where
   -- the form of the state that begins there
   form-there : form (drop at p.words) (alphabet_len p.classes) s ≡ slice_index_or p.words at 0 % 256
-  form-there =
-      ap (λ (n : ℕ). n % 256) (get_or-drop at p.words 0 0 ∙ ap (λ (k : ℕ). slice_index_or p.words k 0) (omega arith))
+  form-there = search (rules, get_or-drop)
 
   -- a state lists what its words spell, if its number is that of a match state
   pub listed-spelled : 0 < at → at < p.match_end → s.matches ≢ [] → match_list_at p at ≡ s.matches
   listed-spelled after before some =
-      let skipped = words_before_matches (slice_index_or p.words at 0 % 256) (alphabet_len p.classes) in
-      cond-true (nat_lt 0 at && nat_lt at p.match_end) (matches_in (drop (at + skipped) p.words)) []
-      (and_from (nat_lt 0 at) (nat_lt at p.match_end) (lt-ltb 0 at after) (lt-ltb at p.match_end before))
-      ∙ ap matches_in
-      (sym (drop-drop skipped at p.words)
-      ∙ ap (λ (n : ℕ). drop (words_before_matches n (alphabet_len p.classes)) (drop at p.words)) (sym form-there))
-      ∙ spelled-listed (drop at p.words) (alphabet_len p.classes) s format h some
+      grind (arith, common_steps, form-there, spelled-listed (drop at p.words) (alphabet_len p.classes) s format h some)
 
 -- and else nothing
 pub listed-none : (p : ContiguousView) (at : ℕ) → p.match_end ≤ at → match_list_at p at ≡ []
-listed-none p at past =
-    let skipped = words_before_matches (slice_index_or p.words at 0 % 256) (alphabet_len p.classes) in
-    cond-false (nat_lt 0 at && nat_lt at p.match_end) (matches_in (drop (at + skipped) p.words)) []
-    (ap (λ (t : Bool). nat_lt 0 at && t) (le-ltb at p.match_end past) ∙ and-false (nat_lt 0 at))
+listed-none p at past = grind (arith, common_steps)

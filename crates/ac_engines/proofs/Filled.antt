@@ -1,7 +1,8 @@
 -- The row of a node once its own transitions are set.
-use Rattle.std.proofs.Common.{◌≡◌, ◌≢◌, ◌⊎◌, inl, inr, ℕ, ◌+◌, ◌<◌, ◌≤◌, Bool, true, false, List, [], ◌∷◌, slice_index_or, refl, ap, sym, ◌∙◌, arith, Some, Contains}
+use Rattle.std.proofs.Common.{◌≡◌, ◌≢◌, ◌⊎◌, ℕ, ◌+◌, ◌<◌, ◌≤◌, Bool, true, false, List, [], ◌∷◌, slice_index_or, refl, ap, sym, ◌∙◌, arith, Some, Contains, rules}
 use Rattle.std.specs.List.{range_with_len}
 use Rattle.std.proofs.lemmas.Bool.{false≢true}
+use Rattle.std.proofs.lemmas.Grind.{common_steps}
 use Rattle.ac_util.specs.declared.search.Anchored.{Anchored}
 use Rattle.ac_automaton.specs.Util.{Built, class_at, failure, No, Node, plain_byte, Yes}
 use Rattle.ac_util.proofs.Failures.{step-own, step-failure}
@@ -28,32 +29,17 @@ own_bytes-small built u b has =
     (IsIn-from_filter (leads_on built u) b (range_with_len 0 256) (IsIn-from_Contains b (own_bytes built u) has)).0).1
 
 module _ (p : Sheet) where
-  -- the entries of a row are none of a part of the table that stands apart from it
-  outside-row : (row first width k : ℕ) → (row + p.stride ≤ first) ⊎ (first + width ≤ row) → k < p.stride
-      → (row + k < first) ⊎ (first + width ≤ row + k)
-  outside-row row first width k (inl before) inside = inl (omega arith)
-  outside-row row first width k (inr after) inside = inr (omega arith)
-
   -- what was filled stays so while entries elsewhere are set
   pub filled-beside : (narrow : (b : ℕ) → b < 256 → class_at p.classes b < p.stride) (anchored : Anchored) (u : Node)
       (first width : ℕ) (old new : List ℕ)
       → (row_at p anchored u + p.stride ≤ first) ⊎ (first + width ≤ row_at p anchored u)
       → SameBeside p first width old new → IsFilled p anchored u old → IsFilled p anchored u new
-  filled-beside narrow anchored u first width old new apart same filled = record {
-    steps = λ b byte.
-        same (row_at p anchored u + class_at p.classes b)
-        (outside-row (row_at p anchored u) first width (class_at p.classes b) apart (narrow b byte))
-        ∙ filled.steps b byte;
-    past = λ k from to.
-        same (row_at p anchored u + k) (outside-row (row_at p anchored u) first width k apart to)
-        ∙ filled.past k from to;
-  }
+  filled-beside narrow anchored u first width old new apart same filled = grind (arith, common_steps)
 
   -- entries past the classes stay dead while own transitions are set
   pub past-set : (anchored : Anchored) (w bytes old new : List ℕ) → HasSet p anchored w bytes old new
       → EndsDead p anchored (Some w) old → EndsDead p anchored (Some w) new
-  past-set anchored w bytes old new set past = λ k from to.
-      set.beside (row_at p anchored (Some w) + k) (inr (omega arith)) ∙ past k from to
+  past-set anchored w bytes old new set past = grind (arith, common_steps)
 
   -- in an anchored row a byte that doesn't lead on leads to the dead state
   pub filled-anchored : (narrow : (b : ℕ) → b < 256 → class_at p.classes b < p.stride) (w : List ℕ) (old new : List ℕ)
@@ -101,5 +87,4 @@ module _ (p : Sheet) where
       → EndsDead p No (Some w) copied
       → HasSet p No w (own_bytes p.built (Some w)) copied new → IsFilled p No (Some w) new
   filled-longer [] old copied new some target copies past set = absurd (some refl)
-  filled-longer (x ∷ w) old copied new some target copies past set =
-      filled-inner x w old copied new target copies past set
+  filled-longer (x ∷ w) old copied new some target copies past set = search (rules, filled-inner)

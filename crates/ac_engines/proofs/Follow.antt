@@ -1,10 +1,11 @@
 -- A walk along the failure targets of a contiguous NFA: it keeps where the byte leads at last, and counts its looks.
-use Rattle.std.proofs.Common.{◌≡◌, ◌≢◌, ℕ, ◌+◌, ◌<◌, ◌≤◌, List, drop, length, refl, ap, subst, sym, ◌∙◌, arith, Some, None}
-use Rattle.ac_automaton.specs.Util.{alphabet_len, Counts, depth, GREATEST, IsNode, more_looks, No, Node, plain_byte, Yes}
+use Rattle.std.proofs.Common.{◌≡◌, ◌≢◌, ℕ, ◌+◌, ◌<◌, ◌≤◌, List, drop, length, refl, arith, Some, None, rules}
+use Rattle.std.proofs.lemmas.Grind.{common_steps}
+use Rattle.ac_automaton.specs.Util.{alphabet_len, Counts, depth, GREATEST, IsNode, more_looks, No, Node, Yes}
 use Rattle.ac_util.specs.declared.search.Anchored.{Anchored}
-use Rattle.ac_automaton.specs.Prelude.{looks_of, miss, plain_of, step_of}
+use Rattle.ac_automaton.specs.Prelude.{looks_of, plain_of, step_of}
 use Rattle.ac_automaton.proofs.Follows.{more_looks-none, more_looks-twice}
-use Rattle.ac_engines.specs.Prelude.{BeginsWith, ContiguousView, FAIL, IsContiguousState, node_format, number_at, spelling_at}
+use Rattle.ac_engines.specs.Prelude.{BeginsWith, ContiguousView, FAIL, IsContiguousState, node_format, spelling_at}
 use Rattle.ac_engines.proofs.NodeLengths.{node-length}
 use Rattle.ac_engines.proofs.Numbers.{step-node}
 use Rattle.ac_engines.proofs.PackedSteps.{reads, target_of}
@@ -14,34 +15,22 @@ step-to-node : (p : ContiguousView) (anchored : Anchored) (u : Node) (b : ℕ)
     → IsNode p.built.kind (plain_of p.built) (step_of p.built anchored u b)
 step-to-node p No None b = tt
 step-to-node p Yes None b = tt
-step-to-node p anchored (Some w) b =
-    step-node p.built.kind (plain_of p.built) anchored w (plain_byte p.built.fold b)
-
--- the state of a number's node stands there
-stands-begin : (p : ContiguousView) (anchored : Anchored) (s : ℕ) (u : Node) (h : IsContiguousState p anchored s u)
-    → BeginsWith (drop s p.words) (node_format p.built p.dense_depth u) (alphabet_len p.classes) (spelling_at p h.at anchored u)
-stands-begin p anchored s u h =
-    subst (λ (n : ℕ). BeginsWith (drop n p.words) (node_format p.built p.dense_depth u) (alphabet_len p.classes) (spelling_at p h.at anchored u))
-    (sym h.number) (h.is_contiguous.states anchored u h.node)
+step-to-node p anchored (Some w) b = search (rules, step-node)
 
 -- and so do the words that were read there
 pub begins-at : (p : ContiguousView) (anchored : Anchored) (s : ℕ) (u : Node) (h : IsContiguousState p anchored s u)
     (words there : List ℕ) → p.words ≡ words → there ≡ drop s words
     → BeginsWith there (node_format p.built p.dense_depth u) (alphabet_len p.classes) (spelling_at p h.at anchored u)
-begins-at p anchored s u h words there same is =
-    subst (λ (ws : List ℕ). BeginsWith ws (node_format p.built p.dense_depth u) (alphabet_len p.classes) (spelling_at p h.at anchored u))
-    (ap (drop s) same ∙ sym is) (stands-begin p anchored s u h)
+begins-at p anchored s u h words there same is = search rules
 
 -- its number is in the words, and small
 pub stands-within : (p : ContiguousView) (anchored : Anchored) (s : ℕ) (u : Node) → IsContiguousState p anchored s u → s ≤ length p.words
 stands-within p No s None h = let number = h.number in omega arith
 stands-within p Yes s None h = let number = h.number in omega arith
-stands-within p anchored s (Some w) h =
-    let number = h.number in let within = h.is_contiguous.within anchored w h.node in omega arith
+stands-within p anchored s (Some w) h = grind (arith, common_steps)
 
 pub stands-small : (p : ContiguousView) (anchored : Anchored) (s : ℕ) (u : Node) → IsContiguousState p anchored s u → s ≤ GREATEST
-stands-small p anchored s u h =
-    let small = h.is_contiguous.small in let within = stands-within p anchored s u h in omega arith
+stands-small p anchored s u h = search (rules, stands-within)
 
 -- on the way to where the byte leads from a node, the walk is at a state, and has counted what it took to come there
 pub record WalkGoesOnward (p : ContiguousView) (anchored : Anchored) (b : ℕ) (u : Node) (old now : Counts) (s : ℕ) : Type 0 where
@@ -81,69 +70,20 @@ module _ (p : ContiguousView) (anchored : Anchored) (b : ℕ) (u : Node) (old : 
   module _ (now new : Counts) (s : ℕ) (o : WalkGoesOnward p anchored b u old now s) (more : new ≡ more_looks 1 now) where
     -- with one look more the walk has counted all
     counted-last : looks_of 2 p.built anchored o.node b ≡ 1 → new ≡ more_looks (looks_of 2 p.built anchored u b) old
-    counted-last one =
-        more ∙ ap (more_looks 1) o.counted ∙ more_looks-twice o.taken 1 old
-        ∙ ap (λ (n : ℕ). more_looks n old) (omega (arith, o.looks))
+    counted-last one = grind (arith, common_steps)
 
     -- it ends at a target
     pub ends-target : (next : ℕ) → b < 256 → next ≡ target_of p o.stands.at anchored o.node b → next ≢ FAIL
         → WalkHasEnded p anchored b u old new next
-    ends-target next byte is some =
-        let leads = (reads p o.stands.at o.stands.is_contiguous anchored o.node b byte).leads (λ e. some (is ∙ e)) in
-        record {
-          steps = record {
-            at = o.stands.at;
-            is_contiguous = o.stands.is_contiguous;
-            node = step-to-node p anchored u b;
-            number = is ∙ leads.number ∙ ap (number_at o.stands.at anchored) (sym o.steps);
-          };
-          looks = counted-last leads.looks;
-        }
+    ends-target next byte is some = grind (arith, common_steps, reads p o.stands.at o.stands.is_contiguous anchored o.node b byte, step-to-node)
 
     -- or at the dead state, if it is anchored
     pub ends-anchored : b < 256 → target_of p o.stands.at anchored o.node b ≡ FAIL → anchored ≡ Yes
         → WalkHasEnded p anchored b u old new 0
-    ends-anchored byte fail is-yes =
-        let ends = (reads p o.stands.at o.stands.is_contiguous anchored o.node b byte).ends fail is-yes in
-        record {
-          steps = record {
-            at = o.stands.at;
-            is_contiguous = o.stands.is_contiguous;
-            node = step-to-node p anchored u b;
-            number = ap (number_at o.stands.at anchored) (sym (o.steps ∙ ends));
-          };
-          looks = counted-last (one-anchored anchored is-yes o.node);
-        }
-      where
-        one-anchored : (anchored : Anchored) → anchored ≡ Yes → (v : Node) → looks_of 2 p.built anchored v b ≡ 1
-        one-anchored Yes is v = refl
-        one-anchored No is v = absurd cc
+    ends-anchored byte fail is-yes = grind (arith, common_steps, reads p o.stands.at o.stands.is_contiguous anchored o.node b byte)
 
     -- else it goes on at the failure target
     pub goes-on : (failure : ℕ) → b < 256 → target_of p o.stands.at anchored o.node b ≡ FAIL → anchored ≡ No
         → failure ≡ (spelling_at p o.stands.at anchored o.node).failure → WalkGoesOnward p anchored b u old new failure
     goes-on failure byte fail is-no is =
-        let on = (reads p o.stands.at o.stands.is_contiguous anchored o.node b byte).goes fail is-no in
-        record {
-          node = miss p.built.kind (plain_of p.built) o.node;
-          stands = record {
-            at = o.stands.at;
-            is_contiguous = o.stands.is_contiguous;
-            node = on.node;
-            number = is
-                ∙ ap (λ (a : Anchored). (spelling_at p o.stands.at a o.node).failure) is-no ∙ on.failure
-                ∙ ap (λ (a : Anchored). number_at o.stands.at a (miss p.built.kind (plain_of p.built) o.node)) (sym is-no);
-          };
-          steps = o.steps
-              ∙ ap (λ (a : Anchored). step_of p.built a o.node b) is-no ∙ on.steps
-              ∙ ap (λ (a : Anchored). step_of p.built a (miss p.built.kind (plain_of p.built) o.node) b) (sym is-no);
-          taken = o.taken + 1;
-          looks =
-              let here : looks_of 2 p.built anchored o.node b
-              ≡ 1 + looks_of 2 p.built anchored (miss p.built.kind (plain_of p.built) o.node) b =
-              ap (λ (a : Anchored). looks_of 2 p.built a o.node b) is-no ∙ on.looks
-              ∙ ap (λ (a : Anchored). 1 + looks_of 2 p.built a (miss p.built.kind (plain_of p.built) o.node) b) (sym is-no) in
-              omega (arith, o.looks);
-          short = let short = o.short in let shorter = on.shorter in omega arith;
-          counted = more ∙ ap (more_looks 1) o.counted ∙ more_looks-twice o.taken 1 old;
-        }
+        grind (arith, common_steps, reads p o.stands.at o.stands.is_contiguous anchored o.node b byte, more_looks-twice o.taken 1 old)

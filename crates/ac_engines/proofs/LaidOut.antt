@@ -1,8 +1,9 @@
 -- A DFA whose states all have their rows is laid out.
-use Rattle.std.proofs.Common.{◌≡◌, inl, inr, ℕ, ◌+◌, ◌*◌, ◌/◌, ◌<◌, ◌≤◌, List, [], length, slice_index_or, ap, sym, ◌∙◌, arith, Some, None, slice_get}
-use Rattle.std.proofs.lemmas.List.{get_or_append_left, get_or_past}
+use Rattle.std.proofs.Common.{◌≡◌, inl, inr, ℕ, ◌+◌, ◌*◌, ◌/◌, ◌<◌, ◌≤◌, List, [], length, slice_index_or, ap, sym, ◌∙◌, arith, Some, None, slice_get, rules}
+use Rattle.std.proofs.lemmas.List.{get_or_past}
 use Rattle.std.proofs.lemmas.Option.{slice_get_within}
 use Rattle.std.proofs.lemmas.Nat.{div_below, le-div, mul-le}
+use Rattle.std.proofs.lemmas.Grind.{common_steps}
 use Rattle.ac_util.specs.declared.search.Anchored.{Anchored}
 use Rattle.ac_automaton.specs.Util.{start_refusal, Yes}
 use Rattle.ac_automaton.specs.Automata.{matches_of}
@@ -10,7 +11,7 @@ use Rattle.ac_engines.specs.Prelude.{anchored_shift, AreLaid, first_lists, IsLay
 use Rattle.ac_engines.proofs.Numbers.{anchored_shift-small}
 use Rattle.ac_engines.proofs.LaidUpTo.{IsLaidUpTo, Plan, each, row-order}
 use Rattle.ac_engines.proofs.Laying.{long}
-use Rattle.ac_engines.proofs.RowLists.{anchored_shift-each, anchored_shift-rows, first_lists-at, first_lists-empty, first_lists-none, length-first_lists, listed-row, none-left, row_lists-at}
+use Rattle.ac_engines.proofs.RowLists.{anchored_shift-each, anchored_shift-rows, first_lists-at, first_lists-none, listed-row, none-left, row_lists-at}
 
 module _ (p : Plan) where
   module _ (numbers : List ℕ) (lists : List (List ℕ)) (back last : ℕ)
@@ -27,21 +28,15 @@ module _ (p : Plan) where
     at-number : (row : ℕ) (anchored : Anchored)
         → row_list lists p.stride (row * p.stride + anchored_shift p.start_kind anchored p.stride)
         ≡ slice_index_or lists (row + anchored_shift p.start_kind anchored 1) []
-    at-number row anchored =
-        ap (row_list lists p.stride) (anchored_shift-rows p.start_kind anchored row p.stride)
-        ∙ listed-row lists (row + anchored_shift p.start_kind anchored 1) p.stride positive
+    at-number row anchored = search (rules, anchored_shift-rows, listed-row)
 
     -- the first four lists stay
     first-at : (k : ℕ) → k < 4 → slice_index_or lists k [] ≡ slice_index_or (first_lists p.start_kind p.built) k []
-    first-at k small =
-        let l = length-first_lists p.built p.start_kind in
-        ap (λ ls. slice_index_or ls k []) h.first
-        ∙ get_or_append_left (first_lists p.start_kind p.built) h.more [] k (omega (arith, l, small))
+    first-at k small = grind (arith, common_steps)
 
     -- no state before the start has matches
     pub two-empty : (k : ℕ) → k < 2 → slice_index_or lists k [] ≡ []
-    two-empty k small =
-        first-at k (omega (arith, small)) ∙ first_lists-empty p.built p.start_kind k small
+    two-empty k small = grind (arith, common_steps)
 
     -- nor one before the inner ones, where the start has none
     pub four-empty : ((anchored : Anchored) → matches_of p.built anchored (Some []) ≡ [])
@@ -52,11 +47,7 @@ module _ (p : Plan) where
       -- the row of the start lists its matches
       start-row : row_list lists p.stride (slice_index_or numbers 2 0 + anchored_shift p.start_kind anchored p.stride)
           ≡ matches_of p.built anchored (Some [])
-      start-row =
-          let small = anchored_shift-small p.start_kind anchored 1 in
-          ap (λ n. row_list lists p.stride (n + anchored_shift p.start_kind anchored p.stride)) h.start
-          ∙ at-number 2 anchored ∙ first-at (2 + anchored_shift p.start_kind anchored 1) (omega (arith, small))
-          ∙ first_lists-at p.built p.start_kind anchored supported
+      start-row = search (rules, anchored_shift-small, at-number, first-at, first_lists-at)
 
       -- so does that of an inner state
       inner-row : (s : ℕ) (w : List ℕ) → 4 ≤ s → slice_get p.nodes s ≡ Some (Some w)
@@ -77,17 +68,7 @@ module _ (p : Plan) where
 
     -- a state's rows stand after those of the start
     inner-number : (s : ℕ) → 4 ≤ s → s < length p.nodes → 4 * p.stride ≤ slice_index_or numbers s 0
-    inner-number s inner within =
-        let rows = h.rows s inner within in
-        let n = rows.number in
-        let f = full in
-        let l = four in
-        let behind_start : 4 ≤ rows.row = elim rows.place [
-          | inl front ↦ front.inner
-          | inr side ↦ let b = side.after in omega (arith, b, f, l)
-        ] in
-        let m = mul-le 4 p.stride rows.row p.stride behind_start (omega arith) in
-        omega (arith, n, m)
+    inner-number s inner within = grind (arith, common_steps)
 
     -- and within the table
     within-table : (s : ℕ) → 4 ≤ s → s < length p.nodes

@@ -1,12 +1,11 @@
 -- What it is that the first so many states of a trie have their rows.
-use Rattle.std.proofs.Common.{◌≡◌, ◌⊎◌, inl, inr, ℕ, ◌+◌, ◌-◌, ◌*◌, ◌^◌, ◌<◌, ◌≤◌, List, [], ◌∷◌, ◌++◌, length, slice_index_or, refl, ap, sym, ◌∙◌, arith, Some, length-append, slice_get}
-use Rattle.std.proofs.lemmas.List.{append-nil, get_or_append_left}
-use Rattle.std.proofs.lemmas.Nat.{mul-le}
+use Rattle.std.proofs.Common.{◌≡◌, ◌⊎◌, ℕ, ◌+◌, ◌-◌, ◌*◌, ◌^◌, ◌<◌, ◌≤◌, List, [], ◌∷◌, ◌++◌, length, slice_index_or, arith, Some, slice_get}
+use Rattle.std.proofs.lemmas.Grind.{common_steps}
 use Rattle.ac_util.specs.declared.search.Anchored.{Anchored}
 use Rattle.ac_automaton.specs.Util.{Built, Node, StartKind, state_count, Yes}
 use Rattle.ac_automaton.specs.Prelude.{AreNodes, matches_of, plain_of, Trie}
 use Rattle.ac_engines.specs.Prelude.{anchored_shift, first_lists, row_lists, rows_each}
-use Rattle.ac_engines.proofs.RowLists.{each-rows, length-first_lists}
+use Rattle.ac_engines.proofs.RowLists.{each-rows}
 
 -- the node that a state stands for
 pub record IsNamed (nodes : List Node) (s : ℕ) : Type 0 where
@@ -82,44 +81,14 @@ module _ (p : Plan) where
   -- rows that end in front of a row, counted in rows, do so in entries
   pub row-order : (row next : ℕ) → row + each ≤ next
       → row * p.stride + (p.stride + anchored_shift p.start_kind Yes p.stride) ≤ next * p.stride
-  row-order row next h =
-      let m = mul-le (row + each) p.stride next p.stride h (omega arith) in
-      let e = each-rows p.start_kind row p.stride in
-      omega (arith, m, e)
+  row-order row next h = grind (arith, common_steps, each-rows p.start_kind row p.stride)
 
   -- rows stay where they are when lists are added, and the back comes nearer
   pub kept : (lists more : List (List ℕ)) (back new_back last s n : ℕ) → new_back ≤ back
       → HasRows lists back last s n → HasRows (lists ++ more) new_back last s n
-  kept lists more back new_back last s n nearer h = record {
-    row = h.row;
-    number = h.number;
-    place = elim h.place [
-      | inl front ↦ inl (record {
-        inner = front.inner;
-        within = let w = front.within in let l = length-append lists more in omega (arith, w, l);
-        listed = λ u k named small. get_or_append_left lists more [] (h.row + k) (let w = front.within in omega (arith, w, small))
-            ∙ front.listed u k named small;
-      })
-      | inr at_back ↦ inr (record {
-        after = let b = at_back.after in omega (arith, b, nearer);
-        within = at_back.within;
-        none = at_back.none;
-      })
-    ];
-  }
+  kept lists more back new_back last s n nearer h = grind (arith, common_steps)
 
   -- nothing is laid but the first four
   pub none-laid : (last : ℕ) → 4 ≤ length p.nodes → last ≡ 4 + each * (length p.nodes - 4)
       → IsLaidUpTo 4 (0 ∷ 0 ∷ 2 * p.stride ∷ 3 * p.stride ∷ []) (first_lists p.start_kind p.built) last last
-  none-laid last enough e = record {
-    count = refl;
-    dead = refl;
-    unreached = refl;
-    start = refl;
-    more = [];
-    first = sym (append-nil (first_lists p.start_kind p.built));
-    room = e ∙ ap (λ n. n + each * (length p.nodes - 4)) (sym (length-first_lists p.built p.start_kind));
-    within = omega arith;
-    rows = λ t inner before. absurd (omega (arith, inner, before));
-    apart = λ t r inner after before. absurd (omega (arith, inner, after, before));
-  }
+  none-laid last enough e = grind (arith, common_steps)

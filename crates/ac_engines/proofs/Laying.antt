@@ -1,11 +1,11 @@
 -- Laying out the rows of the states of a trie, one after another.
-use Rattle.std.proofs.Common.{◌≡◌, inl, inr, ℕ, ◌+◌, ◌-◌, ◌*◌, ◌<◌, ◌≤◌, List, [], ◌∷◌, ◌++◌, length, slice_index_or, refl, ap, sym, subst, ◌∙◌, arith, Some, length-append, slice_get}
-use Rattle.std.proofs.Math.Seq.{get_or-append_seam}
+use Rattle.std.proofs.Common.{◌≡◌, inl, inr, ℕ, ◌+◌, ◌-◌, ◌*◌, ◌<◌, ◌≤◌, List, [], ◌∷◌, ◌++◌, length, slice_index_or, ap, ◌∙◌, arith, Some, length-append, slice_get, rules}
 use Rattle.std.proofs.lemmas.Bool.{cases_eq}
-use Rattle.std.proofs.lemmas.List.{append_assoc, append-nil, get_or_append_left, get_or-append-add}
+use Rattle.std.proofs.lemmas.List.{append_assoc, get_or-append-add}
+use Rattle.std.proofs.lemmas.Grind.{common_steps}
 use Rattle.ac_automaton.specs.Util.{GREATEST, Node}
-use Rattle.ac_engines.specs.Dfa.Layouts.{HasPlaced, IsAtBack, IsInFront, first_lists, row_lists}
-use Rattle.ac_engines.proofs.RowLists.{each-room, length-first_lists, length-row_lists, small-number}
+use Rattle.ac_engines.specs.Dfa.Layouts.{HasPlaced, IsAtBack, IsInFront, first_lists}
+use Rattle.ac_engines.proofs.RowLists.{each-room}
 use Rattle.ac_engines.proofs.LaidUpTo.{Apart, HasRows, IsLaidUpTo, Plan, each, kept, row-order}
 
 module _ (p : Plan) where
@@ -22,71 +22,19 @@ module _ (p : Plan) where
   module _ (s : ℕ) (numbers : List ℕ) (lists : List (List ℕ)) (back last : ℕ) (h : IsLaidUpTo p s numbers lists back last) where
     -- the first four rows have lists
     pub long : 4 ≤ length lists
-    long =
-        let l = ap length h.first ∙ length-append (first_lists p.start_kind p.built) h.more in
-        let f = length-first_lists p.built p.start_kind in
-        omega (arith, l, f)
+    long = grind (arith, common_steps)
 
     module _ (u : Node) (row : ℕ) (new_lists : List (List ℕ)) (new_back : ℕ) (left : s < length p.nodes)
         (named : slice_get p.nodes s ≡ Some u) where
       -- in front
       in-front : IsInFront p.start_kind p.built u row lists back new_lists new_back
           → LaysOn s row lists back new_lists new_back last
-      in-front front =
-          let e = each-room p.start_kind (length p.nodes) s left in
-          let r = h.room in
-          let b = front.after in
-          let same = front.same in
-          let l = ap length front.added ∙ length-append lists (row_lists p.start_kind p.built u) in
-          let f = length-row_lists p.built u p.start_kind in
-          let four = long in
-          record {
-            added = row_lists p.start_kind p.built u;
-            is = front.added;
-            nearer = omega (arith, same);
-            after = omega (arith, b);
-            before = omega (arith, b, e, r);
-            room = omega (arith, same, e, r, l, f);
-            own = record {
-              row = row;
-              number = refl;
-              place = inl (record {
-                inner = omega (arith, b, four);
-                within = omega (arith, b, l, f);
-                listed = λ v k also small.
-                    let one : v ≡ u = cc in
-                    rw (one, front.added, b) (get_or-append-add lists (row_lists p.start_kind p.built u) k []);
-              });
-            };
-          }
+      in-front front = search (rules, each-room, get_or-append-add, length-append, long)
 
       -- or at the back
       at-back : IsAtBack p.start_kind p.built u row lists back new_lists new_back
           → LaysOn s row lists back new_lists new_back last
-      at-back side =
-          let e = each-room p.start_kind (length p.nodes) s left in
-          let r = h.room in
-          let w = h.within in
-          let first = side.first in
-          let before = side.before in
-          let l = ap length side.same in
-          record {
-            added = [];
-            is = side.same ∙ sym (append-nil lists);
-            nearer = omega (arith, before);
-            after = omega (arith, first, before, e, r);
-            before = omega (arith, first, before);
-            room = omega (arith, before, e, r, l);
-            own = record {
-              row = row;
-              number = refl;
-              place = inr (record {
-                after = omega (arith, first);
-                within = omega (arith, first, before, w);
-                none = λ v anchored also. let one : v ≡ u = cc in rw one (side.none anchored);
-              });
-            };
-          }
+      at-back side = grind (arith, common_steps)
 
       -- it has its rows wherever it was given them
       goes-on : HasPlaced p.start_kind p.built u row lists back new_lists new_back
@@ -96,10 +44,7 @@ module _ (p : Plan) where
       -- its rows end within the table, so its number is small
       pub row-number : HasPlaced p.start_kind p.built u row lists back new_lists new_back
           → (last - 1) * p.stride ≤ GREATEST → row * p.stride ≤ GREATEST
-      row-number placed small =
-          let before = (goes-on placed).before in
-          let w = h.within in
-          small-number p.start_kind row last p.stride (omega (arith, before, w)) small
+      row-number placed small = grind (arith, common_steps)
 
       -- and stand apart from those of the states before
       apart-from : (t n : ℕ) → LaysOn s row lists back new_lists new_back last → HasRows p lists back last t n
@@ -118,14 +63,11 @@ module _ (p : Plan) where
       -- the numbers before stay
       old-number : (t : ℕ) → t < s
           → slice_index_or (numbers ++ row * p.stride ∷ []) t 0 ≡ slice_index_or numbers t 0
-      old-number t before =
-          let c = h.count in get_or_append_left numbers (row * p.stride ∷ []) 0 t (omega (arith, c, before))
+      old-number t before = grind (arith, common_steps)
 
       -- and its own is after them
       new-number : slice_index_or (numbers ++ row * p.stride ∷ []) s 0 ≡ row * p.stride
-      new-number =
-          subst (λ k. slice_index_or (numbers ++ row * p.stride ∷ []) k 0 ≡ row * p.stride) h.count
-          (get_or-append_seam numbers (row * p.stride) [] 0)
+      new-number = grind (arith, common_steps)
 
       module _ (inner : 4 ≤ s) (placed : HasPlaced p.start_kind p.built u row lists back new_lists new_back) where
         -- all states up to it have rows

@@ -1,9 +1,10 @@
 -- Listing the matches of a state that count, one after another.
-use Rattle.std.proofs.Common.{◌≡◌, ℕ, ◌-◌, ◌<◌, Bool, true, false, cond, List, [], ◌∷◌, ◌++◌, length, ap, sym, subst, ◌∙◌, arith, All}
+use Rattle.std.proofs.Common.{◌≡◌, ℕ, ◌-◌, ◌<◌, Bool, true, cond, List, [], ◌∷◌, ◌++◌, length, ap, sym, subst, ◌∙◌, arith, All, rules}
 use Rattle.std.specs.List.{take_while}
 use Rattle.std.proofs.lemmas.List.{append_assoc, append-nil}
 use Rattle.std.proofs.lemmas.List.Elements.{All-tail}
 use Rattle.std.proofs.lemmas.List.Sums.{take_while-cons}
+use Rattle.std.proofs.lemmas.Grind.{common_steps}
 use Rattle.ac_util.specs.declared.search.Anchored.{Anchored}
 use Rattle.ac_automaton.specs.Util.{depth, No, Node, pattern_of}
 use Rattle.ac_automaton.specs.declared.automaton.overlap.MatchRest.{MatchRest}
@@ -45,10 +46,8 @@ module _ (trie : Trie) where
   module _ (s : ℕ) (u : Node) (h : IsTrieState trie s u) where
     -- all of a state's list can be read
     pub may-begin : MayRead (record { state = s; index = 0 })
-    may-begin = record {
-      state = (u, h);
-      numbered = listed-numbered trie.built (rest_of (record { state = s; index = 0 })) 0 0 No u (stands-lists trie No s u h);
-    }
+    may-begin =
+        grind (arith, common_steps, listed-numbered trie.built (rest_of (record { state = s; index = 0 })) 0 0 No u (stands-lists trie No s u h))
 
     -- nothing was listed at first
     pub none-listed : (anchored : Anchored) (old : List ℕ)
@@ -72,18 +71,9 @@ module _ (trie : Trie) where
       front : (t : Bool) → counts trie.built anchored deep pattern ≡ t
           → now ++ cond t (pattern ∷ take_while (counts trie.built anchored deep) (rest_of after)) []
           ≡ old ++ matches_of trie.built anchored u
-      front t counted =
-          ap (λ b. now ++ cond b (pattern ∷ take_while (counts trie.built anchored deep) (rest_of after)) []) (sym counted)
-          ∙ ap (λ ns. now ++ ns) (sym (take_while-cons (counts trie.built anchored deep) pattern (rest_of after)))
-          ∙ ap (λ ns. now ++ take_while (counts trie.built anchored deep) ns) (sym taken) ∙ h
-
-      -- or where its first match doesn't count
-      pub others-left : is_due anchored (length (pattern_of trie.built.patterns pattern)) deep ≡ false
-          → now ≡ old ++ matches_of trie.built anchored u
-      others-left not = sym (append-nil now) ∙ front false not
+      front t counted = search (rules, take_while-cons (counts trie.built anchored deep) pattern (rest_of after))
 
       -- one that counts is listed
       pub one-more : is_due anchored (length (pattern_of trie.built.patterns pattern)) deep ≡ true
           → HasListed anchored deep u old (now ++ pattern ∷ []) after
-      one-more due =
-          append_assoc now (pattern ∷ []) (take_while (counts trie.built anchored deep) (rest_of after)) ∙ front true due
+      one-more due = search (rules, append_assoc, front)

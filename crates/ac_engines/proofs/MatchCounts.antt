@@ -1,9 +1,10 @@
 -- A node's matches are patterns of the list, each at most once, and no more than 256 bytes lead on from it.
-use Rattle.std.proofs.Common.{◌≡◌, ◌≢◌, ℕ, suc, zero, ◌<◌, ◌≤◌, not, List, [], ◌∷◌, length, take, inl, inr, Option, None, Some, refl, ap, arith}
+use Rattle.std.proofs.Common.{◌≡◌, ◌≢◌, ℕ, suc, zero, ◌<◌, ◌≤◌, not, List, [], ◌∷◌, length, take, inl, inr, Option, None, Some, refl, ap, arith, rules}
 use Rattle.std.specs.List.{All, range_with_len}
 use Rattle.std.proofs.lemmas.List.{length-map}
 use Rattle.std.proofs.lemmas.List.Filters.{length-filter_both}
 use Rattle.std.proofs.lemmas.List.FromFn.{length-range_with_len}
+use Rattle.std.proofs.lemmas.Grind.{common_steps}
 use Rattle.ac_automaton.specs.Util.{Built, equal_to, last_start, matches, MatchKind, No, Node, open_suffixes, plain, starting_by, suffixes}
 use Rattle.ac_util.proofs.Lists.{All-from_IsIn, IsIn, IsIn-from_flat_map, IsIn-range, IsOrdered, IsOrdered-flat_map}
 use Rattle.ac_util.proofs.Participants.{IsIn-from_equal_to, equal_to-ordered}
@@ -14,8 +15,7 @@ use Rattle.ac_automaton.proofs.Counting.{length-le-from_IsOrdered}
 IsOrdered-weaker : {X : Type 0} (R S : X → X → Type 0) → ((x y : X) → R x y → S x y) → (xs : List X)
     → IsOrdered R xs → IsOrdered S xs
 IsOrdered-weaker R S weaker [] o = tt
-IsOrdered-weaker R S weaker (x ∷ xs) o =
-    ((λ y h. weaker x y (o.0 y h)), IsOrdered-weaker R S weaker xs o.1)
+IsOrdered-weaker R S weaker (x ∷ xs) o = grind (arith, common_steps, IsOrdered-weaker R S weaker xs o.1)
 
 -- an element of the first ones is one of all
 IsIn-from_take : {X : Type 0} (n : ℕ) (y : X) (xs : List X) → IsIn y (take n xs) → IsIn y xs
@@ -77,8 +77,7 @@ match-numbered built (Some w) n h =
 
 -- the same of all of them
 pub matches-numbered : (built : Built) (u : Node) → All (λ n. n < length built.patterns) (matches_of built No u)
-matches-numbered built u =
-    All-from_IsIn (λ n. n < length built.patterns) (matches_of built No u) (match-numbered built u)
+matches-numbered built u = search (rules, All-from_IsIn, match-numbered)
 
 -- and so there are no more of them than patterns
 pub matches-few : (built : Built) (u : Node) → length (matches_of built No u) ≤ length built.patterns

@@ -1,5 +1,5 @@
 -- Where the rows of the states of a trie stand.
-use Rattle.std.proofs.Common.{◌≡◌, ◌≢◌, inl, inr, ℕ, zero, suc, ◌<◌, ◌≤◌, List, [], length, slice_index_or, arith, Some, slice_get}
+use Rattle.std.proofs.Common.{◌≡◌, ◌≢◌, inl, inr, ℕ, zero, suc, ◌<◌, ◌≤◌, List, [], length, slice_index_or, arith, Some, slice_get, rules}
 use Rattle.ac_util.specs.Node.{Node}
 use Rattle.ac_util.proofs.NodeCount.{inner_nodes-only}
 use Rattle.ac_automaton.specs.Prelude.{AreNodes, plain_of, Trie}
@@ -17,10 +17,8 @@ module _ (trie : Trie) (nodes : List Node) (h : AreNodes trie nodes) where
       → (t : ℕ) → t < s → slice_get nodes t ≢ Some (Some w)
   first-inner s w inner named zero before same = let dead = h.dead in absurd cc
   first-inner s w inner named (suc zero) before same = let dead = h.unreached in absurd cc
-  first-inner s w inner named (suc (suc zero)) before same =
-      let start = h.start in absurd (inner-string s w inner named cc)
-  first-inner s w inner named (suc (suc (suc zero))) before same =
-      let start = h.anchored_start in absurd (inner-string s w inner named cc)
+  first-inner s w inner named (suc (suc zero)) before same = search (rules, inner-string)
+  first-inner s w inner named (suc (suc (suc zero))) before same = search (rules, inner-string)
   first-inner s w inner named (suc (suc (suc (suc t)))) before same =
       let once = h.numbered.once (suc (suc (suc (suc t)))) s w (record { inner = omega arith; named = same })
       (record { inner = inner; named = named }) in
@@ -34,12 +32,7 @@ module _ (trie : Trie) (nodes : List Node) (h : AreNodes trie nodes) where
   -- the empty string has that of the unanchored start
   pub place-start : (numbers : List ℕ) → length numbers ≡ length nodes
       → first_row_in nodes numbers [] ≡ slice_index_or numbers 2 0
-  place-start numbers count = place-at nodes numbers [] 2 count h.start first
-    where
-      first : (t : ℕ) → t < 2 → slice_get nodes t ≢ Some (Some [])
-      first zero before same = let dead = h.dead in absurd cc
-      first (suc zero) before same = let dead = h.unreached in absurd cc
-      first (suc (suc t)) before same = absurd (omega arith)
+  place-start numbers count = search (rules, place-at)
 
 -- a string that isn't empty stands after the starts
 pub after-starts : (trie : Trie) (nodes : List Node) → AreNodes trie nodes → (s : ℕ) (w : List ℕ) → w ≢ []

@@ -1,7 +1,8 @@
 -- How one row of a DFA is filled.
-use Rattle.std.proofs.Common.{◌≡◌, ◌≢◌, ◌⊎◌, inl, inr, ℕ, ◌+◌, ◌-◌, ◌<◌, ◌≤◌, Bool, true, false, cond, List, [], ◌∷◌, length, slice_index_or, refl, ap, sym, ◌∙◌, arith, Some, None, if◌then◌else◌}
+use Rattle.std.proofs.Common.{◌≡◌, ◌≢◌, ◌⊎◌, inl, inr, ℕ, ◌+◌, ◌-◌, ◌<◌, ◌≤◌, Bool, true, false, cond, List, [], ◌∷◌, length, slice_index_or, refl, ap, sym, ◌∙◌, arith, Some, None, if◌then◌else◌, rules}
 use Rattle.std.specs.List.{CopiedTo, SameBelow, SameFrom}
 use Rattle.std.proofs.lemmas.Bool.{false≢true}
+use Rattle.std.proofs.lemmas.Grind.{common_steps}
 use Rattle.ac_automaton.specs.Util.{alphabet_len, class_at, failure, No, Node, plain_byte, Yes}
 use Rattle.ac_util.proofs.Reached.{step-nil, stops}
 use Rattle.ac_automaton.specs.Prelude.{leads_on, own_bytes, plain_of, step_of}
@@ -28,11 +29,7 @@ module _ (f : Filling) (nodes : List Node) (size s : ℕ) (w : List ℕ) (h : Ha
   -- an anchored row is filled once its own transitions are set
   pub anchored-filled : (old new : List ℕ) → MayFillRow f nodes size s w Yes old
       → HasSet p Yes w (own_bytes p.built (Some w)) old new → HasFilled p Yes w old new
-  anchored-filled old new m set = record {
-    same_length = set.same_length;
-    beside = beside-row (row_at p Yes (Some w)) old new set.beside;
-    filled = filled-anchored p (narrow f nodes size h.may) w old new m.blank set;
-  }
+  anchored-filled old new m set = search (rules, beside-row, filled-anchored, narrow)
 
   -- where a byte leads from the start that leads on
   start-own : (b : ℕ) → leads_on p.built (Some []) b ≡ true
@@ -71,8 +68,7 @@ module _ (f : Filling) (nodes : List Node) (size s : ℕ) (w : List ℕ) (h : Ha
   -- where a byte leads from the start that doesn't lead on
   pub start-misses : (t : Bool) → stops p.built.kind (plain_of p.built) [] ≡ t → (b : ℕ)
       → leads_on p.built (Some []) b ≡ false → step_of p.built No (Some []) b ≡ cond t None (Some [])
-  start-misses t stopped b none =
-      step-nil p.built.kind (plain_of p.built) (plain_byte p.built.fold b) ∙ rw (none, stopped) refl
+  start-misses t stopped b none = grind (arith, common_steps)
 
   -- the row of that node
   pub missing-row : (t : Bool) → (if t then 0 else row_at p No (Some [])) ≡ row_at p No (cond t None (Some []))

@@ -1,6 +1,7 @@
 -- The rows of a state and of those to which its own transitions lead.
-use Rattle.std.proofs.Common.{◌≡◌, ◌≢◌, inl, inr, ℕ, ◌+◌, ◌<◌, ◌≤◌, List, [], ◌∷◌, ◌++◌, length, take, slice_set, refl, arith, Some, None, Contains, slice_get}
+use Rattle.std.proofs.Common.{◌≡◌, ◌≢◌, ℕ, ◌+◌, ◌<◌, ◌≤◌, List, [], ◌∷◌, ◌++◌, length, take, slice_set, refl, arith, Some, None, Contains, slice_get, rules}
 use Rattle.std.proofs.lemmas.Option.{get_or_from_slice_get, slice_get_within}
+use Rattle.std.proofs.lemmas.Grind.{common_steps}
 use Rattle.ac_util.specs.declared.search.Anchored.{Anchored}
 use Rattle.ac_automaton.specs.Util.{Both, Built, class_at, No, Node, plain_byte, StartKind, state_count, Unanchored, Yes}
 use Rattle.ac_util.specs.declared.search.StartKind.TheVariants.{Anchored as AnchoredAlone}
@@ -11,16 +12,12 @@ use Rattle.ac_automaton.proofs.Places.{take-next}
 use Rattle.ac_engines.specs.Prelude.{anchored_shift, Filling, HasRow, HasSet, row_at, sheet_of}
 use Rattle.ac_engines.proofs.Filled.{own_bytes-only, own_bytes-small}
 use Rattle.ac_engines.proofs.Numbered.{after-starts, place-row}
-use Rattle.ac_engines.proofs.Numbers.{anchored_shift-small}
 use Rattle.ac_engines.proofs.Setting.{set-more}
 
 -- a state that stands for a node is one of all
 pub numbered-below : (trie : Trie) (nodes : List Node) (s : ℕ) (u : Node) → AreNodes trie nodes
     → slice_get nodes s ≡ Some u → s < state_count trie.built.kind (plain_of trie.built)
-numbered-below trie nodes s u h named =
-    let within = slice_get_within nodes s u named in
-    let count = h.numbered.count in
-    omega arith
+numbered-below trie nodes s u h named = search (rules, slice_get_within)
 
 -- no row stands further back than the anchored one
 pub anchored_shift-most : (start_kind : StartKind) (anchored : Anchored) (stride : ℕ)
@@ -50,32 +47,18 @@ longer (x ∷ w) b e = absurd cc
 module _ (f : Filling) (nodes : List Node) (size s : ℕ) (w : List ℕ) (h : HasRow f nodes size s w) where
   -- the row of a string lies in the table
   pub row-room : (anchored : Anchored) → row_at (sheet_of f nodes) anchored (Some w) + f.stride ≤ size
-  row-room anchored =
-      let most = anchored_shift-most f.start_kind anchored f.stride in
-      let most_two = anchored_shift-small f.start_kind anchored f.stride in
-      let place = place-row f nodes size s w h in
-      elim h.place [
-        | inl start ↦
-            let first = h.may.laid.start in
-            let whole = h.may.laid.whole in
-            let at = rw start at place in
-            omega arith
-        | inr inner ↦
-            let within = slice_get_within nodes s (Some w) h.named in
-            let count = h.may.laid.count in
-            let room = h.may.laid.within s inner (omega arith) in
-            omega arith
-      ]
+  row-room anchored = grind (arith, common_steps, place-row f nodes size s w h, slice_get_within nodes s (Some w) h.named)
 
   module _ (index byte next : ℕ) (own : IsOwn f.trie nodes w index byte next) where
     -- an own transition leads to a state that has rows too
     pub next-row : HasRow f nodes size next (w ++ plain_byte f.trie.built.fold byte ∷ [])
-    next-row = record {
-      may = h.may;
-      named = own.leads;
-      place = inr (after-starts f.trie nodes h.may.are_nodes next
-          (w ++ plain_byte f.trie.built.fold byte ∷ []) (longer w (plain_byte f.trie.built.fold byte)) own.leads);
-    }
+    next-row =
+        grind (
+          arith,
+          common_steps,
+          after-starts f.trie nodes h.may.are_nodes next (w ++ plain_byte f.trie.built.fold byte ∷ []) (longer w (plain_byte f.trie.built.fold byte))
+              own.leads,
+        )
 
     -- with one own transition more set, one more of the bytes leads on in the row
     pub own-more : (anchored : Anchored) (v : ℕ) (old now : List ℕ) → length now ≡ size

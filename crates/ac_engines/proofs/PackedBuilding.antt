@@ -1,10 +1,9 @@
 -- What a build of a contiguous NFA has made.
-use Rattle.std.proofs.Common.{◌≡◌, ℕ, ◌<◌, List, length, ap, arith, sym, ◌∙◌, slice_index_or}
-use Rattle.std.proofs.lemmas.Grind.{get_or_default_zero}
-use Rattle.std.proofs.lemmas.Option.{slice_get_within}
+use Rattle.std.proofs.Common.{◌≡◌, ℕ, ◌<◌, List, length, arith, slice_index_or}
+use Rattle.std.proofs.lemmas.Grind.{common_steps}
 use Rattle.ac_automaton.specs.Util.{Both, Node}
 use Rattle.ac_automaton.specs.declared.nfa.noncontiguous.state.TheConstants.{ANCHORED_START, START}
-use Rattle.ac_automaton.specs.Prelude.{built_as, common_of, CommonView}
+use Rattle.ac_automaton.specs.Prelude.{common_of, CommonView}
 use Rattle.ac_engines.specs.Prelude.{contiguous_of, front_end, HasPlaces, MayPack, packed_of, PackPlan}
 
 -- words whose parts are those of a plan were packed by it
@@ -15,28 +14,15 @@ pub packed-same : (q : PackPlan) (nodes : List Node) (numbers words : List ℕ) 
     → start ≡ slice_index_or numbers START 0 → anchored_start ≡ slice_index_or numbers ANCHORED_START 0
     → match_end ≡ front_end q nodes
     → contiguous_of common dense_depth classes words start anchored_start match_end ≡ packed_of q nodes numbers words
-packed-same q nodes numbers words common dense_depth classes start anchored_start match_end are both depth class starts
-    anchored_starts ends = λ i. record {
-      built = record (built_as (are i) Both) { start_kind = sym both i };
-      filters = (are i).filters;
-      dense_depth = depth i;
-      classes = class i;
-      words = words;
-      start = starts i;
-      anchored_start = anchored_starts i;
-      match_end = ends i;
-    }
+packed-same q nodes numbers words common dense_depth classes start anchored_start match_end are both depth class starts anchored_starts ends =
+    grind (arith, common_steps)
 
 -- the starts have places
 pub starts-placed : (q : PackPlan) (nodes : List Node) (numbers : List ℕ) → MayPack q nodes → HasPlaces q nodes numbers
     → ANCHORED_START < length numbers
-starts-placed q nodes numbers may places =
-    let within = slice_get_within nodes ANCHORED_START _ may.are_nodes.anchored_start in
-    let count = places.count in
-    omega arith
+starts-placed q nodes numbers may places = grind (arith, common_steps)
 
 -- what was read at a place of the same list
 pub read-number : (xs ys : List ℕ) (k n : ℕ) → k < length xs → xs ≡ ys → n ≡ slice_index_or xs k n
     → n ≡ slice_index_or ys k 0
-read-number xs ys k n within same read =
-    read ∙ get_or_default_zero xs k n within ∙ ap (λ (ns : List ℕ). slice_index_or ns k 0) same
+read-number xs ys k n within same read = grind (arith, common_steps)

@@ -1,6 +1,7 @@
 -- What the number of a packed state tells.
-use Rattle.std.proofs.Common.{◌≡◌, ◌≢◌, ℕ, ◌<◌, ◌≤◌, ◌⊎◌, ◌↔◌, List, [], ◌∷◌, drop, inl, inr, length, refl, ap, subst, sym, ◌∙◌, arith, Some, None, slice_index_or}
+use Rattle.std.proofs.Common.{◌≡◌, ◌≢◌, ℕ, ◌<◌, ◌≤◌, ◌⊎◌, ◌↔◌, List, [], ◌∷◌, drop, inl, inr, length, refl, ap, subst, sym, ◌∙◌, arith, Some, None, slice_index_or, rules}
 use Rattle.std.specs.List.{All}
+use Rattle.std.proofs.lemmas.Grind.{common_steps}
 use Rattle.ac_automaton.specs.Util.{alphabet_len, GREATEST, No, Node, Yes}
 use Rattle.ac_util.specs.declared.search.Anchored.{Anchored}
 use Rattle.ac_automaton.specs.Automata.{matches_of}
@@ -19,16 +20,7 @@ module _ (p : ContiguousView) (anchored : Anchored) (s : ℕ) where
   -- the dead node's number is 0, and no other's
   pub dead-number : (u : Node) → IsContiguousState p anchored s u → (s ≡ 0) ↔ (u ≡ None)
   dead-number None h = (λ zero. refl, λ none. h.number)
-  dead-number (Some w) h =
-      let after = h.is_contiguous.after anchored w h.node in
-      let number = h.number in
-      (λ zero. absurd (omega arith), λ none. absurd cc)
-
-  -- the two starts have their numbers
-  start-of : (anchored : Anchored) (at : Places) → at.place [] ≡ p.start → at.anchored_start ≡ p.anchored_start
-      → (number_at at anchored (Some []) ≡ p.start) ⊎ (number_at at anchored (Some []) ≡ p.anchored_start)
-  start-of No at start other = inl start
-  start-of Yes at start other = inr other
+  dead-number (Some w) h = grind (arith, common_steps)
 
   -- and no other node's state has one of them
   pub start-number : (u : Node) → IsContiguousState p anchored s u
@@ -40,11 +32,7 @@ module _ (p : ContiguousView) (anchored : Anchored) (s : ℕ) where
       let anchored_start = h.is_contiguous.anchored_start in
       let number = h.number in
       (λ either. elim either [ inl e ↦ absurd (omega arith) | inr e ↦ absurd (omega arith) ], λ none. absurd cc)
-  start-number (Some []) h = (
-    λ either. refl,
-    λ empty. subst (λ (n : ℕ). (n ≡ p.start) ⊎ (n ≡ p.anchored_start)) (sym h.number)
-        (start-of anchored h.at h.is_contiguous.start h.is_contiguous.anchored_start),
-  )
+  start-number (Some []) h = grind (arith, common_steps)
   start-number (Some (x ∷ w)) h =
       let first = h.is_contiguous.longer No (x ∷ w) h.node (λ e. absurd cc) in
       let other = h.is_contiguous.longer Yes (x ∷ w) h.node (λ e. absurd cc) in
@@ -60,23 +48,10 @@ module _ (p : ContiguousView) (anchored : Anchored) (s : ℕ) where
       inner No at = refl
       inner Yes at = refl
 
-  -- nothing is listed at 0
-  pub listed-dead : s ≡ 0 → match_list_at p s ≡ []
-  listed-dead zero = ap (match_list_at p) zero
-
   -- a state has matches where its number is less than their end, and isn't 0
   pub match-number : (u : Node) → IsContiguousState p anchored s u → (match_list_at p s ≢ []) ↔ ((s < p.match_end) × (s ≢ 0))
-  match-number None h =
-      let number = h.number in
-      (λ some. absurd (some (listed-dead (omega arith))), λ within. absurd (within.1 (omega arith)))
-  match-number (Some w) h =
-      let after = h.is_contiguous.after anchored w h.node in
-      let number = h.number in
-      let matched = h.is_contiguous.matched anchored w h.node in
-      let lists = ap (match_list_at p) h.number ∙ h.is_contiguous.lists anchored w h.node in (
-        λ some. let below = matched.1 (λ none. some (lists ∙ none)) in (omega arith, λ zero. absurd (omega arith)),
-        λ within none. matched.0 (let low = within.0 in omega arith) (sym lists ∙ none),
-      )
+  match-number None h = grind (arith, common_steps)
+  match-number (Some w) h = search rules
 
   -- the words there begin with those of a state that spells what is listed
   pub record Begins (there : List ℕ) (classes : ℕ) : Type 0 where

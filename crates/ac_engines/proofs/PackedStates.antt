@@ -1,14 +1,15 @@
 -- Packed states, as they stand after one another, mean what they should.
-use Rattle.std.proofs.Common.{◌≡◌, ◌≢◌, ℕ, ◌+◌, ◌<◌, ◌≤◌, ◌↔◌, inl, inr, Bool, true, false, List, [], ◌∷◌, ◌++◌, length, drop, None, Some, refl, ap, subst, sym, ◌∙◌, arith, slice_get, slice_index_or}
-use Rattle.std.proofs.lemmas.Bool.{cases_lt, ltb-false, ltb-true}
+use Rattle.std.proofs.Common.{◌≡◌, ◌≢◌, ℕ, ◌+◌, ◌<◌, ◌≤◌, ◌↔◌, Bool, true, false, List, [], ◌∷◌, length, drop, None, Some, refl, ap, subst, sym, ◌∙◌, arith, slice_get, slice_index_or, rules}
+use Rattle.std.proofs.lemmas.Bool.{cases_lt, ltb-false}
 use Rattle.std.proofs.lemmas.List.{append_assoc, nil_from_length}
 use Rattle.std.proofs.lemmas.Option.{slice_get_within}
+use Rattle.std.proofs.lemmas.Grind.{common_steps}
 use Rattle.ac_automaton.specs.Util.{alphabet_len, GREATEST, IsNode, No, Node, Yes}
 use Rattle.ac_util.specs.declared.search.Anchored.{Anchored}
 use Rattle.ac_util.proofs.ClassLists.{alphabet_len-few}
 use Rattle.ac_util.proofs.NodeCount.{inner_nodes-has}
 use Rattle.ac_automaton.specs.declared.nfa.noncontiguous.state.TheConstants.{START}
-use Rattle.ac_automaton.specs.Prelude.{matches_of, own_bytes, plain_of}
+use Rattle.ac_automaton.specs.Prelude.{matches_of, plain_of}
 use Rattle.ac_engines.specs.Prelude.{AreReady, BeginsWith, ContiguousView, Dense, FAIL, Format, front_end, has_matches, HasPushedWords, IsContiguous, match_list_at, node_format, number_at, One, packed_of, packed_words, Packer, place_at, Places, places_of, size_at, size_of, Sparse, spelled, Spelling, spelling_at, state_spelling, total, words_of_state}
 use Rattle.ac_engines.proofs.Decoding.{listed-none, listed-spelled}
 use Rattle.ac_engines.proofs.Numbered.{place-inner, place-start}
@@ -41,21 +42,8 @@ module _ (f : Packer) (nodes : List Node) (ready : AreReady f nodes) (words : Li
 
   pub has-place : (anchored : Anchored) (w : List ℕ)
       → IsNode f.plan.trie.built.kind (plain_of f.plan.trie.built) (Some w) → HasPlace anchored w
-  has-place No [] node = record {
-    state = 2;
-    reached = omega arith;
-    named = ready.may.are_nodes.start;
-    number = place-start f.plan.trie nodes ready.may.are_nodes f.numbers ready.places.count
-        ∙ numbered 2 (Some []) ready.may.are_nodes.start;
-    spells = refl;
-  }
-  has-place Yes [] node = record {
-    state = 3;
-    reached = omega arith;
-    named = ready.may.are_nodes.anchored_start;
-    number = numbered 3 (Some []) ready.may.are_nodes.anchored_start;
-    spells = refl;
-  }
+  has-place No [] node = search (rules, place-start f.plan.trie nodes ready.may.are_nodes f.numbers ready.places.count)
+  has-place Yes [] node = grind (arith, common_steps)
   has-place anchored (x ∷ w) node =
       let in_list = inner_nodes-has f.plan.trie.built.kind (plain_of f.plan.trie.built) (x ∷ w) node (λ e. absurd cc) in
       let at = ready.may.are_nodes.numbered.each (x ∷ w) in_list in
@@ -91,33 +79,8 @@ module _ (f : Packer) (nodes : List Node) (ready : AreReady f nodes) where
   placed-at : (s : ℕ) (u : Node) → 2 ≤ s → slice_get nodes s ≡ Some u → (t : Bool) → t ≡ has_matches f.plan nodes u
       → IsPlacedAt s u t
   placed-at s u reached named true is =
-      let t = takes f.plan nodes s u reached named true (size_of f.plan nodes u) is refl in
-      let some = words-some (node_format f.plan.trie.built f.plan.dense_depth u) (alphabet_len f.plan.classes)
-      (length (own_bytes f.plan.trie.built u)) (length (matches_of f.plan.trie.built No u)) in
-      let grows = total-grows (size_at f.plan nodes true) (s + 1) (length nodes)
-      (let within = slice_get_within nodes s u named in omega arith) in
-      let place = t.place in
-      let more = t.front in
-      record {
-        front = λ e. place;
-        front_ends = λ e. omega arith;
-        front_within = λ e. omega arith;
-        back = λ e. absurd cc;
-        back_ends = λ e. absurd cc;
-      }
-  placed-at s u reached named false is =
-      let t = takes f.plan nodes s u reached named false (size_of f.plan nodes u) is refl in
-      let some = words-some (node_format f.plan.trie.built f.plan.dense_depth u) (alphabet_len f.plan.classes)
-      (length (own_bytes f.plan.trie.built u)) (length (matches_of f.plan.trie.built No u)) in
-      let place = t.place in
-      let more = t.back in
-      record {
-        front = λ e. absurd cc;
-        front_ends = λ e. absurd cc;
-        front_within = λ e. absurd cc;
-        back = λ e. place;
-        back_ends = λ e. omega arith;
-      }
+      search (rules, takes f.plan nodes s u reached named true (size_of f.plan nodes u) is refl, total-grows, words-some, slice_get_within)
+  placed-at s u reached named false is = search (rules, takes f.plan nodes s u reached named false (size_of f.plan nodes u) is refl)
 
   -- two states have two places
   places-apart : (s t : ℕ) (u v : Node) → 2 ≤ s → s < t → slice_get nodes s ≡ Some u → slice_get nodes t ≡ Some v
@@ -154,11 +117,7 @@ module _ (f : Packer) (nodes : List Node) (ready : AreReady f nodes) where
       (in_front : HasPushedWords f nodes true dead front) (after : HasPushedWords f nodes false front words) where
     -- the state of the dead node
     dead-begins : BeginsWith dead Dense (alphabet_len f.plan.classes) dead_spelling
-    dead-begins =
-        begins-after Dense (alphabet_len f.plan.classes) dead_spelling [] dead first tt
-        (alphabet_len-few f.plan.classes ready.may.classes) (λ k d below. absurd (omega arith))
-        (λ k below. absurd (omega arith)) (omega arith)
-        (λ k. omega arith)
+    dead-begins = search (rules, begins-after, alphabet_len-few f.plan.classes ready.may.classes)
 
     dead-long : length dead ≡ size_of f.plan nodes None
     dead-long = ap (λ (ws : List ℕ). length ws) first ∙ length-spelled Dense (alphabet_len f.plan.classes) dead_spelling tt
@@ -168,11 +127,7 @@ module _ (f : Packer) (nodes : List Node) (ready : AreReady f nodes) where
 
     pub words-long : length words
         ≡ packed_words f.plan.trie.built f.plan.dense_depth (alphabet_len f.plan.classes)
-    words-long =
-        let long = after.long in
-        let first_long = front-long in
-        let whole = sizes-whole f.plan nodes ready.may in
-        omega arith
+    words-long = search (rules, front-long, sizes-whole)
 
     -- each state's words begin at its place
     record Begins (s : ℕ) (u : Node) : Type 0 where
@@ -231,19 +186,7 @@ module _ (f : Packer) (nodes : List Node) (ready : AreReady f nodes) where
         → BeginsWith (drop (number_at (places f nodes ready words) anchored u) words)
         (node_format f.plan.trie.built f.plan.dense_depth u) (alphabet_len f.plan.classes)
         (spelling_at (packed f nodes ready words) (places f nodes ready words) anchored u)
-    node-begins anchored None node =
-        let long = front-long in
-        let both : words ≡ dead ++ (in_front.pushed ++ after.pushed) =
-        after.same ∙ ap (λ (ws : List ℕ). ws ++ after.pushed) in_front.same
-        ∙ append_assoc dead in_front.pushed after.pushed in
-        none anchored (rw both (begins-before Dense (alphabet_len f.plan.classes) dead_spelling dead
-        (in_front.pushed ++ after.pushed) 0 (omega arith) dead-begins))
-      where
-        none : (anchored : Anchored) → BeginsWith words Dense (alphabet_len f.plan.classes) dead_spelling
-            → BeginsWith (drop (number_at (places f nodes ready words) anchored None) words) Dense
-            (alphabet_len f.plan.classes) dead_spelling
-        none No h = h
-        none Yes h = h
+    node-begins anchored None node = search (rules, append_assoc, begins-before)
     node-begins anchored (Some w) node =
         let at = has-place f nodes ready words anchored w node in
         rw (at.number, sym at.spells) (state-begins at.state (Some w) at.reached at.named).begins
@@ -251,16 +194,11 @@ module _ (f : Packer) (nodes : List Node) (ready : AreReady f nodes) where
     -- whether a string has matches
     has-some : (w : List ℕ) → has_matches f.plan nodes (Some w) ≡ true
         → matches_of f.plan.trie.built No (Some w) ≢ []
-    has-some w is none =
-        let some = ltb-true 0 (length (matches_of f.plan.trie.built No (Some w))) is in
-        let long = ap (λ (ms : List ℕ). length ms) none in
-        absurd (omega arith)
+    has-some w is none = cc
 
     has-none : (w : List ℕ) → has_matches f.plan nodes (Some w) ≡ false
         → matches_of f.plan.trie.built No (Some w) ≡ []
-    has-none w is =
-        nil_from_length (matches_of f.plan.trie.built No (Some w))
-        (let none = ltb-false 0 (length (matches_of f.plan.trie.built No (Some w))) is in omega arith)
+    has-none w is = search (rules, ltb-false, nil_from_length)
 
     -- what the spelling of a string lists
     spelled-matches : (anchored : Anchored) (w : List ℕ)
@@ -321,26 +259,14 @@ module _ (f : Packer) (nodes : List Node) (ready : AreReady f nodes) where
     -- two states of different nodes have two places
     unlike : (s t : ℕ) (u v : Node) → 2 ≤ s → 2 ≤ t → slice_get nodes s ≡ Some u → slice_get nodes t ≡ Some v → u ≢ v
         → place_at f.plan nodes s ≢ place_at f.plan nodes t
-    unlike s t u v reached other named there differ e = elim (cases_lt s t) [
-      | inl earlier ↦ places-apart s t u v reached earlier named there e
-      | inr past ↦ elim (cases_lt t s) [
-        | inl later ↦ places-apart t s v u other later there named (sym e)
-        | inr before ↦
-            let same : s ≡ t = omega arith in
-            let at : slice_get nodes s ≡ Some v = ap (slice_get nodes) same ∙ there in
-            absurd (differ cc)
-      ]
-    ]
+    unlike s t u v reached other named there differ e = search (rules, cases_lt s t, places-apart, cases_lt t s)
 
     -- so no string but the empty one has the number of a start
     no-start : (anchored : Anchored) (w : List ℕ) → IsNode f.plan.trie.built.kind (plain_of f.plan.trie.built) (Some w)
         → w ≢ [] → (places f nodes ready words).place w ≢ number_at (places f nodes ready words) anchored (Some [])
     no-start anchored [] node some e = absurd (some refl)
     no-start anchored (x ∷ w) node some e =
-        let at = has-place f nodes ready words No (x ∷ w) node in
-        let start = has-place f nodes ready words anchored [] refl in
-        absurd (unlike at.state start.state (Some (x ∷ w)) (Some []) at.reached start.reached at.named start.named
-        (λ same. absurd cc) (sym at.number ∙ e ∙ start.number))
+        search (rules, has-place f nodes ready words No (x ∷ w) node, has-place f nodes ready words anchored [] refl, unlike)
 
     -- the words mean what they should
     pub are-packed : packed_words f.plan.trie.built f.plan.dense_depth (alphabet_len f.plan.classes) ≤ GREATEST

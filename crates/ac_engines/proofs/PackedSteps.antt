@@ -1,12 +1,13 @@
 -- Where a state of a contiguous NFA leads, by the node that it stands for.
-use Rattle.std.proofs.Common.{◌≡◌, ◌≢◌, ℕ, ◌+◌, ◌<◌, Bool, true, false, List, [], ◌∷◌, ◌++◌, ◌⊎◌, inl, inr, refl, ap, sym, ◌∙◌, arith, Some, None, ◌&&◌, if◌then◌else◌, slice_index_or}
+use Rattle.std.proofs.Common.{◌≡◌, ◌≢◌, ℕ, ◌+◌, ◌<◌, Bool, true, false, List, [], ◌∷◌, ◌++◌, ◌⊎◌, inl, inr, refl, arith, Some, None, if◌then◌else◌, slice_index_or, rules}
 use Rattle.std.proofs.lemmas.Bool.{cond-true, cond-false}
 use Rattle.std.proofs.lemmas.List.Elements.{All-map, Contains-get_or}
+use Rattle.std.proofs.lemmas.Grind.{common_steps}
 use Rattle.ac_util.specs.declared.search.Anchored.{Anchored}
-use Rattle.ac_automaton.specs.Util.{begins_with_pattern, class_at, depth, is_leftmost, IsNode, No, Node, plain_byte, step, Yes}
+use Rattle.ac_automaton.specs.Util.{class_at, depth, IsNode, No, Node, plain_byte, step, Yes}
 use Rattle.ac_util.proofs.Failures.{depth-failure}
 use Rattle.ac_automaton.specs.Prelude.{leads_on, looks_of, miss, own_bytes, plain_of, step_of}
-use Rattle.ac_automaton.proofs.Steps.{looks-on, looks-own_target, looks-short, step-miss, step-on, step-own_target}
+use Rattle.ac_automaton.proofs.Steps.{looks-on, step-miss, step-on}
 use Rattle.ac_engines.specs.Prelude.{AreNamed, ContiguousView, Edge, edges_of, FAIL, IsContiguous, number_at, Places, spelling_at, target_by}
 use Rattle.ac_engines.proofs.EdgeTargets.{no-target, own-target}
 use Rattle.ac_engines.proofs.Filled.{own_bytes-only}
@@ -67,17 +68,12 @@ module _ (p : ContiguousView) (at : Places) (h : IsContiguous p at) where
   step-longer : (anchored : Anchored) (w : List ℕ) (b : ℕ) → leads_on p.built (Some w) b ≡ true
       → step_of p.built anchored (Some w) b ≡ Some (longer w b)
   step-longer Yes w b leads = own-is w b leads
-  step-longer No w b leads =
-      step-own_target p.built.kind (plain_of p.built) (Some w) (plain_byte p.built.fold b)
-      (λ none. let e : Some (longer w b) ≡ None = sym (own-is w b leads) ∙ none in absurd cc)
-      ∙ own-is w b leads
+  step-longer No w b leads = grind (arith, common_steps)
 
   one-look : (anchored : Anchored) (w : List ℕ) (b : ℕ) → leads_on p.built (Some w) b ≡ true
       → looks_of 2 p.built anchored (Some w) b ≡ 1
   one-look Yes w b leads = refl
-  one-look No w b leads =
-      looks-own_target p.built.kind (plain_of p.built) (Some w) (plain_byte p.built.fold b)
-      (λ none. let e : Some (longer w b) ≡ None = sym (own-is w b leads) ∙ none in absurd cc)
+  one-look No w b leads = grind (arith, common_steps)
 
   -- by a byte that leads on a state has a target
   target-longer : (anchored : Anchored) (w : List ℕ) (b : ℕ) → b < 256 → leads_on p.built (Some w) b ≡ true
@@ -90,10 +86,7 @@ module _ (p : ContiguousView) (at : Places) (h : IsContiguous p at) where
   -- no string's number is FAIL
   after-fail : (anchored : Anchored) (w : List ℕ) (c : ℕ)
       → IsNode p.built.kind (plain_of p.built) (Some (w ++ c ∷ [])) → at.place (w ++ c ∷ []) ≢ FAIL
-  after-fail anchored w c node e =
-      let after = h.after anchored (w ++ c ∷ []) node in
-      let same = longer-number anchored w c in
-      absurd (omega arith)
+  after-fail anchored w c node e = grind (arith, common_steps, longer-number anchored w c)
 
   -- so each transition leads to a state
   own-named : (w : List ℕ) → AreNamed (edges_of p at w)
@@ -114,18 +107,7 @@ module _ (p : ContiguousView) (at : Places) (h : IsContiguous p at) where
 
   reads-on : (anchored : Anchored) (w : List ℕ) (b : ℕ) → b < 256 → leads_on p.built (Some w) b ≡ true
       → ReadsStep anchored (Some w) b
-  reads-on anchored w b byte leads =
-      let never : target_of p at anchored (Some w) b ≢ FAIL =
-      λ e. after-fail anchored w (plain_byte p.built.fold b) leads (sym (target-longer anchored w b byte leads) ∙ e) in
-      record {
-        leads = λ some. record {
-          number = target-longer anchored w b byte leads ∙ longer-number anchored w (plain_byte p.built.fold b)
-              ∙ ap (number_at at anchored) (sym (step-longer anchored w b leads));
-          looks = one-look anchored w b leads;
-        };
-        ends = λ fail yes. absurd (never fail);
-        goes = λ fail no. absurd (never fail);
-      }
+  reads-on anchored w b byte leads = search (rules, after-fail, one-look, step-longer, target-longer)
 
   -- where the start goes on by a byte that doesn't lead on, it isn't FAIL
   home-not-fail : (v : Node) → (v ≡ None) ⊎ (v ≡ Some []) → number_at at No v ≢ FAIL
@@ -142,45 +124,25 @@ module _ (p : ContiguousView) (at : Places) (h : IsContiguous p at) where
   home-is false = inr refl
 
   reads-start : (b : ℕ) → b < 256 → leads_on p.built (Some []) b ≡ false → ReadsStep No (Some []) b
-  reads-start b byte none =
-      let target = no-target p at h.apart (number_at at No (onward (Some []))) [] b byte none in
-      record {
-        leads = λ some. record {
-          number = target
-              ∙ ap (number_at at No)
-              (sym (step-miss p.built.kind (plain_of p.built) (Some []) (plain_byte p.built.fold b) (own-none [] b none) refl));
-          looks = looks-short p.built.kind (plain_of p.built) (Some []) (plain_byte p.built.fold b) refl;
-        };
-        ends = λ fail yes. absurd cc;
-        goes = λ fail no. absurd (home-not-fail (onward (Some [])) (home-is (is_leftmost p.built.kind && begins_with_pattern (plain_of p.built) [])) (sym target ∙ fail));
-      }
+  reads-start b byte none = search (rules, home-is, home-not-fail, no-target, own-none, step-miss)
 
   reads-anchored : (w : List ℕ) (b : ℕ) → target_of p at Yes (Some w) b ≡ FAIL → leads_on p.built (Some w) b ≡ false
       → ReadsStep Yes (Some w) b
-  reads-anchored w b target none = record {
-    leads = λ some. absurd (some target);
-    ends = λ fail yes. own-none w b none;
-    goes = λ fail no. absurd cc;
-  }
+  reads-anchored w b target none = grind (arith, common_steps)
 
   reads-inner : (x : ℕ) (w : List ℕ) (b : ℕ) → b < 256 → leads_on p.built (Some (x ∷ w)) b ≡ false
       → ReadsStep No (Some (x ∷ w)) b
   reads-inner x w b byte none =
-      let target = no-target p at h.apart FAIL (x ∷ w) b byte none in
-      let off = own-none (x ∷ w) b none in
-      let long : 0 < depth (Some (x ∷ w)) = omega arith in
-      let nearer = depth-failure p.built.kind (plain_of p.built) x w in
-      record {
-        leads = λ some. absurd (some target);
-        ends = λ fail yes. absurd cc;
-        goes = λ fail no. record {
-          failure = refl;
-          node = failure-node p.built.kind (plain_of p.built) x w;
-          steps = step-on p.built.kind (plain_of p.built) (Some (x ∷ w)) (plain_byte p.built.fold b) off long;
-          looks = looks-on p.built.kind (plain_of p.built) (Some (x ∷ w)) (plain_byte p.built.fold b) off long;
-          shorter = omega arith;
-        };
-      }
+      grind (
+        arith,
+        common_steps,
+        own-none (x ∷ w) b none,
+        failure-node p.built.kind (plain_of p.built) x w,
+        step-on p.built.kind (plain_of p.built) (Some (x ∷ w)) (plain_byte p.built.fold b) (own-none (x ∷ w) b none) (omega arith),
+        looks-on p.built.kind (plain_of p.built) (Some (x ∷ w)) (plain_byte p.built.fold b) (own-none (x ∷ w) b none) (omega arith),
+        no-target,
+        depth-failure,
+      )
 
   -- what is read at any state
   pub reads : (anchored : Anchored) (v : Node) (b : ℕ) → b < 256 → ReadsStep anchored v b

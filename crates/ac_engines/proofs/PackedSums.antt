@@ -1,9 +1,10 @@
 -- Sums over the states of a plan, and over the strings that they stand for.
-use Rattle.std.proofs.Common.{◌≡◌, ◌≢◌, ℕ, zero, suc, ◌+◌, ◌<◌, ◌≤◌, List, [], ◌∷◌, length, map, inl, inr, Option, None, Some, refl, ap, sym, subst, ◌∙◌, add-one, arith, slice_get}
+use Rattle.std.proofs.Common.{◌≡◌, ◌≢◌, ℕ, zero, suc, ◌+◌, ◌<◌, ◌≤◌, List, [], ◌∷◌, length, map, inl, inr, Option, None, Some, refl, ap, sym, subst, ◌∙◌, add-one, arith, slice_get, rules}
 use Rattle.std.specs.List.{range_with_len, sum_by}
 use Rattle.std.proofs.lemmas.List.FromFn.{length-map-range_with_len}
 use Rattle.std.proofs.lemmas.List.Sums.{sum_by-cons}
 use Rattle.std.proofs.lemmas.Bool.{cases_lt}
+use Rattle.std.proofs.lemmas.Grind.{common_steps}
 use Rattle.ac_automaton.specs.Util.{inner_nodes, Node}
 use Rattle.ac_util.proofs.Lists.{IsIn, IsIn-from_Contains, IsIn-from_map, IsIn-from_range, IsOrdered}
 use Rattle.ac_automaton.specs.Prelude.{AreNodes, plain_of, Trie}
@@ -13,11 +14,6 @@ use Rattle.ac_engines.specs.Contiguous.Plans.{total}
 pub total-more : (f : ℕ → ℕ) (n : ℕ) → total f (n + 1) ≡ total f n + f n
 unfolding total
 total-more f n = rw add-one refl
-
--- nothing is summed at first
-pub total-none : (f : ℕ → ℕ) → total f 0 ≡ 0
-unfolding total
-total-none f = refl
 
 -- a sum grows with the numbers that it is over
 pub total-grows : (f : ℕ → ℕ) (m n : ℕ) → m ≤ n → total f m ≤ total f n
@@ -37,9 +33,7 @@ total-both f g (suc n) = omega (arith, total-both f g n)
 -- a sum over more numbers, of which the last ones are listed
 pub total-range : (f : ℕ → ℕ) (a n : ℕ) → total f (a + n) ≡ total f a + sum_by f (range_with_len a n)
 total-range f a zero = ap (total f) (let e : a + zero ≡ a = omega arith in e) ∙ omega arith
-total-range f a (suc n) =
-    ap (total f) (let e : a + suc n ≡ a + 1 + n = omega arith in e)
-    ∙ omega (arith, total-range f (a + 1) n, total-more f a, sum_by-cons f a (range_with_len (a + 1) n))
+total-range f a (suc n) = search (rules, total-range f (a + 1) n, total-more, sum_by-cons)
 
 -- rest is ys without one place at which x stands
 record IsWithout {X : Type 0} (f : X → ℕ) (x : X) (ys rest : List X) : Type 0 where
@@ -50,14 +44,7 @@ record IsWithout {X : Type 0} (f : X → ℕ) (x : X) (ys rest : List X) : Type 
 -- an element's place can be taken out
 without : {X : Type 0} (f : X → ℕ) (x : X) (ys : List X) → IsIn x ys → (rest : List X) × IsWithout f x ys rest
 without f x [] h = absurd h
-without f x (y ∷ ys) (inl e) = (
-  ys,
-  record {
-    shorter = refl;
-    others = λ z other h. elim h [ inl g ↦ absurd (other (sym e ∙ g)) | inr k ↦ k ];
-    sum = sum_by-cons f y ys ∙ ap (λ z. f z + sum_by f ys) e;
-  },
-)
+without f x (y ∷ ys) (inl e) = grind (arith, common_steps, sum_by-cons f y ys)
 without f x (y ∷ ys) (inr h) =
     let later = without f x ys h in
     let shorter = later.1.shorter in (
@@ -132,23 +119,8 @@ module _ (trie : Trie) (nodes : List Node) (h : AreNodes trie nodes) where
     sum-strings : (a n : ℕ) → 4 ≤ a → a + n ≤ length nodes
         → sum_by f (range_with_len a n) ≡ sum_by g (map string_at (range_with_len a n))
     sum-strings a zero after within = refl
-    sum-strings a (suc n) after within =
-        let here = same a (string_at a) after (string-named a after (omega arith)) in
-        omega (
-          arith,
-          sum_by-cons f a (range_with_len (a + 1) n),
-          sum_by-cons g (string_at a) (map string_at (range_with_len (a + 1) n)),
-          here,
-          sum-strings (a + 1) n (omega arith) (omega arith),
-        )
+    sum-strings a (suc n) after within = grind (arith, common_steps, string-named, sum-strings (a + 1) n (omega arith) (omega arith))
 
     -- and so the sum over all is that over the first four and that over the strings that aren't empty
     pub total-inner : total f (length nodes) ≡ total f 4 + sum_by g inner
-    total-inner =
-        let n = length inner in
-        let whole = h.numbered.count in
-        let within : 4 + n ≤ length nodes = omega (arith, whole) in
-        ap (total f) whole ∙ total-range f 4 n
-        ∙ ap (λ m. total f 4 + m) (sum-strings 4 n (omega arith) within
-        ∙ sum-same g (map string_at (range_with_len 4 n)) inner (strings-apart 4 n (omega arith) within)
-        (omega (arith, length-map-range_with_len string_at 4 n)) (strings-inner n within))
+    total-inner = search (rules, length-map-range_with_len, strings-apart, strings-inner, sum-same, sum-strings, total-range)

@@ -1,17 +1,17 @@
 -- How many words a state takes, and where its words begin.
-use Rattle.std.proofs.Common.{◌≡◌, ℕ, ◌<◌, ◌≤◌, List, [], ◌∷◌, ◌++◌, length, map, drop, refl, sym, ap, ◌∙◌, arith, slice_index_or}
+use Rattle.std.proofs.Common.{◌≡◌, ℕ, ◌<◌, ◌≤◌, List, [], ◌∷◌, ◌++◌, length, map, drop, refl, ap, arith, slice_index_or}
 use Rattle.std.specs.List.{All, range_with_len}
 use Rattle.std.specs.List.Sorted.{IsStrictlyIncreasing}
-use Rattle.std.proofs.lemmas.List.{append-nil, append_assoc, drop-append-le, drop_at, length-append, length-map}
+use Rattle.std.proofs.lemmas.List.{length-append, length-map}
 use Rattle.std.proofs.lemmas.List.FromFn.{length-map-range_with_len}
+use Rattle.std.proofs.lemmas.Grind.{common_steps}
 use Rattle.ac_engines.specs.Prelude.{BeginsWith, class_words, Dense, Edge, Format, match_spelling, match_words, One, ONE_MATCH, one_spelling, Sparse, spelled, Spelling, target_by, words_of_state}
 use Rattle.ac_engines.specs.Contiguous.Words.{Fits}
 use Rattle.ac_engines.proofs.ClassWords.{length-class_words}
 
 -- two words stand before what is pushed after them
 pub two-pushed : (words after : List ℕ) (a b : ℕ) → words ++ a ∷ [] ++ b ∷ [] ++ after ≡ words ++ a ∷ b ∷ after
-two-pushed words after a b =
-    append_assoc (words ++ a ∷ []) (b ∷ []) after ∙ append_assoc words (a ∷ []) (b ∷ after)
+two-pushed words after a b = grind (arith, common_steps)
 
 -- how many words the matches take
 pub length-match_spelling : (matches : List ℕ) → length (match_spelling matches) ≡ match_words (length matches)
@@ -61,29 +61,9 @@ module _ (format : Format) (classes : ℕ) (s : Spelling) where
       → classes ≤ 256 → All (λ e. e.class < classes) s.edges → IsStrictlyIncreasing (map (λ e. e.class) s.edges)
       → length s.matches < ONE_MATCH → ((k : ℕ) → slice_index_or s.matches k 0 < ONE_MATCH)
       → BeginsWith (drop (length before) words) format classes s
-  begins-after before words words_are fits few below ascending few_matches numbers = record {
-    rest = [];
-    words_are = ap (drop (length before)) words_are ∙ drop_at before (spelled format classes s) (length before) refl
-        ∙ sym (append-nil (spelled format classes s));
-    fits = fits;
-    few = few;
-    below = below;
-    ascending = ascending;
-    few_matches = few_matches;
-    numbers = numbers;
-  }
+  begins-after before words words_are fits few below ascending few_matches numbers = grind (arith, common_steps)
 
   -- and they do so still where more is pushed
   pub begins-before : (words after : List ℕ) (place : ℕ) → place ≤ length words
       → BeginsWith (drop place words) format classes s → BeginsWith (drop place (words ++ after)) format classes s
-  begins-before words after place within h = record {
-    rest = h.rest ++ after;
-    words_are = drop-append-le place words after within ∙ ap (λ ws. ws ++ after) h.words_are
-        ∙ append_assoc (spelled format classes s) h.rest after;
-    fits = h.fits;
-    few = h.few;
-    below = h.below;
-    ascending = h.ascending;
-    few_matches = h.few_matches;
-    numbers = h.numbers;
-  }
+  begins-before words after place within h = grind (arith, common_steps)

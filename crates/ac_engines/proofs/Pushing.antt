@@ -1,13 +1,12 @@
 -- Pushing the words of one state after another.
-use Rattle.std.proofs.Common.{◌≡◌, ◌≢◌, ℕ, ◌+◌, ◌<◌, ◌≤◌, Bool, true, false, List, [], ◌++◌, drop, length, inl, inr, refl, ap, sym, subst, ◌∙◌, arith, Some, slice_get}
+use Rattle.std.proofs.Common.{◌≡◌, ◌≢◌, ℕ, ◌+◌, ◌<◌, ◌≤◌, Bool, true, false, List, ◌++◌, drop, length, inl, inr, refl, ap, sym, subst, ◌∙◌, arith, Some, slice_get, rules}
 use Rattle.std.proofs.lemmas.Bool.{cases_lt}
 use Rattle.std.proofs.lemmas.List.{append_assoc, append-nil, length-append}
 use Rattle.std.proofs.lemmas.Option.{slice_get_within}
 use Rattle.ac_automaton.specs.Util.{alphabet_len, Node}
 use Rattle.ac_automaton.specs.declared.nfa.noncontiguous.state.TheConstants.{START}
-use Rattle.ac_automaton.specs.Prelude.{own_bytes}
 use Rattle.ac_automaton.proofs.Places.{get-same}
-use Rattle.ac_engines.specs.Prelude.{anchored_of, AreReady, BeginsWith, has_matches, HasPushedWords, node_format, packed_of, Packer, places_of, size_at, size_of, state_spelling, state_words, words_of_state}
+use Rattle.ac_engines.specs.Prelude.{AreReady, BeginsWith, has_matches, HasPushedWords, node_format, Packer, size_at, size_of, state_spelling, state_words}
 use Rattle.ac_engines.proofs.PackedSums.{total-grows}
 use Rattle.ac_engines.proofs.PlanSums.{before, before-starts, takes}
 use Rattle.ac_engines.proofs.PushedStates.{begins-before, begins-after, length-spelled}
@@ -26,36 +25,18 @@ module _ (f : Packer) (nodes : List Node) where
 
   -- none was pushed at first
   pub pushed-none : (front : Bool) (words : List ℕ) → HasPushedUpTo front 2 words words
-  pushed-none front words = record {
-    pushed = [];
-    same = sym (append-nil words);
-    long = let none = before-starts f.plan nodes front in omega arith;
-    each = λ s u reached less. absurd (omega (arith, reached, less));
-  }
+  pushed-none front words = search (rules, append-nil, before-starts)
 
   -- all were pushed at last
   pub pushed-all : (front : Bool) (old new : List ℕ) → HasPushedUpTo front (length nodes) old new
       → HasPushedWords f nodes front old new
-  pushed-all front old new h = record {
-    pushed = h.pushed;
-    same = h.same;
-    long = h.long;
-    each = λ s u reached named asked. h.each s u reached (slice_get_within nodes s u named) named asked;
-  }
+  pushed-all front old new h = search (rules, slice_get_within)
 
   module _ (ready : AreReady f nodes) (front : Bool) (s : ℕ) (u : Node) (reached : 2 ≤ s)
       (named : slice_get nodes s ≡ Some u) where
     -- a state takes as many words as its node
     length-state_words : length (state_words f nodes s u) ≡ size_of f.plan nodes u
-    length-state_words =
-        let spells = state-spells f nodes ready s u reached named in
-        length-spelled (node_format f.plan.trie.built f.plan.dense_depth u) (alphabet_len f.plan.classes)
-        (state_spelling f nodes s u) spells.fits
-        ∙ ap (λ n. words_of_state (node_format f.plan.trie.built f.plan.dense_depth u) (alphabet_len f.plan.classes) n
-        (length (state_spelling f nodes s u).matches)) (edges-count f nodes ready s u reached named)
-        ∙ ap (λ (ns : List ℕ). words_of_state (node_format f.plan.trie.built f.plan.dense_depth u)
-        (alphabet_len f.plan.classes) (length (own_bytes f.plan.trie.built u)) (length ns))
-        (matches-spelled (packed_of f.plan nodes f.numbers []) (places_of f.plan nodes f.numbers) (anchored_of s) u)
+    length-state_words = search (rules, edges-count, length-spelled, matches-spelled, state-spells)
 
     -- one that is asked for takes up its words
     grows-asked : (wanted : Bool) → has_matches f.plan nodes u ≡ wanted
@@ -67,10 +48,8 @@ module _ (f : Packer) (nodes : List Node) where
     stays-other : (wanted t : Bool) → has_matches f.plan nodes u ≡ t → t ≢ wanted
         → before f.plan nodes wanted (s + 1) ≡ before f.plan nodes wanted s
     stays-other true true is other = absurd (other refl)
-    stays-other true false is other =
-        let none = (takes f.plan nodes s u reached named false _ (sym is) refl).front in omega arith
-    stays-other false true is other =
-        let none = (takes f.plan nodes s u reached named true _ (sym is) refl).back in omega arith
+    stays-other true false is other = search (rules, takes f.plan nodes s u reached named false _ (sym is) refl)
+    stays-other false true is other = search (rules, takes f.plan nodes s u reached named true _ (sym is) refl)
     stays-other false false is other = absurd (other refl)
 
     module _ (old words : List ℕ) (h : HasPushedUpTo front s old words) where

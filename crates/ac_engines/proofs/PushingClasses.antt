@@ -1,7 +1,8 @@
 -- Writing classes in words, four in each.
 use Rattle.std.proofs.Common.{◌≡◌, inl, inr, ℕ, ◌-◌, ◌<◌, ◌≤◌, List, [], ◌∷◌, ◌++◌, length, map, take, drop, refl, sym, ap, ◌∙◌, arith, slice_index, min}
 use Rattle.std.proofs.lemmas.Bool.{cases_lt}
-use Rattle.std.proofs.lemmas.List.{append-nil, append_assoc, drop-map, drop_at, length-append, nil_from_length, take-map, take_at}
+use Rattle.std.proofs.lemmas.List.{append-nil, drop-map, drop_at, length-append, nil_from_length, take-map, take_at}
+use Rattle.std.proofs.lemmas.Grind.{common_steps}
 use Rattle.ac_engines.specs.Prelude.{class_words, Edge, word_of}
 
 -- up to four classes stand in one word, which is filled up with the last one
@@ -55,12 +56,7 @@ pub next-classes : (before now : List ℕ) (edges four rest : List Edge) (word :
     → class_words (map (λ e. e.class) four) ≡ word ∷ [] → edges ≡ four ++ rest
     → length four ≡ min 4 (length edges)
     → now ++ class_words (map (λ e. e.class) rest) ≡ before ++ class_words (map (λ e. e.class) edges)
-next-classes before now edges four rest word pushed one parts long =
-    let others = class_words (map (λ (e : Edge). e.class) rest) in
-    ap (λ words. words ++ others) pushed
-    ∙ append_assoc before (word ∷ []) others
-    ∙ ap (λ words. before ++ words) (sym (class_words-next edges four rest parts long
-    ∙ ap (λ words. words ++ others) one))
+next-classes before now edges four rest word pushed one parts long = grind (arith, common_steps, class_words-next edges four rest parts long)
 
 -- where no classes are left, nothing is
 pub no-classes : (before : List ℕ) (edges : List Edge) → length edges ≡ 0

@@ -1,11 +1,12 @@
 -- The rows of a DFA, filled one after another.
-use Rattle.std.proofs.Common.{◌≡◌, ◌≢◌, inl, inr, ℕ, zero, suc, ◌+◌, ◌<◌, ◌≤◌, List, length, slice_index_or, refl, ap, sym, ◌∙◌, arith, Some, None, slice_get}
+use Rattle.std.proofs.Common.{◌≡◌, ◌≢◌, inl, inr, ℕ, ◌+◌, ◌<◌, ◌≤◌, List, length, slice_index_or, refl, ◌∙◌, arith, Some, None, slice_get, rules}
 use Rattle.std.proofs.lemmas.Bool.{cases_lt}
 use Rattle.std.proofs.lemmas.Option.{slice_get_within}
+use Rattle.std.proofs.lemmas.Grind.{common_steps}
 use Rattle.ac_util.specs.declared.search.Anchored.{Anchored}
-use Rattle.ac_automaton.specs.Util.{Both, class_at, No, Node, start_refusal, StartKind, Unanchored, Yes}
+use Rattle.ac_automaton.specs.Util.{Both, No, Node, start_refusal, StartKind, Unanchored, Yes}
 use Rattle.ac_util.specs.declared.search.StartKind.TheVariants.{Anchored as AnchoredAlone}
-use Rattle.ac_engines.specs.Prelude.{anchored_shift, FilledUpTo, Filling, HasFilled, HasRow, IsFilled, MayFill, MayFillRow, row_at, SameBeside, Sheet, sheet_of, width}
+use Rattle.ac_engines.specs.Prelude.{FilledUpTo, Filling, HasFilled, HasRow, IsFilled, MayFill, MayFillRow, row_at, SameBeside, Sheet, sheet_of, width}
 use Rattle.ac_engines.proofs.Filled.{filled-beside}
 use Rattle.ac_engines.proofs.Numbered.{place-row}
 use Rattle.ac_engines.proofs.Owning.{anchored_shift-most}
@@ -80,26 +81,12 @@ module _ (f : Filling) (nodes : List Node) (size s : ℕ) (w : List ℕ) (h : Ha
   -- the row of a state may be filled once those before it are
   pub may-row : (anchored : Anchored) (old : List ℕ) → start_refusal f.start_kind anchored ≡ None
       → FilledUpTo f nodes size s old → MayFillRow f nodes size s w anchored old
-  may-row anchored old supported up = record {
-    row = h;
-    blank = λ k inside.
-        let within = slice_get_within nodes s (Some w) h.named in
-        let place = place-row f nodes size s w h in
-        let most = anchored_shift-most f.start_kind anchored f.stride in
-        up.blank s (row_at p anchored (Some w) + k) (omega arith)
-        (λ third. elim h.place [ inl start ↦ omega arith | inr inner ↦ omega arith ])
-        within (omega arith) (omega arith);
-    earlier = λ unanchored t u before other named.
-        up.filled t u before other named No (rw (sym unanchored) supported);
-  }
+  may-row anchored old supported up = search (rules, place-row f nodes size s w h, slice_get_within)
 
   -- what was changed in a row was changed in the rows of the state
   row-beside : (anchored : Anchored) (old new : List ℕ) → SameBeside p (row_at p anchored (Some w)) f.stride old new
       → SameBeside p (slice_index_or f.numbers s 0) (width p) old new
-  row-beside anchored old new beside k outside =
-      let place = place-row f nodes size s w h in
-      let most = anchored_shift-most f.start_kind anchored f.stride in
-      beside k (elim outside [ inl before ↦ inl (omega arith) | inr after ↦ inr (omega arith) ])
+  row-beside anchored old new beside k outside = search (rules, place-row f nodes size s w h)
 
   -- with the only row of a state filled
   pub one-filled : (anchored : Anchored) (old new : List ℕ)
@@ -111,21 +98,12 @@ module _ (f : Filling) (nodes : List Node) (size s : ℕ) (w : List ℕ) (h : Ha
 
   -- where there are both starts the anchored row stands after the unanchored one
   both-rows : f.start_kind ≡ Both → row_at p Yes (Some w) ≡ row_at p No (Some w) + f.stride
-  both-rows both =
-      let yes = ap (λ kind. anchored_shift kind Yes f.stride) both in
-      let no = ap (λ kind. anchored_shift kind No f.stride) both in
-      omega arith
+  both-rows both = grind (arith, common_steps)
 
   -- and is still empty when that is filled
   pub second-row : (old between : List ℕ) → f.start_kind ≡ Both → MayFillRow f nodes size s w Yes old
       → HasFilled p No w old between → MayFillRow f nodes size s w Yes between
-  second-row old between both m first = record {
-    row = h;
-    blank = λ k inside.
-        let rows = both-rows both in
-        first.beside (row_at p Yes (Some w) + k) (inr (omega arith)) ∙ m.blank k inside;
-    earlier = λ other. absurd cc;
-  }
+  second-row old between both m first = grind (arith, common_steps)
 
   -- with both rows filled
   pub both-filled : (old between new : List ℕ) → f.start_kind ≡ Both → FilledUpTo f nodes size s old
@@ -156,35 +134,8 @@ module _ (f : Filling) (nodes : List Node) (size : ℕ) (may : MayFill f nodes s
   -- a DFA with nothing but dead entries has the rows of the first two states filled
   pub filled-none : (entries : List ℕ) → length entries ≡ size → ((k : ℕ) → slice_index_or entries k 0 ≡ 0)
       → FilledUpTo f nodes size 2 entries
-  filled-none entries long blank = record {
-    long = long;
-    dead = λ k inside. blank k;
-    filled = λ t u before other named anchored supported. first t u before named anchored;
-    blank = λ t k later other within from to. blank k;
-  }
-    where
-      all-dead : (anchored : Anchored) → IsFilled (sheet_of f nodes) anchored None entries
-      all-dead anchored = record {
-        steps = λ b byte. blank (0 + class_at f.classes b);
-        past = λ k from to. blank (0 + k);
-      }
-
-      first : (t : ℕ) (u : Node) → t < 2 → slice_get nodes t ≡ Some u → (anchored : Anchored)
-          → IsFilled (sheet_of f nodes) anchored u entries
-      first zero u before named anchored = let dead = may.are_nodes.dead in
-          let none : u ≡ None = cc in rw none (all-dead anchored)
-      first (suc zero) u before named anchored = let dead = may.are_nodes.unreached in
-          let none : u ≡ None = cc in rw none (all-dead anchored)
-      first (suc (suc t)) u before named anchored = absurd (omega arith)
+  filled-none entries long blank = grind (arith, common_steps)
 
   -- the start of anchored searches has no row of its own
   pub filled-third : (entries : List ℕ) → FilledUpTo f nodes size 3 entries → FilledUpTo f nodes size 4 entries
-  filled-third entries up = record {
-    long = up.long;
-    dead = up.dead;
-    filled = λ t u before other named anchored supported. elim (cases_lt t 3) [
-      | inl earlier ↦ up.filled t u earlier other named anchored supported
-      | inr third ↦ absurd (other (omega arith))
-    ];
-    blank = λ t k later other within from to. up.blank t k (omega arith) other within from to;
-  }
+  filled-third entries up = search rules

@@ -1,9 +1,8 @@
 -- The rows of a node and their lists, by the starts that a DFA has.
-use Rattle.std.proofs.Common.{◌≡◌, ◌⊎◌, inl, inr, ℕ, zero, suc, ◌+◌, ◌-◌, ◌*◌, ◌<◌, ◌≤◌, List, [], ◌∷◌, ◌++◌, length, slice_index_or, refl, ap, sym, ◌∙◌, arith, Some, None}
+use Rattle.std.proofs.Common.{◌≡◌, ◌⊎◌, inl, inr, ℕ, zero, suc, ◌+◌, ◌-◌, ◌*◌, ◌<◌, ◌≤◌, List, [], ◌∷◌, ◌++◌, slice_index_or, refl, ap, sym, ◌∙◌, arith, Some, None}
 use Rattle.std.proofs.Math.Nat.{mul-div_cancel}
-use Rattle.std.proofs.lemmas.Nat.{mul-le}
 use Rattle.ac_util.specs.declared.search.Anchored.{Anchored}
-use Rattle.ac_automaton.specs.Util.{Both, Built, GREATEST, No, Node, start_refusal, StartKind, Unanchored, Yes}
+use Rattle.ac_automaton.specs.Util.{Both, Built, No, Node, start_refusal, StartKind, Unanchored, Yes}
 use Rattle.ac_util.specs.declared.search.StartKind.TheVariants.{Anchored as AnchoredAlone}
 use Rattle.ac_util.proofs.Advance.{append_nil_left}
 use Rattle.ac_automaton.specs.Prelude.{IsTrieState, listed_within, matches_of, stands-lists, Trie}
@@ -87,12 +86,6 @@ module _ (built : Built) (u : Node) where
   row_lists-at AnchoredAlone No h = absurd cc
   row_lists-at AnchoredAlone Yes h = refl
 
-  -- there are as many as the state has rows
-  pub length-row_lists : (start_kind : StartKind) → length (row_lists start_kind built u) ≡ rows_each start_kind
-  length-row_lists Both = refl
-  length-row_lists Unanchored = refl
-  length-row_lists AnchoredAlone = refl
-
 module _ (built : Built) where
   -- so do those of the start
   pub first_lists-at : (start_kind : StartKind) (anchored : Anchored) → start_refusal start_kind anchored ≡ None
@@ -104,11 +97,6 @@ module _ (built : Built) where
   first_lists-at Unanchored Yes h = absurd cc
   first_lists-at AnchoredAlone No h = absurd cc
   first_lists-at AnchoredAlone Yes h = refl
-
-  pub length-first_lists : (start_kind : StartKind) → length (first_lists start_kind built) ≡ 4
-  length-first_lists Both = refl
-  length-first_lists Unanchored = refl
-  length-first_lists AnchoredAlone = refl
 
   -- the first two are empty
   pub first_lists-empty : (start_kind : StartKind) (k : ℕ) → k < 2 → slice_index_or (first_lists start_kind built) k [] ≡ []
@@ -134,11 +122,3 @@ module _ (built : Built) where
   first_lists-none AnchoredAlone none (suc (suc zero)) h = none Yes
   first_lists-none AnchoredAlone none (suc (suc (suc zero))) h = refl
   first_lists-none start_kind none (suc (suc (suc (suc k)))) h = absurd (omega arith)
-
--- the number of a row that ends within a DFA is small where that of the last row is
-pub small-number : (start_kind : StartKind) (row last stride : ℕ) → row + rows_each start_kind ≤ last
-    → (last - 1) * stride ≤ GREATEST → row * stride ≤ GREATEST
-small-number start_kind row last stride within small =
-    let e = anchored_shift-each start_kind Yes in
-    let m = mul-le row stride (last - 1) stride (omega (arith, e, within)) (omega arith) in
-    omega (arith, m, small)

@@ -1,5 +1,5 @@
 -- Setting own transitions in a row of a DFA, one after another.
-use Rattle.std.proofs.Common.{◌≡◌, ◌≢◌, inl, inr, ℕ, ◌+◌, ◌<◌, List, [], ◌∷◌, ◌++◌, length, slice_set, refl, sym, ◌∙◌, arith, Some, Contains}
+use Rattle.std.proofs.Common.{◌≡◌, ◌≢◌, inl, inr, ℕ, ◌+◌, ◌<◌, List, [], ◌∷◌, ◌++◌, length, slice_set, sym, ◌∙◌, arith, Some, Contains}
 use Rattle.std.proofs.lemmas.Bool.{cases_eq}
 use Rattle.std.proofs.lemmas.List.{get_or-set_same, get_or-set_other, length-set}
 use Rattle.std.proofs.lemmas.List.Elements.{Contains-append_cases, Contains-append_left, Contains-append_right}
@@ -7,10 +7,6 @@ use Rattle.ac_util.specs.declared.search.Anchored.{Anchored}
 use Rattle.ac_automaton.specs.Util.{alphabet_len, class_at, plain_byte}
 use Rattle.ac_util.proofs.Lists.{IsIn-from_Contains}
 use Rattle.ac_engines.specs.Dfa.Filling.{HasSet, Sheet, row_at}
-
--- nothing is in an empty list, and one thing in a list of one
-Contains-none : (b : ℕ) → Contains [] b → ⊥
-Contains-none b h = omega (arith, h.1)
 
 Contains-one : (a b : ℕ) → Contains (b ∷ []) a → a ≡ b
 Contains-one a b h = elim (IsIn-from_Contains a (b ∷ []) h) [ inl same ↦ sym same | inr none ↦ absurd none ]
@@ -20,15 +16,6 @@ Contains-own a b same = (0, omega arith, sym same)
 
 module _ (p : Sheet) (anchored : Anchored) (w : List ℕ)
     (below : (b : ℕ) → b < 256 → class_at p.classes b < alphabet_len p.classes) where
-  -- nothing has been set at first
-  pub set-none : (entries : List ℕ) → HasSet p anchored w [] entries entries
-  set-none entries = record {
-    same_length = refl;
-    beside = λ k outside. refl;
-    own = λ b byte none. absurd (Contains-none b none);
-    others = λ b byte none. refl;
-  }
-
   -- the row begins here
   abbrev row : ℕ
   row = row_at p anchored (Some w)

@@ -1,10 +1,11 @@
 -- Setting the targets of transitions at their classes, one after another.
-use Rattle.std.proofs.Common.{◌≡◌, ◌≢◌, inl, inr, ℕ, suc, ◌+◌, ◌-◌, ◌<◌, List, [], ◌∷◌, ◌++◌, length, map, take, drop, refl, sym, ap, ◌∙◌, arith, ◌==◌, if◌then◌else◌, replicate, slice_index_or, slice_set}
+use Rattle.std.proofs.Common.{◌≡◌, ◌≢◌, ℕ, suc, ◌+◌, ◌-◌, ◌<◌, List, [], ◌∷◌, ◌++◌, length, map, take, drop, refl, sym, ap, ◌∙◌, arith, ◌==◌, if◌then◌else◌, replicate, slice_index_or, slice_set, rules}
 use Rattle.std.specs.List.{All, range_with_len}
 use Rattle.std.specs.List.Sorted.{IsStrictlyIncreasing}
-use Rattle.std.proofs.lemmas.Bool.{cases_eq, eq-eqb, ne_eqb}
-use Rattle.std.proofs.lemmas.List.{drop_at, ext_get_or, get_or-map, get_or-replicate, get_or-set_other, get_or-set_same, get_or-take, length-append, length-map, length-replicate, length-set, length-take, length-take-le, take-append-le, take_all, take_at, take_more}
+use Rattle.std.proofs.lemmas.Bool.{eq-eqb, ne_eqb}
+use Rattle.std.proofs.lemmas.List.{ext_get_or, get_or-map, get_or-replicate, get_or-take, length-append, length-map, length-replicate, length-take-le, take-append-le, take_at}
 use Rattle.std.proofs.lemmas.Slice.{take-put_mid}
+use Rattle.std.proofs.lemmas.Grind.{common_steps}
 use borrow.Rule.Slice.PartMut.{put_mid}
 use Rattle.std.proofs.lemmas.List.FromFn.{get_or-map-range_with_len, length-map-range_with_len}
 use Rattle.std.proofs.lemmas.List.Kept.{AllPairs-from_increasing}
@@ -50,19 +51,7 @@ pub next-target : (old now : List ℕ) (edges : List Edge) (i : ℕ) (d : Edge)
     → (slice_index_or edges i d).class < length old → HasTargets old (take i edges) now
     → HasTargets old (take (i + 1) edges)
     (slice_set now (slice_index_or edges i d).class (slice_index_or edges i d).target)
-next-target old now edges i d ascending more within h =
-    let e = slice_index_or edges i d in
-    rw (take_more edges i d more) (record {
-      same_length = length-set now e.class e.target ∙ h.same_length;
-      each = λ class small. elim (cases_eq e.class class) [
-        | inl same ↦
-            rw (sym same) (get_or-set_same now e.class e.target 0 (let long = h.same_length in omega arith)
-            ∙ sym (target-same (slice_index_or old e.class 0) (take i edges) e (none-before edges i d ascending more)))
-        | inr other ↦
-            get_or-set_other now e.class class e.target 0 (λ same. other (sym same)) ∙ h.each class small
-            ∙ sym (target-other (slice_index_or old class 0) (take i edges) e class other)
-      ];
-    })
+next-target old now edges i d ascending more within h = grind (arith, common_steps, none-before, target-other, target-same)
 
 -- all targets, where before each class led to the same
 pub all-targets : (missing classes : ℕ) (edges : List Edge) (now : List ℕ)
@@ -81,33 +70,16 @@ all-targets missing classes edges now h =
 -- words that are made longer by so many hold the same after
 pub resized : (before : List ℕ) (start classes len missing : ℕ) → start ≡ length before → start ≡ len
     → take (start + classes) before ++ replicate (start + classes - len) missing ≡ before ++ replicate classes missing
-resized before start classes len missing start_is len_is =
-    let more : start + classes - len ≡ classes = omega arith in
-    ap (λ items. items ++ replicate (start + classes - len) missing) (take_all (start + classes) before (omega arith))
-    ∙ ap (λ n. before ++ replicate n missing) more
+resized before start classes len missing start_is len_is = grind (arith, common_steps)
 
 -- writing a part that reaches to the end leaves what stands before it
 pub written-after : (before now targets : List ℕ) (start n missing classes : ℕ) → start ≡ length before
     → now ≡ before ++ replicate classes missing → n ≡ length now → length targets ≡ classes
     → (after : List ℕ) → take n (put_mid start (length now - start) now targets ++ after) ≡ before ++ targets
 written-after before now targets start n missing classes start_is now_is n_is long after =
-    let sum = ap length now_is ∙ length-append before (replicate classes missing) in
-    let blank = length-replicate classes missing in
-    let part = take-put_mid start (length now - start) now targets n (omega arith) (omega arith) in
-    let whole = ap length part ∙ length-append (take start now) targets in
-    let first = length-take-le start now (omega arith) in
-    let room = length-take n (put_mid start (length now - start) now targets) in
-    take-append-le n (put_mid start (length now - start) now targets) after (omega arith)
-    ∙ part
-    ∙ ap (λ items. items ++ targets)
-    (ap (take start) now_is ∙ take_at before (replicate classes missing) start (sym start_is))
+    search (rules, length-append, length-replicate, take-append-le, take-put_mid, take_at)
 
 -- the part to which the targets are written
 pub blank-after : (before now : List ℕ) (start missing classes : ℕ) → start ≡ length before
     → now ≡ before ++ replicate classes missing → take (length now - start) (drop start now) ≡ replicate classes missing
-blank-after before now start missing classes start_is now_is =
-    let sum = ap length now_is ∙ length-append before (replicate classes missing) in
-    let blank = length-replicate classes missing in
-    ap (take (length now - start))
-    (ap (drop start) now_is ∙ drop_at before (replicate classes missing) start (sym start_is))
-    ∙ take_all (length now - start) (replicate classes missing) (omega arith)
+blank-after before now start missing classes start_is now_is = grind (arith, common_steps)

@@ -1,24 +1,19 @@
 -- What stands where in the words of a state.
-use Rattle.std.proofs.Common.{refl, ◌≡◌, ◌≢◌, ℕ, ◌+◌, ◌*◌, ◌-◌, ◌/◌, ◌%◌, ◌<◌, ◌≤◌, Bool, true, false, List, [], ◌∷◌, ◌++◌, length, map, take, drop, Some, None, ap, sym, subst, ◌∙◌, arith, ◌==◌, All, slice_index_or}
+use Rattle.std.proofs.Common.{refl, ◌≡◌, ◌≢◌, ℕ, ◌+◌, ◌*◌, ◌-◌, ◌/◌, ◌%◌, ◌<◌, ◌≤◌, List, [], ◌∷◌, ◌++◌, length, map, take, drop, Some, None, ap, sym, ◌∙◌, arith, ◌==◌, All, slice_index_or, rules}
 use Rattle.std.specs.Int.{div_ceil}
 use Rattle.std.specs.List.{range_with_len}
-use Rattle.std.proofs.lemmas.Bool.{cond-false, cond-true, eq-eqb, eqb-false, eqb-true, ne_eqb}
+use Rattle.std.proofs.lemmas.Bool.{cond-false, cond-true, eq-eqb, ne_eqb}
 use Rattle.std.proofs.lemmas.Grind.{div_ceil_times}
-use Rattle.std.proofs.Math.Seq.{take-append_seam}
-use Rattle.std.proofs.lemmas.List.{append_assoc, drop_at, get_or-drop, get_or_append_left, length-append, length-drop, length-map, take_all}
-use Rattle.std.proofs.lemmas.Option.{same_Some}
+use Rattle.std.proofs.lemmas.List.{append_assoc, get_or-drop, length-append, length-drop, length-map, take_all}
 use Rattle.std.proofs.lemmas.List.FromFn.{get_or-map-range_with_len, length-map-range_with_len}
+use Rattle.std.proofs.lemmas.Grind.{common_steps}
 use Rattle.ac_engines.specs.Prelude.{AreNamed, BeginsWith, class_words, DENSE, Dense, Edge, FAIL, Format, match_spelling, named, ONE, One, one_spelling, Sparse, spelled, Spelling, target_by}
 use Rattle.ac_engines.proofs.ClassWords.{edge_classes, length-class_words, targets_of}
 
 -- as many class words as the code counts hold the classes of the transitions
 counted : (es : List Edge) (transitions : ℕ) → transitions ≡ length es
     → length (class_words (edge_classes es)) ≡ div_ceil transitions 4
-counted es transitions are =
-    let enough = length-class_words (edge_classes es) in
-    let times = div_ceil_times transitions 4 (omega arith) in
-    let same = length-map es (λ e. e.class) in
-    omega (arith, enough, times.0, times.1, same, are)
+counted es transitions are = search (rules, div_ceil_times, length-class_words, length-map)
 
 -- a word names a target, or none
 pub named-some : (target : ℕ) → target ≢ FAIL → Some target ≡ named target
@@ -29,20 +24,10 @@ named-none target none = sym (cond-true (target == FAIL) None (Some target) (eq-
 
 -- and what a word names is its target
 pub some-named : (target next : ℕ) → named target ≡ Some next → (next ≡ target) × (next ≢ FAIL)
-some-named target next names = by (target == FAIL) refl
-  where
-    by : (t : Bool) → (target == FAIL) ≡ t → (next ≡ target) × (next ≢ FAIL)
-    by true fail = let none = named-none target (eqb-true target FAIL fail) ∙ names in absurd cc
-    by false other =
-        let some : target ≡ next = same_Some target next (named-some target (eqb-false target FAIL other) ∙ names) in
-        (sym some, λ fail. eqb-false target FAIL other (some ∙ fail))
+some-named target next names = grind (arith, common_steps)
 
 pub none-named : (target : ℕ) → named target ≡ None → target ≡ FAIL
-none-named target names = by (target == FAIL) refl
-  where
-    by : (t : Bool) → (target == FAIL) ≡ t → target ≡ FAIL
-    by true fail = eqb-true target FAIL fail
-    by false other = let some = named-some target (eqb-false target FAIL other) ∙ names in absurd cc
+none-named target names = grind (arith, common_steps)
 
 module _ (words : List ℕ) (classes : ℕ) (s : Spelling) where
   -- the words of a sparse state, one part after the other
@@ -72,20 +57,15 @@ module _ (words : List ℕ) (classes : ℕ) (s : Spelling) where
   pub splits-at : (transitions count : ℕ) → BeginsWith words Sparse classes s → transitions ≡ length s.edges
       → count ≡ div_ceil transitions 4 → SplitsAt transitions count
   splits-at transitions count h are counts =
-      let more = match_spelling s.matches ++ h.rest in
-      let tail : drop 2 words ≡ class_words (edge_classes s.edges) ++ (targets_of s.edges ++ more) =
-      ap (λ (ns : List ℕ). drop 2 ns) (sparse-words h) in
-      let all : after ≡ class_words (edge_classes s.edges) ++ (targets_of s.edges ++ more) =
-      take_all (length words - 2) (drop 2 words) (rw (length-drop 2 words) (omega arith)) ∙ tail in
-      let same : count ≡ length (class_words (edge_classes s.edges)) = counts ∙ sym (counted s.edges transitions are) in
-      record {
-        long = rw (sparse-words h) (omega arith);
-        enough = rw (all, same, length-append (class_words (edge_classes s.edges)) (targets_of s.edges ++ more)) (omega arith);
-        front = rw (all, same) (take-append_seam (class_words (edge_classes s.edges)) (targets_of s.edges ++ more));
-        more = more;
-        back = rw all (drop_at (class_words (edge_classes s.edges)) (targets_of s.edges ++ more) count (sym same));
-        small = λ k d within. let low = h.below k d within in omega (arith, low, h.few);
-      }
+      grind (
+        arith,
+        common_steps,
+        sparse-words h,
+        take_all (length words - 2) (drop 2 words) (rw (length-drop 2 words) (omega arith)),
+        length-drop 2 words,
+        counted s.edges transitions are,
+        length-append (class_words (edge_classes s.edges)) (targets_of s.edges ++ (match_spelling s.matches ++ h.rest)),
+      )
 
   -- the words of a dense state, one part after the other
   pub dense-words : (h : BeginsWith words Dense classes s)
@@ -120,18 +100,15 @@ module _ (words : List ℕ) (classes : ℕ) (s : Spelling) where
 
   pub leads-at : (class : ℕ) → BeginsWith words Dense classes s → class < classes → LeadsAt class
   leads-at class h low =
-      let targets = map (target_by s.missing s.edges) (range_with_len 0 classes) in
-      let more = match_spelling s.matches ++ h.rest in
-      let tail : drop 2 words ≡ targets ++ more = ap (λ (ns : List ℕ). drop 2 ns) (dense-words h) in
-      let many = length-map-range_with_len (target_by s.missing s.edges) 0 classes in
-      let long = ap (λ (ns : List ℕ). length ns) tail ∙ length-append targets more in
-      let dropped = length-drop 2 words in
-      record {
-        within = omega (arith, low, many, long, dropped);
-        target = sym (get_or-drop 2 words class 0) ∙ ap (λ (ns : List ℕ). slice_index_or ns class 0) tail
-            ∙ get_or_append_left targets more 0 class (omega (arith, low, many))
-            ∙ get_or-map-range_with_len (target_by s.missing s.edges) 0 classes class class 0 low (omega arith);
-      }
+      grind (
+        arith,
+        common_steps,
+        dense-words h,
+        length-map-range_with_len (target_by s.missing s.edges) 0 classes,
+        length-drop 2 words,
+        get_or-drop 2 words class 0,
+        get_or-map-range_with_len (target_by s.missing s.edges) 0 classes class class 0 low (omega arith),
+      )
 
   -- where a state with one transition leads by a class, whose byte stands beside the form
   pub record LeadsOne (class : ℕ) : Type 0 where
@@ -151,24 +128,7 @@ module _ (words : List ℕ) (classes : ℕ) (s : Spelling) where
   no-target e class only other = rw (only, ne_eqb e.class class other) refl
 
   pub leads-one : (class : ℕ) → BeginsWith words One classes s → LeadsOne class
-  leads-one class h =
-      let one = one-words h in
-      let e = one.edge in
-      let first = ap (λ (ns : List ℕ). slice_index_or ns 0 0) one.words_are in
-      let below = subst (λ (es : List Edge). All (λ e. e.class < classes) es) one.only h.below 0 e (omega arith) in
-      let few = h.few in
-      let byte : slice_index_or words 0 0 / 256 % 256 ≡ e.class = omega (arith, first, below, few) in
-      record {
-        within = rw one.words_are (omega arith);
-        hit = λ same are.
-            let target : target_by s.missing s.edges class ≡ e.target = one-target e class one.only (sym byte ∙ same) in
-            let some = subst AreNamed one.only are 0 e (omega arith) in
-            ap (λ (ns : List ℕ). Some (slice_index_or ns 2 0)) one.words_are ∙ ap Some (sym target)
-            ∙ named-some (target_by s.missing s.edges class) (λ none. some (sym target ∙ none));
-        miss = λ other.
-            named-none (target_by s.missing s.edges class)
-            (no-target e class one.only (λ same. other (byte ∙ same)) ∙ h.fits.2);
-      }
+  leads-one class h = grind (arith, common_steps, one-words h, one-target, named-none, no-target)
 
   -- the second word is the failure target
   pub record HasFailure : Type 0 where
@@ -176,10 +136,7 @@ module _ (words : List ℕ) (classes : ℕ) (s : Spelling) where
     pub failure : slice_index_or words 1 0 ≡ s.failure
 
   has-failure-words : (first : ℕ) (more : List ℕ) → words ≡ first ∷ s.failure ∷ more → HasFailure
-  has-failure-words first more are = record {
-    within = rw are (omega arith);
-    failure = ap (λ (ns : List ℕ). slice_index_or ns 1 0) are;
-  }
+  has-failure-words first more are = grind (arith, common_steps)
 
   pub has-failure : (format : Format) → BeginsWith words format classes s → HasFailure
   has-failure Dense h = has-failure-words _ _ (dense-words h)
@@ -194,16 +151,10 @@ module _ (words : List ℕ) (classes : ℕ) (s : Spelling) where
   form-dense h = ap (λ (ns : List ℕ). slice_index_or ns 0 0 % 256) (dense-words h)
 
   pub form-one : BeginsWith words One classes s → form ≡ 254
-  form-one h =
-      let one = one-words h in
-      let first = ap (λ (ns : List ℕ). slice_index_or ns 0 0) one.words_are in
-      omega (arith, first)
+  form-one h = grind (arith, common_steps, one-words h)
 
   pub form-sparse : BeginsWith words Sparse classes s → (form ≡ length s.edges) × (length s.edges ≤ 127)
-  form-sparse h =
-      let first = ap (λ (ns : List ℕ). slice_index_or ns 0 0) (sparse-words h) in
-      let few = h.fits.0 in
-      (omega (arith, first, few), few)
+  form-sparse h = grind (arith, common_steps, sparse-words h)
 
   pub is-dense : (format : Format) → BeginsWith words format classes s → form ≡ 255 → BeginsWith words Dense classes s
   is-dense Dense h tells = h
@@ -232,13 +183,7 @@ module _ (words : List ℕ) (classes : ℕ) (s : Spelling) where
 
   lists-from : (place : ℕ) (front rest : List ℕ) → words ≡ front ++ (match_spelling s.matches ++ rest)
       → length front ≡ place → ListsFrom place rest
-  lists-from place front rest are long =
-      let all = ap (λ (ns : List ℕ). length ns) are ∙ length-append front (match_spelling s.matches ++ rest) in
-      record {
-        within = omega (arith, all, long);
-        lists = take_all (length words - place) (drop place words) (rw (length-drop place words) (omega arith))
-            ∙ ap (λ (ns : List ℕ). drop place ns) are ∙ drop_at front (match_spelling s.matches ++ rest) place long;
-      }
+  lists-from place front rest are long = grind (arith, common_steps)
 
   pub dense-lists : (format : Format) (h : BeginsWith words format classes s) → form ≡ 255
       → ListsFrom (2 + classes) h.rest

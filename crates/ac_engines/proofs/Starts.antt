@@ -1,5 +1,5 @@
 -- Where the start leads.
-use Rattle.std.proofs.Common.{◌≡◌, ℕ, ◌<◌, Bool, true, false, ◌⊎◌, inl, inr, List, [], ◌∷◌, map, refl, arith, ◌&&◌, if◌then◌else◌}
+use Rattle.std.proofs.Common.{◌≡◌, ℕ, ◌<◌, Bool, true, false, ◌⊎◌, inl, inr, List, [], ◌∷◌, map, refl, arith, ◌&&◌, if◌then◌else◌, rules}
 use Rattle.ac_automaton.specs.Util.{begins_with_pattern, is_leftmost, MatchKind, plain, shortest_len}
 
 -- the empty string begins with a pattern where the shortest one is empty
@@ -26,8 +26,4 @@ pub missing-start : (kind : MatchKind) (fold : Bool) (patterns : List (List ℕ)
     → (is_leftmost kind ≡ false) ⊎ (0 < shortest_len patterns)
     → start ≡ (if is_leftmost kind && begins_with_pattern (map (plain fold) patterns) [] then 0 else start)
 missing-start kind fold patterns start (inl other) = rw other refl
-missing-start kind fold patterns start (inr some) = rw (begins-longer fold patterns some) (go (is_leftmost kind))
-  where
-    go : (t : Bool) → start ≡ (if t && false then 0 else start)
-    go true = refl
-    go false = refl
+missing-start kind fold patterns start (inr some) = search (rules, begins-longer)

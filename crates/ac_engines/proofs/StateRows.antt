@@ -1,10 +1,10 @@
 -- Which states of a trie have rows in a DFA, and that these stand apart.
-use Rattle.std.proofs.Common.{◌≡◌, ◌≢◌, ◌⊎◌, inl, inr, ℕ, zero, suc, ◌+◌, ◌*◌, ◌<◌, ◌≤◌, List, [], ◌∷◌, length, slice_index_or, refl, ap, arith, Some, None, slice_get}
+use Rattle.std.proofs.Common.{◌≡◌, ◌≢◌, ◌⊎◌, inl, inr, ℕ, zero, suc, ◌+◌, ◌*◌, ◌<◌, ◌≤◌, List, [], ◌∷◌, length, slice_index_or, refl, arith, Some, None, slice_get, rules}
 use Rattle.std.proofs.lemmas.Option.{slice_get_within}
-use Rattle.ac_automaton.specs.Util.{Both, class_at, failure, MatchKind, No, Node, StartKind, Unanchored, Yes}
+use Rattle.std.proofs.lemmas.Grind.{common_steps}
+use Rattle.ac_automaton.specs.Util.{Both, class_at, failure, MatchKind, No, Node, StartKind, Unanchored}
 use Rattle.ac_util.specs.declared.search.StartKind.TheVariants.{Anchored as AnchoredAlone}
 use Rattle.ac_engines.specs.Prelude.{anchored_shift, Filling, HasRow, MayFill, row_at, sheet_of, width}
-use Rattle.ac_engines.proofs.Numbers.{anchored_shift-small}
 use Rattle.ac_engines.proofs.Numbered.{place-inner, place-start}
 
 -- an unanchored row stands at the place of its state
@@ -26,22 +26,14 @@ module _ (f : Filling) (nodes : List Node) (size : ℕ) (may : MayFill f nodes s
   row-of (suc zero) None named other = may.laid.unreached
   row-of (suc zero) (Some w) named other = let dead = may.are_nodes.unreached in absurd cc
   row-of (suc (suc zero)) None named other = let start = may.are_nodes.start in absurd cc
-  row-of (suc (suc zero)) (Some w) named other =
-      let start = may.are_nodes.start in
-      let empty : w ≡ [] = cc in
-      let place = place-start f.trie nodes may.are_nodes f.numbers may.laid.count in
-      let none = anchored_shift-none f.start_kind f.stride in
-      rw empty (omega arith)
+  row-of (suc (suc zero)) (Some w) named other = search (rules, anchored_shift-none, place-start)
   row-of (suc (suc (suc zero))) u named other = absurd (other refl)
   row-of (suc (suc (suc (suc t)))) None named other =
       let within = slice_get_within nodes (suc (suc (suc (suc t)))) None named in
       let node = (may.are_nodes.numbered.node (suc (suc (suc (suc t)))) (omega arith) within).1.named in
       absurd cc
   row-of (suc (suc (suc (suc t)))) (Some w) named other =
-      let place = place-inner f.trie nodes may.are_nodes f.numbers (suc (suc (suc (suc t)))) w may.laid.count
-      (omega arith) named in
-      let none = anchored_shift-none f.start_kind f.stride in
-      omega arith
+      grind (arith, common_steps, place-inner f.trie nodes may.are_nodes f.numbers (suc (suc (suc (suc t)))) w may.laid.count (omega arith) named)
 
   -- a state that stands for a string has a row, but for the start of anchored searches
   pub has-row : (t : ℕ) (w : List ℕ) → slice_get nodes t ≡ Some (Some w) → t ≢ 3 → HasRow f nodes size t w
@@ -61,21 +53,13 @@ module _ (f : Filling) (nodes : List Node) (size : ℕ) (may : MayFill f nodes s
   pub rows-apart : (s t : ℕ) → (s ≡ 2) ⊎ (4 ≤ s) → 4 ≤ t → s < t → t < length f.numbers
       → (slice_index_or f.numbers s 0 + width (sheet_of f nodes) ≤ slice_index_or f.numbers t 0)
       ⊎ (slice_index_or f.numbers t 0 + width (sheet_of f nodes) ≤ slice_index_or f.numbers s 0)
-  rows-apart s t (inl start) inner order there =
-      let first = may.laid.start in
-      let at = ap (λ k. slice_index_or f.numbers k 0) start in
-      let later = may.laid.inner t inner there in
-      let small = anchored_shift-small f.start_kind Yes f.stride in
-      inl (omega arith)
+  rows-apart s t (inl start) inner order there = grind (arith, common_steps)
   rows-apart s t (inr other) inner order there = may.laid.apart s t other order there
 
   -- and after that of the dead state
   pub row-anchored_shift : (s : ℕ) → (s ≡ 2) ⊎ (4 ≤ s) → s < length f.numbers
       → 2 * f.stride ≤ slice_index_or f.numbers s 0
-  row-anchored_shift s (inl start) there =
-      let first = may.laid.start in
-      let at = ap (λ k. slice_index_or f.numbers k 0) start in
-      omega arith
+  row-anchored_shift s (inl start) there = grind (arith, common_steps)
   row-anchored_shift s (inr inner) there = let later = may.laid.inner s inner there in omega arith
 
 -- the failure target of a string that isn't empty

@@ -1,11 +1,12 @@
 -- What the states of a trie spell.
-use Rattle.std.proofs.Common.{◌≡◌, ◌≢◌, inl, inr, ℕ, zero, suc, ◌+◌, ◌-◌, ◌<◌, ◌≤◌, Bool, true, false, List, [], ◌∷◌, ◌++◌, length, map, slice_index_or, take, refl, ap, sym, ◌∙◌, arith, Some, None, option_map, ◌&&◌, nat_lt, slice_get, if◌then◌else◌}
+use Rattle.std.proofs.Common.{◌≡◌, ◌≢◌, inl, inr, ℕ, zero, suc, ◌+◌, ◌-◌, ◌<◌, ◌≤◌, List, [], ◌∷◌, ◌++◌, length, map, slice_index_or, take, refl, ap, sym, ◌∙◌, arith, Some, None, option_map, ◌&&◌, slice_get, if◌then◌else◌, rules}
 use Rattle.std.specs.List.{All, range_with_len}
 use Rattle.std.specs.List.Sorted.{IsStrictlyIncreasing}
-use Rattle.std.proofs.lemmas.Bool.{cases_lt, ltb-false}
+use Rattle.std.proofs.lemmas.Bool.{cases_lt}
 use Rattle.std.proofs.lemmas.List.{get_or_past, length-map}
 use Rattle.std.proofs.lemmas.List.Elements.{All-map}
 use Rattle.std.proofs.lemmas.Option.{slice_get-map, slice_get_within}
+use Rattle.std.proofs.lemmas.Grind.{common_steps}
 use Rattle.ac_util.specs.declared.search.Anchored.{Anchored}
 use Rattle.ac_automaton.specs.Util.{alphabet_len, AreClasses, begins_with_pattern, class_at, failure, is_leftmost, No, Node, plain_byte, Yes}
 use Rattle.ac_util.proofs.ClassLemmas.{stands-from_node}
@@ -13,12 +14,11 @@ use Rattle.ac_util.proofs.ClassLists.{alphabet_len-few, class_at-below}
 use Rattle.ac_util.proofs.Lists.{AllPairs-from_IsOrdered, All-from_IsIn, Contains-from_IsIn, IsIn, IsOrdered, IsOrdered-filter, IsOrdered-map, IsOrdered-range}
 use Rattle.ac_automaton.specs.Prelude.{AreNodes, IsOwn, leads_on, matches_of, own_bytes, plain_of, Trie}
 use Rattle.ac_automaton.proofs.Places.{take-next}
-use Rattle.ac_engines.specs.Prelude.{anchored_of, AreReady, ContiguousView, Dense, Edge, edges_of, FAIL, Format, format_of, MayPack, most_sparse, node_format, number_at, ONE_MATCH, packed_of, Packer, PackPlan, Places, places_of, sparse_format, spelled, Spelling, spelling_at, state_spelling}
+use Rattle.ac_engines.specs.Prelude.{anchored_of, AreReady, ContiguousView, Edge, edges_of, FAIL, Format, format_of, MayPack, node_format, number_at, ONE_MATCH, packed_of, Packer, PackPlan, Places, places_of, spelled, Spelling, spelling_at, state_spelling}
 use Rattle.ac_engines.specs.Contiguous.Words.{Fits}
 use Rattle.ac_engines.proofs.Filled.{own_bytes-only, own_bytes-small}
 use Rattle.ac_engines.proofs.MatchCounts.{matches-few, matches-numbered}
-use Rattle.ac_engines.proofs.Owning.{longer}
-use Rattle.ac_engines.proofs.Numbered.{after-starts, inner-string, place-inner, place-start}
+use Rattle.ac_engines.proofs.Numbered.{inner-string, place-inner, place-start}
 
 -- a node that is a string
 pub record IsString (u : Node) : Type 0 where
@@ -57,11 +57,6 @@ module _ (p : ContiguousView) (at : Places) where
   matches-spelled Yes (Some []) = refl
   matches-spelled anchored (Some (x ∷ w)) = refl
 
-  -- a start has no failure target
-  pub failure-start : (anchored : Anchored) → (spelling_at p at anchored (Some [])).failure ≡ 0
-  failure-start No = refl
-  failure-start Yes = refl
-
 module _ (f : Packer) (nodes : List Node) (h : AreReady f nodes) where
   -- where a state stands that is none of the starts for anchored searches
   pub number-spelled : (t : ℕ) (v : Node) → slice_get nodes t ≡ Some v → t ≢ 3
@@ -71,16 +66,14 @@ module _ (f : Packer) (nodes : List Node) (h : AreReady f nodes) where
   number-spelled (suc zero) None named other = h.places.each 1 (slice_get_within nodes 1 None named)
   number-spelled (suc zero) (Some w) named other = let dead = h.may.are_nodes.unreached in absurd cc
   number-spelled (suc (suc zero)) None named other = let start = h.may.are_nodes.start in absurd cc
-  number-spelled (suc (suc zero)) (Some []) named other =
-      sym (place-start f.plan.trie nodes h.may.are_nodes f.numbers h.places.count)
+  number-spelled (suc (suc zero)) (Some []) named other = search (rules, place-start)
   number-spelled (suc (suc zero)) (Some (x ∷ w)) named other = let start = h.may.are_nodes.start in absurd cc
   number-spelled (suc (suc (suc zero))) v named other = absurd (other refl)
   number-spelled (suc (suc (suc (suc t)))) None named other =
       let within = slice_get_within nodes (suc (suc (suc (suc t)))) None named in
       let node = (h.may.are_nodes.numbered.node (suc (suc (suc (suc t)))) (omega arith) within).1.named in
       absurd cc
-  number-spelled (suc (suc (suc (suc t)))) (Some []) named other =
-      absurd (inner-string f.plan.trie nodes h.may.are_nodes (suc (suc (suc (suc t)))) [] (omega arith) named refl)
+  number-spelled (suc (suc (suc (suc t)))) (Some []) named other = search (rules, inner-string)
   number-spelled (suc (suc (suc (suc t)))) (Some (x ∷ w)) named other =
       sym (place-inner f.plan.trie nodes h.may.are_nodes f.numbers (suc (suc (suc (suc t)))) (x ∷ w) h.places.count
       (omega arith) named)
@@ -92,23 +85,8 @@ module _ (f : Packer) (nodes : List Node) (h : AreReady f nodes) where
       → slice_index_or f.numbers t 0 ≡ (state_spelling f nodes s u).failure
   failure-spelled s t None inner named other target =
       let string = (string-of f.plan.trie nodes h.may.are_nodes s None (omega arith) named).is in absurd cc
-  failure-spelled s t (Some []) inner named other target =
-      absurd (inner-string f.plan.trie nodes h.may.are_nodes s [] inner named refl)
-  failure-spelled s t (Some (x ∷ w)) inner named other target =
-      number-spelled t (failure f.plan.trie.built.kind (plain_of f.plan.trie.built) (x ∷ w)) (target x w named) other
-
-  -- the starts have none
-  pub failure-none : (s : ℕ) (u : Node) → 2 ≤ s → s < 4 → slice_get nodes s ≡ Some u
-      → 0 ≡ (state_spelling f nodes s u).failure
-  failure-none s None reached start named = refl
-  failure-none s (Some []) reached start named =
-      sym (failure-start (packed_of f.plan nodes f.numbers []) (places_of f.plan nodes f.numbers) (anchored_of s))
-  failure-none zero (Some (x ∷ w)) reached start named = absurd (omega arith)
-  failure-none (suc zero) (Some (x ∷ w)) reached start named = absurd (omega arith)
-  failure-none (suc (suc zero)) (Some (x ∷ w)) reached start named = let e = h.may.are_nodes.start in absurd cc
-  failure-none (suc (suc (suc zero))) (Some (x ∷ w)) reached start named =
-      let e = h.may.are_nodes.anchored_start in absurd cc
-  failure-none (suc (suc (suc (suc s)))) (Some (x ∷ w)) reached start named = absurd (omega arith)
+  failure-spelled s t (Some []) inner named other target = search (rules, inner-string)
+  failure-spelled s t (Some (x ∷ w)) inner named other target = search (rules, number-spelled)
 
   -- by a byte that doesn't lead on no state but the unanchored start leads anywhere
   pub missing-fails : (s : ℕ) (u : Node) → 2 ≤ s → s ≢ 2 → slice_get nodes s ≡ Some u
@@ -119,8 +97,7 @@ module _ (f : Packer) (nodes : List Node) (h : AreReady f nodes) where
   missing-fails (suc zero) (Some []) reached other named = absurd (omega arith)
   missing-fails (suc (suc zero)) (Some []) reached other named = absurd (other refl)
   missing-fails (suc (suc (suc zero))) (Some []) reached other named = refl
-  missing-fails (suc (suc (suc (suc s)))) (Some []) reached other named =
-      absurd (inner-string f.plan.trie nodes h.may.are_nodes (suc (suc (suc (suc s)))) [] (omega arith) named refl)
+  missing-fails (suc (suc (suc (suc s)))) (Some []) reached other named = search (rules, inner-string)
   missing-fails s (Some (x ∷ w)) reached other named = refl
 
   -- the unanchored start leads back to itself, or to the dead state where it stops there
@@ -128,42 +105,24 @@ module _ (f : Packer) (nodes : List Node) (h : AreReady f nodes) where
       → n ≡ (if is_leftmost f.plan.trie.built.kind && begins_with_pattern (plain_of f.plan.trie.built) [] then 0
       else slice_index_or f.numbers s 0)
       → n ≡ (state_spelling f nodes s u).missing
-  missing-unanchored s n None start named e =
-      let string = (string-of f.plan.trie nodes h.may.are_nodes s None (omega arith) named).is in absurd cc
-  missing-unanchored s n (Some []) start named e =
-      rw start (rw start at e ∙ sym (at-start (is_leftmost f.plan.trie.built.kind && begins_with_pattern (plain_of f.plan.trie.built) [])))
-    where
-      at-start : (t : Bool) → number_at (places_of f.plan nodes f.numbers) No (if t then None else Some [])
-          ≡ (if t then 0 else slice_index_or f.numbers 2 0)
-      at-start true = refl
-      at-start false = place-start f.plan.trie nodes h.may.are_nodes f.numbers h.places.count
-  missing-unanchored s n (Some (x ∷ w)) start named e =
-      let first = h.may.are_nodes.start in let at = rw start at named in absurd cc
+  missing-unanchored s n None start named e = cc
+  missing-unanchored s n (Some []) start named e = search (rules, place-start f.plan.trie nodes h.may.are_nodes f.numbers h.places.count)
+  missing-unanchored s n (Some (x ∷ w)) start named e = cc
 
   -- an own transition leads to a state after the starts
   own-inner : (w : List ℕ) (index byte next : ℕ) → IsOwn f.plan.trie nodes w index byte next → 4 ≤ next
-  own-inner w index byte next own =
-      after-starts f.plan.trie nodes h.may.are_nodes next (w ++ plain_byte f.plan.trie.built.fold byte ∷ [])
-      (longer w (plain_byte f.plan.trie.built.fold byte)) own.leads
+  own-inner w index byte next own = grind (arith, common_steps)
 
   -- and has a place
   pub own-numbered : (w : List ℕ) (index byte next : ℕ) → IsOwn f.plan.trie nodes w index byte next
       → next < length f.numbers
-  own-numbered w index byte next own =
-      let within = slice_get_within nodes next (Some (w ++ plain_byte f.plan.trie.built.fold byte ∷ [])) own.leads in
-      let count = h.places.count in
-      omega arith
+  own-numbered w index byte next own = search (rules, slice_get_within)
 
   -- how many transitions are spelled
   pub edges-count : (s : ℕ) (u : Node) → 2 ≤ s → slice_get nodes s ≡ Some u
       → length (state_spelling f nodes s u).edges ≡ length (own_bytes f.plan.trie.built u)
-  edges-count s None reached named =
-      let string = (string-of f.plan.trie nodes h.may.are_nodes s None reached named).is in absurd cc
-  edges-count s (Some w) reached named =
-      ap (λ (edges : List Edge). length edges)
-      (edges-spelled (packed_of f.plan nodes f.numbers []) (places_of f.plan nodes f.numbers) (anchored_of s) w)
-      ∙ length-map (own_bytes f.plan.trie.built (Some w))
-      (edge_by (packed_of f.plan nodes f.numbers []) (places_of f.plan nodes f.numbers) w)
+  edges-count s None reached named = search (rules, string-of f.plan.trie nodes h.may.are_nodes s None reached named)
+  edges-count s (Some w) reached named = search (rules, edges-spelled, length-map)
 
   -- the next own transition is the next of those that are spelled
   pub edges-next : (s index byte next : ℕ) (u : Node) → 2 ≤ s → slice_get nodes s ≡ Some u
@@ -182,35 +141,11 @@ module _ (f : Packer) (nodes : List Node) (h : AreReady f nodes) where
       (take-next (edges_of p at w) index (edge_by p at w byte)
       (slice_get-map (edge_by p at w) (own_bytes f.plan.trie.built (Some w)) index ∙ ap (option_map (edge_by p at w)) is.place))
 
--- a list without elements
-none-from_length : {X : Type 0} (xs : List X) → length xs ≡ 0 → xs ≡ []
-none-from_length [] none = refl
-none-from_length (x ∷ xs) none = absurd (omega arith)
-
 module _ (s : Spelling) (missing : s.missing ≡ FAIL) where
-  -- a spelling fits the form of a state that isn't dense
-  sparse-fits : (transitions matches : ℕ) → length s.edges ≡ transitions → length s.matches ≡ matches
-      → transitions ≤ most_sparse → Fits (sparse_format transitions matches) s
-  sparse-fits zero matches edges listed few = (omega arith, missing)
-  sparse-fits (suc zero) zero edges listed few = (edges, none-from_length s.matches listed, missing)
-  sparse-fits (suc zero) (suc matches) edges listed few = (omega arith, missing)
-  sparse-fits (suc (suc transitions)) matches edges listed few = (omega arith, missing)
-
   -- and that of any other
   format-fits : (depth dense_depth transitions matches : ℕ) → length s.edges ≡ transitions
       → length s.matches ≡ matches → Fits (format_of depth dense_depth transitions matches) s
-  format-fits depth dense_depth transitions matches edges listed = by_depth (nat_lt depth dense_depth)
-    where
-      by_count : (t : Bool) → nat_lt most_sparse transitions ≡ t
-          → Fits (if t then Dense else sparse_format transitions matches) s
-      by_count true many = tt
-      by_count false few = sparse-fits transitions matches edges listed (ltb-false most_sparse transitions few)
-
-      by_depth : (t : Bool)
-          → Fits (if t then Dense else if nat_lt most_sparse transitions then Dense
-          else sparse_format transitions matches) s
-      by_depth true = tt
-      by_depth false = by_count (nat_lt most_sparse transitions) refl
+  format-fits depth dense_depth transitions matches edges listed = grind (arith, common_steps)
 
 -- of the classes of all bytes that of a byte so many places after another is no less
 classes-rise : (classes : List ℕ) → AreClasses classes → (n a : ℕ) → a + n < 256
@@ -279,13 +214,7 @@ module _ (q : PackPlan) (nodes : List Node) (may : MayPack q nodes) where
 
   -- matches are numbers of patterns
   matches-small : (u : Node) (k : ℕ) → slice_index_or (matches_of q.trie.built No u) k 0 < ONE_MATCH
-  matches-small u k = elim (cases_lt k (length (matches_of q.trie.built No u))) [
-    | inl within ↦
-        let few = may.few in
-        let numbered = matches-numbered q.trie.built u k 0 within in
-        omega arith
-    | inr past ↦ omega (arith, get_or_past (matches_of q.trie.built No u) k 0 past)
-  ]
+  matches-small u k = search (rules, cases_lt, get_or_past, matches-numbered)
 
   -- and there are few of them
   matches-below : (u : Node) → length (matches_of q.trie.built No u) < ONE_MATCH
@@ -304,11 +233,7 @@ pub record Spells (f : Packer) (nodes : List Node) (s : ℕ) (u : Node) : Type 0
 string-fits : (f : Packer) (nodes : List Node) (s : ℕ) (w : List ℕ)
     → Fits (node_format f.plan.trie.built f.plan.dense_depth (Some w)) (state_spelling f nodes s (Some w))
 string-fits f nodes s [] = tt
-string-fits f nodes s (x ∷ w) =
-    format-fits (state_spelling f nodes s (Some (x ∷ w))) refl (length (x ∷ w)) f.plan.dense_depth
-    (length (own_bytes f.plan.trie.built (Some (x ∷ w)))) (length (matches_of f.plan.trie.built No (Some (x ∷ w))))
-    (length-map (own_bytes f.plan.trie.built (Some (x ∷ w)))
-    (edge_by (packed_of f.plan nodes f.numbers []) (places_of f.plan nodes f.numbers) (x ∷ w))) refl
+string-fits f nodes s (x ∷ w) = search (rules, format-fits, length-map)
 
 -- it can be so for each state from the starts on
 pub state-spells : (f : Packer) (nodes : List Node) → AreReady f nodes → (s : ℕ) (u : Node) → 2 ≤ s
@@ -316,25 +241,10 @@ pub state-spells : (f : Packer) (nodes : List Node) → AreReady f nodes → (s 
 state-spells f nodes h s None reached named =
     let string = (string-of f.plan.trie nodes h.may.are_nodes s None reached named).is in absurd cc
 state-spells f nodes h s (Some w) reached named =
-    let p = packed_of f.plan nodes f.numbers [] in
-    let at = places_of f.plan nodes f.numbers in
-    let edges = edges-spelled p at (anchored_of s) w in
-    let matches = matches-spelled p at (anchored_of s) (Some w) in
-    record {
-      fits = string-fits f nodes s w;
-      few = alphabet_len-few f.plan.classes h.may.classes;
-      below = rw edges (edges-below f.plan nodes h.may [] f.numbers w);
-      ascending = rw edges (edges-ascend f.plan nodes h.may [] f.numbers w);
-      few_matches = rw matches (matches-below f.plan nodes h.may (Some w));
-      numbers = λ k. rw matches (matches-small f.plan nodes h.may (Some w) k);
-    }
+    search (rules, alphabet_len-few, edges-ascend, edges-below, edges-spelled, matches-below, matches-small, matches-spelled, string-fits)
 
 -- the words of a state are told by the parts of what it spells
 pub spelled-by_parts : (format new_format : Format) (classes new_classes : ℕ) (s t : Spelling) → format ≡ new_format
     → classes ≡ new_classes → s.failure ≡ t.failure → s.missing ≡ t.missing → s.edges ≡ t.edges
     → s.matches ≡ t.matches → spelled format classes s ≡ spelled new_format new_classes t
-spelled-by_parts format new_format classes new_classes s t same_format same_classes fails misses edges matches =
-    rw (same_format, same_classes) (ap (spelled new_format new_classes) same)
-  where
-    same : record { failure = s.failure; missing = s.missing; edges = s.edges; matches = s.matches } ≡ t
-    same = rw (fails, misses, edges, matches) refl
+spelled-by_parts format new_format classes new_classes s t same_format same_classes fails misses edges matches = grind (arith, common_steps)

@@ -1,14 +1,14 @@
 -- Which transitions stand in the words of a state.
-use Rattle.std.proofs.Common.{refl, ◌≡◌, ◌≢◌, ℕ, zero, suc, ◌+◌, ◌/◌, ◌%◌, ◌<◌, List, [], ◌∷◌, ◌++◌, length, map, take, drop, ap, sym, subst, ◌∙◌, arith, All, slice_index_or, Option, Some, None}
+use Rattle.std.proofs.Common.{refl, ◌≡◌, ◌≢◌, ℕ, zero, suc, ◌+◌, ◌/◌, ◌%◌, ◌<◌, List, [], ◌∷◌, length, map, take, drop, ap, sym, subst, ◌∙◌, arith, All, slice_index_or, Option, Some, None, rules}
 use Rattle.std.specs.Borrow.{Bor}
 use Rattle.std.specs.Iterator.{MakesProgress, item_count}
 use Rattle.std.specs.Int.{div_ceil, to_le_bytes, w32}
 use Rattle.std.specs.List.{range_with_len}
-use Rattle.std.proofs.Math.Seq.{take-append_seam}
-use Rattle.std.proofs.lemmas.List.{get_or_append_left, length-map}
+use Rattle.std.proofs.lemmas.List.{get_or_append_left}
 use Rattle.std.proofs.lemmas.List.Elements.{All-drop}
 use Rattle.std.proofs.lemmas.List.FromFn.{length-map-range_with_len}
-use Rattle.ac_engines.specs.Prelude.{BeginsWith, class_of_place, class_words, Dense, Edge, edges_from, Format, match_spelling, One, packed_class, Sparse, Spelling, target_by, spelled_transitions, word_of}
+use Rattle.std.proofs.lemmas.Grind.{common_steps}
+use Rattle.ac_engines.specs.Prelude.{BeginsWith, class_of_place, class_words, Dense, Edge, edges_from, Format, One, packed_class, Sparse, Spelling, target_by, spelled_transitions, word_of}
 use Rattle.ac_engines.proofs.ClassWords.{edge_classes, targets_of}
 use Rattle.ac_engines.proofs.Spellings.{after, dense-words, form, form-dense, form-one, form-sparse, one-words, splits-at}
 
@@ -46,24 +46,13 @@ byte-of : (a b c d place : ℕ) → AreBytes a b c d → place < 4
 byte-of a b c d zero bytes low = omega (arith, bytes.0)
 byte-of a b c d (suc zero) bytes low = omega (arith, bytes.0, bytes.1)
 byte-of a b c d (suc (suc zero)) bytes low = omega (arith, bytes.0, bytes.1, bytes.2)
-byte-of a b c d (suc (suc (suc zero))) bytes low = omega (arith, bytes.0, bytes.1, bytes.2, bytes.3)
+byte-of a b c d (suc (suc (suc zero))) bytes low = omega (arith, bytes.0, bytes.1)
 byte-of a b c d (suc (suc (suc (suc place)))) bytes low = absurd (omega (arith, low))
 
 -- the first four places are those of the first word
 packed-first : (a b c d : ℕ) (words : List ℕ) (place : ℕ) → AreBytes a b c d → place < 4
     → packed_class (word_of a b c d ∷ words) place ≡ slice_index_or (a ∷ b ∷ c ∷ d ∷ []) place 0
-packed-first a b c d words place bytes low =
-    let index : place / 4 ≡ 0 = omega (arith, low) in
-    let byte : place % 4 ≡ place = omega (arith, low) in
-    rw (index, byte) (byte-of a b c d place bytes low)
-
--- four places on stand the classes of the next word
-packed-next : (word : ℕ) (words : List ℕ) (place : ℕ)
-    → packed_class (word ∷ words) (suc (suc (suc (suc place)))) ≡ packed_class words place
-packed-next word words place =
-    let index : suc (suc (suc (suc place))) / 4 ≡ suc (place / 4) = omega arith in
-    let byte : suc (suc (suc (suc place))) % 4 ≡ place % 4 = omega arith in
-    rw (index, byte) refl
+packed-first a b c d words place bytes low = grind (arith, common_steps, byte-of a b c d place bytes low)
 
 -- a word of four classes comes before the words of others
 packed-four : (a b c d : ℕ) (words classes : List ℕ) (place : ℕ) → AreBytes a b c d
@@ -73,8 +62,7 @@ packed-four a b c d words classes zero bytes others = packed-first a b c d words
 packed-four a b c d words classes (suc zero) bytes others = packed-first a b c d words 1 bytes (omega arith)
 packed-four a b c d words classes (suc (suc zero)) bytes others = packed-first a b c d words 2 bytes (omega arith)
 packed-four a b c d words classes (suc (suc (suc zero))) bytes others = packed-first a b c d words 3 bytes (omega arith)
-packed-four a b c d words classes (suc (suc (suc (suc place)))) bytes others =
-    packed-next (word_of a b c d) words place ∙ others place (omega arith)
+packed-four a b c d words classes (suc (suc (suc (suc place)))) bytes others = search rules
 
 -- the class at a place of class words is that of the transition at that place
 packed-class : (es : List Edge) (place : ℕ) → All (λ e. e.class < 256) es → place < length es
@@ -106,17 +94,9 @@ module _ (words : List ℕ) (classes : ℕ) (s : Spelling) (targets : List ℕ) 
       → targets ≡ take classes (drop 2 words)
       → edges_from (class_of_place None) 0 targets ≡ spelled_transitions format classes s
   dense-transitions Dense h tells are =
-      let all = map (target_by s.missing s.edges) (range_with_len 0 classes) in
-      let more = match_spelling s.matches ++ h.rest in
-      let many = length-map-range_with_len (target_by s.missing s.edges) 0 classes in
-      let front : targets ≡ all =
-      are ∙ ap (λ (ns : List ℕ). take classes (drop 2 ns)) (dense-words words classes s h)
-      ∙ subst (λ (n : ℕ). take n (all ++ more) ≡ all) many (take-append_seam all more) in
-      ap (λ (ns : List ℕ). edges_from (class_of_place None) 0 ns) front
-      ∙ edges-of-all (target_by s.missing s.edges) 0 classes
+      grind (arith, common_steps, dense-words words classes s h, edges-of-all (target_by s.missing s.edges) 0 classes, length-map-range_with_len)
   dense-transitions One h tells are = let one = form-one words classes s h in absurd (omega (arith, one, tells))
-  dense-transitions Sparse h tells are =
-      let sparse = form-sparse words classes s h in absurd (omega (arith, sparse.0, sparse.1, tells))
+  dense-transitions Sparse h tells are = grind (arith, common_steps, form-sparse words classes s h)
 
   -- a state with one transition has one target, and its class stands beside the form
   pub one-transition : (format : Format) (class : ℕ) → BeginsWith words format classes s → form words classes s ≡ 254
@@ -142,11 +122,7 @@ module _ (words : List ℕ) (classes : ℕ) (s : Spelling) (targets : List ℕ) 
       → count ≡ div_ceil transitions 4 → targets ≡ take transitions (drop count (after words classes s))
       → targets ≡ targets_of s.edges
   sparse-targets transitions count h counts words_are are =
-      let split = splits-at words classes s transitions count h counts words_are in
-      let many : length (targets_of s.edges) ≡ transitions = length-map s.edges (λ e. e.target) ∙ sym counts in
-      are ∙ ap (λ (ns : List ℕ). take transitions ns) split.back
-      ∙ subst (λ (n : ℕ). take n (targets_of s.edges ++ split.more) ≡ targets_of s.edges) many
-      (take-append_seam (targets_of s.edges) split.more)
+      grind (arith, common_steps, splits-at words classes s transitions count h counts words_are)
 
   -- they make up its transitions, by the classes in the class words
   pub sparse-transitions : (format : Format) (transitions count : ℕ) (front : Bor (List ℕ))
@@ -186,8 +162,4 @@ first-edge words place class target all targets are is = rw (are, is) refl
 -- a call that gives the first transition leaves fewer
 pub goes-on : (can : List Edge → Type 0) → ((left : List Edge) → can left) → (old new : List Edge) (e : Edge)
     → old ≡ e ∷ new → MakesProgress can (item_count (λ left. left)) old (Some e) new
-goes-on can always old new e is = record {
-  on = λ _. (always new, tt, subst (λ (left : List Edge). length new < length left) (sym is) (omega arith));
-  keeps = always new;
-  rests = λ _. tt;
-}
+goes-on can always old new e is = grind (arith, common_steps)

@@ -1,5 +1,5 @@
 -- Something is picked exactly if something occurs.
-use Rattle.std.proofs.Common.{◌≡◌, ◌≢◌, refl, sym, subst, Option, Some, None, ◌↔◌, IsTrue, is_some}
+use Rattle.std.proofs.Common.{◌≡◌, ◌≢◌, refl, sym, subst, Option, Some, None, ◌↔◌, IsTrue, is_some, rules}
 use Rattle.std.proofs.lemmas.Bool.{false≢true}
 use Rattle.ac_automaton.specs.Util.{IsPick, MatchKind, Occurrence, Occurs, pick, Search}
 use Rattle.ac_util.proofs.Picks.{pick-IsPick}
@@ -22,7 +22,4 @@ some-or-none (Some m) = ((λ t e. absurd (cc)), (λ some. refl))
 
 -- so a pick isn't None exactly if something occurs
 pub picked-something : (kind : MatchKind) (q : Search) → ((m : Occurrence) × Occurs q m) ↔ (pick kind q ≢ None)
-picked-something kind q =
-    let some = some-match kind q (pick kind q) refl in
-    let or_none = some-or-none (pick kind q) in
-    ((λ o. or_none.0 (some.1 o)), (λ picked. some.0 (or_none.1 picked)))
+picked-something kind q = search (rules, some-match kind q (pick kind q) refl, some-or-none (pick kind q))

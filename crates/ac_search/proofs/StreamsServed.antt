@@ -1,9 +1,10 @@
 -- The replacement of a stream by an engine that supports some starts of its searcher: what it leaves is the searcher's.
-use Rattle.std.proofs.Common.{◌≡◌, ◌∙◌, ◌+◌, ℕ, Bool, List, [], ◌∷◌, sym, subst, inl, inr, Option, None, Result, Ok, Err, ◌⊎◌, MatchResult}
+use Rattle.std.proofs.Common.{◌≡◌, ◌∙◌, ◌+◌, ℕ, Bool, List, [], ◌∷◌, inl, inr, None, Result, Ok, Err, ◌⊎◌, MatchResult, rules, arith}
 use Rattle.std.specs.Borrow.{Bor, MutBor}
 use Rattle.std.specs.Fn.{Mut}
 use Rattle.std.specs.declared.io.Error.{Error}
-use Rattle.ac_automaton.specs.Util.{AreDecided, Both, Built, FailsToReplace, FailsToReplaceWith, IsSettledAt, IsSettledBy, IsStreamRefused, LeftmostFirst, LeftmostLongest, MatchError, MatchKind, No, NoneOpen, Occurrence, Reading, ReplacesStream, ReplacesStreamWith, Standard, start_refusal, StartKind, StepsAreSettled, stream_refusal, StreamError, TextIsSettled, Writing}
+use Rattle.std.proofs.lemmas.Grind.{common_steps}
+use Rattle.ac_automaton.specs.Util.{AreDecided, Both, Built, FailsToReplace, FailsToReplaceWith, IsSettledAt, IsSettledBy, IsStreamRefused, LeftmostFirst, LeftmostLongest, MatchKind, No, NoneOpen, Occurrence, Reading, ReplacesStream, ReplacesStreamWith, Standard, start_refusal, StartKind, StepsAreSettled, stream_refusal, StreamError, TextIsSettled, Writing}
 use Rattle.ac_search.proofs.Served.{stream-refusals}
 
 -- what a replacement with a closure leaves, by what the engine is known to be built from
@@ -21,12 +22,7 @@ pub exchanged-as : {F D : Type 0} (told : D → Writing)
     (λ e. IsStreamRefused (stream_refusal same) unchanged e
     ⊎ ((stream_refusal same ≡ None)
     × FailsToReplaceWith told closures same closure writer ends reader new_reader new_writer e))
-exchanged-as told closures closure writer new_writer unchanged ends reader new_reader r is h =
-    subst (λ (b : Built). MatchResult r (λ _. (stream_refusal b ≡ None)
-    × ReplacesStreamWith told closures b closure writer ends reader new_reader new_writer)
-    (λ e. IsStreamRefused (stream_refusal b) unchanged e
-    ⊎ ((stream_refusal b ≡ None)
-    × FailsToReplaceWith told closures b closure writer ends reader new_reader new_writer e))) is h
+exchanged-as told closures closure writer new_writer unchanged ends reader new_reader r is h = search rules
 
 module _ (engine : Built) (start_kind : StartKind) where
   -- the searcher over the engine
@@ -34,14 +30,7 @@ module _ (engine : Built) (start_kind : StartKind) where
   searcher = record engine { start_kind = start_kind }
 
   none-open : (bytes : List ℕ) (from to : ℕ) → NoneOpen engine bytes from to → NoneOpen searcher bytes from to
-  none-open bytes from to none place onward before open' = none place onward before (record {
-    inside = open'.inside;
-    number = open'.number;
-    numbered = open'.numbered;
-    takes_part = open'.takes_part;
-    longer = open'.longer;
-    begins = open'.begins;
-  })
+  none-open bytes from to none place onward before open' = search rules
 
   decided : (bytes : List ℕ) (from : ℕ) (ms : List Occurrence) (to : ℕ) → AreDecided engine bytes from ms to
       → AreDecided searcher bytes from ms to
@@ -50,13 +39,7 @@ module _ (engine : Built) (start_kind : StartKind) where
 
   -- the same settles a stream of either
   pub settled-at : (bytes : List ℕ) (given place : ℕ) → IsSettledAt engine bytes given place → IsSettledAt searcher bytes given place
-  settled-at bytes given place h = record {
-    few = h.few;
-    within = h.within;
-    ended = h.ended;
-    later = h.later;
-    decided = decided bytes 0 _ place h.decided;
-  }
+  settled-at bytes given place h = search (rules, decided)
 
   settled-by : (kind : MatchKind) (bytes : List ℕ) (given place : ℕ) → IsSettledBy kind engine bytes given place
       → IsSettledBy kind searcher bytes given place
@@ -87,18 +70,8 @@ module _ (engine : Built) (start_kind : StartKind) where
           (λ e. IsStreamRefused (stream_refusal searcher) unchanged e
           ⊎ ((stream_refusal searcher ≡ None) × FailsToReplace searcher texts writer new_writer ends reader new_reader e))
       replaced-served (Ok done) h = (refusals ∙ h.0, h.1)
-      replaced-served (Err e) (inl refused) =
-          inl (subst (λ (refusal : Option MatchError). IsStreamRefused refusal unchanged e) (sym refusals) refused)
-      replaced-served (Err e) (inr fails) = inr (
-        refusals ∙ fails.0,
-        (
-          fails.1.0,
-          elim fails.1.1 [
-            | inl read ↦ inl (read.0, text engine.kind fails.1.0 read.1)
-            | inr write ↦ inr write
-          ],
-        ),
-      )
+      replaced-served (Err e) (inl refused) = grind (arith, common_steps)
+      replaced-served (Err e) (inr fails) = search (rules, refusals, text)
 
     -- with a closure
     module _ {F D : Type 0} (told : D → Writing)
@@ -123,23 +96,5 @@ module _ (engine : Built) (start_kind : StartKind) where
           ⊎ ((stream_refusal searcher ≡ None)
           × FailsToReplaceWith told closures searcher closure writer ends reader new_reader new_writer e))
       exchanged-served (Ok done) h = (refusals ∙ h.0, h.1)
-      exchanged-served (Err e) (inl refused) =
-          inl (subst (λ (refusal : Option MatchError). IsStreamRefused refusal unchanged e) (sym refusals) refused)
-      exchanged-served (Err e) (inr fails) = inr (
-        refusals ∙ fails.0,
-        (
-          fails.1.0,
-          elim fails.1.1 [
-            | inl read ↦ inl (read.0, steps engine.kind fails.1.0 read.1)
-            | inr stopped ↦ inr (
-              stopped.0,
-              stopped.1,
-              elim stopped.2 [
-                | inl some ↦ inl (some.0, settled-by engine.kind fails.1.0 stopped.0 stopped.1 some.1)
-                | inr whole ↦ inr whole
-              ],
-              stopped.3,
-            )
-          ],
-        ),
-      )
+      exchanged-served (Err e) (inl refused) = grind (arith, common_steps)
+      exchanged-served (Err e) (inr fails) = search (rules, refusals, settled-by, steps)

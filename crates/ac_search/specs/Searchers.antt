@@ -1,8 +1,7 @@
 -- What is seen of a searcher: what it was built from, whether to have a prefilter, and the name and the states of
 -- its engine. No answer of a search depends on the last three; an overlapping state is one for these states alone.
-use Rattle.std.specs.Prelude.{◌≡◌, ℕ, nat_le, Bool, false, true, List, length, Option, None, Some, MatchOption, ⊤, ◌&&◌, if◌then◌else◌}
-use Rattle.ac_automaton.specs.Util.{Both, BuildError, Built, limit_refusal, MatchKind, Standard, StartKind, Unanchored}
-use Rattle.ac_util.specs.declared.error.BuildError.TheVariants.{Memory}
+use Rattle.std.specs.Prelude.{◌≡◌, ℕ, nat_le, Bool, false, true, List, length, Option, None, Some, ⊤, ◌&&◌, if◌then◌else◌}
+use Rattle.ac_automaton.specs.Util.{Both, BuildError, Built, StartKind, Unanchored}
 use Rattle.ac_util.specs.declared.search.StartKind.TheVariants.{Anchored}
 use Rattle.ac_automaton.specs.Builds.{EngineSettings, IsAllowed, engine_built_by, fits, refusal_or, state_refusal, usual_engine_settings}
 use Rattle.ac_engines.specs.Prelude.{contiguous_refusal, dfa_refusal, IsContiguousFrom, IsDfaFrom}

@@ -1,18 +1,17 @@
 -- One more byte of a text: how the pick changes, by the matches of the node that an automaton reaches.
 --
 -- Everything holds for each match kind of the automaton and for both anchorings.
-use Rattle.std.proofs.Common.{◌≡◌, ℕ, zero, suc, ◌+◌, ◌<◌, ◌≤◌, Bool, true, false, ◌&&◌, cond, List, [], ◌∷◌, ◌++◌, length, ◌⊎◌, inl, inr, refl, ap, sym, ◌∙◌, subst, arith, Option, Some, None, nat_eq}
-use Rattle.std.specs.List.{starts_with}
+use Rattle.std.proofs.Common.{◌≡◌, ℕ, zero, suc, ◌+◌, ◌≤◌, Bool, true, false, ◌&&◌, cond, List, [], ◌∷◌, ◌++◌, length, ◌⊎◌, inl, inr, refl, ap, sym, ◌∙◌, subst, arith, Option, Some, None, rules}
 use Rattle.std.proofs.lemmas.Bool.{and_parts, false≢true, cond-false, cond-true}
+use Rattle.std.proofs.lemmas.Grind.{common_steps}
 use Rattle.ac_util.specs.Prelude.{begins_with_pattern, equal_to, is_leftmost, IsFirst, LeftmostFirst, LeftmostLongest, matches, MatchKind, No, Occurrence, participates, pattern_of, Standard, Yes}
 use Rattle.ac_util.specs.declared.search.Anchored.{Anchored}
-use Rattle.ac_util.proofs.Lists.{IsIn, IsOrdered, none-from_nil}
-use Rattle.ac_util.proofs.Picks.{IsFirst-itself, IsFirst-trans}
+use Rattle.ac_util.proofs.Lists.{IsIn, none-from_nil}
 use Rattle.ac_util.proofs.Participants.{Prefixes, Equals, begins-from_Prefixes, leader, leader-least, leader-takes_part, participant-least, all_take_part, IsIn-equal_to, IsIn-from_equal_to, equal_to-ordered}
 use Rattle.ac_util.proofs.Prefixes.{starts_with-itself}
 use Rattle.ac_util.proofs.Reached.{stops}
 use Rattle.ac_util.proofs.Found.{matches-nil, matches-cons}
-use Rattle.ac_util.proofs.Standing.{Stands, standing_at, IsPickIn, first-by_start, first-one_on, first-at_one_end, Prefixes-cases, Prefixes-length, Prefixes-equal, Stands-more, Stands-cases, Stands-behind, Stands-from_behind, Stands-from_Prefixes}
+use Rattle.ac_util.proofs.Standing.{Stands, standing_at, IsPickIn, first-by_start, first-one_on, Prefixes-cases, Prefixes-length, Prefixes-equal, Stands-behind, Stands-from_behind, Stands-from_Prefixes}
 
 -- the front of an empty list is empty
 pub append_nil_left : (xs ys : List ℕ) → xs ++ ys ≡ [] → xs ≡ []
@@ -35,26 +34,8 @@ module _ (kind : MatchKind) (patterns : List (List ℕ)) where
   -- there is always one
   preferred_by : (w : List ℕ) (n : ℕ) → Prefixes patterns w n → (l : Bool) → participates kind patterns n ≡ l
       → (j : ℕ) × Preferred w n j
-  preferred_by w n f true takes =
-      (n, record { prefixes = f; takes_part = takes; first = IsFirst-itself kind (front_place n) })
-  preferred_by w n f false takes = only_first kind refl
-    where
-      only_first : (k : MatchKind) → k ≡ kind → (j : ℕ) × Preferred w n j
-      only_first Standard same =
-          absurd (false≢true (sym takes ∙ ap (λ (m : MatchKind). participates m patterns n) (sym same)))
-      only_first LeftmostLongest same =
-          absurd (false≢true (sym takes ∙ ap (λ (m : MatchKind). participates m patterns n) (sym same)))
-      only_first LeftmostFirst same =
-          let l = leader patterns w (begins-from_Prefixes patterns w n f) in
-          let least = leader-least patterns w l.0 n l.1 f in (
-            l.0,
-            record {
-              prefixes = l.1.prefixes;
-              takes_part = leader-takes_part patterns kind w l.0 l.1;
-              first = subst (λ (m : MatchKind). IsFirst m (front_place l.0) (front_place n)) same
-                  (record { starts = omega arith; patterns = λ _. least });
-            },
-          )
+  preferred_by w n f true takes = grind (arith, common_steps)
+  preferred_by w n f false takes = search (rules, begins-from_Prefixes, leader, leader-least, leader-takes_part)
 
   preferred : (w : List ℕ) (n : ℕ) → Prefixes patterns w n → (j : ℕ) × Preferred w n j
   preferred w n f = preferred_by w n f (participates kind patterns n) refl
@@ -62,14 +43,7 @@ module _ (kind : MatchKind) (patterns : List (List ℕ)) where
   -- where no pattern is the whole of w with one more byte, a prefix of it is no better than a prefix of w
   kept_front : (w : List ℕ) (b n : ℕ) → own (w ++ b ∷ []) ≡ [] → Prefixes patterns (w ++ b ∷ []) n
       → (j : ℕ) × Prefixes patterns w j × IsFirst kind (front_place j) (front_place n)
-  kept_front w b n none f =
-      let p = preferred (w ++ b ∷ []) n f in
-      elim (Prefixes-cases patterns w b p.0 p.1.prefixes) [
-        | inl before ↦ (p.0, before, p.1.first)
-        | inr whole ↦ absurd (none-from_nil p.0 (own (w ++ b ∷ [])) none
-            (IsIn-equal_to kind patterns (w ++ b ∷ []) p.0
-            (record { numbered = p.1.prefixes.numbered; takes_part = p.1.takes_part; same = whole })))
-      ]
+  kept_front w b n none f = grind (arith, common_steps, preferred (w ++ b ∷ []) n f, IsIn-equal_to, Prefixes-cases)
 
   -- pattern j stands at place k of w and is no worse than pattern n at s
   record Better (anchored : Anchored) (w : List ℕ) (n s j k : ℕ) : Type 0 where
@@ -79,24 +53,14 @@ module _ (kind : MatchKind) (patterns : List (List ℕ)) where
   better_front : (anchored : Anchored) (w : List ℕ) (b n : ℕ) → own (w ++ b ∷ []) ≡ []
       → Prefixes patterns (w ++ b ∷ []) n
       → (j : ℕ) × (k : ℕ) × Better anchored w n 0 j k
-  better_front anchored w b n none f =
-      let p = kept_front w b n none f in
-      (p.0, 0, record { stands = Stands-from_Prefixes patterns anchored w p.0 p.1; first = p.2 })
+  better_front anchored w b n none f = search (rules, Stands-from_Prefixes, kept_front)
 
   better_free : (w : List ℕ) (b n s : ℕ) → matches kind patterns No (Some (w ++ b ∷ [])) ≡ []
       → Stands patterns No (w ++ b ∷ []) n s
       → (j : ℕ) × (k : ℕ) × Better No w n s j k
   better_free [] b n zero none h =
       better_front No [] b n (append_nil_left _ _ (sym (matches-cons kind patterns b []) ∙ none)) h.prefixes
-  better_free [] b n (suc zero) none h = (
-    n,
-    0,
-    record {
-      stands = Stands-from_Prefixes patterns No [] n h.prefixes;
-      first =
-          first-by_start kind (standing_at patterns n 0) (standing_at patterns n 1) (omega arith) (inr (omega arith));
-    },
-  )
+  better_free [] b n (suc zero) none h = grind (arith, common_steps)
   better_free [] b n (suc (suc s)) none h = absurd (let i = h.within in omega arith)
   better_free (x ∷ w) b n zero none h =
       better_front No (x ∷ w) b n
@@ -150,16 +114,8 @@ module _ (kind : MatchKind) (patterns : List (List ℕ)) where
   pub pick-stays : (anchored : Anchored) (w : List ℕ) (b : ℕ) (r : Option Occurrence)
       → matches kind patterns anchored (Some (w ++ b ∷ [])) ≡ []
       → IsPickIn kind patterns anchored w r → IsPickIn kind patterns anchored (w ++ b ∷ []) r
-  pick-stays anchored w b None none h =
-      λ n s stands. let p = better_than anchored w b n s none stands in h p.0 p.1 p.2.stands
-  pick-stays anchored w b (Some m) none h = record {
-    stands = Stands-more patterns anchored w b m.pattern m.start h.stands;
-    as_long = h.as_long;
-    first = (λ n s stands.
-        let p = better_than anchored w b n s none stands in
-        IsFirst-trans kind m (standing_at patterns p.0 p.1) (standing_at patterns n s)
-        (h.first p.0 p.1 p.2.stands) p.2.first);
-  }
+  pick-stays anchored w b None none h = search (rules, better_than)
+  pick-stays anchored w b (Some m) none h = grind (arith, common_steps, better_than)
 
   -- number i is the first match of the text v: it ends with v, and nothing that counts is preferred to it.
   -- Under a leftmost kind all that stands in v counts, else what ends with it
@@ -175,13 +131,7 @@ module _ (kind : MatchKind) (patterns : List (List ℕ)) where
   -- the first of the patterns that are v
   own_least : (v : List ℕ) (i : ℕ) (rest : List ℕ) → own v ≡ i ∷ rest → (n : ℕ) → Equals kind patterns v n
       → i ≤ n
-  own_least v i rest e n equals =
-      least (subst (λ (ns : List ℕ). IsOrdered (λ x y. x < y) ns) e (equal_to-ordered kind patterns v))
-      (subst (λ (ns : List ℕ). IsIn n ns) e (IsIn-equal_to kind patterns v n equals))
-    where
-      least : IsOrdered (λ x y. x < y) (i ∷ rest) → IsIn n (i ∷ rest) → i ≤ n
-      least o (inl same) = omega arith
-      least o (inr later) = let l = o.0 n later in omega arith
+  own_least v i rest e n equals = search (rules, IsIn-equal_to, equal_to-ordered)
 
   own_head : (v : List ℕ) (i : ℕ) (rest : List ℕ) → own v ≡ i ∷ rest → Equals kind patterns v i
   own_head v i rest e =
@@ -230,12 +180,7 @@ module _ (kind : MatchKind) (patterns : List (List ℕ)) where
 
   own_stands : (anchored : Anchored) (v : List ℕ) (i : ℕ) (rest : List ℕ) → own v ≡ i ∷ rest
       → Stands patterns anchored v i 0
-  own_stands anchored v i rest e =
-      let head = own_head v i rest e in
-      Stands-from_Prefixes patterns anchored v i (record {
-        numbered = head.numbered;
-        front = subst (λ (p : List ℕ). starts_with nat_eq v p ≡ true) (sym head.same) (starts_with-itself v);
-      })
+  own_stands anchored v i rest e = search (rules, own_head, starts_with-itself)
 
   own_whole : (v : List ℕ) (i : ℕ) (rest : List ℕ) → own v ≡ i ∷ rest
       → 0 + length (pattern_of patterns i) ≡ length v
@@ -244,20 +189,7 @@ module _ (kind : MatchKind) (patterns : List (List ℕ)) where
   -- where a pattern is the whole text, the first such is the head
   head_own : (anchored : Anchored) (v : List ℕ) (i : ℕ) (rest : List ℕ) → own v ≡ i ∷ rest
       → IsHead anchored v i 0
-  head_own anchored v i rest e = record {
-    stands = own_stands anchored v i rest e;
-    whole = own_whole v i rest e;
-    first = first;
-  }
-    where
-      first : (n s : ℕ) → Stands patterns anchored v n s → Counts v n s
-          → IsFirst kind (front_place i) (standing_at patterns n s)
-      first n zero stands counts = head_front v i rest e n stands.prefixes counts
-      first n (suc s) stands (inl leftmost) =
-          first-by_start kind (front_place i) (standing_at patterns n (suc s)) (omega arith) (inl leftmost)
-      first n (suc s) stands (inr ends) =
-          let l = own_whole v i rest e in
-          first-by_start kind (front_place i) (standing_at patterns n (suc s)) (omega arith) (inr (omega arith))
+  head_own anchored v i rest e = search (rules, own_stands anchored v i rest e, head_front, own_whole)
 
   -- where none is, the head is that of the text without its first byte
   head_behind : (x : ℕ) (v : List ℕ) (i k : ℕ) → own (x ∷ v) ≡ [] → stops kind patterns (x ∷ v) ≡ false
@@ -335,30 +267,14 @@ module _ (kind : MatchKind) (patterns : List (List ℕ)) where
   pub pick-becomes : (anchored : Anchored) (v : List ℕ) (i k : ℕ) → is_leftmost kind ≡ true
       → IsHead anchored v i k
       → IsPickIn kind patterns anchored v (Some (standing_at patterns i k))
-  pick-becomes anchored v i k leftmost h =
-      record { stands = h.stands; as_long = refl; first = λ n s stands. h.first n s stands (inl leftmost) }
+  pick-becomes anchored v i k leftmost h = grind (arith, common_steps)
 
   -- where nothing stood before it is what Standard picks
   pub first-becomes : (anchored : Anchored) (w : List ℕ) (b i k : ℕ)
       → ((n s : ℕ) → ¬ Stands patterns anchored w n s)
       → IsHead anchored (w ++ b ∷ []) i k
       → IsPickIn Standard patterns anchored (w ++ b ∷ []) (Some (standing_at patterns i k))
-  first-becomes anchored w b i k none h = record {
-    stands = h.stands;
-    as_long = refl;
-    first = (λ n s stands.
-        let ends = new_end n s stands in
-        let whole = h.whole in
-        first-at_one_end kind (standing_at patterns i k) (standing_at patterns n s) (omega arith)
-        (h.first n s stands (inr ends)));
-  }
-    where
-      new_end : (n s : ℕ) → Stands patterns anchored (w ++ b ∷ []) n s
-          → s + length (pattern_of patterns n) ≡ length (w ++ b ∷ [])
-      new_end n s stands = elim (Stands-cases patterns anchored w b n s stands) [
-        | inl before ↦ absurd (none n s before)
-        | inr e ↦ e
-      ]
+  first-becomes anchored w b i k none h = grind (arith, common_steps)
 
   -- in the empty text only the empty pattern stands, so the matches of the start say what is picked there
   start_stands : (anchored : Anchored) (n s : ℕ) → Stands patterns anchored [] n s
@@ -387,13 +303,4 @@ module _ (kind : MatchKind) (patterns : List (List ℕ)) where
   pub start-becomes : (order : MatchKind) (anchored : Anchored) (i k : ℕ) → IsHead anchored [] i k
       → ((a b : Occurrence) → a.end ≡ b.end → IsFirst kind a b → IsFirst order a b)
       → IsPickIn order patterns anchored [] (Some (standing_at patterns i k))
-  start-becomes order anchored i k h also = record {
-    stands = h.stands;
-    as_long = refl;
-    first = (λ n s stands.
-        let f = start_stands anchored n s stands in
-        let l = Prefixes-length patterns [] n f.1 in
-        let w = h.whole in
-        also (standing_at patterns i k) (standing_at patterns n s) (omega arith)
-        (h.first n s stands (inr (omega arith))));
-  }
+  start-becomes order anchored i k h also = grind (arith, common_steps)

@@ -1,6 +1,7 @@
 -- Under Standard the walk over a beginning of the span is those matches of the whole walk that end within it.
-use Rattle.std.proofs.Common.{◌≡◌, ℕ, zero, suc, ◌+◌, ◌-◌, ◌<◌, ◌≤◌, Bool, true, false, cond, List, [], ◌∷◌, inl, inr, refl, ap, sym, ◌∙◌, arith, Option, Some, None, filter, nat_le, nat_eq}
-use Rattle.std.proofs.lemmas.Bool.{and_parts, eqb-true, cases_lt, cond-true, cond-false, le-leb, lt-leb, leb-false}
+use Rattle.std.proofs.Common.{◌≡◌, ℕ, zero, suc, ◌+◌, ◌-◌, ◌<◌, ◌≤◌, Bool, true, false, cond, List, [], ◌∷◌, refl, ap, sym, ◌∙◌, arith, Option, Some, None, filter, nat_le, nat_eq, rules}
+use Rattle.std.proofs.lemmas.Bool.{and_parts, eqb-true, cond-false, le-leb, lt-leb, leb-false}
+use Rattle.std.proofs.lemmas.Grind.{common_steps}
 use Rattle.ac_util.specs.Prelude.{continued, from, IsPick, next_match, Occurrence, Occurs, pick, repeats, Search, Standard, unless_repeated, walk, walk_after}
 use Rattle.ac_util.proofs.Lists.{filter-none}
 use Rattle.ac_util.proofs.Picks.{pick-IsPick, pick-from_IsPick}
@@ -16,27 +17,11 @@ ends_by h m = nat_le m.end h
 
 -- what a shorter span has, the longer one has
 widen : (q : Search) (h : ℕ) (o : Occurrence) → h ≤ q.high → Occurs (up_to_end q h) o → Occurs q o
-widen q h o l x =
-    record {
-      numbered = x.numbered;
-      from_low = x.from_low;
-      as_long = x.as_long;
-      to_high = (let t = x.to_high in omega arith);
-      reads = x.reads;
-      at_low = x.at_low;
-    }
+widen q h o l x = grind (arith, common_steps)
 
 -- what the longer span has and ends early enough, the shorter one has
 narrow : (q : Search) (h : ℕ) (o : Occurrence) → o.end ≤ h → Occurs q o → Occurs (up_to_end q h) o
-narrow q h o l x =
-    record {
-      numbered = x.numbered;
-      from_low = x.from_low;
-      as_long = x.as_long;
-      to_high = l;
-      reads = x.reads;
-      at_low = x.at_low;
-    }
+narrow q h o l x = grind (arith, common_steps)
 
 -- the pick of the shorter span
 abbrev pub within : ℕ → Option Occurrence → Option Occurrence
@@ -61,10 +46,7 @@ lost q h m l p e =
 pick_within : (q : Search) (h : ℕ) (r : Option Occurrence) → h ≤ q.high → IsPick Standard q r
     → pick Standard (up_to_end q h) ≡ within h r
 pick_within q h None l p = sym (pick-from_IsPick Standard (up_to_end q h) None (λ o x. p o (widen q h o l x)))
-pick_within q h (Some m) l p = elim (cases_lt h m.end) [
-  | inl out ↦ lost q h m l p out ∙ sym (cond-false (ends_by h m) (Some m) None (lt-leb m.end h out))
-  | inr in' ↦ kept q h m l p in' ∙ sym (cond-true (ends_by h m) (Some m) None (le-leb m.end h in'))
-]
+pick_within q h (Some m) l p = search (rules, kept, le-leb, lost, lt-leb)
 
 -- the pick of the shorter span is that of the longer one, if it ends within
 pub pick-within : (q : Search) (h : ℕ) → h ≤ q.high → pick Standard (up_to_end q h) ≡ within h (pick Standard q)
@@ -73,9 +55,7 @@ pick-within q h l = pick_within q h (pick Standard q) l (pick-IsPick Standard q)
 -- a match that starts after a place past h ends past it
 beyond : (q : Search) (h : ℕ) (r : Option Occurrence) → h < q.low → IsPick Standard q r → within h r ≡ None
 beyond q h None l p = refl
-beyond q h (Some m) l p =
-    cond-false (ends_by h m) (Some m) None
-    (lt-leb m.end h (let o = p.0 in let a = o.from_low in let b = o.as_long in omega arith))
+beyond q h (Some m) l p = grind (arith, common_steps)
 
 -- a pick that repeats ends at the low end of the span
 repeat_end : (q : Search) (last : Option ℕ) (m : Occurrence) → ((l : ℕ) → last ≡ Some l → l ≡ q.low)
@@ -89,11 +69,9 @@ next_cases : (q : Search) (h : ℕ) (last : Option ℕ) (m : Occurrence) (t s : 
     → ((l : ℕ) → last ≡ Some l → l ≡ q.low) → repeats (Some m) last ≡ t → ends_by h m ≡ s
     → unless_repeated Standard (up_to_end q h) (cond s (Some m) None) (repeats (cond s (Some m) None) last)
     ≡ within h (unless_repeated Standard q (Some m) t)
-next_cases q h last m false true l at e f =
-    ap (unless_repeated Standard (up_to_end q h) (Some m)) e ∙ sym (cond-true (ends_by h m) (Some m) None f)
+next_cases q h last m false true l at e f = cc
 next_cases q h last m false false l at e f = sym (cond-false (ends_by h m) (Some m) None f)
-next_cases q h last m true true l at e f =
-    ap (unless_repeated Standard (up_to_end q h) (Some m)) e ∙ pick-within (from q (q.low + 1)) h l
+next_cases q h last m true true l at e f = grind (arith, common_steps, pick-within (from q (q.low + 1)) h l)
 next_cases q h last m true false l at e f =
     let out : h < m.end = leb-false m.end h f in
     let end : m.end ≡ q.low = repeat_end q last m at e in
@@ -111,9 +89,7 @@ next_by q h last (Some m) l at = next_cases q h last m (repeats (Some m) last) (
 -- the next match of the shorter span is that of the longer one, if it ends within
 next-within : (q : Search) (h : ℕ) (last : Option ℕ) → h ≤ q.high → ((l : ℕ) → last ≡ Some l → l ≡ q.low)
     → next_match Standard (up_to_end q h) last ≡ within h (next_match Standard q last)
-next-within q h last l at =
-    ap (λ (p : Option Occurrence). unless_repeated Standard (up_to_end q h) p (repeats p last))
-    (pick-within q h l) ∙ next_by q h last (pick Standard q) l at
+next-within q h last l at = search (rules, next_by, pick-within)
 
 -- a match that was just found ended at the low end of what is left
 at_low : (q : Search) (e : ℕ) (l : ℕ) → Some e ≡ Some l → l ≡ e
@@ -123,11 +99,7 @@ at_low q e l s = cc
 rest_out : (q : Search) (h n : ℕ) (m : Occurrence) → h < m.end
     → filter (ends_by h) (continued Standard (from q m.end) n (next_match Standard (from q m.end) (Some m.end)))
     ≡ []
-rest_out q h n m out =
-    filter-none (ends_by h)
-    (continued Standard (from q m.end) n (next_match Standard (from q m.end) (Some m.end)))
-    (λ x i. let r = later Standard (from q m.end) n
-    (next_match Standard (from q m.end) (Some m.end)) x refl i in lt-leb x.end h (omega arith))
+rest_out q h n m out = search (rules, filter-none, later, lt-leb)
 
 -- the walk from a match, by whether that ends within the shorter span
 beginning_at : (q : Search) (h n : ℕ) (m : Occurrence) (s : Bool) → h ≤ q.high → ends_by h m ≡ s
@@ -139,10 +111,7 @@ beginning_at : (q : Search) (h n : ℕ) (m : Occurrence) (s : Bool) → h ≤ q.
     (continued Standard (from q m.end) n (next_match Standard (from q m.end) (Some m.end))))
     (filter (ends_by h)
     (continued Standard (from q m.end) n (next_match Standard (from q m.end) (Some m.end))))
-beginning_at q h n m true l e later' =
-    ap (λ (ms : List Occurrence). m ∷ ms)
-    (ap (continued Standard (up_to_end (from q m.end) h) n)
-    (next-within (from q m.end) h (Some m.end) l (at_low q m.end)) ∙ later')
+beginning_at q h n m true l e later' = grind (arith, common_steps, next-within (from q m.end) h (Some m.end) l (at_low q m.end))
 beginning_at q h n m false l e later' = sym (rest_out q h n m (leb-false m.end h e))
 
 -- as far as n matches, the walk over the shorter span is what ends within it of the walk over the longer one
@@ -165,12 +134,7 @@ after q m = refl
 enough : (q : Search) (last : Option ℕ) (n : ℕ) (r : Option Occurrence) → next_match Standard q last ≡ r
     → q.high + 1 ≤ n + q.low → continued Standard q n r ≡ walk_after Standard q last
 enough q last n None e l = continued-None Standard q n ∙ sym (walk_after-None Standard q last e)
-enough q last zero (Some m) e l =
-    let o = next-in_span Standard q last m e in
-    let a = o.from_low in
-    let b = o.in_order in
-    let c = o.to_high in
-    absurd (omega arith)
+enough q last zero (Some m) e l = search (rules, next-in_span)
 enough q last (suc n) (Some m) e l =
     let o = next-in_span Standard q last m e in let a = o.from_low in let b = o.in_order in let c = o.to_high in
     ap (λ (ms : List Occurrence). m ∷ ms)
@@ -181,8 +145,4 @@ enough q last (suc n) (Some m) e l =
 -- the walk over a beginning
 pub walk-beginning : (q : Search) (h : ℕ) → h ≤ q.high
     → walk Standard (up_to_end q h) ≡ filter (ends_by h) (walk Standard q)
-walk-beginning q h l =
-    sym (enough (up_to_end q h) None (q.high + 1) (within h (next_match Standard q None))
-    (next-within q h None l (λ k e. absurd (cc))) (omega arith))
-    ∙ beginning_by q h (q.high + 1) (next_match Standard q None) l
-    ∙ ap (filter (ends_by h)) (enough q None (q.high + 1) (next_match Standard q None) refl (omega arith))
+walk-beginning q h l = grind (arith, common_steps, enough, next-within, beginning_by q h (q.high + 1) (next_match Standard q None) l)

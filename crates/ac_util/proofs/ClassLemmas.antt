@@ -1,12 +1,13 @@
 -- Two bytes of one class lead alike from every node, and a byte of a pattern has a class of its own.
-use Rattle.std.proofs.Common.{◌≡◌, ℕ, zero, suc, ◌+◌, ◌-◌, ◌<◌, ◌≤◌, Bool, true, false, ◌||◌, cond, List, [], ◌∷◌, ◌++◌, map, get_or, ◌⊎◌, inl, inr, refl, ap, sym, ◌∙◌, subst, Some, None, add-one, arith, nat_eq}
+use Rattle.std.proofs.Common.{◌≡◌, ℕ, zero, suc, ◌+◌, ◌-◌, ◌<◌, ◌≤◌, Bool, true, false, ◌||◌, cond, List, [], ◌∷◌, ◌++◌, map, get_or, ◌⊎◌, inl, inr, refl, ap, sym, ◌∙◌, subst, Some, None, add-one, arith, nat_eq, rules}
 use Rattle.std.specs.List.{list_any, starts_with}
-use Rattle.std.proofs.lemmas.Bool.{or_cases, or_left, or_right, and_parts, cases_lt, cond-false, false≢true, false_from_ne_true}
+use Rattle.std.proofs.lemmas.Bool.{or_cases, or_left, or_right, and_parts, cases_lt, cond-false, false≢true}
+use Rattle.std.proofs.lemmas.Grind.{common_steps}
 use Rattle.ac_util.specs.Prelude.{class_of, is_empty, is_node, IsLawful, MatchKind, No, Node, participants, pattern_of, plain, plain_byte, same_byte, is_in_patterns, step, Yes}
 use Rattle.ac_util.specs.declared.search.Anchored.{Anchored}
 use Rattle.ac_util.proofs.NodeCount.{any_passes}
 use Rattle.ac_util.proofs.Prefixes.{list_any-weaker}
-use Rattle.ac_util.proofs.Reached.{stops, step-nil, step-cons}
+use Rattle.ac_util.proofs.Reached.{stops, step-cons}
 
 -- the last byte of a prefix of p stands in p
 any-from_prefix : (p v : List ℕ) (b : ℕ) → starts_with nat_eq p (v ++ b ∷ []) ≡ true
@@ -46,28 +47,20 @@ module _ (kind : MatchKind) (patterns : List (List ℕ)) where
   step-free_alike : (a b : ℕ) → EndsNone a → EndsNone b → (u : List ℕ)
       → step kind patterns No (Some u) a ≡ step kind patterns No (Some u) b
   step-free_alike a b no_a no_b [] =
-      let after : Node = cond (stops kind patterns []) None (Some []) in
-      step-nil kind patterns a ∙ cond-false (is_node kind patterns (a ∷ [])) (Some (a ∷ [])) after (no_a [])
-      ∙ sym (step-nil kind patterns b
-      ∙ cond-false (is_node kind patterns (b ∷ [])) (Some (b ∷ [])) after (no_b []))
-  step-free_alike a b no_a no_b (x ∷ u) =
-      let after = λ (v : Node). cond (stops kind patterns (x ∷ u)) None v in
-      step-cons kind patterns x a u
-      ∙ cond-false (is_node kind patterns (x ∷ u ++ a ∷ [])) (Some (x ∷ u ++ a ∷ []))
-      (after (step kind patterns No (Some u) a)) (no_a (x ∷ u))
-      ∙ ap after (step-free_alike a b no_a no_b u)
-      ∙ sym (step-cons kind patterns x b u
-      ∙ cond-false (is_node kind patterns (x ∷ u ++ b ∷ [])) (Some (x ∷ u ++ b ∷ []))
-      (after (step kind patterns No (Some u) b)) (no_b (x ∷ u)))
+      grind (
+        arith,
+        common_steps,
+        cond-false (is_node kind patterns (a ∷ [])) (Some (a ∷ [])) (cond (stops kind patterns []) None (Some [])) (no_a []),
+        cond-false (is_node kind patterns (b ∷ [])) (Some (b ∷ [])) (cond (stops kind patterns []) None (Some [])) (no_b []),
+      )
+  step-free_alike a b no_a no_b (x ∷ u) = search (rules, step-cons, cond-false, step-free_alike a b no_a no_b u)
 
   -- and so they do from each node
   step-alike : (a b : ℕ) → EndsNone a → EndsNone b → (anchored : Anchored) (u : Node)
       → step kind patterns anchored u a ≡ step kind patterns anchored u b
   step-alike a b no_a no_b anchored None = refl
   step-alike a b no_a no_b No (Some u) = step-free_alike a b no_a no_b u
-  step-alike a b no_a no_b Yes (Some u) =
-      cond-false (is_node kind patterns (u ++ a ∷ [])) (Some (u ++ a ∷ [])) None (no_a u)
-      ∙ sym (cond-false (is_node kind patterns (u ++ b ∷ [])) (Some (u ++ b ∷ [])) None (no_b u))
+  step-alike a b no_a no_b Yes (Some u) = grind (arith, common_steps)
 
 module _ (fold : Bool) (patterns : List (List ℕ)) where
   -- the class of a byte, and whether it stands in a pattern, with the shorter names of this file
@@ -108,18 +101,12 @@ module _ (fold : Bool) (patterns : List (List ℕ)) where
 
   -- the class rises at a byte of a pattern, and at the byte after it
   pub class-up : (b : ℕ) → (stands (b + 1) ≡ true) ⊎ (stands b ≡ true) → class (b + 1) ≡ class b + 1
-  class-up b (inl at) =
-      class-next b ∙ ap (λ (t : Bool). class b + cond t 1 0) (or_left (stands (b + 1)) (stands b) at)
-  class-up b (inr behind) =
-      class-next b ∙ ap (λ (t : Bool). class b + cond t 1 0) (or_right (stands (b + 1)) (stands b) behind)
+  class-up b (inl at) = search (rules, class-next, or_left)
+  class-up b (inr behind) = search (rules, class-next, or_right)
 
   -- and nowhere else
   pub class-stays : (b : ℕ) → stands (b + 1) ≡ false → stands b ≡ false → class (b + 1) ≡ class b
-  class-stays b at behind =
-      class-next b
-      ∙ ap (λ (t : Bool). class b + cond (t || stands b) 1 0) at
-      ∙ ap (λ (t : Bool). class b + cond t 1 0) behind
-      ∙ omega arith
+  class-stays b at behind = search (rules, class-next)
 
   -- a class rises by one or not at all
   one_or_none : (t : Bool) → cond t 1 0 ≤ 1
@@ -132,28 +119,21 @@ module _ (fold : Bool) (patterns : List (List ℕ)) where
 
   -- and by at most one
   pub class-rises_by_one : (b : ℕ) → class (b + 1) ≤ class b + 1
-  class-rises_by_one b = omega (arith, class-next b, one_or_none (stands (b + 1) || stands b))
+  class-rises_by_one b = omega (arith, class-next, one_or_none)
 
   -- no class is above its byte
   pub class-le : (b : ℕ) → class b ≤ b
   class-le zero = omega (arith, class-zero)
-  class-le (suc b) = omega (arith, ap class (add-one b), class-rises_by_one b, class-le b)
+  class-le (suc b) = omega (arith, ap class (add-one b), class-le b, class-rises_by_one)
 
   -- a byte n places after another has no lesser class
   class-monotone : (n a : ℕ) → class a ≤ class (a + n)
   class-monotone zero a = omega (arith, ap class (let e : a + 0 ≡ a = omega arith in e))
-  class-monotone (suc n) a =
-      omega (
-        arith,
-        ap class (let e : a + suc n ≡ a + n + 1 = omega arith in e),
-        class-rises (a + n),
-        class-monotone n a,
-      )
+  class-monotone (suc n) a = grind (arith, common_steps, class-monotone n a, class-rises)
 
   -- a later byte has no lesser class
   class-ordered : (a b : ℕ) → a ≤ b → class a ≤ class b
-  class-ordered a b h =
-      omega (arith, ap class (let e : a + (b - a) ≡ b = omega arith in e), class-monotone (b - a) a)
+  class-ordered a b h = grind (arith, common_steps, class-monotone (b - a) a)
 
   -- neither byte stands in a pattern
   pub record AreStrangers (a b : ℕ) : Type 0 where
@@ -162,11 +142,7 @@ module _ (fold : Bool) (patterns : List (List ℕ)) where
 
   -- where a byte has the class of a later one, neither stands in a pattern
   strangers_below : (a b : ℕ) → a ≤ b → class a ≡ class (b + 1) → AreStrangers a (b + 1)
-  strangers_below a b l e = record {
-    left = false_from_ne_true _
-        (λ t. omega (arith, e, class-up a (inr t), class-ordered (a + 1) (b + 1) (omega arith)));
-    right = false_from_ne_true _ (λ t. omega (arith, e, class-up b (inl t), class-ordered a b l));
-  }
+  strangers_below a b l e = grind (arith, common_steps, class-up, class-ordered (a + 1) (b + 1) (omega arith), class-ordered)
 
   -- the same, whatever the later byte is called
   strangers_apart : (a b : ℕ) → a < b → class a ≡ class b → AreStrangers a b
@@ -176,20 +152,12 @@ module _ (fold : Bool) (patterns : List (List ℕ)) where
 
   -- two bytes of one class are equal, or neither stands in a pattern
   pub strangers : (a b : ℕ) → class a ≡ class b → (a ≡ b) ⊎ AreStrangers a b
-  strangers a b e = elim (cases_lt a b) [
-    | inl below ↦ inr (strangers_apart a b below e)
-    | inr from ↦ elim (cases_lt b a) [
-      | inl above ↦
-          let s = strangers_apart b a above (sym e) in inr (record { left = s.right; right = s.left })
-      | inr to ↦ inl (omega arith)
-    ]
-  ]
+  strangers a b e = search (rules, cases_lt, strangers_apart)
 
   -- a byte that stands in no pattern ends no node
   ends_none : (kind : MatchKind) (b : ℕ) → stands b ≡ false
       → EndsNone kind (map (plain fold) patterns) (plain_byte fold b)
-  ends_none kind b none v =
-      false_from_ne_true _ (λ node. false≢true (sym none ∙ stands-from_node kind v b node))
+  ends_none kind b none v = search (rules, false≢true, stands-from_node)
 
   -- an automaton may step by these classes
   pub class_of-lawful : (kind : MatchKind) → IsLawful (class_of fold patterns) kind fold patterns
@@ -204,14 +172,4 @@ module _ (fold : Bool) (patterns : List (List ℕ)) where
           | inr s ↦ step-alike kind plains (plain_byte fold a) (plain_byte fold b) (ends_none kind a s.left)
               (ends_none kind b s.right) anchored u
         ];
-  }
-
-  -- each byte may be a class of its own
-  pub bytes-lawful : (kind : MatchKind) → IsLawful (λ b. b) kind fold patterns
-  bytes-lawful kind = record {
-    begins = refl;
-    rises = λ b h. omega arith;
-    rises_by_one = λ b h. omega arith;
-    steps_alike = λ a b low high e anchored u node.
-        ap (λ (x : ℕ). step kind (map (plain fold) patterns) anchored u (plain_byte fold x)) e;
   }

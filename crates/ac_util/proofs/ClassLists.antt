@@ -1,10 +1,11 @@
 -- Lists of classes: those of the patterns' bytes, and each byte as a class of its own.
-use Rattle.std.proofs.Common.{◌≡◌, ℕ, zero, suc, ◌+◌, ◌-◌, ◌<◌, ◌≤◌, Bool, false, List, length, get_or, replicate, inl, inr, refl, ap, sym, ◌∙◌, arith}
+use Rattle.std.proofs.Common.{◌≡◌, ℕ, zero, suc, ◌+◌, ◌-◌, ◌<◌, ◌≤◌, Bool, false, List, length, get_or, replicate, inl, inr, refl, ap, sym, ◌∙◌, arith, rules}
 use Rattle.std.proofs.lemmas.Bool.{false≢true}
 use Rattle.std.proofs.lemmas.List.FromFn.{length-range_with_len, get_or-range_with_len, length-map-range_with_len, get_or-map-range_with_len}
 use Rattle.std.proofs.lemmas.Grind.{same_number_lists}
+use Rattle.std.proofs.lemmas.Grind.{common_steps}
 use Rattle.ac_util.specs.Prelude.{alphabet_len, AreClasses, class_at, class_of, classes_of, IsLawful, MatchKind, SetsApart, singletons}
-use Rattle.ac_util.proofs.ClassLemmas.{class-zero, class-rises, class-rises_by_one, strangers, class_of-lawful, bytes-lawful}
+use Rattle.ac_util.proofs.ClassLemmas.{class-zero, class-rises, class-rises_by_one, strangers, class_of-lawful}
 
 -- no byte is marked at first
 pub none_marked : (n k : ℕ) → get_or (replicate n false) k false ≡ false
@@ -36,14 +37,7 @@ module _ (fold : Bool) (patterns : List (List ℕ)) where
 
   -- they are the classes of all bytes
   pub classes_of-AreClasses : AreClasses (classes_of fold patterns)
-  classes_of-AreClasses = record {
-    whole = length-classes_of;
-    begins = class_at-of 0 (omega arith) ∙ class-zero fold patterns;
-    rises = λ b h.
-        omega (arith, class_at-of b (omega arith), class_at-of (b + 1) (omega arith), class-rises fold patterns b);
-    rises_by_one = λ b h.
-        omega (arith, class_at-of b (omega arith), class_at-of (b + 1) (omega arith), class-rises_by_one fold patterns b);
-  }
+  classes_of-AreClasses = search (rules, class-rises, class-rises_by_one, class-zero, class_at-of, length-classes_of)
 
   -- an automaton may step by the classes that are read
   pub classes_of-lawful : (kind : MatchKind) → IsLawful (class_at (classes_of fold patterns)) kind fold patterns
@@ -54,9 +48,7 @@ module _ (fold : Bool) (patterns : List (List ℕ)) where
   -- a list in which each byte has this class is the list of them
   pub classes_of-from_each : (classes : List ℕ) → length classes ≡ 256
       → ((b : ℕ) → b < 256 → class_at classes b ≡ class_of fold patterns b) → classes ≡ classes_of fold patterns
-  classes_of-from_each classes whole each =
-      same_number_lists classes (classes_of fold patterns) (whole ∙ sym length-classes_of)
-      (λ b h. each b (omega arith) ∙ sym (class_at-of b (omega arith)))
+  classes_of-from_each classes whole each = search (rules, class_at-of, length-classes_of, same_number_lists)
 
   -- a byte of a pattern has a class of its own
   pub classes_of-set_apart : SetsApart fold patterns (classes_of fold patterns)
@@ -80,32 +72,20 @@ length-singletons = length-range_with_len 0 256
 -- a list in which each byte is its own class is the list of them
 pub singletons-from_each : (classes : List ℕ) → length classes ≡ 256
     → ((b : ℕ) → b < 256 → class_at classes b ≡ b) → classes ≡ singletons
-singletons-from_each classes whole each =
-    same_number_lists classes singletons (whole ∙ sym length-singletons)
-    (λ b h. each b (omega arith) ∙ sym (class_at-singletons b (omega arith)))
+singletons-from_each classes whole each = search (rules, class_at-singletons, length-singletons, same_number_lists)
 
 -- they are the classes of all bytes too
 pub singletons-AreClasses : AreClasses singletons
-singletons-AreClasses = record {
-  whole = length-singletons;
-  begins = class_at-singletons 0 (omega arith);
-  rises = λ b h. omega (arith, class_at-singletons b (omega arith), class_at-singletons (b + 1) (omega arith));
-  rises_by_one =
-      λ b h. omega (arith, class_at-singletons b (omega arith), class_at-singletons (b + 1) (omega arith));
-}
+singletons-AreClasses = search (rules, class_at-singletons, length-singletons)
 
 -- an automaton may step by them as they are read
 pub singletons-lawful : (fold : Bool) (patterns : List (List ℕ)) (kind : MatchKind)
     → IsLawful (class_at singletons) kind fold patterns
-singletons-lawful fold patterns kind =
-    lawful-alike kind fold patterns (λ b. b) (class_at singletons) class_at-singletons
-    (bytes-lawful fold patterns kind)
+singletons-lawful fold patterns kind = search (rules, class_at-singletons, lawful-alike)
 
 -- and each byte, of a pattern or not, has a class of its own
 pub singletons-set_apart : (fold : Bool) (patterns : List (List ℕ)) → SetsApart fold patterns singletons
-singletons-set_apart fold patterns = record {
-  own = λ a b low high here e. sym (class_at-singletons a low) ∙ e ∙ class_at-singletons b high;
-}
+singletons-set_apart fold patterns = search (rules, class_at-singletons)
 
 -- of the classes of all bytes
 module _ (classes : List ℕ) (are : AreClasses classes) where
@@ -122,20 +102,12 @@ module _ (classes : List ℕ) (are : AreClasses classes) where
 
   -- each is below their number
   pub class_at-below : (b : ℕ) → b < 256 → class_at classes b < alphabet_len classes
-  class_at-below b h =
-      let up = class_at-monotone (255 - b) b (omega arith) in
-      omega (arith, up, ap (class_at classes) (let e : b + (255 - b) ≡ 255 = omega arith in e))
+  class_at-below b h = grind (arith, common_steps, class_at-monotone (255 - b) b (omega arith))
 
   -- none is above its byte
   class_at-le : (b : ℕ) → b < 256 → class_at classes b ≤ b
   class_at-le zero h = omega (arith, are.begins)
-  class_at-le (suc b) h =
-      omega (
-        arith,
-        ap (class_at classes) (let e : suc b ≡ b + 1 = omega arith in e),
-        are.rises_by_one b (omega arith),
-        class_at-le b (omega arith),
-      )
+  class_at-le (suc b) h = grind (arith, common_steps, class_at-le b (omega arith))
 
   -- so there are no more than bytes
   pub alphabet_len-few : alphabet_len classes ≤ 256

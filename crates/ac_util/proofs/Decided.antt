@@ -1,9 +1,10 @@
 -- A stream under a leftmost kind: matches that stay whatever follows are decided, and so settle it.
-use Rattle.std.proofs.Common.{◌≡◌, ℕ, suc, ◌+◌, ◌-◌, ◌<◌, ◌≤◌, true, List, [], ◌∷◌, ◌++◌, length, get_or, map, length-append, length-drop, take, drop, refl, ap, sym, ◌∙◌, subst, arith, Option, None, Some, All, nat_eq, slice_range}
+use Rattle.std.proofs.Common.{◌≡◌, ℕ, suc, ◌+◌, ◌-◌, ◌<◌, ◌≤◌, true, List, [], ◌∷◌, ◌++◌, length, get_or, map, length-append, take, drop, refl, ap, sym, ◌∙◌, subst, arith, Option, None, Some, All, nat_eq, slice_range, rules}
 use Rattle.std.specs.List.{starts_with}
-use Rattle.std.proofs.Math.Seq.{drop-append_seam, take-append_seam, take-length, take-take}
-use Rattle.std.proofs.lemmas.List.{append-nil, drop-append-le, get_or-map, length-map, map-append, take-append-drop, take-map}
-use Rattle.std.proofs.lemmas.List.Elements.{All-cons, All-nil}
+use Rattle.std.proofs.Math.Seq.{drop-append_seam, take-append_seam, take-take}
+use Rattle.std.proofs.lemmas.List.{append-nil, get_or-map, length-map, take-append-drop, take-map}
+use Rattle.std.proofs.lemmas.List.Elements.{All-nil}
+use Rattle.std.proofs.lemmas.Grind.{common_steps}
 use Rattle.ac_util.specs.Prelude.{AreDecided, asked_whole, Built, from, is_leftmost, IsFirst, IsOpen, IsPick, IsSettledAt, last_end, LeftmostFirst, LeftmostLongest, MatchKind, next_match, NoneOpen, Occurrence, occurrence, Occurs, participates, pattern_of, pick, plain, plain_byte, Search, search_in, Standard, streamed, walk_after}
 use Rattle.ac_util.proofs.Participants.{participant-least}
 use Rattle.ac_util.proofs.Picks.{pick-IsPick}
@@ -33,37 +34,10 @@ module _ (built : Built) (leftmost : is_leftmost built.kind ≡ true) (bytes : L
     comes = occurrence open'.number place (place + length pattern)
 
     shown : slice_range (bytes ++ rest) place (place + length pattern) ≡ drop place bytes ++ rest
-    shown =
-        let inside = open'.inside in
-        let behind = length-drop place bytes in
-        let left = length-drop known pattern in
-        let longer = open'.longer in
-        let all = length-append (drop place bytes) rest in
-        ap (λ (k : ℕ). take k (drop place (bytes ++ rest)))
-        (let k : place + length pattern - place ≡ length pattern = omega arith in k)
-        ∙ ap (take (length pattern)) (drop-append-le place bytes rest (omega arith))
-        ∙ ap (λ (k : ℕ). take k (drop place bytes ++ rest)) (let k : length pattern ≡ length (drop place bytes ++ rest) = omega arith in k)
-        ∙ take-length (drop place bytes ++ rest)
+    shown = grind (arith, common_steps)
 
     comes-there : Occurs then' comes
-    comes-there =
-        let inside = open'.inside in
-        let longer = open'.longer in
-        let left = length-drop known pattern in
-        let all = length-append bytes rest in
-        record {
-          numbered = open'.numbered;
-          from_low = from_low;
-          as_long = refl;
-          to_high = omega arith;
-          reads =
-              ap (plain built.fold) (sym (take-append-drop known pattern))
-              ∙ map-append (plain_byte built.fold) (take known pattern) rest
-              ∙ ap (λ (w : List ℕ). w ++ plain built.fold rest) open'.begins
-              ∙ sym (map-append (plain_byte built.fold) (drop place bytes) rest)
-              ∙ ap (plain built.fold) (sym shown);
-          at_low = λ yes. absurd (cc);
-        }
+    comes-there = grind (arith, common_steps, take-append-drop known pattern)
 
     occurs-then : Occurs then' m
     occurs-then = pick-Occurs built.kind then' m (stays rest)
@@ -94,10 +68,7 @@ module _ (built : Built) (leftmost : is_leftmost built.kind ≡ true) (bytes : L
 
     closed-by : (kind : MatchKind) → built.kind ≡ kind → ⊥
     closed-by Standard is = let no = sym leftmost ∙ ap is_leftmost is in absurd (cc)
-    closed-by LeftmostLongest is =
-        let first : IsFirst LeftmostLongest m comes = subst (λ (k : MatchKind). IsFirst k m comes) is preferred in
-        let longest = first.ends (sym at-start) in
-        let longer = open'.longer in absurd (omega arith)
+    closed-by LeftmostLongest is = search (rules, at-start, preferred)
     closed-by LeftmostFirst is =
         let first : IsFirst LeftmostFirst m comes = subst (λ (k : MatchKind). IsFirst k m comes) is preferred in
         let least = first.patterns (sym at-start) in
@@ -150,14 +121,13 @@ module _ (built : Built) (leftmost : is_leftmost built.kind ≡ true) (bytes : L
       → All (λ (m : Occurrence). m.end ≤ ends_at low ms) ms × (low ≤ ends_at low ms)
   ends-rise [] rest low last walks = (All-nil _, omega arith)
   ends-rise (m ∷ ms) rest low last walks =
-      let first = walk-first built leftmost bytes [] some (here built leftmost bytes [] low) last m (ms ++ rest) walks in
-      let is = next-picks built leftmost bytes [] some (here built leftmost bytes [] low) last m refl first.0 in
-      let o = pick-Occurs built.kind (here built leftmost bytes [] low) m is in
-      let later = ends-rise ms rest m.end (Some m.end) first.1 in
-      let as_long = o.as_long in
-      let from_low = o.from_low in
-      let on = later.1 in
-      (All-cons (λ (n : Occurrence). n.end ≤ ends_at m.end ms) m ms later.1 later.0, omega arith)
+      grind (
+        arith,
+        common_steps,
+        pick-Occurs built.kind (here built leftmost bytes [] low) m (next-picks built leftmost bytes [] some (here built leftmost bytes [] low) last m
+            refl (walk-first built leftmost bytes [] some (here built leftmost bytes [] low) last m (ms ++ rest) walks).0),
+        ends-rise ms rest m.end (Some m.end) (walk-first built leftmost bytes [] some (here built leftmost bytes [] low) last m (ms ++ rest) walks).1,
+      )
 
   -- they are decided
   walks-decided : (ms : List Occurrence) (low begun place : ℕ) (last next : Option ℕ)

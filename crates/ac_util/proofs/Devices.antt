@@ -1,11 +1,12 @@
 -- Reading on, and writing on.
-use Rattle.std.proofs.Common.{◌≡◌, ◌≢◌, ◌+◌, ◌<◌, ℕ, zero, suc, List, [], ◌∷◌, ◌++◌, length, length-append, length-drop, take, drop, ap, sym, refl, ◌∙◌, subst, arith, Bool, Option, slice_range}
+use Rattle.std.proofs.Common.{◌≡◌, ◌≢◌, ◌+◌, ◌<◌, ℕ, zero, suc, List, [], ◌∷◌, ◌++◌, length, take, drop, ap, refl, arith, Bool, Option, slice_range, rules}
 use Rattle.std.proofs.lemmas.Bool.Decides.{nat_tests}
-use Rattle.std.proofs.lemmas.List.{append-nil, append_assoc, length-take-le}
+use Rattle.std.proofs.lemmas.List.{length-take-le}
 use Rattle.std.specs.Io.{StartsWith}
 use Rattle.std.specs.Io.KnownBytes.{Appends, Consumes}
-use Rattle.std.proofs.Math.Seq.{take-add, take-length}
+use Rattle.std.proofs.Math.Seq.{take-add}
 use Rattle.std.proofs.KnownBytes.{Appends-trans, Consumes-trans}
+use Rattle.std.proofs.lemmas.Grind.{common_steps}
 use Rattle.ac_util.specs.Prelude.{FailsToRead, idle, Reading, ReadsAll, ReadsSome, StreamError, Took, TooLong}
 use Rattle.ac_util.specs.declared.error.StreamError.TheVariants.{Io, Match, Memory, WriteZero}
 
@@ -17,9 +18,7 @@ read-more a b c bs piece n p t = Consumes-trans a.left b.left c.left bs (take n 
 -- what was written so far with what a write has taken
 pub append-more : (a b c : Option (List ℕ)) (bytes : List ℕ) (at n : ℕ)
     → Appends a b (take at bytes) → Appends b c (take n (drop at bytes)) → Appends a c (take (at + n) bytes)
-append-more a b c bytes at n p q =
-    subst (Appends a c) (sym (take-add at n bytes))
-    (Appends-trans a b c (take at bytes) (take n (drop at bytes)) p q)
+append-more a b c bytes at n p q = search (rules, Appends-trans, take-add)
 
 -- the first bytes are a beginning
 pub beginning : (at : ℕ) (bytes : List ℕ) → StartsWith bytes (take at bytes)
@@ -35,10 +34,6 @@ take-short at bytes less = let l = length-take-le at bytes (omega arith) in omeg
 pub not-idle : (n room : ℕ) → n ≢ 0 → idle n room ≡ 0
 not-idle n room some = grind (arith, nat_tests)
 
--- a write that took nothing though there was something was
-pub was-idle : (n room : ℕ) → n ≡ 0 → 0 < room → idle n room ≡ 1
-was-idle n room none some = grind (arith, nat_tests)
-
 -- a read that took something wasn't an empty one
 pub not-empty : {ends : Bool} (a b : Reading) (into : List ℕ) (n : ℕ) → n ≢ 0 → Took ends a b into n
     → b.empties ≡ a.empties
@@ -46,26 +41,16 @@ not-empty a b into n some t = let none = not-idle n (length into) some in let co
 
 -- what is left of the bytes from a place on
 pub rest-range : (at : ℕ) (bytes : List ℕ) → slice_range bytes at (length bytes) ≡ drop at bytes
-rest-range at bytes =
-    ap (λ (n : ℕ). take n (drop at bytes)) (sym (length-drop at bytes)) ∙ take-length (drop at bytes)
+rest-range at bytes = grind (arith, common_steps)
 
 module _ {old between new : Reading} {bytes more : List ℕ} (reads : ReadsSome old between bytes) where
   -- some bytes came, and then some more
   pub reads-on : ReadsSome between new more → ReadsSome old new (bytes ++ more)
-  reads-on later = record {
-    moved = Consumes-trans old.left between.left new.left bytes more reads.moved later.moved;
-    failed = later.failed ∙ reads.failed;
-    empties = later.empties ∙ reads.empties;
-  }
+  reads-on later = grind (arith, common_steps)
 
   -- or all that there were
   pub reads-out : {ends : Bool} → ReadsAll ends between new more → ReadsAll ends old new (bytes ++ more)
-  reads-out later = record {
-    moved = Consumes-trans old.left between.left new.left bytes more reads.moved later.moved;
-    ended = later.ended;
-    failed = later.failed ∙ reads.failed;
-    empties = (let l = later.empties in let r = reads.empties in omega arith);
-  }
+  reads-out later = grind (arith, common_steps)
 
 -- some bytes came, and after them a read has failed, or brought more than usize counts
 pub fails-after : {old between : Reading} {bytes : List ℕ} (new : Reading) (more : List ℕ) → ReadsSome old between bytes
@@ -73,25 +58,12 @@ pub fails-after : {old between : Reading} {bytes : List ℕ} (new : Reading) (mo
     → FailsToRead seen old new (bytes ++ more) e
 fails-after new more reads seen total sum (Match m) fails = fails
 fails-after new more reads seen total sum Memory fails = fails
-fails-after {old} {between} {bytes} new more reads seen total sum (Io e) fails = record {
-  moved = Consumes-trans old.left between.left new.left bytes more reads.moved fails.moved;
-  failed = (let f = fails.failed in let r = reads.failed in omega arith);
-  empties = fails.empties ∙ reads.empties;
-}
+fails-after {old} {between} {bytes} new more reads seen total sum (Io e) fails = grind (arith, common_steps)
 fails-after new more reads seen total sum WriteZero fails = fails
-fails-after {old} {between} {bytes} new more reads seen total sum TooLong fails = record {
-  lost = fails.lost;
-  too_many = (let l = fails.too_many in let n = length-append bytes more in omega arith);
-  moved = subst (Consumes old.left new.left) (sym (append_assoc bytes more fails.lost))
-      (Consumes-trans old.left between.left new.left bytes (more ++ fails.lost) reads.moved fails.moved);
-  failed = fails.failed ∙ reads.failed;
-  empties = fails.empties ∙ reads.empties;
-}
+fails-after {old} {between} {bytes} new more reads seen total sum TooLong fails = grind (arith, common_steps)
 
 -- bytes came, and then a read has failed, or brought more than usize counts
 pub fails-on : {old between : Reading} (new : Reading) (seen total : ℕ) (bytes : List ℕ) → total ≡ seen + length bytes
     → ReadsSome old between bytes → (e : StreamError) → FailsToRead total between new [] e
     → FailsToRead seen old new bytes e
-fails-on {old} {between} new seen total bytes sum reads e fails =
-    subst (λ (bs : List ℕ). FailsToRead seen old new bs e) (append-nil bytes)
-    (fails-after new [] reads seen total sum e fails)
+fails-on {old} {between} new seen total bytes sum reads e fails = grind (arith, common_steps)

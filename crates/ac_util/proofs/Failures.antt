@@ -1,15 +1,10 @@
 -- Failure targets lead to the same step, and the looks along them are paid by the length of the node.
-use Rattle.std.proofs.Common.{◌≡◌, ℕ, zero, suc, ◌+◌, ◌≤◌, Bool, true, false, cond, List, [], ◌∷◌, ◌++◌, length, drop, refl, ap, sym, ◌∙◌, arith, Some, None, find}
-use Rattle.std.proofs.lemmas.Bool.{cond-false, cond-true}
+use Rattle.std.proofs.Common.{◌≡◌, ℕ, zero, suc, ◌+◌, ◌≤◌, Bool, true, false, cond, List, [], ◌∷◌, ◌++◌, length, refl, sym, ◌∙◌, arith, Some, None, rules}
 use Rattle.std.proofs.lemmas.List.{length_push}
-use Rattle.ac_util.specs.Prelude.{depth, failure, is_node, looks, looks_within, MatchKind, No, Node, open_suffixes, reached, step, suffixes, Yes}
+use Rattle.std.proofs.lemmas.Grind.{common_steps}
+use Rattle.ac_util.specs.Prelude.{depth, failure, is_node, looks, looks_within, MatchKind, No, Node, reached, step, Yes}
 use Rattle.ac_util.specs.declared.search.Anchored.{Anchored}
-use Rattle.ac_util.proofs.Reached.{stops, starting_by-cons, reached-nil, reached-cons, step-cons, step-all, step-reached}
-
-find_rest : (p : List ℕ → Bool) (t : Bool) (y : List ℕ) (ws : List (List ℕ))
-    → find p (drop 1 (cond t (y ∷ []) (y ∷ ws))) ≡ cond t None (find p ws)
-find_rest p true y ws = refl
-find_rest p false y ws = refl
+use Rattle.ac_util.proofs.Reached.{stops, reached-nil, reached-cons, step-cons, step-all, step-reached}
 
 module _ (kind : MatchKind) (patterns : List (List ℕ)) where
   abbrev free : List ℕ → Node
@@ -22,10 +17,7 @@ module _ (kind : MatchKind) (patterns : List (List ℕ)) where
   -- front
   pub failure-cons : (x : ℕ) (u : List ℕ)
       → failure kind patterns (x ∷ u) ≡ cond (stops kind patterns (x ∷ u)) None (free u)
-  failure-cons x u =
-      ap (λ (ws : List (List ℕ)). find (is_node kind patterns) (drop 1 ws))
-      (starting_by-cons kind patterns x u (x ∷ u) (suffixes u))
-      ∙ find_rest (is_node kind patterns) (stops kind patterns (x ∷ u)) (x ∷ u) (open_suffixes kind patterns u)
+  failure-cons x u = grind (arith, common_steps)
 
   step_after : (u : List ℕ) (b : ℕ) (t : Bool)
       → cond t None (stepped (Some u) b) ≡ stepped (cond t None (free u)) b
@@ -35,20 +27,12 @@ module _ (kind : MatchKind) (patterns : List (List ℕ)) where
   -- with a transition of its own a node steps there
   pub step-own : (x : ℕ) (u : List ℕ) (b : ℕ) → is_node kind patterns (x ∷ u ++ b ∷ []) ≡ true
       → stepped (Some (x ∷ u)) b ≡ Some (x ∷ u ++ b ∷ [])
-  step-own x u b own =
-      step-cons kind patterns x b u
-      ∙ cond-true (is_node kind patterns (x ∷ u ++ b ∷ [])) (Some (x ∷ u ++ b ∷ []))
-      (cond (stops kind patterns (x ∷ u)) None (stepped (Some u) b)) own
+  step-own x u b own = grind (arith, common_steps)
 
   -- without one it steps as its failure target does
   pub step-failure : (x : ℕ) (u : List ℕ) (b : ℕ) → is_node kind patterns (x ∷ u ++ b ∷ []) ≡ false
       → stepped (Some (x ∷ u)) b ≡ stepped (failure kind patterns (x ∷ u)) b
-  step-failure x u b none =
-      step-cons kind patterns x b u
-      ∙ cond-false (is_node kind patterns (x ∷ u ++ b ∷ [])) (Some (x ∷ u ++ b ∷ []))
-      (cond (stops kind patterns (x ∷ u)) None (stepped (Some u) b)) none
-      ∙ step_after u b (stops kind patterns (x ∷ u))
-      ∙ ap (λ (v : Node). stepped v b) (sym (failure-cons x u))
+  step-failure x u b none = search (rules, step-cons, step_after)
 
   shorter : (x : ℕ) (w : List ℕ) (t s : Bool) → depth (free w) ≤ length w
       → depth (cond t (Some (x ∷ w)) (cond s None (free w))) ≤ length (x ∷ w)

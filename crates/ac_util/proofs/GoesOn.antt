@@ -1,7 +1,7 @@
 -- A stream that goes on: the walk over what was there before stays, and other matches follow.
-use Rattle.std.proofs.Common.{◌≡◌, ℕ, zero, suc, ◌+◌, ◌-◌, ◌<◌, ◌≤◌, Bool, true, false, List, [], ◌∷◌, ◌++◌, length, length-append, get_or, inl, inr, refl, ap, sym, ◌∙◌, arith, Option, None, Some, AllPairs, filter}
+use Rattle.std.proofs.Common.{◌≡◌, ℕ, zero, suc, ◌+◌, ◌-◌, ◌<◌, ◌≤◌, Bool, true, false, List, [], ◌∷◌, ◌++◌, length, length-append, get_or, refl, ap, sym, ◌∙◌, arith, Option, None, Some, AllPairs, filter, rules}
 use Rattle.std.proofs.lemmas.Bool.{cases_lt, cond-true, cond-false, lt-leb, leb-false}
-use Rattle.ac_util.specs.Prelude.{asked_whole, Built, continued, from, IsAfter, MatchKind, next_match, Occurrence, pick, repeats, Search, search_in, Standard, streamed, unless_repeated, walk, walk_after}
+use Rattle.ac_util.specs.Prelude.{asked_whole, Built, continued, from, IsAfter, MatchKind, next_match, Occurrence, pick, Search, search_in, Standard, streamed, unless_repeated, walk, walk_after}
 use Rattle.ac_util.proofs.Beginning.{ends_by, walk-beginning}
 use Rattle.ac_util.proofs.Longer.{pick-extended}
 use Rattle.ac_util.proofs.Walks.{pick-Occurs, walk-ordered}
@@ -23,10 +23,7 @@ none-backward kind q back = by (pick kind q) refl
 
 module _ (kind : MatchKind) (more : List ℕ) where
   pick-longer : (q : Search) → q.high ≤ length q.haystack → pick kind (longer q more) ≡ pick kind q
-  pick-longer q inside = elim (cases_lt q.high q.low) [
-    | inl back ↦ none-backward kind (longer q more) back ∙ sym (none-backward kind q back)
-    | inr ordered ↦ pick-extended q more ordered inside kind
-  ]
+  pick-longer q inside = search (rules, cases_lt, none-backward, pick-extended)
 
   unless-longer : (q : Search) → q.high ≤ length q.haystack → (r : Option Occurrence) (t : Bool)
       → unless_repeated kind (longer q more) r t ≡ unless_repeated kind q r t
@@ -35,18 +32,13 @@ module _ (kind : MatchKind) (more : List ℕ) where
 
   next-longer : (q : Search) → q.high ≤ length q.haystack → (last : Option ℕ)
       → next_match kind (longer q more) last ≡ next_match kind q last
-  next-longer q inside last =
-      ap (λ (r : Option Occurrence). unless_repeated kind (longer q more) r (repeats r last)) (pick-longer q inside)
-      ∙ unless-longer q inside (pick kind q) (repeats (pick kind q) last)
+  next-longer q inside last = search (rules, pick-longer, unless-longer)
 
   continued-longer : (q : Search) → q.high ≤ length q.haystack → (n : ℕ) (r : Option Occurrence)
       → continued kind (longer q more) n r ≡ continued kind q n r
   continued-longer q inside zero r = refl
   continued-longer q inside (suc n) None = refl
-  continued-longer q inside (suc n) (Some m) =
-      ap (λ (ms : List Occurrence). m ∷ ms)
-      (ap (continued kind (longer q more) n) (next-longer (from q m.end) inside (Some m.end))
-      ∙ continued-longer q inside n (next_match kind (from q m.end) (Some m.end)))
+  continued-longer q inside (suc n) (Some m) = search (rules, next-longer)
 
   -- the walk stays as it was
   pub walk-longer : (q : Search) → q.high ≤ length q.haystack → walk kind (longer q more) ≡ walk kind q

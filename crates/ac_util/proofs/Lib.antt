@@ -18,7 +18,6 @@ pub mod ListingLonger
 pub mod ListingBeginning
 pub mod SamenessLemmas
 pub mod Skips
-pub mod Characters
 pub mod PiecesLemmas
 pub mod LimitLemmas
 pub mod Marks

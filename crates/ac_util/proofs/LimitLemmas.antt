@@ -1,10 +1,11 @@
 -- A list of patterns that isn't refused is within the limits, and one that is too long is found by going along
 -- the list.
-use Rattle.std.proofs.Common.{◌≡◌, ℕ, zero, suc, ◌+◌, ◌-◌, ◌<◌, ◌≤◌, Bool, true, false, cond, List, [], ◌∷◌, length, drop, get_or, refl, ◌∙◌, subst, inl, inr, arith, Option, Some, None, nat_lt, All, slice_get, MatchOption, Result, Ok, Err}
+use Rattle.std.proofs.Common.{◌≡◌, ℕ, zero, suc, ◌+◌, ◌<◌, ◌≤◌, Bool, true, false, cond, List, [], ◌∷◌, length, drop, get_or, refl, arith, Option, Some, None, nat_lt, All, slice_get, MatchOption, Result, Ok, Err, rules}
 use Rattle.std.proofs.lemmas.Option.{slice_get_cases}
-use Rattle.std.proofs.lemmas.Bool.{ltb-false, cond-false, cond-true, lt-ltb, le-ltb}
+use Rattle.std.proofs.lemmas.Bool.{ltb-false}
 use Rattle.std.proofs.lemmas.List.Elements.{All-cons, All-nil}
-use Rattle.ac_util.specs.Prelude.{GREATEST, IsWithinLimits, limit_refusal, PatternIdOverflow, PatternTooLong, too_long_from}
+use Rattle.std.proofs.lemmas.Grind.{common_steps}
+use Rattle.ac_util.specs.Prelude.{GREATEST, IsWithinLimits, limit_refusal, PatternTooLong, too_long_from}
 
 -- one pattern further on
 pub too_long-next : (number : ℕ) (ps : List (List ℕ)) (i j : ℕ) → j ≡ suc i → i < length ps
@@ -12,21 +13,16 @@ pub too_long-next : (number : ℕ) (ps : List (List ℕ)) (i j : ℕ) → j ≡ 
     → too_long_from number (drop i ps) ≡ too_long_from (number + 1) (drop j ps)
 too_long-next number [] i j next within short = absurd (omega arith)
 too_long-next number (p ∷ ps) i zero next within short = absurd (omega arith)
-too_long-next number (p ∷ ps) zero (suc zero) next within short =
-    cond-false (nat_lt GREATEST (length p)) (Some (PatternTooLong number (length p)))
-    (too_long_from (number + 1) ps) (le-ltb GREATEST (length p) short)
+too_long-next number (p ∷ ps) zero (suc zero) next within short = grind (arith, common_steps)
 too_long-next number (p ∷ ps) zero (suc (suc j)) next within short = absurd (omega arith)
-too_long-next number (p ∷ ps) (suc i) (suc j) next within short =
-    too_long-next number ps i j (omega arith) (omega arith) short
+too_long-next number (p ∷ ps) (suc i) (suc j) next within short = grind (arith, common_steps)
 
 -- the pattern here is too long
 pub too_long-here : (number : ℕ) (ps : List (List ℕ)) (i : ℕ) → i < length ps
     → GREATEST < length (get_or ps i [])
     → too_long_from number (drop i ps) ≡ Some (PatternTooLong number (length (get_or ps i [])))
 too_long-here number [] i within long = absurd (omega arith)
-too_long-here number (p ∷ ps) zero within long =
-    cond-true (nat_lt GREATEST (length p)) (Some (PatternTooLong number (length p)))
-    (too_long_from (number + 1) ps) (lt-ltb GREATEST (length p) long)
+too_long-here number (p ∷ ps) zero within long = grind (arith, common_steps)
 too_long-here number (p ∷ ps) (suc i) within long = too_long-here number ps i (omega arith) long
 
 -- where none is told to be too long, none is
@@ -45,23 +41,12 @@ all_short number (p ∷ ps) none = by (nat_lt GREATEST (length p)) refl none (al
 
 -- a list that isn't refused is within the limits
 pub limits-from_refusal : (ps : List (List ℕ)) → limit_refusal ps ≡ None → IsWithinLimits ps
-limits-from_refusal ps none = by (nat_lt (GREATEST + 1) (length ps)) refl none
-  where
-    by : (t : Bool) → nat_lt (GREATEST + 1) (length ps) ≡ t
-        → cond t (Some (PatternIdOverflow GREATEST (length ps - 1))) (too_long_from 0 ps) ≡ None
-        → IsWithinLimits ps
-    by true is none = absurd (cc)
-    by false is none =
-        record { numbered = ltb-false (GREATEST + 1) (length ps) is; short = all_short 0 ps none }
+limits-from_refusal ps none = search (rules, all_short, ltb-false)
 
 -- what holds of all holds of the one at a place
 pub All-slice_get : {X : Type 0} (P : X → Type 0) (xs : List X) (i : ℕ) (x : X) → All P xs
     → slice_get xs i ≡ Some x → P x
-All-slice_get {X} P xs i x all e = elim (slice_get_cases xs i).1 [
-  | inl found ↦
-      let same : found.0 ≡ x = let other = found.2 in cc in subst P (found.3 ∙ same) (all i found.0 found.1)
-  | inr past ↦ absurd (let none = past.1 in cc)
-]
+All-slice_get {X} P xs i x all e = search (rules, slice_get_cases)
 
 -- what is answered by Ok isn't refused
 pub not_refused : {X E : Type 0} (o : Option E) (P : Type 0) (x : X)

@@ -1,13 +1,13 @@
 -- The listing of a span begins with that of each beginning of it, and ends where the dead node is reached.
-use Rattle.std.proofs.Common.{◌≡◌, ℕ, zero, suc, ◌+◌, ◌<◌, ◌≤◌, Bool, cond, List, [], ◌∷◌, ◌++◌, map, length, ap, sym, ◌∙◌, arith, Some, None, slice_get}
+use Rattle.std.proofs.Common.{◌≡◌, ℕ, zero, suc, ◌+◌, ◌<◌, ◌≤◌, List, [], ◌∷◌, ◌++◌, length, ap, arith, Some, None, slice_get, rules}
 use Rattle.std.proofs.lemmas.Bool.{le-ltb, lt-ltb}
 use Rattle.std.proofs.lemmas.Option.{slice_get_within}
-use Rattle.std.proofs.lemmas.List.{append_assoc, append-nil}
-use Rattle.ac_util.specs.Prelude.{all, ending, found_at_end, item_at, longer_by, Occurrence, one_longer, place_after, plain_patterns, reached, Search, Standard, text}
+use Rattle.std.proofs.lemmas.Grind.{common_steps}
+use Rattle.ac_util.specs.Prelude.{all, item_at, longer_by, Occurrence, place_after, plain_patterns, reached, Search, Standard, text}
 use Rattle.ac_util.proofs.Lists.{nil-from_none}
 use Rattle.ac_util.proofs.Listing.{all-only}
 use Rattle.ac_util.proofs.ListingLonger.{all-longer}
-use Rattle.ac_util.proofs.OneLonger.{longer-suc, nothing_found}
+use Rattle.ac_util.proofs.OneLonger.{nothing_found}
 use Rattle.ac_util.proofs.Spans.{nothing-past_end}
 
 -- a span that begins past its end has nothing to list
@@ -22,18 +22,9 @@ pub record ListsMore (q longer : Search) : Type 0 where
 -- the listing of a span that ends n places later goes on with that of the span
 pub all-longer_by : (q : Search) (n : ℕ) → q.low ≤ q.high → q.high + n ≤ length q.haystack
     → ListsMore q (longer_by q n)
-all-longer_by q zero order room = record {
-  later = [];
-  goes_on = ap (λ (h : ℕ). all (record q { high = h })) (omega arith) ∙ sym (append-nil (all q));
-}
+all-longer_by q zero order room = grind (arith, common_steps)
 all-longer_by q (suc n) order room =
-    let before = all-longer_by q n order (omega arith) in
-    let new = map (ending (one_longer (longer_by q n))) (found_at_end Standard (one_longer (longer_by q n))) in
-    record {
-      later = before.later ++ new;
-      goes_on = ap all (longer-suc q n) ∙ all-longer (longer_by q n) (omega arith) (omega arith)
-          ∙ ap (λ (ms : List Occurrence). ms ++ new) before.goes_on ∙ append_assoc (all q) before.later new;
-    }
+    grind (arith, common_steps, all-longer_by q n order (omega arith), all-longer (longer_by q n) (omega arith) (omega arith))
 
 -- once dead, nothing more is listed however much longer the span is
 pub all-dead : (q : Search) → q.low ≤ q.high
@@ -41,10 +32,7 @@ pub all-dead : (q : Search) → q.low ≤ q.high
     → (n : ℕ) → q.high + n ≤ length q.haystack → all (longer_by q n) ≡ all q
 all-dead q order dead zero room = ap (λ (h : ℕ). all (record q { high = h })) (omega arith)
 all-dead q order dead (suc n) room =
-    ap all (longer-suc q n) ∙ all-longer (longer_by q n) (omega arith) (omega arith)
-    ∙ ap (λ (ns : List ℕ). all (longer_by q n) ++ map (ending (one_longer (longer_by q n))) ns)
-    (sym (ap (found_at_end Standard) (longer-suc q n)) ∙ nothing_found Standard q order dead (suc n) room)
-    ∙ append-nil (all (longer_by q n)) ∙ all-dead q order dead n (omega arith)
+    search (rules, all-longer (longer_by q n) (omega arith) (omega arith), all-dead q order dead n (omega arith), nothing_found)
 
 -- a list has no element at its end or past it
 past-from_none : {X : Type 0} (xs : List X) (k : ℕ) → slice_get xs k ≡ None → length xs ≤ k
@@ -55,17 +43,9 @@ past-from_none (x ∷ xs) (suc k) e = let l = past-from_none xs k e in omega ari
 -- where the listing has no item its place stays
 pub item-none : (q : Search) (place : ℕ) → item_at q place ≡ None
     → (length (all q) ≤ place) × (place_after q place ≡ place)
-item-none q place none =
-    let past = past-from_none (all q) place none in (
-      past,
-      ap (λ (t : Bool). cond t (place + 1) place) (le-ltb place (length (all q)) past),
-    )
+item-none q place none = search (rules, le-ltb, past-from_none)
 
 -- and else it goes on
 pub item-some : (q : Search) (place : ℕ) (m : Occurrence) → item_at q place ≡ Some m
     → (place < length (all q)) × (place_after q place ≡ place + 1)
-item-some q place m some =
-    let within = slice_get_within (all q) place m some in (
-      within,
-      ap (λ (t : Bool). cond t (place + 1) place) (lt-ltb place (length (all q)) within),
-    )
+item-some q place m some = search (rules, lt-ltb, slice_get_within)

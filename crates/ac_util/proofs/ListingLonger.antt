@@ -1,7 +1,8 @@
 -- A span that is one place longer: its listing goes on with the matches of the node that an automaton reaches
 -- at its end.
-use Rattle.std.proofs.Common.{◌≡◌, ℕ, zero, suc, ◌+◌, ◌-◌, ◌<◌, ◌≤◌, true, List, [], ◌∷◌, ◌++◌, map, length, inl, inr, refl, ap, sym, subst, arith, Some, nat_eq}
+use Rattle.std.proofs.Common.{◌≡◌, ℕ, zero, suc, ◌+◌, ◌-◌, ◌<◌, ◌≤◌, List, [], ◌∷◌, ◌++◌, map, length, inl, inr, refl, ap, sym, subst, arith, Some, rules}
 use Rattle.std.proofs.lemmas.Bool.{cases_lt}
+use Rattle.std.proofs.lemmas.Grind.{common_steps}
 use Rattle.ac_util.specs.Prelude.{all, ending, equal_to, found_at_end, IsBefore, matches, No, Occurrence, Occurs, one_longer, outward, pattern_of, plain_patterns, Search, Standard, text, Yes}
 use Rattle.ac_util.specs.declared.search.Anchored.{Anchored}
 use Rattle.ac_util.proofs.Lists.{IsIn, IsIn-append_left, IsIn-append_right, IsIn-append_cases, IsIn-map, IsIn-from_map, IsOrdered, IsOrdered-append}
@@ -10,10 +11,9 @@ use Rattle.ac_util.proofs.Picks.{same_occurrence}
 use Rattle.ac_util.proofs.Prefixes.{starts_with-itself}
 use Rattle.ac_util.proofs.Participants.{IsIn-equal_to, IsIn-from_equal_to, equal_to-ordered}
 use Rattle.ac_util.proofs.Found.{matches-nil, matches-cons}
-use Rattle.ac_util.proofs.Standing.{Stands, standing_at, Prefixes-equal, Stands-behind, Stands-from_behind, Stands-from_Prefixes}
+use Rattle.ac_util.proofs.Standing.{Stands, standing_at, Prefixes-equal, Stands-behind, Stands-from_behind}
 use Rattle.ac_util.proofs.Spans.{pattern_length, text_length, Stands-from_Occurs, Occurs-from_Stands}
 use Rattle.ac_util.proofs.OneLonger.{found-text}
-use Rattle.std.specs.List.{starts_with}
 
 module _ (patterns : List (List ℕ)) where
   -- pattern n stands in v from place s on and ends with it
@@ -28,30 +28,16 @@ module _ (patterns : List (List ℕ)) where
   found anchored v = matches Standard patterns anchored (Some v)
 
   in_own : (anchored : Anchored) (v : List ℕ) (n : ℕ) → EndsWith anchored v n 0 → IsIn n (own v)
-  in_own anchored v n e = IsIn-equal_to Standard patterns v n (record {
-    numbered = e.stands.prefixes.numbered;
-    takes_part = refl;
-    same = Prefixes-equal patterns v n e.stands.prefixes (let w = e.whole in omega arith);
-  })
+  in_own anchored v n e = search (rules, IsIn-equal_to, Prefixes-equal)
 
   from_own : (anchored : Anchored) (v : List ℕ) (n : ℕ) → IsIn n (own v) → EndsWith anchored v n 0
-  from_own anchored v n h =
-      let e = IsIn-from_equal_to Standard patterns v n h in
-      record {
-        stands = Stands-from_Prefixes patterns anchored v n (record {
-          numbered = e.numbered;
-          front = subst (λ (p : List ℕ). starts_with nat_eq v p ≡ true) (sym e.same) (starts_with-itself v);
-        });
-        whole = (let l = ap length e.same in omega arith);
-      }
+  from_own anchored v n h = search (rules, IsIn-from_equal_to, starts_with-itself)
 
   -- the matches of a string are the patterns that end with it
   in_free : (v : List ℕ) (n s : ℕ) → EndsWith No v n s → IsIn n (found No v)
   in_free [] n zero e = rw (matches-nil Standard patterns) (in_own No [] n e)
   in_free [] n (suc s) e = absurd (let i = e.stands.within in omega arith)
-  in_free (x ∷ v) n zero e =
-      rw (matches-cons Standard patterns x v)
-      (IsIn-append_left n (own (x ∷ v)) (found No v) (in_own No (x ∷ v) n e))
+  in_free (x ∷ v) n zero e = search (rules, IsIn-append_left, in_own)
   in_free (x ∷ v) n (suc s) e =
       rw (matches-cons Standard patterns x v) (IsIn-append_right n (own (x ∷ v)) (found No v)
       (in_free v n s
@@ -156,9 +142,7 @@ module _ (q : Search) (order : q.low ≤ q.high) (inside : q.high ≤ length q.h
       (Occurs-from_Stands q order inside n r.0 r.1.stands)
 
   only_ending : (m : Occurrence) → IsIn m at_end → Occurs q m × (m.end ≡ q.high)
-  only_ending m h =
-      let f = IsIn-from_map (ending q) m (found_at_end Standard q) h in
-      subst (λ (x : Occurrence). Occurs q x × (x.end ≡ q.high)) f.2 (occurs_ending f.0 f.1, refl)
+  only_ending m h = search (rules, IsIn-from_map, occurs_ending)
 
   in_order : (ns : List ℕ) → ((i : ℕ) → IsIn i ns → length (pattern_of q.patterns i) ≤ q.high)
       → IsOrdered (IsAhead (plain_patterns q)) ns → IsOrdered IsBefore (map (ending q) ns)
@@ -181,42 +165,19 @@ module _ (q : Search) (order : q.low ≤ q.high) (inside : q.high ≤ length q.h
   )
 
   ordered_ending : IsOrdered IsBefore at_end
-  ordered_ending =
-      in_order (found_at_end Standard q)
-      (λ i h. let o = occurs_ending i h in let a = o.as_long in let b = o.from_low in omega arith)
-      (subst (IsOrdered (IsAhead (plain_patterns q))) (sym text_is)
-      (ordered_found (plain_patterns q) q.anchored (text q)))
+  ordered_ending = search (rules, in_order, occurs_ending, ordered_found, text_is)
 
 -- the listing of an empty span is the matches of the start
 pub all-empty : (q : Search) → q.low ≡ q.high → q.high ≤ length q.haystack
     → all q ≡ map (ending q) (found_at_end Standard q)
-all-empty q empty inside =
-    sym (all-unique q (map (ending q) (found_at_end Standard q))
-    (λ m o. has_ending q (omega arith) inside m o
-    (let a = o.as_long in let b = o.from_low in let c = o.to_high in omega arith))
-    (λ m h. (only_ending q (omega arith) inside m h).0)
-    (ordered_ending q (omega arith) inside))
+all-empty q empty inside = search (rules, all-unique, has_ending, only_ending, ordered_ending)
 
 module _ (q : Search) (order : q.low ≤ q.high) (room : q.high < length q.haystack) where
   longer_has : (m : Occurrence) → Occurs q m → Occurs (one_longer q) m
-  longer_has m o = record {
-    numbered = o.numbered;
-    from_low = o.from_low;
-    as_long = o.as_long;
-    to_high = (let h = o.to_high in omega arith);
-    reads = o.reads;
-    at_low = o.at_low;
-  }
+  longer_has m o = grind (arith, common_steps)
 
   shorter_has : (m : Occurrence) → Occurs (one_longer q) m → m.end ≤ q.high → Occurs q m
-  shorter_has m o h = record {
-    numbered = o.numbered;
-    from_low = o.from_low;
-    as_long = o.as_long;
-    to_high = h;
-    reads = o.reads;
-    at_low = o.at_low;
-  }
+  shorter_has m o h = grind (arith, common_steps)
 
   abbrev new : List Occurrence
   new = map (ending (one_longer q)) (found_at_end Standard (one_longer q))

@@ -1,5 +1,5 @@
 -- Membership and strict order of lists by recursion, and how they pass through `map`, `flat_map` and `filter`.
-use Rattle.std.proofs.Common.{◌≡◌, ℕ, zero, suc, ◌+◌, ◌<◌, ◌≤◌, Bool, true, false, cond, List, [], ◌∷◌, ◌++◌, map, length, get_or, ◌⊎◌, inl, inr, refl, ap, sym, ◌∙◌, subst, arith, Some, drop, filter, flat_map, slice_get, Contains, All, AllPairs}
+use Rattle.std.proofs.Common.{◌≡◌, ℕ, zero, suc, ◌+◌, ◌<◌, ◌≤◌, Bool, true, false, cond, List, [], ◌∷◌, ◌++◌, map, length, get_or, ◌⊎◌, inl, inr, refl, ap, sym, ◌∙◌, subst, arith, Some, drop, filter, flat_map, slice_get, Contains, All, AllPairs, rules}
 use Rattle.std.specs.Prelude.{⊤}
 use Rattle.std.specs.List.{range_with_len}
 use Rattle.std.proofs.lemmas.List.{drop_more}
@@ -7,6 +7,7 @@ use Rattle.std.proofs.lemmas.List.Kept.{AllPairs-cons}
 use Rattle.std.proofs.lemmas.List.Elements.{All-cons, All-nil}
 use Rattle.std.proofs.lemmas.Bool.{cases_lt, cond-false}
 use Rattle.std.proofs.lemmas.Option.{get_or_from_slice_get, slice_get_within}
+use Rattle.std.proofs.lemmas.Grind.{common_steps}
 
 -- y is an element
 abbrev pub IsIn : {X : Type 0} → X → List X → Type 0
@@ -33,10 +34,7 @@ IsIn-append_right y (x ∷ xs) ys h = inr (IsIn-append_right y xs ys h)
 pub IsIn-append_cases : {X : Type 0} (y : X) (xs ys : List X) → IsIn y (xs ++ ys) → IsIn y xs ⊎ IsIn y ys
 IsIn-append_cases y [] ys h = inr h
 IsIn-append_cases y (x ∷ xs) ys (inl e) = inl (inl e)
-IsIn-append_cases y (x ∷ xs) ys (inr h) = elim (IsIn-append_cases y xs ys h) [
-  | inl l ↦ inl (inr l)
-  | inr r ↦ inr r
-]
+IsIn-append_cases y (x ∷ xs) ys (inr h) = grind (arith, common_steps, IsIn-append_cases y xs ys h)
 
 -- an element's image is one of the images
 pub IsIn-map : {X Y : Type 0} (f : X → Y) (x : X) (xs : List X) → IsIn x xs → IsIn (f x) (map f xs)
@@ -55,8 +53,7 @@ IsIn-from_map f y (z ∷ xs) (inr h) = let r = IsIn-from_map f y xs h in (r.0, i
 pub IsIn-flat_map : {X Y : Type 0} (f : X → List Y) (y : Y) (x : X) (xs : List X) → IsIn x xs → IsIn y (f x)
     → IsIn y (flat_map f xs)
 IsIn-flat_map f y x [] h in' = absurd h
-IsIn-flat_map f y x (z ∷ xs) (inl e) in' =
-    IsIn-append_left y (f z) (flat_map f xs) (subst (λ w. IsIn y (f w)) (sym e) in')
+IsIn-flat_map f y x (z ∷ xs) (inl e) in' = search (rules, IsIn-append_left)
 IsIn-flat_map f y x (z ∷ xs) (inr h) in' =
     IsIn-append_right y (f z) (flat_map f xs) (IsIn-flat_map f y x xs h in')
 
@@ -74,9 +71,7 @@ pub IsIn-filter : {X : Type 0} (p : X → Bool) (y : X) (xs : List X) → IsIn y
     → IsIn y (filter p xs)
 IsIn-filter p y [] h t = absurd h
 IsIn-filter p y (x ∷ xs) (inl e) t = rw (ap p e ∙ t) (inl e)
-IsIn-filter p y (x ∷ xs) (inr h) t =
-    let later = IsIn-filter p y xs h t in
-    elim (p x) as (λ b. IsIn y (cond b (x ∷ filter p xs) (filter p xs))) [ true ↦ inr later | false ↦ later ]
+IsIn-filter p y (x ∷ xs) (inr h) t = grind (arith, common_steps, IsIn-filter p y xs h t)
 
 -- what is kept of a list whose first element passes or not, given the rest
 filter_cases : {X : Type 0} (p : X → Bool) (y x : X) (xs : List X) (b : Bool) → p x ≡ b
@@ -139,12 +134,7 @@ IsOrdered-flat_map S R f (x ∷ xs) each across o =
 pub IsOrdered-filter : {X : Type 0} (R : X → X → Type 0) (p : X → Bool) (xs : List X) → IsOrdered R xs
     → IsOrdered R (filter p xs)
 IsOrdered-filter R p [] o = tt
-IsOrdered-filter R p (x ∷ xs) o =
-    let later = IsOrdered-filter R p xs o.1 in
-    elim (p x) as (λ b. IsOrdered R (cond b (x ∷ filter p xs) (filter p xs))) [
-      | true ↦ ((λ y h. o.0 y (IsIn-from_filter p y xs h).0), later)
-      | false ↦ later
-    ]
+IsOrdered-filter R p (x ∷ xs) o = grind (arith, common_steps, IsOrdered-filter R p xs o.1, IsIn-from_filter)
 
 -- the numbers from a on rise
 pub IsOrdered-range : (a n : ℕ) → IsOrdered (λ x y. x < y) (range_with_len a n)

@@ -1,18 +1,14 @@
 -- Where a leftmost automaton is alive: its node begins no later than anything that occurs in what was read.
-use Rattle.std.proofs.Common.{◌≡◌, ◌≢◌, ℕ, zero, suc, ◌+◌, ◌-◌, ◌≤◌, Bool, true, false, cond, List, [], ◌∷◌, length, take, drop, inl, inr, refl, ap, sym, ◌∙◌, subst, arith, Option, None, Some, ◌&&◌, find, nat_eq, option_map, if◌then◌else◌}
-use Rattle.std.specs.List.{range_with_len, starts_with}
-use Rattle.std.proofs.Math.Seq.{drop-nil}
+use Rattle.std.proofs.Common.{◌≡◌, ◌≢◌, ℕ, zero, suc, ◌+◌, ◌-◌, ◌≤◌, Bool, true, false, cond, List, [], ◌∷◌, length, take, drop, inl, inr, refl, ap, sym, ◌∙◌, arith, None, Some, ◌&&◌, find, option_map, if◌then◌else◌}
 use Rattle.std.proofs.lemmas.Bool.{and_parts, false≢true}
-use Rattle.std.proofs.lemmas.List.{length-map}
-use Rattle.ac_util.specs.Prelude.{begins_with_pattern, is_leftmost, is_node, last_start, least_start, longest_len, MatchKind, No, Occurrence, open_suffixes, participants, participates, pattern_of, pick, plain, plain_patterns, reached, Search, starting_by, suffixes, text}
+use Rattle.std.proofs.lemmas.Grind.{common_steps}
+use Rattle.ac_util.specs.Prelude.{begins_with_pattern, is_leftmost, is_node, least_start, longest_len, MatchKind, No, Occurrence, pick, plain_patterns, reached, Search, suffixes, text}
 use Rattle.ac_util.proofs.Lists.{IsIn, IsIn-from_filter, IsIn-from_range}
 use Rattle.ac_util.proofs.NodeCount.{any_passes}
 use Rattle.ac_util.proofs.Participants.{begins-from_Prefixes, leader}
-use Rattle.ac_util.proofs.Prefixes.{starts_with-length}
 use Rattle.ac_util.proofs.Reached.{reached-cons, reached-nil}
 use Rattle.ac_util.proofs.Shortest.{longest-most}
-use Rattle.ac_util.proofs.Spans.{Stands-from_Occurs, inward, pattern_length, pick-in_text, text_length}
-use Rattle.ac_util.proofs.Standing.{IsPickIn}
+use Rattle.ac_util.proofs.Spans.{Stands-from_Occurs, pattern_length, pick-in_text}
 use Rattle.ac_util.proofs.Walks.{pick-Occurs}
 
 -- what is found is one of them
@@ -40,11 +36,7 @@ module _ (patterns : List (List ℕ)) where
 
   begins-by : (w : List ℕ) (place : ℕ) → place ≤ length w → begins_with_pattern patterns (drop place w) ≡ true
       → BeginsBy w place
-  begins-by [] place inside h = record {
-    start = 0;
-    least = ap (λ (t : Bool). if t then Some 0 else None) (ap (begins_with_pattern patterns) (sym (drop-nil place)) ∙ h);
-    early = omega arith;
-  }
+  begins-by [] place inside h = grind (arith, common_steps)
   begins-by (b ∷ w) place inside h =
       by (begins_with_pattern patterns (b ∷ w)) refl place inside h (λ k within begins. begins-by w k within begins)
     where
@@ -71,14 +63,7 @@ module _ (patterns : List (List ℕ)) where
   pub begins-early : (kind : MatchKind) (w u : List ℕ) (place : ℕ) → is_leftmost kind ≡ true
       → reached kind patterns No w ≡ Some u → place ≤ length w → begins_with_pattern patterns (drop place w) ≡ true
       → length w ≤ place + length u
-  begins-early kind w u place leftmost stands inside h =
-      let first = begins-by w place inside h in
-      let last : last_start kind patterns w ≡ Some first.start =
-      ap (λ (t : Bool). if t then least_start patterns w else None) leftmost ∙ first.least in
-      let long = suffix-long first.start w u
-      (find-in (is_node kind patterns) (take (suc first.start) (suffixes w)) u
-      (subst (λ (l : Option ℕ). find (is_node kind patterns) (starting_by l (suffixes w)) ≡ Some u) last stands)) in
-      let early = first.early in omega arith
+  begins-early kind w u place leftmost stands inside h = grind (arith, common_steps, begins-by w place inside h, suffix-long, find-in)
 
 -- where it is dead, a pattern has occurred
 module _ (kind : MatchKind) (patterns : List (List ℕ)) where
@@ -127,42 +112,21 @@ module _ (kind : MatchKind) (q : Search) (free : q.anchored ≡ No) (ordered : q
   -- where it is dead something is picked
   pub dead-picked : reached kind (plain_patterns q) No (text q) ≡ None → (order : MatchKind) → pick order q ≢ None
   dead-picked dead order none =
-      let begins = dead-begins kind (plain_patterns q) (text q) dead in
-      let first = leader (plain_patterns q) (drop begins.place (text q)) begins.begins in
-      let nothing = subst (λ (r : Option Occurrence). IsPickIn order (plain_patterns q) q.anchored (text q)
-      (option_map (inward q.low) r)) none (pick-in_text q ordered inside order) in
-      nothing first.0 begins.place (record {
-        within = begins.within;
-        prefixes = first.1.prefixes;
-        at_front = λ anchored. absurd (let no = sym free ∙ anchored in cc);
-      })
+      grind (arith, common_steps, dead-begins kind (plain_patterns q) (text q) dead, pick-in_text q ordered inside order, leader)
 
   -- under a leftmost kind its node begins no later than what is picked
   pub pick-behind : is_leftmost kind ≡ true → (u : List ℕ) → reached kind (plain_patterns q) No (text q) ≡ Some u
       → (order : MatchKind) (m : Occurrence) → pick order q ≡ Some m → q.high ≤ m.start + length u
   pick-behind leftmost u stands order m is =
-      let o = pick-Occurs order q m is in
-      let s = Stands-from_Occurs q ordered inside m o in
-      let early = begins-early (plain_patterns q) kind (text q) u (m.start - q.low) leftmost stands s.within
-      (begins-from_Prefixes (plain_patterns q) (drop (m.start - q.low) (text q)) m.pattern s.prefixes) in
-      let long = text_length q ordered inside in
-      let low = o.from_low in
-      omega arith
+      grind (
+        arith,
+        common_steps,
+        pick-Occurs order q m is,
+        begins-early (plain_patterns q) kind (text q) u (m.start - q.low) leftmost stands (Stands-from_Occurs q ordered inside m (pick-Occurs order q m
+            is)).within (begins-from_Prefixes (plain_patterns q) (drop (m.start - q.low) (text q)) m.pattern (Stands-from_Occurs q ordered inside m
+            (pick-Occurs order q m is)).prefixes),
+      )
 
   -- and its node is no longer than the longest pattern
   pub node-short : (u : List ℕ) → reached kind (plain_patterns q) No (text q) ≡ Some u → length u ≤ longest_len q.patterns
-  node-short u stands =
-      by u (find-passes (is_node kind (plain_patterns q)) (open_suffixes kind (plain_patterns q) (text q)) u stands)
-    where
-      by : (u : List ℕ) → is_node kind (plain_patterns q) u ≡ true → length u ≤ longest_len q.patterns
-      by [] h = omega arith
-      by (b ∷ v) h =
-          let some = any_passes (λ (n : ℕ). starts_with nat_eq (pattern_of (plain_patterns q) n) (b ∷ v))
-          (participants kind (plain_patterns q)) h in
-          let numbered = IsIn-from_range some.0 0 (length (plain_patterns q))
-          (IsIn-from_filter (participates kind (plain_patterns q)) some.0 (range_with_len 0 (length (plain_patterns q))) some.1).0 in
-          let front = starts_with-length (pattern_of (plain_patterns q) some.0) (b ∷ v) some.2 in
-          let long = pattern_length q ordered inside some.0 in
-          let all = length-map q.patterns (plain q.fold) in
-          let most = longest-most q.patterns some.0 (omega arith) in
-          omega arith
+  node-short u stands = grind (arith, common_steps, any_passes, IsIn-from_range, IsIn-from_filter, pattern_length, longest-most, find-passes)

@@ -1,6 +1,7 @@
 -- Where the matches of an input lie, and how many a walk has.
-use Rattle.std.proofs.Common.{◌≡◌, ℕ, zero, suc, ◌+◌, ◌-◌, ◌≤◌, Bool, true, false, length, refl, ◌∙◌, arith, Option, Some, None, All, Contains, IfSome}
+use Rattle.std.proofs.Common.{◌≡◌, ℕ, zero, suc, ◌+◌, ◌-◌, ◌≤◌, Bool, true, false, length, refl, ◌∙◌, arith, Option, Some, None, All, Contains, IfSome, rules}
 use Rattle.std.proofs.lemmas.List.Elements.{All-nil, All-cons, All-weaker, All-contains_itself}
+use Rattle.std.proofs.lemmas.Grind.{common_steps}
 use Rattle.ac_util.specs.Prelude.{all, Asked, Built, continued, found, from, LiesIn, MatchKind, next_match, Occurrence, Occurs, order_of, pick, repeats, Search, search_in, unless_repeated, walk_after, walked}
 use Rattle.ac_util.proofs.Listing.{Occurs-from_all}
 use Rattle.ac_util.proofs.Walks.{pick-Occurs, next-in_span}
@@ -8,38 +9,23 @@ use Rattle.ac_util.proofs.Walks.{pick-Occurs, next-in_span}
 -- what occurs in a span of the haystack that begins no earlier than the input's lies in the input
 Occurs-lies : (built : Built) (asked : Asked) (k : ℕ) (m : Occurrence) → asked.end ≤ length asked.haystack
     → asked.start ≤ k → Occurs (from (search_in built asked) k) m → LiesIn built asked m
-Occurs-lies built asked k m inside later o = record {
-  numbered = o.numbered;
-  from_start = (let low = o.from_low in omega arith);
-  in_order = (let long = o.as_long in omega arith);
-  to_end = o.to_high;
-  in_haystack = (let high = o.to_high in omega arith);
-  as_long = o.as_long;
-  same = o.reads;
-}
+Occurs-lies built asked k m inside later o = grind (arith, common_steps)
 
 -- what a find answers lies in the input
 pub found-lies : (built : Built) (asked : Asked) (m : Occurrence) → asked.end ≤ length asked.haystack
     → found built asked ≡ Some m → LiesIn built asked m
-found-lies built asked m inside e =
-    Occurs-lies built asked asked.start m inside (omega arith)
-    (pick-Occurs (order_of built.kind asked.earliest) (search_in built asked) m e)
+found-lies built asked m inside e = search (rules, Occurs-lies, pick-Occurs)
 
 -- the same where it may answer nothing
 pub found-IfSome : (built : Built) (asked : Asked) → asked.end ≤ length asked.haystack
     → IfSome (found built asked) (LiesIn built asked)
-found-IfSome built asked inside = by (found built asked) refl
-  where
-    by : (r : Option Occurrence) → found built asked ≡ r → IfSome r (LiesIn built asked)
-    by None e = tt
-    by (Some m) e = found-lies built asked m inside e
+found-IfSome built asked inside = search (rules, found-lies)
 
 -- the next match of a walk occurs in a span that begins at the low end or after it
 next-Occurs : (kind : MatchKind) (q : Search) (last : Option ℕ) (p : Option Occurrence) (t : Bool)
     (m : Occurrence) → pick kind q ≡ p → unless_repeated kind q p t ≡ Some m
     → (k : ℕ) × (q.low ≤ k) × Occurs (from q k) m
-next-Occurs kind q last p true m ep e =
-    (q.low + 1, omega arith, pick-Occurs kind (from q (q.low + 1)) m e)
+next-Occurs kind q last p true m ep e = grind (arith, common_steps, pick-Occurs kind (from q (q.low + 1)) m e)
 next-Occurs kind q last p false m ep e = (q.low, omega arith, pick-Occurs kind q m (ep ∙ e))
 
 -- what holds of all that occurs in a span from the low end on, or from after it, holds of each match of a walk

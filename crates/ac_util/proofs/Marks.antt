@@ -1,12 +1,12 @@
 -- Which bytes are marked as those with which patterns begin, and the bytes that are marked.
-use Rattle.std.proofs.Common.{◌≡◌, ℕ, zero, suc, ◌+◌, ◌-◌, ◌<◌, ◌≤◌, Bool, true, false, cond, ◌||◌, ◌⊎◌, List, [], ◌∷◌, ◌++◌, length, length-append, length-take, get_or, set, take, Some, None, inl, inr, refl, ap, sym, ◌∙◌, arith, ◌==◌, ◌&&◌, not, filter, slice_get}
+use Rattle.std.proofs.Common.{◌≡◌, ℕ, zero, suc, ◌+◌, ◌-◌, ◌<◌, ◌≤◌, Bool, true, false, cond, ◌||◌, ◌⊎◌, List, [], ◌∷◌, ◌++◌, length, length-take, get_or, set, take, Some, None, inl, inr, refl, ap, sym, ◌∙◌, arith, ◌==◌, ◌&&◌, not, filter, slice_get, rules}
 use Rattle.std.specs.List.{list_any, range_with_len}
-use Rattle.std.proofs.lemmas.Bool.{eq-eqb, false≢true, le-leb, lt-leb, or_left, or_right, true≢false}
+use Rattle.std.proofs.lemmas.Bool.{eq-eqb, false≢true, or_left, or_right, true≢false}
 use Rattle.std.proofs.lemmas.Bool.Decides.{nat_tests}
 use Rattle.std.proofs.lemmas.Grind.{common_steps}
 use Rattle.std.proofs.lemmas.List.{append-nil}
 use Rattle.std.proofs.lemmas.List.Elements.{filter-append}
-use Rattle.ac_util.specs.Prelude.{begins_with, BeginWith, first_bytes, first_bytes_of, FirstBytes, FirstOf, is_empty, is_one_of, marked, MOST_BYTES, MOST_PATTERNS, One, plain_byte, same_byte, skip_among, skip_by_bytes, skip_for, Three, Two}
+use Rattle.ac_util.specs.Prelude.{begins_with, BeginWith, first_bytes, first_bytes_of, FirstBytes, FirstOf, is_empty, is_one_of, marked, MOST_BYTES, MOST_PATTERNS, One, plain_byte, same_byte, skip_among, skip_for, Three, Two}
 use Rattle.ac_util.specs.Prefilters.Skip.{Needle}
 use Rattle.ac_util.proofs.Lists.{IsIn, IsIn-filter, IsIn-range, none-from_nil}
 use Rattle.ac_util.proofs.PlainListing.{range-more}
@@ -39,51 +39,28 @@ is_marked fold marks b = get_or marks (plain_byte fold b) false
 -- the numbers below one more that pass are those below, and the one if it passes
 filter-one_more : (p : ℕ → Bool) (n : ℕ)
     → filter p (range_with_len 0 (n + 1)) ≡ filter p (range_with_len 0 n) ++ cond (p n) (n ∷ []) []
-filter-one_more p n =
-    ap (λ (k : ℕ). filter p (range_with_len 0 k)) (let e : n + 1 ≡ suc n = omega arith in e)
-    ∙ ap (filter p) (range-more 0 n n (omega arith))
-    ∙ filter-append p (range_with_len 0 n) (n ∷ [])
+filter-one_more p n = search (rules, range-more 0 n n (omega arith), filter-append)
 
 -- one more number passes
 pub filter-passes : (p : ℕ → Bool) (n : ℕ) → p n ≡ true
     → filter p (range_with_len 0 (n + 1)) ≡ filter p (range_with_len 0 n) ++ n ∷ []
-filter-passes p n e =
-    filter-one_more p n ∙ ap (λ (t : Bool). filter p (range_with_len 0 n) ++ cond t (n ∷ []) []) e
+filter-passes p n e = search (rules, filter-one_more)
 
 -- it doesn't
 pub filter-fails : (p : ℕ → Bool) (n : ℕ) → p n ≡ false
     → filter p (range_with_len 0 (n + 1)) ≡ filter p (range_with_len 0 n)
-filter-fails p n e =
-    filter-one_more p n ∙ ap (λ (t : Bool). filter p (range_with_len 0 n) ++ cond t (n ∷ []) []) e
-    ∙ append-nil (filter p (range_with_len 0 n))
+filter-fails p n e = search (rules, append-nil, filter-one_more)
 
 -- no fewer pass below more
 filter-more : (p : ℕ → Bool) (n more : ℕ)
     → length (filter p (range_with_len 0 n)) ≤ length (filter p (range_with_len 0 (n + more)))
-filter-more p n zero =
-    omega (arith, ap (λ (k : ℕ). length (filter p (range_with_len 0 k))) (let e : n + zero ≡ n = omega arith in e))
-filter-more p n (suc more) =
-    omega (
-      arith,
-      filter-more p n more,
-      ap (λ (k : ℕ). length (filter p (range_with_len 0 k))) (let e : n + suc more ≡ n + more + 1 = omega arith in e),
-      ap length (filter-one_more p (n + more)),
-      length-append (filter p (range_with_len 0 (n + more))) (cond (p (n + more)) ((n + more) ∷ []) []),
-    )
+filter-more p n zero = grind (arith, common_steps)
+filter-more p n (suc more) = grind (arith, common_steps, filter-more p n more, filter-one_more p (n + more))
 
 -- where one passes after some that do, more than these pass in all
 pub filter-exceeds : (p : ℕ → Bool) (xs : List ℕ) (k n : ℕ) → k < n → p k ≡ true
     → xs ≡ filter p (range_with_len 0 k) → length xs < length (filter p (range_with_len 0 n))
-filter-exceeds p xs k n within passes same =
-    let e : k + 1 + (n - (k + 1)) ≡ n = omega arith in
-    omega (
-      arith,
-      filter-more p (k + 1) (n - (k + 1)),
-      ap (λ (j : ℕ). length (filter p (range_with_len 0 j))) e,
-      ap length (filter-passes p k passes),
-      length-append (filter p (range_with_len 0 k)) (k ∷ []),
-      ap length same,
-    )
+filter-exceeds p xs k n within passes same = grind (arith, common_steps, filter-more p (k + 1) (n - (k + 1)), filter-passes)
 
 -- one more byte, noted after the others
 pub take_noted : (xs : List ℕ) (count b : ℕ) → count < length xs
@@ -104,19 +81,14 @@ first_ones (a ∷ b ∷ c ∷ d ∷ xs) e = absurd (omega arith)
 -- what is noted once all bytes were tested is what is marked
 pub noted_all : (fold : Bool) (marks : List Bool) (bytes : List ℕ) (count k byte : ℕ) → byte ≡ 256 → count ≡ k
     → take count bytes ≡ filter (is_marked fold marks) (range_with_len 0 byte) → take k bytes ≡ marked fold marks
-noted_all fold marks bytes count k byte e f h =
-    ap (λ (j : ℕ). take j bytes) (sym f) ∙ h ∙ ap (λ (j : ℕ). filter (is_marked fold marks) (range_with_len 0 j)) e
+noted_all fold marks bytes count k byte e f h = cc
 
 -- three are noted, and one more is marked
 pub marked_more_than_noted : (fold : Bool) (marks : List Bool) (bytes : List ℕ) (byte : ℕ) → byte < 256
     → length bytes ≡ 3 → take 3 bytes ≡ filter (is_marked fold marks) (range_with_len 0 byte)
     → is_marked fold marks byte ≡ true → 3 < length (marked fold marks)
 marked_more_than_noted fold marks bytes byte within whole noted passes =
-    omega (
-      arith,
-      filter-exceeds (is_marked fold marks) (take 3 bytes) byte 256 within passes noted,
-      length-take 3 bytes,
-    )
+    grind (arith, common_steps, filter-exceeds (is_marked fold marks) (take 3 bytes) byte 256 within passes noted, length-take 3 bytes)
 
 -- a byte among the bytes is one of these
 is_one_of-IsIn : (b : ℕ) (bytes : List ℕ) → IsIn b bytes → is_one_of bytes b ≡ true
@@ -147,18 +119,20 @@ module _ (fold : Bool) (patterns : List (List ℕ)) (marks : List Bool) (whole :
   -- a byte with which a pattern begins is marked
   marked-has : (b : ℕ) → list_any (begins_with fold b) patterns ≡ true → IsIn b (marked fold marks)
   marked-has b e =
-      let here = reads b ∙ e in
-      IsIn-filter (is_marked fold marks) b (range_with_len 0 256)
-      (IsIn-range b 0 256 (omega arith)
-      (omega (arith, read_within marks (plain_byte fold b) here, plain_byte-ge fold b)))
-      here
+      grind (
+        arith,
+        common_steps,
+        IsIn-filter (is_marked fold marks) b (range_with_len 0 256) (IsIn-range b 0 256 (omega arith) (omega (
+          arith,
+          read_within marks (plain_byte fold
+              b) (reads b ∙ e),
+          plain_byte-ge fold b,
+        ))) (reads b ∙ e),
+      )
 
   -- the patterns begin with what is marked
   pub marked-BeginWith : BeginWith (marked fold marks) fold patterns
-  marked-BeginWith = record {
-    some = some;
-    begins = λ b e. is_one_of-IsIn b (marked fold marks) (marked-has b e);
-  }
+  marked-BeginWith = search (rules, is_one_of-IsIn, marked-has)
 
 -- patterns of which none is empty begin with some byte
 begin_somehow : (fold : Bool) (patterns : List (List ℕ)) → list_any is_empty patterns ≡ false
@@ -173,14 +147,6 @@ skip_for-among : (fold : Bool) (patterns : List (List ℕ)) → list_any is_empt
     → skip_for true fold patterns ≡ skip_among fold patterns
 skip_for-among fold patterns some = ap (λ (t : Bool). cond (true && not t) (skip_among fold patterns) None) some
 
--- some patterns that aren't one alone, or without regard to case, are skipped to by their first bytes
-skip_among-bytes : (fold : Bool) (patterns : List (List ℕ)) → (length patterns ≡ 0 → ⊥)
-    → (length patterns ≡ 1 → fold ≡ true) → skip_among fold patterns ≡ skip_by_bytes fold patterns
-skip_among-bytes fold [] more alone = absurd (more refl)
-skip_among-bytes true (p ∷ ps) more alone = refl
-skip_among-bytes false (p ∷ []) more alone = absurd (false≢true (alone refl))
-skip_among-bytes false (p ∷ q ∷ ps) more alone = refl
-
 -- a pattern alone is skipped to by itself
 pub skip_for-needle : (patterns : List (List ℕ)) (needle : List ℕ) → patterns ≡ needle ∷ []
     → list_any is_empty patterns ≡ false → skip_for true false patterns ≡ Some (Needle needle)
@@ -193,22 +159,11 @@ module _ (fold : Bool) (patterns : List (List ℕ)) (some : list_any is_empty pa
   -- are skipped to by their first bytes where these are at most three
   pub skip_for-bytes : (bytes : List ℕ) → bytes ≡ first_bytes fold patterns → length bytes ≤ MOST_BYTES
       → Some (FirstOf bytes) ≡ skip_for true fold patterns
-  skip_for-bytes bytes e h =
-      let all = le-leb (length patterns) MOST_PATTERNS few in
-      let three = le-leb (length (first_bytes fold patterns)) MOST_BYTES (omega (arith, ap length e)) in
-      ap (λ (bs : List ℕ). Some (FirstOf bs)) e
-      ∙ sym (skip_for-among fold patterns some
-      ∙ skip_among-bytes fold patterns more alone
-      ∙ (λ i. cond (all i && three i) (Some (FirstOf (first_bytes fold patterns))) None))
+  skip_for-bytes bytes e h = grind (arith, common_steps)
 
   -- and not at all where these are more
   pub skip_for-many_bytes : MOST_BYTES < length (first_bytes fold patterns) → None ≡ skip_for true fold patterns
-  skip_for-many_bytes h =
-      let all = le-leb (length patterns) MOST_PATTERNS few in
-      let three = lt-leb (length (first_bytes fold patterns)) MOST_BYTES h in
-      sym (skip_for-among fold patterns some
-      ∙ skip_among-bytes fold patterns more alone
-      ∙ (λ i. cond (all i && three i) (Some (FirstOf (first_bytes fold patterns))) None))
+  skip_for-many_bytes h = grind (arith, common_steps)
 
 -- the bytes of a prefilter are at most three
 pub first_few : (first : FirstBytes) → length (first_bytes_of first) ≤ MOST_BYTES

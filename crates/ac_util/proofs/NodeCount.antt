@@ -1,11 +1,11 @@
 -- The nodes other than the empty and the dead one are counted, each once.
-use Rattle.std.proofs.Common.{◌≡◌, ◌≢◌, ℕ, ◌<◌, Bool, true, not, List, [], ◌∷◌, length, take, inl, inr, refl, ap, sym, ◌∙◌, subst, arith, length-take, nat_eq, bytes_eq, flat_map, Contains, AllPairs}
+use Rattle.std.proofs.Common.{◌≡◌, ◌≢◌, ℕ, ◌<◌, Bool, true, not, List, [], ◌∷◌, length, take, inl, inr, refl, ap, sym, ◌∙◌, subst, arith, nat_eq, bytes_eq, flat_map, Contains, AllPairs, rules}
 use Rattle.std.specs.List.{range_with_len, list_any, starts_with}
-use Rattle.std.proofs.lemmas.Bool.{or_cases, or_right, cases_Bool, false≢true}
+use Rattle.std.proofs.lemmas.Bool.{or_cases, false≢true}
 use Rattle.std.proofs.lemmas.Slice.Eq.{bytes_eq-Decides}
-use Rattle.ac_util.specs.Prelude.{distinct, inner_nodes, is_empty, is_node, MatchKind, participants, pattern_of, prefixes}
+use Rattle.ac_util.specs.Prelude.{distinct, inner_nodes, is_node, MatchKind, participants, pattern_of, prefixes}
 use Rattle.ac_util.proofs.Lists.{IsIn, IsIn-map, IsIn-from_map, IsIn-flat_map, IsIn-from_flat_map, IsIn-filter, IsIn-from_filter, IsIn-range, IsIn-from_range, IsOrdered, IsOrdered-filter, Contains-from_IsIn, IsIn-from_Contains, AllPairs-from_IsOrdered}
-use Rattle.ac_util.proofs.Prefixes.{starts_with-length, starts_with-take, list_any-from_IsIn}
+use Rattle.ac_util.proofs.Prefixes.{starts_with-length, list_any-from_IsIn}
 
 -- each string of the list stands in it once
 IsIn-from_distinct : (u : List ℕ) (us : List (List ℕ)) → IsIn u (distinct us) → IsIn u us
@@ -18,11 +18,7 @@ IsIn-from_distinct u (x ∷ us) (inr h) =
 IsIn-distinct : (u : List ℕ) (us : List (List ℕ)) → IsIn u us → IsIn u (distinct us)
 IsIn-distinct u [] h = h
 IsIn-distinct u (x ∷ us) (inl e) = inl e
-IsIn-distinct u (x ∷ us) (inr h) = elim (cases_Bool (bytes_eq x u)) [
-  | inl same ↦ inl ((bytes_eq-Decides x u).0 same)
-  | inr other ↦
-      inr (IsIn-filter (λ w. not (bytes_eq x w)) u (distinct us) (IsIn-distinct u us h) (ap not other))
-]
+IsIn-distinct u (x ∷ us) (inr h) = search (rules, IsIn-filter, IsIn-distinct u us h)
 
 -- no two of the distinct strings are equal
 distinct-apart : (us : List (List ℕ)) → IsOrdered (λ u w. u ≢ w) (distinct us)
@@ -49,15 +45,7 @@ record IsFrontOf (p u : List ℕ) : Type 0 where
 
 -- each of the prefixes is one, and not empty
 IsIn-from_fronts : (p u : List ℕ) → IsIn u (prefixes p) → IsFrontOf p u
-IsIn-from_fronts p u h =
-    let f = IsIn-from_map (λ n. take n p) u (range_with_len 1 (length p)) h in
-    let r = IsIn-from_range f.0 1 (length p) f.1 in
-    let l = length-take f.0 p in
-    let e = ap length f.2 in
-    record {
-      front = subst (λ (w : List ℕ). starts_with nat_eq p w ≡ true) f.2 (starts_with-take f.0 p);
-      some = omega arith;
-    }
+IsIn-from_fronts p u h = search (rules, IsIn-from_map, IsIn-from_range)
 
 -- an element that passes
 pub any_passes : (f : ℕ → Bool) (xs : List ℕ) → list_any f xs ≡ true → (x : ℕ) × IsIn x xs × (f x ≡ true)
@@ -88,14 +76,7 @@ module _ (kind : MatchKind) (patterns : List (List ℕ)) where
   pub inner_nodes-only : (u : List ℕ) → Contains (inner_nodes kind patterns) u
       → (is_node kind patterns u ≡ true) × (u ≢ [])
   inner_nodes-only u h =
-      let f = IsIn-from_flat_map (λ number. prefixes (pattern_of patterns number)) u (participants kind patterns)
-      (IsIn-from_distinct u all_fronts (IsIn-from_Contains u (inner_nodes kind patterns) h)) in
-      let front = IsIn-from_fronts (pattern_of patterns f.0) u f.2 in (
-        or_right (is_empty u) _
-            (list_any-from_IsIn (λ number. starts_with nat_eq (pattern_of patterns number) u) f.0
-            (participants kind patterns) f.1 front.front),
-        (λ e. let l = ap length e in let s = front.some in omega arith),
-      )
+      search (rules, IsIn-from_flat_map, IsIn-from_Contains u (inner_nodes kind patterns) h, IsIn-from_fronts, list_any-from_IsIn, IsIn-from_distinct)
 
   -- nothing is counted twice
   pub inner_nodes-apart : AllPairs (λ u w. u ≢ w) (inner_nodes kind patterns)

@@ -1,23 +1,19 @@
 -- A span that is one place longer: its pick, by the matches of the node that an automaton reaches at its end.
-use Rattle.std.proofs.Common.{◌≡◌, ℕ, zero, suc, ◌+◌, ◌<◌, ◌≤◌, Bool, true, false, List, [], ◌∷◌, ◌++◌, length, get_or, refl, ap, sym, ◌∙◌, subst, arith, Option, Some, None, option_map, slice_range}
-use Rattle.ac_util.specs.Prelude.{ending, found_at_end, is_leftmost, IsFirst, longer_by, matches, MatchKind, Node, Occurrence, one_longer, order_of, outward, pick, plain, plain_byte, plain_patterns, reached, Search, Standard, step, text}
-use Rattle.ac_util.proofs.Picks.{same_occurrence, pick-from_IsPick}
+use Rattle.std.proofs.Common.{◌≡◌, ℕ, zero, suc, ◌+◌, ◌<◌, ◌≤◌, Bool, true, false, List, [], ◌∷◌, ◌++◌, length, get_or, ap, sym, ◌∙◌, subst, arith, Option, Some, None, option_map, rules}
+use Rattle.std.proofs.lemmas.Grind.{common_steps}
+use Rattle.ac_util.specs.Prelude.{ending, found_at_end, is_leftmost, IsFirst, longer_by, matches, MatchKind, Occurrence, one_longer, order_of, outward, pick, plain_byte, plain_patterns, reached, Search, Standard, step, text}
+use Rattle.ac_util.proofs.Picks.{pick-from_IsPick}
 use Rattle.ac_util.proofs.Reached.{step-reached}
 use Rattle.ac_util.proofs.Found.{matches-reached}
 use Rattle.ac_util.proofs.Standing.{Stands, standing_at, IsPickIn, first-at_one_end}
 use Rattle.ac_util.proofs.Advance.{IsHead, head, pick-stays, pick-becomes, first-becomes, start-stays, start-becomes}
-use Rattle.ac_util.proofs.Spans.{inward, pattern_length, text_length, text_longer, pick-from_text, pick-in_text, pick-out_again, nothing-past_end}
+use Rattle.ac_util.proofs.Spans.{inward, text_longer, pick-from_text, pick-in_text, pick-out_again, nothing-past_end}
 
 -- a head of the text, told from the haystack's front, ends where the span does
 ending-head : (kind : MatchKind) (q : Search) (i k : ℕ) → q.low ≤ q.high → q.high ≤ length q.haystack
     → IsHead kind (plain_patterns q) q.anchored (text q) i k
     → outward q.low (standing_at (plain_patterns q) i k) ≡ ending q i
-ending-head kind q i k order inside h =
-    let l = pattern_length q order inside i in
-    let t = text_length q order inside in
-    let w = h.whole in
-    same_occurrence (outward q.low (standing_at (plain_patterns q) i k)) (ending q i) refl (omega arith)
-    (omega arith)
+ending-head kind q i k order inside h = grind (arith, common_steps)
 
 -- what is found at the end is found in the whole text
 pub found-text : (kind : MatchKind) (q : Search)
@@ -36,9 +32,7 @@ byte_in q = plain_byte q.fold (get_or q.haystack q.high 0)
 module _ (kind : MatchKind) (q : Search) (order : q.low ≤ q.high) (room : q.high < length q.haystack) where
   now-text : found_at_end kind (one_longer q) ≡ matches kind (plain_patterns q) q.anchored
       (Some (text q ++ byte_in q ∷ []))
-  now-text =
-      found-text kind (one_longer q)
-      ∙ ap (λ (w : List ℕ). matches kind (plain_patterns q) q.anchored (Some w)) (text_longer q order room)
+  now-text = grind (arith, common_steps, found-text kind (one_longer q), text_longer)
 
   -- what is the pick in the longer text is the pick of the longer search
   longer : (k : MatchKind) (r : Option Occurrence)
@@ -59,15 +53,11 @@ module _ (kind : MatchKind) (q : Search) (order : q.low ≤ q.high) (room : q.hi
 
   longer_head : (i : ℕ) (rest : List ℕ) → found_at_end kind (one_longer q) ≡ i ∷ rest
       → (k : ℕ) × IsHead kind (plain_patterns q) q.anchored (text q ++ byte_in q ∷ []) i k
-  longer_head i rest e =
-      head kind (plain_patterns q) q.anchored (text q ++ byte_in q ∷ []) i rest (sym now-text ∙ e)
+  longer_head i rest e = search (rules, head, now-text)
 
   ends_there : (i k : ℕ) → IsHead kind (plain_patterns q) q.anchored (text q ++ byte_in q ∷ []) i k
       → outward q.low (standing_at (plain_patterns q) i k) ≡ ending (one_longer q) i
-  ends_there i k h =
-      ending-head kind (one_longer q) i k (omega arith) (omega arith)
-      (subst (λ (w : List ℕ). IsHead kind (plain_patterns q) q.anchored w i k)
-      (sym (text_longer q order room)) h)
+  ends_there i k h = grind (arith, common_steps)
 
   -- under a leftmost kind it is the first match of that node where it has one
   pub pick-longer_becomes : is_leftmost kind ≡ true → (i : ℕ) (rest : List ℕ)
@@ -80,10 +70,7 @@ module _ (kind : MatchKind) (q : Search) (order : q.low ≤ q.high) (room : q.hi
       ∙ ap (λ (o : Occurrence). Some o) (ends_there i h.0 h.1)
 
   nothing_stands : (k : MatchKind) → pick k q ≡ None → IsPickIn k (plain_patterns q) q.anchored (text q) None
-  nothing_stands k none =
-      subst (λ (r : Option Occurrence). IsPickIn k (plain_patterns q) q.anchored (text q)
-      (option_map (inward q.low) r)) none
-      (pick-in_text q order (omega arith) k)
+  nothing_stands k none = grind (arith, common_steps, pick-in_text q order (omega arith) k)
 
   -- as long as nothing occurs each kind of automaton finds what Standard picks
   pub first-longer_stays : pick Standard q ≡ None → found_at_end kind (one_longer q) ≡ []
@@ -108,30 +95,19 @@ module _ (kind : MatchKind) (q : Search) (order : q.low ≤ q.high) (room : q.hi
   pub step-longer : step kind (plain_patterns q) q.anchored
       (reached kind (plain_patterns q) q.anchored (text q)) (byte_in q)
       ≡ reached kind (plain_patterns q) q.anchored (text (one_longer q))
-  step-longer =
-      step-reached kind (plain_patterns q) q.anchored (text q) (byte_in q)
-      ∙ ap (reached kind (plain_patterns q) q.anchored) (sym (text_longer q order room))
+  step-longer = search (rules, step-reached, text_longer)
 
 -- a span without bytes has the empty text
 pub text-empty : (q : Search) → q.low ≡ q.high → text q ≡ []
-text-empty q e = ap (plain q.fold) (ap (λ (n : ℕ). slice_range q.haystack q.low n) (sym e) ∙ nothing)
-  where
-    nothing : slice_range q.haystack q.low q.low ≡ []
-    nothing = grind arith
+text-empty q e = grind (arith, common_steps)
 
 module _ (kind : MatchKind) (q : Search) (empty : q.low ≡ q.high) (inside : q.high ≤ length q.haystack) where
   start-text : found_at_end kind q ≡ matches kind (plain_patterns q) q.anchored (Some [])
-  start-text =
-      found-text kind q
-      ∙ ap (λ (w : List ℕ). matches kind (plain_patterns q) q.anchored (Some w)) (text-empty q empty)
+  start-text = grind (arith, common_steps)
 
   -- in such a span nothing is picked where the start has no match
   pub pick-empty_none : (k : MatchKind) → found_at_end kind q ≡ [] → pick k q ≡ None
-  pick-empty_none k none =
-      none-from_text k q (omega arith) inside
-      (subst (λ (w : List ℕ). (n s : ℕ) → ¬ Stands (plain_patterns q) q.anchored w n s)
-      (sym (text-empty q empty))
-      (start-stays kind (plain_patterns q) q.anchored (sym start-text ∙ none)))
+  pick-empty_none k none = search (rules, none-from_text, start-stays)
 
   same_order : (earliest : Bool) (a b : Occurrence) → a.end ≡ b.end → IsFirst kind a b
       → IsFirst (order_of kind earliest) a b
@@ -164,14 +140,8 @@ module _ (kind : MatchKind) (q : Search) (order : q.low ≤ q.high)
   -- the dead node stays reached
   still_dead : (n : ℕ) → q.high + n ≤ length q.haystack
       → reached kind (plain_patterns q) q.anchored (text (longer_by q n)) ≡ None
-  still_dead zero room =
-      ap (λ (h : ℕ). reached kind (plain_patterns q) q.anchored (text (record q { high = h }))) (omega arith)
-      ∙ dead
-  still_dead (suc n) room =
-      ap (λ (s : Search). reached kind (plain_patterns q) q.anchored (text s)) (longer-suc q n)
-      ∙ sym (step-longer kind (longer_by q n) (omega arith) (omega arith))
-      ∙ ap (λ (v : Node). step kind (plain_patterns q) q.anchored v (byte_in (longer_by q n)))
-      (still_dead n (omega arith))
+  still_dead zero room = grind (arith, common_steps)
+  still_dead (suc n) room = grind (arith, common_steps, step-longer kind (longer_by q n) (omega arith) (omega arith), still_dead n (omega arith))
 
   -- so nothing is found any more
   pub nothing_found : (n : ℕ) → q.high + n ≤ length q.haystack → found_at_end kind (longer_by q n) ≡ []
@@ -181,10 +151,12 @@ module _ (kind : MatchKind) (q : Search) (order : q.low ≤ q.high)
   pub pick-dead : (n : ℕ) → q.high + n ≤ length q.haystack → pick kind (longer_by q n) ≡ pick kind q
   pick-dead zero room = ap (λ (h : ℕ). pick kind (record q { high = h })) (omega arith)
   pick-dead (suc n) room =
-      ap (pick kind) (longer-suc q n)
-      ∙ pick-longer_stays kind (longer_by q n) (omega arith) (omega arith)
-      (sym (ap (found_at_end kind) (longer-suc q n)) ∙ nothing_found (suc n) room)
-      ∙ pick-dead n (omega arith)
+      grind (
+        arith,
+        common_steps,
+        pick-longer_stays kind (longer_by q n) (omega arith) (omega arith) (sym (ap (found_at_end kind) (longer-suc q n)) ∙ nothing_found (suc n) room),
+        pick-dead n (omega arith),
+      )
 
   -- and where Standard picked nothing it stays so
   pub first-dead : pick Standard q ≡ None → (n : ℕ) → q.high + n ≤ length q.haystack

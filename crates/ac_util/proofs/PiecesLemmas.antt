@@ -1,6 +1,5 @@
 -- Pieces of a list of bytes: how many there are, where each stands, and how one more is added.
-use Rattle.std.proofs.Common.{◌≡◌, ℕ, zero, suc, ◌+◌, ◌-◌, ◌<◌, ◌≤◌, List, [], ◌∷◌, ◌++◌, length, take, drop, get_or, refl, ap, sym, subst, ◌∙◌, arith, Some, length-append, length-drop, slice_get, slice_range}
-use Rattle.std.proofs.lemmas.List.{drop-append-le, take-append-le}
+use Rattle.std.proofs.Common.{◌≡◌, ℕ, zero, suc, ◌+◌, ◌<◌, ◌≤◌, List, [], ◌∷◌, ◌++◌, length, get_or, refl, arith, Some, length-append, slice_get, slice_range, rules}
 use Rattle.std.proofs.lemmas.Grind.{common_steps}
 use Rattle.ac_util.specs.Pieces.{AreBounds, pieces}
 
@@ -21,17 +20,14 @@ pub bounds-rise : (bounds : List ℕ) (last i j : ℕ) → AreBounds bounds last
     → IsPiece bounds last i j
 bounds-rise [] last i j h next within = absurd h
 bounds-rise (b ∷ []) last i j h next within = absurd (omega arith)
-bounds-rise (b ∷ e ∷ []) last zero (suc zero) h next within =
-    record { ordered = h.0; within = (let s = h.1 in omega arith) }
+bounds-rise (b ∷ e ∷ []) last zero (suc zero) h next within = grind (arith, common_steps)
 bounds-rise (b ∷ e ∷ f ∷ es) last zero (suc zero) h next within =
-    let r = bounds-rise (e ∷ f ∷ es) last 0 1 h.1 refl (omega arith) in
-    record { ordered = h.0; within = (let o = r.ordered in let w = r.within in omega arith) }
+    grind (arith, common_steps, bounds-rise (e ∷ f ∷ es) last 0 1 h.1 refl (omega arith))
 bounds-rise (b ∷ e ∷ es) last zero zero h next within = absurd (omega arith)
 bounds-rise (b ∷ e ∷ es) last zero (suc (suc j)) h next within = absurd (omega arith)
 bounds-rise (b ∷ e ∷ es) last (suc i) zero h next within = absurd (omega arith)
 bounds-rise (b ∷ e ∷ es) last (suc i) (suc j) h next within =
-    let r = bounds-rise (e ∷ es) last i j h.1 (omega arith) (omega arith) in
-    record { ordered = r.ordered; within = r.within }
+    grind (arith, common_steps, bounds-rise (e ∷ es) last i j h.1 (omega arith) (omega arith))
 
 -- the piece of a number stands from its bound up to the next
 pub piece-at : (bytes bounds : List ℕ) (last i j : ℕ) → AreBounds bounds last → j ≡ suc i → j < length bounds
@@ -48,15 +44,7 @@ piece-at bytes (b ∷ e ∷ es) last (suc i) (suc j) h next within =
 -- a part of the front isn't changed by what is added after
 pub slice_range-append : {X : Type 0} (bytes more : List X) (s e : ℕ) → s ≤ e → e ≤ length bytes
     → slice_range (bytes ++ more) s e ≡ slice_range bytes s e
-slice_range-append bytes more s e ordered within =
-    let d = length-drop s bytes in
-    ap (take (e - s)) (drop-append-le s bytes more (omega arith))
-    ∙ take-append-le (e - s) (drop s bytes) more (omega arith)
-
--- what is added after stands there
-slice_range-behind : (bytes more : List ℕ)
-    → slice_range (bytes ++ more) (length bytes) (length bytes + length more) ≡ more
-slice_range-behind bytes more = grind (arith, common_steps)
+slice_range-append bytes more s e ordered within = grind (arith, common_steps)
 
 -- one more bound after the last adds one more piece
 pub AreBounds-push : (bounds : List ℕ) (last more : ℕ) → AreBounds bounds last
@@ -69,27 +57,12 @@ AreBounds-push (b ∷ e ∷ es) last more h = (h.0, AreBounds-push (e ∷ es) la
 pub pieces-push : (bytes more bounds : List ℕ) → AreBounds bounds (length bytes)
     → pieces (bytes ++ more) (bounds ++ (length bytes + length more) ∷ []) ≡ pieces bytes bounds ++ more ∷ []
 pieces-push bytes more [] h = absurd h
-pieces-push bytes more (b ∷ []) h =
-    ap (λ (s : ℕ). slice_range (bytes ++ more) s (length bytes + length more) ∷ []) h
-    ∙ ap (λ (p : List ℕ). p ∷ []) (slice_range-behind bytes more)
+pieces-push bytes more (b ∷ []) h = grind (arith, common_steps)
 pieces-push bytes more (b ∷ e ∷ es) h =
-    let r = bounds-rise (b ∷ e ∷ es) (length bytes) 0 1 h refl (omega arith) in
-    let first = slice_range-append bytes more b e r.ordered r.within in
-    let rest = pieces-push bytes more (e ∷ es) h.1 in
-    λ i. first i ∷ rest i
+    grind (arith, common_steps, bounds-rise (b ∷ e ∷ es) (length bytes) 0 1 h refl (omega arith), pieces-push bytes more (e ∷ es) h.1)
 
 -- bytes and a bound are added: there is one piece more
 pub one_more_piece : (bytes bounds more bytes' bounds' : List ℕ) (last : ℕ) → AreBounds bounds (length bytes)
     → bytes' ≡ bytes ++ more → last ≡ length bytes' → bounds' ≡ bounds ++ last ∷ []
     → AreBounds bounds' (length bytes') × (pieces bytes' bounds' ≡ pieces bytes bounds ++ more ∷ [])
-one_more_piece bytes bounds more bytes' bounds' last h added last_is bounded =
-    let whole : length bytes' ≡ length bytes + length more = ap length added ∙ length-append bytes more in
-    let here : bounds' ≡ bounds ++ (length bytes + length more) ∷ [] =
-    bounded ∙ ap (λ (n : ℕ). bounds ++ n ∷ []) (last_is ∙ whole) in (
-      subst (λ (n : ℕ). AreBounds bounds' n) (sym whole)
-          (subst (λ (bs : List ℕ). AreBounds bs (length bytes + length more)) (sym here)
-          (AreBounds-push bounds (length bytes) (length more) h)),
-      ap (λ (bs : List ℕ). pieces bytes' bs) here
-          ∙ ap (λ (xs : List ℕ). pieces xs (bounds ++ (length bytes + length more) ∷ [])) added
-          ∙ pieces-push bytes more bounds h,
-    )
+one_more_piece bytes bounds more bytes' bounds' last h added last_is bounded = search (rules, AreBounds-push, length-append, pieces-push)

@@ -1,11 +1,10 @@
 -- The plain find: it tries one place after another and keeps the best match so far.
-use Rattle.std.proofs.Common.{◌≡◌, ℕ, ◌+◌, ◌<◌, ◌≤◌, Bool, true, false, cond, List, [], length, get_or, ◌⊎◌, inl, inr, refl, ap, sym, ◌∙◌, subst, arith, Option, Some, None, MatchOption}
+use Rattle.std.proofs.Common.{◌≡◌, ℕ, ◌+◌, ◌<◌, ◌≤◌, Bool, true, false, cond, List, [], length, get_or, ◌⊎◌, inl, inr, refl, ap, subst, arith, Option, Some, None, MatchOption, rules}
 use Rattle.std.specs.Borrow.{Bor}
 use Rattle.std.proofs.lemmas.List.{length-map}
-use Rattle.std.proofs.Math.ListN.{get_or-map}
-use Rattle.std.proofs.lemmas.Bool.{cases_lt, cases_eq}
+use Rattle.std.proofs.lemmas.Grind.{common_steps}
 use Rattle.ac_util.specs.Prelude.{beats, better, bytes_of, IsFirst, IsPick, MatchKind, Occurrence, occurrence, Occurs, pattern_of, pick, Search}
-use Rattle.ac_util.proofs.Picks.{beats-true, beats-false, IsFirst-itself, IsFirst-trans, pick-from_IsPick, same_occurrence, end_from}
+use Rattle.ac_util.proofs.Picks.{pick-from_IsPick, same_occurrence, end_from}
 
 -- r is the pick among the occurrences at places that were tried
 abbrev pub IsBestOf : MatchKind → Search → (Occurrence → Type 0) → Option Occurrence → Type 0
@@ -32,54 +31,20 @@ fewer kind q P Q (Some m) w h = (h.0, λ o occurs tried. h.1 o occurs (w o occur
 better_of : (kind : MatchKind) (q : Search) (P Q : Occurrence → Type 0) (m b : Occurrence) (t : Bool)
     → beats kind b m ≡ t → Occurs q m → ((o : Occurrence) → Occurs q o → Q o → P o ⊎ (o ≡ m))
     → IsBestOf kind q P (Some b) → IsBestOf kind q Q (Some (cond t b m))
-better_of kind q P Q m b true e om w h = (
-  h.0,
-  λ o occurs tried. elim (w o occurs tried) [
-    | inl p ↦ h.1 o occurs p
-    | inr same ↦ subst (λ (x : Occurrence). IsFirst kind b x) (sym same) (beats-true kind b m e)
-  ],
-)
-better_of kind q P Q m b false e om w h = (
-  om,
-  λ o occurs tried. elim (w o occurs tried) [
-    | inl p ↦ IsFirst-trans kind m b o (beats-false kind b m e) (h.1 o occurs p)
-    | inr same ↦ subst (λ (x : Occurrence). IsFirst kind m x) (sym same) (IsFirst-itself kind m)
-  ],
-)
+better_of kind q P Q m b true e om w h = grind (arith, common_steps)
+better_of kind q P Q m b false e om w h = search rules
 
 -- one more place tried, where m occurs
 one_more : (kind : MatchKind) (q : Search) (P Q : Occurrence → Type 0) (m : Occurrence) (r : Option Occurrence)
     → Occurs q m → ((o : Occurrence) → Occurs q o → Q o → P o ⊎ (o ≡ m))
     → IsBestOf kind q P r → IsBestOf kind q Q (Some (better kind m r))
-one_more kind q P Q m None om w h = (
-  om,
-  λ o occurs tried. elim (w o occurs tried) [
-    | inl p ↦ absurd (h o occurs p)
-    | inr same ↦ subst (λ (x : Occurrence). IsFirst kind m x) (sym same) (IsFirst-itself kind m)
-  ],
-)
+one_more kind q P Q m None om w h = grind (arith, common_steps)
 one_more kind q P Q m (Some b) om w h = better_of kind q P Q m b (beats kind b m) refl om w h
 
 -- up to a start and with it: before it, or at it
 reached_or_at : (q : Search) (n at : ℕ) (o : Occurrence) → Occurs q o → IsReached n (at + 1) o
     → IsReached n at o ⊎ ((o.pattern ≡ n) × (o.start ≡ at))
-reached_or_at q n at o occurs tried = elim (cases_eq o.pattern n) [
-  | inl same ↦ elim (cases_lt o.start at) [
-    | inl l ↦ inl (record { patterns = omega arith; starts = λ e. l })
-    | inr l ↦ inr (same, omega (arith, tried.starts same))
-  ]
-  | inr other ↦ inl (record { patterns = tried.patterns; starts = λ e. absurd (other e) })
-]
-
--- one more start, where nothing of this number occurs
-place_without : (kind : MatchKind) (q : Search) (n at : ℕ) (r : Option Occurrence)
-    → ((o : Occurrence) → Occurs q o → o.pattern ≡ n → o.start ≡ at → ⊥)
-    → IsBestOf kind q (IsReached n at) r → IsBestOf kind q (IsReached n (at + 1)) r
-place_without kind q n at r none h = fewer kind q (IsReached n at) (IsReached n (at + 1)) r
-    (λ o occurs tried. elim (reached_or_at q n at o occurs tried) [
-      | inl p ↦ p
-      | inr p ↦ absurd (none o occurs p.0 p.1)
-    ]) h
+reached_or_at q n at o occurs tried = grind (arith, common_steps)
 
 -- one more start, where m occurs
 place_with : (kind : MatchKind) (q : Search) (m : Occurrence) (r : Option Occurrence) → Occurs q m
@@ -104,38 +69,21 @@ all_tried kind q r h = pick-from_IsPick kind q r (at r h)
 -- what is borrowed under a number is the pattern of that number
 pub pattern_of-bytes_of : (strings : List (Bor (List ℕ))) (n : ℕ) (d : Bor (List ℕ)) → d.now ≡ []
     → pattern_of (bytes_of strings) n ≡ (get_or strings n d).now
-pattern_of-bytes_of strings n d empty =
-    ap (λ (e : List ℕ). get_or (bytes_of strings) n e) (sym empty)
-    ∙ get_or-map (λ (s : Bor (List ℕ)). s.now) strings n d
+pattern_of-bytes_of strings n d empty = grind (arith, common_steps)
 
 -- one more start, where the pattern occurs
 pub start_with : (kind : MatchKind) (q : Search) (n start end : ℕ) (m : Occurrence)
     (best new : Option Occurrence) → Occurs q (occurrence n start end) → m ≡ occurrence n start end
     → new ≡ Some (better kind m best)
     → IsBestOf kind q (IsReached n start) best → IsBestOf kind q (IsReached n (start + 1)) new
-start_with kind q n start end m best new occurs is new_is h =
-    subst (IsBestOf kind q (IsReached n (start + 1)))
-    (sym (new_is ∙ ap (λ (o : Occurrence). Some (better kind o best)) is))
-    (place_with kind q (occurrence n start end) best occurs h)
+start_with kind q n start end m best new occurs is new_is h = search (rules, place_with)
 
 -- one more start, where it does not: `end` is right where the pattern has room in the span
 pub start_without : (kind : MatchKind) (q : Search) (n start end : ℕ) (best new : Option Occurrence)
     → (start + length (pattern_of q.patterns n) ≤ q.high → end ≡ start + length (pattern_of q.patterns n))
     → ¬ Occurs q (occurrence n start end) → new ≡ best → IsBestOf kind q (IsReached n start) best
     → IsBestOf kind q (IsReached n (start + 1)) new
-start_without kind q n start end best new right none new_is h =
-    subst (IsBestOf kind q (IsReached n (start + 1))) (sym new_is)
-    (place_without kind q n start best no_other h)
-  where
-    no_other : (o : Occurrence) → Occurs q o → o.pattern ≡ n → o.start ≡ start → ⊥
-    no_other o occurs number at =
-        let long : o.end ≡ start + length (pattern_of q.patterns n) =
-        sym occurs.as_long ∙ ap (λ (k : ℕ). o.start + length (pattern_of q.patterns k)) number
-        ∙ ap (λ (k : ℕ). k + length (pattern_of q.patterns n)) at in
-        let fits = occurs.to_high in
-        let same : o.end ≡ end = long ∙ sym (right (omega arith)) in
-        none (subst (λ (m : Occurrence). Occurs q m)
-        (same_occurrence o (occurrence n start end) number at same) occurs)
+start_without kind q n start end best new right none new_is h = search rules
 
 -- all numbers were tried
 pub numbers_tried : (kind : MatchKind) (q : Search) (n : ℕ) (strings : List (Bor (List ℕ)))

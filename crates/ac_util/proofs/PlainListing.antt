@@ -1,12 +1,11 @@
 -- One more number, start or end tried adds what occurs there.
-use Rattle.std.proofs.Common.{◌≡◌, ℕ, zero, suc, ◌+◌, ◌-◌, Bool, true, false, cond, List, [], ◌∷◌, ◌++◌, map, refl, ap, sym, ◌∙◌, arith, filter, flat_map, IsTrue, ◌↔◌}
+use Rattle.std.proofs.Common.{◌≡◌, ℕ, zero, suc, ◌+◌, ◌-◌, Bool, true, false, cond, List, [], ◌∷◌, ◌++◌, map, refl, ap, ◌∙◌, arith, filter, flat_map, IsTrue, ◌↔◌, rules}
 use Rattle.std.specs.List.{range_with_len}
-use Rattle.std.proofs.lemmas.Grind.{flat_map-append}
-use Rattle.std.proofs.lemmas.List.{append-nil, append_assoc}
-use Rattle.std.proofs.lemmas.List.Elements.{filter-append}
+use Rattle.std.proofs.lemmas.List.{append_assoc}
 use Rattle.std.proofs.lemmas.List.FromFn.{filter_of_map_range_with_len_more}
+use Rattle.std.proofs.lemmas.Grind.{common_steps}
 use Rattle.ac_util.specs.Prelude.{all, Occurrence, occurrence, Occurs, occurs, places_ending_at, Search}
-use Rattle.ac_util.proofs.Listing.{occurs-true, Occurs-from_test}
+use Rattle.ac_util.proofs.Listing.{occurs-true}
 
 -- what a list of places adds
 abbrev pub occurring : Search → List Occurrence → List Occurrence
@@ -19,14 +18,7 @@ first_numbers start end n = map (λ number. occurrence number start end) (range_
 -- the test gives what was found out otherwise
 pub occurs-is : (q : Search) (m : Occurrence) (b : Bool) → (IsTrue b ↔ Occurs q m) → occurs q m ≡ b
 occurs-is q m true h = occurs-true q m (h.0 refl)
-occurs-is q m false h = not_true (occurs q m) (λ t. absurd (false_is_not (h.1 (Occurs-from_test q m t))))
-  where
-    false_is_not : IsTrue false → ⊥
-    false_is_not e = cc
-
-    not_true : (b : Bool) → (b ≡ true → ⊥) → b ≡ false
-    not_true true h = absurd (h refl)
-    not_true false h = refl
+occurs-is q m false h = search rules
 
 -- one more number
 pub occurring-number : (q : Search) (start end n : ℕ) (b : Bool)
@@ -47,23 +39,14 @@ range-more a (suc n) j e = ap (λ ks. a ∷ ks) (range-more (a + 1) n j (omega a
 pub occurring-more : (q : Search) (places : ℕ → List Occurrence) (a n k j : ℕ) → suc n ≡ k → a + n ≡ j
     → occurring q (flat_map places (range_with_len a k))
     ≡ occurring q (flat_map places (range_with_len a n)) ++ occurring q (places j)
-occurring-more q places a n k j e f =
-    ap (λ k. occurring q (flat_map places (range_with_len a k))) (sym e)
-    ∙ ap (λ ks. occurring q (flat_map places ks)) (range-more a n j f)
-    ∙ ap (occurring q)
-    (flat_map-append places (range_with_len a n) (j ∷ [])
-    ∙ ap (λ ms. flat_map places (range_with_len a n) ++ ms) (append-nil (places j)))
-    ∙ filter-append (occurs q) (flat_map places (range_with_len a n)) (places j)
+occurring-more q places a n k j e f = grind (arith, common_steps, range-more a n j f)
 
 -- what a round of a loop adds to what the rounds before it added
 pub added_more : (q : Search) (places : ℕ → List Occurrence) (a n k j : ℕ) (before items new : List Occurrence)
     → suc n ≡ k → a + n ≡ j
     → items ≡ before ++ occurring q (flat_map places (range_with_len a n))
     → new ≡ items ++ occurring q (places j) → new ≡ before ++ occurring q (flat_map places (range_with_len a k))
-added_more q places a n k j before items new e f is more =
-    more ∙ ap (λ ms. ms ++ occurring q (places j)) is
-    ∙ append_assoc before (occurring q (flat_map places (range_with_len a n))) (occurring q (places j))
-    ∙ ap (λ ms. before ++ ms) (sym (occurring-more q places a n k j e f))
+added_more q places a n k j before items new e f is more = search (rules, append_assoc, occurring-more)
 
 -- what a number adds, by whether it occurs
 pub number_added : (q : Search) (start end n : ℕ) (b : Bool) (before items new : List Occurrence)
@@ -71,10 +54,7 @@ pub number_added : (q : Search) (start end n : ℕ) (b : Bool) (before items new
     → items ≡ before ++ occurring q (first_numbers start end n)
     → new ≡ items ++ cond b (occurrence n start end ∷ []) []
     → new ≡ before ++ occurring q (first_numbers start end (n + 1))
-number_added q start end n b before items new h is more =
-    more ∙ ap (λ ms. ms ++ cond b (occurrence n start end ∷ []) []) is
-    ∙ append_assoc before (occurring q (first_numbers start end n)) (cond b (occurrence n start end ∷ []) [])
-    ∙ ap (λ ms. before ++ ms) (sym (occurring-number q start end n b h))
+number_added q start end n b before items new h is more = search (rules, append_assoc, occurring-number)
 
 -- what occurs at all ends is all that occurs
 pub all-from_ends : (q : Search) (n : ℕ) → n ≡ q.high + 1 - q.low

@@ -1,17 +1,13 @@
 -- The plain walk: what is left of it after each match.
-use Rattle.std.proofs.Common.{◌≡◌, ℕ, ◌+◌, ◌-◌, ◌<◌, ◌≤◌, List, [], ◌∷◌, ◌++◌, refl, ap, sym, ◌∙◌, arith, Option, Some, None, MatchOption}
+use Rattle.std.proofs.Common.{◌≡◌, ℕ, ◌+◌, ◌-◌, ◌<◌, ◌≤◌, List, [], ◌∷◌, ◌++◌, arith, Option, Some, None, MatchOption, rules}
 use Rattle.std.proofs.lemmas.List.{append_assoc}
+use Rattle.std.proofs.lemmas.Grind.{common_steps}
 use Rattle.ac_util.specs.Prelude.{from, MatchKind, next_match, Occurrence, pick, Search, walk, walk_after}
 use Rattle.ac_util.proofs.Walks.{pick-Occurs, next-in_span, next-beyond, walk_after-None, walk_after-Some}
 
 -- a span in which something is picked starts no later than it ends
 pub pick-low : (kind : MatchKind) (q : Search) (m : Occurrence) → pick kind q ≡ Some m → q.low ≤ q.high
-pick-low kind q m e =
-    let o = pick-Occurs kind q m e in
-    let a = o.from_low in
-    let b = o.as_long in
-    let c = o.to_high in
-    omega arith
+pick-low kind q m e = grind (arith, common_steps, pick-Occurs kind q m e)
 
 -- the walk from its next match on
 abbrev pub walk_from : MatchKind → Search → Option Occurrence → List Occurrence
@@ -43,27 +39,15 @@ next-EndsWithin kind q last (Some m) e = let o = next-in_span kind q last m e in
 pub room-falls : (kind : MatchKind) (q : Search) (m : Occurrence) (next : Option Occurrence) → m.end ≤ q.high
     → next_match kind (from q m.end) (Some m.end) ≡ next → room_after q next < room_after q (Some m)
 room-falls kind q m None l e = omega arith
-room-falls kind q m (Some n) l e =
-    let o = next-in_span kind (from q m.end) (Some m.end) n e in
-    let b = next-beyond kind (from q m.end) n e in
-    let c = o.to_high in
-    omega arith
+room-falls kind q m (Some n) l e = search (rules, next-beyond kind (from q m.end) n e)
 
 -- the walk begins with its first match
 pub begun : (kind : MatchKind) (q : Search) (matches : List Occurrence) (next : Option Occurrence)
     → matches ≡ [] → next_match kind q None ≡ next → matches ++ walk_from kind q next ≡ walk kind q
-begun kind q matches next none e =
-    ap (λ ms. ms ++ walk_from kind q next) none ∙ sym (walk_after-walk_from kind q None next e)
+begun kind q matches next none e = search (rules, walk_after-walk_from)
 
 -- a match is taken, and what follows it is left
 pub taken : (kind : MatchKind) (q : Search) (matches more : List Occurrence) (m : Occurrence)
     (next : Option Occurrence) → more ≡ matches ++ m ∷ [] → next_match kind (from q m.end) (Some m.end) ≡ next
     → more ++ walk_from kind q next ≡ matches ++ walk_from kind q (Some m)
-taken kind q matches more m next is e =
-    ap (λ ms. ms ++ walk_from kind q next) is ∙ append_assoc matches (m ∷ []) (walk_from kind q next)
-    ∙ ap (λ ms. matches ++ m ∷ ms)
-    (from_any next ∙ sym (walk_after-walk_from kind (from q m.end) (Some m.end) next e))
-  where
-    from_any : (r : Option Occurrence) → walk_from kind q r ≡ walk_from kind (from q m.end) r
-    from_any None = refl
-    from_any (Some n) = refl
+taken kind q matches more m next is e = search (rules, append_assoc, walk_after-walk_from)

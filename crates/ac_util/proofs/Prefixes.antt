@@ -3,6 +3,7 @@ use Rattle.std.proofs.Common.{◌≡◌, ℕ, zero, suc, ◌<◌, ◌≤◌, Boo
 use Rattle.std.specs.List.{list_any, starts_with}
 use Rattle.std.proofs.lemmas.Bool.{or_cases, or_left, or_right, and_parts, and_from, eqb-true, eq-eqb, false≢true, false_from_ne_true}
 use Rattle.std.proofs.lemmas.Slice.Eq.{bytes_eq-Decides}
+use Rattle.std.proofs.lemmas.Grind.{common_steps}
 use Rattle.ac_util.proofs.Lists.{IsIn}
 
 -- a string is a prefix of itself
@@ -23,8 +24,7 @@ pub starts_with-more : (w p : List ℕ) (b : ℕ) → starts_with nat_eq w p ≡
     → starts_with nat_eq (w ++ b ∷ []) p ≡ true
 starts_with-more w [] b h = refl
 starts_with-more [] (y ∷ p) b h = absurd (false≢true h)
-starts_with-more (x ∷ w) (y ∷ p) b h =
-    let parts = and_parts _ _ h in and_from _ _ parts.0 (starts_with-more w p b parts.1)
+starts_with-more (x ∷ w) (y ∷ p) b h = grind (arith, common_steps)
 
 -- a prefix of w with one more byte that is no prefix of w is the whole of it
 pub starts_with-whole : (w p : List ℕ) (b : ℕ)
@@ -44,8 +44,7 @@ starts_with-whole (x ∷ w) (y ∷ p) b h n =
 pub starts_with-length : (w p : List ℕ) → starts_with nat_eq w p ≡ true → length p ≤ length w
 starts_with-length w [] h = omega arith
 starts_with-length [] (y ∷ p) h = absurd (false≢true h)
-starts_with-length (x ∷ w) (y ∷ p) h =
-    let l = starts_with-length w p (and_parts (eqb y x) (starts_with nat_eq w p) h).1 in omega arith
+starts_with-length (x ∷ w) (y ∷ p) h = grind (arith, common_steps)
 
 -- the first bytes of a string are a prefix of it
 pub starts_with-take : (n : ℕ) (w : List ℕ) → starts_with nat_eq w (take n w) ≡ true

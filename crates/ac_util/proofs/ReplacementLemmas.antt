@@ -1,5 +1,6 @@
 -- What the steps of a replacement leave, by what each call does.
-use Rattle.std.proofs.Common.{◌≡◌, ℕ, List, [], ◌∷◌, ◌++◌, drop, inl, inr, refl, ap, sym, subst, ◌∙◌, append_assoc, append-nil, Bool, Option, None, Some, slice_index_or, slice_range}
+use Rattle.std.proofs.Common.{◌≡◌, ℕ, List, [], ◌∷◌, ◌++◌, drop, inl, inr, refl, ap, sym, subst, ◌∙◌, append_assoc, append-nil, Bool, Option, None, Some, slice_index_or, slice_range, rules, arith}
+use Rattle.std.proofs.lemmas.Grind.{common_steps}
 use Rattle.ac_util.specs.Prelude.{AlwaysWrites, Answer, AppendsAll, AppendsBeginning, asked_by, CallsNoMore, exchanged_from, Fails, Continues, MatchAnswer, Occurrence, OnlyAppends, replaced, ReplacementSteps, Replacing, Turn, WritesText}
 
 module _ {S R E : Type 0} (appends : List ℕ → S → Option E → S → Type 0)
@@ -10,8 +11,7 @@ module _ {S R E : Type 0} (appends : List ℕ → S → Option E → S → Type 
     pub steps-keep : (place : ℕ) (ms : List Occurrence) (s t : S) (end : Option E)
         → ReplacementSteps appends calls asks haystack place ms s end t → P s → P t
     steps-keep place [] s t end h p = appended (drop place haystack) s t end h p
-    steps-keep place (m ∷ ms) s t end (inl h) p =
-        appended (slice_range haystack place m.start) s t end h.1 p
+    steps-keep place (m ∷ ms) s t end (inl h) p = grind (arith, common_steps)
     steps-keep place (m ∷ ms) s t end (inr h) p =
         by (asks h.0) h.3 (λ later q. steps-keep m.end ms h.1 t end later q)
         (called m (slice_range haystack m.start m.end) h.2.at_match h.1 h.0 h.2.call
@@ -37,12 +37,7 @@ module _ {S R E : Type 0} (appends : List ℕ → S → Option E → S → Type 
     turn-writes : (place : ℕ) (m : Occurrence) (s t : S) (r : R) (later : List ℕ)
         → Turn appends calls asks haystack place m s r t
         → holds t ++ later ≡ holds s ++ (slice_range haystack place m.start ++ write m (slice_range haystack m.start m.end) ++ later)
-    turn-writes place m s t r later turn =
-        ap (λ (w : List ℕ). w ++ later)
-        ((called m (slice_range haystack m.start m.end) turn.at_match t r turn.call).1
-        ∙ ap (λ (w : List ℕ). w ++ write m (slice_range haystack m.start m.end))
-        (appended (slice_range haystack place m.start) s turn.at_match turn.gap))
-        ∙ simp append_assoc
+    turn-writes place m s t r later turn = search (rules, append_assoc)
 
     -- the steps leave what was there and then the haystack with its matches exchanged
     pub steps-exchange : (place : ℕ) (ms : List Occurrence) (s t : S)
@@ -72,11 +67,11 @@ module _ {S R E : Type 0} (appends : List ℕ → S → Option E → S → Type 
         → (rest : List ℕ) × (holds t ++ rest ≡ holds s ++ exchanged_from haystack write place ms)
     steps-begin place [] s t end h = cut (drop place haystack) s t end h
     steps-begin place (m ∷ ms) s t end (inl h) =
-        let gap = cut (slice_range haystack place m.start) s t end h.1 in
-        let later = write m (slice_range haystack m.start m.end) ++ exchanged_from haystack write m.end ms in (
-          gap.0 ++ later,
-          sym (append_assoc (holds t) gap.0 later)
-              ∙ ap (λ (w : List ℕ). w ++ later) gap.1 ∙ simp append_assoc,
+        grind (
+          arith,
+          common_steps,
+          append_assoc (holds t) (cut (slice_range haystack place m.start) s t end h.1).0 (write m (slice_range haystack m.start m.end) ++
+              exchanged_from haystack write m.end ms),
         )
     steps-begin place (m ∷ ms) s t end (inr h) =
         by (asks h.0) h.3 (called m (slice_range haystack m.start m.end) h.2.at_match h.1 h.0 h.2.call).0
@@ -107,11 +102,8 @@ module _ {F D E : Type 0} (holds : D → List ℕ) where
       → AppendsBeginning holds bytes s end t
       → (rest : List ℕ) × (holds t.destination ++ rest ≡ holds s.destination ++ bytes)
   AppendsBeginning-begins bytes s t None h = ([], append-nil (holds t.destination) ∙ h.1)
-  AppendsBeginning-begins bytes s t (Some failure) (same, (taken, rest, split, took)) = (
-    rest,
-    ap (λ (w : List ℕ). w ++ rest) took ∙ append_assoc (holds s.destination) taken rest
-        ∙ ap (λ (w : List ℕ). holds s.destination ++ w) (sym split),
-  )
+  AppendsBeginning-begins bytes s t (Some failure) (same, (taken, rest, split, took)) =
+      grind (arith, common_steps, append_assoc (holds s.destination) taken rest)
 
   -- which adds something to what was there, or nothing
   AppendsBeginning-adds : (bytes : List ℕ) (s t : Replacing F D) (end : Option E)
@@ -126,8 +118,7 @@ module _ (E : Type 0) {F D : Type 0} (calls : Occurrence → List ℕ → Replac
     (haystack : List ℕ) where
   asks_on : (m : Occurrence) (slice : List ℕ) (s t : Replacing F D) (r : Bool) → calls m slice s r t
       → (asked_by {E = E} r ≡ Continues) × (holds t.destination ≡ holds s.destination ++ write m slice)
-  asks_on m slice s t r call =
-      let writes = writes m slice s r t call in (ap (asked_by {E = E}) writes.0, writes.1)
+  asks_on m slice s t r call = grind (arith, common_steps)
 
   pub closure-exchanges : (ms : List Occurrence) (s t : Replacing F D)
       → ReplacementSteps (AppendsAll {E = E} holds) calls asked_by haystack 0 ms s None t
@@ -147,10 +138,7 @@ module _ (E : Type 0) {F D : Type 0} (calls : Occurrence → List ℕ → Replac
 -- bytes that are appended to what is appended to these bytes
 appends-on : (bytes : List ℕ) (was is : List ℕ) → ((more : List ℕ) × (is ≡ was ++ more))
     → ((more : List ℕ) × (was ≡ bytes ++ more)) → (more : List ℕ) × (is ≡ bytes ++ more)
-appends-on bytes was is then first = (
-  first.0 ++ then.0,
-  then.1 ∙ ap (λ (w : List ℕ). w ++ then.0) first.1 ∙ append_assoc bytes first.0 then.0,
-)
+appends-on bytes was is then first = grind (arith, common_steps)
 
 -- where calls only append, what the destination held stays at its beginning
 module _ (E : Type 0) {F D : Type 0} (calls : Occurrence → List ℕ → Replacing F D → Bool → Replacing F D → Type 0)

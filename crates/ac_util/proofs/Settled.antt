@@ -1,16 +1,16 @@
 -- A stream under a leftmost kind: the matches that are decided stay as more of it comes, and no other starts before them.
-use Rattle.std.proofs.Common.{◌≡◌, ℕ, ◌+◌, ◌-◌, ◌<◌, ◌≤◌, true, List, [], ◌∷◌, ◌++◌, length, get_or, length-append, length-drop, take, drop, inl, inr, refl, ap, sym, ◌∙◌, subst, arith, Option, None, Some, All, nat_eq, slice_range}
+use Rattle.std.proofs.Common.{◌≡◌, ℕ, ◌+◌, ◌-◌, ◌<◌, ◌≤◌, true, List, [], ◌∷◌, ◌++◌, length, get_or, length-drop, take, drop, inl, inr, refl, ap, sym, ◌∙◌, subst, arith, Option, None, Some, All, nat_eq, slice_range, rules}
 use Rattle.std.specs.List.{starts_with}
-use Rattle.std.proofs.Math.Seq.{drop-append_seam, take-append_seam, take-take}
+use Rattle.std.proofs.Math.Seq.{take-append_seam, take-take}
 use Rattle.std.proofs.lemmas.Bool.{cases_lt, false_from_ne_true}
 use Rattle.std.proofs.lemmas.List.{drop-append-le, get_or-map, get_or-take, length-map, length-take-le, take-append-drop, take-map}
 use Rattle.std.proofs.lemmas.List.Elements.{All-cons, All-nil}
+use Rattle.std.proofs.lemmas.Grind.{common_steps}
 use Rattle.ac_util.specs.Prelude.{AreDecided, asked_whole, Built, continued, from, is_leftmost, IsFirst, IsOpen, IsPick, IsSettledAt, LeftmostFirst, LeftmostLongest, MatchKind, next_match, NoneOpen, Occurrence, occurrence, Occurs, participates, pattern_of, pick, plain, plain_byte, plain_patterns, Search, search_in, Standard, streamed, walk_after}
 use Rattle.ac_util.proofs.Lists.{IsIn-at}
 use Rattle.ac_util.proofs.Participants.{takes_part}
 use Rattle.ac_util.proofs.Picks.{first_unique, pick-IsPick}
-use Rattle.ac_util.proofs.PiecesLemmas.{slice_range-append}
-use Rattle.ac_util.proofs.Prefixes.{IsFirstAny, first_any, front-is, starts_with-length}
+use Rattle.ac_util.proofs.Prefixes.{IsFirstAny, first_any}
 use Rattle.ac_util.proofs.Walks.{later, next-none, next-some, pick-Occurs, walk_after-None, walk_after-Some}
 
 -- what is preferred under a leftmost kind starts no later
@@ -27,34 +27,10 @@ module _ (q : Search) (m : Occurrence) (o : Occurs q m) (number : ℕ) (numbered
     prefix = occurrence number m.start (m.start + length (pattern_of q.patterns number))
 
     shorter-prefix : length (pattern_of q.patterns number) ≤ length (pattern_of q.patterns m.pattern)
-    shorter-prefix =
-        let whole = length-map (pattern_of q.patterns m.pattern) (plain_byte q.fold) in
-        let part = length-map (pattern_of q.patterns number) (plain_byte q.fold) in
-        let less = starts_with-length (plain q.fold (pattern_of q.patterns m.pattern)) (plain q.fold (pattern_of q.patterns number)) front in
-        omega arith
+    shorter-prefix = grind (arith, common_steps)
 
     prefix-occurs : Occurs q prefix
-    prefix-occurs =
-        let as_long = o.as_long in
-        let to_high = o.to_high in
-        let less = shorter-prefix in
-        let len = length (pattern_of q.patterns number) in
-        record {
-          numbered = numbered;
-          from_low = o.from_low;
-          as_long = refl;
-          to_high = omega arith;
-          reads =
-              sym (front-is (plain q.fold (pattern_of q.patterns m.pattern)) (plain q.fold (pattern_of q.patterns number)) front)
-              ∙ ap (λ (k : ℕ). take k (plain q.fold (pattern_of q.patterns m.pattern)))
-              (length-map (pattern_of q.patterns number) (plain_byte q.fold))
-              ∙ ap (take len) o.reads
-              ∙ take-map (plain_byte q.fold) len (slice_range q.haystack m.start m.end)
-              ∙ ap (plain q.fold)
-              (take-take len (m.end - m.start) (drop m.start q.haystack) (omega arith)
-              ∙ ap (λ (k : ℕ). take k (drop m.start q.haystack)) (let k : len ≡ m.start + len - m.start = omega arith in k));
-          at_low = o.at_low;
-        }
+    prefix-occurs = search (rules, length-map, shorter-prefix, take-map, take-take)
 
 -- the pick takes part
 pick-takes_part : (kind : MatchKind) (q : Search) (m : Occurrence) → is_leftmost kind ≡ true → pick kind q ≡ Some m
@@ -99,32 +75,11 @@ module _ (built : Built) (leftmost : is_leftmost built.kind ≡ true) (bytes mor
 
   -- what occurs still occurs
   occurs-there : (low : ℕ) (m : Occurrence) → Occurs (here low) m → Occurs (there low) m
-  occurs-there low m o =
-      let long = length-append bytes more in
-      let end = o.to_high in
-      let as_long = o.as_long in
-      record {
-        numbered = o.numbered;
-        from_low = o.from_low;
-        as_long = o.as_long;
-        to_high = omega arith;
-        reads = o.reads
-            ∙ ap (plain built.fold) (sym (slice_range-append bytes more m.start m.end (omega arith) (omega arith)));
-        at_low = λ yes. absurd (cc);
-      }
+  occurs-there low m o = grind (arith, common_steps)
 
   -- what occurs and ends by the end of these bytes occurred before
   occurs-here : (low : ℕ) (m : Occurrence) → m.end ≤ length bytes → Occurs (there low) m → Occurs (here low) m
-  occurs-here low m ends o =
-      let as_long = o.as_long in
-      record {
-        numbered = o.numbered;
-        from_low = o.from_low;
-        as_long = o.as_long;
-        to_high = ends;
-        reads = o.reads ∙ ap (plain built.fold) (slice_range-append bytes more m.start m.end (omega arith) ends);
-        at_low = λ yes. absurd (cc);
-      }
+  occurs-here low m ends o = grind (arith, common_steps)
 
   -- a pick that ends after them starts at a place that is open
   opens : (low : ℕ) (m : Occurrence) → pick built.kind (there low) ≡ Some m → m.start < length bytes
@@ -207,22 +162,12 @@ module _ (built : Built) (leftmost : is_leftmost built.kind ≡ true) (bytes mor
   module _ (some : (n : ℕ) → n < length built.patterns → 0 < length (pattern_of built.patterns n)) where
     -- no match is empty
     some-bytes : (q : Search) (m : Occurrence) → q.patterns ≡ built.patterns → pick built.kind q ≡ Some m → m.start < m.end
-    some-bytes q m same is =
-        let o = pick-Occurs built.kind q m is in
-        let numbered = subst (λ (ps : List (List ℕ)). m.pattern < length ps) same o.numbered in
-        let as_long = subst (λ (ps : List (List ℕ)). m.start + length (pattern_of ps m.pattern) ≡ m.end) same o.as_long in
-        let long = some m.pattern numbered in
-        omega arith
+    some-bytes q m same is = grind (arith, common_steps, pick-Occurs built.kind q m is)
 
     -- so the next match is the pick
     pub next-picks : (q : Search) (last : Option ℕ) (m : Occurrence) → q.patterns ≡ built.patterns
         → next_match built.kind q last ≡ Some m → pick built.kind q ≡ Some m
-    next-picks q last m same is = by (pick built.kind q) refl
-      where
-        by : (r : Option Occurrence) → pick built.kind q ≡ r → pick built.kind q ≡ Some m
-        by None e = absurd (let none = next-none built.kind q last e in cc)
-        by (Some n) e =
-            e ∙ sym (next-some built.kind q last n e (some-bytes q n same e)) ∙ is
+    next-picks q last m same is = search (rules, next-none, next-some, some-bytes)
 
     -- a walk that begins with a match goes on from its end
     pub walk-first : (q : Search) (last : Option ℕ) (m : Occurrence) (ms : List Occurrence)
@@ -291,12 +236,7 @@ module _ (built : Built) (leftmost : is_leftmost built.kind ≡ true) (bytes mor
         → All (λ (m : Occurrence). place ≤ m.start) rest
         → (others : List Occurrence) × (walk_after built.kind (there low) last ≡ ms ++ others)
         × All (λ (m : Occurrence). place ≤ m.start) others
-    decided-stays [] rest low place last within walks closed all = (
-      walk_after built.kind (there low) last,
-      refl,
-      later-behind low place last within closed
-          (subst (All (λ (m : Occurrence). place ≤ m.start)) (sym walks) all),
-    )
+    decided-stays [] rest low place last within walks closed all = search (rules, later-behind)
     decided-stays (m ∷ ms) rest low place last within walks decided all =
         let first = walk-first (here low) last m (ms ++ rest) walks in
         let is = next-picks (here low) last m refl first.0 in
@@ -313,13 +253,4 @@ module _ (built : Built) (leftmost : is_leftmost built.kind ≡ true) (bytes mor
     pub settled-stays : (given place : ℕ) → IsSettledAt built bytes given place
         → (take given (streamed built (bytes ++ more)) ≡ take given (streamed built bytes))
         × All (λ (m : Occurrence). place ≤ m.start) (drop given (streamed built (bytes ++ more)))
-    settled-stays given place h =
-        let ms = take given (streamed built bytes) in
-        let stays = decided-stays ms (drop given (streamed built bytes)) 0 place None h.within
-        (sym (take-append-drop given (streamed built bytes))) h.decided h.later in
-        let many : length ms ≡ given = length-take-le given (streamed built bytes) h.few in (
-          ap (take given) stays.1 ∙ ap (λ (n : ℕ). take n (ms ++ stays.0)) (sym many) ∙ take-append_seam ms stays.0,
-          subst (All (λ (m : Occurrence). place ≤ m.start))
-              (sym (drop-append_seam ms stays.0) ∙ ap (λ (n : ℕ). drop n (ms ++ stays.0)) many ∙ ap (drop given) (sym stays.1))
-              stays.2,
-        )
+    settled-stays given place h = grind (arith, common_steps, take-append-drop given (streamed built bytes), decided-stays)

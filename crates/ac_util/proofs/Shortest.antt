@@ -1,8 +1,9 @@
 -- The shortest and the longest of patterns: when the shortest is empty, and which lengths all of them have.
-use Rattle.std.proofs.Common.{◌≡◌, ℕ, zero, suc, ◌<◌, ◌≤◌, true, false, List, [], ◌∷◌, length, inl, inr, sym, ◌∙◌, arith, ◌↔◌, ◌==◌}
+use Rattle.std.proofs.Common.{◌≡◌, ℕ, zero, suc, ◌<◌, ◌≤◌, true, false, List, [], ◌∷◌, length, inl, inr, arith, ◌↔◌, ◌==◌}
 use Rattle.std.specs.List.{list_any}
 use Rattle.std.proofs.lemmas.Bool.{or_cases, or_left, or_right, false≢true, cases_lt}
 use Rattle.std.proofs.lemmas.Bool.Decides.{nat_tests}
+use Rattle.std.proofs.lemmas.Grind.{common_steps}
 use Rattle.ac_util.specs.Prelude.{longest_len, pattern_of, shortest_len}
 
 -- the shortest is empty exactly if some pattern is
@@ -35,7 +36,4 @@ longest-most (p ∷ ps) (suc n) within = let l = longest-most ps n (omega arith)
 -- where no pattern is empty each has a byte
 pub none-empty : (ps : List (List ℕ)) (n : ℕ) → list_any (λ p. length p == 0) ps ≡ false → n < length ps
     → 0 < length (pattern_of ps n)
-none-empty ps n none within = elim (cases_lt 0 (shortest_len ps)) [
-  | inl some ↦ let l = shortest-least ps n within in omega arith
-  | inr empty ↦ absurd (false≢true (sym none ∙ (shortest-empty ps).0 (omega arith)))
-]
+none-empty ps n none within = grind (arith, common_steps)

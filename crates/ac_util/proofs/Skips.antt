@@ -1,15 +1,14 @@
 -- What a prefilter tells of a span, and what that promises of a search of the span.
-use Rattle.std.proofs.Common.{◌≡◌, ℕ, zero, suc, ◌+◌, ◌-◌, ◌<◌, ◌≤◌, Bool, true, false, List, [], ◌∷◌, length, get_or, Option, Some, None, option_map, inl, inr, refl, ap, sym, ◌∙◌, subst, arith, length-take, length-drop, get_or-take, get_or-drop, slice_range}
-use Rattle.std.specs.List.{list_any}
-use Rattle.std.proofs.lemmas.Bool.{eq-eqb, cases_lt, false_from_ne_true, false≢true}
-use Rattle.std.proofs.lemmas.List.Folds.{list_any_at}
+use Rattle.std.proofs.Common.{◌≡◌, ℕ, ◌+◌, ◌-◌, ◌<◌, ◌≤◌, Bool, true, false, List, [], ◌∷◌, length, get_or, Option, Some, None, option_map, inl, inr, refl, ap, sym, ◌∙◌, subst, arith, length-take, length-drop, get_or-take, get_or-drop, slice_range, rules}
+use Rattle.std.proofs.lemmas.Bool.{eq-eqb, cases_lt, false≢true}
+use Rattle.std.proofs.lemmas.Grind.{common_steps}
 use Rattle.memchr.specs.Find.{IsFirst, IsFirstByte, FindsNeedle, OccursAt, Passes}
-use Rattle.ac_util.specs.Prelude.{begins_with, BeginWith, Candidate, FirstOf, is_empty, is_one_of, IsPick, IsSkipFor, LeftmostFirst, LeftmostLongest, match_told, MatchKind, Occurrence, occurrence, Occurs, pattern_of, pick, plain_byte, Promises, Search, search_over, Skip, Standard, start_told, Tells}
+use Rattle.ac_util.specs.Prelude.{begins_with, BeginWith, Candidate, FirstOf, is_empty, is_one_of, IsPick, IsSkipFor, LeftmostFirst, LeftmostLongest, match_told, MatchKind, Occurrence, occurrence, Occurs, pick, plain_byte, Promises, Search, search_over, Skip, Standard, start_told, Tells}
 use Rattle.ac_util.specs.declared.prefilter.Candidate.TheVariants.{None as Nothing}
 use Rattle.ac_util.specs.Pick as Order
 use Rattle.ac_util.specs.Prefilters.Skip.{Needle}
 use Rattle.ac_util.proofs.OneLonger.{none-past_end}
-use Rattle.ac_util.proofs.Picks.{pick-IsPick, pick-from_IsPick, same_occurrence}
+use Rattle.ac_util.proofs.Picks.{pick-IsPick, pick-from_IsPick}
 use Rattle.ac_util.proofs.SamenessLemmas.{IsSame-at, IsSame-from_places}
 
 -- a range within the list has its length
@@ -43,20 +42,7 @@ first_moved P Q low n high (Some k) e to fro (b, p) = (
 pub first_in_range : (test : ℕ → Bool) (hay : List ℕ) (low high : ℕ) (r : Option ℕ) → low ≤ high
     → high ≤ length hay → IsFirstByte test (slice_range hay low high) r
     → IsFirst (Passes test hay) low high (option_map (λ k. low + k) r)
-first_in_range test hay low high r ordered within h =
-    let long = length-range hay low high ordered within in
-    first_moved (Passes test (slice_range hay low high)) (Passes test hay) low (length (slice_range hay low high))
-    high r (omega arith)
-    (λ k l p. subst (λ (b : ℕ). test b ≡ true) (range-at hay low high k (omega arith)) p)
-    (λ k l p. subst (λ (b : ℕ). test b ≡ true) (sym (range-at hay low high k (omega arith))) p)
-    h
-
--- no pattern is empty where the test finds none
-not_empty : (patterns : List (List ℕ)) (k : ℕ) → list_any is_empty patterns ≡ false → k < length patterns
-    → is_empty (pattern_of patterns k) ≡ false
-not_empty patterns k none h =
-    false_from_ne_true (is_empty (pattern_of patterns k))
-    (λ e. false≢true (sym none ∙ list_any_at is_empty patterns k [] h e))
+first_in_range test hay low high r ordered within h = search (rules, first_moved, length-range, range-at)
 
 -- a pattern that isn't empty begins with each byte that is the same as its first one
 begins : (fold : Bool) (b : ℕ) (p : List ℕ) → is_empty p ≡ false
@@ -64,31 +50,13 @@ begins : (fold : Bool) (b : ℕ) (p : List ℕ) → is_empty p ≡ false
 begins fold b [] e h = absurd (false≢true (sym e))
 begins fold b (c ∷ p) e h = eq-eqb (plain_byte fold b) (plain_byte fold c) (sym h)
 
--- a string that isn't empty has a byte
-some_byte : (p : List ℕ) → is_empty p ≡ false → 0 < length p
-some_byte [] e = absurd (false≢true (sym e))
-some_byte (c ∷ p) e = omega arith
-
 -- a search for patterns that begin with some bytes
 module _ (bytes : List ℕ) (fold : Bool) (patterns : List (List ℕ)) (hay : List ℕ) (low high : ℕ)
     (begin : BeginWith bytes fold patterns) where
   -- what occurs isn't empty, and starts with one of the bytes
   starts_so : (m : Occurrence) → Occurs (search_over fold patterns hay low high) m
       → (m.start < m.end) × Passes (is_one_of bytes) hay m.start
-  starts_so m o =
-      let p = pattern_of patterns m.pattern in
-      let some = not_empty patterns m.pattern begin.some o.numbered in
-      let long = some_byte p some in
-      let behind : m.start < m.end = omega (arith, o.as_long) in
-      let first =
-      IsSame-at fold p (slice_range hay m.start m.end) o.reads 0 long
-      ∙ ap (plain_byte fold) (range-at hay m.start m.end 0 (omega arith)
-      ∙ ap (λ (k : ℕ). get_or hay k 0) (let e : m.start + 0 ≡ m.start = omega arith in e)) in (
-        behind,
-        begin.begins (get_or hay m.start 0)
-            (list_any_at (begins_with fold (get_or hay m.start 0)) patterns m.pattern [] o.numbered
-            (begins fold (get_or hay m.start 0) p some first)),
-      )
+  starts_so m o = grind (arith, common_steps)
 
   -- so nothing starts before the first place that holds one of the bytes
   bytes_promise : (place : Option ℕ) → IsFirst (Passes (is_one_of bytes) hay) low high place
@@ -103,11 +71,6 @@ module _ (bytes : List ℕ) (fold : Bool) (patterns : List (List ℕ)) (hay : Li
     ],
   )
 
--- the only pattern of a list is that of each number below its length
-only_pattern : (needle : List ℕ) (n : ℕ) → n < 1 → pattern_of (needle ∷ []) n ≡ needle
-only_pattern needle zero h = refl
-only_pattern needle (suc n) h = absurd (omega arith)
-
 -- a search for a needle alone where case counts
 module _ (needle : List ℕ) (hay : List ℕ) (low high : ℕ) where
   abbrev alone : Search
@@ -119,23 +82,14 @@ module _ (needle : List ℕ) (hay : List ℕ) (low high : ℕ) where
 
   -- each occurrence is as long as the needle
   ends : (m : Occurrence) → Occurs alone m → m.start + length needle ≡ m.end
-  ends m o =
-      ap (λ (p : List ℕ). m.start + length p) (sym (only_pattern needle m.pattern o.numbered)) ∙ o.as_long
+  ends m o = grind (arith, common_steps)
 
   -- the first by its end is the first in each order
   first_by_all : (kind : MatchKind) (m o : Occurrence) → Occurs alone m → Occurs alone o
       → Order.IsFirstByEnd m o → Order.IsFirst kind m o
   first_by_all Standard m o x y h = h
-  first_by_all LeftmostFirst m o x y h =
-      let e = ends m x in let f = ends o y in
-      record { starts = omega (arith, h.ends); patterns = λ s. omega (arith, x.numbered) }
-  first_by_all LeftmostLongest m o x y h =
-      let e = ends m x in let f = ends o y in
-      record {
-        starts = omega (arith, h.ends);
-        ends = λ s. omega arith;
-        patterns = λ s t. omega (arith, x.numbered);
-      }
+  first_by_all LeftmostFirst m o x y h = grind (arith, common_steps)
+  first_by_all LeftmostLongest m o x y h = grind (arith, common_steps)
 
   -- what Standard picks is picked by each kind
   picked_by_all : (kind : MatchKind) (r : Option Occurrence) → IsPick Standard alone r → IsPick kind alone r
@@ -151,49 +105,18 @@ module _ (needle : List ℕ) (hay : List ℕ) (low high : ℕ) where
 
   -- each occurrence is the needle at its start
   stands : (m : Occurrence) → Occurs alone m → m ≡ standing m.start
-  stands m o =
-      same_occurrence m (standing m.start) (let n = o.numbered in let e : m.pattern ≡ 0 = omega arith in e) refl
-      (sym (ends m o))
+  stands m o = grind (arith, common_steps)
 
   -- the first place at which the needle occurs is what Standard picks
   first_stands : (r : Option ℕ) → IsFirst (λ k. Occurs alone (standing k)) low (high + 1) r
       → IsPick Standard alone (option_map standing r)
-  first_stands None none =
-      λ m o. none m.start o.from_low (omega (arith, o.to_high, ends m o)) (subst (Occurs alone) (stands m o) o)
-  first_stands (Some k) (b, p) = (
-    p,
-    λ m o.
-        let later : k ≤ m.start = elim (cases_lt m.start k) [
-          | inl l ↦ absurd (b.before m.start o.from_low l (subst (Occurs alone) (stands m o) o))
-          | inr l ↦ l
-        ] in
-        record {
-          ends = omega (arith, ends m o);
-          starts = λ e. later;
-          patterns = λ e s. omega arith;
-        },
-  )
+  first_stands None none = grind (arith, common_steps)
+  first_stands (Some k) (b, p) = grind (arith, common_steps)
 
   -- where the needle stands in the range it occurs
   occurs_from_range : (k : ℕ) → low ≤ high → high ≤ length hay → OccursAt (slice_range hay low high) needle k
       → Occurs alone (standing (low + k))
-  occurs_from_range k ordered within at =
-      let long = length-range hay low high ordered within in
-      let fits = at.fits in
-      let here = length-range hay (low + k) (low + k + length needle) (omega arith) (omega arith) in
-      record {
-        numbered = omega arith;
-        from_low = omega arith;
-        as_long = refl;
-        to_high = omega arith;
-        reads = IsSame-from_places false needle (slice_range hay (low + k) (low + k + length needle)) (omega arith)
-            (λ j h.
-            sym (at.reads j h)
-            ∙ range-at hay low high (k + j) (omega arith)
-            ∙ ap (λ (i : ℕ). get_or hay i 0) (let e : low + (k + j) ≡ low + k + j = omega arith in e)
-            ∙ sym (range-at hay (low + k) (low + k + length needle) j (omega arith)));
-        at_low = λ e. absurd (cc);
-      }
+  occurs_from_range k ordered within at = search (rules, IsSame-from_places, length-range, range-at)
 
   -- and back
   range_from_occurs : (k : ℕ) → low ≤ high → high ≤ length hay → Occurs alone (standing (low + k))
@@ -227,16 +150,10 @@ pub promised : (skip : Skip) (fold : Bool) (patterns : List (List ℕ)) (hay : L
     (candidate : Candidate) → Tells skip hay low high candidate → IsSkipFor skip fold patterns
     → Promises (search_over fold patterns hay low high) candidate
 promised (FirstOf bytes) fold patterns hay low high candidate (place, first, is) begin =
-    subst (λ (w : Candidate). Promises (search_over fold patterns hay low high) w) (sym is)
-    (bytes_promise bytes fold patterns hay low high begin place first)
-promised (Needle needle) fold patterns hay low high candidate is (counts, single) =
-    subst (λ (w : Bool). Promises (search_over w patterns hay low high) candidate) (sym counts)
-    (subst (λ (w : List (List ℕ)). Promises (search_over false w hay low high) candidate) (sym single)
-    (subst (λ (w : Candidate). Promises (search_over false (needle ∷ []) hay low high) w) (sym is)
-    (needle_promise needle hay low high (pick Standard (search_over false (needle ∷ []) hay low high)) refl)))
+    grind (arith, common_steps, bytes_promise bytes fold patterns hay low high begin place first)
+promised (Needle needle) fold patterns hay low high candidate is (counts, single) = search (rules, needle_promise)
 
 -- where a span starts past its end a skip tells of nothing
 pub tells-nothing : (skip : Skip) (hay : List ℕ) (low high : ℕ) → high < low → Tells skip hay low high Nothing
 tells-nothing (FirstOf bytes) hay low high past = (None, (λ k from below. absurd (omega arith)), refl)
-tells-nothing (Needle needle) hay low high past =
-    sym (ap match_told (none-past_end Standard (search_over false (needle ∷ []) hay low high) past))
+tells-nothing (Needle needle) hay low high past = search (rules, none-past_end)

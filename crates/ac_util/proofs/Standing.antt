@@ -1,11 +1,10 @@
 -- Where patterns stand in a text, and how one more byte changes that.
-use Rattle.std.proofs.Common.{◌≡◌, ℕ, suc, ◌+◌, ◌<◌, ◌≤◌, true, List, [], ◌∷◌, ◌++◌, length, drop, ◌⊎◌, inl, inr, refl, ap, sym, subst, arith, Option, length-drop, nat_eq, MatchOption}
-use Rattle.std.specs.List.{starts_with}
-use Rattle.std.proofs.lemmas.Bool.{cases_Bool, cases_lt}
-use Rattle.std.proofs.lemmas.List.{drop-append-le, length_push}
+use Rattle.std.proofs.Common.{◌≡◌, ℕ, suc, ◌+◌, ◌<◌, ◌≤◌, true, List, [], ◌∷◌, ◌++◌, length, drop, ◌⊎◌, inl, inr, refl, arith, Option, MatchOption, rules}
+use Rattle.std.proofs.lemmas.Bool.{cases_Bool}
+use Rattle.std.proofs.lemmas.Grind.{common_steps}
 use Rattle.ac_util.specs.Prelude.{is_leftmost, IsFirst, LeftmostFirst, LeftmostLongest, MatchKind, No, Occurrence, occurrence, pattern_of, Standard, Yes}
 use Rattle.ac_util.specs.declared.search.Anchored.{Anchored}
-use Rattle.ac_util.proofs.Prefixes.{starts_with-more, starts_with-whole, starts_with-length, starts_with-equal}
+use Rattle.ac_util.proofs.Prefixes.{starts_with-whole, starts_with-length, starts_with-equal}
 use Rattle.ac_util.proofs.Participants.{Prefixes}
 
 -- pattern n stands in the text w from place s on, and if anchored at its front
@@ -34,53 +33,30 @@ IsPickIn kind patterns anchored w r =
 pub first-by_start : (kind : MatchKind) (a b : Occurrence) → a.start < b.start
     → (is_leftmost kind ≡ true) ⊎ (a.end ≤ b.end) → IsFirst kind a b
 first-by_start Standard a b l (inl e) = absurd (cc)
-first-by_start Standard a b l (inr e) =
-    record { ends = e; starts = λ _. omega arith; patterns = λ _ s. omega arith }
+first-by_start Standard a b l (inr e) = grind (arith, common_steps)
 first-by_start LeftmostFirst a b l e = record { starts = omega arith; patterns = λ s. omega arith }
-first-by_start LeftmostLongest a b l e =
-    record { starts = omega arith; ends = λ s. omega arith; patterns = λ s _. omega arith }
+first-by_start LeftmostLongest a b l e = grind (arith, common_steps)
 
 -- the order stays where both places are one further on
 pub first-one_on : (kind : MatchKind) (patterns : List (List ℕ)) (j k n s : ℕ)
     → IsFirst kind (standing_at patterns j k) (standing_at patterns n s)
     → IsFirst kind (standing_at patterns j (suc k)) (standing_at patterns n (suc s))
-first-one_on Standard patterns j k n s f = record {
-  ends = (let e = f.ends in omega arith);
-  starts = (λ e. let g = f.starts (omega arith) in omega arith);
-  patterns = (λ e l. f.patterns (omega arith) (omega arith));
-}
-first-one_on LeftmostFirst patterns j k n s f = record {
-  starts = (let e = f.starts in omega arith);
-  patterns = (λ l. f.patterns (omega arith));
-}
-first-one_on LeftmostLongest patterns j k n s f = record {
-  starts = (let e = f.starts in omega arith);
-  ends = (λ l. let g = f.ends (omega arith) in omega arith);
-  patterns = (λ l e. f.patterns (omega arith) (omega arith));
-}
+first-one_on Standard patterns j k n s f = grind (arith, common_steps)
+first-one_on LeftmostFirst patterns j k n s f = grind (arith, common_steps)
+first-one_on LeftmostLongest patterns j k n s f = grind (arith, common_steps)
 
 -- of matches that end together the one that any kind prefers is the one that Standard prefers
 pub first-at_one_end : (kind : MatchKind) (a b : Occurrence) → a.end ≡ b.end → IsFirst kind a b
     → IsFirst Standard a b
 first-at_one_end Standard a b e f = f
-first-at_one_end LeftmostFirst a b e f =
-    record { ends = omega arith; starts = λ _. f.starts; patterns = λ _ s. f.patterns s }
-first-at_one_end LeftmostLongest a b e f =
-    record { ends = omega arith; starts = λ _. f.starts; patterns = λ k s. f.patterns s k }
+first-at_one_end LeftmostFirst a b e f = grind (arith, common_steps)
+first-at_one_end LeftmostLongest a b e f = grind (arith, common_steps)
 
 module _ (patterns : List (List ℕ)) where
-  -- a prefix of w is a prefix of w with one more byte, and a new one is the whole
-  pub Prefixes-more : (w : List ℕ) (b n : ℕ) → Prefixes patterns w n → Prefixes patterns (w ++ b ∷ []) n
-  Prefixes-more w b n f =
-      record { numbered = f.numbered; front = starts_with-more w (pattern_of patterns n) b f.front }
-
   -- a pattern that is a prefix with one more byte was a prefix before or is the whole
   pub Prefixes-cases : (w : List ℕ) (b n : ℕ) → Prefixes patterns (w ++ b ∷ []) n
       → Prefixes patterns w n ⊎ (pattern_of patterns n ≡ w ++ b ∷ [])
-  Prefixes-cases w b n f = elim (cases_Bool (starts_with nat_eq w (pattern_of patterns n))) [
-    | inl t ↦ inl (record { numbered = f.numbered; front = t })
-    | inr t ↦ inr (starts_with-whole w (pattern_of patterns n) b f.front t)
-  ]
+  Prefixes-cases w b n f = search (rules, cases_Bool, starts_with-whole)
 
   -- a pattern that is a prefix is no longer than the string
   pub Prefixes-length : (w : List ℕ) (n : ℕ) → Prefixes patterns w n → length (pattern_of patterns n) ≤ length w
@@ -95,51 +71,17 @@ module _ (patterns : List (List ℕ)) where
     -- what stands in w ends within it
     pub Stands-end : (w : List ℕ) (n s : ℕ) → Stands patterns anchored w n s
         → s + length (pattern_of patterns n) ≤ length w
-    Stands-end w n s h =
-        let l = Prefixes-length (drop s w) n h.prefixes in
-        let d = length-drop s w in
-        let i = h.within in
-        omega arith
-
-    -- what stands in w stands in w with one more byte
-    pub Stands-more : (w : List ℕ) (b n s : ℕ) → Stands patterns anchored w n s
-        → Stands patterns anchored (w ++ b ∷ []) n s
-    Stands-more w b n s h = record {
-      within = (let l = length_push w b in let i = h.within in omega arith);
-      prefixes = subst (λ (v : List ℕ). Prefixes patterns v n) (sym (drop-append-le s w (b ∷ []) h.within))
-          (Prefixes-more (drop s w) b n h.prefixes);
-      at_front = h.at_front;
-    }
-
-    -- what stands in it stood before, or ends with it
-    pub Stands-cases : (w : List ℕ) (b n s : ℕ) → Stands patterns anchored (w ++ b ∷ []) n s
-        → Stands patterns anchored w n s ⊎ (s + length (pattern_of patterns n) ≡ length (w ++ b ∷ []))
-    Stands-cases w b n s h = elim (cases_lt (length w) s) [
-      | inl past ↦ inr (let e = Stands-end (w ++ b ∷ []) n s h in let l = length_push w b in omega arith)
-      | inr in' ↦
-          inside in' (Prefixes-cases (drop s w) b n
-          (subst (λ (v : List ℕ). Prefixes patterns v n) (drop-append-le s w (b ∷ []) in') h.prefixes))
-    ]
-      where
-        inside : s ≤ length w → Prefixes patterns (drop s w) n ⊎ (pattern_of patterns n ≡ drop s w ++ b ∷ [])
-            → Stands patterns anchored w n s ⊎ (s + length (pattern_of patterns n) ≡ length (w ++ b ∷ []))
-        inside in' (inl f) = inl (record { within = in'; prefixes = f; at_front = h.at_front })
-        inside in' (inr whole) =
-            let e = ap length whole in
-            let l = length_push w b in let k = length_push (drop s w) b in let d = length-drop s w in
-            inr (omega arith)
+    Stands-end w n s h = grind (arith, common_steps)
 
   -- what stands in w stands one further on after one more byte, and the other way round
   pub Stands-behind : (x : ℕ) (w : List ℕ) (n s : ℕ) → Stands patterns No w n s
       → Stands patterns No (x ∷ w) n (suc s)
-  Stands-behind x w n s h =
-      record { within = (let i = h.within in omega arith); prefixes = h.prefixes; at_front = λ e. absurd (cc) }
+  Stands-behind x w n s h = grind (arith, common_steps)
 
   -- what stands after the first byte stands in the rest
   pub Stands-from_behind : (x : ℕ) (w : List ℕ) (n s : ℕ) → Stands patterns No (x ∷ w) n (suc s)
       → Stands patterns No w n s
-  Stands-from_behind x w n s h =
-      record { within = (let i = h.within in omega arith); prefixes = h.prefixes; at_front = λ e. absurd (cc) }
+  Stands-from_behind x w n s h = grind (arith, common_steps)
 
   -- a prefix stands at the front
   pub Stands-from_Prefixes : (anchored : Anchored) (w : List ℕ) (n : ℕ) → Prefixes patterns w n

@@ -1,7 +1,8 @@
 -- The stride is the least power of two that is not below the number of classes.
-use Rattle.std.proofs.Common.{◌≡◌, ℕ, zero, suc, ◌+◌, ◌<◌, ◌≤◌, ◌^◌, Bool, true, false, cond, List, inl, inr, refl, ap, ◌∙◌, Option, Some, arith, nat_le, find, unwrap_or}
+use Rattle.std.proofs.Common.{◌≡◌, ℕ, zero, suc, ◌+◌, ◌<◌, ◌≤◌, ◌^◌, Bool, true, false, cond, List, inl, inr, refl, ap, Option, Some, arith, nat_le, find, unwrap_or}
 use Rattle.std.specs.List.{range_with_len}
 use Rattle.std.proofs.lemmas.Bool.{cases_lt, leb-true, leb-false}
+use Rattle.std.proofs.lemmas.Grind.{common_steps}
 use Rattle.ac_util.specs.Classes.{alphabet_len, stride2, stride, AreClasses}
 use Rattle.ac_util.proofs.ClassLists.{alphabet_len-few}
 
@@ -15,28 +16,13 @@ record IsFirstFrom (p : ℕ → Bool) (low high k : ℕ) : Type 0 where
 first_or_later : (p : ℕ → Bool) (low high : ℕ) (later : Option ℕ) (t : Bool) → low ≤ high → p low ≡ t
     → IsFirstFrom p (low + 1) high (unwrap_or later high)
     → IsFirstFrom p low high (unwrap_or (cond t (Some low) later) high)
-first_or_later p low high later true order is first = record {
-  within = order;
-  passes = λ h. is;
-  none_before = λ j from below. absurd (omega arith);
-}
-first_or_later p low high later false order is first = record {
-  within = first.within;
-  passes = first.passes;
-  none_before = λ j from below. elim (cases_lt low j) [
-    | inl above ↦ first.none_before j (omega arith) below
-    | inr at ↦ ap p (let e : j ≡ low = omega arith in e) ∙ is
-  ];
-}
+first_or_later p low high later true order is first = grind (arith, common_steps)
+first_or_later p low high later false order is first = grind (arith, common_steps)
 
 -- what is found among numbers is the first of them that passes
 found-first : (p : ℕ → Bool) (n low high : ℕ) → low + n ≡ high
     → IsFirstFrom p low high (unwrap_or (find p (range_with_len low n)) high)
-found-first p zero low high e = record {
-  within = omega arith;
-  passes = λ h. absurd (omega arith);
-  none_before = λ j from below. absurd (omega arith);
-}
+found-first p zero low high e = grind (arith, common_steps)
 found-first p (suc n) low high e =
     first_or_later p low high (find p (range_with_len (low + 1) n)) (p low) (omega arith) refl
     (found-first p n (low + 1) high (omega arith))

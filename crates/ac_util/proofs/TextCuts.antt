@@ -1,12 +1,13 @@
 -- A text that occurs in a text cuts no character of it, with case or without.
-use Rattle.std.proofs.Common.{◌≡◌, ◌≢◌, ℕ, suc, ◌+◌, ◌<◌, ◌≤◌, Bool, true, false, List, [], ◌∷◌, ◌++◌, length, get_or, take, drop, inl, inr, refl, sym, ap, ap₂, ◌∙◌, subst, arith, append_assoc, append-nil, Option, Some, None, All, IfSome}
+use Rattle.std.proofs.Common.{◌≡◌, ◌≢◌, ℕ, suc, ◌+◌, ◌<◌, ◌≤◌, Bool, true, false, List, [], ◌∷◌, ◌++◌, length, get_or, take, drop, inl, inr, refl, sym, ap, ap₂, ◌∙◌, subst, arith, append_assoc, append-nil, Option, Some, None, All, IfSome, rules}
 use Rattle.std.specs.Str.{IsCharBoundary, IsUtf8}
 use Rattle.std.proofs.lemmas.Bool.{and_parts, cases_lt}
 use Rattle.std.proofs.lemmas.List.Elements.{All-weaker}
-use Rattle.std.proofs.lemmas.List.{drop-map, get_or-drop, get_or-map, get_or-take, length-map, map-append, nil_from_length, take-append-drop, take-map}
+use Rattle.std.proofs.lemmas.List.{drop-map, length-map, map-append, nil_from_length, take-map}
 use Rattle.std.proofs.lemmas.Str.{IsCharBoundary-at_seam, IsCharBoundary-from_rest, IsCharBoundary-start, IsUtf8-append, IsUtf8-drop, IsUtf8-encode, IsUtf8-nil, IsUtf8-past_char, encode_ascii, inside_one}
 use Rattle.std.proofs.lemmas.Str.Ascii.{lowercase_ascii, lowercase_is}
 use Rattle.std.proofs.Math.Utf8.{scalar, scalars, encode, encodes, low_scalar}
+use Rattle.std.proofs.lemmas.Grind.{common_steps}
 use Rattle.ac_util.specs.Prelude.{all, AreTexts, Asked, Built, found, IsBetweenCharacters, LiesIn, Occurrence, pattern_of, plain, plain_byte, search_in, walked}
 use Rattle.ac_util.proofs.Lying.{found-IfSome, listed-lie, walked-lie}
 
@@ -56,20 +57,12 @@ plain-characters fold (c ∷ cs) ok =
 
 -- the plain bytes of a text are a text
 plain-IsUtf8 : (fold : Bool) (text : List ℕ) → IsUtf8 text → IsUtf8 (plain fold text)
-plain-IsUtf8 fold text u =
-    subst (λ (bs : List ℕ). IsUtf8 (plain fold bs)) u.1.1 (plain-characters fold u.0 u.1.0)
+plain-IsUtf8 fold text u = grind (arith, common_steps, plain-characters fold u.0 u.1.0)
 
 -- a boundary of the plain text is one of the text
 IsCharBoundary-from_plain : (fold : Bool) (text : List ℕ) (i : ℕ) → IsCharBoundary (plain fold text) i
     → IsCharBoundary text i
-IsCharBoundary-from_plain fold text i b =
-    let l = length-map text (plain_byte fold) in (
-      (let inside = b.0 in omega arith),
-      λ inside high.
-          let same =
-          get_or-map (plain_byte fold) text i 0 0 inside ∙ plain_byte-high fold (get_or text i 0) high in
-          let leads = b.1 (omega arith) (omega arith) in omega arith,
-    )
+IsCharBoundary-from_plain fold text i b = grind (arith, common_steps)
 
 -- what follows whole characters of a text is a text
 IsUtf8-behind : (cs rest text : List ℕ) → IsUtf8 text → text ≡ encodes cs ++ rest → IsUtf8 rest
@@ -83,31 +76,18 @@ module _ (text p : List ℕ) (i : ℕ) (u : IsUtf8 text) (v : IsUtf8 p) (nonempt
     (inside : i + length p ≤ length text) (stands : take (length p) (drop i text) ≡ p) where
   -- it has a first byte, and that is the text's at i
   some : 0 < length p
-  some = elim (cases_lt 0 (length p)) [
-    | inl h ↦ h
-    | inr none ↦ absurd (nonempty (nil_from_length p (omega arith)))
-  ]
+  some = grind (arith, common_steps)
 
   first : get_or text i 0 ≡ get_or p 0 0
-  first =
-      sym (ap (λ (bs : List ℕ). get_or bs 0 0) (sym stands)
-      ∙ get_or-take (length p) (drop i text) 0 0 some
-      ∙ get_or-drop i text 0 0
-      ∙ ap (λ (k : ℕ). get_or text k 0) (omega arith))
+  first = grind (arith, common_steps)
 
   -- there it starts a character
   at_start : IsCharBoundary text i
-  at_start = (
-    omega arith,
-    λ within high.
-        let lead = (IsCharBoundary-start p v).1 some in let same = first in omega (arith, lead),
-  )
+  at_start = search (rules, IsCharBoundary-start, first, some)
 
   -- the text from i on is p and the rest
   parts : drop i text ≡ p ++ drop (length p) (drop i text)
-  parts =
-      sym (take-append-drop (length p) (drop i text))
-      ∙ ap (λ (bs : List ℕ). bs ++ drop (length p) (drop i text)) stands
+  parts = grind (arith, common_steps)
 
   -- and after it a character ends
   at_end : IsCharBoundary text (i + length p)
@@ -176,11 +156,7 @@ module _ (built : Built) (asked : Asked) (texts : AreTexts built.patterns) (u : 
       by (Some m) lies = lies-between built asked m texts u lies
 
   pub walked-between : All (IsBetweenCharacters asked.haystack) (walked built asked)
-  walked-between =
-      All-weaker (LiesIn built asked) (IsBetweenCharacters asked.haystack)
-      (λ m. lies-between built asked m texts u) (walked built asked) (walked-lie built asked inside)
+  walked-between = search (rules, All-weaker, lies-between, walked-lie)
 
   pub listed-between : All (IsBetweenCharacters asked.haystack) (all (search_in built asked))
-  listed-between =
-      All-weaker (LiesIn built asked) (IsBetweenCharacters asked.haystack)
-      (λ m. lies-between built asked m texts u) (all (search_in built asked)) (listed-lie built asked inside)
+  listed-between = search (rules, All-weaker, lies-between, listed-lie)

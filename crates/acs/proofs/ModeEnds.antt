@@ -1,6 +1,7 @@
 -- How modes end: a replacement in memory, and the modes on a stream.
-use Rattle.std.proofs.Common.{◌≡◌, ℕ, List, [], ap, sym, ◌∙◌, subst, refl, inl, inr, Bool, None, Some}
+use Rattle.std.proofs.Common.{◌≡◌, ℕ, List, [], ap, ◌∙◌, inl, inr, Bool, None, rules, arith}
 use Rattle.std.specs.Prelude.{MatchResult, Result, Ok, Err}
+use Rattle.std.proofs.lemmas.Grind.{common_steps}
 use Rattle.ac_util.specs.declared.device.WriteError.{WriteError}
 use Rattle.ac_util.specs.declared.device.WriteError.TheVariants.{Io as WriteFailed, WriteZero as WroteNothing}
 use Rattle.ac_util.specs.declared.error.StreamError.{StreamError}
@@ -29,10 +30,8 @@ use Rattle.acs.specs.Printed.{FailsToPrintStream, PrintsStream}
 write-fails : {old new : Writing} {bytes : List ℕ} {fault : Fault} (failure : WriteError)
     → fault ≡ stream_fault_of (error_of failure) → WritesUntilFailure old new bytes failure
     → FailsToWrite old new bytes fault
-write-fails (WriteFailed e) is fails =
-    record { some = fails.some; cause = inl (is, fails.cause.0, fails.cause.1) }
-write-fails WroteNothing is fails =
-    record { some = fails.some; cause = inr (is, fails.cause.0, fails.cause.1) }
+write-fails (WriteFailed e) is fails = grind (arith, common_steps)
+write-fails WroteNothing is fails = grind (arith, common_steps)
 
 module _ (built : Built) (texts : List (List ℕ)) (ends : Bool) (reader new_reader : Reading) (writer new_writer : Writing) where
   -- the replaced text of a haystack was written, or could not be
@@ -40,22 +39,15 @@ module _ (built : Built) (texts : List (List ℕ)) (ends : Bool) (reader new_rea
       → whole ≡ replaced haystack texts (exchanged built haystack) → ReadsAll ends reader new_reader haystack
       → MatchResult r (λ outcome. WritesAll writer new_writer whole × (outcome ≡ Found)) (FailsToWrite writer new_writer whole)
       → AnswersOrFails ends Replace built texts reader new_reader writer new_writer r
-  replaced-ends haystack whole (Ok outcome) is reads w =
-      record { served = refl; haystack = haystack; reads = reads; writes = rw (sym is) w.0; outcome_is = w.1 }
-  replaced-ends haystack whole (Err fault) is reads f =
-      inr (inr (record { served = refl; haystack = haystack; reads = reads; writes = rw (sym is) (inl f) }))
+  replaced-ends haystack whole (Ok outcome) is reads w = grind (arith, common_steps)
+  replaced-ends haystack whole (Err fault) is reads f = grind (arith, common_steps)
 
   -- the searcher refuses the mode, or memory was refused
   pub refused-first : (mode : Mode) (unchanged : Type 0) (e : StreamError) (fault : Fault) → fault ≡ stream_fault_of e
       → (unchanged → (new_reader ≡ reader) × (new_writer ≡ writer)) → IsStreamRefused (mode_refusal mode built) unchanged e
       → FailsAtFirst ends mode built texts reader new_reader writer new_writer fault
-  refused-first mode unchanged (Refused m) fault is same refusal = (
-    inl (rw refusal.0 (ap (λ (f : Fault). Some f) (sym is))),
-    (same refusal.1).0,
-    (same refusal.1).1,
-  )
-  refused-first mode unchanged NoBuffer fault is same refusal =
-      (inr is, (same refusal.1).0, (same refusal.1).1)
+  refused-first mode unchanged (Refused m) fault is same refusal = grind (arith, common_steps)
+  refused-first mode unchanged NoBuffer fault is same refusal = grind (arith, common_steps)
   refused-first mode unchanged (DeviceFailed e) fault is same refusal = absurd refusal
   refused-first mode unchanged TookNothing fault is same refusal = absurd refusal
   refused-first mode unchanged StreamTooLong fault is same refusal = absurd refusal
@@ -75,23 +67,8 @@ module _ (built : Built) (texts : List (List ℕ)) (ends : Bool) (reader new_rea
       → MatchResult r (PrintsStream ends begun.built reader new_reader writer new_writer)
       (FailsToPrintStream ends begun.built reader new_reader writer new_writer)
       → AnswersOrFails ends Stream built texts reader new_reader writer new_writer r
-  stream-printed begun (Ok outcome) served is prints =
-      let p = subst (λ (b : Built). PrintsStream ends b reader new_reader writer new_writer outcome)
-      (ap (λ (v : Streaming). v.built) is.1) prints in
-      record { served = served; haystack = p.bytes; reads = p.reads; writes = p.writes; outcome_is = p.outcome_is }
-  stream-printed begun (Err fault) served is fails =
-      let f = subst (λ (b : Built). FailsToPrintStream ends b reader new_reader writer new_writer fault)
-      (ap (λ (v : Streaming). v.built) is.1) fails in
-      inr (
-        served,
-        record {
-          bytes = f.bytes;
-          cause = elim f.cause [
-            | inl read ↦ inl (read.0, read.1, read.2, lines-settled is.0 built.kind f.bytes read.3)
-            | inr write ↦ inr write
-          ];
-        },
-      )
+  stream-printed begun (Ok outcome) served is prints = grind (arith, common_steps)
+  stream-printed begun (Err fault) served is fails = search (rules, lines-settled)
 
   -- the replaced text is written as far as the stream is settled
   settled-written : (kind : MatchKind) (bytes : List ℕ) → TextIsSettled built texts writer new_writer kind bytes

@@ -1,8 +1,9 @@
 -- The limits of the first words of pairs, tested pair by pair.
-use Rattle.std.proofs.Common.{◌≡◌, ℕ, ◌+◌, ◌-◌, ◌/◌, ◌<◌, ◌≤◌, Bool, true, false, cond, List, [], ◌∷◌, ◌++◌, length, take, ap, refl, sym, ◌∙◌, arith, Option, Some, None}
+use Rattle.std.proofs.Common.{◌≡◌, ℕ, ◌+◌, ◌-◌, ◌/◌, ◌<◌, ◌≤◌, Bool, true, false, cond, List, [], ◌∷◌, ◌++◌, length, take, ap, refl, sym, arith, Option, Some, None, rules}
 use Rattle.std.proofs.lemmas.Bool.{cond-false, cond-true, lt-ltb, le-ltb}
 use Rattle.std.specs.Prelude.{nat_lt, MatchOption, Result, Ok, Err}
 use Rattle.std.specs.Borrow.{Bor}
+use Rattle.std.proofs.lemmas.Grind.{common_steps}
 use Rattle.ac_util.specs.declared.error.BuildError.{BuildError}
 use Rattle.ac_util.specs.declared.error.BuildError.TheVariants.{PatternIdOverflow, PatternTooLong}
 use Rattle.ac_util.specs.declared.primitives.TheConstants.{GREATEST}
@@ -21,28 +22,17 @@ module _ (words : List (Bor (List ℕ))) where
   -- too many pairs are told as such
   pub limit_refusal-many : GREATEST + 1 < length words / 2 → limit_refusal (firsts (bytes_of words))
       ≡ Some (PatternIdOverflow GREATEST (length (firsts (bytes_of words)) - 1))
-  limit_refusal-many many =
-      let count = length-firsts words in
-      cond-true (nat_lt (GREATEST + 1) (length (firsts (bytes_of words)))) _ (too_long_from 0 (firsts (bytes_of words)))
-      (lt-ltb (GREATEST + 1) (length (firsts (bytes_of words))) (omega arith))
+  limit_refusal-many many = search (rules, cond-true, length-firsts, lt-ltb)
 
   -- of fewer it is told whether one is too long
   pub limit_refusal-few : length words / 2 ≤ GREATEST + 1
       → limit_refusal (firsts (bytes_of words)) ≡ too_long_from 0 (firsts (bytes_of words))
-  limit_refusal-few few =
-      let count = length-firsts words in
-      cond-false (nat_lt (GREATEST + 1) (length (firsts (bytes_of words)))) _ (too_long_from 0 (firsts (bytes_of words)))
-      (le-ltb (GREATEST + 1) (length (firsts (bytes_of words))) (omega arith))
+  limit_refusal-few few = search (rules, cond-false, le-ltb, length-firsts)
 
 -- whether a word is too long is the same in a list and alone, but for its number
 module _ (number : ℕ) (word : List ℕ) (words : List (List ℕ)) where
   pub too_long-next : limit_refusal (word ∷ []) ≡ None → too_long_from number (word ∷ words) ≡ too_long_from (number + 1) words
-  too_long-next none = by (nat_lt GREATEST (length word)) none
-    where
-      by : (t : Bool) → cond t (Some (PatternTooLong 0 (length word))) None ≡ None
-          → cond t (Some (PatternTooLong number (length word))) (too_long_from (number + 1) words) ≡ too_long_from (number + 1) words
-      by true e = absurd (cc)
-      by false e = refl
+  too_long-next none = grind (arith, common_steps)
 
   pub too_long-here : (e : BuildError) → limit_refusal (word ∷ []) ≡ Some e
       → (told : BuildError) × (too_long_from number (word ∷ words) ≡ Some told) × (fault_of e ≡ fault_of told)
@@ -62,9 +52,7 @@ pub first-short : (number : ℕ) (words pair later : List (Bor (List ℕ))) → 
     → too_long_from number (firsts (bytes_of words)) ≡ too_long_from (number + 1) (firsts (bytes_of later))
 first-short number words [] later parted two none = absurd (omega arith)
 first-short number words (first ∷ []) later parted two none = absurd (omega arith)
-first-short number words (first ∷ second ∷ []) later parted two none =
-    ap (λ (ws : List (Bor (List ℕ))). too_long_from number (firsts (bytes_of ws))) parted
-    ∙ too_long-next number first.now (firsts (bytes_of later)) none
+first-short number words (first ∷ second ∷ []) later parted two none = grind (arith, common_steps)
 first-short number words (first ∷ second ∷ third ∷ pair) later parted two none = absurd (omega arith)
 
 -- it is too long, and the list is refused by a fault that is told alike
@@ -75,11 +63,7 @@ pub first-long : (number : ℕ) (words pair later : List (Bor (List ℕ))) (e : 
 first-long number words [] later e parted two some = absurd (omega arith)
 first-long number words (first ∷ []) later e parted two some = absurd (omega arith)
 first-long number words (first ∷ second ∷ []) later e parted two some =
-    let here = too_long-here number first.now (firsts (bytes_of later)) e some in (
-      here.0,
-      ap (λ (ws : List (Bor (List ℕ))). too_long_from number (firsts (bytes_of ws))) parted ∙ here.1,
-      here.2,
-    )
+    grind (arith, common_steps, too_long-here number first.now (firsts (bytes_of later)) e some)
 first-long number words (first ∷ second ∷ third ∷ pair) later e parted two some = absurd (omega arith)
 
 -- a word alone is no pair

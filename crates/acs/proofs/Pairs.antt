@@ -1,7 +1,8 @@
 -- Words in pairs: how the first of them, and the second, are gathered pair by pair.
-use Rattle.std.proofs.Common.{◌≡◌, ℕ, suc, List, [], ◌∷◌, ◌++◌, length, get_or, ap, refl, sym, ◌∙◌, arith}
-use Rattle.std.proofs.lemmas.List.{append_assoc, length-map, map-append}
+use Rattle.std.proofs.Common.{◌≡◌, ℕ, suc, List, [], ◌∷◌, ◌++◌, length, get_or, ap, refl, arith, rules}
+use Rattle.std.proofs.lemmas.List.{length-map}
 use Rattle.std.specs.Borrow.{Bor}
+use Rattle.std.proofs.lemmas.Grind.{common_steps}
 use Rattle.ac_util.specs.Borrowed.{bytes_of}
 use Rattle.acs.specs.Requests.{firsts, seconds}
 
@@ -17,24 +18,15 @@ pub firsts-pair : (words pair later : List (Bor (List ℕ))) (none : Bor (List �
     → firsts (bytes_of words) ≡ text ∷ firsts (bytes_of later)
 firsts-pair words [] later none text parted two is = absurd (omega arith)
 firsts-pair words (first ∷ []) later none text parted two is = absurd (omega arith)
-firsts-pair words (first ∷ second ∷ []) later none text parted two is =
-    ap (λ (ws : List (Bor (List ℕ))). firsts (bytes_of ws)) parted
-    ∙ ap (λ (t : List ℕ). t ∷ firsts (bytes_of later)) (sym is)
+firsts-pair words (first ∷ second ∷ []) later none text parted two is = grind (arith, common_steps)
 firsts-pair words (first ∷ second ∷ third ∷ pair) later none text parted two is = absurd (omega arith)
 
 -- one more word is gathered of all that there are
 pub gathered-more : (old new : List (Bor (List ℕ))) (word : Bor (List ℕ)) (rest later all : List (List ℕ))
     → new ≡ old ++ word ∷ [] → rest ≡ word.now ∷ later → bytes_of old ++ rest ≡ all → bytes_of new ++ later ≡ all
-gathered-more old new word rest later all is first so_far =
-    ap (λ (ws : List (Bor (List ℕ))). bytes_of ws ++ later) is
-    ∙ ap (λ (xs : List (List ℕ)). xs ++ later) (map-append (λ (w : Bor (List ℕ)). w.now) old (word ∷ []))
-    ∙ append_assoc (bytes_of old) (word.now ∷ []) later
-    ∙ ap (λ (xs : List (List ℕ)). bytes_of old ++ xs) (sym first)
-    ∙ so_far
+gathered-more old new word rest later all is first so_far = grind (arith, common_steps)
 
 -- there is a text for each pattern
 pub texts-fit : (words over : List (List ℕ)) (texts : List (Bor (List ℕ))) → bytes_of texts ≡ seconds words
     → over ≡ firsts words → length texts ≡ length over
-texts-fit words over texts are is =
-    sym (length-map texts (λ (t : Bor (List ℕ)). t.now)) ∙ ap (λ (ts : List (List ℕ)). length ts) are
-    ∙ length-seconds words ∙ ap (λ (ps : List (List ℕ)). length ps) (sym is)
+texts-fit words over texts are is = search (rules, length-map, length-seconds)

@@ -1,11 +1,11 @@
 -- Printing matches, line by line.
-use Rattle.std.proofs.Common.{◌≡◌, ◌+◌, ◌<◌, ℕ, List, [], ◌∷◌, ◌++◌, length, length-append, take, drop, ap, sym, refl, ◌∙◌, subst, arith, inl, inr}
-use Rattle.std.specs.Prelude.{codes, decimal, MatchResult, Result, Ok, Err}
+use Rattle.std.proofs.Common.{◌≡◌, ◌<◌, ℕ, List, [], ◌∷◌, ◌++◌, length, length-append, take, drop, ap, sym, refl, ◌∙◌, arith, inl, inr, rules}
+use Rattle.std.specs.Prelude.{MatchResult, Result, Ok, Err}
 use Rattle.std.specs.Io.{StartsWith}
-use Rattle.std.specs.Io.KnownBytes.{Appends}
 use Rattle.std.proofs.lemmas.List.{append-nil, append_assoc, take-append-drop}
 use Rattle.std.proofs.Math.Seq.{take-append_seam}
 use Rattle.std.proofs.KnownBytes.{Appends-nil, Appends-trans}
+use Rattle.std.proofs.lemmas.Grind.{common_steps}
 use Rattle.ac_util.specs.Device.{Writing, WritesAll}
 use Rattle.ac_util.specs.Occurrence.{Occurrence}
 use Rattle.acs.specs.declared.fault.Fault.{Fault}
@@ -16,28 +16,13 @@ use Rattle.acs.specs.Lines.{line, lines, outcome_of}
 use Rattle.acs.specs.Printed.{IsPrinting}
 use Rattle.acs.specs.Modes.{FailsToPrint, FailsToWrite}
 
--- the lines of two lists one after the other
-lines-append : (xs ys : List Occurrence) → lines (xs ++ ys) ≡ lines xs ++ lines ys
-lines-append [] ys = refl
-lines-append (x ∷ xs) ys =
-    ap (λ (w : List ℕ). line x ++ w) (lines-append xs ys) ∙ sym (append_assoc (line x) (lines xs) (lines ys))
-
--- after the line of one more match there is a line
-found-more : (xs : List Occurrence) (m : Occurrence) → outcome_of (xs ++ m ∷ []) ≡ Found
-found-more [] m = refl
-found-more (x ∷ xs) m = refl
-
 -- a part with a rest after it is a beginning
 starts-from : (all part rest : List ℕ) → all ≡ part ++ rest → StartsWith all part
 starts-from all part rest e = ap (take (length part)) e ∙ take-append_seam part rest
 
 -- a line isn't empty
 pub line-some : (m : Occurrence) → 0 < length (line m)
-line-some m =
-    let front = decimal m.pattern ++ codes " " ++ decimal m.start ++ codes " " ++ decimal m.end in
-    let whole : length (line m) ≡ length front + length (codes "\n") = length-append front (codes "\n") in
-    let one : length (codes "\n") ≡ 1 = refl in
-    omega arith
+line-some m = grind (arith, common_steps)
 
 -- nothing is printed yet
 pub printing-begins : (all : List Occurrence) (old : Writing) → IsPrinting all all old old [] Nothing
@@ -57,76 +42,25 @@ module _ (all rest : List Occurrence) (old new : Writing) (text : List ℕ) (out
   -- the line of the next match is added to the text
   pub printing-adds : (m : Occurrence) (later : List Occurrence) → rest ≡ m ∷ later
       → IsPrinting all later old new (text ++ line m) Found
-  printing-adds m later e = record {
-    done = h.done ++ m ∷ [];
-    parted =
-        append_assoc h.done (m ∷ []) later ∙ ap (λ (ms : List Occurrence). h.done ++ ms) (sym e) ∙ h.parted;
-    out = h.out;
-    moved = h.moved;
-    written =
-        sym (append_assoc h.out text (line m)) ∙ ap (λ (w : List ℕ). w ++ line m) h.written
-        ∙ ap (λ (w : List ℕ). lines h.done ++ w) (sym (append-nil (line m)))
-        ∙ sym (lines-append h.done (m ∷ []));
-    failed = h.failed;
-    idles = h.idles;
-    outcome_is = sym (found-more h.done m);
-  }
+  printing-adds m later e = grind (arith, common_steps, append_assoc h.done (m ∷ []) later, append_assoc h.out text (line m))
 
   -- the text is written
   pub printing-writes : (later : Writing) → WritesAll new later text → IsPrinting all rest old later [] outcome
-  printing-writes later w = record {
-    done = h.done;
-    parted = h.parted;
-    out = h.out ++ text;
-    moved = Appends-trans old.written new.written later.written h.out text h.moved w.moved;
-    written = append-nil (h.out ++ text) ∙ h.written;
-    failed = w.failed ∙ h.failed;
-    idles = w.idles ∙ h.idles;
-    outcome_is = h.outcome_is;
-  }
+  printing-writes later w = search (rules, Appends-trans, append-nil)
 
   -- the lines are what is written, the text, and the lines of the rest
   all-lines : lines all ≡ h.out ++ (text ++ lines rest)
-  all-lines =
-      ap lines (sym h.parted) ∙ lines-append h.done rest
-      ∙ ap (λ (w : List ℕ). w ++ lines rest) (sym h.written) ∙ append_assoc h.out text (lines rest)
+  all-lines = grind (arith, common_steps)
 
   -- with the last text all is written
   pub printing-ends : (later : Writing) → rest ≡ [] → WritesAll new later text
       → WritesAll old later (lines all) × (outcome ≡ outcome_of all)
-  printing-ends later e w =
-      let whole : h.done ≡ all =
-      sym (append-nil h.done) ∙ ap (λ (ms : List Occurrence). h.done ++ ms) (sym e) ∙ h.parted in
-      let bytes : lines all ≡ h.out ++ text = ap lines (sym whole) ∙ sym h.written in (
-        record {
-          moved = subst (Appends old.written later.written) (sym bytes)
-              (Appends-trans old.written new.written later.written h.out text h.moved w.moved);
-          failed = w.failed ∙ h.failed;
-          idles = w.idles ∙ h.idles;
-        },
-        h.outcome_is ∙ ap outcome_of whole,
-      )
+  printing-ends later e w = grind (arith, common_steps)
 
   -- for want of memory for the next line it ends with what is written
   pub printing-wants : (m : Occurrence) (later : List Occurrence) → rest ≡ m ∷ later
       → FailsToPrint old new (lines all) Memory
-  printing-wants m later e = inr (
-    refl,
-    record {
-      part = h.out;
-      begins = starts-from (lines all) h.out (text ++ lines rest) all-lines;
-      left_out =
-          (let whole = ap length all-lines in
-          let a = length-append h.out (text ++ lines rest) in
-          let b = length-append text (lines rest) in
-          let c = ap (λ (ms : List Occurrence). length (lines ms)) e in
-          let d = length-append (line m) (lines later) in
-          let some = line-some m in omega arith);
-      moved = h.moved;
-    },
-    h.failed,
-    h.idles,
-  )
+  printing-wants m later e = grind (arith, common_steps)
 
   -- a write fails that has taken a part of the text
   pub printing-fails : (later : Writing) (fault : Fault) → FailsToWrite new later text fault

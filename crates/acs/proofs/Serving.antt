@@ -1,17 +1,17 @@
 -- A request whose searcher is built: by the answer of its mode the run ends.
-use Rattle.std.proofs.Common.{◌≡◌, ℕ, List, Bool, ap, sym, ◌∙◌, subst, inr}
+use Rattle.std.proofs.Common.{◌≡◌, ℕ, List, Bool, arith}
 use Rattle.std.specs.Prelude.{Result, Ok, Err, MatchResult}
 use Rattle.std.specs.Borrow.{Bor}
+use Rattle.std.proofs.lemmas.Grind.{common_steps}
 use Rattle.ac_util.specs.Borrowed.{bytes_of}
 use Rattle.ac_util.specs.Built.{Built}
 use Rattle.ac_util.specs.Device.{Reading, Writing}
-use Rattle.ac_search.specs.Builds.{IsAllowed}
-use Rattle.ac_search.specs.Searchers.{IsBuilt, Searcher, built_by, engine_refusal}
+use Rattle.ac_search.specs.Searchers.{IsBuilt, Searcher}
 use Rattle.acs.specs.declared.fault.Fault.{Fault}
 use Rattle.acs.specs.declared.request.Mode.{Mode}
 use Rattle.acs.specs.declared.request.Request.{Request}
 use Rattle.acs.specs.declared.run.Outcome.{Outcome}
-use Rattle.acs.specs.Modes.{Answers, AnswersOrFails, FailsToAnswer}
+use Rattle.acs.specs.Modes.{AnswersOrFails}
 use Rattle.acs.specs.Requests.{built_for, patterns_in, settings_of, texts_in}
 use Rattle.acs.specs.Runs.{HasFailed, HasRun, IsServable}
 
@@ -24,11 +24,7 @@ pub record IsServing (request : Request) (words : List (List ℕ)) (mode : Mode)
 pub serves : {request : Request} {words : List (List ℕ)} {mode : Mode} {searcher : Searcher} (patterns : List (Bor (List ℕ)))
     → request.mode ≡ mode → bytes_of patterns ≡ patterns_in request.mode words
     → IsBuilt (settings_of request) (bytes_of patterns) searcher → IsServing request words mode searcher.built
-serves {request} patterns mode_is are made = record {
-  mode_is = mode_is;
-  allowed = subst (λ (ps : List (List ℕ)). IsAllowed (engine_refusal (settings_of request) ps) ps) are made.allowed;
-  built_is = made.built ∙ ap (λ (ps : List (List ℕ)). built_by (settings_of request) ps) are;
-}
+serves {request} patterns mode_is are made = grind (arith, common_steps)
 
 module _ {request : Request} {words : List (List ℕ)} {mode : Mode} {built : Built} (h : IsServing request words mode built)
     (ends : Bool) (reader new_reader : Reading) (writer new_writer : Writing) where
@@ -37,17 +33,5 @@ module _ {request : Request} {words : List (List ℕ)} {mode : Mode} {built : Bu
       → AnswersOrFails ends mode built (texts_in mode words) reader new_reader writer new_writer r
       → MatchResult r (HasRun ends request words reader new_reader writer new_writer)
       (HasFailed ends request words reader new_reader writer new_writer)
-  run-by (Ok outcome) answers = (
-    h.allowed,
-    subst (λ (b : Built). Answers ends request.mode b (texts_in request.mode words) reader new_reader writer new_writer outcome)
-        h.built_is
-        (subst (λ (m : Mode). Answers ends m built (texts_in m words) reader new_reader writer new_writer outcome)
-        (sym h.mode_is) answers),
-  )
-  run-by (Err fault) fails = inr (
-    h.allowed,
-    subst (λ (b : Built). FailsToAnswer ends request.mode b (texts_in request.mode words) reader new_reader writer new_writer fault)
-        h.built_is
-        (subst (λ (m : Mode). FailsToAnswer ends m built (texts_in m words) reader new_reader writer new_writer fault)
-        (sym h.mode_is) fails),
-  )
+  run-by (Ok outcome) answers = grind (arith, common_steps)
+  run-by (Err fault) fails = grind (arith, common_steps)

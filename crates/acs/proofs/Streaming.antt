@@ -1,8 +1,7 @@
 -- Printing the matches of a stream while it is read.
-use Rattle.std.proofs.Common.{◌≡◌, ◌⊎◌, ◌<◌, ◌≤◌, ◌-◌, ℕ, List, [], ◌∷◌, ◌++◌, length, drop, take, ap, sym, refl, ◌∙◌, subst, arith, inl, inr, Bool}
-use Rattle.std.specs.Io.KnownBytes.{Appends}
-use Rattle.std.proofs.lemmas.List.{append-nil, append_cancel_right, take-append-drop, take_all}
+use Rattle.std.proofs.Common.{◌≡◌, ◌⊎◌, ◌<◌, ◌≤◌, ◌-◌, ℕ, List, [], ◌∷◌, ◌++◌, length, drop, take, ap, sym, ◌∙◌, subst, arith, inl, inr, Bool, rules}
 use Rattle.std.proofs.KnownBytes.{Consumes-nil}
+use Rattle.std.proofs.lemmas.Grind.{common_steps}
 use Rattle.ac_util.specs.declared.error.StreamError.{StreamError}
 use Rattle.ac_util.specs.declared.search.MatchKind.{MatchKind}
 use Rattle.ac_util.specs.declared.search.MatchKind.TheVariants.{LeftmostFirst, LeftmostLongest, Standard}
@@ -30,73 +29,19 @@ use Rattle.acs.proofs.Printing.{printing-begins, printing-writes}
 printing-longer : (n : ℕ) (all others : List Occurrence) {old new : Writing} {text : List ℕ} {outcome : Outcome}
     → take n others ≡ take n all → IsPrinting all (drop n all) old new text outcome
     → IsPrinting others (drop n others) old new text outcome
-printing-longer n all others same h = record {
-  done = h.done;
-  parted =
-      ap (λ (ms : List Occurrence). ms ++ drop n others)
-      (append_cancel_right h.done (take n all) (drop n all) (h.parted ∙ sym (take-append-drop n all)) ∙ sym same)
-      ∙ take-append-drop n others;
-  out = h.out;
-  moved = h.moved;
-  written = h.written;
-  failed = h.failed;
-  idles = h.idles;
-  outcome_is = h.outcome_is;
-}
-
--- with no text left the lines of all matches but the rest are written
-printed-so-far : (n : ℕ) (all : List Occurrence) {old new : Writing} {outcome : Outcome}
-    → IsPrinting all (drop n all) old new [] outcome
-    → WritesAll old new (lines (take n all)) × (outcome ≡ outcome_of (take n all))
-printed-so-far n all {old} {new} {outcome} h =
-    let done : h.done ≡ take n all = append_cancel_right h.done (take n all) (drop n all)
-    (h.parted ∙ sym (take-append-drop n all)) in (
-      record {
-        moved = subst (Appends old.written new.written)
-            (sym (append-nil h.out) ∙ h.written ∙ ap lines done) h.moved;
-        failed = h.failed;
-        idles = h.idles;
-      },
-      h.outcome_is ∙ ap outcome_of done,
-    )
+printing-longer n all others same h = grind (arith, common_steps)
 
 -- of the bytes read so far the next match is given
 pub read-printing : {v w : Streaming} {m : Occurrence} {old new : Writing} {text : List ℕ} {outcome : Outcome}
     → GivesMatch v m w → PrintsSoFar v old new text outcome
     → IsPrinting (matches_so_far w) (m ∷ drop w.given (matches_so_far w)) old new text outcome
-read-printing {v} {w} {m} {old} {new} {text} {outcome} gives h =
-    subst (λ (u : Streaming). IsPrinting (matches_so_far u) (m ∷ drop u.given (matches_so_far u)) old new text outcome)
-    (sym gives.same)
-    (subst (λ (rest : List Occurrence). IsPrinting (matches_so_far v) rest old new text outcome)
-    (drop-slice_get (matches_so_far v) v.given m gives.next) h)
+read-printing {v} {w} {m} {old} {new} {text} {outcome} gives h = search (rules, drop-slice_get)
 
 -- all of them that are settled were given, and the text is written
 pub read-printed : {v w first : Streaming} {old new later : Writing} {text left : List ℕ}
     → v ≡ record first { given = v.given; kept = v.kept } → first.given ≤ v.given → HasGivenSettled v w
     → PrintsSoFar v old new text Found → WritesAll new later text → left ≡ [] → HasPrintedRead first w old later left Found
-read-printed {v} {w} {first} {old} {new} {later} {text} same onward all h writes none = record {
-  same = all.same ∙ ap (λ (u : Streaming). record u { kept = w.kept }) same
-      ∙ ap (λ (n : ℕ). record first { given = n; kept = w.kept }) (sym (ap (λ (u : Streaming). u.given) all.same));
-  onward = (let e = ap (λ (u : Streaming). u.given) all.same in omega arith);
-  nothing = none;
-  printing =
-      subst (λ (u : Streaming). PrintsSoFar u old later [] Found) (sym all.same)
-      (printing-writes (matches_so_far v) (drop v.given (matches_so_far v)) old new text Found h later writes);
-}
-
--- what was read up to a call, and what the call has read
-reads-further : (ends : Bool) (mid last : Phase) (reader now later : Reading) (bytes more : List ℕ)
-    → GoesOnBy ends Open mid reader now bytes → GoesOnBy ends mid last now later more
-    → GoesOnBy ends Open last reader later (bytes ++ more)
-reads-further ends Open Open reader now later bytes more so_far further = reads-on so_far further
-reads-further ends Open Ended reader now later bytes more so_far further = reads-out so_far further
-reads-further ends Open Failed reader now later bytes more so_far further = absurd further
-reads-further ends Ended Ended reader now later bytes more so_far further =
-    subst (λ (r : Reading). ReadsAll ends reader r (bytes ++ more)) (sym further.1)
-    (subst (ReadsAll ends reader now) (sym (append-nil bytes) ∙ ap (λ (w : List ℕ). bytes ++ w) (sym further.0)) so_far)
-reads-further ends Ended Open reader now later bytes more so_far further = absurd further
-reads-further ends Ended Failed reader now later bytes more so_far further = absurd further
-reads-further ends Failed last reader now later bytes more so_far further = absurd so_far
+read-printed {v} {w} {first} {old} {new} {later} {text} same onward all h writes none = search (rules, printing-writes)
 
 -- so some bytes came, or all of them
 reads-either : (ends : Bool) (phase : Phase) (reader now : Reading) (bytes : List ℕ) → GoesOnBy ends Open phase reader now bytes
@@ -116,15 +61,7 @@ pub record IsPrintingStream (ends : Bool) (built : Built) (v : Streaming) (reade
 -- at first none was given
 pub print-begins : (ends : Bool) (v : Streaming) (reader : Reading) (writer : Writing) → v ≡ stream_begun v.built
     → IsPrintingStream ends v.built v reader reader writer writer [] Nothing
-print-begins ends v reader writer begun = record {
-  built_is = refl;
-  reads = subst (λ (w : Streaming). GoesOnBy ends Open w.phase reader reader w.bytes) (sym begun)
-      (record { moved = Consumes-nil reader.left; failed = refl; empties = refl });
-  nothing = refl;
-  printing =
-      subst (λ (n : ℕ). IsPrinting (matches_so_far v) (drop n (matches_so_far v)) writer writer [] Nothing)
-      (sym (ap (λ (w : Streaming). w.given) begun)) (printing-begins (matches_so_far v) writer);
-}
+print-begins ends v reader writer begun = search (rules, Consumes-nil, printing-begins)
 
 module _ {ends : Bool} {built : Built} {v : Streaming} {reader new_reader : Reading} {writer new_writer : Writing}
     {text : List ℕ} {outcome : Outcome}
@@ -134,31 +71,18 @@ module _ {ends : Bool} {built : Built} {v : Streaming} {reader new_reader : Read
       → IsPrinting (streamed v.built bytes) (drop v.given (streamed v.built bytes)) writer new_writer [] outcome
   longer bytes keeps = printing-longer v.given (matches_so_far v) (streamed v.built bytes) keeps h.printing
 
-  -- these are the lines of the matches that were given
-  given-written : (bytes : List ℕ) → KeepsGiven v bytes
-      → WritesAll writer new_writer (lines (take v.given (streamed built bytes)))
-      × (outcome ≡ outcome_of (take v.given (streamed built bytes)))
-  given-written bytes keeps =
-      subst (λ (b : Built). WritesAll writer new_writer (lines (take v.given (streamed b bytes)))
-      × (outcome ≡ outcome_of (take v.given (streamed b bytes)))) h.built_is
-      (printed-so-far v.given (streamed v.built bytes) (longer bytes keeps))
-
   -- and of all of them where all were given
   all-written : (bytes : List ℕ) → KeepsGiven v bytes → v.given ≡ length (streamed built bytes)
       → WritesAll writer new_writer (lines (streamed built bytes)) × (outcome ≡ outcome_of (streamed built bytes))
-  all-written bytes keeps all =
-      subst (λ (ms : List Occurrence). WritesAll writer new_writer (lines ms) × (outcome ≡ outcome_of ms))
-      (take_all v.given (streamed built bytes) (omega arith)) (given-written bytes keeps)
+  all-written bytes keeps all = grind (arith, common_steps)
 
   -- what is settled is written
   settled-written : (bytes : List ℕ) (place : ℕ) → KeepsGiven v bytes → IsNear built bytes place
       → (kind : MatchKind) → IsSettledBy kind built bytes v.given place
       → WritesSettled kind Stream built [] bytes writer new_writer
   settled-written bytes place keeps near Standard settled = (all-written bytes keeps settled.0).0
-  settled-written bytes place keeps near LeftmostFirst settled =
-      (v.given, place, settled, near, (given-written bytes keeps).0)
-  settled-written bytes place keeps near LeftmostLongest settled =
-      (v.given, place, settled, near, (given-written bytes keeps).0)
+  settled-written bytes place keeps near LeftmostFirst settled = grind (arith, common_steps)
+  settled-written bytes place keeps near LeftmostLongest settled = grind (arith, common_steps)
 
   -- a read has failed, or brought more than usize counts
   pub read-stops : {later : Reading} {e : StreamError} {w : Streaming} {fault : Fault}
@@ -184,24 +108,11 @@ module _ {ends : Bool} {built : Built} {v : Streaming} {reader new_reader : Read
   -- the end was met
   ends-there : {later : Reading} {w : Streaming} → EndsNow ends v w new_reader later
       → PrintsStream ends built reader later writer new_writer outcome
-  ends-there {later} gives =
-      let all = subst (λ (b : Built). v.given ≡ length (streamed b (v.bytes ++ gives.more))) h.built_is gives.all in
-      record {
-        bytes = v.bytes ++ gives.more;
-        reads = reads-further ends v.phase Ended reader new_reader later v.bytes gives.more h.reads gives.reads;
-        writes = (all-written (v.bytes ++ gives.more) gives.given all).0;
-        outcome_is = (all-written (v.bytes ++ gives.more) gives.given all).1;
-      }
+  ends-there {later} gives = grind (arith, common_steps)
 
   pub stream-ends : (later : Reading) (w : Streaming) → GivesNone v.phase ends v w new_reader later
       → PrintsStream ends built reader later writer new_writer outcome
-  stream-ends later w none = by v.phase h.reads none
-    where
-      by : (p : Phase) → GoesOnBy ends Open p reader new_reader v.bytes → GivesNone p ends v w new_reader later
-          → PrintsStream ends built reader later writer new_writer outcome
-      by Open reads gives = ends-there gives
-      by Ended reads gives = ends-there gives
-      by Failed reads gives = absurd reads
+  stream-ends later w none = grind (arith, common_steps)
 
   module _ {later : Reading} {m : Occurrence} {w : Streaming} (gives : GivesNextMatch ends v m w new_reader later) where
     -- the next match is the first one whose line isn't written
@@ -214,9 +125,7 @@ module _ {ends : Bool} {built : Built} {v : Streaming} {reader new_reader : Read
         (drop-slice_get (streamed v.built (v.bytes ++ gives.more)) v.given m gives.next) (longer (v.bytes ++ gives.more) gives.given)))
 
     next-reads : GoesOnBy ends Open w.phase reader later w.bytes
-    next-reads =
-        subst (GoesOnBy ends Open w.phase reader later) (sym (ap (λ (u : Streaming). u.bytes) gives.same))
-        (reads-further ends v.phase w.phase reader new_reader later v.bytes gives.more h.reads gives.reads)
+    next-reads = grind (arith, common_steps)
 
     next-built : w.built ≡ built
     next-built = ap (λ (u : Streaming). u.built) gives.same ∙ h.built_is
@@ -224,28 +133,14 @@ module _ {ends : Bool} {built : Built} {v : Streaming} {reader new_reader : Read
     -- a line couldn't be written
     pub print-stops : {new : Writing} {fault : Fault} → FailsToPrint writer new (lines (matches_so_far w)) fault
         → FailsToPrintStream ends built reader later writer new fault
-    print-stops {new} {fault} fails = record {
-      bytes = w.bytes;
-      cause = inr (
-        reads-either ends w.phase reader later w.bytes next-reads,
-        subst (λ (b : Built). FailsToPrint writer new (lines (streamed b w.bytes)) fault) next-built fails,
-      );
-    }
+    print-stops {new} {fault} fails = search (rules, next-built, next-reads, reads-either)
 
     -- the lines of all matches so far were written
     pub printed-more : {x : Streaming} {new : Writing} {left : List ℕ} → HasPrintedRead w x writer new left Found
         → IsPrintingStream ends built x reader later writer new left Found
-    printed-more {x} {new} printed = record {
-      built_is = ap (λ (u : Streaming). u.built) printed.same ∙ next-built;
-      reads = subst (λ (u : Streaming). GoesOnBy ends Open u.phase reader later u.bytes) (sym printed.same) next-reads;
-      nothing = printed.nothing;
-      printing = printed.printing;
-    }
+    printed-more {x} {new} printed = grind (arith, common_steps)
 
     -- fewer matches than usize counts may follow
     pub given-more : {x : Streaming} {new : Writing} {left : List ℕ} → HasPrintedRead w x writer new left Found
         → 18446744073709551615 - x.given < 18446744073709551615 - v.given
-    given-more printed = (
-        let one = ap (λ (u : Streaming). u.given) gives.same in
-        let counted = gives.counted in
-        let onward = printed.onward in omega arith)
+    given-more printed = grind (arith, common_steps)

@@ -1,6 +1,7 @@
-use Rattle.std.proofs.Common.{◌≤◌, length, arith}
+use Rattle.std.proofs.Common.{arith, rules}
 use Rattle.std.proofs.lemmas.List.Elements.{All-weaker, recursion_from_All}
-use Rattle.ac_automaton.specs.Util.{all, asked, LiesIn, search_in, walked}
+use Rattle.std.proofs.lemmas.Grind.{common_steps}
+use Rattle.ac_automaton.specs.Util.{asked}
 use Rattle.ac_util.proofs.Lying.{found-IfSome, walked-lie, length-walked, listed-lie}
 use Rattle.ac_search.proofs.laws.answers_lie_inside.Goals as goal
 
@@ -8,34 +9,16 @@ pub returns-clause-find : goal.returns-clause-find
 returns-clause-find g c = found-IfSome c.args.searcher.now.built (asked c.args.input) (omega arith)
 
 pub returns-clause-walk : goal.returns-clause-walk
-returns-clause-walk g c =
-    recursion_from_All (LiesIn c.args.searcher.now.built (asked c.args.input))
-    (walked c.args.searcher.now.built (asked c.args.input))
-    (walked-lie c.args.searcher.now.built (asked c.args.input) (omega arith))
+returns-clause-walk g c = search (rules, recursion_from_All, walked-lie)
 
 pub returns-clause-ends : goal.returns-clause-ends
-returns-clause-ends g c =
-    recursion_from_All (λ m. m.end ≤ length c.args.input.haystack.now)
-    (walked c.args.searcher.now.built (asked c.args.input))
-    (All-weaker (LiesIn c.args.searcher.now.built (asked c.args.input))
-    (λ m. m.end ≤ length c.args.input.haystack.now) (λ m lies. lies.in_haystack)
-    (walked c.args.searcher.now.built (asked c.args.input))
-    (walked-lie c.args.searcher.now.built (asked c.args.input) (omega arith)))
+returns-clause-ends g c = grind (arith, common_steps, recursion_from_All, All-weaker, walked-lie c.args.searcher.now.built (asked c.args.input) (omega arith))
 
 pub returns-clause-few : goal.returns-clause-few
 returns-clause-few g c = length-walked c.args.searcher.now.built (asked c.args.input)
 
 pub returns-clause-listing : goal.returns-clause-listing
-returns-clause-listing g c =
-    recursion_from_All (LiesIn c.args.searcher.now.built (asked c.args.input))
-    (all (search_in c.args.searcher.now.built (asked c.args.input)))
-    (listed-lie c.args.searcher.now.built (asked c.args.input) (omega arith))
+returns-clause-listing g c = search (rules, listed-lie, recursion_from_All)
 
 pub returns-clause-listing_ends : goal.returns-clause-listing_ends
-returns-clause-listing_ends g c =
-    recursion_from_All (λ m. m.end ≤ length c.args.input.haystack.now)
-    (all (search_in c.args.searcher.now.built (asked c.args.input)))
-    (All-weaker (LiesIn c.args.searcher.now.built (asked c.args.input))
-    (λ m. m.end ≤ length c.args.input.haystack.now) (λ m lies. lies.in_haystack)
-    (all (search_in c.args.searcher.now.built (asked c.args.input)))
-    (listed-lie c.args.searcher.now.built (asked c.args.input) (omega arith)))
+returns-clause-listing_ends g c = grind (arith, common_steps, recursion_from_All, All-weaker, listed-lie c.args.searcher.now.built (asked c.args.input) (omega arith))

@@ -1,6 +1,7 @@
-use Rattle.std.proofs.Common.{get_or, [], Bool, ◌||◌, ◌∙◌, ap, sym, arith}
+use Rattle.std.proofs.Common.{[], ◌∙◌, ap, sym, arith}
 use Rattle.std.proofs.lemmas.List.Folds.{list_any_at, list_any_more}
 use Rattle.std.proofs.lemmas.Option.{get_or_from_slice_get}
+use Rattle.std.proofs.lemmas.Grind.{common_steps}
 use Rattle.ac_util.specs.Node.{is_empty}
 use Rattle.ac_util.proofs.Marks.{is_empty-length}
 use Rattle.ac_util.proofs.prefilter.has_empty.Goals as goal
@@ -16,10 +17,4 @@ returns-then-is_empty g c =
 
 -- this one is not either
 pub loop-number-preserved : goal.loop-number-preserved
-loop-number-preserved g c =
-    let patterns = c.args.patterns.now in
-    let number = c.loop-number.number in
-    let pattern = get_or_from_slice_get patterns number c.get.result.now [] c.get.ensures.value in
-    list_any_more is_empty patterns number [] (omega arith)
-    ∙ ap (λ (t : Bool). t || is_empty (get_or patterns number [])) c.loop-number.invariant
-    ∙ ap is_empty pattern ∙ is_empty-length c.get.result.now ∙ sym c.is_empty.ensures ∙ c.if-is_empty.false
+loop-number-preserved g c = grind (arith, common_steps, get_or_from_slice_get (c.args.patterns.now) (c.loop-number.number) c.get.result.now [] c.get.ensures.value, list_any_more is_empty (c.args.patterns.now) (c.loop-number.number) [] (omega arith), is_empty-length c.get.result.now)

@@ -1,4 +1,4 @@
-use Rattle.std.proofs.Common.{◌≡◌, [], ap, sym, subst, ◌∙◌, inl, inr, arith, Option, Some, MatchOption}
+use Rattle.std.proofs.Common.{◌≡◌, [], ap, sym, subst, ◌∙◌, inl, inr, Option, Some, MatchOption, rules}
 use Rattle.std.proofs.lemmas.Bool.{cases_lt, false≢true}
 use Rattle.ac_automaton.specs.Util.{asked, search_in, Span}
 use Rattle.ac_util.specs.declared.search.Anchored.{Anchored}
@@ -10,14 +10,7 @@ use Rattle.ac_automaton.proofs.automaton.overlap.try_find_overlapping.Goals.{Aft
 use Rattle.ac_automaton.proofs.automaton.overlap.try_find_overlapping.Goals as goal
 
 pub returns-then-is_done : goal.returns-then-is_done
-returns-then-is_done g c =
-    let built = g.A.Automaton.built c.args.automaton.now in (
-      by_state-served built (asked c.args.input)
-          (rw (sym c.get_anchored-anchored.ensures) c.in_ok-start.ensures.0)
-          (c.in_ok-start.ensures.1),
-      past_end-gives (search_in built (asked c.args.input)) c.args.state.now (c.is_done.ensures.0 c.if-is_done.true)
-          c.requires.placed,
-    )
+returns-then-is_done g c = search (rules, by_state-served, past_end-gives)
 
 module _ (g : Over) (c : After-open-tape g) where
   abbrev s : Scan
@@ -56,14 +49,7 @@ module _ (g : Over) (c : After-open-tape g) where
       ])
 
 pub next_item-found-requires-clause-listed : goal.next_item-found-requires-clause-listed
-next_item-found-requires-clause-listed g c =
-    let o = (goal.at.next_item-found-requires-clause-listed g c).After-open-tape in
-    rw (c.get_anchored-anchored.ensures, c.open-tape.ensures.tape, c.get_span.ensures) (record {
-      standard = c.in_ok-start.ensures.1;
-      listed = (goes_on g o).on;
-      inside = c.args.input.end_within;
-      unread = omega arith;
-    })
+next_item-found-requires-clause-listed g c = search (rules, goes_on)
 
 pub returns : goal.returns
 returns g c =

@@ -1,30 +1,15 @@
 use Rattle.std.proofs.Common.{◌≡◌, ◌∙◌, ◌++◌, ℕ, true, [], List, ap, arith, refl, sym, subst, length, of_calls, rules, string_bytes}
 use Rattle.std.specs.Str.{IsCharBoundary}
 use Rattle.std.proofs.lemmas.Str.{IsCharBoundary-start}
-use Rattle.ac_automaton.specs.Util.{Asked, asked, exchanged_in_text, is_whole, Occurrence, replace_refusal, StepsLead, walked, whole_characters}
+use Rattle.ac_automaton.specs.Util.{asked, exchanged_in_text, is_whole, Occurrence, replace_refusal, StepsLead, whole_characters}
 use Rattle.ac_util.proofs.Exchanges.{AreInOrder, exchanged-in_order, in_order-earlier, is_whole-ends, whole_characters-skip, whole_characters-take}
-use Rattle.ac_automaton.specs.Iterators.{Walking}
 use Rattle.ac_automaton.proofs.Exchanging.{LeadsOn, leads-begin, leads-end, leads-end_refused, leads-out, leads-refused, leads-skip, leads-stop, leads-turn, stops-by_memory, unrefused}
 use Rattle.ac_automaton.proofs.automaton.replace.try_replace_all_with.Goals as goal
 use Rattle.ac_automaton.proofs.automaton.replace.try_replace_all_with.Goals.{in-None, in-Some+then-cuts_no_character+in_ok-push_str+then-not-exchange}
 
 -- all matches are left
 pub loop-found-init : goal.loop-found-init
-loop-found-init g c =
-    let text = c.args.text.now in
-    let built = g.A.Automaton.built c.args.automaton.now in
-    let is = ap (λ (w : Walking). w.rest) (c.into_iter-found-iterator.ensures.into_iter_gives
-    ∙ c.in_ok-matches.ensures.1)
-    ∙ ap (λ (a : Asked). walked built a) c.of_text.ensures.value in (
-      tt,
-      tt,
-      c.requires.callable,
-      IsCharBoundary-start text c.utf8.text,
-      subst (λ (ms : List Occurrence). AreInOrder (length text) (length built.patterns) 0 ms) (sym is)
-          (exchanged-in_order built text (length built.patterns) refl),
-      leads-begin (whole_characters text c.into_iter-found-iterator.result.rest)
-          (ap (λ (ms : List Occurrence). whole_characters text ms) is),
-    )
+loop-found-init g c = search (rules, IsCharBoundary-start, exchanged-in_order, leads-begin)
 
 -- the gap was refused
 pub returns-in_err-push_str : goal.returns-in_err-push_str
@@ -41,14 +26,6 @@ returns-in_err-push_str g c =
     ∙ whole_characters-take text c.in-Some.found c.next.new.self.rest
     (sym c.cuts_no_character.ensures ∙ c.if-cuts_no_character.true))
     c.push_str.new.self c.in_err-push_str.ensures.bytes)
-
--- the match ends where a character does
-pub range-requires-then-cuts_no_character-clause-end_boundary :
-    goal.range-requires-then-cuts_no_character-clause-end_boundary
-range-requires-then-cuts_no_character-clause-end_boundary g c =
-    subst (IsCharBoundary c.args.text.now) (sym c.end-place.ensures)
-    (is_whole-ends c.args.text.now c.in-Some.found
-    (sym c.cuts_no_character.ensures ∙ c.if-cuts_no_character.true)).1
 
 -- the gap was appended, and the call asks to go on
 pub loop-found-preserved-else-not-exchange : goal.loop-found-preserved-else-not-exchange
@@ -106,14 +83,7 @@ loop-found-preserved g c =
 
 -- the last match ends where a character does
 pub range_from-requires : goal.range_from-requires
-range_from-requires g c =
-    let text = c.args.text.now in
-    elim c.match-next.branch [
-      | in-None w ↦ λ _. subst (IsCharBoundary text) (sym w.place-is) c.loop-found.invariant.3
-      | in-Some+then-cuts_no_character+in_ok-push_str+then-not-exchange w ↦ λ _.
-          subst (IsCharBoundary text) (sym (w.place-is ∙ w.end-place.ensures))
-          (is_whole-ends text w.in-Some.found (sym w.cuts_no_character.ensures ∙ w.if-cuts_no_character.true)).1
-    ]
+range_from-requires g c = search (rules, in-None, in-Some+then-cuts_no_character+in_ok-push_str+then-not-exchange, is_whole-ends)
 
 -- what follows the last match was refused
 pub returns-in_err-push_str-2 : goal.returns-in_err-push_str-2

@@ -1,40 +1,18 @@
-use Rattle.std.proofs.Common.{◌≡◌, ◌∙◌, ◌++◌, ℕ, [], List, ap, refl, sym, subst, length, of_calls, rules}
-use Rattle.ac_automaton.specs.Util.{Asked, asked, exchanged, Occurrence, replace_refusal, StepsLead, walked}
+use Rattle.std.proofs.Common.{◌≡◌, ◌∙◌, ◌++◌, ℕ, [], List, ap, refl, sym, subst, length, of_calls, rules, arith}
+use Rattle.std.proofs.lemmas.Grind.{common_steps}
+use Rattle.ac_automaton.specs.Util.{asked, exchanged, Occurrence, replace_refusal, StepsLead}
 use Rattle.ac_util.proofs.Exchanges.{AreInOrder, exchanged-in_order}
-use Rattle.ac_automaton.specs.Iterators.{Walking}
 use Rattle.ac_automaton.proofs.Exchanging.{LeadsOn, leads-begin, leads-end, leads-end_refused, leads-out, leads-refused, leads-stop, leads-turn, slice_to_end, stops-by_memory, unrefused}
 use Rattle.ac_automaton.proofs.automaton.replace.try_replace_all_with_bytes.Goals as goal
 use Rattle.ac_automaton.proofs.automaton.replace.try_replace_all_with_bytes.Goals.{in-None, in-Some+in_ok-extend_from_slice+then-not-exchange}
 
 -- all matches are left
 pub loop-found-init : goal.loop-found-init
-loop-found-init g c =
-    let haystack = c.args.haystack.now in
-    let built = g.A.Automaton.built c.args.automaton.now in
-    let is = ap (λ (w : Walking). w.rest) (c.into_iter-found-iterator.ensures.into_iter_gives
-    ∙ c.in_ok-matches.ensures.1)
-    ∙ ap (λ (a : Asked). walked built a) c.new.ensures.value in (
-      tt,
-      tt,
-      c.requires.callable,
-      subst (λ (ms : List Occurrence). AreInOrder (length haystack) (length built.patterns) 0 ms) (sym is)
-          (exchanged-in_order built haystack (length built.patterns) refl),
-      leads-begin c.into_iter-found-iterator.result.rest is,
-    )
+loop-found-init g c = search (rules, exchanged-in_order, leads-begin)
 
 -- the gap was refused
 pub returns-in_err-extend_from_slice : goal.returns-in_err-extend_from_slice
-returns-in_err-extend_from_slice g c =
-    let haystack = c.args.haystack.now in
-    let built = g.A.Automaton.built c.args.automaton.now in
-    stops-by_memory (replace_refusal built)
-    (λ end. StepsLead g.F.FnMut (λ d. d.items) haystack (exchanged built haystack) c.args.exchange
-    c.args.destination.now end c.extend_from_slice.new.self)
-    (c.extend_from_slice.new.self ≡ c.args.destination.now)
-    c.from_residual-in_err-extend_from_slice.result c.from_residual-in_err-extend_from_slice.ensures.1
-    (unrefused built haystack (asked c.new.result) c.new.ensures.value c.in_ok-matches.ensures.0)
-    (leads-refused c.in-Some.found c.next.new.self.rest c.loop-found.invariant.4 c.in-Some.ensures.steps.gives
-    c.extend_from_slice.new.self c.in_err-extend_from_slice.ensures.items)
+returns-in_err-extend_from_slice g c = grind (arith, common_steps, stops-by_memory, unrefused (g.A.Automaton.built c.args.automaton.now) (c.args.haystack.now) (asked c.new.result) c.new.ensures.value c.in_ok-matches.ensures.0, leads-refused c.in-Some.found c.next.new.self.rest c.loop-found.invariant.4 c.in-Some.ensures.steps.gives c.extend_from_slice.new.self c.in_err-extend_from_slice.ensures.items)
 
 -- the gap was appended, and the call asks to go on
 pub loop-found-preserved : goal.loop-found-preserved

@@ -1,37 +1,12 @@
-use Rattle.std.proofs.Common.{◌≡◌, ◌∙◌, ◌+◌, ◌≤◌, ℕ, List, Some, Ok, Err, length, take, refl, sym, ap, subst, arith, slice_range}
-use Rattle.std.proofs.lemmas.Option.{slice_get_within}
-use Rattle.ac_automaton.specs.Util.{error_of, IsNear, WritesAll, WritesUntilFailure}
-use Rattle.ac_automaton.specs.Prelude.{GivesMatch, HasGivenSettled, HasReplaced, IsSettledIn, matches_so_far, Steps, Streaming}
+use Rattle.std.proofs.Common.{◌≡◌, ◌∙◌, ◌+◌, ℕ, List, Some, Ok, Err, take, refl, sym, ap, subst, slice_range, rules}
+use Rattle.ac_automaton.specs.Util.{error_of, WritesAll, WritesUntilFailure}
+use Rattle.ac_automaton.specs.Prelude.{GivesMatch, HasGivenSettled, IsSettledIn, matches_so_far, Steps, Streaming}
 use Rattle.ac_automaton.proofs.Places.{refused-by}
 use Rattle.ac_automaton.proofs.StreamExchanging.{exchange-fails, gap-fails, replaced-match, replaced-settled, settled-fails}
 use Rattle.ac_automaton.proofs.automaton.stream_replace.exchange_read.Goals as goal
 
 pub returns-in_default-clause-exchanged : goal.returns-in_default-clause-exchanged
-returns-in_default-clause-exchanged g c =
-    let told = g.W.Sink.told in
-    let calls = g.E.Exchange.calls in
-    let v = c.loop-found.finder in
-    let all : HasGivenSettled v c.next_read.new.self = c.in_default.ensures in
-    let kept = c.next_read.new.self.kept in
-    let shown : c.bytes.result.now ≡ slice_range v.bytes v.kept kept =
-    c.bytes.ensures ∙ ap (λ (w : Streaming). slice_range w.bytes c.kept-from.result c.kept.result) all.same
-    ∙ ap (λ (k : ℕ). slice_range v.bytes k c.kept.result) c.kept-from.ensures.kept
-    ∙ ap (λ (k : ℕ). slice_range v.bytes v.kept k) c.kept.ensures.kept in
-    let writes = subst (λ (w : List ℕ). WritesAll (told c.loop-found.writer) (told c.write_all.new.writer) w) shown
-    c.in_ok-write_all.ensures in
-    record {
-      settled = subst (λ (w : Streaming). IsSettledIn w.phase w.built w.bytes w.given kept) (sym all.same) all.settled;
-      near = subst (λ (w : Streaming). IsNear w.built w.bytes kept) (sym all.same) all.near;
-      within = subst (λ (w : Streaming). kept ≤ length w.bytes) (sym all.same) all.within;
-      same = all.same ∙ ap (λ (w : Streaming). record w { kept = kept }) c.loop-found.invariant.same
-          ∙ ap (λ (n : ℕ). record c.args.finder.now { given = n; kept = kept })
-          (sym (ap (λ (w : Streaming). w.given) all.same));
-      replaced = λ first done.
-          subst (λ (w : Streaming). HasReplaced told calls w first
-          (record { closure = c.loop-found.exchange; destination = c.write_all.new.writer })) (sym all.same)
-          (replaced-settled told calls v first _ (c.loop-found.invariant.replaced first done) kept _ all.onward
-          (refl, writes));
-    }
+returns-in_default-clause-exchanged g c = search (rules, replaced-settled)
 
 pub returns-in_err-write_all-clause-exchanged : goal.returns-in_err-write_all-clause-exchanged
 returns-in_err-write_all-clause-exchanged g c =
@@ -87,16 +62,6 @@ returns-in_err-write_all-2-clause-exchanged g c =
       gap-fails told calls v first _ (c.loop-found.invariant.replaced first done) m _ gives (error_of failure) _
           (refl, (failure, refl, writes)),
     ))
-
-pub loop-found-smaller : goal.loop-found-smaller
-loop-found-smaller g c =
-    let v = c.loop-found.finder in
-    let gives : GivesMatch v c.in-Some.found c.next_read.new.self = c.in-Some.ensures in
-    let within = slice_get_within (matches_so_far v) v.given c.in-Some.found gives.next in
-    let more : c.next_read.new.self.given ≡ v.given + 1 = ap (λ (w : Streaming). w.given) gives.same in
-    let long : length (matches_so_far c.next_read.new.self) ≡ length (matches_so_far v) =
-    ap (λ (w : Streaming). length (matches_so_far w)) gives.same in
-    omega arith
 
 pub loop-found-preserved : goal.loop-found-preserved
 loop-found-preserved g c =

@@ -1,23 +1,12 @@
-use Rattle.std.proofs.Common.{◌≤◌, Bool, inr, length, sym, subst, arith, MatchBool}
-use Rattle.ac_util.specs.StreamReplacing.{IsNear}
-use Rattle.ac_automaton.specs.Streams.{FillsMore, IsSettledIn, MeetsEnd, Streaming}
+use Rattle.std.proofs.Common.{Bool, inr, subst, MatchBool, rules}
+use Rattle.ac_automaton.specs.Streams.{FillsMore, MeetsEnd}
 use Rattle.ac_automaton.proofs.Places.{match-by, refused-by}
 use Rattle.ac_automaton.proofs.StreamExchanging.{begins, ends-there, fails-at-last, fails-exchanging, fails-reading, fills, goes-on, replaces}
 use Rattle.ac_automaton.proofs.StreamFilling.{settled-begun}
 use Rattle.ac_automaton.proofs.automaton.stream_replace.replace_stream.Goals as goal
 
 pub loop-finder-init : goal.loop-finder-init
-loop-finder-init g c =
-    let begun = c.in_ok-finder.ensures in
-    let built = g.A.Automaton.built c.args.automaton.now in
-    record {
-      accepted = λ m accepts. accepts;
-      on = begins g.W.Sink.told g.E.Exchange.calls _ built _ _ c.in_ok-finder.finder begun.1;
-      settled = subst (λ (v : Streaming). IsSettledIn v.phase v.built v.bytes v.given v.kept) (sym begun.1)
-          (settled-begun built begun.0);
-      near = subst (λ (v : Streaming). IsNear v.built v.bytes v.kept) (sym begun.1) (omega arith);
-      within = subst (λ (v : Streaming). v.kept ≤ length v.bytes) (sym begun.1) (omega arith);
-    }
+loop-finder-init g c = search (rules, begins, settled-begun)
 
 pub returns-in_err-fill : goal.returns-in_err-fill
 returns-in_err-fill g c =

@@ -1,4 +1,4 @@
-use Rattle.std.proofs.Common.{◌≡◌}
+use Rattle.std.proofs.Common.{◌≡◌, rules}
 use Rattle.std.proofs.lemmas.List.Elements.{same_from_all_zip}
 use Rattle.std.specs.List.{each_same}
 use Rattle.ac_engines.proofs.dfa.DFAClone.clone.Given.{Over}
@@ -12,8 +12,7 @@ module _ (g : Over) (c : After-result-4-1 g) where
       c.in_ok-clone-2.ensures.cases.0 (λ x y same. cc)
 
   listed : c.in_ok-clone-3.field-0.listed.items ≡ c.self.inside.lists.listed.items
-  listed = same_from_all_zip _ c.self.inside.lists.listed.items c.in_ok-clone-3.field-0.listed.items
-      c.in_ok-clone-3.ensures.cases.0.0 (λ x y same. cc)
+  listed = search (rules, same_from_all_zip)
 
   bounds : c.in_ok-clone-3.field-0.bounds.items ≡ c.self.inside.lists.bounds.items
   bounds = each_same c.self.inside.lists.bounds.items c.in_ok-clone-3.field-0.bounds.items

@@ -1,4 +1,4 @@
-use Rattle.std.proofs.Common.{◌+◌, length, sym, ap, ◌∙◌, arith, Some}
+use Rattle.std.proofs.Common.{◌+◌, length, sym, arith, rules}
 use Rattle.std.proofs.lemmas.List.{length-take-le}
 use Rattle.ac_util.proofs.PiecesLemmas.{bounds-rise, piece-at}
 use Rattle.ac_engines.proofs.Ranges.{drop-take_range}
@@ -11,15 +11,7 @@ slice_bounds-split_at-end c =
     sym (length-take-le _ c.args.listed.now piece.within)
 
 pub split_at-requires : goal.split_at-requires
-split_at-requires c =
-    let piece = bounds-rise c.args.bounds.now (length c.args.listed.now) c.args.row (c.args.row + 1) c.requires.bounds
-    (omega arith) c.requires.numbered in
-    rw (length-take-le _ c.args.listed.now piece.within) piece.ordered
+split_at-requires c = search (rules, bounds-rise, length-take-le)
 
 pub returns : goal.returns
-returns c =
-    let piece = bounds-rise c.args.bounds.now (length c.args.listed.now) c.args.row (c.args.row + 1) c.requires.bounds
-    (omega arith) c.requires.numbered in
-    piece-at c.args.listed.now c.args.bounds.now (length c.args.listed.now) c.args.row
-    (c.args.row + 1) c.requires.bounds (omega arith) c.requires.numbered
-    ∙ ap Some (sym (c.split_at.ensures.back ∙ drop-take_range c.args.listed.now _ _ piece.ordered))
+returns c = search (rules, bounds-rise, drop-take_range, piece-at)

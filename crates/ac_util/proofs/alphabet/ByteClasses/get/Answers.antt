@@ -1,8 +1,7 @@
-use Rattle.std.proofs.Common.{arith}
+use Rattle.std.proofs.Common.{rules}
 use Rattle.ac_util.proofs.ClassLists.{class_at-below}
 use Rattle.ac_util.proofs.alphabet.ByteClasses.get.Goals as goal
 
 -- the class of the byte is one of the classes
 pub returns-clause-small : goal.returns-clause-small
-returns-clause-small c =
-    rw (← c.self.view_is) (class_at-below c.self.inside.classes c.self.invariant c.args.byte (omega arith))
+returns-clause-small c = search (rules, class_at-below)

@@ -1,12 +1,9 @@
-use Rattle.ac_util.proofs.ClassLemmas.{bytes-lawful, class_of-lawful}
+use Rattle.ac_util.proofs.ClassLemmas.{class_of-lawful}
 use Rattle.ac_util.proofs.ClassLists.{classes_of-lawful, singletons-lawful}
 use Rattle.ac_util.proofs.laws.values.classes_are_lawful.Goals as goal
 
 pub returns-clause-of_patterns : goal.returns-clause-of_patterns
 returns-clause-of_patterns c = λ fold kind patterns. class_of-lawful fold patterns kind
-
-pub returns-clause-singletons : goal.returns-clause-singletons
-returns-clause-singletons c = λ fold kind patterns. bytes-lawful fold patterns kind
 
 pub returns-clause-of_patterns_read : goal.returns-clause-of_patterns_read
 returns-clause-of_patterns_read c = λ fold kind patterns. classes_of-lawful fold patterns kind

@@ -1,4 +1,4 @@
-use Rattle.std.proofs.Common.{◌≤◌, length, ap, ◌∙◌, arith}
+use Rattle.std.proofs.Common.{◌≤◌, length, ap, ◌∙◌, rules}
 use Rattle.ac_util.proofs.PiecesLemmas.{length-pieces}
 use Rattle.ac_util.proofs.LimitLemmas.{All-slice_get}
 use Rattle.ac_util.specs.Prelude.{GREATEST, pieces}
@@ -6,14 +6,7 @@ use Rattle.ac_util.proofs.patterns.Patterns.get.Goals as goal
 
 -- there is one bound more than there are patterns
 pub piece-requires-clause-numbered : goal.piece-requires-clause-numbered
-piece-requires-clause-numbered g c =
-    let l =
-    length-pieces c.self.inside.bytes.items c.self.inside.bounds.items
-    (length c.self.inside.bytes.items) c.self.invariant.bounds in
-    let v = ap length c.self.view_is in
-    let d = ap length c.deref-2.ensures.value in
-    let n = c.requires.numbered in
-    omega arith
+piece-requires-clause-numbered g c = search (rules, length-pieces)
 
 pub returns-clause-short : goal.returns-clause-short
 returns-clause-short g c =

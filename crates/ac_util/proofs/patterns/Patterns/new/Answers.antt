@@ -1,7 +1,7 @@
-use Rattle.std.proofs.Common.{◌≡◌, ◌<◌, ◌++◌, ◌∷◌, [], List, ℕ, length, map, take, get_or, ap, sym, subst, ◌∙◌, arith, take_all}
+use Rattle.std.proofs.Common.{◌≡◌, ◌<◌, ◌++◌, ◌∷◌, [], List, ℕ, length, map, take, get_or, ap, sym, ◌∙◌, arith}
 use Rattle.std.specs.Borrow.{Bor}
 use Rattle.std.proofs.lemmas.List.{length-map, get_or-map, take_more}
-use Rattle.ac_util.specs.Limits.{IsWithinLimits}
+use Rattle.std.proofs.lemmas.Grind.{common_steps}
 use Rattle.ac_util.proofs.PiecesLemmas.{one_more_piece}
 use Rattle.ac_util.proofs.LimitLemmas.{limits-from_refusal, not_refused}
 use Rattle.ac_util.proofs.patterns.Patterns.new.Goals as goal
@@ -31,12 +31,4 @@ loop-pattern-preserved g c =
 
 -- all were copied, and no limit is passed
 pub invariant_of-result : goal.invariant_of-result
-invariant_of-result g c =
-    let all = map (λ (p : Bor (List ℕ)). p.now) c.args.patterns.now in
-    let whole : take c.loop-pattern.pattern-index all ≡ all =
-    take_all c.loop-pattern.pattern-index all (simp length-map (omega arith)) in
-    record {
-      bounds = c.loop-pattern.invariant.bounds;
-      limits = subst IsWithinLimits (sym (c.loop-pattern.invariant.copied ∙ whole))
-          (limits-from_refusal all (not_refused _ _ _ c.in_ok-check_limits.ensures));
-    }
+invariant_of-result g c = grind (arith, common_steps, length-map, limits-from_refusal, not_refused)

@@ -1,4 +1,4 @@
-use Rattle.std.proofs.Common.{◌+◌, ◌-◌, ◌∙◌, [], arith, ap}
+use Rattle.std.proofs.Common.{◌+◌, ◌-◌, [], arith, ap, rules}
 use Rattle.ac_util.specs.Prelude.{places_ending_at, Search}
 use Rattle.ac_util.proofs.PlainListing.{added_more, all-from_ends}
 use Rattle.ac_util.proofs.plain.list.listing.Goals as goal
@@ -20,8 +20,4 @@ loop-end-preserved c =
 
 -- all ends were tried
 pub returns : goal.returns
-returns c =
-    let low = ap (λ (q : Search). q.low) c.query.view_is in
-    let high = ap (λ (q : Search). q.high) c.query.view_is in
-    c.loop-end.invariant.found
-    ∙ all-from_ends c.args.query.now (c.loop-end.end - c.args.query.now.low) (omega arith)
+returns c = search (rules, all-from_ends)

@@ -1,36 +1,22 @@
-use Rattle.std.proofs.Common.{◌≡◌, ◌++◌, ◌∙◌, ◌<◌, ℕ, ap, sym, subst, None, Some, Option}
+use Rattle.std.proofs.Common.{◌≡◌, ◌++◌, ◌∙◌, ℕ, subst, Some, Option, rules, arith}
+use Rattle.std.proofs.lemmas.Grind.{common_steps}
 use Rattle.ac_util.specs.Prelude.{from, MatchKind, next_match, Occurrence, Search, walk}
-use Rattle.ac_util.proofs.PlainWalk.{walk_from, room_after, EndsWithin, next-EndsWithin, room-falls, taken, begun}
+use Rattle.ac_util.proofs.PlainWalk.{walk_from, next-EndsWithin, room-falls, taken, begun}
 use Rattle.ac_util.proofs.plain.walks.walk.Goals as goal
 
 -- nothing is taken yet
 pub loop-next-init : goal.loop-next-init
-loop-next-init c = record {
-  parts = begun c.args.kind c.args.query.now c.new-matches.result.items c.next_match-next.result
-      c.new-matches.ensures.items (sym c.next_match-next.ensures);
-  within = next-EndsWithin c.args.kind c.args.query.now None c.next_match-next.result
-      (sym c.next_match-next.ensures);
-}
+loop-next-init c = search (rules, begun, next-EndsWithin)
 
 -- the match that is looked for is the next one from the end of this one
 follows : (kind : MatchKind) (q w : Search) (end low last : ℕ) (next : Option Occurrence)
     → next ≡ next_match kind w (Some last) → w ≡ from q low → low ≡ end → last ≡ end
     → next_match kind (from q end) (Some end) ≡ next
-follows kind q w end low last next e f g h =
-    sym (e ∙ ap (λ (x : Search). next_match kind x (Some last)) (f ∙ ap (from q) g)
-    ∙ ap (λ (k : ℕ). next_match kind (from q end) (Some k)) h)
+follows kind q w end low last next e f g h = grind (arith, common_steps)
 
 -- it ends later than this one
 pub loop-next-smaller : goal.loop-next-smaller
-loop-next-smaller c =
-    let within = subst (EndsWithin c.args.query.now) c.in-Some.is c.loop-next.invariant.within in
-    let next =
-    follows c.args.kind c.args.query.now c.from.result c.in-Some.found.end c.end.result c.end-in-Some.result
-    c.next_match-next-in-Some.result c.next_match-next-in-Some.ensures c.from.ensures c.end.ensures
-    c.end-in-Some.ensures in
-    subst (λ (r : Option Occurrence). room_after c.args.query.now c.next_match-next-in-Some.result < room_after
-    c.args.query.now r) (sym c.in-Some.is)
-    (room-falls c.args.kind c.args.query.now c.in-Some.found c.next_match-next-in-Some.result within next)
+loop-next-smaller c = search (rules, follows, room-falls)
 
 -- this match is taken, and the walk goes on from the next
 pub loop-next-preserved : goal.loop-next-preserved

@@ -1,4 +1,4 @@
-use Rattle.std.proofs.Common.{◌+◌, Some, None, refl}
+use Rattle.std.proofs.Common.{◌+◌, Some, refl, rules}
 use Rattle.ac_util.specs.Prefilters.{first_bytes_of, is_one_of}
 use Rattle.ac_util.proofs.Skips.{first_in_range}
 use Rattle.ac_util.proofs.prefilter.FirstBytes.find_in.Goals as goal
@@ -14,9 +14,4 @@ returns-in-Some c = (
 
 -- where the range has none the haystack has none there
 pub returns-in-None : goal.returns-in-None
-returns-in-None c = (
-  None,
-  first_in_range (is_one_of (first_bytes_of c.args.self.now)) c.args.haystack.now c.args.span.start c.args.span.end
-      None c.requires.ordered c.requires.within c.in-None.ensures,
-  refl,
-)
+returns-in-None c = search (rules, first_in_range)

@@ -1,5 +1,5 @@
-use Rattle.std.proofs.Common.{ℕ, List, [], ◌∷◌, ◌++◌, false, length, length-set, take, get_or, inl, inr, ap, sym, ◌∙◌, arith}
-use Rattle.ac_util.proofs.Marks.{filter-fails, filter-passes, first_ones, is_marked, marked_more_than_noted, noted_all, take_noted}
+use Rattle.std.proofs.Common.{ℕ, false, length-set, take, get_or, inl, inr, ap, sym, ◌∙◌, arith, rules}
+use Rattle.ac_util.proofs.Marks.{filter-fails, filter-passes, first_ones, marked_more_than_noted, noted_all, take_noted}
 use Rattle.ac_util.proofs.prefilter.FirstBytes.of.Goals as goal
 use Rattle.ac_util.proofs.prefilter.FirstBytes.of.Goals.{then-marks-plain_byte+else-count-eq-MOST_BYTES, else-marks-plain_byte}
 
@@ -14,36 +14,7 @@ returns-then-count-eq-MOST_BYTES c =
 
 -- the byte is noted where it is marked
 pub loop-byte-preserved : goal.loop-byte-preserved
-loop-byte-preserved c =
-    let fold = c.args.fold in
-    let marks = c.args.marks.now in
-    let byte = c.loop-byte.byte in
-    let bytes = c.loop-byte.bytes in
-    let count = c.loop-byte.count in
-    let i = c.loop-byte.invariant in
-    let plain = ap (λ (k : ℕ). get_or marks k false) (sym c.plain_byte.ensures) in
-    record {
-      whole = elim c.if-marks-plain_byte.branch [
-        | then-marks-plain_byte+else-count-eq-MOST_BYTES w ↦ ap length w.bytes-is ∙ length-set bytes count byte ∙ i.whole
-        | else-marks-plain_byte w ↦ ap length w.bytes-is ∙ i.whole
-      ];
-      few = elim c.if-marks-plain_byte.branch [
-        | then-marks-plain_byte+else-count-eq-MOST_BYTES w ↦
-            omega (arith, i.few, w.count-is, w.if-count-eq-MOST_BYTES.false)
-        | else-marks-plain_byte w ↦ omega (arith, i.few, w.count-is)
-      ];
-      noted = elim c.if-marks-plain_byte.branch [
-        | then-marks-plain_byte+else-count-eq-MOST_BYTES w ↦
-            (λ k. take (w.count-is k) (w.bytes-is k))
-            ∙ take_noted bytes count byte (omega (arith, i.few, i.whole, w.if-count-eq-MOST_BYTES.false))
-            ∙ ap (λ (xs : List ℕ). xs ++ byte ∷ []) i.noted
-            ∙ sym (filter-passes (is_marked fold marks) byte (plain ∙ w.if-marks-plain_byte.true))
-        | else-marks-plain_byte w ↦
-            (λ k. take (w.count-is k) (w.bytes-is k))
-            ∙ i.noted
-            ∙ sym (filter-fails (is_marked fold marks) byte (plain ∙ w.if-marks-plain_byte.false))
-      ];
-    }
+loop-byte-preserved c = search (rules, else-marks-plain_byte, filter-fails, filter-passes, length-set, take_noted, then-marks-plain_byte+else-count-eq-MOST_BYTES)
 
 -- one is marked
 pub returns-in-1 : goal.returns-in-1

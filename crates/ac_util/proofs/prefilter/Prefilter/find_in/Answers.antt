@@ -1,19 +1,11 @@
-use Rattle.std.proofs.Common.{sym, subst}
-use Rattle.ac_util.specs.declared.prefilter.Candidate.TheVariants.{None as Nothing}
+use Rattle.std.proofs.Common.{sym, subst, rules}
 use Rattle.ac_util.specs.Prefilters.{Tells, skip_of}
 use Rattle.ac_util.proofs.Skips.{promised, tells-nothing}
 use Rattle.ac_util.proofs.prefilter.Prefilter.find_in.Goals as goal
 
 -- nothing occurs in a span that starts past its end
 pub returns-then-span-clause-tells : goal.returns-then-span-clause-tells
-returns-then-span-clause-tells g c =
-    tells-nothing (skip_of c.args.self.now) c.args.haystack.now c.args.span.start c.args.span.end c.if-span.true
-
-pub returns-then-span-clause-promises : goal.returns-then-span-clause-promises
-returns-then-span-clause-promises g c =
-    λ fold patterns ok. promised (skip_of c.args.self.now) fold patterns c.args.haystack.now c.args.span.start
-    c.args.span.end Nothing
-    (tells-nothing (skip_of c.args.self.now) c.args.haystack.now c.args.span.start c.args.span.end c.if-span.true) ok
+returns-then-span-clause-tells g c = search (rules, tells-nothing)
 
 -- of what is told by first bytes
 pub returns-in-Bytes-clause-promises : goal.returns-in-Bytes-clause-promises

@@ -1,5 +1,5 @@
-use Rattle.std.proofs.Common.{◌≡◌, ap, sym, subst, ◌∙◌, List, ℕ, Option, Some, None}
-use Rattle.ac_util.specs.Occurrence.{Occurrence}
+use Rattle.std.proofs.Common.{◌≡◌, ap, sym, subst, ◌∙◌, List, ℕ, Option, Some, arith}
+use Rattle.std.proofs.lemmas.Grind.{common_steps}
 use Rattle.ac_automaton.specs.Prelude.{in_memory, IsListing, ListsNext, Overlapping, overlapping_by, Reached, Scan, scan_by, ScanText, work_of}
 use Rattle.ac_automaton.proofs.Overlapping.{lists-next, lists-past_end, listing-goes_on}
 use Rattle.ac_automaton.proofs.automaton.overlap.FindOverlappingIter.advance.Given.{Over}
@@ -29,14 +29,7 @@ module _ (g : Over) (c : After-self g) where
       c.self.invariant.listing
 
 pub returns-in_err-reached : goal.returns-in_err-reached
-returns-in_err-reached g c =
-    let d = (goal.at.returns-in_err-reached g c).After-self in
-    let inside = c.self.inside in
-    subst (λ (w : Overlapping). ListsNext w c.from_residual.result w)
-    (ap (seen g d) (sym c.in_err-reached.was) ∙ c.self.view_is)
-    (subst (λ (r : Option Occurrence). ListsNext (seen g d None) r (seen g d None)) (sym c.from_residual.ensures)
-    (lists-past_end (s g d) inside.tape.bytes inside.scanner.span (work_of inside.tape inside.looks)
-    (way g d c.in_err-reached.was)))
+returns-in_err-reached g c = grind (arith, common_steps, lists-past_end (s g ((goal.at.returns-in_err-reached g c).After-self)) (c.self.inside).tape.bytes (c.self.inside).scanner.span (work_of (c.self.inside).tape (c.self.inside).looks) (way g ((goal.at.returns-in_err-reached g c).After-self) c.in_err-reached.was), way g ((goal.at.returns-in_err-reached g c).After-self) c.in_err-reached.was)
 
 pub invariant_of-self : goal.invariant_of-self
 invariant_of-self g c =

@@ -1,15 +1,7 @@
 use Rattle.std.proofs.Common.{◌<◌, ℕ, List, length, slice_index, ap, sym, ◌∙◌, arith}
-use Rattle.ac_util.specs.Counts.{Counts, Taped}
+use Rattle.ac_util.specs.Counts.{Taped}
 use Rattle.ac_automaton.proofs.ReadOn.{at-next, scans-byte}
 use Rattle.ac_automaton.proofs.automaton.scan.Scanner.read_byte.Goals as goal
-
-pub next_state-requires : goal.next_state-requires
-next_state-requires g c = record { state = (_, c.requires.alive.2.is_at.there) }
-
-pub returns-clause-calls : goal.returns-clause-calls
-returns-clause-calls g c =
-    ap (λ (n : Counts). n.calls) (c.next_state.ensures.looks _ c.requires.alive.2.is_at.there)
-    ∙ ap (λ (n : Counts). n.calls) c.read-byte.ensures.counted
 
 -- the byte was read and followed
 pub returns-clause-reads : goal.returns-clause-reads

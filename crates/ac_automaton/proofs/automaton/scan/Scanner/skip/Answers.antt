@@ -1,15 +1,12 @@
-use Rattle.std.proofs.Common.{◌≡◌, ◌≤◌, ℕ, List, length, refl, ap, sym, subst, inl, inr, arith}
+use Rattle.std.proofs.Common.{◌≡◌, ◌≤◌, ℕ, List, length, ap, sym, subst, inr, arith, rules}
+use Rattle.std.proofs.lemmas.Grind.{common_steps}
 use Rattle.memchr.specs.Find.{Nowhere, Passes}
-use Rattle.ac_util.specs.Prefilters.{Skip, Tells, is_one_of}
+use Rattle.ac_util.specs.Prefilters.{is_one_of}
 use Rattle.ac_automaton.specs.Scans.{scan_by, IsAt, Scan, ScanText, StaysAtStart}
-use Rattle.ac_automaton.proofs.Skipping.{IsTold, nowhere-led, stays, told-none}
+use Rattle.ac_automaton.proofs.Skipping.{IsTold, stays, told-none}
 use Rattle.ac_automaton.proofs.automaton.scan.Scanner.skip.Given.{Over}
 use Rattle.ac_automaton.proofs.automaton.scan.Scanner.skip.Goals.{After-note, After-scan}
 use Rattle.ac_automaton.proofs.automaton.scan.Scanner.skip.Goals as goal
-
--- away from its start it stays where it is
-pub returns-then-not-is_start-clause-skipped : goal.returns-then-not-is_start-clause-skipped
-returns-then-not-is_start-clause-skipped g c = λ t same is_at. inl (refl, refl)
 
 module _ (g : Over) (c : After-scan g) where
   abbrev scan : Scan
@@ -32,12 +29,7 @@ module _ (g : Over) (c : After-scan g) where
 -- the prefilter has led to a place
 led : (g : Over) (c : After-note g) → IsTold c.requires.skips.bytes c.args.tape.now.bytes c.args.cursor.at
     c.args.self.now.span.end c.in-PossibleStart.place
-led g c =
-    nowhere-led _ c.requires.skips.bytes c.args.tape.now.bytes c.args.cursor.at c.args.self.now.span.end
-    c.in-PossibleStart.place c.scan.result c.requires.skips.by_bytes c.in-PossibleStart.is c.scan.ensures.tells
-
-pub returns-in-PossibleStart-clause-within : goal.returns-in-PossibleStart-clause-within
-returns-in-PossibleStart-clause-within g c = (led g c).within
+led g c = grind (arith, common_steps)
 
 pub returns-in-PossibleStart-clause-skipped : goal.returns-in-PossibleStart-clause-skipped
 returns-in-PossibleStart-clause-skipped g c =
@@ -48,15 +40,4 @@ returns-in-PossibleStart-clause-skipped g c =
     inr (led.onward, stays-there g s c.in-PossibleStart.place (omega arith) led.none t same is_at, c.scan.ensures.counted)
 
 pub returns-in-None : goal.returns-in-None
-returns-in-None g c =
-    let s = (goal.at.returns-in-None g c).After-scan in
-    let none = told-none c.requires.skips.bytes c.args.tape.now.bytes c.args.cursor.at c.args.self.now.span.end
-    c.scan.result c.in-None.is
-    (subst (λ (k : Skip). Tells k c.args.tape.now.bytes c.args.cursor.at c.args.self.now.span.end c.scan.result)
-    c.requires.skips.by_bytes c.scan.ensures.tells) in
-    let before = c.requires.before_end in
-    record {
-      within = tt;
-      skipped = λ t same is_at.
-          inr (omega arith, stays-there g s c.args.self.now.span.end (omega arith) none t same is_at, c.scan.ensures.counted);
-    }
+returns-in-None g c = search (rules, stays-there, told-none)

@@ -1,7 +1,6 @@
-use Rattle.std.proofs.Common.{◌≡◌, ◌∙◌, ◌+◌, ◌-◌, ◌<◌, ◌≤◌, ◌≢◌, ◌++◌, ℕ, List, length, length-append, length-drop, take, drop, sym, ap, subst, arith}
+use Rattle.std.proofs.Common.{◌≡◌, ◌∙◌, ◌+◌, ◌-◌, ◌≤◌, ◌≢◌, ◌++◌, ℕ, List, length, length-append, length-drop, take, drop, sym, ap, subst, arith, rules}
 use Rattle.std.proofs.lemmas.List.{length-take-le}
-use Rattle.std.specs.Io.KnownBytes.{Consumes}
-use Rattle.ac_util.proofs.Devices.{not-idle, was-idle}
+use Rattle.ac_util.proofs.Devices.{not-idle}
 use Rattle.ac_util.specs.Stream.{streamed}
 use Rattle.ac_automaton.specs.Streams.{Streaming, matches_so_far}
 use Rattle.ac_automaton.proofs.Places.{written-whole}
@@ -28,51 +27,8 @@ invariant_of-self-then-self-n g c =
     (ap (λ (k : ℕ). take k (drop at c.deref.result.now)) (let e : at + n - at ≡ n = omega arith in e)
     ∙ ap (λ (b : List ℕ). take n (drop at b)) (c.deref.ensures.value ∙ whole)))
 
-pub returns-in-Ok-eq0 : goal.returns-in-Ok-eq0
-returns-in-Ok-eq0 g c =
-    let took = c.in-Ok-eq0.ensures.reads in
-    let buffer = c.self.inside.buffer in
-    let none : c.in-Ok-eq0.field-0 ≡ 0 = omega (arith, c.in-Ok-eq0.field-0-test) in
-    let long : length c.read_behind.new.buffer ≡ buffer.len = c.read_behind.ensures.long ∙ c.deref_mut.ensures.len in
-    let room : 0 < length (drop c.self.inside.filled c.read_behind.new.buffer) =
-    (let r = subst (λ (v : Streaming). length v.bytes < v.front + v.buffer) (sym c.self.view_is) c.make_room.ensures.room in
-    let n = c.self.invariant.counted in let ok = buffer.ok.0 in
-    let d = length-drop c.self.inside.filled c.read_behind.new.buffer in omega arith) in
-    record {
-      reads = record {
-        moved = subst (λ (n : ℕ). Consumes (g.R.Source.told c.args.reader.now).left
-            (g.R.Source.told c.read_behind.new.reader).left
-            (take n (drop c.self.inside.filled c.read_behind.new.buffer))) none took.moved;
-        ended = λ ends. took.ended ends none room;
-        failed = took.failed;
-        empties = (let e = took.empties in let i = was-idle c.in-Ok-eq0.field-0
-            (length (drop c.self.inside.filled c.read_behind.new.buffer)) none room in omega arith);
-      };
-      same = seen-as c.args.self.now c.make_room.new.self _ c.self.view_is c.make_room.ensures.same _
-          (ap length (written-whole c.read_behind.new.buffer buffer.items buffer.len long) ∙ long ∙ buffer.ok.0) _;
-    }
-
 pub returns-in-Ok-2 : goal.returns-in-Ok-2
-returns-in-Ok-2 g c =
-    let took = c.in-Ok.ensures.reads in
-    let buffer = c.self.inside.buffer in
-    let into = drop c.self.inside.filled c.read_behind.new.buffer in
-    let long : length c.read_behind.new.buffer ≡ buffer.len = c.read_behind.ensures.long ∙ c.deref_mut.ensures.len in
-    let seen : length c.self.inside.history.bytes ≡ length c.args.self.now.bytes =
-    ap (λ (v : Streaming). length v.bytes) (c.self.view_is ∙ c.make_room.ensures.same) in
-    record {
-      reads = record {
-        lost = take c.in-Ok.n into;
-        too_many = (let l = length-take-le c.in-Ok.n into took.within in let n = c.self.invariant.counted in
-            omega (arith, c.if-self-n.false));
-        moved = took.moved;
-        failed = took.failed;
-        empties = (let e = took.empties in let i = not-idle c.in-Ok.n (length into)
-            (λ e. absurd (omega (arith, c.in-Ok.n-test))) in omega arith);
-      };
-      same = seen-as c.args.self.now c.make_room.new.self _ c.self.view_is c.make_room.ensures.same _
-          (ap length (written-whole c.read_behind.new.buffer buffer.items buffer.len long) ∙ long ∙ buffer.ok.0) _;
-    }
+returns-in-Ok-2 g c = search (rules, length-take-le, not-idle, seen-as, written-whole)
 
 pub returns-in-Ok : goal.returns-in-Ok
 returns-in-Ok g c =

@@ -1,7 +1,6 @@
-use Rattle.std.proofs.Common.{◌≡◌, ◌≢◌, ◌*◌, ℕ, List, ◌∙◌, true, refl, length, sym, ap, arith, max, min, not}
-use Rattle.ac_util.specs.declared.error.StreamError.TheVariants.{Memory}
+use Rattle.std.proofs.Common.{◌≡◌, ◌≢◌, ◌∙◌, true, refl, length, sym, ap, arith, not, rules}
+use Rattle.std.proofs.lemmas.Grind.{common_steps}
 use Rattle.ac_automaton.specs.Util.{buffer_len, is_leftmost, LeftmostFirst, LeftmostLongest, MatchKind, Standard}
-use Rattle.ac_automaton.specs.Streams.{stream_begun}
 use Rattle.ac_automaton.proofs.Places.{refused-by}
 use Rattle.ac_automaton.proofs.StreamFilling.{most-kept, streams-begin}
 use Rattle.ac_automaton.proofs.StreamRefusals.{not-refused, refused-empty}
@@ -10,17 +9,10 @@ use Rattle.ac_automaton.proofs.automaton.stream.StreamFinder.new.Goals.{After-em
 use Rattle.ac_automaton.proofs.automaton.stream.StreamFinder.new.Goals as goal
 
 pub returns-then-min_pattern_len-eq0 : goal.returns-then-min_pattern_len-eq0
-returns-then-min_pattern_len-eq0 g c = (
-  refused-empty (g.A.Automaton.built c.args.automaton.now) c.in_ok-start.ensures.0 (sym c.min_pattern_len.ensures ∙ c.if-min_pattern_len-eq0.true),
-  tt,
-)
+returns-then-min_pattern_len-eq0 g c = search (rules, refused-empty)
 
 pub returns-in_err-resize : goal.returns-in_err-resize
-returns-in_err-resize g c =
-    refused-by c.from_residual-in_err-resize.result Memory _ _ c.from_residual-in_err-resize.ensures.1 (
-      not-refused (g.A.Automaton.built c.args.automaton.now) c.in_ok-start.ensures.0 (λ e. c.if-min_pattern_len-eq0.false (c.min_pattern_len.ensures ∙ e)),
-      tt,
-    )
+returns-in_err-resize g c = search (rules, not-refused, refused-by)
 
 -- the first match found is given under Standard alone
 not-leftmost : (kind : MatchKind) → kind ≢ Standard → is_leftmost kind ≡ true
@@ -31,9 +23,7 @@ not-leftmost LeftmostLongest other = refl
 -- the buffer is as long as it should be
 long : (g : Over) (c : After-empty g)
     → length c.resize.new.self.items ≡ buffer_len (g.A.Automaton.built c.args.automaton.now).patterns
-long g c =
-    sym c.resize.new.self.ok.0 ∙ c.in_ok-resize.ensures.len ∙ c.buffer_len.ensures
-    ∙ ap (λ (n : ℕ). max 65536 (min 18446744073709551615 (8 * n))) c.max_pattern_len-longest.ensures
+long g c = grind (arith, common_steps)
 
 pub invariant_of-result : goal.invariant_of-result
 invariant_of-result g c =
@@ -53,16 +43,4 @@ invariant_of-result g c =
     c.of.ensures c.zero.ensures c.empty.ensures
 
 pub returns : goal.returns
-returns g c = (
-  not-refused (g.A.Automaton.built c.args.automaton.now) c.in_ok-start.ensures.0 (λ e. c.if-min_pattern_len-eq0.false (c.min_pattern_len.ensures ∙ e)),
-  ap (λ (w : List ℕ). record (stream_begun (g.A.Automaton.built c.args.automaton.now)) {
-    bytes = w;
-    given = c.zero.result.number;
-    buffer = length c.resize.new.self.items;
-  }) c.empty.ensures
-      ∙ ap (λ (n : ℕ). record (stream_begun (g.A.Automaton.built c.args.automaton.now)) {
-        given = n;
-        buffer = length c.resize.new.self.items;
-      }) c.zero.ensures
-      ∙ ap (λ (n : ℕ). record (stream_begun (g.A.Automaton.built c.args.automaton.now)) { buffer = n }) (long g c),
-)
+returns g c = search (rules, long, not-refused)

@@ -1,4 +1,5 @@
-use Rattle.std.proofs.Common.{◌≡◌, ℕ, refl, sym, subst, ◌≤◌, length, List, Option, Some}
+use Rattle.std.proofs.Common.{◌≡◌, ℕ, refl, ◌≤◌, length, Option, Some, rules, arith}
+use Rattle.std.proofs.lemmas.Grind.{common_steps}
 use Rattle.ac_automaton.specs.Prelude.{last_after, walking_of, work_of}
 use Rattle.ac_automaton.proofs.WalkLoop.{HasGone, has-gone}
 use Rattle.ac_automaton.proofs.automaton.walk.FindIter.advance.Given.{Over}
@@ -12,24 +13,15 @@ moved : (g : Over) (c : After-after-self-inside g) (last : Option ℕ)
     (walking_of c.next_left-found.new.finder c.next_left-found.new.tape.bytes
     (record { start = c.after-self-inside.result; end = c.self.inside.span.end }) last c.self.inside.from.value
     (work_of c.next_left-found.new.tape c.next_left-found.new.looks))
-moved g c last ends =
-    let found = c.next_left-found.ensures in let before = c.self in
-    rw (found.same, found.bytes, c.after-self-inside.ensures, ← before.view_is, ends)
-    (has-gone before.invariant.under_way refl found.next (found.finds before.inside.from.value))
+moved g c last ends = grind (arith, common_steps, has-gone (c.self).invariant.under_way refl (c.next_left-found.ensures).next ((c.next_left-found.ensures).finds (c.self).inside.from.value))
 
 -- it is over the same bytes
 inside : (g : Over) (c : After-after-self-inside g) → c.self.inside.span.end ≤ length c.next_left-found.new.tape.bytes
-inside g c =
-    subst (λ (bytes : List ℕ). c.self.inside.span.end ≤ length bytes) (sym c.next_left-found.ensures.bytes) c.self.invariant.inside
+inside g c = grind (arith, common_steps)
 
 -- after a match
 pub invariant_of-self : goal.invariant_of-self
-invariant_of-self g c = record {
-  inside = inside g (goal.at.invariant_of-self g c).After-after-self-inside;
-  small = c.self.invariant.small;
-  under_way =
-      (moved g (goal.at.invariant_of-self g c).After-after-self-inside (Some c.end.result) (simp (c.end.ensures, c.in-Some.is))).way;
-}
+invariant_of-self g c = search (rules, inside, inside g (goal.at.invariant_of-self g c).After-after-self-inside, moved g (goal.at.invariant_of-self g c).After-after-self-inside (Some c.end.result) (simp (c.end.ensures, c.in-Some.is)))
 
 pub returns-in-Some : goal.returns-in-Some
 returns-in-Some g c =
@@ -38,12 +30,7 @@ returns-in-Some g c =
 
 -- and where there was none
 pub invariant_of-self-in_default : goal.invariant_of-self-in_default
-invariant_of-self-in_default g c = record {
-  inside = inside g (goal.at.invariant_of-self-in_default g c).After-after-self-inside;
-  small = c.self.invariant.small;
-  under_way =
-      (moved g (goal.at.invariant_of-self-in_default g c).After-after-self-inside c.self.inside.last (simp c.in_default.is)).way;
-}
+invariant_of-self-in_default g c = grind (arith, common_steps, inside, inside g (goal.at.invariant_of-self-in_default g c).After-after-self-inside, moved g (goal.at.invariant_of-self-in_default g c).After-after-self-inside c.self.inside.last (simp c.in_default.is))
 
 pub returns-in_default : goal.returns-in_default
 returns-in_default g c =

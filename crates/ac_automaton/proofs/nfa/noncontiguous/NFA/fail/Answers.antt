@@ -1,4 +1,5 @@
-use Rattle.std.proofs.Common.{◌∷◌, Some, ap, sym, ◌∙◌, arith, slice_get}
+use Rattle.std.proofs.Common.{◌∷◌, Some, ap, sym, ◌∙◌, arith, slice_get, rules}
+use Rattle.std.proofs.lemmas.Grind.{common_steps}
 use Rattle.ac_automaton.specs.declared.nfa.noncontiguous.state.State.{State}
 use Rattle.ac_automaton.proofs.Reading.{IsRead, is-read, reads}
 use Rattle.ac_automaton.proofs.nfa.noncontiguous.NFA.fail.Given.{Over}
@@ -15,19 +16,10 @@ returns-clause-target g c = λ nodes x u h named.
 -- the state that was read stands for some node
 read : (g : Over) (c : After-index-states-as_usize g)
     → IsRead c.args.self.now c.args.sid c.index-states-as_usize.result
-read g c =
-    let is_trie = c.states.ensures.is_trie in
-    is-read c.args.self.now is_trie.0 is_trie.1 c.args.sid c.requires.numbered c.index-states-as_usize.result
-    (rw (c.as_usize.ensures.value, c.states.ensures.value) at c.index-states-as_usize.is)
+read g c = search (rules, is-read)
 
 pub returns-clause-start : goal.returns-clause-start
-returns-clause-start g c = λ start.
-    (read g c).represents.unanchored (ap (λ (r : State). r.fail) c.index-states-as_usize.is ∙ start)
+returns-clause-start g c = grind (arith, common_steps, read g c)
 
 pub returns-clause-back : goal.returns-clause-back
-returns-clause-back g c =
-    omega (
-      arith,
-      (read g c).represents.back c.requires.inner,
-      ap (λ (r : State). r.fail) c.index-states-as_usize.is,
-    )
+returns-clause-back g c = grind (arith, common_steps, read g c)

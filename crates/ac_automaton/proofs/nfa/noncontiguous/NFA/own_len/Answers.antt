@@ -1,3 +1,4 @@
+use Rattle.std.proofs.Common.{rules}
 use Rattle.ac_automaton.proofs.Reading.{has-own, is-read, own-length, reads}
 use Rattle.ac_automaton.proofs.nfa.noncontiguous.NFA.own_len.Goals as goal
 
@@ -15,7 +16,4 @@ returns-clause-value g c = λ nodes u h named.
     (rw (c.as_usize.ensures.value, c.states.ensures.value) at c.index-states-as_usize.is))
 
 pub returns-clause-places : goal.returns-clause-places
-returns-clause-places g c =
-    let is_trie = c.states.ensures.is_trie in
-    has-own c.args.self.now is_trie.0 is_trie.1 c.args.sid c.requires.numbered c.index-states-as_usize.result
-    (rw (c.as_usize.ensures.value, c.states.ensures.value) at c.index-states-as_usize.is)
+returns-clause-places g c = search (rules, has-own)

@@ -1,23 +1,12 @@
+use Rattle.std.proofs.Common.{arith}
 use Rattle.std.proofs.lemmas.Bool.Decides.{Decides-ltb, Decides-eqb, Decides-not}
+use Rattle.std.proofs.lemmas.Grind.{common_steps}
 use Rattle.ac_automaton.specs.declared.nfa.noncontiguous.state.TheConstants.{DEAD}
 use Rattle.ac_automaton.proofs.TrieStates.{listed-patterns, listed-linked}
 use Rattle.ac_automaton.proofs.nfa.noncontiguous.NFAAutomaton.is_match.Goals as goal
 
 pub returns-then-state : goal.returns-then-state
-returns-then-state g c =
-    let stands = c.requires.state.1 in
-    let t = c.index-states-as_usize.result in
-    let is = rw (c.as_usize.ensures.value, c.states.ensures.value) at c.index-states-as_usize.is in (
-      (λ own. listed-patterns c.args.self.now c.args.sid stands.0 stands.1 t is c.if-state.true),
-      (λ some. (Decides-ltb t.patterns t.patterns_end).1 c.if-state.true),
-    )
+returns-then-state g c = grind (arith, common_steps, listed-patterns c.args.self.now c.args.sid (c.requires.state.1).0 (c.requires.state.1).1 (c.index-states-as_usize.result) (rw (c.as_usize.ensures.value, c.states.ensures.value) at c.index-states-as_usize.is) c.if-state.true, Decides-ltb (c.index-states-as_usize.result).patterns (c.index-states-as_usize.result).patterns_end)
 
 pub returns-else-state : goal.returns-else-state
-returns-else-state g c =
-    let stands = c.requires.state.1 in
-    let t = c.index-states-as_usize.result in
-    let is = rw (c.as_usize.ensures.value, c.states.ensures.value) at c.index-states-as_usize.is in
-    let linked = listed-linked c.args.self.now c.args.sid stands.0 stands.1 t is c.if-state.false in
-    let tests = Decides-not _ (Decides-eqb t.output_link DEAD) in
-    rw c.as_usize-else-state.ensures.value
-    ((λ some. linked.0 (tests.0 some)), (λ some. tests.1 (linked.1 some)))
+returns-else-state g c = grind (arith, common_steps, listed-linked c.args.self.now c.args.sid (c.requires.state.1).0 (c.requires.state.1).1 (c.index-states-as_usize.result) (rw (c.as_usize.ensures.value, c.states.ensures.value) at c.index-states-as_usize.is) c.if-state.false, Decides-not _ (Decides-eqb (c.index-states-as_usize.result).output_link DEAD), Decides-eqb (c.index-states-as_usize.result).output_link DEAD)

@@ -1,18 +1,10 @@
-use Rattle.std.proofs.Common.{sym}
+use Rattle.std.proofs.Common.{sym, arith}
+use Rattle.std.proofs.lemmas.Grind.{common_steps}
 use Rattle.ac_automaton.proofs.TrieStates.{has-state, meaning, takes-listed, takes-state}
 use Rattle.ac_automaton.proofs.nfa.noncontiguous.NFAAutomaton.take_match.Goals as goal
 
 pub take_listed-requires : goal.take_listed-requires
-take_listed-requires g c =
-    let stands = c.requires.state.1 in
-    record {
-      state = (
-        meaning c.args.self.now c.args.rest.state stands.0 stands.1,
-        stands.0,
-        sym c.order.ensures,
-        rw c.states.ensures.value (has-state c.args.self.now c.args.rest.state stands.0 stands.1),
-      );
-    }
+take_listed-requires g c = grind (arith, common_steps, meaning c.args.self.now c.args.rest.state (c.requires.state.1).0 (c.requires.state.1).1, has-state c.args.self.now c.args.rest.state (c.requires.state.1).0 (c.requires.state.1).1)
 
 pub returns-clause-taken : goal.returns-clause-taken
 returns-clause-taken g c =

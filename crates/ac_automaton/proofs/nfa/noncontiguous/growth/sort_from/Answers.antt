@@ -1,19 +1,17 @@
-use Rattle.std.proofs.Common.{◌≡◌, ℕ, ◌-◌, List, [], ◌++◌, length, length-drop, take, drop, ap, sym, ◌∙◌, subst, rules}
+use Rattle.std.proofs.Common.{◌≡◌, ℕ, ◌-◌, List, [], ◌++◌, length, take, drop, ap, ◌∙◌, subst, rules, arith}
 use Rattle.std.specs.List.Sorted.{IsPermutation}
 use Rattle.std.proofs.lemmas.Fn.{always_returns_same}
 use Rattle.std.proofs.lemmas.List.{append-nil}
-use Rattle.std.proofs.Math.Seq.{drop-length, take-length}
+use Rattle.std.proofs.lemmas.Grind.{common_steps}
 use Rattle.ac_automaton.specs.declared.nfa.noncontiguous.state.Transition.{Transition}
 use Rattle.ac_automaton.proofs.nfa.noncontiguous.growth.sort_from.Goals as goal
 
 -- all from a place on are as many as there are after it, and nothing is after them
 whole : (first : ℕ) (old : List Transition) → take (length old - first) (drop first old) ≡ drop first old
-whole first old =
-    ap (λ (n : ℕ). take n (drop first old)) (sym (length-drop first old)) ∙ take-length (drop first old)
+whole first old = grind (arith, common_steps)
 
 none_behind : (first : ℕ) (old : List Transition) → drop (length old - first) (drop first old) ≡ []
-none_behind first old =
-    ap (λ (n : ℕ). drop n (drop first old)) (sym (length-drop first old)) ∙ drop-length (drop first old)
+none_behind first old = grind (arith, common_steps)
 
 pub returns : goal.returns
 returns c =

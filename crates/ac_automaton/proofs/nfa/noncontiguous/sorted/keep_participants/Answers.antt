@@ -1,5 +1,6 @@
 -- Each pattern is kept or passed over, as the stack tells.
-use Rattle.std.proofs.Common.{◌<◌, ◌≤◌, length, refl, arith}
+use Rattle.std.proofs.Common.{◌<◌, length, refl, arith}
+use Rattle.std.proofs.lemmas.Grind.{common_steps}
 use Rattle.ac_automaton.proofs.Keeping.{Keeps-skip, Keeps-keep, Keeps-end}
 use Rattle.ac_automaton.proofs.nfa.noncontiguous.sorted.keep_participants.Goals as goal
 use Rattle.ac_automaton.proofs.nfa.noncontiguous.sorted.keep_participants.Goals.{then-not-is_shadowed+in_ok-push, else-not-is_shadowed}
@@ -26,8 +27,4 @@ loop-at-preserved g c =
     ]
 
 pub returns-clause-kept : goal.returns-clause-kept
-returns-clause-kept g c =
-    let done : length c.args.sorted.now.items ≤ c.loop-at.at = omega (arith, c.len-at-end.ensures) in
-    Keeps-end c.args.fold c.args.sorted.now.items c.loop-at.sorted.items c.truncate.new.self.items
-    c.loop-at.kept c.loop-at.at
-    c.loop-at.prefixes.items c.loop-at.invariant done c.truncate.ensures.items
+returns-clause-kept g c = grind (arith, common_steps, Keeps-end c.args.fold c.args.sorted.now.items c.loop-at.sorted.items c.truncate.new.self.items c.loop-at.kept c.loop-at.at c.loop-at.prefixes.items c.loop-at.invariant (omega (arith, c.len-at-end.ensures)) c.truncate.ensures.items)

@@ -20,9 +20,6 @@ known c =
 pub patterns_len-count-requires : goal.patterns_len-count-requires
 patterns_len-count-requires c = record { ordered = (known c).patterns_ordered }
 
-pub overflow_add-count : goal.overflow_add-count
-overflow_add-count c = omega arith
-
 pub returns-then-at-eq-DEAD : goal.returns-then-at-eq-DEAD
 returns-then-at-eq-DEAD c = λ g u h.
     rw c.patterns_len-count.ensures.value

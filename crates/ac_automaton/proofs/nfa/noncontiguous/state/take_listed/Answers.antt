@@ -1,4 +1,4 @@
-use Rattle.std.proofs.Common.{◌≡◌, ◌+◌, arith, sym, subst, ap, ◌∙◌, List, ℕ, get_or, length}
+use Rattle.std.proofs.Common.{◌≡◌, ◌+◌, arith, sym, subst, ap, ◌∙◌, List, ℕ, get_or, length, rules}
 use Rattle.ac_util.specs.Node.{Node}
 use Rattle.ac_automaton.specs.Tries.{Represents}
 use Rattle.ac_automaton.proofs.Follows.{represented}
@@ -61,9 +61,4 @@ returns-then-as_usize-eq-DEAD c = λ g u same h.
     (sym c.as_usize-in-loop-left.ensures.value ∙ c.if-as_usize-eq-DEAD.true)
 
 pub loop-left-preserved : goal.loop-left-preserved
-loop-left-preserved c = λ g u same h.
-    let is = rw c.as_usize.ensures.value at c.index-states-as_usize.is in
-    rw c.patterns_len-len.ensures.value
-    (seeking-on g c.args.states.now u c.loop-left.at c.index-states-as_usize.result is c.args.rest.index
-    c.loop-left.left
-    (c.loop-left.invariant g u same h) (omega arith))
+loop-left-preserved c = search (rules, seeking-on)

@@ -16,12 +16,7 @@ use Rattle.ac_automaton.proofs.nfa.noncontiguous.state.target.Goals as goal
 -- bytes that rise strictly don't fall
 rises : (xs : List ℕ) → IsStrictlyIncreasing xs → (i j : ℕ) → i ≤ j → j < length xs
     → get_or xs i 0 ≤ get_or xs j 0
-rises xs ascending i j at_most inside = elim (cases_lt i j) [
-  | inl less ↦
-      (let l : get_or xs i 0 < get_or xs j 0 = AllPairs-from_increasing xs ascending i j 0 less inside in
-      omega arith)
-  | inr more ↦ subst (λ (k : ℕ). get_or xs i 0 ≤ get_or xs k 0) (let e : i ≡ j = omega arith in e) (omega arith)
-]
+rises xs ascending i j at_most inside = search (rules, AllPairs-from_increasing, cases_lt)
 
 -- where a binary search finds no place of a byte there is none
 absent : (xs : List ℕ) (x place : ℕ) → IsStrictlyIncreasing xs
@@ -64,10 +59,7 @@ bytes-searched xs x place h = λ up.
 found : (xs : List Transition) (x k : ℕ) (t : Transition) → k < length xs
     → HoldsAt (λ y. nat_cmp y.byte x ≡ Equal) xs k
     → slice_get xs k ≡ Some (record { byte = x; target = (get_or xs k t).target })
-found xs x k t within equal =
-    slice_get-get_or xs k t within
-    ∙ ap (λ (byte : ℕ). Some (record { byte = byte; target = (get_or xs k t).target }))
-    (exact_unsigned (get_or xs k t).byte x (equal t))
+found xs x k t within equal = search (rules, exact_unsigned, slice_get-get_or)
 
 pub returns-in-Ok : goal.returns-in-Ok
 returns-in-Ok c =

@@ -1,4 +1,4 @@
-use Rattle.std.proofs.Common.{◌≡◌, ℕ, length, refl, ap, sym, ◌∙◌, arith, inl, inr, Some, slice_get}
+use Rattle.std.proofs.Common.{arith, rules}
 use Rattle.std.proofs.lemmas.Bool.{cases_lt}
 use Rattle.std.proofs.lemmas.Option.{slice_get_read}
 use Rattle.ac_util.proofs.Lists.{IsIn-from_Contains, IsIn-from_map}
@@ -7,28 +7,10 @@ use Rattle.ac_automaton.proofs.Places.{get-same, place-of}
 use Rattle.ac_automaton.proofs.nfa.noncontiguous.state.target_among.Goals as goal
 
 pub loop-next-preserved : goal.loop-next-preserved
-loop-next-preserved c = λ k t l e is. elim (cases_lt k c.loop-next.next-index) [
-  | inl before ↦ c.loop-next.invariant k t before e is
-  | inr after ↦
-      let here =
-      slice_get_read c.args.own.now
-      (length c.args.own.now) c.loop-next.next-index c.next-item.result refl c.loop-next-test.true
-      c.next-item.is in
-      let at : k ≡ c.loop-next.next-index = omega arith in
-      let same = get-same c.args.own.now k t c.next-item.result e (ap (slice_get c.args.own.now) at ∙ here) in
-      c.if-next-byte.false (sym (ap (λ (x : Transition). x.byte) same) ∙ is)
-]
+loop-next-preserved c = search (rules, cases_lt, get-same, slice_get_read)
 
 pub returns-then-next-byte : goal.returns-then-next-byte
-returns-then-next-byte c =
-    let here =
-    slice_get_read c.args.own.now
-    (length c.args.own.now) c.loop-next.next-index c.next-item.result refl c.loop-next-test.true
-    c.next-item.is in (
-      c.loop-next.next-index,
-      here ∙ ap (λ (byte : ℕ). Some (record { byte = byte; target = c.next-item.result.target }))
-          c.if-next-byte.true,
-    )
+returns-then-next-byte c = search (rules, slice_get_read)
 
 pub returns : goal.returns
 returns c = λ has.

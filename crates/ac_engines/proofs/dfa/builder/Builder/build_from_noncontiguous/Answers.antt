@@ -1,4 +1,4 @@
-use Rattle.std.proofs.Common.{◌≡◌, ◌∙◌, refl, sym}
+use Rattle.std.proofs.Common.{◌≡◌, ◌∙◌}
 use Rattle.ac_util.specs.Pieces.{pieces}
 use Rattle.ac_automaton.specs.Common.{common_of}
 use Rattle.ac_engines.specs.Dfa.Filling.{first_row_in}
@@ -56,24 +56,3 @@ invariant_of-result g c =
           c.self.inside.start_kind c.classes_for-classes.result c.stride2-stride2.result layout.numbers.items nodes.0 _
           may c.in_ok-table.table.items lists layout.first_match layout.match_end (filled may) laid;
     })
-
--- the table is that of the automaton
-pub returns : goal.returns
-returns g c =
-    let plan = planned c.args.nfa.now c.self.inside.start_kind c.self.inside.byte_classes c.classes_for-classes.result
-    c.stride2-stride2.result c.stride.result c.states_len.result c.table_rows-rows.result c.in_ok-len.len
-    c.classes_for-classes.ensures.value c.stride2-stride2.ensures.value c.stride.ensures c.states_len.ensures.value
-    c.table_rows-rows.ensures.value c.table_rows-rows.ensures.some c.in_ok-len.ensures.0 c.in_ok-len.ensures.1 in
-    let common : c.in_ok-clone-2.field-0 ≡ common_of c.args.nfa.now.built c.args.nfa.now.filters =
-    c.in_ok-clone-2.ensures.cases ∙ c.common.ensures in
-    let classes = c.classes_for-classes.ensures.value in
-    rw (sym c.self.view_is) (
-      record {
-        built = rw common refl;
-        filters_is = rw common refl;
-        classes = classes;
-        stride2 = c.stride2-stride2.ensures.value;
-        rows = c.in_ok-table.ensures.long ∙ plan.len_is ∙ rw c.stride2-stride2.ensures.value refl;
-      },
-      rw classes at plan.allowed,
-    )

@@ -1,4 +1,4 @@
-use Rattle.std.proofs.Common.{◌≡◌, ◌≢◌, ℕ, ◌+◌, [], length, ap, subst, refl, arith, ◌∙◌}
+use Rattle.std.proofs.Common.{◌≡◌, ◌≢◌, ℕ, ◌+◌, [], length, ap, subst, refl, arith, ◌∙◌, rules}
 use Rattle.ac_util.specs.Sizes.{state_count}
 use Rattle.ac_automaton.specs.Automata.{plain_of}
 use Rattle.ac_engines.specs.Dfa.Filling.{FilledUpTo, Filling}
@@ -11,16 +11,7 @@ second : ◌≢◌ {A = ℕ} 2 3
 second same = omega (arith, same)
 
 pub fill_state-requires : goal.fill_state-requires
-fill_state-requires g c =
-    let f = c.args.self.now in
-    let size = length c.args.table.now in
-    let may = c.requires.may.1 in
-    let nodes = c.requires.may.0 in (
-      nodes,
-      [],
-      rw c.must.ensures.value (has-row f nodes size may 2 [] may.are_nodes.start second),
-      rw c.must.ensures.value (filled-none f nodes size may c.args.table.now refl c.requires.blank),
-    )
+fill_state-requires g c = search (rules, filled-none, has-row, second)
 
 -- the rows of the first four states are filled
 pub loop-state-init : goal.loop-state-init

@@ -1,4 +1,4 @@
-use Rattle.std.proofs.Common.{◌≡◌, ◌≢◌, ℕ, List, [], length, inl, inr, ◌∙◌}
+use Rattle.std.proofs.Common.{◌≡◌, ◌≢◌, ℕ, List, [], length, ◌∙◌, rules}
 use Rattle.ac_util.specs.Node.{Node}
 use Rattle.ac_engines.specs.Dfa.Filling.{Filling, HasRow}
 use Rattle.ac_engines.proofs.Numbered.{inner-string}
@@ -8,10 +8,7 @@ use Rattle.ac_engines.proofs.dfa.fill.Filler.fill_row.Goals as goal
 -- after the start no string is empty
 not-empty : (f : Filling) (nodes : List Node) (size s : ℕ) (w : List ℕ) → HasRow f nodes size s w → (s ≡ 2 → ⊥)
     → w ≢ []
-not-empty f nodes size s w h other = elim h.place [
-  | inl start ↦ absurd (other start)
-  | inr inner ↦ inner-string f.trie nodes h.may.are_nodes s w inner h.named
-]
+not-empty f nodes size s w h other = search (rules, inner-string)
 
 pub fill_inner-requires : goal.fill_inner-requires
 fill_inner-requires g c =

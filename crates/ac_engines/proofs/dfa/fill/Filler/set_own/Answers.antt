@@ -1,21 +1,12 @@
-use Rattle.std.proofs.Common.{ap, sym, subst, arith, length, ◌∙◌, ◌++◌, ◌∷◌, [], Some, take_all}
-use Rattle.ac_automaton.specs.Util.{alphabet_len, class_at, plain_byte, state_count}
-use Rattle.ac_automaton.specs.Prelude.{AreNodes, IsOwn, own_bytes, plain_of, Trie}
+use Rattle.std.proofs.Common.{ap, sym, subst, arith, length, ◌∙◌, ◌++◌, ◌∷◌, [], Some, take_all, rules}
+use Rattle.ac_automaton.specs.Util.{alphabet_len, class_at, plain_byte}
+use Rattle.ac_automaton.specs.Prelude.{AreNodes, IsOwn, own_bytes, Trie}
 use Rattle.ac_engines.specs.Dfa.Filling.{Filling, HasSet, sheet_of}
 use Rattle.ac_engines.proofs.Owning.{next-row, numbered-below, own-more, own_bytes-starts, row-room}
-use Rattle.ac_engines.proofs.Setting.{set-none}
 use Rattle.ac_engines.proofs.dfa.fill.Filler.set_own.Goals as goal
 
--- nothing has been set at first
-pub loop-index-init : goal.loop-index-init
-loop-index-init g c = λ nodes w h.
-    set-none (sheet_of c.args.self.now nodes) c.args.anchored w h.may.below c.args.table.now
-
 pub own-byte-requires-clause-numbered : goal.own-byte-requires-clause-numbered
-own-byte-requires-clause-numbered g c =
-    let h = c.requires.2 in
-    rw (ap (λ (f : Filling). state_count f.trie.built.kind (plain_of f.trie.built)) c.self.view_is)
-    (numbered-below c.args.self.now.trie c.requires.0 c.args.sid (Some c.requires.1) h.may.are_nodes h.named)
+own-byte-requires-clause-numbered g c = search (rules, numbered-below)
 
 -- an own transition, as the reader tells it
 pub number-requires-in-loop-index : goal.number-requires-in-loop-index

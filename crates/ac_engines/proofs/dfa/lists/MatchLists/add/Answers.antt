@@ -1,8 +1,9 @@
 use Rattle.std.proofs.Common.{refl, ◌≡◌, ◌++◌, ◌∷◌, [], List, length, Some, ℕ, ap, sym, ◌∙◌, arith, slice_get}
+use Rattle.std.proofs.lemmas.Grind.{common_steps}
 use Rattle.ac_automaton.specs.Util.{AreBounds, Node, pieces}
 use Rattle.ac_util.proofs.PiecesLemmas.{one_more_piece}
 use Rattle.ac_automaton.specs.Prelude.{AreNodes, is_due, matches_of}
-use Rattle.ac_engines.proofs.Listing.{all-listed, has-first, may-begin, none-listed, one-more, others-left}
+use Rattle.ac_engines.proofs.Listing.{has-first, may-begin, none-listed, one-more}
 use Rattle.ac_engines.proofs.dfa.lists.MatchLists.add.Given.{Over}
 use Rattle.ac_engines.proofs.dfa.lists.MatchLists.add.Goals.{In_ok-push-2, in-Some+then-not-is_due, in_default}
 use Rattle.ac_engines.proofs.dfa.lists.MatchLists.add.Goals as goal
@@ -44,16 +45,7 @@ module _ (g : Over) (c : In_ok-push-2 g) where
   -- the matches that count were listed
   listed : (nodes : List Node) (u : Node) → AreNodes c.args.nfa.now nodes → slice_get nodes c.args.sid ≡ Some u
       → c.loop-pattern.self.listed.items ≡ c.args.self.now.listed.items ++ matches_of c.args.nfa.now.built c.args.anchored u
-  listed nodes u h named =
-      let so_far = c.loop-pattern.invariant.listed nodes u h named in
-      elim c.match-take_match.branch [
-        | in-Some+then-not-is_due w ↦
-            others-left c.args.nfa.now c.args.anchored c.depth-depth.result u c.args.self.now.listed.items
-            c.loop-pattern.self.listed.items c.loop-pattern.rest so_far _ _ w.in-Some.ensures.taken (ap (λ (n : ℕ). is_due c.args.anchored n c.depth-depth.result) (sym w.pattern_len.ensures) ∙ sym w.is_due.ensures ∙ w.if-not-is_due.true)
-        | in_default w ↦
-            all-listed c.args.nfa.now c.args.anchored c.depth-depth.result u c.args.self.now.listed.items
-            c.loop-pattern.self.listed.items c.loop-pattern.rest so_far w.in_default.ensures.taken
-      ]
+  listed nodes u h named = grind (arith, common_steps)
 
   -- they are one list more
   one_list : (nodes : List Node) (u : Node) → AreNodes c.args.nfa.now nodes → slice_get nodes c.args.sid ≡ Some u

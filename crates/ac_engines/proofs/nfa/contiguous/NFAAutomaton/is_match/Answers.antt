@@ -21,13 +21,3 @@ returns-then-as_usize-gt-DEAD g c =
           let below = within.0 in
           lt-ltb c.as_usize-then-as_usize-gt-DEAD.result c.self.inside.match_end (omega arith),
     )
-
-pub returns-else-as_usize-gt-DEAD : goal.returns-else-as_usize-gt-DEAD
-returns-else-as_usize-gt-DEAD g c =
-    let r = c.requires.state in
-    let number = match-number c.args.self.now r.0 c.args.sid r.1.0 r.1.1 in
-    let value = c.as_usize.ensures.value in
-    let none = c.if-as_usize-gt-DEAD.false in (
-      λ is-true. let positive = ltb-true 0 c.as_usize.result is-true in absurd (omega arith),
-      λ some. absurd ((number.0 some).1 (omega arith)),
-    )

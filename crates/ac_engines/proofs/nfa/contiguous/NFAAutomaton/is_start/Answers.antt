@@ -1,16 +1,13 @@
-use Rattle.std.proofs.Common.{◌≡◌, ℕ, Bool, true, false, ◌∙◌, sym, ap, inl, inr, refl, ◌&&◌, ◌==◌}
-use Rattle.std.proofs.lemmas.Bool.{eq-eqb, eqb-true}
+use Rattle.std.proofs.Common.{◌≡◌, ℕ, Bool, true, ◌∙◌, sym, ap, inl, inr, ◌&&◌, ◌==◌, arith}
+use Rattle.std.proofs.lemmas.Bool.{eq-eqb}
+use Rattle.std.proofs.lemmas.Grind.{common_steps}
 use Rattle.ac_engines.specs.Contiguous.{ContiguousView}
 use Rattle.ac_engines.proofs.PackedNumbers.{start-number}
 use Rattle.ac_engines.proofs.nfa.contiguous.NFAAutomaton.is_start.Goals as goal
 
 -- what a comparison of state numbers tells
 equal-from : (a b : ℕ) (t : Bool) → t ≡ ((a == b) && true) → t ≡ true → a ≡ b
-equal-from a b t is true-is = eqb-true a b (both (a == b) (sym is ∙ true-is))
-  where
-    both : (t : Bool) → (t && true) ≡ true → t ≡ true
-    both true e = refl
-    both false e = absurd cc
+equal-from a b t is true-is = grind (arith, common_steps)
 
 equal-tells : (a b : ℕ) (t : Bool) → t ≡ ((a == b) && true) → a ≡ b → t ≡ true
 equal-tells a b t is same = is ∙ ap (λ (t : Bool). t && true) (eq-eqb a b same)

@@ -3,12 +3,6 @@ use Rattle.ac_util.specs.Classes.{class_at}
 use Rattle.ac_engines.specs.Contiguous.{ContiguousView}
 use Rattle.ac_engines.proofs.nfa.contiguous.NFAAutomaton.next_state.Goals as goal
 
-pub follow-requires : goal.follow-requires
-follow-requires g c =
-    let class = c.get.ensures.value ∙ ap (λ (p : ContiguousView). class_at p.classes c.args.byte) c.self.view_is in
-    let r = c.requires.state in
-    record { state = (c.args.self.now, c.args.byte, r.0, sym c.words.ensures.value, c.ranges.byte.fits, class, r.1) }
-
 pub returns-clause-steps : goal.returns-clause-steps
 returns-clause-steps g c = λ u h.
     let class = c.get.ensures.value ∙ ap (λ (p : ContiguousView). class_at p.classes c.args.byte) c.self.view_is in

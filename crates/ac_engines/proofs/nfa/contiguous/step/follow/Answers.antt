@@ -1,4 +1,4 @@
-use Rattle.std.proofs.Common.{◌≡◌, ℕ, ◌<◌, List, length, refl, Some, None, ap, sym, subst, ◌∙◌, arith}
+use Rattle.std.proofs.Common.{◌≡◌, ℕ, ◌<◌, List, length, refl, Some, None, ap, sym, subst, ◌∙◌, arith, rules}
 use Rattle.std.proofs.lemmas.Bool.{false≢true}
 use Rattle.ac_util.specs.declared.search.Anchored.{Anchored}
 use Rattle.ac_automaton.specs.Util.{alphabet_len, class_at, Counts, No, Node, Yes}
@@ -12,9 +12,7 @@ use Rattle.ac_engines.proofs.nfa.contiguous.step.follow.Goals as goal
 use Rattle.ac_engines.proofs.nfa.contiguous.step.follow.Goals.{After-look}
 
 pub loop-next-init : goal.loop-next-init
-loop-next-init c = λ p b u same byte class h.
-    onward-start p c.args.anchored b u c.args.looks.now c.as_usize-at.result
-    (subst (λ (s : ℕ). IsContiguousState p c.args.anchored s u) (sym c.as_usize-at.ensures.value) h)
+loop-next-init c = search (rules, onward-start)
 
 pub at-state-requires : goal.at-state-requires
 at-state-requires c =

@@ -1,3 +1,5 @@
+use Rattle.std.proofs.Common.{arith}
+use Rattle.std.proofs.lemmas.Grind.{common_steps}
 use Rattle.ac_automaton.proofs.TrieStates.{start-state}
 use Rattle.ac_automaton.proofs.nfa.noncontiguous.builder.Builder.build.Goals as goal
 
@@ -11,7 +13,4 @@ invariant_of-result g c =
 
 -- the start stands for the empty string
 pub root_of-requires-clause-start : goal.root_of-requires-clause-start
-root_of-requires-clause-start g c =
-    let whole = c.in_ok-lists.ensures in
-    rw (c.slices.ensures.states, c.slices.ensures.transitions)
-    (start-state _ whole.nodes (whole.is_trie c.self.inside.prefilter))
+root_of-requires-clause-start g c = grind (arith, common_steps, start-state _ (c.in_ok-lists.ensures).nodes ((c.in_ok-lists.ensures).is_trie c.self.inside.prefilter))

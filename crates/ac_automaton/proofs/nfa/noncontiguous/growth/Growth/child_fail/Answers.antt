@@ -26,9 +26,6 @@ returns-then-queued-eq0-clause-fails g c = λ patterns h.
     ])
     c.if-queued-eq0.true
 
-pub returns-then-queued-eq0-clause-unanchored : goal.returns-then-queued-eq0-clause-unanchored
-returns-then-queued-eq0-clause-unanchored g c = c.requires.child.1.waits.unanchored
-
 pub returns-clause-unanchored : goal.returns-clause-unanchored
 returns-clause-unanchored g c =
     let patterns = c.requires.child.0 in

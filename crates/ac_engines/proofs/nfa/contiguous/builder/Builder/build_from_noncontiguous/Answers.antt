@@ -1,4 +1,4 @@
-use Rattle.std.proofs.Common.{◌≡◌, ◌∙◌, ap, sym, subst, arith, length, ℕ, List}
+use Rattle.std.proofs.Common.{◌≡◌, ◌∙◌, ap, sym, subst, arith, rules}
 use Rattle.ac_automaton.specs.declared.nfa.noncontiguous.state.TheConstants.{ANCHORED_START, START}
 use Rattle.ac_automaton.specs.Prelude.{common_of}
 use Rattle.ac_engines.specs.Prelude.{ContiguousView, IsContiguous, PackPlan, places_of}
@@ -14,22 +14,10 @@ pack-requires-clause-ready g c =
     )
 
 pub index-requires : goal.index-requires
-index-requires g c =
-    let nodes = c.new-plan.ensures.may in
-    let placed = starts-placed c.new-plan.result nodes.0 c.in_ok-numbers.numbers.items nodes.1
-    (c.in_ok-numbers.ensures nodes.0 nodes.1) in
-    let same = ap (λ (ns : List ℕ). length ns) c.deref.ensures.value in
-    let long = c.deref.ensures.len in
-    omega arith
+index-requires g c = search (rules, starts-placed c.new-plan.result (c.new-plan.ensures.may).0 c.in_ok-numbers.numbers.items (c.new-plan.ensures.may).1 (c.in_ok-numbers.ensures (c.new-plan.ensures.may).0 (c.new-plan.ensures.may).1))
 
 pub index-requires-2 : goal.index-requires-2
-index-requires-2 g c =
-    let nodes = c.new-plan.ensures.may in
-    let placed = starts-placed c.new-plan.result nodes.0 c.in_ok-numbers.numbers.items nodes.1
-    (c.in_ok-numbers.ensures nodes.0 nodes.1) in
-    let same = ap (λ (ns : List ℕ). length ns) c.deref.ensures.value in
-    let long = c.deref.ensures.len in
-    omega arith
+index-requires-2 g c = search (rules, starts-placed c.new-plan.result (c.new-plan.ensures.may).0 c.in_ok-numbers.numbers.items (c.new-plan.ensures.may).1 (c.in_ok-numbers.ensures (c.new-plan.ensures.may).0 (c.new-plan.ensures.may).1))
 
 -- the words stand for the nodes
 pub invariant_of-result : goal.invariant_of-result

@@ -2,16 +2,8 @@ use Rattle.std.proofs.Common.{◌≡◌, ap, sym, subst, arith, ◌∙◌, ◌�
 use Rattle.ac_util.specs.Node.{failure}
 use Rattle.ac_automaton.specs.Prelude.{AreNodes, plain_of, Trie}
 use Rattle.ac_engines.specs.Prelude.{Packer, PackPlan}
-use Rattle.ac_engines.proofs.StateSpellings.{failure-none, failure-spelled}
+use Rattle.ac_engines.proofs.StateSpellings.{failure-spelled}
 use Rattle.ac_engines.proofs.nfa.contiguous.pack.Packer.failure.Goals as goal
-
--- the starts have none
-pub returns-then-as_usize-lt-FIRST_INNER : goal.returns-then-as_usize-lt-FIRST_INNER
-returns-then-as_usize-lt-FIRST_INNER g c = λ nodes u ready named.
-    let at = c.as_usize.ensures.value in
-    let outer = c.if-as_usize-lt-FIRST_INNER.true in
-    let reached = c.requires.state.reached in
-    failure-none c.args.self.now nodes ready c.args.sid u reached (omega arith) named
 
 -- after them it is the place of the target
 pub returns : goal.returns

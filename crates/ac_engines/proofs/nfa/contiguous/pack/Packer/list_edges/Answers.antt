@@ -5,10 +5,6 @@ use Rattle.ac_engines.specs.Prelude.{Packer, PackPlan, state_spelling}
 use Rattle.ac_engines.proofs.StateSpellings.{edges-count, edges-next, own-numbered, string-of}
 use Rattle.ac_engines.proofs.nfa.contiguous.pack.Packer.list_edges.Goals as goal
 
--- nothing is listed at first
-pub loop-index-init : goal.loop-index-init
-loop-index-init g c = λ nodes u ready named. c.clear.ensures.items
-
 -- an own transition, as the reader tells it
 pub number-requires : goal.number-requires
 number-requires g c =

@@ -1,8 +1,9 @@
-use Rattle.std.proofs.Common.{◌≡◌, ℕ, ◌++◌, ◌∷◌, [], List, length, ap, sym, subst, ◌∙◌, arith}
-use Rattle.std.proofs.lemmas.List.{append_assoc, append-nil}
+use Rattle.std.proofs.Common.{◌≡◌, ℕ, ◌++◌, ◌∷◌, [], List, ap, sym, subst, ◌∙◌, arith}
+use Rattle.std.proofs.lemmas.List.{append-nil}
+use Rattle.std.proofs.lemmas.Grind.{common_steps}
 use Rattle.ac_util.specs.declared.search.Anchored.TheVariants.{No}
 use Rattle.ac_automaton.specs.declared.automaton.overlap.MatchRest.{MatchRest}
-use Rattle.ac_automaton.specs.Prelude.{IsState, IsTrieState, stands-lists, Trie}
+use Rattle.ac_automaton.specs.Prelude.{IsState, IsTrieState, Trie}
 use Rattle.ac_engines.specs.Prelude.{anchored_of, packed_of, Packer, PackPlan, places_of}
 use Rattle.ac_engines.proofs.Listing.{rest_of}
 use Rattle.ac_engines.proofs.StateSpellings.{matches-spelled}
@@ -16,35 +17,13 @@ state-same t u same s state = subst (λ v. IsState (IsTrieState v) s) same state
 -- and so is the first match of a rest
 first-same : (t u : Trie) → t ≡ u → (rest after : MatchRest) (pattern : ℕ)
     → rest_of t rest ≡ pattern ∷ rest_of t after → rest_of u rest ≡ pattern ∷ rest_of u after
-first-same t u same rest after pattern taken =
-    subst (λ v. rest_of v rest ≡ pattern ∷ rest_of v after) same taken
+first-same t u same rest after pattern taken = grind (arith, common_steps)
 
 -- and with it listed, the rest after it is what is left
 one-listed : (t : Trie) (now all : List ℕ) (rest after : MatchRest) (pattern : ℕ)
     → rest_of t rest ≡ pattern ∷ rest_of t after → now ++ rest_of t rest ≡ all
     → (now ++ pattern ∷ []) ++ rest_of t after ≡ all
-one-listed t now all rest after pattern taken listed =
-    append_assoc now (pattern ∷ []) (rest_of t after) ∙ ap (λ (ns : List ℕ). now ++ ns) (sym taken) ∙ listed
-
--- nothing is listed at first
-pub loop-pattern-init : goal.loop-pattern-init
-loop-pattern-init g c = record {
-  state = (c.requires.state.node, c.requires.state.ready.may.are_nodes.stands c.args.sid c.requires.state.node c.requires.state.named);
-  listed = λ nodes u h named. rw c.clear.ensures.items (stands-lists c.args.self.now.plan.trie No c.args.sid u (h.stands c.args.sid u named));
-}
-
-pub take_match-requires : goal.take_match-requires
-take_match-requires g c =
-    let trie = ap (λ (p : PackPlan). p.trie) c.plan.view_is ∙ ap (λ (f : Packer). f.plan.trie) c.self.view_is in
-    record { state = (No, state-same _ _ (sym trie) c.loop-pattern.rest.state c.loop-pattern.invariant.state) }
-
--- the first match of the rest
-pub loop-pattern-smaller : goal.loop-pattern-smaller
-loop-pattern-smaller g c =
-    let trie = ap (λ (p : PackPlan). p.trie) c.plan.view_is ∙ ap (λ (f : Packer). f.plan.trie) c.self.view_is in
-    let taken = first-same _ _ trie c.loop-pattern.rest _ _ c.in-Some.ensures.taken in
-    let shorter = ap (λ (ns : List ℕ). length ns) taken in
-    omega (arith, shorter)
+one-listed t now all rest after pattern taken listed = grind (arith, common_steps)
 
 -- is listed after the others
 pub loop-pattern-preserved : goal.loop-pattern-preserved

@@ -1,4 +1,4 @@
-use Rattle.std.proofs.Common.{List, ℕ, ◌++◌, ◌∙◌, ap}
+use Rattle.std.proofs.Common.{List, ℕ, ◌++◌, ◌∙◌, ap, rules}
 use Rattle.ac_util.specs.Classes.{alphabet_len}
 use Rattle.ac_util.proofs.ClassLists.{alphabet_len-few}
 use Rattle.ac_engines.specs.Prelude.{Dense, spelled}
@@ -6,9 +6,7 @@ use Rattle.ac_engines.proofs.PackedStates.{are-packed, dead_spelling, words-long
 use Rattle.ac_engines.proofs.nfa.contiguous.pack.Packer.pack.Goals as goal
 
 pub push_dead-requires : goal.push_dead-requires
-push_dead-requires g c =
-    let r = c.requires.ready in
-    record { few = alphabet_len-few c.args.self.now.plan.classes r.1.may.classes }
+push_dead-requires g c = search (rules, alphabet_len-few)
 
 -- the dead state's words come first, then those of the states that have matches, and then those of the others
 pub returns-clause-long : goal.returns-clause-long

@@ -1,7 +1,8 @@
-use Rattle.std.proofs.Common.{◌≡◌, ◌++◌, ap, sym, subst, ◌∙◌, List, map, Some, IfOk, slice_get}
+use Rattle.std.proofs.Common.{◌≡◌, ◌++◌, sym, subst, ◌∙◌, List, map, Some, IfOk, slice_get, rules, arith}
 use Rattle.std.specs.List.Sorted.{IsStrictlyIncreasing}
+use Rattle.std.proofs.lemmas.Grind.{common_steps}
 use Rattle.ac_automaton.specs.Util.{alphabet_len, Node}
-use Rattle.ac_engines.specs.Prelude.{AreReady, Edge, MayPack, node_format, Packer, PackPlan, state_spelling}
+use Rattle.ac_engines.specs.Prelude.{AreReady, Edge, node_format, state_spelling}
 use Rattle.ac_engines.proofs.StateSpellings.{spelled-by_parts, state-spells}
 use Rattle.ac_engines.proofs.nfa.contiguous.pack.Packer.push.Given.{Over}
 use Rattle.ac_engines.proofs.nfa.contiguous.pack.Packer.push.Goals.{After-alphabet_len}
@@ -17,15 +18,10 @@ module _ (g : Over) (c : After-alphabet_len g) (nodes : List Node) (u : Node) (r
   matches = c.deref-2.ensures.value ∙ c.in_ok-list_matches.ensures nodes u ready named
 
   form : c.format.result ≡ node_format c.args.self.now.plan.trie.built c.args.self.now.plan.dense_depth u
-  form =
-      let plan = ap (λ (f : Packer). f.plan) c.self.view_is in
-      c.format.ensures nodes u (subst (λ (q : PackPlan). MayPack q nodes) (sym plan) ready.may) named
-      ∙ ap (λ (q : PackPlan). node_format q.trie.built q.dense_depth u) plan
+  form = search rules
 
   classes : c.alphabet_len.result ≡ alphabet_len c.args.self.now.plan.classes
-  classes =
-      c.alphabet_len.ensures.value ∙ ap (λ (q : PackPlan). alphabet_len q.classes) c.plan.view_is
-      ∙ ap (λ (f : Packer). alphabet_len f.plan.classes) c.self.view_is
+  classes = grind (arith, common_steps)
 
 pub push_state-requires-clause-fits : goal.push_state-requires-clause-fits
 push_state-requires-clause-fits g c =

@@ -1,4 +1,4 @@
-use Rattle.std.proofs.Common.{◌≡◌, ◌∷◌, [], ℕ, Bool, List, Some, slice_get, true, false, length, ap, sym, ◌∙◌, arith}
+use Rattle.std.proofs.Common.{◌≡◌, ◌∷◌, [], ℕ, Bool, List, Some, slice_get, true, false, length, ap, sym, ◌∙◌, arith, rules}
 use Rattle.std.proofs.lemmas.List.{length-append}
 use Rattle.ac_util.specs.Node.{Node}
 use Rattle.ac_engines.specs.Contiguous.Plans.{MayPack, size_of}
@@ -17,12 +17,7 @@ loop-state-init g c = record {
 
 -- each state has words
 pub is_match-requires : goal.is_match-requires
-is_match-requires g c =
-    let (nodes, may) = c.requires.may in
-    record {
-      state = has-words c.args.self.now nodes may _ _ c.loop-state.state _ c.self.view_is c.states_len-state-end.ensures.value
-          c.loop-state.auto.state c.loop-state-test.true c.must-sid.ensures.value;
-    }
+is_match-requires g c = search (rules, has-words)
 
 -- those in front lie within all words
 pub must-requires : goal.must-requires
@@ -34,12 +29,7 @@ must-requires g c =
 
 -- the state is the same
 pub words-front-requires : goal.words-front-requires
-words-front-requires g c =
-    let (nodes, may) = c.requires.may in
-    record {
-      state = has-words c.args.self.now nodes may _ _ c.loop-state.state _ c.self.view_is c.states_len-state-end.ensures.value
-          c.loop-state.auto.state c.loop-state-test.true c.must-sid.ensures.value;
-    }
+words-front-requires g c = search (rules, has-words)
 
 -- and so do the others
 pub must-requires-else-is_match : goal.must-requires-else-is_match
@@ -51,12 +41,7 @@ must-requires-else-is_match g c =
 
 -- the state is the same
 pub words-back-requires : goal.words-back-requires
-words-back-requires g c =
-    let (nodes, may) = c.requires.may in
-    record {
-      state = has-words c.args.self.now nodes may _ _ c.loop-state.state _ c.self.view_is c.states_len-state-end.ensures.value
-          c.loop-state.auto.state c.loop-state-test.true c.must-sid.ensures.value;
-    }
+words-back-requires g c = search (rules, has-words)
 
 -- one state more has its place, in front or among the others
 pub loop-state-preserved : goal.loop-state-preserved

@@ -1,4 +1,4 @@
-use Rattle.std.proofs.Common.{◌≡◌, ◌+◌, Bool, List, None, Some, slice_get, true, false, length, ap, sym, ◌∙◌, arith}
+use Rattle.std.proofs.Common.{◌≡◌, ◌+◌, Bool, List, None, Some, slice_get, true, false, length, ap, sym, ◌∙◌, arith, rules}
 use Rattle.ac_util.specs.Node.{Node}
 use Rattle.ac_engines.specs.Contiguous.Plans.{MayPack, size_of}
 use Rattle.ac_engines.proofs.PlanSums.{TakesSize, before, before-starts, has-words, named-below, plan-states, sizes-whole, takes}
@@ -7,47 +7,15 @@ use Rattle.ac_engines.proofs.nfa.contiguous.plan.Plan.sizes.Goals as goal
 
 -- nothing is summed yet
 pub loop-state-init : goal.loop-state-init
-loop-state-init g c = record {
-  front = λ nodes may. omega (arith, c.dead_words-dead.ensures.value, before-starts c.args.self.now nodes true);
-  all = λ nodes may. omega (arith, before-starts c.args.self.now nodes false);
-  room = omega (arith, c.dead_words-dead.ensures.small);
-}
+loop-state-init g c = search (rules, before-starts)
 
 -- each state has words
 pub words-words-requires : goal.words-words-requires
-words-words-requires g c =
-    let (nodes, may) = c.requires.may in
-    record {
-      state = has-words c.args.self.now nodes may _ _ c.loop-state.state _ c.self.view_is c.states_len-state-end.ensures.value
-          c.loop-state.auto.state c.loop-state-test.true c.must-sid.ensures.value;
-    }
-
--- there are few states, and each has few words
-pub overflow_add-sizes : goal.overflow_add-sizes
-overflow_add-sizes g c =
-    omega (arith, c.loop-state.invariant.room, c.words-words.ensures.small, c.loop-state-test.true, c.states_len-state-end.ensures.small)
+words-words-requires g c = search (rules, has-words)
 
 -- the state is the same
 pub is_match-requires : goal.is_match-requires
-is_match-requires g c =
-    let (nodes, may) = c.requires.may in
-    record {
-      state = has-words c.args.self.now nodes may _ _ c.loop-state.state _ c.self.view_is c.states_len-state-end.ensures.value
-          c.loop-state.auto.state c.loop-state-test.true c.must-sid.ensures.value;
-    }
-
--- those in front are some of all
-pub overflow_add-sizes-then-is_match : goal.overflow_add-sizes-then-is_match
-overflow_add-sizes-then-is_match g c =
-    let (nodes, may) = c.requires.may in
-    omega (
-      arith,
-      c.loop-state.invariant.all nodes may,
-      c.loop-state.invariant.room,
-      c.words-words.ensures.small,
-      c.loop-state-test.true,
-      c.states_len-state-end.ensures.small,
-    )
+is_match-requires g c = search (rules, has-words)
 
 -- one state more is counted, in front or among the others
 pub loop-state-preserved : goal.loop-state-preserved
@@ -93,8 +61,3 @@ returns-clause-all g c =
     let front = returns-clause-match_end g c nodes may in
     let back = ap (λ n. before q nodes false n) all in
     omega (arith, c.loop-state.invariant.all nodes may, front, back, sizes-whole q nodes may)
-
--- the front is a part of all
-pub returns-clause-ordered : goal.returns-clause-ordered
-returns-clause-ordered g c =
-    let (nodes, may) = c.requires.may in omega (arith, c.loop-state.invariant.all nodes may)

@@ -1,12 +1,10 @@
 use Rattle.std.proofs.Common.{◌∙◌, List, ℕ, ap, sym, arith, slice_index_or}
+use Rattle.std.proofs.lemmas.Grind.{common_steps}
 use Rattle.ac_engines.proofs.Spellings.{dense-lists, has-failure, sparse-lists}
 use Rattle.ac_engines.proofs.nfa.contiguous.state.State.match_words.Goals as goal
 
 pub bounds-self-0 : goal.bounds-self-0
-bounds-self-0 c =
-    let r = c.requires in
-    let long = (has-failure c.args.self.words.now c.args.classes r.1 r.0 r.2).within in
-    omega (arith, long)
+bounds-self-0 c = grind (arith, common_steps, has-failure c.args.self.words.now c.args.classes (c.requires).1 (c.requires).0 (c.requires).2)
 
 -- the matches of a dense state stand after the targets of all classes
 pub slice_bounds-result-count : goal.slice_bounds-result-count

@@ -1,13 +1,11 @@
 use Rattle.std.proofs.Common.{◌∙◌, List, ℕ, Some, ap, sym, arith, slice_index_or}
+use Rattle.std.proofs.lemmas.Grind.{common_steps}
 use Rattle.ac_engines.specs.Contiguous.Words.{named, target_by}
 use Rattle.ac_engines.proofs.Spellings.{has-failure, named-none, named-some, leads-at, leads-one, is-dense, is-one, is-sparse}
 use Rattle.ac_engines.proofs.nfa.contiguous.state.State.target.Goals as goal
 
 pub bounds-self-0 : goal.bounds-self-0
-bounds-self-0 c =
-    let r = c.requires in
-    let long = (has-failure c.args.self.words.now r.1 r.2 r.0 r.3).within in
-    omega (arith, long)
+bounds-self-0 c = grind (arith, common_steps, has-failure c.args.self.words.now (c.requires).1 (c.requires).2 (c.requires).0 (c.requires).3)
 
 -- a dense state has a target for each class
 pub bounds-self-class : goal.bounds-self-class

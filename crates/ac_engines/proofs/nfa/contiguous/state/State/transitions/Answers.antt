@@ -1,14 +1,12 @@
 use Rattle.std.proofs.Common.{◌≡◌, ◌+◌, ◌-◌, ◌∙◌, List, ℕ, length, take, drop, refl, ap, sym, arith, slice_index_or}
 use Rattle.std.proofs.lemmas.List.{length-map}
+use Rattle.std.proofs.lemmas.Grind.{common_steps}
 use Rattle.ac_engines.proofs.Spellings.{dense-lists, has-failure, is-one, is-sparse, leads-one, splits-at}
 use Rattle.ac_engines.proofs.Transitions.{dense-transitions, one-transition, sparse-targets, sparse-transitions}
 use Rattle.ac_engines.proofs.nfa.contiguous.state.State.transitions.Goals as goal
 
 pub bounds-self-0 : goal.bounds-self-0
-bounds-self-0 c =
-    let r = c.requires in
-    let long = (has-failure c.args.self.words.now c.args.classes r.1 r.0 r.2).within in
-    omega (arith, long)
+bounds-self-0 c = grind (arith, common_steps, has-failure c.args.self.words.now c.args.classes (c.requires).1 (c.requires).0 (c.requires).2)
 
 -- the targets of a dense state are there
 pub slice_bounds-result-end : goal.slice_bounds-result-end
@@ -41,16 +39,10 @@ returns-then-form-2 c = λ format s h.
     one-transition c.args.self.words.now c.args.classes s _ format _ h (sym low_byte ∙ c.if-form-2.true) next_byte refl
 
 pub slice_bounds-split_at-count : goal.slice_bounds-split_at-count
-slice_bounds-split_at-count c =
-    let r = c.requires in
-    let long = (has-failure c.args.self.words.now c.args.classes r.1 r.0 r.2).within in
-    omega (arith, long)
+slice_bounds-split_at-count c = grind (arith, common_steps, has-failure c.args.self.words.now c.args.classes (c.requires).1 (c.requires).0 (c.requires).2)
 
 pub slice_bounds-split_at-start : goal.slice_bounds-split_at-start
-slice_bounds-split_at-start c =
-    let r = c.requires in
-    let long = (has-failure c.args.self.words.now c.args.classes r.1 r.0 r.2).within in
-    omega (arith, long)
+slice_bounds-split_at-start c = grind (arith, common_steps, has-failure c.args.self.words.now c.args.classes (c.requires).1 (c.requires).0 (c.requires).2)
 
 -- a sparse state has its class words and its targets
 pub split_at-requires : goal.split_at-requires
