@@ -98,7 +98,3 @@ pub record IsUnanswered (stops : Bool) (end at : ℕ) (u : Node) (last : Option 
   pub room : at < end
   pub living : u ≢ None
   pub none : stops ≡ true → last ≡ None
-
-pub unanswered-unless : (stops : Bool) (end at : ℕ) (u : Node) (last : Option Occurrence) → ¬ IsAnswered stops end at u last
-    → IsUnanswered stops end at u last
-unanswered-unless stops end at u last unanswered = grind (arith, common_steps)

@@ -60,11 +60,6 @@ module _ (stands : ℕ → Node → Type 0) (listed : ℕ → List ℕ) (most : 
   leftmost : i.stops ≡ false → is_leftmost v.built.kind ≡ true
   leftmost = leftmost-by v.built.kind i.stops inv.stops
 
-  -- it goes on as long as it hasn't stopped at a match
-  pub goes-on-with : (r : Option Occurrence) → (i.stops ≡ true → r ≡ None)
-      → SearchGoesOn v.built.kind (order_of v.built.kind i.stops) r
-  goes-on-with r none = goes_on-by v.built.kind i.stops r leftmost none
-
   -- it has read on to a place
   module _ (state at : ℕ) (picked : Option Occurrence) (on : HasReadOn stands i v state at picked) where
     order-picks : picked ≡ pick (order_of v.built.kind i.stops) (up_to (v.front + at))

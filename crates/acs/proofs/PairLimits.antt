@@ -55,27 +55,9 @@ first-short number words (first ∷ []) later parted two none = absurd (omega ar
 first-short number words (first ∷ second ∷ []) later parted two none = grind (arith, common_steps)
 first-short number words (first ∷ second ∷ third ∷ pair) later parted two none = absurd (omega arith)
 
--- it is too long, and the list is refused by a fault that is told alike
-pub first-long : (number : ℕ) (words pair later : List (Bor (List ℕ))) (e : BuildError) → words ≡ pair ++ later
-    → length pair ≡ 2 → limit_refusal (bytes_of (take 1 pair)) ≡ Some e
-    → (told : BuildError) × (too_long_from number (firsts (bytes_of words)) ≡ Some told)
-    × (fault_of e ≡ fault_of told)
-first-long number words [] later e parted two some = absurd (omega arith)
-first-long number words (first ∷ []) later e parted two some = absurd (omega arith)
-first-long number words (first ∷ second ∷ []) later e parted two some =
-    grind (arith, common_steps, too_long-here number first.now (firsts (bytes_of later)) e some)
-first-long number words (first ∷ second ∷ third ∷ pair) later e parted two some = absurd (omega arith)
-
 -- a word alone is no pair
 pub none-left : (words : List (Bor (List ℕ))) (number : ℕ) → length words < 2
     → too_long_from number (firsts (bytes_of words)) ≡ None
 none-left [] number short = refl
 none-left (first ∷ []) number short = refl
 none-left (first ∷ second ∷ words) number short = absurd (omega arith)
-
--- what a test answers by an error is refused by it
-pub refused-with : {T : Type 0} (o : Option BuildError) (e : BuildError) (x : T)
-    → MatchOption o (◌≡◌ {A = Result T BuildError} (Err e) (Ok x)) (λ refusal. ◌≡◌ {A = Result T BuildError} (Err e) (Err refusal))
-    → o ≡ Some e
-refused-with None e x h = absurd (cc)
-refused-with {T} (Some refusal) e x h = let same : e ≡ refusal = cc in ap (λ (r : BuildError). Some r) (sym same)

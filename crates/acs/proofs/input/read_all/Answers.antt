@@ -1,29 +1,21 @@
 use Rattle.std.proofs.lemmas.List.{length-take-le}
-use Rattle.std.proofs.Common.{length-append, ◌≡◌, ℕ, List, ◌++◌, length, take, ap, sym, ◌∙◌, subst, refl, arith, inr}
+use Rattle.std.proofs.Common.{length-append, ◌≡◌, ℕ, List, ◌++◌, length, take, ap, sym, ◌∙◌, subst, arith}
 use Rattle.std.specs.Io.KnownBytes.{Consumes}
-use Rattle.acs.specs.Modes.{FailsToReadAll}
+use Rattle.std.proofs.lemmas.Grind.{common_steps}
 use Rattle.ac_util.proofs.Devices.{not-empty, read-more}
 use Rattle.ac_automaton.proofs.Places.{refused-by, written-whole}
 use Rattle.acs.proofs.input.read_all.Goals as goal
 
 pub returns-in_err-extend_from_slice-in-Ok : goal.returns-in_err-extend_from_slice-in-Ok
 returns-in_err-extend_from_slice-in-Ok g c =
-    let told = g.R.Source.told in
-    refused-by c.from_residual-in_err-extend_from_slice-in-Ok.result _ _
-    (FailsToReadAll (told c.args.reader.now) (told c.read_some.new.self))
-    c.from_residual-in_err-extend_from_slice-in-Ok.ensures.1
-    (record {
-      bytes = c.loop.bytes.items ++ take c.in-Ok.n c.read_some.new.into;
-      moved =
-          read-more (told c.args.reader.now) (told c.loop.reader)
-          (told c.read_some.new.self) c.loop.bytes.items c.read_some.new.into c.in-Ok.n
-          c.loop.invariant.moved c.in-Ok.ensures;
-      empties =
-          not-empty (told c.loop.reader) (told c.read_some.new.self) c.read_some.new.into c.in-Ok.n
-          (λ e. absurd (omega (arith, c.in-Ok.n-test))) c.in-Ok.ensures
-          ∙ c.loop.invariant.empties;
-      cause = inr (refl, c.in-Ok.ensures.failed ∙ c.loop.invariant.failed);
-    })
+    grind (
+      arith,
+      common_steps,
+      refused-by,
+      read-more ((g.R.Source.told) c.args.reader.now) ((g.R.Source.told) c.loop.reader) ((g.R.Source.told) c.read_some.new.self) c.loop.bytes.items
+          c.read_some.new.into c.in-Ok.n c.loop.invariant.moved c.in-Ok.ensures,
+      not-empty,
+    )
 
 pub loop-preserved : goal.loop-preserved
 loop-preserved g c =

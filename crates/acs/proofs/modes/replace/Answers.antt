@@ -1,3 +1,4 @@
+use Rattle.std.proofs.Common.{rules}
 use Rattle.ac_util.specs.Borrowed.{bytes_of}
 use Rattle.acs.specs.Requests.{seconds}
 use Rattle.acs.proofs.ModeEnds.{replaced-ends}
@@ -6,10 +7,7 @@ use Rattle.acs.proofs.modes.replace.Goals as goal
 
 -- there is a text for each pattern
 pub replace_all_bytes-requires-clause-texts : goal.replace_all_bytes-requires-clause-texts
-replace_all_bytes-requires-clause-texts g c =
-    rw c.deref-2.ensures.value
-    (texts-fit (bytes_of c.args.words.now) c.args.searcher.now.built.patterns c.in_ok-texts.texts.items
-    c.in_ok-texts.ensures c.requires.patterns)
+replace_all_bytes-requires-clause-texts g c = search (rules, texts-fit)
 
 -- the replaced text was written, or could not be
 pub returns : goal.returns

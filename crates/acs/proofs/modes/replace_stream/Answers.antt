@@ -1,4 +1,4 @@
-use Rattle.std.proofs.Common.{◌∙◌, ℕ, List, ap, inl, inr, refl, subst}
+use Rattle.std.proofs.Common.{◌∙◌, ℕ, List, ap, inl, inr, refl, subst, rules}
 use Rattle.ac_util.specs.Borrowed.{bytes_of}
 use Rattle.ac_util.specs.StreamReplacing.{FailsToReplace}
 use Rattle.acs.specs.declared.request.Mode.TheVariants.{StreamReplace}
@@ -12,11 +12,7 @@ use Rattle.acs.proofs.modes.replace_stream.Goals as goal
 
 -- there is a text for each pattern
 pub try_stream_replace_all-requires : goal.try_stream_replace_all-requires
-try_stream_replace_all-requires g c = record {
-  texts = rw c.deref.ensures.value
-      (texts-fit (bytes_of c.args.words.now) c.args.searcher.now.built.patterns c.in_ok-texts.texts.items
-      c.in_ok-texts.ensures c.requires.patterns);
-}
+try_stream_replace_all-requires g c = search (rules, texts-fit)
 
 -- the searcher refuses streams, or a read or a write has failed
 pub returns-in_err-try_stream_replace_all : goal.returns-in_err-try_stream_replace_all

@@ -1,6 +1,6 @@
-use Rattle.std.proofs.Common.{◌≡◌, ℕ, List, ◌++◌, ◌∷◌, ◌∙◌, refl, subst}
+use Rattle.std.proofs.Common.{◌≡◌, ℕ, List, ◌++◌, ◌∷◌, ◌∙◌, refl, subst, rules, arith}
 use Rattle.std.specs.Prelude.{string_bytes}
-use Rattle.ac_util.specs.Device.{WritesAll}
+use Rattle.std.proofs.lemmas.Grind.{common_steps}
 use Rattle.acs.specs.declared.fault.Fault.TheVariants.{Memory}
 use Rattle.acs.specs.declared.run.Outcome.TheVariants.{Found}
 use Rattle.acs.specs.Lines.{line, lines}
@@ -38,21 +38,14 @@ returns-in_err-write_all g c all later old outcome printing =
 -- the text was full, and is written
 pub returns-in_ok-write_all : goal.returns-in_ok-write_all
 returns-in_ok-write_all g c all later old outcome printing =
-    let told = g.W.Sink.told in
-    let added =
-    printing-adds all (c.args.m.now ∷ later) old (told c.args.writer.now) (string_bytes c.args.text.now)
-    outcome printing c.args.m.now later refl in
-    let text : c.as_bytes.result.now ≡ string_bytes c.args.text.now ++ line c.args.m.now =
-    c.as_bytes.ensures.value ∙ c.in_ok-add_line.ensures in
-    rw c.clear.ensures.bytes
-    (printing-writes all later old (told c.args.writer.now)
-    (string_bytes c.args.text.now ++ line c.args.m.now) Found added (told c.write_all.new.writer)
-    (subst (λ (bytes : List ℕ). WritesAll (told c.args.writer.now) (told c.write_all.new.writer) bytes) text
-    c.in_ok-write_all.ensures))
+    grind (
+      arith,
+      common_steps,
+      printing-adds all (c.args.m.now ∷ later) old ((g.W.Sink.told) c.args.writer.now) (string_bytes c.args.text.now) outcome printing c.args.m.now
+          later refl,
+      printing-writes,
+    )
 
 -- the line is in the text
 pub returns-else-len-ge-FULL : goal.returns-else-len-ge-FULL
-returns-else-len-ge-FULL g c all later old outcome printing =
-    rw c.in_ok-add_line.ensures
-    (printing-adds all (c.args.m.now ∷ later) old (g.W.Sink.told c.args.writer.now)
-    (string_bytes c.args.text.now) outcome printing c.args.m.now later refl)
+returns-else-len-ge-FULL g c all later old outcome printing = search (rules, printing-adds)

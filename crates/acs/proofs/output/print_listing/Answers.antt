@@ -1,4 +1,4 @@
-use Rattle.std.proofs.Common.{sym}
+use Rattle.std.proofs.Common.{sym, rules}
 use Rattle.acs.specs.Lines.{lines}
 use Rattle.acs.specs.Modes.{FailsToPrint}
 use Rattle.ac_automaton.proofs.Places.{refused-by}
@@ -7,12 +7,7 @@ use Rattle.acs.proofs.output.print_listing.Goals as goal
 
 -- at first all items are still to come
 pub loop-item-init : goal.loop-item-init
-loop-item-init g c = (
-  rw (c.into_iter-item-iterator.ensures.into_iter_gives, c.new-text.ensures.bytes)
-      (printing-begins c.args.items.rest (g.W.Sink.told c.args.writer.now)),
-  tt,
-  tt,
-)
+loop-item-init g c = search (rules, printing-begins)
 
 -- the next line could not be printed
 pub returns-in_err-print_line : goal.returns-in_err-print_line

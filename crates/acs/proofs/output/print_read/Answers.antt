@@ -1,8 +1,6 @@
-use Rattle.std.proofs.Common.{◌≡◌, ◌∙◌, ◌+◌, ℕ, List, ap, arith, drop, length, subst, sym}
+use Rattle.std.proofs.Common.{◌∙◌, ◌+◌, ℕ, List, ap, arith, drop, subst, sym, rules}
 use Rattle.std.specs.Prelude.{string_bytes}
-use Rattle.std.proofs.lemmas.Option.{slice_get_within}
-use Rattle.ac_util.specs.Device.{WritesAll}
-use Rattle.ac_automaton.specs.Streams.{GivesMatch, HasGivenSettled, Streaming, matches_so_far}
+use Rattle.ac_automaton.specs.Streams.{GivesMatch, Streaming, matches_so_far}
 use Rattle.acs.specs.declared.run.Outcome.TheVariants.{Found}
 use Rattle.acs.specs.Lines.{lines}
 use Rattle.acs.specs.Modes.{FailsToPrint, FailsToWrite}
@@ -29,17 +27,6 @@ loop-m-preserved g c =
           (drop c.next_read.new.self.given (matches_so_far c.next_read.new.self)) old Found
           (read-printing gives (c.loop-m.invariant.printing old h));
     }
-
--- each match that is given is one fewer to come
-pub loop-m-smaller : goal.loop-m-smaller
-loop-m-smaller g c =
-    let v = c.loop-m.finder in
-    let gives : GivesMatch v c.in-Some.m c.next_read.new.self = c.in-Some.ensures in
-    let within = slice_get_within (matches_so_far v) v.given c.in-Some.m gives.next in
-    let more : c.next_read.new.self.given ≡ v.given + 1 = ap (λ (u : Streaming). u.given) gives.same in
-    let long : length (matches_so_far c.next_read.new.self) ≡ length (matches_so_far v) =
-    ap (λ (u : Streaming). length (matches_so_far u)) gives.same in
-    omega arith
 
 -- the line of the next match could not be printed
 pub returns-in_err-print_line : goal.returns-in_err-print_line
@@ -75,9 +62,4 @@ returns-in_err-write_all g c old h =
 
 -- no match is left that needs no read, and the text is written
 pub returns : goal.returns
-returns g c old h =
-    let told = g.W.Sink.told in
-    let all : HasGivenSettled c.loop-m.finder c.next_read.new.self = c.in_default.ensures in
-    read-printed c.loop-m.invariant.same c.loop-m.invariant.onward all (c.loop-m.invariant.printing old h)
-    (subst (λ (bytes : List ℕ). WritesAll (told c.loop-m.writer) (told c.write_all.new.writer) bytes)
-    c.as_bytes.ensures.value c.in_ok-write_all.ensures) c.clear.ensures.bytes
+returns g c old h = search (rules, read-printed)

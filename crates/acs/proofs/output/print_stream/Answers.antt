@@ -1,5 +1,6 @@
-use Rattle.std.proofs.Common.{drop, refl}
+use Rattle.std.proofs.Common.{drop, refl, arith}
 use Rattle.std.specs.Prelude.{string_bytes}
+use Rattle.std.proofs.lemmas.Grind.{common_steps}
 use Rattle.ac_automaton.specs.Streams.{GivesError, GivesNextMatch, matches_so_far}
 use Rattle.acs.specs.declared.run.Outcome.TheVariants.{Found}
 use Rattle.acs.specs.Faults.{stream_fault_of}
@@ -11,9 +12,11 @@ use Rattle.acs.proofs.output.print_stream.Goals as goal
 -- at first nothing was read
 pub loop-item-init : goal.loop-item-init
 loop-item-init g c =
-    rw c.new-text.ensures.bytes
-    (print-begins g.R.Source.empty_means_end c.args.finder.now (g.R.Source.told c.args.reader.now) (g.W.Sink.told c.args.writer.now)
-    c.requires)
+    grind (
+      arith,
+      common_steps,
+      print-begins g.R.Source.empty_means_end c.args.finder.now (g.R.Source.told c.args.reader.now) (g.W.Sink.told c.args.writer.now) c.requires,
+    )
 
 -- a read has failed
 pub returns-in_err-m : goal.returns-in_err-m

@@ -27,14 +27,6 @@ returns-in-Overlap g c =
     g.R.Source.empty_means_end (g.R.Source.told c.args.reader.now) (g.R.Source.told c.overlap.new.reader)
     (g.W.Sink.told c.args.writer.now) (g.W.Sink.told c.overlap.new.writer) c.overlap.result c.overlap.ensures
 
-pub returns-in-Stream : goal.returns-in-Stream
-returns-in-Stream g c =
-    run-by {words = bytes_of c.args.words.now}
-    (serves c.in_ok-patterns.patterns.items c.in-Stream.is c.in_ok-patterns.ensures
-    (rw c.deref.ensures.value at c.in_ok-searcher.ensures))
-    g.R.Source.empty_means_end (g.R.Source.told c.args.reader.now) (g.R.Source.told c.stream.new.reader)
-    (g.W.Sink.told c.args.writer.now) (g.W.Sink.told c.stream.new.writer) c.stream.result c.stream.ensures
-
 pub returns-in-Replace : goal.returns-in-Replace
 returns-in-Replace g c =
     run-by {words = bytes_of c.args.words.now}
@@ -42,11 +34,3 @@ returns-in-Replace g c =
     (rw c.deref.ensures.value at c.in_ok-searcher.ensures))
     g.R.Source.empty_means_end (g.R.Source.told c.args.reader.now) (g.R.Source.told c.replace.new.reader)
     (g.W.Sink.told c.args.writer.now) (g.W.Sink.told c.replace.new.writer) c.replace.result c.replace.ensures
-
-pub returns : goal.returns
-returns g c =
-    run-by {words = bytes_of c.args.words.now}
-    (serves c.in_ok-patterns.patterns.items c.in-StreamReplace.is c.in_ok-patterns.ensures
-    (rw c.deref.ensures.value at c.in_ok-searcher.ensures))
-    g.R.Source.empty_means_end (g.R.Source.told c.args.reader.now) (g.R.Source.told c.replace_stream.new.reader)
-    (g.W.Sink.told c.args.writer.now) (g.W.Sink.told c.replace_stream.new.writer) c.replace_stream.result c.replace_stream.ensures

@@ -1,5 +1,6 @@
-use Rattle.std.proofs.Common.{◌≡◌, ℕ, List, refl, subst, sym, arith, Option, IfSome}
+use Rattle.std.proofs.Common.{◌≡◌, ℕ, List, refl, subst, sym, arith, Option, IfSome, rules}
 use Rattle.std.specs.Borrow.{Bor}
+use Rattle.std.proofs.lemmas.Grind.{common_steps}
 use Rattle.ac_automaton.specs.Util.{Counts, No, Prefilter, skip_of, Taped}
 use Rattle.ac_automaton.specs.Prelude.{Cursor, Finding, HasSearched, in_memory, picking_by, Scan, scan_by, ScansTo, ScanText, search_of, search_through, Skips, work_of}
 use Rattle.ac_automaton.specs.Finds.{IsReady}
@@ -11,10 +12,7 @@ use Rattle.ac_automaton.proofs.automaton.find.Finder.find.Goals.{Joined-self, in
 use Rattle.ac_automaton.proofs.automaton.find.Finder.find.Goals as goal
 
 pub returns-then-span-clause-searched : goal.returns-then-span-clause-searched
-returns-then-span-clause-searched g c =
-    searched-nothing c.args.self.now.picking
-    (search_of c.args.self.now.built c.args.self.now.anchored c.args.tape.now.bytes c.args.span.start c.args.span.end)
-    (work_of c.args.tape.now c.args.looks.now) c.if-span.true c.requires.unread
+returns-then-span-clause-searched g c = search (rules, searched-nothing)
 
 pub skip_on-requires-clause-alive : goal.skip_on-requires-clause-alive
 skip_on-requires-clause-alive g c =
@@ -44,10 +42,7 @@ module _ (g : Over) (c : Joined-self g) where
 
   may-as : {cursor joined : Cursor} {tape new_tape : Taped} {counts new_counts : Counts} → joined ≡ cursor
       → new_tape ≡ tape → new_counts ≡ counts → MayFind cursor tape counts → MayFind joined new_tape new_counts
-  may-as {cursor} {joined} {tape} {new_tape} {counts} {new_counts} there taped counted may =
-      subst (λ (k : Cursor). MayFind k new_tape new_counts) (sym there)
-      (subst (λ (n : Taped). MayFind cursor n new_counts) (sym taped)
-      (subst (MayFind cursor tape) (sym counted) may))
+  may-as {cursor} {joined} {tape} {new_tape} {counts} {new_counts} there taped counted may = grind (arith, common_steps)
 
   -- at the start of the span what the start state finds is picked
   starts : MayFind (record { state = c.self.inside.start; at = c.args.span.start }) c.args.tape.now c.args.looks.now
@@ -85,14 +80,10 @@ module _ (g : Over) (c : Joined-self g) where
   ]
 
 pub find_on-requires-clause-unread : goal.find_on-requires-clause-unread
-find_on-requires-clause-unread g c =
-    (may g (goal.at.find_on-requires-clause-unread g c).Joined-self).scans.unread
+find_on-requires-clause-unread g c = search (rules, may g (goal.at.find_on-requires-clause-unread g c).Joined-self)
 
 pub find_on-requires-clause-ready : goal.find_on-requires-clause-ready
-find_on-requires-clause-ready g c =
-    let j = (goal.at.find_on-requires-clause-ready g c).Joined-self in
-    subst (λ (bs : List ℕ). IsReady (s g j) (in_memory bs c.args.span) c.self.inside.stops c.match-self.cursor)
-    (sym (may g j).same) (may g j).ready
+find_on-requires-clause-ready g c = search (rules, may g ((goal.at.find_on-requires-clause-ready g c).Joined-self))
 
 -- what the find has done is told of the finder as it is seen
 pub returns-clause-searched : goal.returns-clause-searched

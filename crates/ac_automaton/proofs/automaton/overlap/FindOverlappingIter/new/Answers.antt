@@ -1,18 +1,13 @@
-use Rattle.std.proofs.Common.{◌≡◌, ℕ, ◌≤◌, List, false, ap, refl, sym, subst, ◌∙◌, inl, inr, Option, Some, None}
-use Rattle.std.proofs.lemmas.Bool.{cases_lt, false≢true}
+use Rattle.std.proofs.Common.{◌≡◌, ℕ, ◌≤◌, List, false, ap, refl, sym, subst, ◌∙◌, Option, Some, rules, arith}
+use Rattle.std.proofs.lemmas.Grind.{common_steps}
 use Rattle.ac_util.specs.declared.search.Anchored.{Anchored}
-use Rattle.ac_automaton.specs.Util.{asked, No, no_counts, Node, Span, start_refusal, Yes}
-use Rattle.ac_automaton.specs.Prelude.{given_by, in_memory, IsListing, Lists, nothing_done, overlapping_of, Reached, Scan, scan_by, search_of, search_through}
+use Rattle.ac_automaton.specs.Util.{asked, No, Node, Span, Yes}
+use Rattle.ac_automaton.specs.Prelude.{given_by, in_memory, IsListing, Lists, nothing_done, Reached, Scan, scan_by, search_through}
 use Rattle.ac_automaton.proofs.ListLoop.{arrived}
 use Rattle.ac_automaton.proofs.Overlapping.{goes_on-start, iterator-served, listing-starts}
 use Rattle.ac_automaton.proofs.automaton.overlap.FindOverlappingIter.new.Given.{Over}
 use Rattle.ac_automaton.proofs.automaton.overlap.FindOverlappingIter.new.Goals.{After-open-tape, then-is_done, else-is_done}
 use Rattle.ac_automaton.proofs.automaton.overlap.FindOverlappingIter.new.Goals as goal
-
--- what isn't anchored is unanchored
-unanchored-from : (a : Anchored) → (a ≡ Yes → ⊥) → a ≡ No
-unanchored-from No not = refl
-unanchored-from Yes not = absurd (not refl)
 
 module _ (g : Over) (c : After-open-tape g) where
   abbrev s : Scan
@@ -28,20 +23,14 @@ module _ (g : Over) (c : After-open-tape g) where
   bytes = (asked c.args.input).haystack
 
   unanchored : s.anchored ≡ No
-  unanchored =
-      unanchored-from s.anchored
-      (λ anchored. false≢true (sym c.if-is_anchored.false ∙ c.is_anchored.ensures.1 anchored))
+  unanchored = grind (arith, common_steps)
 
   lists : (u : Node) → s.stands c.in_ok-begun.begun u → Lists s.built s.anchored u (s.listed c.in_ok-begun.begun)
-  lists u stands =
-      g.met.A.Automaton.lists c.args.automaton.now c.get_anchored-anchored.result c.in_ok-begun.begun u stands
+  lists u stands = grind (arith, common_steps)
 
   -- the span isn't past its end
   ordered : c.is_done.result ≡ false → span.start ≤ span.end
-  ordered not_done = elim (cases_lt span.end span.start) [
-    | inl past ↦ absurd (false≢true (sym not_done ∙ c.is_done.ensures.1 past))
-    | inr le ↦ le
-  ]
+  ordered not_done = grind (arith, common_steps)
 
   -- how the listing begins: it has read nothing, and has given nothing
   record Begins (reached : Option Reached) : Type 0 where
@@ -74,23 +63,7 @@ module _ (g : Over) (c : After-open-tape g) where
   ]
 
 pub invariant_of-result : goal.invariant_of-result
-invariant_of-result g c =
-    let o = (goal.at.invariant_of-result g c).After-open-tape in
-    record {
-      listing = rw (c.open-tape.ensures.tape, c.open-tape.ensures.looks, c.get_span.ensures) (begins g o).listing;
-      skips = c.listing_prefilter-prefilter.ensures;
-    }
+invariant_of-result g c = search (rules, begins)
 
 pub returns : goal.returns
-returns g c =
-    let o = (goal.at.returns g c).After-open-tape in
-    let same = c.get_anchored-anchored.ensures in (
-      iterator-served (s g o).built (asked c.args.input)
-          (subst (λ (a : Anchored). start_refusal (s g o).built.start_kind a ≡ None) same c.in_ok-begun.ensures.0)
-          c.in_ok-begun.ensures.1 (sym same ∙ unanchored g o),
-      rw (c.open-tape.ensures.tape, c.open-tape.ensures.looks, c.get_span.ensures)
-          (ap (λ (given : ℕ). overlapping_of (s g o).most (s g o).filters
-          (search_through (s g o) (in_memory (bytes g o) (span g o))) given 0 no_counts) (begins g o).given
-          ∙ ap (λ (a : Anchored). overlapping_of (s g o).most (s g o).filters
-          (search_of (s g o).built a (bytes g o) (span g o).start (span g o).end) 0 0 no_counts) same),
-    )
+returns g c = search (rules, begins, iterator-served, unanchored)

@@ -1,8 +1,8 @@
-use Rattle.std.proofs.Common.{◌≡◌, false, refl, sym, ◌∙◌}
-use Rattle.std.proofs.lemmas.Bool.{false≢true}
+use Rattle.std.proofs.Common.{◌≡◌, false, refl, sym, ◌∙◌, rules, arith}
+use Rattle.std.proofs.lemmas.Grind.{common_steps}
 use Rattle.ac_util.proofs.SearchLoop.{SearchGoesOn}
 use Rattle.ac_automaton.specs.Prelude.{FitsIn, in_memory, IsAlive, node, Scan, scan_by, Scanner, ScanText}
-use Rattle.ac_automaton.proofs.FindAhead.{IsUnanswered, answer-there, decided-there, ends-there, unanswered-unless, picked-none, picked-some}
+use Rattle.ac_automaton.proofs.FindAhead.{IsUnanswered, answer-there, decided-there, ends-there, picked-none, picked-some}
 use Rattle.ac_automaton.proofs.FindLoop.{goes_on-by, goes_on-none, order, searched}
 use Rattle.ac_automaton.proofs.ReadOn.{node-fits, scans-on}
 use Rattle.ac_automaton.proofs.automaton.scan.Scanner.find_on.Given.{Over}
@@ -37,9 +37,6 @@ loop-state-init g c =
       ends = λ _. ends-there (scan g c.args.self.now).built _ _ c.args.cursor.at _ found;
     }
 
-pub is_decided-requires : goal.is_decided-requires
-is_decided-requires g c = record { state = (_, c.loop-state.invariant.is_at.there) }
-
 -- where it has come to without its answer it may read on
 module _ (g : Over) (c : After-is_decided g) where
   abbrev s : Scan
@@ -51,9 +48,7 @@ module _ (g : Over) (c : After-is_decided g) where
   module _ (undecided : c.is_decided.result ≡ false) where
     unanswered : IsUnanswered c.args.stops c.args.self.now.span.end c.loop-state.at (node s t c.loop-state.at)
         c.loop-state.last
-    unanswered =
-        unanswered-unless c.args.stops c.args.self.now.span.end c.loop-state.at (node s t c.loop-state.at) c.loop-state.last
-        (λ answered. false≢true (sym undecided ∙ (c.is_decided.ensures _ c.loop-state.invariant.is_at.there).1 answered))
+    unanswered = grind (arith, common_steps)
 
     goes : SearchGoesOn s.built.kind (order s c.args.stops c.args.tape.now.bytes c.args.self.now.span) c.loop-state.last
     goes = goes_on-by s.built.kind c.args.stops c.loop-state.last c.requires.leftmost unanswered.none
@@ -62,9 +57,7 @@ module _ (g : Over) (c : After-is_decided g) where
     alive = record { is_at = c.loop-state.invariant.is_at; living = unanswered.living }
 
 pub read_ahead-ahead-requires-clause-alive : goal.read_ahead-ahead-requires-clause-alive
-read_ahead-ahead-requires-clause-alive g c =
-    let d = (goal.at.read_ahead-ahead-requires-clause-alive g c).After-is_decided in
-    (_, sym c.loop-state.invariant.bytes, alive g d c.loop-state-test.true)
+read_ahead-ahead-requires-clause-alive g c = search (rules, alive)
 
 pub match_at-found-requires : goal.match_at-found-requires
 match_at-found-requires g c =

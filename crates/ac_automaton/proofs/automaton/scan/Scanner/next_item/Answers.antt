@@ -1,4 +1,4 @@
-use Rattle.std.proofs.Common.{◌≡◌, ◌≢◌, ◌⊎◌, ◌<◌, ◌≤◌, [], ap, sym, subst, ◌∙◌, inl, inr, arith, Option, None}
+use Rattle.std.proofs.Common.{◌≡◌, ◌≢◌, ◌⊎◌, ◌<◌, ◌≤◌, [], ap, sym, subst, ◌∙◌, inl, inr, arith, Option, None, rules}
 use Rattle.std.proofs.lemmas.Bool.{false≢true}
 use Rattle.ac_automaton.specs.Util.{Counts, Occurrence, Taped}
 use Rattle.ac_automaton.specs.Prelude.{Cursor, due_in, given_in, HasMoved, in_memory, IsAlive, node, PassesNoMatch, Reached, Scan, scan_by, ScansTo, ScanText, search_through, work_of}
@@ -28,16 +28,12 @@ module _ (g : Over) (c : After-take_due g) where
   moved : (c.take_due.result ≡ None
       → (c.loop-found.reached.at ≡ c.args.self.now.span.end) ⊎ (node s t c.loop-found.reached.at ≡ None))
       → HasMoved s t c.args.reached.now c.take_due.result c.take_due.new.reached
-  moved over =
-      has-moved s c.args.tape.now.bytes c.args.self.now.span c.loop-found.invariant.on.leaves c.args.reached.now
-      c.take_due.result c.take_due.new.reached c.requires.listed.standard c.requires.listed.inside
-      c.loop-found.invariant.on.as_many gave over
+  moved over = search (rules, gave, has-moved)
 
   -- where none is given the listing stays
   stayed : c.take_due.result ≡ None
       → (due_in s.listed (search_through s t) c.loop-found.reached ≡ []) × (c.take_due.new.reached ≡ c.loop-found.reached)
-  stayed none =
-      (subst (λ (r : Option Occurrence). HasGivenItem s t c.loop-found.reached r c.take_due.new.reached) none gave).due
+  stayed none = search (rules, gave)
 
 pub returns-in-Some-clause-moved : goal.returns-in-Some-clause-moved
 returns-in-Some-clause-moved g c =
@@ -67,33 +63,13 @@ alive : (g : Over) (c : After-take_due g) → c.take_due.result ≡ None
     → ((u : _) → g.A.Automaton.stands c.args.self.now.automaton.now c.args.self.now.anchored c.take_due.new.reached.state u
     → u ≢ None)
     → IsAlive (s g c) (t g c) (record { state = c.take_due.new.reached.state; at = c.take_due.new.reached.at })
-alive g c none living =
-    let same = (stayed g c none).1 in
-    subst (λ (r : Reached). IsAlive (s g c) (t g c) (record { state = r.state; at = r.at })) (sym same)
-    (record {
-      is_at = c.loop-found.invariant.on.leaves.reaches;
-      living = living _
-          (subst (λ (r : Reached). (s g c).stands r.state (node (s g c) (t g c) c.loop-found.reached.at)) (sym same)
-          c.loop-found.invariant.on.leaves.reaches.there);
-    })
+alive g c none living = search (rules, stayed)
 
 pub skip_on-ahead-requires-clause-alive : goal.skip_on-ahead-requires-clause-alive
-skip_on-ahead-requires-clause-alive g c =
-    let d = (goal.at.skip_on-ahead-requires-clause-alive g c).After-take_due in (
-      _,
-      sym c.loop-found.invariant.bytes,
-      alive g d c.in_default.is
-          (λ u there dead. false≢true (sym c.if-is_dead.false ∙ (c.is_dead.ensures c.args.self.now.anchored u there).1 dead)),
-    )
+skip_on-ahead-requires-clause-alive g c = search (rules, alive, false≢true)
 
 pub read_ahead-ahead-requires-clause-alive : goal.read_ahead-ahead-requires-clause-alive
-read_ahead-ahead-requires-clause-alive g c =
-    let d = (goal.at.read_ahead-ahead-requires-clause-alive g c).After-take_due in (
-      _,
-      sym c.loop-found.invariant.bytes,
-      alive g d c.in_default.is
-          (λ u there dead. false≢true (sym c.if-is_dead.false ∙ (c.is_dead.ensures c.args.self.now.anchored u there).1 dead)),
-    )
+read_ahead-ahead-requires-clause-alive g c = search (rules, alive, false≢true)
 
 -- where it has read on, by skipping or without
 module _ (g : Over) (c : After-new g) where
@@ -116,9 +92,7 @@ module _ (g : Over) (c : After-new g) where
 
   came-as : {cursor joined : Cursor} {tape new_tape : Taped} {counts new_counts : Counts} → joined ≡ cursor
       → new_tape ≡ tape → new_counts ≡ counts → Came cursor tape counts → Came joined new_tape new_counts
-  came-as {cursor} {joined} {tape} {new_tape} {counts} {new_counts} there taped counted came =
-      subst (λ (k : Cursor). Came k new_tape new_counts) (sym there)
-      (subst (λ (n : Taped). Came cursor n new_counts) (sym taped) (subst (Came cursor tape) (sym counted) came))
+  came-as {cursor} {joined} {tape} {new_tape} {counts} {new_counts} there taped counted came = search rules
 
   came : IsAlive scan text (record { state = c.take_due.new.reached.state; at = c.take_due.new.reached.at })
       → Came c.match-prefilter.ahead c.match-prefilter.tape c.match-prefilter.looks

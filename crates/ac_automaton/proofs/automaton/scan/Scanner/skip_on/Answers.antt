@@ -1,5 +1,6 @@
 use Rattle.std.proofs.Common.{◌≡◌, ◌<◌, ◌≤◌, ◌+◌, ℕ, length, refl, ap, sym, ◌∙◌, arith}
 use Rattle.std.proofs.lemmas.Bool.{false≢true}
+use Rattle.std.proofs.lemmas.Grind.{common_steps}
 use Rattle.ac_util.specs.Counts.{Taped}
 use Rattle.ac_automaton.specs.Prelude.{IsAlive, PassesNoMatch, Scan, scan_by, ScanText, work_of}
 use Rattle.ac_automaton.proofs.ReadAhead.{along-next, along-passed, along-passes, along-start}
@@ -58,27 +59,15 @@ module _ (g : Over) (c : After-read_byte-state g) where
 
   -- the place is no earlier than the cursor's
   onward : c.loop-place.at < c.in-Some.place + 1
-  onward =
-      let r = c.requires.alive in
-      let here = (c.loop-place.invariant.along r.0 r.1 r.2).alive in
-      let skipped = c.in-Some.ensures.skipped r.0 (r.1 ∙ sym c.loop-place.invariant.bytes) here.is_at in
-      let onward = skipped-onward scan r.0 skipped in
-      omega (arith, onward)
+  onward = grind (arith, common_steps)
 
 pub is_match_or_dead-requires : goal.is_match_or_dead-requires
 is_match_or_dead-requires g c =
-    let r = c.requires.alive in
-    record {
-      state = (
-        c.args.self.now.anchored,
-        (_, (read_on g (goal.at.is_match_or_dead-requires g c).After-read_byte-state r.0 r.1 r.2).is_at.there),
-      );
-    }
-
-pub returns-then-is_match_or_dead-clause-moved : goal.returns-then-is_match_or_dead-clause-moved
-returns-then-is_match_or_dead-clause-moved g c =
-    let o = onward g (goal.at.returns-then-is_match_or_dead-clause-moved g c).After-read_byte-state in
-    omega (arith, o, c.loop-place.invariant.onward)
+    grind (
+      arith,
+      common_steps,
+      read_on g (goal.at.is_match_or_dead-requires g c).After-read_byte-state (c.requires.alive).0 (c.requires.alive).1 (c.requires.alive).2,
+    )
 
 pub returns-then-is_match_or_dead-clause-reads : goal.returns-then-is_match_or_dead-clause-reads
 returns-then-is_match_or_dead-clause-reads g c =

@@ -1,12 +1,13 @@
-use Rattle.std.proofs.Common.{◌≡◌, ◌≢◌, ◌⊎◌, ◌↔◌, ◌∙◌, ◌+◌, ◌-◌, ◌<◌, ◌≤◌, Bool, true, false, List, ℕ, None, inl, inr, refl, length, sym, ap, subst, arith}
+use Rattle.std.proofs.Common.{◌≡◌, ◌≢◌, ◌⊎◌, ◌↔◌, ◌∙◌, ◌+◌, ◌-◌, ◌<◌, ◌≤◌, Bool, true, false, List, ℕ, None, inl, inr, refl, length, sym, ap, subst, arith, rules}
 use Rattle.std.proofs.lemmas.Bool.{false≢true}
+use Rattle.std.proofs.lemmas.Grind.{common_steps}
 use Rattle.ac_automaton.specs.Util.{No, Node, order_of}
 use Rattle.ac_util.proofs.SearchLoop.{SearchGoesOn}
 use Rattle.ac_automaton.specs.Prelude.{Ended, HasReadOn, Inside, IsAlive, IsAnswered, IsStreaming, ScanText, Streaming}
-use Rattle.ac_automaton.proofs.FindAhead.{IsUnanswered, unanswered-unless}
+use Rattle.ac_automaton.proofs.FindAhead.{IsUnanswered}
 use Rattle.ac_automaton.proofs.StreamGiving.{gives-next, streams-anew}
 use Rattle.ac_automaton.proofs.StreamKeeping.{gives-settled, streams-on}
-use Rattle.ac_automaton.proofs.StreamLoop.{fits-there, found-on, goes-on-with, may-read, node_here, stays-on, stream_scan, stream_text}
+use Rattle.ac_automaton.proofs.StreamLoop.{fits-there, found-on, may-read, node_here, stays-on, stream_scan, stream_text}
 use Rattle.ac_automaton.proofs.StreamText.{tape-is}
 use Rattle.ac_automaton.proofs.automaton.stream.StreamFinder.next_read.Given.{Over}
 use Rattle.ac_automaton.proofs.automaton.stream.StreamFinder.next_read.Goals.{After-is_decided}
@@ -73,14 +74,10 @@ module _ (g : Over) (c : After-is_decided g) where
     -- where it isn't decided it may read on
     module _ (undecided : c.is_decided.result ≡ false) where
       unanswered : IsUnanswered c.self.inside.stops c.self.inside.filled c.loop-scanner.at here c.loop-scanner.picked
-      unanswered =
-          unanswered-unless c.self.inside.stops c.self.inside.filled c.loop-scanner.at here c.loop-scanner.picked
-          (λ answered. false≢true (sym undecided ∙ (c.is_decided.ensures _ on.is_at.there).1 answered))
+      unanswered = grind (arith, common_steps)
 
       goes : SearchGoesOn seen.built.kind (order_of seen.built.kind i.stops) c.loop-scanner.picked
-      goes =
-          goes-on-with stands listed g.A.Automaton.LOOKS filters i seen inv c.loop-scanner.picked
-          (λ first. unanswered.none (sym (inv.stops ∙ sym c.self.invariant.stops) ∙ first))
+      goes = grind (arith, common_steps)
 
       alive : IsAlive (stream_scan stands listed g.A.Automaton.LOOKS filters i seen inv) t
           (record { state = c.loop-scanner.state; at = c.loop-scanner.at })
@@ -119,9 +116,7 @@ module _ (g : Over) (c : After-is_decided g) (undecided : c.is_decided.result �
 
 pub loop-scanner-smaller-then-is_some : goal.loop-scanner-smaller-then-is_some
 loop-scanner-smaller-then-is_some g c =
-    let d = (goal.at.loop-scanner-smaller-then-is_some g c).After-is_decided in
-    let further = c.read_ahead-ahead.ensures.moved (room g d c.loop-scanner-test.true) in
-    let within = c.read_ahead-ahead.ensures.within in omega arith
+    grind (arith, common_steps, room g ((goal.at.loop-scanner-smaller-then-is_some g c).After-is_decided) c.loop-scanner-test.true)
 
 pub loop-scanner-preserved-then-is_some : goal.loop-scanner-preserved-then-is_some
 loop-scanner-preserved-then-is_some g c =
@@ -151,10 +146,7 @@ loop-scanner-preserved-then-is_some g c =
     }
 
 pub loop-scanner-smaller : goal.loop-scanner-smaller
-loop-scanner-smaller g c =
-    let d = (goal.at.loop-scanner-smaller g c).After-is_decided in
-    let further = c.read_ahead-ahead.ensures.moved (room g d c.loop-scanner-test.true) in
-    let within = c.read_ahead-ahead.ensures.within in omega arith
+loop-scanner-smaller g c = search (rules, room g ((goal.at.loop-scanner-smaller g c).After-is_decided) c.loop-scanner-test.true)
 
 pub loop-scanner-preserved : goal.loop-scanner-preserved
 loop-scanner-preserved g c =
@@ -184,9 +176,7 @@ loop-scanner-preserved g c =
     }
 
 pub is_dead-dead-requires : goal.is_dead-dead-requires
-is_dead-dead-requires g c =
-    let d = (goal.at.is_dead-dead-requires g c).After-is_decided in
-    record { state = (No, (_, (on-now g d).is_at.there)) }
+is_dead-dead-requires g c = search (rules, on-now g ((goal.at.is_dead-dead-requires g c).After-is_decided))
 
 -- where the search has its answer in what was read
 module _ (g : Over) (c : After-is_decided g) where

@@ -1,13 +1,10 @@
-use Rattle.std.proofs.Common.{◌≡◌, ℕ, arith, subst, sym, ◌∙◌, IfSome}
-use Rattle.ac_automaton.specs.Prelude.{HasState, IsRoot, Meaning, Represents, RootTells, START}
+use Rattle.std.proofs.Common.{◌≡◌, ℕ, arith, subst, sym, ◌∙◌, rules}
+use Rattle.std.proofs.lemmas.Grind.{common_steps}
+use Rattle.ac_automaton.specs.Prelude.{HasState, Meaning, Represents, RootTells, START}
 use Rattle.ac_automaton.specs.Util.{No, Node, Yes}
-use Rattle.ac_automaton.proofs.Follows.{Ended, onward-start, represented, ends-root, ends-target, ends-anchored, ends-outer, goes-on, leads-inner}
+use Rattle.ac_automaton.proofs.Follows.{Ended, represented, ends-root, ends-target, ends-anchored, ends-outer, goes-on, leads-inner}
 use Rattle.ac_automaton.proofs.nfa.noncontiguous.state.follow.Goals as goal
 use Rattle.ac_automaton.proofs.nfa.noncontiguous.state.follow.Goals.{in-Yes, in-No, in_default, in_default-matches, After-index-states-as_usize, After-look_in_root, After-must, In-Some-look, Then-as_usize-lt-FIRST_INNER}
-
-pub loop-states-init : goal.loop-states-init
-loop-states-init c =
-    λ g u same h. onward-start g c.args.trie.states.now c.args.byte u c.args.looks.now c.args.anchored c.args.from h
 
 pub bounds-states-as_usize : goal.bounds-states-as_usize
 bounds-states-as_usize c =
@@ -104,9 +101,7 @@ at_outer c g u same h =
 
 pub returns-then-as_usize-lt-FIRST_INNER-clause-steps :
     goal.returns-then-as_usize-lt-FIRST_INNER-clause-steps
-returns-then-as_usize-lt-FIRST_INNER-clause-steps c = λ g u same h.
-    (at_outer (goal.at.returns-then-as_usize-lt-FIRST_INNER-clause-steps c).Then-as_usize-lt-FIRST_INNER g u
-    same h).steps
+returns-then-as_usize-lt-FIRST_INNER-clause-steps c = search (rules, at_outer)
 
 pub returns-then-as_usize-lt-FIRST_INNER-clause-looks :
     goal.returns-then-as_usize-lt-FIRST_INNER-clause-looks
@@ -141,19 +136,10 @@ module _ (c : After-look_in_root) where
   at_start = sym c.as_usize.ensures.value ∙ c.if-as_usize-eq-START.true
 
   told : RootTells c.args.trie.transitions.now c.args.trie.states.now c.args.byte c.look_in_root.result
-  told =
-      let rooted : IsRoot c.args.trie.transitions.now c.args.trie.states.now c.in-Some.root.now =
-      subst (λ root. IfSome root (λ r. IsRoot c.args.trie.transitions.now c.args.trie.states.now r.now))
-      c.in-Some.is c.requires.rooted in
-      let tells = rooted.told c.args.byte (omega arith) in
-      subst (λ (n : ℕ). RootTells c.args.trie.transitions.now c.args.trie.states.now c.args.byte n)
-      (sym c.look_in_root.ensures.target) tells
+  told = grind (arith, common_steps)
 
   is_no : c.args.anchored ≡ No
-  is_no = elim c.match-matches.branch [
-    | in-No w ↦ w.in-No.is
-    | in_default w ↦ absurd (cc)
-  ]
+  is_no = grind (arith, common_steps)
 
   at_root : (g : Meaning) (u : Node) → g.transitions ≡ c.args.trie.transitions.now
       → HasState g c.args.trie.states.now c.args.from u
@@ -164,8 +150,7 @@ module _ (c : After-look_in_root) where
       c.args.anchored is_no at_start told (c.loop-states.invariant g u same h)
 
 pub returns-in-loop-states-clause-steps : goal.returns-in-loop-states-clause-steps
-returns-in-loop-states-clause-steps c = λ g u same h.
-    (at_root (goal.at.returns-in-loop-states-clause-steps c).After-look_in_root g u same h).steps
+returns-in-loop-states-clause-steps c = search (rules, at_root)
 
 pub returns-in-loop-states-clause-looks : goal.returns-in-loop-states-clause-looks
 returns-in-loop-states-clause-looks c = λ g u same h.

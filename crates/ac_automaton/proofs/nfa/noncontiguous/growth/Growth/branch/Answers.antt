@@ -1,4 +1,4 @@
-use Rattle.std.proofs.Common.{◌≡◌, ℕ, List, [], ◌∷◌, ◌++◌, length, length-append, refl, ap, sym, ◌∙◌, subst, arith, Some, slice_get}
+use Rattle.std.proofs.Common.{◌≡◌, ℕ, List, [], ◌∷◌, ◌++◌, length, length-append, refl, ap, sym, ◌∙◌, subst, arith, Some, slice_get, rules}
 use Rattle.ac_automaton.specs.Prelude.{EndsPatterns, grown_meaning, HasBranched, HasChild, HasSorted, IsRefused, miss, nodes_of, Source, source_of, too_many_states, word}
 use Rattle.ac_automaton.specs.Growths.{IsQueueReady}
 use Rattle.ac_automaton.proofs.Branched.{has-branched, link-due, still-meant, whole_state}
@@ -64,15 +64,7 @@ module _ (g : Over) (c : In-Some g) where
 
   run : (patterns : List (List ℕ)) (ready : Ready g at patterns (now g at)) (ends : Ends g at (now g at))
       → IsRun (site g at patterns ready ends) c.loop-place.place c.run_end-end.result c.in-Some.byte
-  run patterns ready ends = record {
-    more = c.loop-place-test.true;
-    some = c.run_end-end.ensures.later;
-    high = c.run_end-end.ensures.within;
-    byte = sym c.byte.ensures.value ∙ c.in-Some.is;
-    small = omega (arith, c.in-Some.ensures);
-    same = c.run_end-end.ensures.same;
-    other = c.run_end-end.ensures.other;
-  }
+  run patterns ready ends = search rules
 
   -- so it is that of a child
   child : (patterns : List (List ℕ)) → Ready g at patterns (now g at)

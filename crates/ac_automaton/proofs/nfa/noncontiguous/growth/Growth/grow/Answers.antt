@@ -1,5 +1,6 @@
-use Rattle.std.proofs.Common.{◌≡◌, ◌+◌, ◌<◌, ◌≤◌, Bool, ℕ, List, length, map, sym, ◌∙◌, refl, ap, subst, arith, Some, slice_get}
+use Rattle.std.proofs.Common.{◌≡◌, ◌+◌, ◌≤◌, Bool, ℕ, List, length, map, sym, ◌∙◌, ap, subst, arith, Some, slice_get, rules}
 use Rattle.std.proofs.lemmas.Option.{slice_get_read}
+use Rattle.std.proofs.lemmas.Grind.{common_steps}
 use Rattle.ac_automaton.specs.Util.{MatchKind, plain}
 use Rattle.ac_automaton.specs.Prelude.{IsOrder, IsRefused, IsWhole, MayBranch, numbers, Sorted, Source, too_many_states}
 use Rattle.ac_automaton.proofs.Places.{refused-by}
@@ -25,14 +26,13 @@ module _ (g : Over) (c : After-start-start g) where
 
 pub branch-self-requires : goal.branch-self-requires
 branch-self-requires g c =
-    let begun = c.requires.begun in
-    record {
-      ready = (
-        map (plain c.args.self.sorted.fold) begun.1,
-        start-may g (goal.at.branch-self-requires g c).After-start-start begun.1
-            (begun-order begun.0 begun.1 c.args.self begun.2),
-      );
-    }
+    grind (
+      arith,
+      common_steps,
+      start-may g (goal.at.branch-self-requires g c).After-start-start (c.requires.begun).1 (begun-order (c.requires.begun).0 (c.requires.begun).1
+          c.args.self (c.requires.begun).2),
+      begun-order (c.requires.begun).0 (c.requires.begun).1 c.args.self (c.requires.begun).2,
+    )
 
 pub returns-in_err-start : goal.returns-in_err-start
 returns-in_err-start g c = λ fold texts begun.
@@ -74,20 +74,12 @@ module _ (g : Over) (c : At-loop-at g) where
       → IsOrder c.args.self.kind (map (plain c.args.self.sorted.fold) texts) c.args.self.sorted.patterns
       → IsOrder c.loop-at.self.kind (map (plain c.loop-at.self.sorted.fold) texts)
       c.loop-at.self.sorted.patterns
-  order-now texts order =
-      subst (λ (k : MatchKind). IsOrder k (map (plain c.loop-at.self.sorted.fold) texts)
-      c.loop-at.self.sorted.patterns) (sym c.loop-at.invariant.kind)
-      (subst (λ (s : Sorted). IsOrder c.args.self.kind (map (plain s.fold) texts) s.patterns)
-      (sym c.loop-at.invariant.sorted) order)
+  order-now texts order = grind (arith, common_steps)
 
 -- and then it may branch at each state of the queue
 module _ (g : Over) (c : After-index-queued g) where
   waits : slice_get c.loop-at.self.queue.items c.loop-at.at ≡ Some c.index-queued.result.now
-  waits =
-      let within : c.loop-at.at < length c.loop-at.self.queue.items =
-      (omega (arith, c.len.ensures, c.loop-at.self.queue.ok.0, c.loop-at-test.true)) in
-      slice_get_read c.loop-at.self.queue.items (length c.loop-at.self.queue.items) c.loop-at.at
-      c.index-queued.result.now refl within c.index-queued.ensures
+  waits = search (rules, slice_get_read)
 
   may : (texts : List (List ℕ))
       → IsOrder c.loop-at.self.kind (map (plain c.loop-at.self.sorted.fold) texts)
