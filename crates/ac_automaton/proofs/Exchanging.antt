@@ -4,7 +4,7 @@ use Rattle.std.proofs.Common.{◌≡◌, ◌∙◌, ℕ, Bool, true, false, List
 use Rattle.std.specs.Borrow.{Bor, MutBor}
 use Rattle.std.specs.Fn.{Mut}
 use Rattle.std.proofs.lemmas.Grind.{common_steps}
-use Rattle.ac_automaton.specs.Util.{AppendsAll, Asked, asked_by, asked_whole, Built, Calls, find_refusal, MakesSteps, MatchError, Occurrence, replace_refusal, ReplaceError, ReplacementSteps, StepsLead, Turn}
+use Rattle.ac_automaton.specs.Util.{AppendsAll, InputView, answer_of, whole_input, Built, Calls, find_refusal, MakesSteps, MatchError, Occurrence, replace_refusal, ReplaceError, ReplacementSteps, StepsLead, Turn}
 use Rattle.ac_util.specs.declared.error.ReplaceError.TheVariants.{Memory}
 
 -- a slice up to the end is what follows a place
@@ -18,7 +18,7 @@ pub record LeadsOn {F D : Type 0}
     (holds : D → List ℕ) (haystack : List ℕ) (all : List Occurrence) (first : F) (old : D) (place : ℕ)
     (ms : List Occurrence) (f : F) (d : D) : Type 0 where
   pub on : (end : Option ReplaceError) (left : F) (new : D)
-      → ReplacementSteps (AppendsAll holds) (Calls closures) asked_by haystack place ms
+      → ReplacementSteps (AppendsAll holds) (Calls closures) answer_of haystack place ms
       (record { closure = f; destination = d }) end (record { closure = left; destination = new })
       → StepsLead closures holds haystack all first old end new
 
@@ -46,7 +46,7 @@ module _ {F D : Type 0}
         (call : Calls closures m (slice_range haystack again end) (record { closure = f; destination = at_match }) r
         (record { closure = g; destination = e })) where
       -- the gap was appended, and a call made with the match
-      turned : (b : Bool) → r ≡ b → Turn (AppendsAll {E = ReplaceError} holds) (Calls closures) asked_by haystack place m
+      turned : (b : Bool) → r ≡ b → Turn (AppendsAll {E = ReplaceError} holds) (Calls closures) answer_of haystack place m
           (record { closure = f; destination = d }) b (record { closure = g; destination = e })
       turned b answers = record {
         at_match = record { closure = f; destination = at_match };
@@ -99,7 +99,7 @@ module _ {F D : Type 0}
       → StepsLead closures holds haystack all first old (Some Memory) e
   leads-end_refused {place} {f} {d} e leads same = leads.on (Some Memory) f e (refl, same)
 
-pub unrefused : (built : Built) (haystack : List ℕ) (a : Asked) → a ≡ asked_whole haystack
+pub unrefused : (built : Built) (haystack : List ℕ) (a : InputView) → a ≡ whole_input haystack
     → find_refusal built a ≡ None → replace_refusal built ≡ None
 unrefused built haystack a is none = grind (arith, common_steps)
 

@@ -2,7 +2,7 @@
 use Rattle.std.proofs.Common.{◌≡◌, ℕ, zero, suc, drop, ◌<◌, ◌≤◌, List, [], ◌∷◌, length, inl, inr, refl, sym, subst, arith, Option, Some, None, ◌⊎◌, IfSome, MatchOption, max, slice_get, rules}
 use Rattle.std.proofs.Math.Seq.{drop-nil}
 use Rattle.std.proofs.lemmas.Grind.{common_steps}
-use Rattle.ac_automaton.specs.Util.{all, Asked, Built, item_at, MatchKind, No, Node, Occurrence, overlapping_iter_refusal, overlapping_refusal, place_after, Search, Span, Standard, start_refusal}
+use Rattle.ac_automaton.specs.Util.{all, InputView, Built, item_at, MatchKind, No, Node, Occurrence, overlapping_iter_refusal, overlapping_refusal, place_after, Search, Span, Standard, start_refusal}
 use Rattle.ac_util.proofs.ListingBeginning.{all-past_end, item-none, item-some}
 use Rattle.ac_util.proofs.Lists.{drop-slice_get}
 use Rattle.ac_util.proofs.Reached.{reached-alive}
@@ -12,14 +12,14 @@ use Rattle.ac_automaton.proofs.ListLoop.{arrived, arrives, given-arrived, listin
 use Rattle.ac_automaton.proofs.ReadOn.{at-start, read-nothing, read-scanned, scans-nothing, scans-on}
 
 -- a search by a state is refused for its start or its match kind
-pub by_state-served : (built : Built) (asked : Asked) → start_refusal built.start_kind asked.anchored ≡ None
-    → built.kind ≡ Standard → overlapping_refusal built asked ≡ None
-by_state-served built asked starts standard = cc
+pub by_state-served : (built : Built) (input : InputView) → start_refusal built.start_kind input.anchored ≡ None
+    → built.kind ≡ Standard → overlapping_refusal built input ≡ None
+by_state-served built input starts standard = cc
 
 -- an iterator is refused for these, and for being anchored
-pub iterator-served : (built : Built) (asked : Asked) → start_refusal built.start_kind asked.anchored ≡ None
-    → built.kind ≡ Standard → asked.anchored ≡ No → overlapping_iter_refusal built asked ≡ None
-iterator-served built asked starts standard unanchored = cc
+pub iterator-served : (built : Built) (input : InputView) → start_refusal built.start_kind input.anchored ≡ None
+    → built.kind ≡ Standard → input.anchored ≡ No → overlapping_iter_refusal built input ≡ None
+iterator-served built input starts standard unanchored = cc
 
 -- of a span that starts past its end no state has a listing
 pub past_end-gives : {stands : ℕ → Node → Type 0} {listed : ℕ → List ℕ} {kind : MatchKind} (q : Search)

@@ -3,10 +3,10 @@ use Rattle.std.proofs.Common.{◌≡◌, ℕ, zero, suc, ◌+◌, ◌-◌, ◌<�
 use Rattle.std.proofs.Math.Seq.{take-add, take-append-add}
 use Rattle.std.proofs.lemmas.List.{append-nil, append_assoc, drop-drop, drop-take, drop_all, take-append-le, take-take, take_all}
 use Rattle.std.proofs.lemmas.Grind.{common_steps}
-use Rattle.ac_automaton.specs.Util.{Built, IsNear, IsSettledBy, Occurrence, Reading, ReadsAll, ReadsSome, Replacing, streamed, StreamError, WritesPiece, Writing}
+use Rattle.ac_automaton.specs.Util.{Built, IsNear, IsSettledBy, Occurrence, Reading, ReadsAll, ReadsSome, Replacing, stream_result, StreamError, WritesPiece, Writing}
 use Rattle.ac_util.proofs.Devices.{fails-on, reads-on, reads-out}
 use Rattle.ac_util.proofs.Spans.{take_drop_take}
-use Rattle.ac_automaton.specs.Prelude.{Ended, FailsBy, FailsToExchange, FailsToFill, FillsMore, GivesMatch, HasExchanged, HasReplaced, IsSettledIn, matches_so_far, MeetsEnd, Open, ReplacesBy, StartFrom, Steps, stream_begun, Streaming}
+use Rattle.ac_automaton.specs.Prelude.{Ended, FailsBy, FailsToExchange, FailsToFill, FillsMore, GivesMatch, HasExchanged, HasReplaced, IsSettledIn, matches_so_far, MeetsEnd, Open, ReplacesBy, StartFrom, Steps, initial_stream, Streaming}
 use Rattle.ac_automaton.proofs.Places.{take-next}
 
 -- a part of a list and then the next are a part
@@ -232,7 +232,7 @@ module _ {E D : Type 0} (told : D → Writing)
   -- steps told by what the search was built from
   steps-by : (v : Streaming) (given place : ℕ) (end : Option StreamError) (t : Replacing E D) → v.built ≡ built
       → Steps told calls (take place v.bytes) 0 (take given (matches_so_far v)) first end t
-      → Steps told calls (take place v.bytes) 0 (take given (streamed built v.bytes)) first end t
+      → Steps told calls (take place v.bytes) 0 (take given (stream_result built v.bytes)) first end t
   steps-by v given place end t is steps = grind (arith, common_steps)
 
   -- how far a stream is settled that goes on, and one whose end was met
@@ -242,10 +242,10 @@ module _ {E D : Type 0} (told : D → Writing)
 
   settled-ended : (v : Streaming) (given place : ℕ) → v.built ≡ built → v.phase ≡ Ended
       → IsSettledIn v.phase v.built v.bytes given place
-      → (given ≡ length (streamed built v.bytes)) × (place ≡ length v.bytes)
+      → (given ≡ length (stream_result built v.bytes)) × (place ≡ length v.bytes)
   settled-ended v given place is ended h = grind (arith, common_steps)
 
-  pub begins : (v : Streaming) → v ≡ stream_begun built → IsReplacing begun v first
+  pub begins : (v : Streaming) → v ≡ initial_stream built → IsReplacing begun v first
   begins v is = grind (arith, common_steps)
 
   module _ {reader new_reader : Reading} {v new : Streaming} {s : Replacing E D} (on : IsReplacing reader v s)

@@ -4,11 +4,11 @@ use Rattle.std.specs.Prelude.{⊤}
 use Rattle.std.proofs.lemmas.List.{append-nil, drop-append-le, drop-drop, length-take-le}
 use Rattle.std.proofs.Math.Seq.{take-add, take-append_seam}
 use Rattle.std.proofs.lemmas.Grind.{common_steps}
-use Rattle.ac_automaton.specs.Util.{buffer_len, Built, from, is_leftmost, IsSettledBy, longest_len, Node, Occurrence, pick, Span, stream_refusal, streamed, walk_after}
+use Rattle.ac_automaton.specs.Util.{buffer_len, Built, from, is_leftmost, IsSettledBy, longest_len, Node, Occurrence, pick, Span, stream_refusal, stream_result, walk_after}
 use Rattle.ac_util.proofs.Longer.{pick-extended}
 use Rattle.ac_util.proofs.Spans.{take_drop_take}
 use Rattle.ac_util.proofs.Walks.{next-none, walk_after-None}
-use Rattle.ac_automaton.specs.Prelude.{Ended, Failed, HasGivenSettled, in_memory, Inside, IsStreaming, most_kept, Open, Phase, Reaches, Scan, stream_begun, stream_from, Streaming}
+use Rattle.ac_automaton.specs.Prelude.{Ended, Failed, HasGivenSettled, in_memory, Inside, IsStreaming, most_kept, Open, Phase, Reaches, Scan, initial_stream, stream_from, Streaming}
 use Rattle.ac_automaton.specs.Streams.{HasGiven}
 use Rattle.ac_automaton.proofs.ReadOn.{at-start}
 use Rattle.ac_automaton.proofs.StreamRefusals.{allowed-some}
@@ -37,7 +37,7 @@ module _ (stands : ℕ → Node → Type 0) (built : Built) (allowed : stream_re
     at = 0;
     picked = None;
     begun = 0;
-  }) (record (stream_begun built) { buffer = length buffer })
+  }) (record (initial_stream built) { buffer = length buffer })
   begun = record {
     allowed = allowed;
     starts = starts;
@@ -79,7 +79,7 @@ module _ (stands : ℕ → Node → Type 0) (built : Built) (allowed : stream_re
         at = 0;
         picked = None;
         begun = begun';
-      }) (record (stream_begun built) { bytes = bytes; given = given; buffer = length buffer })
+      }) (record (initial_stream built) { bytes = bytes; given = given; buffer = length buffer })
   streams-begin stops reserve' begun' given bytes s r b n none = search (rules, begun)
 
 -- how many bytes may be kept back, as it is computed
@@ -100,15 +100,15 @@ module _ (stands : ℕ → Node → Type 0) (built : Built) (bytes more : List �
 module _ (stands : ℕ → Node → Type 0) (i : Inside) (v : Streaming) (inv : IsStreaming stands i v) where
   -- the matches that were given stay as they are, whichever bytes follow
   pub given-stays : (more : List ℕ) → (v.phase ≡ Ended → ⊥)
-      → take v.given (streamed v.built (v.bytes ++ more)) ≡ take v.given (streamed v.built v.bytes)
+      → take v.given (stream_result v.built (v.bytes ++ more)) ≡ take v.given (stream_result v.built v.bytes)
   given-stays more goes_on =
       taken (v.bytes ++ more) _ (inv.given.walks more (λ ended. absurd (goes_on ended)))
-      ∙ sym (taken v.bytes _ (subst (λ (w : List ℕ). streamed v.built w
+      ∙ sym (taken v.bytes _ (subst (λ (w : List ℕ). stream_result v.built w
       ≡ inv.given.matches ++ walk_after v.built.kind (stream_from v.built w i.begun) inv.given.last)
       (append-nil v.bytes) (inv.given.walks [] (λ ended. refl))))
     where
-      taken : (bytes : List ℕ) (rest : List Occurrence) → streamed v.built bytes ≡ inv.given.matches ++ rest
-          → take v.given (streamed v.built bytes) ≡ inv.given.matches
+      taken : (bytes : List ℕ) (rest : List Occurrence) → stream_result v.built bytes ≡ inv.given.matches ++ rest
+          → take v.given (stream_result v.built bytes) ≡ inv.given.matches
       taken bytes rest e =
           ap (take v.given) e
           ∙ ap (λ (n : ℕ). take n (inv.given.matches ++ rest)) (sym inv.given.count)
@@ -197,15 +197,15 @@ buffer-shows bytes buffer front filled start end counted holds from ordered with
     ∙ ap (λ (k : ℕ). drop k bytes) (let e : front + (start - front) ≡ start = omega arith in e))
 
 -- of no bytes there are no matches
-pub streamed-nothing : (built : Built) → stream_refusal built ≡ None → streamed built [] ≡ []
-streamed-nothing built allowed =
+pub stream_result-nothing : (built : Built) → stream_refusal built ≡ None → stream_result built [] ≡ []
+stream_result-nothing built allowed =
     walk_after-None built.kind (stream_from built [] 0) None
     (next-none built.kind (stream_from built [] 0) None
     (picked-nothing (λ s u. ⊤) (λ s. []) built 1 false (allowed-some built allowed) built.kind [] 0))
 
 -- and nothing to be settled
 pub settled-begun : (built : Built) → stream_refusal built ≡ None → IsSettledBy built.kind built [] 0 0
-settled-begun built allowed = search (rules, streamed-nothing)
+settled-begun built allowed = search (rules, stream_result-nothing)
 
 -- what is seen once more bytes have come
 pub filled-as : (old mid inside : Streaming) → inside ≡ mid → mid ≡ record old { front = mid.front }

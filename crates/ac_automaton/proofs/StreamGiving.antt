@@ -4,7 +4,7 @@ use Rattle.std.proofs.lemmas.Bool.{cases_lt, false≢true}
 use Rattle.std.proofs.lemmas.List.{append-nil, append_assoc}
 use Rattle.std.proofs.lemmas.Option.{get_or_from_slice_get, slice_get_within}
 use Rattle.std.proofs.lemmas.Grind.{common_steps}
-use Rattle.ac_automaton.specs.Util.{Built, is_leftmost, IsAfter, IsSettledAt, IsSettledBy, last_end, LeftmostFirst, LeftmostLongest, MatchKind, Node, Occurrence, Occurs, order_of, pattern_of, pick, Search, settled, Span, Standard, streamed, walk_after}
+use Rattle.ac_automaton.specs.Util.{Built, is_leftmost, IsAfter, IsSettledAt, IsSettledBy, last_end, LeftmostFirst, LeftmostLongest, MatchKind, Node, Occurrence, Occurs, order_of, pattern_of, pick, Search, settled, Span, Standard, stream_result, walk_after}
 use Rattle.ac_util.proofs.Longer.{pick-extended}
 use Rattle.ac_util.proofs.Decided.{settled-at}
 use Rattle.ac_util.proofs.Shortest.{none-empty}
@@ -128,7 +128,7 @@ module _ (stands : ℕ → Node → Type 0) (listed : ℕ → List ℕ) (most : 
       stays-pick last = search (rules, by-dead, by-end, by-first)
 
       walks-on : (v.phase ≡ Ended → more ≡ [])
-          → streamed v.built (v.bytes ++ more)
+          → stream_result v.built (v.bytes ++ more)
           ≡ (inv.given.matches ++ m ∷ [])
           ++ walk_after v.built.kind (stream_from v.built (v.bytes ++ more) m.end) (Some m.end)
       walks-on last =
@@ -141,7 +141,7 @@ module _ (stands : ℕ → Node → Type 0) (listed : ℕ → List ℕ) (most : 
           ∙ sym (append_assoc inv.given.matches (m ∷ [])
           (walk_after v.built.kind (stream_from v.built (v.bytes ++ more) m.end) (Some m.end)))
 
-    next-there : slice_get (streamed v.built v.bytes) v.given ≡ Some m
+    next-there : slice_get (stream_result v.built v.bytes) v.given ≡ Some m
     next-there = grind (arith, common_steps, append-nil v.bytes, walks-on, get-behind)
 
     starts-behind : v.kept ≤ m.start
@@ -151,14 +151,14 @@ module _ (stands : ℕ → Node → Type 0) (listed : ℕ → List ℕ) (most : 
     settling : IsSettling v m
     settling = by v.phase refl v.built.kind refl
       where
-        within : v.given < length (streamed v.built v.bytes)
-        within = slice_get_within (streamed v.built v.bytes) v.given m next-there
+        within : v.given < length (stream_result v.built v.bytes)
+        within = slice_get_within (stream_result v.built v.bytes) v.given m next-there
 
         ended : v.phase ≡ Ended → IsSettling v m
         ended e = record {
-          given = length (streamed v.built v.bytes);
+          given = length (stream_result v.built v.bytes);
           place = length v.bytes;
-          settled = subst (λ (p : Phase). IsSettledIn p v.built v.bytes (length (streamed v.built v.bytes))
+          settled = subst (λ (p : Phase). IsSettledIn p v.built v.bytes (length (stream_result v.built v.bytes))
               (length v.bytes)) (sym e) (refl, refl);
           among = within;
           ended = ends-within;
@@ -175,14 +175,14 @@ module _ (stands : ℕ → Node → Type 0) (listed : ℕ → List ℕ) (most : 
 
         standard : v.built.kind ≡ Standard → (v.phase ≡ Ended → ⊥) → IsSettling v m
         standard is_standard open' = record {
-          given = length (streamed v.built v.bytes);
+          given = length (stream_result v.built v.bytes);
           place = settled v.built v.bytes;
-          settled = settles (length (streamed v.built v.bytes)) (settled v.built v.bytes)
-              (subst (λ (k : MatchKind). IsSettledBy k v.built v.bytes (length (streamed v.built v.bytes))
+          settled = settles (length (stream_result v.built v.bytes)) (settled v.built v.bytes)
+              (subst (λ (k : MatchKind). IsSettledBy k v.built v.bytes (length (stream_result v.built v.bytes))
               (settled v.built v.bytes)) (sym is_standard) (refl, refl)) open';
           among = within;
           ended =
-              (let l = last-after (streamed v.built v.bytes) v.given m
+              (let l = last-after (stream_result v.built v.bytes) v.given m
               (walk-ordered v.built.kind (stream_from v.built v.bytes 0)) next-there in
               let w = ends-within in omega arith);
         }
@@ -285,7 +285,7 @@ module _ (stands : ℕ → Node → Type 0) (listed : ℕ → List ℕ) (most : 
           };
           all = λ ended standard.
               let none = inv.all ended standard in
-              let within = slice_get_within (streamed v.built v.bytes) v.given m next-there in absurd (omega arith);
+              let within = slice_get_within (stream_result v.built v.bytes) v.given m next-there in absurd (omega arith);
           few = (let f = inv.few in let l = occurs.from_low in let o = occurs.as_long in let s = some-bytes in
               omega arith);
           in_buffer = (let k = inv.in_buffer in omega arith);

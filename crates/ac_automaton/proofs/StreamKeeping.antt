@@ -3,7 +3,7 @@ use Rattle.std.proofs.Common.{◌≡◌, ◌≢◌, ◌⊎◌, ℕ, ◌+◌, ◌
 use Rattle.std.proofs.lemmas.Bool.{false≢true}
 use Rattle.std.proofs.lemmas.List.{append-nil}
 use Rattle.std.proofs.lemmas.Grind.{common_steps}
-use Rattle.ac_automaton.specs.Util.{is_leftmost, IsNear, IsSettledAt, IsSettledBy, longest_len, Node, Occurrence, pick, Search, Standard, streamed}
+use Rattle.ac_automaton.specs.Util.{is_leftmost, IsNear, IsSettledAt, IsSettledBy, longest_len, Node, Occurrence, pick, Search, Standard, stream_result}
 use Rattle.ac_util.proofs.Living.{dead-picked, node-short, pick-behind}
 use Rattle.ac_util.proofs.Decided.{settled-at}
 use Rattle.ac_util.proofs.Shortest.{longest-most, none-empty}
@@ -55,10 +55,10 @@ module _ (stands : ℕ → Node → Type 0) (listed : ℕ → List ℕ) (most : 
       picks-whole = on.picks ∙ ap (λ (k : ℕ). pick v.built.kind (up_to k)) end-is
 
       -- where nothing is picked all matches were given
-      whole-given : picked ≡ None → streamed v.built v.bytes ≡ inv.given.matches
+      whole-given : picked ≡ None → stream_result v.built v.bytes ≡ inv.given.matches
       whole-given none = grind (arith, common_steps, append-nil v.bytes, picks-whole, append-nil inv.given.matches, walk_after-None)
 
-      given-all : picked ≡ None → v.given ≡ length (streamed v.built v.bytes)
+      given-all : picked ≡ None → v.given ≡ length (stream_result v.built v.bytes)
       given-all none = sym (ap length (whole-given none) ∙ inv.given.count)
 
       -- of a stream that goes on no byte was given up that isn't far back

@@ -8,7 +8,7 @@ use Rattle.ac_util.proofs.Shortest.{longest-most}
 use Rattle.ac_util.proofs.Walks.{pick-Occurs}
 use Rattle.ac_automaton.specs.Prelude.{Cursor, FitsIn, found_at, HasReadOn, in_memory, Inside, IsAlive, IsAt, IsStreaming, node, NoMatchBetween, PassesNoMatch, Scan, ScanText, stream_from, Streaming, Work}
 use Rattle.ac_automaton.proofs.FindAhead.{picked-none, picked-some}
-use Rattle.ac_automaton.proofs.FindLoop.{found-end, goes_on-by}
+use Rattle.ac_automaton.proofs.FindLoop.{found-end}
 use Rattle.ac_automaton.proofs.ReadOn.{node-fits}
 use Rattle.ac_automaton.proofs.StreamText.{At, at-in_buffer, at-in_stream, buffer_text, node-in_buffer, node_there, none-in_stream, place-is, scan}
 use Rattle.ac_automaton.proofs.StreamReserves.{most-back}

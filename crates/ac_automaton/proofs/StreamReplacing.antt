@@ -6,7 +6,7 @@ use Rattle.std.specs.declared.io.Error.{Error}
 use Rattle.std.proofs.Math.Seq.{take-append_seam}
 use Rattle.std.proofs.lemmas.List.{drop-take, drop_all, take-append-drop, take_all}
 use Rattle.std.proofs.lemmas.Grind.{common_steps}
-use Rattle.ac_automaton.specs.Util.{asked_by_result, Built, Calls, FailsToReplace, FailsToReplaceWith, held, IsSettledAt, IsSettledBy, last_end, LeftmostFirst, LeftmostLongest, MatchAnswer, MatchKind, Occurrence, Reading, replaced, replaced_from, ReplacementSteps, ReplacesStream, ReplacesStreamWith, Replacing, settled, Standard, StepsAreSettled, streamed, StreamError, without_last, WritesPiece, Writing}
+use Rattle.ac_automaton.specs.Util.{answer_of_result, Built, Calls, FailsToReplace, FailsToReplaceWith, kept_back_len, IsSettledAt, IsSettledBy, last_end, LeftmostFirst, LeftmostLongest, MatchAnswer, MatchKind, Occurrence, Reading, replaced, replaced_from, ReplacementSteps, ReplacesStream, ReplacesStreamWith, Replacing, settled, Standard, StepsAreSettled, stream_result, StreamError, without_last, WritesPiece, Writing}
 use Rattle.ac_util.specs.declared.error.StreamError.TheVariants.{Io}
 use Rattle.ac_util.proofs.Exchanges.{AreInOrder, exchanged-in_order}
 use Rattle.ac_util.proofs.PiecesLemmas.{slice_range-append}
@@ -33,7 +33,7 @@ module _ {F D : Type 0} (told : D → Writing)
   -- its steps are those of the closure
   bare-steps : (haystack : List ℕ) (place : ℕ) (ms : List Occurrence) (s t : Replacing (ByClosure F) D)
       (end : Option StreamError) → Steps told wrapped haystack place ms s end t
-      → ReplacementSteps (WritesPiece told) (Calls closures) asked_by_result haystack place ms (bare s) end (bare t)
+      → ReplacementSteps (WritesPiece told) (Calls closures) answer_of_result haystack place ms (bare s) end (bare t)
   bare-steps haystack place [] s t end steps = bare-piece (drop place haystack) s t end steps
   bare-steps haystack place (m ∷ ms) s t end (inl gap) = grind (arith, common_steps)
   bare-steps haystack place (m ∷ ms) s t end (inr turn) =
@@ -45,12 +45,12 @@ module _ {F D : Type 0} (told : D → Writing)
       gap : WritesPiece told (slice_range haystack place m.start) (bare s) None (bare turn.2.at_match)
       gap = bare-piece (slice_range haystack place m.start) s turn.2.at_match None turn.2.gap
 
-      by : (Further → ReplacementSteps (WritesPiece told) (Calls closures) asked_by_result haystack m.end ms
+      by : (Further → ReplacementSteps (WritesPiece told) (Calls closures) answer_of_result haystack m.end ms
           (bare turn.1) end (bare t))
           → (answer : Result (Unit {0}) Error)
           → Calls closures m (slice_range haystack m.start m.end) (bare turn.2.at_match) answer (bare turn.1)
           → MatchResult answer (λ done. turn.0 ≡ Ok done) (λ e. turn.0 ≡ Err (Io e))
-          → ReplacementSteps (WritesPiece told) (Calls closures) asked_by_result haystack place (m ∷ ms) (bare s) end (bare t)
+          → ReplacementSteps (WritesPiece told) (Calls closures) answer_of_result haystack place (m ∷ ms) (bare s) end (bare t)
       by on (Ok done) call is =
           inr (
             Ok done,
@@ -84,19 +84,19 @@ module _ {F D : Type 0} (told : D → Writing)
         → FailsToReplaceWith told closures built closure old ends reader new_reader t.destination e
     fails-with e (bytes, inl fails) = (bytes, inl (fails.reads, by built.kind fails.settled))
       where
-        bare-made : ReplacementSteps (WritesPiece told) (Calls closures) asked_by_result (take fails.place bytes) 0
-            (take fails.given (streamed built bytes)) (bare first) None (bare t)
-        bare-made = bare-steps (take fails.place bytes) 0 (take fails.given (streamed built bytes)) first t None fails.steps
+        bare-made : ReplacementSteps (WritesPiece told) (Calls closures) answer_of_result (take fails.place bytes) 0
+            (take fails.given (stream_result built bytes)) (bare first) None (bare t)
+        bare-made = bare-steps (take fails.place bytes) 0 (take fails.given (stream_result built bytes)) first t None fails.steps
 
         by : (kind : MatchKind) → IsSettledBy kind built bytes fails.given fails.place
             → StepsAreSettled told closures built closure old kind bytes t.destination
         by Standard all = (
           t.closure.closure,
-          subst (λ (ms : List Occurrence). ReplacementSteps (WritesPiece told) (Calls closures) asked_by_result
+          subst (λ (ms : List Occurrence). ReplacementSteps (WritesPiece told) (Calls closures) answer_of_result
               (take (settled built bytes) bytes) 0 ms (bare first) None (bare t))
-              (take_all fails.given (streamed built bytes) (let n = all.0 in omega arith))
-              (subst (λ (k : ℕ). ReplacementSteps (WritesPiece told) (Calls closures) asked_by_result (take k bytes) 0
-              (take fails.given (streamed built bytes)) (bare first) None (bare t)) all.1 bare-made),
+              (take_all fails.given (stream_result built bytes) (let n = all.0 in omega arith))
+              (subst (λ (k : ℕ). ReplacementSteps (WritesPiece told) (Calls closures) answer_of_result (take k bytes) 0
+              (take fails.given (stream_result built bytes)) (bare first) None (bare t)) all.1 bare-made),
         )
         by LeftmostFirst some = (fails.given, fails.place, some, fails.near, (t.closure.closure, bare-made))
         by LeftmostLongest some = (fails.given, fails.place, some, fails.near, (t.closure.closure, bare-made))
@@ -108,7 +108,7 @@ module _ {F D : Type 0} (told : D → Writing)
         fails.2,
         (
           t.closure.closure,
-          bare-steps (take fails.1 bytes) 0 (take fails.0 (streamed built bytes)) first t (Some e) fails.3,
+          bare-steps (take fails.1 bytes) 0 (take fails.0 (stream_result built bytes)) first t (Some e) fails.3,
         ),
       ),
     )
@@ -171,19 +171,19 @@ ends-by (m ∷ n ∷ ms) place all = ends-by (n ∷ ms) place (λ k d within. al
 -- the first of the matches that settle a stream as far as a place end by there, and the others start no earlier
 record AreApart (built : Built) (bytes : List ℕ) (given place : ℕ) : Type 0 where
   within : place ≤ length bytes
-  last : last_end (take given (streamed built bytes)) ≤ place
-  starts : StartFrom place (drop given (streamed built bytes))
+  last : last_end (take given (stream_result built bytes)) ≤ place
+  starts : StartFrom place (drop given (stream_result built bytes))
 
-all-apart : (built : Built) (bytes : List ℕ) (given place : ℕ) → given ≡ length (streamed built bytes)
-    → place ≤ length bytes → last_end (streamed built bytes) ≤ place → AreApart built bytes given place
+all-apart : (built : Built) (bytes : List ℕ) (given place : ℕ) → given ≡ length (stream_result built bytes)
+    → place ≤ length bytes → last_end (stream_result built bytes) ≤ place → AreApart built bytes given place
 all-apart built bytes given place all within last = grind (arith, common_steps)
 
 some-apart : (built : Built) (bytes : List ℕ) (given place : ℕ) → IsSettledAt built bytes given place
     → AreApart built bytes given place
 some-apart built bytes given place h = record {
   within = h.within;
-  last = ends-by (take given (streamed built bytes)) place h.ended;
-  starts = by (drop given (streamed built bytes)) h.later;
+  last = ends-by (take given (stream_result built bytes)) place h.ended;
+  starts = by (drop given (stream_result built bytes)) h.later;
 }
   where
     by : (ms : List Occurrence) → All (λ (m : Occurrence). place ≤ m.start) ms → StartFrom place ms
@@ -255,66 +255,66 @@ module _ {F D : Type 0} (told : D → Writing) where
       old = told s.destination
 
       abbrev whole-of : List ℕ → List ℕ
-      whole-of bytes = replaced bytes list (streamed built bytes)
+      whole-of bytes = replaced bytes list (stream_result built bytes)
 
       -- what is settled, and then the rest
       cut-of : (bytes : List ℕ) (given place : ℕ) → AreApart built bytes given place
           → whole-of bytes
-          ≡ replaced (take place bytes) list (take given (streamed built bytes))
-          ++ replaced_from bytes list place (drop given (streamed built bytes))
+          ≡ replaced (take place bytes) list (take given (stream_result built bytes))
+          ++ replaced_from bytes list place (drop given (stream_result built bytes))
       cut-of bytes given place apart =
-          ap (replaced bytes list) (sym (take-append-drop given (streamed built bytes)))
-          ∙ replaced-cut bytes list (length built.patterns) 0 place (take given (streamed built bytes))
-          (drop given (streamed built bytes))
-          (order-within (length bytes) (length built.patterns) 0 place (take given (streamed built bytes))
-          (order-front (length bytes) (length built.patterns) 0 (take given (streamed built bytes))
-          (drop given (streamed built bytes))
-          (subst (AreInOrder (length bytes) (length built.patterns) 0) (sym (take-append-drop given (streamed built bytes)))
+          ap (replaced bytes list) (sym (take-append-drop given (stream_result built bytes)))
+          ∙ replaced-cut bytes list (length built.patterns) 0 place (take given (stream_result built bytes))
+          (drop given (stream_result built bytes))
+          (order-within (length bytes) (length built.patterns) 0 place (take given (stream_result built bytes))
+          (order-front (length bytes) (length built.patterns) 0 (take given (stream_result built bytes))
+          (drop given (stream_result built bytes))
+          (subst (AreInOrder (length bytes) (length built.patterns) 0) (sym (take-append-drop given (stream_result built bytes)))
           (exchanged-in_order built bytes (length built.patterns) refl))) (omega arith) apart.last) apart.starts apart.within
 
       pub replaces-by : ReplacesBy told exchanges ends built reader new_reader s t
           → ReplacesStream built list (told s.destination) (told t.destination) ends reader new_reader
       replaces-by (bytes, reads, steps) =
-          grind (arith, common_steps, text-steps (take (length bytes) bytes) 0 (streamed built bytes) s t None list same steps)
+          grind (arith, common_steps, text-steps (take (length bytes) bytes) 0 (stream_result built bytes) s t None list same steps)
 
-      last-inside : (bytes : List ℕ) → last_end (streamed built bytes) ≤ length bytes
+      last-inside : (bytes : List ℕ) → last_end (stream_result built bytes) ≤ length bytes
       last-inside bytes =
-          order-last (length bytes) (length built.patterns) 0 (streamed built bytes)
+          order-last (length bytes) (length built.patterns) 0 (stream_result built bytes)
           (exchanged-in_order built bytes (length built.patterns) refl)
 
       -- the replaced text of what is settled under Standard is that of all without the bytes held back
       settled-text : (bytes : List ℕ)
-          → replaced (take (settled built bytes) bytes) list (streamed built bytes)
-          ≡ without_last (held built bytes) (whole-of bytes)
+          → replaced (take (settled built bytes) bytes) list (stream_result built bytes)
+          ≡ without_last (kept_back_len built bytes) (whole-of bytes)
       settled-text bytes =
           let last = last-inside bytes in
-          let many = length (streamed built bytes) in
+          let many = length (stream_result built bytes) in
           let apart = all-apart built bytes many (settled built bytes) refl (omega arith) (omega arith) in
-          let whole = take_all many (streamed built bytes) (omega arith) in
+          let whole = take_all many (stream_result built bytes) (omega arith) in
           let cut : whole-of bytes
-          ≡ replaced (take (settled built bytes) bytes) list (streamed built bytes) ++ drop (settled built bytes) bytes =
+          ≡ replaced (take (settled built bytes) bytes) list (stream_result built bytes) ++ drop (settled built bytes) bytes =
           cut-of bytes many (settled built bytes) apart
           ∙ ap (λ (ms : List Occurrence). replaced (take (settled built bytes) bytes) list ms
-          ++ replaced_from bytes list (settled built bytes) (drop many (streamed built bytes))) whole
-          ∙ ap (λ (ms : List Occurrence). replaced (take (settled built bytes) bytes) list (streamed built bytes)
-          ++ replaced_from bytes list (settled built bytes) ms) (drop_all many (streamed built bytes) (omega arith)) in
-          let written = replaced (take (settled built bytes) bytes) list (streamed built bytes) in
+          ++ replaced_from bytes list (settled built bytes) (drop many (stream_result built bytes))) whole
+          ∙ ap (λ (ms : List Occurrence). replaced (take (settled built bytes) bytes) list (stream_result built bytes)
+          ++ replaced_from bytes list (settled built bytes) ms) (drop_all many (stream_result built bytes) (omega arith)) in
+          let written = replaced (take (settled built bytes) bytes) list (stream_result built bytes) in
           let size = ap length cut ∙ length-append written (drop (settled built bytes) bytes) in
           let left = length-drop (settled built bytes) bytes in
           sym (ap (λ (n : ℕ). take n (whole-of bytes))
-          (let n : length (whole-of bytes) - held built bytes ≡ length written = omega arith in n)
+          (let n : length (whole-of bytes) - kept_back_len built bytes ≡ length written = omega arith in n)
           ∙ ap (take (length written)) cut
           ∙ take-append_seam written (drop (settled built bytes) bytes))
 
       -- a beginning of the replaced text as far as a place is one of all of it
       begun-text : (bytes : List ℕ) (given place : ℕ) (e : StreamError) → AreApart built bytes given place
-          → Steps told exchanges (take place bytes) 0 (take given (streamed built bytes)) s (Some e) t
+          → Steps told exchanges (take place bytes) 0 (take given (stream_result built bytes)) s (Some e) t
           → WritesPiece told (whole-of bytes) s (Some e) t
       begun-text bytes given place e apart steps =
           subst (λ (w : List ℕ). WritesPiece told w s (Some e) t) (sym (cut-of bytes given place apart))
-          (piece-begun (replaced (take place bytes) list (take given (streamed built bytes)))
-          (replaced_from bytes list place (drop given (streamed built bytes))) s t e
-          (text-steps (take place bytes) 0 (take given (streamed built bytes)) s t (Some e) list same steps))
+          (piece-begun (replaced (take place bytes) list (take given (stream_result built bytes)))
+          (replaced_from bytes list place (drop given (stream_result built bytes))) s t e
+          (text-steps (take place bytes) 0 (take given (stream_result built bytes)) s t (Some e) list same steps))
 
       apart-by : (bytes : List ℕ) (given place : ℕ) (kind : MatchKind) → IsSettledBy kind built bytes given place
           → AreApart built bytes given place
@@ -328,7 +328,7 @@ module _ {F D : Type 0} (told : D → Writing) where
           grind (
             arith,
             common_steps,
-            text-steps (take fails.place bytes) 0 (take fails.given (streamed built bytes)) s t None list same fails.steps,
+            text-steps (take fails.place bytes) 0 (take fails.given (stream_result built bytes)) s t None list same fails.steps,
             settled-text,
           )
       fails-by e (bytes, inr (given, place, inl (some, is), steps)) = search (rules, apart-by, begun-text)

@@ -2,7 +2,7 @@
 use Rattle.std.proofs.Common.{◌≡◌, ℕ, ◌+◌, ◌-◌, ◌≤◌, Bool, false, List, ◌++◌, length, length-append, length-take, take, drop, refl, arith, Option, Some, None, rules}
 use Rattle.std.proofs.lemmas.List.{take-append-drop}
 use Rattle.std.proofs.lemmas.Grind.{common_steps}
-use Rattle.ac_automaton.specs.Util.{asked, asked_whole, Built, has_empty, Input, MatchKind, No, Node, Occurrence, pick, Search, Taped}
+use Rattle.ac_automaton.specs.Util.{input_of, whole_input, Built, has_empty, Input, MatchKind, No, Node, Occurrence, pick, Search, Taped}
 use Rattle.ac_util.proofs.Longer.{text-extended}
 use Rattle.ac_util.proofs.Shortest.{none-empty}
 use Rattle.ac_util.proofs.Walks.{pick-Occurs}
@@ -10,7 +10,7 @@ use Rattle.ac_automaton.specs.Prelude.{in_memory, IsAt, node, node_at, NoMatchBe
 use Rattle.ac_automaton.proofs.ReadOn.{past-is}
 
 -- a tape that was opened over a buffer has its bytes
-pub tape-is : (buffer shown : List ℕ) (input : Input) (tape : Taped) → shown ≡ buffer → asked input ≡ asked_whole shown
+pub tape-is : (buffer shown : List ℕ) (input : Input) (tape : Taped) → shown ≡ buffer → input_of input ≡ whole_input shown
     → tape ≡ record { bytes = input.haystack.now; place = 0 } → buffer ≡ tape.bytes
 tape-is buffer shown input tape shows whole opens = grind (arith, common_steps)
 

@@ -3,7 +3,7 @@ use Rattle.std.specs.Prelude.{◌≡◌, ◌⊎◌, ℕ, ◌≤◌, Bool, List, 
 use Rattle.std.specs.Borrow.{Bor, MutBor}
 use Rattle.std.specs.Fn.{Mut}
 use Rattle.std.specs.declared.io.Error.{Error}
-use Rattle.ac_automaton.specs.Util.{Answer, Built, Calls, Fails, FailsToRead, Continues, IsNear, IsSettled, IsSettledBy, Occurrence, Reading, ReadsAll, ReplacementSteps, Replacing, streamed, StreamError, WritesPiece, Writing}
+use Rattle.ac_automaton.specs.Util.{Answer, Built, Calls, Fails, FailsToRead, Continues, IsNear, IsSettled, IsSettledBy, Occurrence, Reading, ReadsAll, ReplacementSteps, Replacing, stream_result, StreamError, WritesPiece, Writing}
 use Rattle.ac_util.specs.declared.error.StreamError.TheVariants.{Io}
 use Rattle.ac_automaton.specs.Streams.{IsSettledIn, Streaming, matches_so_far}
 
@@ -71,7 +71,7 @@ module _ {E D : Type 0} (told : D → Writing)
   abbrev pub ReplacesBy : Bool → Built → Reading → Reading → Replacing E D → Replacing E D → Type 0
   ReplacesBy ends built reader new_reader s t =
       (bytes : List ℕ) × ReadsAll ends reader new_reader bytes
-      × Steps (take (length bytes) bytes) 0 (streamed built bytes) s None t
+      × Steps (take (length bytes) bytes) 0 (stream_result built bytes) s None t
 
   -- a read has failed, or brought more than usize counts: the steps were made as far as the stream was settled
   pub record FailsAtRead (built : Built) (reader new_reader : Reading) (s : Replacing E D) (e : StreamError)
@@ -81,7 +81,7 @@ module _ {E D : Type 0} (told : D → Writing)
     pub reads : FailsToRead 0 reader new_reader bytes e
     pub settled : IsSettledBy built.kind built bytes given place
     pub near : IsNear built bytes place
-    pub steps : Steps (take place bytes) 0 (take given (streamed built bytes)) s None t
+    pub steps : Steps (take place bytes) 0 (take given (stream_result built bytes)) s None t
 
   -- that; or a write, or an exchange, has failed: no step was made after that
   abbrev pub FailsBy : Bool → Built → Reading → Reading → Replacing E D → StreamError → Replacing E D → Type 0
@@ -89,4 +89,4 @@ module _ {E D : Type 0} (told : D → Writing)
       (bytes : List ℕ)
       × (FailsAtRead built reader new_reader s e t bytes
       ⊎ ((given place : ℕ) × IsSettled ends built reader new_reader bytes given place
-      × Steps (take place bytes) 0 (take given (streamed built bytes)) s (Some e) t))
+      × Steps (take place bytes) 0 (take given (stream_result built bytes)) s (Some e) t))

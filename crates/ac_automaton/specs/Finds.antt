@@ -1,7 +1,7 @@
 -- What a find answers, and when it has read enough.
 use Rattle.std.specs.Prelude.{◌≡◌, ◌≢◌, ◌⊎◌, ℕ, ◌+◌, ◌-◌, ◌≤◌, Bool, true, List, Option, None, IfSome, option_map, slice_get, length, max}
 use Rattle.ac_util.specs.declared.search.Anchored.{Anchored}
-use Rattle.ac_automaton.specs.Util.{Asked, Built, depth, MatchKind, may_skip, Node, Occurrence, occurrence, order_of, pattern_of, pick, Search, Standard, Yes}
+use Rattle.ac_automaton.specs.Util.{InputView, Built, depth, MatchKind, may_skip, Node, Occurrence, occurrence, order_of, pattern_of, pick, Search, Standard, Yes}
 use Rattle.ac_automaton.specs.declared.automaton.scan.Cursor.{Cursor}
 use Rattle.ac_automaton.specs.Automata.{matches_of}
 use Rattle.ac_automaton.specs.Finders.{Picking, picking_of}
@@ -9,8 +9,8 @@ use Rattle.ac_automaton.specs.Progress.{HasRead, StopsAtDead, Work, most_looks, 
 use Rattle.ac_automaton.specs.Scans.{IsAt, Scan, ScanText, node, search_through}
 
 -- what a core is asked: a span of the bytes of a tape, and two options
-abbrev pub asked_of : List ℕ → ℕ → ℕ → Anchored → Bool → Asked
-asked_of bytes start end anchored earliest = record {
+abbrev pub input_over : List ℕ → ℕ → ℕ → Anchored → Bool → InputView
+input_over bytes start end anchored earliest = record {
   haystack = bytes;
   start = start;
   end = end;

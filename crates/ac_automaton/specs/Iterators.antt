@@ -1,7 +1,7 @@
 -- What is seen of an iterator over matches.
 use Rattle.std.specs.Prelude.{◌≡◌, ℕ, ◌+◌, ◌-◌, ◌*◌, ◌<◌, ◌≤◌, Bool, false, MatchBool, List, Option, None, Some, IfSome, min}
 use Rattle.std.specs.Iterator.{YieldsFirst}
-use Rattle.ac_automaton.specs.Util.{Asked, Built, from, LeftmostFirst, LeftmostLongest, MatchKind, may_skip, next_match, Occurrence, pick, repeats, Search, shortest_len, Span, Standard, walk_after}
+use Rattle.ac_automaton.specs.Util.{InputView, Built, from, LeftmostFirst, LeftmostLongest, MatchKind, may_skip, next_match, Occurrence, pick, repeats, Search, shortest_len, Span, Standard, walk_after}
 use Rattle.ac_automaton.specs.Finders.{Finding, Picking, picking_of}
 use Rattle.ac_automaton.specs.Finds.{HasSearched}
 use Rattle.ac_automaton.specs.Progress.{Work, most_looks, nothing_done, search_of}
@@ -28,13 +28,13 @@ walking_of finding bytes span last start work = record {
 }
 
 -- a walk that begins: all its matches are still to come
-abbrev pub begun : ℕ → Built → Bool → Asked → Walking
-begun most built filters asked =
+abbrev pub initial_walk : ℕ → Built → Bool → InputView → Walking
+initial_walk most built filters input =
     walking_of (record {
       built = built;
-      anchored = asked.anchored;
-      picking = picking_of most built.kind filters asked.earliest;
-    }) asked.haystack (record { start = asked.start; end = asked.end }) None asked.start nothing_done
+      anchored = input.anchored;
+      picking = picking_of most built.kind filters input.earliest;
+    }) input.haystack (record { start = input.start; end = input.end }) None input.start nothing_done
 
 -- where a walk in a span with this end goes on once a find has answered: at the end of the match, or past that of
 -- the span

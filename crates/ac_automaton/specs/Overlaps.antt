@@ -3,7 +3,7 @@ use Rattle.std.specs.Prelude.{◌≡◌, ◌⊎◌, ℕ, ◌-◌, ◌<◌, ◌�
 use Rattle.std.specs.Iterator.{YieldsFirst}
 use Rattle.std.specs.List.{take_while}
 use Rattle.ac_util.specs.declared.search.Anchored.{Anchored}
-use Rattle.ac_automaton.specs.Util.{all, Asked, Built, Counts, ending, item_at, MatchKind, may_skip, No, no_counts, Node, Occurrence, pattern_of, place_after, Search, search_in, Span, Standard, Taped, Yes}
+use Rattle.ac_automaton.specs.Util.{all, InputView, Built, Counts, ending, item_at, MatchKind, may_skip, No, no_counts, Node, Occurrence, pattern_of, place_after, Search, search_in, Span, Standard, Taped, Yes}
 use Rattle.ac_automaton.specs.declared.automaton.overlap.MatchRest.{MatchRest}
 use Rattle.ac_automaton.specs.declared.automaton.overlap.OverlappingState.{OverlappingState}
 use Rattle.ac_automaton.specs.declared.automaton.overlap.Reached.{Reached}
@@ -132,8 +132,8 @@ overlapping_of most filters q given place counts = record {
 }
 
 -- a listing that begins: all its items are still to come
-abbrev pub listing_begun : ℕ → Built → Bool → Asked → Overlapping
-listing_begun most built filters asked = overlapping_of most filters (search_in built asked) 0 0 no_counts
+abbrev pub initial_listing : ℕ → Built → Bool → InputView → Overlapping
+initial_listing most built filters input = overlapping_of most filters (search_in built input) 0 0 no_counts
 
 -- an iterator over the listing has given its next item, or had none. It has read on by the same tape, and nothing
 -- past the end of the item; unless it called the prefilter it has read as far as that, and past the last item

@@ -6,15 +6,15 @@ pub use Rattle.ac_automaton.specs.Exchanges.{asked_by_answer, CallsBy, error_in,
 pub use Rattle.ac_automaton.specs.Finders.{Finding, Picking}
 pub use Rattle.ac_automaton.specs.Finds.{FitsIn, found_at, HasSearched, IsAnswered, IsDecided, picking_by, place_of, ReadsTo, HasReadMatch}
 pub use Rattle.ac_automaton.specs.Growths.{EndsPatterns, first_states, grown_meaning, HasRoot, HasBranched, HasChild, HasSorted, IsGrown, IsNext, IsNotPushed, IsRangeOf, IsWhole, leading, LinkIsDue, MayBranch, nodes_of, Source, source_of, Waits, word}
-pub use Rattle.ac_automaton.specs.Iterators.{after, begun, Finds, GoesOn, HasFound, IsUnderWay, kept_place, last_after, Walking, walking_of}
-pub use Rattle.ac_automaton.specs.Overlaps.{due_in, given_by, given_in, HasListed, HasMoved, is_due, IsListed, IsListing, IsPlaced, listing_begun, ListsNext, Overlapping, overlapping_by, overlapping_of, place_by, rest_in, Takes}
+pub use Rattle.ac_automaton.specs.Iterators.{after, initial_walk, Finds, GoesOn, HasFound, IsUnderWay, kept_place, last_after, Walking, walking_of}
+pub use Rattle.ac_automaton.specs.Overlaps.{due_in, given_by, given_in, HasListed, HasMoved, is_due, IsListed, IsListing, IsPlaced, initial_listing, ListsNext, Overlapping, overlapping_by, overlapping_of, place_by, rest_in, Takes}
 pub use Rattle.ac_automaton.specs.Progress.{Grows, HasRead, most_looks, node_at, nothing_done, Reaches, search_of, Work, work_of}
 pub use Rattle.ac_automaton.specs.Readers.{AreNodes, HasOwn, IsOwn, leads_on}
 unfoldable pub use Rattle.ac_automaton.specs.Readers.{own_bytes}
 pub use Rattle.ac_automaton.specs.Scans.{HasSkipped, in_memory, IsAlive, IsAt, node, NoMatchBetween, PassesNoMatch, past, Scan, scan_by, ScansTo, ScanText, search_through, StaysAtStart}
 pub use Rattle.ac_automaton.specs.Skipping.{Skips, SkipsByBytes, SkipsByNeedle}
 pub use Rattle.ac_automaton.specs.Sorted.{AreListed, byte_at, compared, is_prefix, IsOrder, key_at, Keyed, keyed, keyed_one, numbers, Precedes, Sorted}
-pub use Rattle.ac_automaton.specs.Streams.{EndsNow, FailsToFill, FillsMore, GivesEarly, GivesLast, GivesMatch, GivesNone, GivesRead, GoesOnBy, HasGivenSettled, HasReadOn, Inside, IsSettledIn, IsSettling, IsStreaming, KeepsGiven, kept_from, kept_len, matches_so_far, MeetsEnd, most_kept, stream_begun, stream_from, Streaming, StreamsOn}
+pub use Rattle.ac_automaton.specs.Streams.{EndsNow, FailsToFill, FillsMore, GivesEarly, GivesLast, GivesMatch, GivesNone, GivesRead, GoesOnBy, HasGivenSettled, HasReadOn, Inside, IsSettledIn, IsSettling, IsStreaming, KeepsGiven, kept_from, kept_len, matches_so_far, MeetsEnd, most_kept, initial_stream, stream_from, Streaming, StreamsOn}
 pub use Rattle.ac_automaton.specs.Tries.{all_matches, anchored_matches, AreStates, dead_state, HasState, IsNumberOf, IsRoot, IsTrie, IsTrieState, Links, listed_within, Meaning, meaning_of, miss, NumbersNodes, own_target, Represents, RootTells, stands-lists, state_at, state_patterns, TakesFrom, transition_bytes, transitions_of, Trie, trie_of}
 pub use Rattle.ac_automaton.specs.declared.automaton.overlap.MatchRest.{MatchRest}
 pub use Rattle.ac_automaton.specs.declared.automaton.overlap.OverlappingState.{OverlappingState}

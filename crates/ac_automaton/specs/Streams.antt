@@ -1,6 +1,6 @@
 -- What is seen of a search over a stream, and what its calls do.
 use Rattle.std.specs.Prelude.{◌≡◌, ◌⊎◌, ℕ, ◌+◌, ◌-◌, ◌<◌, ◌≤◌, Bool, not, List, [], ◌++◌, Option, None, Some, IfSome, Result, MatchBool, MatchOption, MatchResult, if◌then◌else◌, length, max, slice_get, take, drop}
-use Rattle.ac_automaton.specs.Util.{buffer_len, Built, FailsToRead, is_leftmost, IsNear, IsSettledBy, last_end, longest_len, No, Node, Occurrence, pick, Reading, ReadsAll, ReadsSome, reserve, Search, Standard, stream_refusal, streamed, StreamError, walk_after}
+use Rattle.ac_automaton.specs.Util.{buffer_len, Built, FailsToRead, is_leftmost, IsNear, IsSettledBy, last_end, longest_len, No, Node, Occurrence, pick, Reading, ReadsAll, ReadsSome, reserve, Search, Standard, stream_refusal, stream_result, StreamError, walk_after}
 use Rattle.ac_automaton.specs.declared.automaton.stream.Phase.{Phase}
 use Rattle.ac_automaton.specs.declared.automaton.stream.Phase.TheVariants.{Open, Ended, Failed}
 use Rattle.ac_automaton.specs.Progress.{Reaches, search_of}
@@ -17,8 +17,8 @@ pub record Streaming : Type 0 where
   pub buffer : ℕ
 
 -- one that begins: nothing was read
-abbrev pub stream_begun : Built → Streaming
-stream_begun built = record {
+abbrev pub initial_stream : Built → Streaming
+initial_stream built = record {
   built = built;
   bytes = [];
   given = 0;
@@ -30,7 +30,7 @@ stream_begun built = record {
 
 -- all matches of the bytes read so far
 abbrev pub matches_so_far : Streaming → List Occurrence
-matches_so_far v = streamed v.built v.bytes
+matches_so_far v = stream_result v.built v.bytes
 
 -- how many bytes of a stream are kept
 abbrev pub kept_len : Streaming → ℕ
@@ -39,7 +39,7 @@ kept_len v = length v.bytes - v.kept
 -- a stream of which these bytes came is settled as far as a place by so many of their matches: by all of them once its end
 -- was met
 abbrev pub IsSettledIn : Phase → Built → List ℕ → ℕ → ℕ → Type 0
-IsSettledIn Ended built bytes given place = (given ≡ length (streamed built bytes)) × (place ≡ length bytes)
+IsSettledIn Ended built bytes given place = (given ≡ length (stream_result built bytes)) × (place ≡ length bytes)
 IsSettledIn Open built bytes given place = IsSettledBy built.kind built bytes given place
 IsSettledIn Failed built bytes given place = IsSettledBy built.kind built bytes given place
 
@@ -76,7 +76,7 @@ GivesRead old result new = MatchOption result (HasGivenSettled old new) (λ m. G
 
 -- of all these bytes of a stream, the matches that were given are still the first ones
 abbrev pub KeepsGiven : Streaming → List ℕ → Type 0
-KeepsGiven v bytes = take v.given (streamed v.built bytes) ≡ take v.given (matches_so_far v)
+KeepsGiven v bytes = take v.given (stream_result v.built bytes) ≡ take v.given (matches_so_far v)
 
 -- some bytes more were read: the matches that were given stay as they are
 pub record FillsMore (old new : Streaming) (reader new_reader : Reading) : Type 0 where
@@ -120,7 +120,7 @@ pub record GivesNextMatch (ends : Bool) (old : Streaming) (m : Occurrence) (new 
   pub reads : GoesOnBy ends old.phase new.phase reader new_reader more
   pub early : old.built.kind ≡ Standard → new.phase ≡ Open
   pub given : KeepsGiven old (old.bytes ++ more)
-  pub next : slice_get (streamed old.built (old.bytes ++ more)) old.given ≡ Some m
+  pub next : slice_get (stream_result old.built (old.bytes ++ more)) old.given ≡ Some m
   pub counted : new.given ≤ 18446744073709551615
   pub same : new ≡ record old {
     bytes = old.bytes ++ more;
@@ -147,7 +147,7 @@ pub record EndsNow (ends : Bool) (old new : Streaming) (reader new_reader : Read
   pub more : List ℕ
   pub reads : GoesOnBy ends old.phase Ended reader new_reader more
   pub given : KeepsGiven old (old.bytes ++ more)
-  pub all : old.given ≡ length (streamed old.built (old.bytes ++ more))
+  pub all : old.given ≡ length (stream_result old.built (old.bytes ++ more))
   pub same : new ≡ record old {
     bytes = old.bytes ++ more;
     front = new.front;
@@ -210,7 +210,7 @@ pub record HasGiven (phase : Phase) (built : Built) (bytes : List ℕ) (given be
   pub end : last_end matches ≡ begun
   pub last : Option ℕ
   pub walks : (more : List ℕ) → (phase ≡ Ended → more ≡ [])
-      → streamed built (bytes ++ more) ≡ matches ++ walk_after built.kind (stream_from built (bytes ++ more) begun) last
+      → stream_result built (bytes ++ more) ≡ matches ++ walk_after built.kind (stream_from built (bytes ++ more) begun) last
 
 -- under Standard all matches of what was read were given
 abbrev pub GivesEarly : Streaming → Type 0

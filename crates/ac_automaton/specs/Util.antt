@@ -1,12 +1,12 @@
 -- The names of ac_util that most clauses and proofs above it cite, passed on from one place. Declares nothing.
-pub use Rattle.ac_util.specs.Asked.{Asked, asked_whole}
+pub use Rattle.ac_util.specs.InputView.{InputView, whole_input}
 pub use Rattle.ac_util.specs.Borrowed.{bytes_of}
-pub use Rattle.ac_util.specs.Built.{Built, exchanged, exchanged_in_text, find_refusal, found, has_empty, overlapping_iter_refusal, overlapping_refusal, replace_refusal, search_in, stream_refusal, walked}
+pub use Rattle.ac_util.specs.Built.{Built, exchanged, exchanged_in_text, find_refusal, find_result, has_empty, overlapping_iter_refusal, overlapping_refusal, replace_refusal, search_in, stream_refusal, walk_result}
 pub use Rattle.ac_util.specs.Classes.{alphabet_len, AreClasses, class_at, IsNode, SetsApart, stride}
 unfoldable pub use Rattle.ac_util.specs.Classes.{class_of, classes_of, singletons, stride2}
 pub use Rattle.ac_util.specs.Counts.{Counts, more_looks, no_counts, one_more_call, one_more_read, Taped}
 pub use Rattle.ac_util.specs.Device.{HasCause, Reading, Reads, ReadsAll, ReadsSome, WritesAll, WritesUntilFailure, Writing}
-pub use Rattle.ac_util.specs.Inputs.{asked}
+pub use Rattle.ac_util.specs.Inputs.{input_of}
 pub use Rattle.ac_util.specs.Inside.{LiesIn}
 pub use Rattle.ac_util.specs.Limits.{limit_refusal}
 pub use Rattle.ac_util.specs.Listing.{item_at, place_after}
@@ -18,18 +18,18 @@ pub use Rattle.ac_util.specs.Occurrence.{Occurrence, occurrence}
 pub use Rattle.ac_util.specs.Pick.{IsPick, order_of}
 unfoldable pub use Rattle.ac_util.specs.Pick.{pick}
 pub use Rattle.ac_util.specs.Pieces.{AreBounds, pieces}
-pub use Rattle.ac_util.specs.Prefilters.{begins_with, BeginWith, is_one_of, IsSkipFor, match_told, may_skip, Promises, search_over, Skip, skip_among, skip_for, skip_of, Tells}
+pub use Rattle.ac_util.specs.Prefilters.{begins_with, BeginWith, is_one_of, IsSkipFor, match_candidate, may_skip, Promises, search_over, Skip, skip_among, skip_for, skip_of, Tells}
 pub use Rattle.ac_util.specs.Prefilters.Skip.{FirstOf}
 pub use Rattle.ac_util.specs.Refusal.{AnswersUnless, empty_refusal, Find, first_refusal, form_refusal, kind_refusal, OverlappingByState, OverlappingIterator, refusal, Replace, start_refusal, Stream}
 pub use Rattle.ac_util.specs.Replaced.{is_whole, replaced, replaced_from, whole_characters}
-pub use Rattle.ac_util.specs.Replacement.{Answer, AppendsAll, asked_by, Calls, Fails, Continues, MatchAnswer, ReplacementSteps, Replacing, Turn}
+pub use Rattle.ac_util.specs.Replacement.{Answer, AppendsAll, answer_of, Calls, Fails, Continues, MatchAnswer, ReplacementSteps, Replacing, Turn}
 pub use Rattle.ac_util.specs.Replacing.{AnswersWhole, MakesSteps, MatchReplaceError, StepsLead}
 pub use Rattle.ac_util.specs.Sameness.{plain, plain_byte}
 pub use Rattle.ac_util.specs.Search.{from, Occurs, pattern_of, Search}
 pub use Rattle.ac_util.specs.Settled.{AreDecided, IsSettledAt, NoneOpen}
 pub use Rattle.ac_util.specs.Sizes.{inner_nodes, longest_len, shortest_len, state_count}
-pub use Rattle.ac_util.specs.Stream.{buffer_len, error_of, held, last_end, reserve, streamed, without_last}
-pub use Rattle.ac_util.specs.StreamReplacing.{asked_by_result, FailsToRead, FailsToReplace, FailsToReplaceWith, IsNear, IsSettled, IsSettledBy, IsStreamRefused, ReplacesStream, ReplacesStreamWith, settled, StepsAreSettled, TextIsSettled, WritesPiece}
+pub use Rattle.ac_util.specs.Stream.{buffer_len, error_of, kept_back_len, last_end, reserve, stream_result, without_last}
+pub use Rattle.ac_util.specs.StreamReplacing.{answer_of_result, FailsToRead, FailsToReplace, FailsToReplaceWith, IsNear, IsSettled, IsSettledBy, IsStreamRefused, ReplacesStream, ReplacesStreamWith, settled, StepsAreSettled, TextIsSettled, WritesPiece}
 pub use Rattle.ac_util.specs.Text.{ending, found_at_end, plain_patterns, text}
 pub use Rattle.ac_util.specs.Texts.{AreTexts, IsBetweenCharacters}
 pub use Rattle.ac_util.specs.Walk.{IsAfter, next_match, repeats, unless_repeated}

@@ -2,12 +2,12 @@
 ghost use Rattle.std.specs.Prelude.{◌≡◌, ◌≢◌, ◌↔◌, ◌⊎◌, ℕ, ◌<◌, Bool, List, [], length, option_map, slice_get, string_bytes, Some, None, IfSome, IsTrue, MatchResult, ⊤};
 ghost use Rattle.std.specs.Iterator.Runs.{YieldsInOrder};
 ghost use Rattle.ac_util.specs.declared.search.Anchored.{Anchored};
-ghost use Rattle.ac_automaton.specs.Util.{AnswersUnless, AnswersWhole, asked, Built, bytes_of, exchanged, exchanged_in_text, FailsToReplace, FailsToReplaceWith, find_refusal, found, IsSkipFor, IsStreamRefused, longest_len, MakesSteps, more_looks, Node, overlapping_iter_refusal, overlapping_refusal, pattern_of, replace_refusal, replaced, ReplacesStream, ReplacesStreamWith, search_in, shortest_len, skip_for, skip_of, start_refusal, StepsLead, stream_refusal};
-ghost use Rattle.ac_automaton.specs.Iterators.{GoesOn, begun};
+ghost use Rattle.ac_automaton.specs.Util.{AnswersUnless, AnswersWhole, input_of, Built, bytes_of, exchanged, exchanged_in_text, FailsToReplace, FailsToReplaceWith, find_refusal, find_result, IsSkipFor, IsStreamRefused, longest_len, MakesSteps, more_looks, Node, overlapping_iter_refusal, overlapping_refusal, pattern_of, replace_refusal, replaced, ReplacesStream, ReplacesStreamWith, search_in, shortest_len, skip_for, skip_of, start_refusal, StepsLead, stream_refusal};
+ghost use Rattle.ac_automaton.specs.Iterators.{GoesOn, initial_walk};
 ghost use Rattle.ac_automaton.specs.Automata.{IsState, Lists, looks_of, step_of};
 ghost use Rattle.ac_automaton.specs.Common.{common_of};
-ghost use Rattle.ac_automaton.specs.Overlaps.{GivesNext, IsPlaced, ListsNext, Takes, listing_begun};
-ghost use Rattle.ac_automaton.specs.Streams.{stream_begun};
+ghost use Rattle.ac_automaton.specs.Overlaps.{GivesNext, IsPlaced, ListsNext, Takes, initial_listing};
+ghost use Rattle.ac_automaton.specs.Streams.{initial_stream};
 
 use ac_util::device::{Sink, Source};
 use ac_util::error::{MatchError, ReplaceError, StreamError};
@@ -223,8 +223,8 @@ pub trait Automaton {
     final fn try_find(&self, input: Input<'_>) -> Result<Option<Match>, MatchError>
     where
         Self: Sized,
-        ensures { AnswersUnless (find_refusal (built self.now) (asked input.entry))
-            (found (built self.now) (asked input.entry)) result }
+        ensures { AnswersUnless (find_refusal (built self.now) (input_of input.entry))
+            (find_result (built self.now) (input_of input.entry)) result }
     {
         find::try_find(self, input)
     }
@@ -242,8 +242,8 @@ pub trait Automaton {
     ) -> Result<FindIter<'a, 'h, Self>, MatchError>
     where
         Self: Sized,
-        ensures begun { AnswersUnless (find_refusal (built self.now) (asked input.entry))
-            (begun LOOKS (built self.now) (filters self.now) (asked input.entry)) result }
+        ensures begun { AnswersUnless (find_refusal (built self.now) (input_of input.entry))
+            (initial_walk LOOKS (built self.now) (filters self.now) (input_of input.entry)) result }
         ensures runs { YieldsInOrder GoesOn (λ w. w.rest) }
     {
         FindIter::new(self, input)
@@ -268,13 +268,13 @@ pub trait Automaton {
     ) -> Result<(), MatchError>
     where
         Self: Sized,
-        requires placed { IsPlaced (stands self.now (asked input).anchored) (listed self.now)
-            (built self.now).kind (search_in (built self.now) (asked input)) state.old }
+        requires placed { IsPlaced (stands self.now (input_of input).anchored) (listed self.now)
+            (built self.now).kind (search_in (built self.now) (input_of input)) state.old }
         ensures { MatchResult result
-            (λ _. (overlapping_refusal (built self.now) (asked input.entry) ≡ None)
-            × GivesNext (stands self.now (asked input.entry).anchored) (listed self.now) (built self.now).kind
-            (search_in (built self.now) (asked input.entry)) state.old state.new)
-            (λ e. (overlapping_refusal (built self.now) (asked input.entry) ≡ Some e) × (state.new ≡ state.old)) }
+            (λ _. (overlapping_refusal (built self.now) (input_of input.entry) ≡ None)
+            × GivesNext (stands self.now (input_of input.entry).anchored) (listed self.now) (built self.now).kind
+            (search_in (built self.now) (input_of input.entry)) state.old state.new)
+            (λ e. (overlapping_refusal (built self.now) (input_of input.entry) ≡ Some e) × (state.new ≡ state.old)) }
     {
         overlap::try_find_overlapping(self, input, state)
     }
@@ -292,8 +292,8 @@ pub trait Automaton {
     ) -> Result<FindOverlappingIter<'a, 'h, Self>, MatchError>
     where
         Self: Sized,
-        ensures begun { AnswersUnless (overlapping_iter_refusal (built self.now) (asked input.entry))
-            (listing_begun LOOKS (built self.now) (filters self.now) (asked input.entry)) result }
+        ensures begun { AnswersUnless (overlapping_iter_refusal (built self.now) (input_of input.entry))
+            (initial_listing LOOKS (built self.now) (filters self.now) (input_of input.entry)) result }
         ensures runs { YieldsInOrder ListsNext (λ l. l.rest) }
     {
         FindOverlappingIter::new(self, input)
@@ -415,7 +415,7 @@ pub trait Automaton {
         Self: Sized,
         ensures { MatchResult result
             (λ matches. (stream_refusal (built self.now) ≡ None)
-            × (matches ≡ record { stream = stream_begun (built self.now); reader = R.told reader }))
+            × (matches ≡ record { stream = initial_stream (built self.now); reader = R.told reader }))
             (IsStreamRefused (stream_refusal (built self.now)) ⊤) }
     {
         StreamFindIter::new(self, alloc, reader)

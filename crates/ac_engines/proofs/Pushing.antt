@@ -41,8 +41,8 @@ module _ (f : Packer) (nodes : List Node) where
     -- one that is asked for takes up its words
     grows-asked : (wanted : Bool) → has_matches f.plan nodes u ≡ wanted
         → before f.plan nodes wanted (s + 1) ≡ before f.plan nodes wanted s + size_of f.plan nodes u
-    grows-asked true asked = (takes f.plan nodes s u reached named true _ (sym asked) refl).front
-    grows-asked false asked = (takes f.plan nodes s u reached named false _ (sym asked) refl).back
+    grows-asked true input = (takes f.plan nodes s u reached named true _ (sym input) refl).front
+    grows-asked false input = (takes f.plan nodes s u reached named false _ (sym input) refl).back
 
     -- and another one none
     stays-other : (wanted t : Bool) → has_matches f.plan nodes u ≡ t → t ≢ wanted
@@ -62,28 +62,28 @@ module _ (f : Packer) (nodes : List Node) where
             let next = stays-other front (has_matches f.plan nodes u) refl other in
             let long = h.long in
             omega arith;
-        each = λ t v from less is asked. h.each t v from (earlier t v less is asked) is asked;
+        each = λ t v from less is input. h.each t v from (earlier t v less is input) is input;
       }
         where
           earlier : (t : ℕ) (v : Node) → t < s + 1 → slice_get nodes t ≡ Some v → has_matches f.plan nodes v ≡ front
               → t < s
-          earlier t v less is asked = elim (cases_lt t s) [
+          earlier t v less is input = elim (cases_lt t s) [
             | inl below ↦ below
             | inr more ↦
                 let at : t ≡ s = omega arith in
                 let same : u ≡ v = get-same nodes s u v named (subst (λ n. slice_get nodes n ≡ Some v) at is) in
-                absurd (other (ap (has_matches f.plan nodes) same ∙ asked))
+                absurd (other (ap (has_matches f.plan nodes) same ∙ input))
           ]
 
       -- one that is asked for is pushed
       pub pushed-next : (new : List ℕ) → has_matches f.plan nodes u ≡ front → new ≡ words ++ state_words f nodes s u
           → HasPushedUpTo front (s + 1) old new
-      pushed-next new asked now = record {
+      pushed-next new input now = record {
         pushed = h.pushed ++ state_words f nodes s u;
         same = now ∙ ap (λ (ws : List ℕ). ws ++ state_words f nodes s u) h.same
             ∙ append_assoc old h.pushed (state_words f nodes s u);
         long =
-            let next = grows-asked front asked in
+            let next = grows-asked front input in
             let long = h.long in
             let both = ap (λ (ws : List ℕ). length ws) now ∙ length-append words (state_words f nodes s u) in
             let last = length-state_words in

@@ -8,7 +8,7 @@ pub mod Searchers
 pub mod States
 pub mod StreamsBegun
 -- what is asked, what occurs, and what answers it
-pub use Rattle.ac_util.specs.Asked
+pub use Rattle.ac_util.specs.InputView
 pub use Rattle.ac_util.specs.Inputs
 pub use Rattle.ac_util.specs.Search
 pub use Rattle.ac_util.specs.Occurrence

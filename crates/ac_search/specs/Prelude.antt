@@ -1,5 +1,5 @@
 -- The names of this crate that most proofs cite, passed on from one place. Declares nothing.
-pub use Rattle.ac_search.specs.Asked.{Asked, asked_whole}
+pub use Rattle.ac_search.specs.InputView.{InputView, whole_input}
 pub use Rattle.ac_search.specs.Built.{search_in}
 pub use Rattle.ac_search.specs.Engines.{built_of, streaming_in}
 pub use Rattle.ac_search.specs.Inside.{LiesIn}

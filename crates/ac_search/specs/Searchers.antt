@@ -66,14 +66,14 @@ abbrev pub kind_for : Option AhoCorasickKind → AhoCorasickKind → AhoCorasick
 kind_for (Some kind) other = kind
 kind_for None other = other
 
-abbrev pub chosen_from : Settings → Built → AhoCorasickKind
-chosen_from settings from =
+abbrev pub engine_chosen_from : Settings → Built → AhoCorasickKind
+engine_chosen_from settings from =
     kind_for settings.kind
     (choose_kind (length from.patterns) settings.start_kind (fits (size_refusal DFA settings from))
     (fits (size_refusal ContiguousNFA settings from)))
 
-abbrev pub chosen : Settings → List (List ℕ) → AhoCorasickKind
-chosen settings patterns = chosen_from settings (engine_built_by settings.engine patterns)
+abbrev pub chosen_engine : Settings → List (List ℕ) → AhoCorasickKind
+chosen_engine settings patterns = engine_chosen_from settings (engine_built_by settings.engine patterns)
 
 -- how many looks at states an engine may take for each byte that it reads
 abbrev pub looks_allowed : AhoCorasickKind → ℕ
@@ -89,7 +89,7 @@ refusal_of kind settings patterns =
     (size_refusal kind settings (engine_built_by settings.engine patterns))
 
 abbrev pub engine_refusal : Settings → List (List ℕ) → Option BuildError
-engine_refusal settings patterns = refusal_of (chosen settings patterns) settings patterns
+engine_refusal settings patterns = refusal_of (chosen_engine settings patterns) settings patterns
 
 -- states that were made from an automaton by these settings: a contiguous NFA has the dense depth and the classes
 -- that were set, and a DFA the starts and the classes, with as many words or rows as these need
@@ -104,6 +104,6 @@ AreLaidOut settings from (Dfa dfa) = IsDfaFrom settings.start_kind settings.byte
 pub record IsBuilt (settings : Settings) (patterns : List (List ℕ)) (searcher : Searcher) : Type 0 where
   pub built : searcher.built ≡ built_by settings patterns
   pub filters : searcher.filters ≡ settings.engine.prefilter
-  pub kind : searcher.kind ≡ chosen settings patterns
+  pub kind : searcher.kind ≡ chosen_engine settings patterns
   pub laid_out : AreLaidOut settings (engine_built_by settings.engine patterns) searcher.states
   pub allowed : IsAllowed (engine_refusal settings patterns) patterns

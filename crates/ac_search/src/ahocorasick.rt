@@ -1,8 +1,8 @@
 //! The searcher, which chooses its engine.
 ghost use Rattle.std.specs.Prelude.{◌≡◌, ◌↔◌, IsTrue, MatchResult, None, Some, length};
 ghost use Rattle.std.specs.Iterator.Runs.{YieldsInOrder};
-ghost use Rattle.ac_automaton.specs.Util.{AnswersUnless, asked, bytes_of, find_refusal, found, item_at, longest_len, Occurrence, Occurs, overlapping_iter_refusal, overlapping_refusal, place_after, search_in, shortest_len, start_refusal};
-ghost use Rattle.ac_automaton.specs.Prelude.{begun, GoesOn, listing_begun, ListsNext, RefusesBy};
+ghost use Rattle.ac_automaton.specs.Util.{AnswersUnless, input_of, bytes_of, find_refusal, find_result, item_at, longest_len, Occurrence, Occurs, overlapping_iter_refusal, overlapping_refusal, place_after, search_in, shortest_len, start_refusal};
+ghost use Rattle.ac_automaton.specs.Prelude.{initial_walk, GoesOn, initial_listing, ListsNext, RefusesBy};
 ghost use Rattle.ac_search.specs.Engines.{Supports, searcher_of};
 ghost use Rattle.ac_search.specs.Places.{GivesItem, HasPlace, rank_in};
 ghost use Rattle.ac_search.specs.Searchers.{IsBuilt, engine_refusal, looks_allowed, usual_settings};
@@ -103,9 +103,9 @@ impl<A: Allocator> AhoCorasick<A> {
     /// whether `find` answers a match.
     #[inline]
     pub fn is_match(&self, input: Input<'_>) -> bool
-        requires supported { find_refusal self.now.built (asked input) ≡ None }
+        requires supported { find_refusal self.now.built (input_of input) ≡ None }
         ensures { IsTrue result
-            ↔ ((m : Occurrence) × Occurs (search_in self.now.built (asked input.entry)) m) }
+            ↔ ((m : Occurrence) × Occurs (search_in self.now.built (input_of input.entry)) m) }
     {
         self.find(input.earliest(true)).is_some()
     }
@@ -123,8 +123,8 @@ impl<A: Allocator> AhoCorasick<A> {
     /// ```
     #[inline]
     pub fn find(&self, input: Input<'_>) -> Option<Match>
-        requires supported { find_refusal self.now.built (asked input) ≡ None }
-        ensures { result ≡ found self.now.built (asked input.entry) }
+        requires supported { find_refusal self.now.built (input_of input) ≡ None }
+        ensures { result ≡ find_result self.now.built (input_of input.entry) }
     {
         let Ok(found) = self.try_find(input) else {
             unreachable!()
@@ -149,14 +149,14 @@ impl<A: Allocator> AhoCorasick<A> {
     /// ```
     #[inline]
     pub fn find_overlapping(&self, input: Input<'_>, state: &mut OverlappingState)
-        requires supported { overlapping_refusal self.now.built (asked input) ≡ None }
-        requires placed { HasPlace self.now (asked input) state.old }
-        ensures item { state.new.found ≡ item_at (search_in self.now.built (asked input.entry))
-            (rank_in self.now (asked input.entry) state.old) }
-        ensures place { rank_in self.now (asked input.entry) state.new
-            ≡ place_after (search_in self.now.built (asked input.entry))
-            (rank_in self.now (asked input.entry) state.old) }
-        ensures placed { HasPlace self.now (asked input.entry) state.new }
+        requires supported { overlapping_refusal self.now.built (input_of input) ≡ None }
+        requires placed { HasPlace self.now (input_of input) state.old }
+        ensures item { state.new.found ≡ item_at (search_in self.now.built (input_of input.entry))
+            (rank_in self.now (input_of input.entry) state.old) }
+        ensures place { rank_in self.now (input_of input.entry) state.new
+            ≡ place_after (search_in self.now.built (input_of input.entry))
+            (rank_in self.now (input_of input.entry) state.old) }
+        ensures placed { HasPlace self.now (input_of input.entry) state.new }
     {
         let Ok(()) = self.try_find_overlapping(input, state) else {
             unreachable!()
@@ -179,9 +179,9 @@ impl<A: Allocator> AhoCorasick<A> {
     /// ```
     #[inline]
     pub fn find_iter<'a, 'h>(&'a self, input: Input<'h>) -> FindIter<'a, 'h, A>
-        requires supported { find_refusal self.now.built (asked input) ≡ None }
+        requires supported { find_refusal self.now.built (input_of input) ≡ None }
         ensures begun { result
-            ≡ begun (looks_allowed self.now.kind) self.now.built self.now.filters (asked input.entry) }
+            ≡ initial_walk (looks_allowed self.now.kind) self.now.built self.now.filters (input_of input.entry) }
         ensures runs { YieldsInOrder GoesOn (λ w. w.rest) }
     {
         let Ok(matches) = self.try_find_iter(input) else {
@@ -207,9 +207,9 @@ impl<A: Allocator> AhoCorasick<A> {
         &'a self,
         input: Input<'h>,
     ) -> FindOverlappingIter<'a, 'h, A>
-        requires supported { overlapping_iter_refusal self.now.built (asked input) ≡ None }
+        requires supported { overlapping_iter_refusal self.now.built (input_of input) ≡ None }
         ensures begun { result
-            ≡ listing_begun (looks_allowed self.now.kind) self.now.built self.now.filters (asked input.entry) }
+            ≡ initial_listing (looks_allowed self.now.kind) self.now.built self.now.filters (input_of input.entry) }
         ensures runs { YieldsInOrder ListsNext (λ l. l.rest) }
     {
         let Ok(items) = self.try_find_overlapping_iter(input) else {
@@ -225,8 +225,8 @@ impl<A: Allocator> AhoCorasick<A> {
     /// anchoring.
     #[inline]
     pub fn try_find(&self, input: Input<'_>) -> Result<Option<Match>, MatchError>
-        ensures { AnswersUnless (find_refusal self.now.built (asked input.entry))
-            (found self.now.built (asked input.entry)) result }
+        ensures { AnswersUnless (find_refusal self.now.built (input_of input.entry))
+            (find_result self.now.built (input_of input.entry)) result }
     {
         check_start(self.start_kind(), input.get_anchored())?;
         self.engine.try_find(input)
@@ -243,11 +243,11 @@ impl<A: Allocator> AhoCorasick<A> {
         input: Input<'_>,
         state: &mut OverlappingState,
     ) -> Result<(), MatchError>
-        requires placed { HasPlace self.now (asked input) state.old }
+        requires placed { HasPlace self.now (input_of input) state.old }
         ensures { MatchResult result
-            (λ _. (overlapping_refusal self.now.built (asked input.entry) ≡ None)
-            × GivesItem self.now (asked input.entry) state.old state.new)
-            (λ e. (overlapping_refusal self.now.built (asked input.entry) ≡ Some e)
+            (λ _. (overlapping_refusal self.now.built (input_of input.entry) ≡ None)
+            × GivesItem self.now (input_of input.entry) state.old state.new)
+            (λ e. (overlapping_refusal self.now.built (input_of input.entry) ≡ Some e)
             × (state.new ≡ state.old)) }
     {
         check_start(self.start_kind(), input.get_anchored())?;
@@ -263,8 +263,8 @@ impl<A: Allocator> AhoCorasick<A> {
         &'a self,
         input: Input<'h>,
     ) -> Result<FindIter<'a, 'h, A>, MatchError>
-        ensures begun { AnswersUnless (find_refusal self.now.built (asked input.entry))
-            (begun (looks_allowed self.now.kind) self.now.built self.now.filters (asked input.entry)) result }
+        ensures begun { AnswersUnless (find_refusal self.now.built (input_of input.entry))
+            (initial_walk (looks_allowed self.now.kind) self.now.built self.now.filters (input_of input.entry)) result }
         ensures runs { YieldsInOrder GoesOn (λ w. w.rest) }
     {
         check_start(self.start_kind(), input.get_anchored())?;
@@ -281,8 +281,8 @@ impl<A: Allocator> AhoCorasick<A> {
         &'a self,
         input: Input<'h>,
     ) -> Result<FindOverlappingIter<'a, 'h, A>, MatchError>
-        ensures begun { AnswersUnless (overlapping_iter_refusal self.now.built (asked input.entry))
-            (listing_begun (looks_allowed self.now.kind) self.now.built self.now.filters (asked input.entry))
+        ensures begun { AnswersUnless (overlapping_iter_refusal self.now.built (input_of input.entry))
+            (initial_listing (looks_allowed self.now.kind) self.now.built self.now.filters (input_of input.entry))
             result }
         ensures runs { YieldsInOrder ListsNext (λ l. l.rest) }
     {

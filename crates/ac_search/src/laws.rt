@@ -3,7 +3,7 @@
 ghost use Rattle.std.specs.Prelude.{◌≡◌, ◌≢◌, ◌+◌, ◌-◌, ◌≤◌, ◌↔◌, ℕ, IfSome, IsTrue, List, None, true, length};
 ghost use Rattle.std.specs.List.{AllByRecursion};
 ghost use Rattle.std.specs.Str.{IsUtf8};
-ghost use Rattle.ac_automaton.specs.Util.{all, AreTexts, Asked, asked, Built, exchanged, exchanged_in_text, find_refusal, found, has_empty, held, IsBetweenCharacters, LiesIn, Occurrence, Occurs, overlapping_iter_refusal, overlapping_refusal, replace_refusal, search_in, shortest_len, stream_refusal, streamed, walked};
+ghost use Rattle.ac_automaton.specs.Util.{all, AreTexts, InputView, input_of, Built, exchanged, exchanged_in_text, find_refusal, find_result, has_empty, kept_back_len, IsBetweenCharacters, LiesIn, Occurrence, Occurs, overlapping_iter_refusal, overlapping_refusal, replace_refusal, search_in, shortest_len, stream_refusal, stream_result, walk_result};
 ghost use Rattle.ac_engines.specs.declared.nfa.contiguous.format.Format.{Format};
 ghost use Rattle.ac_search.specs.Searchers.{IsBuilt, Searcher, Settings};
 ghost use Rattle.ac_search.specs.declared.ahocorasick.choice.AhoCorasickKind.{AhoCorasickKind};
@@ -30,18 +30,18 @@ use std::alloc::Allocator;
 /// their patterns. The loop's invariant is then `walk` or `listing`, or `ends` or `listing_ends` where the searcher
 /// is a variable of the function, over the matches still to come. A `count` of the matches needs no more than the call.
 pub fn answers_lie_inside<A: Allocator>(searcher: &AhoCorasick<A>, input: Input<'_>)
-    ensures find { IfSome (found searcher.now.built (asked input.entry))
-        (LiesIn searcher.now.built (asked input.entry)) }
-    ensures walk { AllByRecursion (LiesIn searcher.now.built (asked input.entry))
-        (walked searcher.now.built (asked input.entry)) }
-    ensures ends { AllByRecursion (λ m. m.end ≤ length (asked input.entry).haystack)
-        (walked searcher.now.built (asked input.entry)) }
-    ensures listing { AllByRecursion (LiesIn searcher.now.built (asked input.entry))
-        (all (search_in searcher.now.built (asked input.entry))) }
-    ensures listing_ends { AllByRecursion (λ m. m.end ≤ length (asked input.entry).haystack)
-        (all (search_in searcher.now.built (asked input.entry))) }
-    ensures few { length (walked searcher.now.built (asked input.entry))
-        ≤ (asked input.entry).end + 1 - (asked input.entry).start }
+    ensures find { IfSome (find_result searcher.now.built (input_of input.entry))
+        (LiesIn searcher.now.built (input_of input.entry)) }
+    ensures walk { AllByRecursion (LiesIn searcher.now.built (input_of input.entry))
+        (walk_result searcher.now.built (input_of input.entry)) }
+    ensures ends { AllByRecursion (λ m. m.end ≤ length (input_of input.entry).haystack)
+        (walk_result searcher.now.built (input_of input.entry)) }
+    ensures listing { AllByRecursion (LiesIn searcher.now.built (input_of input.entry))
+        (all (search_in searcher.now.built (input_of input.entry))) }
+    ensures listing_ends { AllByRecursion (λ m. m.end ≤ length (input_of input.entry).haystack)
+        (all (search_in searcher.now.built (input_of input.entry))) }
+    ensures few { length (walk_result searcher.now.built (input_of input.entry))
+        ≤ (input_of input.entry).end + 1 - (input_of input.entry).start }
 {}
 
 /// Where the haystack and all patterns are texts, and no pattern is empty, the answer of a find, each match of a
@@ -50,19 +50,19 @@ pub fn answers_lie_inside<A: Allocator>(searcher: &AhoCorasick<A>, input: Input<
 /// Call this as `answers_lie_inside`, where the haystack is a `str`.
 pub fn answers_cut_no_character<A: Allocator>(searcher: &AhoCorasick<A>, input: Input<'_>)
     requires patterns { AreTexts searcher.now.built.patterns }
-    requires haystack { IsUtf8 (asked input).haystack }
-    ensures find { IfSome (found searcher.now.built (asked input.entry))
-        (IsBetweenCharacters (asked input.entry).haystack) }
-    ensures walk { AllByRecursion (IsBetweenCharacters (asked input.entry).haystack)
-        (walked searcher.now.built (asked input.entry)) }
-    ensures listing { AllByRecursion (IsBetweenCharacters (asked input.entry).haystack)
-        (all (search_in searcher.now.built (asked input.entry))) }
+    requires haystack { IsUtf8 (input_of input).haystack }
+    ensures find { IfSome (find_result searcher.now.built (input_of input.entry))
+        (IsBetweenCharacters (input_of input.entry).haystack) }
+    ensures walk { AllByRecursion (IsBetweenCharacters (input_of input.entry).haystack)
+        (walk_result searcher.now.built (input_of input.entry)) }
+    ensures listing { AllByRecursion (IsBetweenCharacters (input_of input.entry).haystack)
+        (all (search_in searcher.now.built (input_of input.entry))) }
 {}
 
 /// Something occurs exactly if a find answers a match, whatever the match kind and `earliest`.
 pub fn finds_if_something_occurs()
-    ensures { (built : Built) (asked : Asked)
-        → ((m : Occurrence) × Occurs (search_in built asked) m) ↔ (found built asked ≢ None) }
+    ensures { (built : Built) (input : InputView)
+        → ((m : Occurrence) × Occurs (search_in built input) m) ↔ (find_result built input ≢ None) }
 {}
 
 /// The shortest pattern has no bytes exactly if some pattern is empty.
@@ -81,18 +81,18 @@ pub fn engines_agree<A: Allocator, B: Allocator>(one: &AhoCorasick<A>, other: &A
     requires fold { one.now.built.fold ≡ other.now.built.fold }
     requires start_kind { one.now.built.start_kind ≡ other.now.built.start_kind }
     ensures built { one.now.built ≡ other.now.built }
-    ensures find { (asked : Asked) → (find_refusal one.now.built asked ≡ find_refusal other.now.built asked)
-        × (found one.now.built asked ≡ found other.now.built asked) }
-    ensures walk { (asked : Asked) → walked one.now.built asked ≡ walked other.now.built asked }
-    ensures listing { (asked : Asked) → (overlapping_refusal one.now.built asked ≡ overlapping_refusal other.now.built asked)
-        × (overlapping_iter_refusal one.now.built asked ≡ overlapping_iter_refusal other.now.built asked)
-        × (all (search_in one.now.built asked) ≡ all (search_in other.now.built asked)) }
+    ensures find { (input : InputView) → (find_refusal one.now.built input ≡ find_refusal other.now.built input)
+        × (find_result one.now.built input ≡ find_result other.now.built input) }
+    ensures walk { (input : InputView) → walk_result one.now.built input ≡ walk_result other.now.built input }
+    ensures listing { (input : InputView) → (overlapping_refusal one.now.built input ≡ overlapping_refusal other.now.built input)
+        × (overlapping_iter_refusal one.now.built input ≡ overlapping_iter_refusal other.now.built input)
+        × (all (search_in one.now.built input) ≡ all (search_in other.now.built input)) }
     ensures replacement { (haystack : List ℕ) → (replace_refusal one.now.built ≡ replace_refusal other.now.built)
         × (exchanged one.now.built haystack ≡ exchanged other.now.built haystack)
         × (exchanged_in_text one.now.built haystack ≡ exchanged_in_text other.now.built haystack) }
     ensures streams { (bytes : List ℕ) → (stream_refusal one.now.built ≡ stream_refusal other.now.built)
-        × (streamed one.now.built bytes ≡ streamed other.now.built bytes)
-        × (held one.now.built bytes ≡ held other.now.built bytes) }
+        × (stream_result one.now.built bytes ≡ stream_result other.now.built bytes)
+        × (kept_back_len one.now.built bytes ≡ kept_back_len other.now.built bytes) }
 {}
 
 /// Two builds over the same patterns, by settings with the same match kind, case setting and start kind, give searchers

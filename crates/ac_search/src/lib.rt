@@ -4,7 +4,7 @@
 //! `specs/`, and types with their cases in `specs.declared`:
 //!
 //! ```
-//! ghost use Rattle.ac_search.specs.Asked.{asked_whole};
+//! ghost use Rattle.ac_search.specs.InputView.{asked_whole};
 //! ghost use Rattle.ac_search.specs.Built.{find_refusal, found, walked};
 //! ghost use Rattle.ac_search.specs.Searchers.{IsBuilt, usual_settings};
 //! ghost use Rattle.ac_search.specs.declared.MatchKind.TheVariants.{LeftmostFirst};

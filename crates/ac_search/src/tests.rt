@@ -1,7 +1,7 @@
 ghost use Rattle.std.specs.Prelude.{◌≡◌, IfOk, None, length};
-ghost use Rattle.ac_search.specs.Built.{find_refusal, overlapping_refusal, search_in, walked};
+ghost use Rattle.ac_search.specs.Built.{find_refusal, overlapping_refusal, search_in, walk_result};
 ghost use Rattle.ac_search.specs.Listing.{all};
-ghost use Rattle.ac_search.specs.Asked.{asked_whole};
+ghost use Rattle.ac_search.specs.InputView.{whole_input};
 ghost use Rattle.ac_search.specs.Texts.{AreTexts};
 
 use crate::MatchKind::{LeftmostFirst, LeftmostLongest, Standard};
@@ -153,7 +153,7 @@ fn slices_of<'t>(
     searcher: &AhoCorasick,
     haystack: &'t [u8],
 ) -> Result<Vec<&'t [u8]>, AllocError>
-    requires { find_refusal searcher.now.built (asked_whole haystack.now) ≡ None }
+    requires { find_refusal searcher.now.built (whole_input haystack.now) ≡ None }
 {
     let mut slices = Vec::new(alloc);
     answers_lie_inside(searcher, Input::new(haystack));
@@ -169,7 +169,7 @@ fn parts_of<'t>(
     searcher: &AhoCorasick,
     text: &'t str,
 ) -> Result<Vec<&'t str>, AllocError>
-    requires supported { find_refusal searcher.now.built (asked_whole text.now) ≡ None }
+    requires supported { find_refusal searcher.now.built (whole_input text.now) ≡ None }
     requires texts { AreTexts searcher.now.built.patterns }
 {
     let mut parts = Vec::new(alloc);
@@ -187,7 +187,7 @@ fn names_of<'n>(
     names: &[&'n str],
     haystack: &[u8],
 ) -> Result<Vec<&'n str>, AllocError>
-    requires supported { find_refusal searcher.now.built (asked_whole haystack.now) ≡ None }
+    requires supported { find_refusal searcher.now.built (whole_input haystack.now) ≡ None }
     requires named { length names.now ≡ length searcher.now.built.patterns }
 {
     let mut found = Vec::new(alloc);
@@ -200,8 +200,8 @@ fn names_of<'n>(
 
 /// Returns how many matches the walk has.
 fn count_of(searcher: &AhoCorasick, haystack: &[u8]) -> usize
-    requires { find_refusal searcher.now.built (asked_whole haystack.now) ≡ None }
-    ensures { result ≡ length (walked searcher.now.built (asked_whole haystack.now)) }
+    requires { find_refusal searcher.now.built (whole_input haystack.now) ≡ None }
+    ensures { result ≡ length (walk_result searcher.now.built (whole_input haystack.now)) }
 {
     answers_lie_inside(searcher, Input::new(haystack));
     searcher.find_iter(Input::new(haystack)).count()
@@ -213,9 +213,9 @@ fn all_by_state(
     searcher: &AhoCorasick,
     haystack: &[u8],
 ) -> Result<Vec<Match>, AllocError>
-    requires { overlapping_refusal searcher.now.built (asked_whole haystack.now) ≡ None }
+    requires { overlapping_refusal searcher.now.built (whole_input haystack.now) ≡ None }
     ensures { IfOk result (λ found. found.items
-        ≡ all (search_in searcher.now.built (asked_whole haystack.now))) }
+        ≡ all (search_in searcher.now.built (whole_input haystack.now))) }
 {
     let mut state = OverlappingState::start();
     let mut found = Vec::new(alloc);
@@ -230,7 +230,7 @@ fn all_by_state(
 
 /// Returns the slice at which the first match stands.
 fn first_slice<'t>(searcher: &AhoCorasick, haystack: &'t [u8]) -> Option<&'t [u8]>
-    requires { find_refusal searcher.now.built (asked_whole haystack.now) ≡ None }
+    requires { find_refusal searcher.now.built (whole_input haystack.now) ≡ None }
 {
     answers_lie_inside(searcher, Input::new(haystack));
     let m = searcher.find(Input::new(haystack))?;

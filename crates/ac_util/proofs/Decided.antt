@@ -5,7 +5,7 @@ use Rattle.std.proofs.Math.Seq.{drop-append_seam, take-append_seam, take-take}
 use Rattle.std.proofs.lemmas.List.{append-nil, get_or-map, length-map, take-append-drop, take-map}
 use Rattle.std.proofs.lemmas.List.Elements.{All-nil}
 use Rattle.std.proofs.lemmas.Grind.{common_steps}
-use Rattle.ac_util.specs.Prelude.{AreDecided, asked_whole, Built, from, is_leftmost, IsFirst, IsOpen, IsPick, IsSettledAt, last_end, LeftmostFirst, LeftmostLongest, MatchKind, next_match, NoneOpen, Occurrence, occurrence, Occurs, participates, pattern_of, pick, plain, plain_byte, Search, search_in, Standard, streamed, walk_after}
+use Rattle.ac_util.specs.Prelude.{AreDecided, whole_input, Built, from, is_leftmost, IsFirst, IsOpen, IsPick, IsSettledAt, last_end, LeftmostFirst, LeftmostLongest, MatchKind, next_match, NoneOpen, Occurrence, occurrence, Occurs, participates, pattern_of, pick, plain, plain_byte, Search, search_in, Standard, stream_result, walk_after}
 use Rattle.ac_util.proofs.Participants.{participant-least}
 use Rattle.ac_util.proofs.Picks.{pick-IsPick}
 use Rattle.ac_util.proofs.Prefixes.{starts_with-take}
@@ -152,7 +152,7 @@ module _ (built : Built) (leftmost : is_leftmost built.kind ≡ true) (bytes : L
 
   -- so the stream is settled by them up to a place after their end, where none is open and no other starts before it
   pub settled-at : (ms : List Occurrence) (begun place : ℕ) (next : Option ℕ)
-      → ((more : List ℕ) → streamed built (bytes ++ more) ≡ ms ++ walk-on more begun next)
+      → ((more : List ℕ) → stream_result built (bytes ++ more) ≡ ms ++ walk-on more begun next)
       → last_end ms ≡ begun → begun ≤ place → place ≤ length bytes → NoneOpen built bytes begun place
       → ((m : Occurrence) → pick built.kind (here built leftmost bytes [] begun) ≡ Some m → place ≤ m.start)
       → IsSettledAt built bytes (length ms) place
@@ -172,16 +172,16 @@ module _ (built : Built) (leftmost : is_leftmost built.kind ≡ true) (bytes : L
       rest : List Occurrence
       rest = walk_after built.kind (here built leftmost bytes [] begun) next
 
-      whole : streamed built bytes ≡ ms ++ rest
+      whole : stream_result built bytes ≡ ms ++ rest
       whole =
-          subst (λ (w : List ℕ). streamed built w
-          ≡ ms ++ walk_after built.kind (record (search_in built (asked_whole w)) { low = begun }) next)
+          subst (λ (w : List ℕ). stream_result built w
+          ≡ ms ++ walk_after built.kind (record (search_in built (whole_input w)) { low = begun }) next)
           (append-nil bytes) (walks [])
 
-      taken : take (length ms) (streamed built bytes) ≡ ms
+      taken : take (length ms) (stream_result built bytes) ≡ ms
       taken = ap (take (length ms)) whole ∙ take-append_seam ms rest
 
-      left : drop (length ms) (streamed built bytes) ≡ rest
+      left : drop (length ms) (stream_result built bytes) ≡ rest
       left = ap (drop (length ms)) whole ∙ drop-append_seam ms rest
 
       rises : All (λ (m : Occurrence). m.end ≤ ends_at 0 ms) ms × (0 ≤ ends_at 0 ms)

@@ -2,7 +2,7 @@
 use Rattle.std.proofs.Common.{◌≡◌, ℕ, zero, suc, ◌+◌, ◌-◌, ◌<◌, ◌≤◌, Bool, true, false, List, [], ◌∷◌, length, refl, ap, arith, Option, Some, None, cond}
 use Rattle.std.specs.Str.{IsCharBoundary}
 use Rattle.std.proofs.lemmas.Grind.{common_steps}
-use Rattle.ac_util.specs.Prelude.{asked_whole, Built, continued, exchanged, from, is_whole, MatchKind, next_match, Occurrence, order_of, Search, search_in, walk, walk_after, whole_characters}
+use Rattle.ac_util.specs.Prelude.{whole_input, Built, continued, exchanged, from, is_whole, MatchKind, next_match, Occurrence, order_of, Search, search_in, walk, walk_after, whole_characters}
 use Rattle.ac_util.proofs.PlainReplaced.{next-numbered}
 use Rattle.ac_util.proofs.Walks.{next-in_span}
 
@@ -51,7 +51,7 @@ exchanged-in_order built haystack texts as_many =
     grind (
       arith,
       common_steps,
-      walk-in_order (order_of built.kind false) (length haystack) (search_in built (asked_whole haystack)) (omega arith) (omega arith),
+      walk-in_order (order_of built.kind false) (length haystack) (search_in built (whole_input haystack)) (omega arith) (omega arith),
     )
 
 -- of a text in which the first match is whole, it is the first of those that are

@@ -1,7 +1,7 @@
 -- A stream that goes on: the walk over what was there before stays, and other matches follow.
 use Rattle.std.proofs.Common.{◌≡◌, ℕ, zero, suc, ◌+◌, ◌-◌, ◌<◌, ◌≤◌, Bool, true, false, List, [], ◌∷◌, ◌++◌, length, length-append, get_or, refl, ap, sym, ◌∙◌, arith, Option, None, Some, AllPairs, filter, rules}
 use Rattle.std.proofs.lemmas.Bool.{cases_lt, cond-true, cond-false, lt-leb, leb-false}
-use Rattle.ac_util.specs.Prelude.{asked_whole, Built, continued, from, IsAfter, MatchKind, next_match, Occurrence, pick, Search, search_in, Standard, streamed, unless_repeated, walk, walk_after}
+use Rattle.ac_util.specs.Prelude.{whole_input, Built, continued, from, IsAfter, MatchKind, next_match, Occurrence, pick, Search, search_in, Standard, stream_result, unless_repeated, walk, walk_after}
 use Rattle.ac_util.proofs.Beginning.{ends_by, walk-beginning}
 use Rattle.ac_util.proofs.Longer.{pick-extended}
 use Rattle.ac_util.proofs.Walks.{pick-Occurs, walk-ordered}
@@ -81,9 +81,9 @@ ends-first h (m ∷ ms) pairs = by (ends_by h m) refl (ends-first h ms later)
     by false e i = (m ∷ ms, ap (λ (xs : List Occurrence). xs ++ m ∷ ms) (sym (none-late h (m ∷ ms) (late e))))
 
 -- under Standard a stream that goes on keeps the matches that it had
-pub streamed-begins : (built : Built) → built.kind ≡ Standard → (bytes more : List ℕ)
-    → (rest : List Occurrence) × (streamed built (bytes ++ more) ≡ streamed built bytes ++ rest)
-streamed-begins built standard bytes more = (
+pub stream_result-begins : (built : Built) → built.kind ≡ Standard → (bytes more : List ℕ)
+    → (rest : List Occurrence) × (stream_result built (bytes ++ more) ≡ stream_result built bytes ++ rest)
+stream_result-begins built standard bytes more = (
   first.0,
   ap (λ (kind : MatchKind). walk kind whole) standard ∙ first.1
       ∙ ap (λ (ms : List Occurrence). ms ++ first.0)
@@ -93,10 +93,10 @@ streamed-begins built standard bytes more = (
 )
   where
     whole : Search
-    whole = search_in built (asked_whole (bytes ++ more))
+    whole = search_in built (whole_input (bytes ++ more))
 
     before : Search
-    before = search_in built (asked_whole bytes)
+    before = search_in built (whole_input bytes)
 
     first : (rest : List Occurrence)
         × (walk Standard whole ≡ filter (ends_by (length bytes)) (walk Standard whole) ++ rest)

@@ -13,7 +13,7 @@ use Rattle.ac_util.proofs.Participants.{IsIn-equal_to, IsIn-from_equal_to, equal
 use Rattle.ac_util.proofs.Found.{matches-nil, matches-cons}
 use Rattle.ac_util.proofs.Standing.{Stands, standing_at, Prefixes-equal, Stands-behind, Stands-from_behind}
 use Rattle.ac_util.proofs.Spans.{pattern_length, text_length, Stands-from_Occurs, Occurs-from_Stands}
-use Rattle.ac_util.proofs.OneLonger.{found-text}
+use Rattle.ac_util.proofs.OneLonger.{find_result-text}
 
 module _ (patterns : List (List ℕ)) where
   -- pattern n stands in v from place s on and ends with it
@@ -113,7 +113,7 @@ module _ (q : Search) (order : q.low ≤ q.high) (inside : q.high ≤ length q.h
   at_end = map (ending q) (found_at_end Standard q)
 
   text_is : found_at_end Standard q ≡ found (plain_patterns q) q.anchored (text q)
-  text_is = found-text Standard q
+  text_is = find_result-text Standard q
 
   -- the matches found at the end of the span are the occurrences that end there
   has_ending : (m : Occurrence) → Occurs q m → m.end ≡ q.high → IsIn m at_end

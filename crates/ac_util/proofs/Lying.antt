@@ -2,24 +2,24 @@
 use Rattle.std.proofs.Common.{◌≡◌, ℕ, zero, suc, ◌+◌, ◌-◌, ◌≤◌, Bool, true, false, length, refl, ◌∙◌, arith, Option, Some, None, All, Contains, IfSome, rules}
 use Rattle.std.proofs.lemmas.List.Elements.{All-nil, All-cons, All-weaker, All-contains_itself}
 use Rattle.std.proofs.lemmas.Grind.{common_steps}
-use Rattle.ac_util.specs.Prelude.{all, Asked, Built, continued, found, from, LiesIn, MatchKind, next_match, Occurrence, Occurs, order_of, pick, repeats, Search, search_in, unless_repeated, walk_after, walked}
+use Rattle.ac_util.specs.Prelude.{all, InputView, Built, continued, find_result, from, LiesIn, MatchKind, next_match, Occurrence, Occurs, order_of, pick, repeats, Search, search_in, unless_repeated, walk_after, walk_result}
 use Rattle.ac_util.proofs.Listing.{Occurs-from_all}
 use Rattle.ac_util.proofs.Walks.{pick-Occurs, next-in_span}
 
 -- what occurs in a span of the haystack that begins no earlier than the input's lies in the input
-Occurs-lies : (built : Built) (asked : Asked) (k : ℕ) (m : Occurrence) → asked.end ≤ length asked.haystack
-    → asked.start ≤ k → Occurs (from (search_in built asked) k) m → LiesIn built asked m
-Occurs-lies built asked k m inside later o = grind (arith, common_steps)
+Occurs-lies : (built : Built) (input : InputView) (k : ℕ) (m : Occurrence) → input.end ≤ length input.haystack
+    → input.start ≤ k → Occurs (from (search_in built input) k) m → LiesIn built input m
+Occurs-lies built input k m inside later o = grind (arith, common_steps)
 
 -- what a find answers lies in the input
-pub found-lies : (built : Built) (asked : Asked) (m : Occurrence) → asked.end ≤ length asked.haystack
-    → found built asked ≡ Some m → LiesIn built asked m
-found-lies built asked m inside e = search (rules, Occurs-lies, pick-Occurs)
+pub find_result-lies : (built : Built) (input : InputView) (m : Occurrence) → input.end ≤ length input.haystack
+    → find_result built input ≡ Some m → LiesIn built input m
+find_result-lies built input m inside e = search (rules, Occurs-lies, pick-Occurs)
 
 -- the same where it may answer nothing
-pub found-IfSome : (built : Built) (asked : Asked) → asked.end ≤ length asked.haystack
-    → IfSome (found built asked) (LiesIn built asked)
-found-IfSome built asked inside = search (rules, found-lies)
+pub find_result-IfSome : (built : Built) (input : InputView) → input.end ≤ length input.haystack
+    → IfSome (find_result built input) (LiesIn built input)
+find_result-IfSome built input inside = search (rules, find_result-lies)
 
 -- the next match of a walk occurs in a span that begins at the low end or after it
 next-Occurs : (kind : MatchKind) (q : Search) (last : Option ℕ) (p : Option Occurrence) (t : Bool)
@@ -44,23 +44,23 @@ continued-All P kind q last (suc n) (Some m) e each =
     (λ k x later occurs. each k x (omega arith) occurs))
 
 -- each match of a walk lies in the input
-pub walked-lie : (built : Built) (asked : Asked) → asked.end ≤ length asked.haystack
-    → All (LiesIn built asked) (walked built asked)
+pub walk_result-lie : (built : Built) (input : InputView) → input.end ≤ length input.haystack
+    → All (LiesIn built input) (walk_result built input)
 unfolding walk_after
-walked-lie built asked inside =
-    continued-All (LiesIn built asked) (order_of built.kind asked.earliest) (search_in built asked) None
-    (asked.end + 1 - asked.start)
-    (next_match (order_of built.kind asked.earliest) (search_in built asked) None) refl
-    (λ k m later o. Occurs-lies built asked k m inside later o)
+walk_result-lie built input inside =
+    continued-All (LiesIn built input) (order_of built.kind input.earliest) (search_in built input) None
+    (input.end + 1 - input.start)
+    (next_match (order_of built.kind input.earliest) (search_in built input) None) refl
+    (λ k m later o. Occurs-lies built input k m inside later o)
 
 -- each item of the listing lies in the input
-pub listed-lie : (built : Built) (asked : Asked) → asked.end ≤ length asked.haystack
-    → All (LiesIn built asked) (all (search_in built asked))
-listed-lie built asked inside =
-    All-weaker (Contains (all (search_in built asked))) (LiesIn built asked)
-    (λ m h. Occurs-lies built asked asked.start m inside (omega arith)
-    (Occurs-from_all (search_in built asked) m h))
-    (all (search_in built asked)) (All-contains_itself (all (search_in built asked)))
+pub listed-lie : (built : Built) (input : InputView) → input.end ≤ length input.haystack
+    → All (LiesIn built input) (all (search_in built input))
+listed-lie built input inside =
+    All-weaker (Contains (all (search_in built input))) (LiesIn built input)
+    (λ m h. Occurs-lies built input input.start m inside (omega arith)
+    (Occurs-from_all (search_in built input) m h))
+    (all (search_in built input)) (All-contains_itself (all (search_in built input)))
 
 -- a walk has no more matches than it may have
 length-continued : (kind : MatchKind) (q : Search) (n : ℕ) (r : Option Occurrence)
@@ -71,8 +71,8 @@ length-continued kind q (suc n) (Some m) =
     omega (arith, length-continued kind (from q m.end) n (next_match kind (from q m.end) (Some m.end)))
 
 -- so it has at most one more than the span has bytes
-pub length-walked : (built : Built) (asked : Asked) → length (walked built asked) ≤ asked.end + 1 - asked.start
+pub length-walk_result : (built : Built) (input : InputView) → length (walk_result built input) ≤ input.end + 1 - input.start
 unfolding walk_after
-length-walked built asked =
-    length-continued (order_of built.kind asked.earliest) (search_in built asked) (asked.end + 1 - asked.start)
-    (next_match (order_of built.kind asked.earliest) (search_in built asked) None)
+length-walk_result built input =
+    length-continued (order_of built.kind input.earliest) (search_in built input) (input.end + 1 - input.start)
+    (next_match (order_of built.kind input.earliest) (search_in built input) None)

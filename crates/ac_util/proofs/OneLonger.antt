@@ -16,9 +16,9 @@ ending-head : (kind : MatchKind) (q : Search) (i k : ℕ) → q.low ≤ q.high �
 ending-head kind q i k order inside h = grind (arith, common_steps)
 
 -- what is found at the end is found in the whole text
-pub found-text : (kind : MatchKind) (q : Search)
+pub find_result-text : (kind : MatchKind) (q : Search)
     → found_at_end kind q ≡ matches kind (plain_patterns q) q.anchored (Some (text q))
-found-text kind q = matches-reached kind (plain_patterns q) q.anchored (text q)
+find_result-text kind q = matches-reached kind (plain_patterns q) q.anchored (text q)
 
 -- nothing is picked where nothing stands in the text
 none-from_text : (order : MatchKind) (q : Search) → q.low ≤ q.high → q.high ≤ length q.haystack
@@ -32,7 +32,7 @@ byte_in q = plain_byte q.fold (get_or q.haystack q.high 0)
 module _ (kind : MatchKind) (q : Search) (order : q.low ≤ q.high) (room : q.high < length q.haystack) where
   now-text : found_at_end kind (one_longer q) ≡ matches kind (plain_patterns q) q.anchored
       (Some (text q ++ byte_in q ∷ []))
-  now-text = grind (arith, common_steps, found-text kind (one_longer q), text_longer)
+  now-text = grind (arith, common_steps, find_result-text kind (one_longer q), text_longer)
 
   -- what is the pick in the longer text is the pick of the longer search
   longer : (k : MatchKind) (r : Option Occurrence)

@@ -1,7 +1,7 @@
 -- What the steps of a replacement leave, by what each call does.
 use Rattle.std.proofs.Common.{◌≡◌, ℕ, List, [], ◌∷◌, ◌++◌, drop, inl, inr, refl, ap, sym, subst, ◌∙◌, append_assoc, append-nil, Bool, Option, None, Some, slice_index_or, slice_range, rules, arith}
 use Rattle.std.proofs.lemmas.Grind.{common_steps}
-use Rattle.ac_util.specs.Prelude.{AlwaysWrites, Answer, AppendsAll, AppendsBeginning, asked_by, CallsNoMore, exchanged_from, Fails, Continues, MatchAnswer, Occurrence, OnlyAppends, replaced, ReplacementSteps, Replacing, Turn, WritesText}
+use Rattle.ac_util.specs.Prelude.{AlwaysWrites, Answer, AppendsAll, AppendsBeginning, answer_of, CallsNoMore, exchanged_from, Fails, Continues, MatchAnswer, Occurrence, OnlyAppends, replaced, ReplacementSteps, Replacing, Turn, WritesText}
 
 module _ {S R E : Type 0} (appends : List ℕ → S → Option E → S → Type 0)
     (calls : Occurrence → List ℕ → S → R → S → Type 0) (asks : R → Answer E) (haystack : List ℕ) where
@@ -117,22 +117,22 @@ module _ (E : Type 0) {F D : Type 0} (calls : Occurrence → List ℕ → Replac
     (holds : D → List ℕ) (write : Occurrence → List ℕ → List ℕ) (writes : AlwaysWrites calls holds write)
     (haystack : List ℕ) where
   asks_on : (m : Occurrence) (slice : List ℕ) (s t : Replacing F D) (r : Bool) → calls m slice s r t
-      → (asked_by {E = E} r ≡ Continues) × (holds t.destination ≡ holds s.destination ++ write m slice)
+      → (answer_of {E = E} r ≡ Continues) × (holds t.destination ≡ holds s.destination ++ write m slice)
   asks_on m slice s t r call = grind (arith, common_steps)
 
   pub closure-exchanges : (ms : List Occurrence) (s t : Replacing F D)
-      → ReplacementSteps (AppendsAll {E = E} holds) calls asked_by haystack 0 ms s None t
+      → ReplacementSteps (AppendsAll {E = E} holds) calls answer_of haystack 0 ms s None t
       → holds t.destination ≡ holds s.destination ++ exchanged_from haystack write 0 ms
   closure-exchanges ms s t =
-      steps-exchange (AppendsAll {E = E} holds) calls asked_by haystack (λ u. holds u.destination) write
+      steps-exchange (AppendsAll {E = E} holds) calls answer_of haystack (λ u. holds u.destination) write
       (λ bytes u v e. e.1) (AppendsAll-begins holds) asks_on 0 ms s t
 
   pub closure-begins : (ms : List Occurrence) (s t : Replacing F D) (end : Option E)
-      → ReplacementSteps (AppendsAll {E = E} holds) calls asked_by haystack 0 ms s end t
+      → ReplacementSteps (AppendsAll {E = E} holds) calls answer_of haystack 0 ms s end t
       → (rest : List ℕ)
       × (holds t.destination ++ rest ≡ holds s.destination ++ exchanged_from haystack write 0 ms)
   closure-begins ms s t end =
-      steps-begin (AppendsAll {E = E} holds) calls asked_by haystack (λ u. holds u.destination) write
+      steps-begin (AppendsAll {E = E} holds) calls answer_of haystack (λ u. holds u.destination) write
       (λ bytes u v e. e.1) (AppendsAll-begins holds) asks_on 0 ms s t end
 
 -- bytes that are appended to what is appended to these bytes
@@ -150,10 +150,10 @@ module _ (E : Type 0) {F D : Type 0} (calls : Occurrence → List ℕ → Replac
   added bytes s t (Some failure) h = ([], h.1 ∙ sym (append-nil (holds s.destination)))
 
   pub closure-keeps : (haystack : List ℕ) (ms : List Occurrence) (s t : Replacing F D) (end : Option E)
-      → ReplacementSteps (AppendsAll {E = E} holds) calls asked_by haystack 0 ms s end t
+      → ReplacementSteps (AppendsAll {E = E} holds) calls answer_of haystack 0 ms s end t
       → (more : List ℕ) × (holds t.destination ≡ holds s.destination ++ more)
   closure-keeps haystack ms s t end steps =
-      steps-keep (AppendsAll {E = E} holds) calls asked_by haystack
+      steps-keep (AppendsAll {E = E} holds) calls answer_of haystack
       (λ u. (more : List ℕ) × (holds u.destination ≡ holds s.destination ++ more))
       (λ bytes u v finish h p.
       appends-on (holds s.destination) (holds u.destination) (holds v.destination) (added bytes u v finish h) p)
@@ -165,31 +165,31 @@ module _ (E : Type 0) {F D : Type 0} (calls : Occurrence → List ℕ → Replac
 module _ (E : Type 0) (haystack : List ℕ) (texts : List (List ℕ)) where
   on_texts : (m : Occurrence) (slice : List ℕ) (s t : Replacing (Unit {0}) (List ℕ)) (r : Bool)
       → WritesText texts m slice s r t
-      → (asked_by {E = E} r ≡ Continues) × (t.destination ≡ s.destination ++ slice_index_or texts m.pattern [])
-  on_texts m slice s t r call = (ap (asked_by {E = E}) call.0, call.1)
+      → (answer_of {E = E} r ≡ Continues) × (t.destination ≡ s.destination ++ slice_index_or texts m.pattern [])
+  on_texts m slice s t r call = (ap (answer_of {E = E}) call.0, call.1)
 
   pub text-replaces : (ms : List Occurrence) (s t : Replacing (Unit {0}) (List ℕ))
-      → ReplacementSteps (AppendsBeginning {E = E} (λ d. d)) (WritesText texts) asked_by haystack 0 ms s None t
+      → ReplacementSteps (AppendsBeginning {E = E} (λ d. d)) (WritesText texts) answer_of haystack 0 ms s None t
       → t.destination ≡ s.destination ++ replaced haystack texts ms
   text-replaces ms s t =
-      steps-exchange (AppendsBeginning {E = E} (λ d. d)) (WritesText texts) asked_by haystack
+      steps-exchange (AppendsBeginning {E = E} (λ d. d)) (WritesText texts) answer_of haystack
       (λ u. u.destination) (λ m slice. slice_index_or texts m.pattern []) (λ bytes u v e. e.1)
       (AppendsBeginning-begins (λ d. d)) on_texts 0 ms s t
 
   pub text-begins : (ms : List Occurrence) (s t : Replacing (Unit {0}) (List ℕ)) (end : Option E)
-      → ReplacementSteps (AppendsBeginning {E = E} (λ d. d)) (WritesText texts) asked_by haystack 0 ms s end t
+      → ReplacementSteps (AppendsBeginning {E = E} (λ d. d)) (WritesText texts) answer_of haystack 0 ms s end t
       → (rest : List ℕ) × (t.destination ++ rest ≡ s.destination ++ replaced haystack texts ms)
   text-begins ms s t end =
-      steps-begin (AppendsBeginning {E = E} (λ d. d)) (WritesText texts) asked_by haystack
+      steps-begin (AppendsBeginning {E = E} (λ d. d)) (WritesText texts) answer_of haystack
       (λ u. u.destination) (λ m slice. slice_index_or texts m.pattern []) (λ bytes u v e. e.1)
       (AppendsBeginning-begins (λ d. d)) on_texts 0 ms s t end
 
   -- what was there stays, and something follows it
   pub text-keeps : (ms : List Occurrence) (s t : Replacing (Unit {0}) (List ℕ)) (end : Option E)
-      → ReplacementSteps (AppendsBeginning {E = E} (λ d. d)) (WritesText texts) asked_by haystack 0 ms s end t
+      → ReplacementSteps (AppendsBeginning {E = E} (λ d. d)) (WritesText texts) answer_of haystack 0 ms s end t
       → (more : List ℕ) × (t.destination ≡ s.destination ++ more)
   text-keeps ms s t end steps =
-      steps-keep (AppendsBeginning {E = E} (λ d. d)) (WritesText texts) asked_by haystack
+      steps-keep (AppendsBeginning {E = E} (λ d. d)) (WritesText texts) answer_of haystack
       (λ u. (more : List ℕ) × (u.destination ≡ s.destination ++ more))
       (λ bytes u v finish h p.
       appends-on s.destination u.destination v.destination (AppendsBeginning-adds (λ d. d) bytes u v finish h) p)

@@ -6,7 +6,7 @@ use Rattle.std.proofs.lemmas.Bool.{cases_lt, false_from_ne_true}
 use Rattle.std.proofs.lemmas.List.{drop-append-le, get_or-map, get_or-take, length-map, length-take-le, take-append-drop, take-map}
 use Rattle.std.proofs.lemmas.List.Elements.{All-cons, All-nil}
 use Rattle.std.proofs.lemmas.Grind.{common_steps}
-use Rattle.ac_util.specs.Prelude.{AreDecided, asked_whole, Built, continued, from, is_leftmost, IsFirst, IsOpen, IsPick, IsSettledAt, LeftmostFirst, LeftmostLongest, MatchKind, next_match, NoneOpen, Occurrence, occurrence, Occurs, participates, pattern_of, pick, plain, plain_byte, plain_patterns, Search, search_in, Standard, streamed, walk_after}
+use Rattle.ac_util.specs.Prelude.{AreDecided, whole_input, Built, continued, from, is_leftmost, IsFirst, IsOpen, IsPick, IsSettledAt, LeftmostFirst, LeftmostLongest, MatchKind, next_match, NoneOpen, Occurrence, occurrence, Occurs, participates, pattern_of, pick, plain, plain_byte, plain_patterns, Search, search_in, Standard, stream_result, walk_after}
 use Rattle.ac_util.proofs.Lists.{IsIn-at}
 use Rattle.ac_util.proofs.Participants.{takes_part}
 use Rattle.ac_util.proofs.Picks.{first_unique, pick-IsPick}
@@ -68,10 +68,10 @@ pick-takes_part LeftmostFirst q m leftmost is =
 module _ (built : Built) (leftmost : is_leftmost built.kind ≡ true) (bytes more : List ℕ) where
   -- the search from a place on, and the same once more bytes have come
   abbrev pub here : ℕ → Search
-  here low = record (search_in built (asked_whole bytes)) { low = low }
+  here low = record (search_in built (whole_input bytes)) { low = low }
 
   abbrev pub there : ℕ → Search
-  there low = record (search_in built (asked_whole (bytes ++ more))) { low = low }
+  there low = record (search_in built (whole_input (bytes ++ more))) { low = low }
 
   -- what occurs still occurs
   occurs-there : (low : ℕ) (m : Occurrence) → Occurs (here low) m → Occurs (there low) m
@@ -251,6 +251,6 @@ module _ (built : Built) (leftmost : is_leftmost built.kind ≡ true) (bytes mor
 
     -- so a settled stream keeps the matches that were given, and no other starts before the place
     pub settled-stays : (given place : ℕ) → IsSettledAt built bytes given place
-        → (take given (streamed built (bytes ++ more)) ≡ take given (streamed built bytes))
-        × All (λ (m : Occurrence). place ≤ m.start) (drop given (streamed built (bytes ++ more)))
-    settled-stays given place h = grind (arith, common_steps, take-append-drop given (streamed built bytes), decided-stays)
+        → (take given (stream_result built (bytes ++ more)) ≡ take given (stream_result built bytes))
+        × All (λ (m : Occurrence). place ≤ m.start) (drop given (stream_result built (bytes ++ more)))
+    settled-stays given place h = grind (arith, common_steps, take-append-drop given (stream_result built bytes), decided-stays)

@@ -3,7 +3,7 @@ use Rattle.std.proofs.Common.{◌≡◌, ℕ, ◌+◌, ◌-◌, ◌<◌, ◌≤�
 use Rattle.std.proofs.lemmas.Bool.{eq-eqb, cases_lt, false≢true}
 use Rattle.std.proofs.lemmas.Grind.{common_steps}
 use Rattle.memchr.specs.Find.{IsFirst, IsFirstByte, FindsNeedle, OccursAt, Passes}
-use Rattle.ac_util.specs.Prelude.{begins_with, BeginWith, Candidate, FirstOf, is_empty, is_one_of, IsPick, IsSkipFor, LeftmostFirst, LeftmostLongest, match_told, MatchKind, Occurrence, occurrence, Occurs, pick, plain_byte, Promises, Search, search_over, Skip, Standard, start_told, Tells}
+use Rattle.ac_util.specs.Prelude.{begins_with, BeginWith, Candidate, FirstOf, is_empty, is_one_of, IsPick, IsSkipFor, LeftmostFirst, LeftmostLongest, match_candidate, MatchKind, Occurrence, occurrence, Occurs, pick, plain_byte, Promises, Search, search_over, Skip, Standard, start_candidate, Tells}
 use Rattle.ac_util.specs.declared.prefilter.Candidate.TheVariants.{None as Nothing}
 use Rattle.ac_util.specs.Pick as Order
 use Rattle.ac_util.specs.Prefilters.Skip.{Needle}
@@ -60,7 +60,7 @@ module _ (bytes : List ℕ) (fold : Bool) (patterns : List (List ℕ)) (hay : Li
 
   -- so nothing starts before the first place that holds one of the bytes
   bytes_promise : (place : Option ℕ) → IsFirst (Passes (is_one_of bytes) hay) low high place
-      → Promises (search_over fold patterns hay low high) (start_told place)
+      → Promises (search_over fold patterns hay low high) (start_candidate place)
   bytes_promise None none = λ m o. let s = starts_so m o in none m.start o.from_low (omega (arith, s.0, o.to_high)) s.1
   bytes_promise (Some k) (b, p) = (
     b.low,
@@ -97,7 +97,7 @@ module _ (needle : List ℕ) (hay : List ℕ) (low high : ℕ) where
   picked_by_all kind (Some m) h = (h.0, λ o occurs. first_by_all kind m o h.0 occurs (h.1 o occurs))
 
   -- so what is picked is promised
-  needle_promise : (r : Option Occurrence) → pick Standard alone ≡ r → Promises alone (match_told r)
+  needle_promise : (r : Option Occurrence) → pick Standard alone ≡ r → Promises alone (match_candidate r)
   needle_promise None e = subst (λ (w : Option Occurrence). IsPick Standard alone w) e (pick-IsPick Standard alone)
   needle_promise (Some m) e =
       λ kind. sym (pick-from_IsPick kind alone (pick Standard alone)

@@ -8,8 +8,8 @@ use Rattle.std.proofs.lemmas.Str.{IsCharBoundary-at_seam, IsCharBoundary-from_re
 use Rattle.std.proofs.lemmas.Str.Ascii.{lowercase_ascii, lowercase_is}
 use Rattle.std.proofs.Math.Utf8.{scalar, scalars, encode, encodes, low_scalar}
 use Rattle.std.proofs.lemmas.Grind.{common_steps}
-use Rattle.ac_util.specs.Prelude.{all, AreTexts, Asked, Built, found, IsBetweenCharacters, LiesIn, Occurrence, pattern_of, plain, plain_byte, search_in, walked}
-use Rattle.ac_util.proofs.Lying.{found-IfSome, listed-lie, walked-lie}
+use Rattle.ac_util.specs.Prelude.{all, AreTexts, InputView, Built, find_result, IsBetweenCharacters, LiesIn, Occurrence, pattern_of, plain, plain_byte, search_in, walk_result}
+use Rattle.ac_util.proofs.Lying.{find_result-IfSome, listed-lie, walk_result-lie}
 
 -- a byte of no ASCII letter keeps its class, and so does the small form of one
 plain_byte-low : (fold : Bool) (b : ℕ) → b < 128 → plain_byte fold b < 128
@@ -98,9 +98,9 @@ module _ (text p : List ℕ) (i : ℕ) (u : IsUtf8 text) (v : IsUtf8 p) (nonempt
       (parts ∙ ap (λ (bs : List ℕ). bs ++ drop (length p) (drop i text)) (sym v.1.1))))
 
 -- a match of a text in a text lies between characters
-pub lies-between : (built : Built) (asked : Asked) (m : Occurrence) → AreTexts built.patterns
-    → IsUtf8 asked.haystack → LiesIn built asked m → IsBetweenCharacters asked.haystack m
-lies-between built asked m texts u lies = record {
+pub lies-between : (built : Built) (input : InputView) (m : Occurrence) → AreTexts built.patterns
+    → IsUtf8 input.haystack → LiesIn built input m → IsBetweenCharacters input.haystack m
+lies-between built input m texts u lies = record {
   starts = IsCharBoundary-from_plain fold bytes m.start
       (at_start (plain fold bytes) (plain fold p) m.start plain_text plain_pattern some inside stands);
   ends = IsCharBoundary-from_plain fold bytes m.end
@@ -112,7 +112,7 @@ lies-between built asked m texts u lies = record {
     fold = built.fold
 
     bytes : List ℕ
-    bytes = asked.haystack
+    bytes = input.haystack
 
     p : List ℕ
     p = pattern_of built.patterns m.pattern
@@ -145,18 +145,18 @@ lies-between built asked m texts u lies = record {
 
 -- where all patterns are texts that aren't empty, so do a find's answer, each match of a walk and each item of the
 -- listing
-module _ (built : Built) (asked : Asked) (texts : AreTexts built.patterns) (u : IsUtf8 asked.haystack)
-    (inside : asked.end ≤ length asked.haystack) where
-  pub found-between : IfSome (found built asked) (IsBetweenCharacters asked.haystack)
-  found-between = by (found built asked) (found-IfSome built asked inside)
+module _ (built : Built) (input : InputView) (texts : AreTexts built.patterns) (u : IsUtf8 input.haystack)
+    (inside : input.end ≤ length input.haystack) where
+  pub find_result-between : IfSome (find_result built input) (IsBetweenCharacters input.haystack)
+  find_result-between = by (find_result built input) (find_result-IfSome built input inside)
     where
-      by : (r : Option Occurrence) → IfSome r (LiesIn built asked)
-          → IfSome r (IsBetweenCharacters asked.haystack)
+      by : (r : Option Occurrence) → IfSome r (LiesIn built input)
+          → IfSome r (IsBetweenCharacters input.haystack)
       by None lies = tt
-      by (Some m) lies = lies-between built asked m texts u lies
+      by (Some m) lies = lies-between built input m texts u lies
 
-  pub walked-between : All (IsBetweenCharacters asked.haystack) (walked built asked)
-  walked-between = search (rules, All-weaker, lies-between, walked-lie)
+  pub walk_result-between : All (IsBetweenCharacters input.haystack) (walk_result built input)
+  walk_result-between = search (rules, All-weaker, lies-between, walk_result-lie)
 
-  pub listed-between : All (IsBetweenCharacters asked.haystack) (all (search_in built asked))
+  pub listed-between : All (IsBetweenCharacters input.haystack) (all (search_in built input))
   listed-between = search (rules, All-weaker, lies-between, listed-lie)

@@ -2,7 +2,7 @@
 -- sameness.
 use Prim.Native.String.{String}
 use Rattle.std.specs.Prelude.{◌≡◌, ℕ, Bool, true, false, List, [], ◌∷◌, ◌++◌, Option, None, Some, map, take, codes, refl}
-use Rattle.ac_util.specs.Prelude.{all, Both, Built, Call, Find, held, InvalidInputAnchored, InvalidInputUnanchored, item_at, LeftmostFirst, LeftmostLongest, longest_len, MatchError, MatchKind, No, Occurrence, occurrence, OverlappingByState, OverlappingIterator, pick, place_after, refusal, Replace, replaced, same_byte, same_string, Search, Standard, StartKind, Stream, streamed, Unanchored, UnsupportedEmpty, UnsupportedOverlapping, walk, walk_after, whole_characters, without_last, Yes}
+use Rattle.ac_util.specs.Prelude.{all, Both, Built, Call, Find, kept_back_len, InvalidInputAnchored, InvalidInputUnanchored, item_at, LeftmostFirst, LeftmostLongest, longest_len, MatchError, MatchKind, No, Occurrence, occurrence, OverlappingByState, OverlappingIterator, pick, place_after, refusal, Replace, replaced, same_byte, same_string, Search, Standard, StartKind, Stream, stream_result, Unanchored, UnsupportedEmpty, UnsupportedOverlapping, walk, walk_after, whole_characters, without_last, Yes}
 use Rattle.ac_util.specs.declared.search.StartKind.TheVariants.{Anchored as AnchoredAlone}
 use Rattle.ac_util.proofs.SearchRows.{in_text, at_start, append_words, append_text}
 
@@ -22,7 +22,7 @@ text_replaced_until n kind patterns texts haystack =
 
 -- what a stream has written once these bytes were read: the replaced text without the bytes that are held back
 abbrev written : Built → List (List ℕ) → List ℕ → List ℕ
-written built texts bytes = without_last (held built bytes) (replaced bytes texts (streamed built bytes))
+written built texts bytes = without_last (kept_back_len built bytes) (replaced bytes texts (stream_result built bytes))
 
 -- the texts and the patterns that several rows share
 abbrev numbers : List (List ℕ)
@@ -119,18 +119,18 @@ unfolding walk_after pick all
 fox-emptied = refl
 
 -- a stream that ends too early: its matches
-fox-found-after-12 : streamed foxes (codes "The quick br") ≡ occurrence 2 4 9 ∷ []
+fox-found-after-12 : stream_result foxes (codes "The quick br") ≡ occurrence 2 4 9 ∷ []
 unfolding walk_after pick all
 fox-found-after-12 = refl
 
 -- what a stream has given, how many bytes of it are held back, and what is written
 abbrev AreStreamed : List (String × ℕ × String) → Type 0
 AreStreamed rows =
-    (map (λ row. held foxes (codes row.0)) rows ≡ map (λ row. row.1) rows)
+    (map (λ row. kept_back_len foxes (codes row.0)) rows ≡ map (λ row. row.1) rows)
     × (map (λ row. written foxes fox_texts (codes row.0)) rows ≡ map (λ row. codes row.2) rows)
 
 -- a sentence as it comes
-fox-streamed : AreStreamed (
+fox-stream_result : AreStreamed (
     ("The ", 4, "")
     ∷ ("The q", 4, "T")
     ∷ ("The quick", 0, "The slow")
@@ -141,7 +141,7 @@ fox-streamed : AreStreamed (
     ∷ ("The quick brown fox.", 1, "The slow grey sloth")
     ∷ [])
 unfolding walk_after pick all
-fox-streamed = (refl, refl)
+fox-stream_result = (refl, refl)
 
 -- a start kind, a match kind, a call, whether some pattern is empty, and why the call is refused
 abbrev AreRefusals : List (StartKind × MatchKind × Call × Bool × Option MatchError) → Type 0

@@ -16,7 +16,7 @@ pub mod Node
 pub mod Matches
 pub mod Looks
 pub mod Text
-pub mod Asked
+pub mod InputView
 pub mod Inputs
 pub mod Counts
 pub mod Device

@@ -114,23 +114,23 @@ search_over fold patterns haystack low high = record {
 }
 
 -- what is told of a span in which a match may start here at first, or nowhere
-abbrev pub start_told : Option ℕ → Candidate
-start_told None = Nothing
-start_told (Some place) = PossibleStart place
+abbrev pub start_candidate : Option ℕ → Candidate
+start_candidate None = Nothing
+start_candidate (Some place) = PossibleStart place
 
 -- what is told of a span in which this match is picked, or none
-abbrev pub match_told : Option Occurrence → Candidate
-match_told None = Nothing
-match_told (Some m) = Found m
+abbrev pub match_candidate : Option Occurrence → Candidate
+match_candidate None = Nothing
+match_candidate (Some m) = Found m
 
 -- what a skip tells of a span: the first place of it that holds one of the bytes; or the match that a search for
 -- the needle alone picks
 abbrev pub Tells : Skip → List ℕ → ℕ → ℕ → Candidate → Type 0
 Tells (FirstOf bytes) haystack low high candidate =
     (place : Option ℕ) × IsFirst (Passes (is_one_of bytes) haystack) low high place
-    × (candidate ≡ start_told place)
+    × (candidate ≡ start_candidate place)
 Tells (Needle needle) haystack low high candidate =
-    candidate ≡ match_told (pick Standard (search_over false (needle ∷ []) haystack low high))
+    candidate ≡ match_candidate (pick Standard (search_over false (needle ∷ []) haystack low high))
 
 -- what a candidate says of a span: nothing occurs in it; the match is what is picked, by any kind; or nothing
 -- that occurs starts before the place

@@ -1,7 +1,7 @@
 -- The names of this crate that most proofs cite, passed on from one place. Declares nothing.
-pub use Rattle.ac_util.specs.Asked.{Asked, asked_whole}
+pub use Rattle.ac_util.specs.InputView.{InputView, whole_input}
 pub use Rattle.ac_util.specs.Borrowed.{bytes_of}
-pub use Rattle.ac_util.specs.Built.{Built, exchanged, found, search_in, walked}
+pub use Rattle.ac_util.specs.Built.{Built, exchanged, find_result, search_in, walk_result}
 pub use Rattle.ac_util.specs.Classes.{alphabet_len, AreClasses, class_at, IsLawful, SetsApart, is_in_patterns}
 unfoldable pub use Rattle.ac_util.specs.Classes.{class_of, classes_of, singletons}
 pub use Rattle.ac_util.specs.Device.{idle, Reading, ReadsAll, ReadsSome, Took}
@@ -17,17 +17,17 @@ pub use Rattle.ac_util.specs.Pick.{beats, best, better, IsFirst, IsFirstByEnd, I
 unfoldable pub use Rattle.ac_util.specs.Pick.{pick}
 pub use Rattle.ac_util.specs.Pieces.{pieces}
 pub use Rattle.ac_util.specs.Plain.{EndsBy, IsReplaceable}
-pub use Rattle.ac_util.specs.Prefilters.{begins_with, BeginWith, first_bytes_of, is_one_of, IsSkipFor, marked, match_told, MOST_BYTES, MOST_PATTERNS, Promises, search_over, Skip, skip_among, skip_by_bytes, skip_for, start_told, Tells}
+pub use Rattle.ac_util.specs.Prefilters.{begins_with, BeginWith, first_bytes_of, is_one_of, IsSkipFor, marked, match_candidate, MOST_BYTES, MOST_PATTERNS, Promises, search_over, Skip, skip_among, skip_by_bytes, skip_for, start_candidate, Tells}
 unfoldable pub use Rattle.ac_util.specs.Prefilters.{first_bytes}
 pub use Rattle.ac_util.specs.Prefilters.Skip.{FirstOf}
 pub use Rattle.ac_util.specs.Refusal.{Call, Find, OverlappingByState, OverlappingIterator, refusal, Replace, Stream}
 pub use Rattle.ac_util.specs.Replaced.{exchanged_from, is_char_boundary, is_whole, replaced, replaced_from, whole_characters}
-pub use Rattle.ac_util.specs.Replacement.{AlwaysWrites, Answer, AppendsAll, AppendsBeginning, asked_by, Calls, CallsNoMore, Fails, Continues, MatchAnswer, OnlyAppends, ReplacementSteps, Replacing, Turn, WritesText}
+pub use Rattle.ac_util.specs.Replacement.{AlwaysWrites, Answer, AppendsAll, AppendsBeginning, answer_of, Calls, CallsNoMore, Fails, Continues, MatchAnswer, OnlyAppends, ReplacementSteps, Replacing, Turn, WritesText}
 pub use Rattle.ac_util.specs.Sameness.{plain, plain_byte, same_byte, same_string}
 pub use Rattle.ac_util.specs.Search.{from, may_start, Occurs, occurs, pattern_of, Search}
 pub use Rattle.ac_util.specs.Settled.{AreDecided, IsOpen, IsSettledAt, NoneOpen}
 pub use Rattle.ac_util.specs.Sizes.{distinct, inner_nodes, longest_len, prefixes, shortest_len, state_count}
-pub use Rattle.ac_util.specs.Stream.{held, last_end, streamed, without_last}
+pub use Rattle.ac_util.specs.Stream.{kept_back_len, last_end, stream_result, without_last}
 pub use Rattle.ac_util.specs.StreamReplacing.{FailsToRead}
 pub use Rattle.ac_util.specs.Text.{cut, ending, found_at_end, longer_by, one_longer, outward, plain_patterns, text}
 pub use Rattle.ac_util.specs.Texts.{AreTexts, IsBetweenCharacters}

@@ -74,9 +74,9 @@ pub record Calls {F D R : Type 0}
   pub leaves : after.now ≡ t.destination
 
 -- true asks to go on, false to call no more
-abbrev pub asked_by : {E : Type 0} → Bool → Answer E
-asked_by true = Continues
-asked_by false = CallsNoMore
+abbrev pub answer_of : {E : Type 0} → Bool → Answer E
+answer_of true = Continues
+answer_of false = CallsNoMore
 
 -- the text of the match's pattern is appended, and the answer asks to go on
 abbrev pub WritesText : {F : Type 0} → List (List ℕ) → Occurrence → List ℕ → Replacing F (List ℕ) → Bool

@@ -6,7 +6,7 @@ use Rattle.ac_util.specs.declared.error.MatchError.{MatchError}
 use Rattle.ac_util.specs.declared.error.ReplaceError.{ReplaceError}
 use Rattle.ac_util.specs.declared.error.ReplaceError.TheVariants.{Match, Memory}
 use Rattle.ac_util.specs.Occurrence.{Occurrence}
-use Rattle.ac_util.specs.Replacement.{AppendsAll, Calls, ReplacementSteps, asked_by}
+use Rattle.ac_util.specs.Replacement.{AppendsAll, Calls, ReplacementSteps, answer_of}
 
 -- one of two things, by why a replacement failed
 abbrev pub MatchReplaceError : ReplaceError → (MatchError → Type 0) → Type 0 → Type 0
@@ -34,5 +34,5 @@ abbrev pub StepsLead : {F D : Type 0}
     → Mut F (Bor Occurrence × (Bor (List ℕ) × (MutBor D × Unit {0}))) (Bool × (MutBor D × Unit {0}))
     → (D → List ℕ) → List ℕ → List Occurrence → F → D → Option ReplaceError → D → Type 0
 StepsLead {F} closures holds haystack ms closure old end new =
-    (left : F) × ReplacementSteps (AppendsAll holds) (Calls closures) asked_by haystack 0 ms
+    (left : F) × ReplacementSteps (AppendsAll holds) (Calls closures) answer_of haystack 0 ms
     (record { closure = closure; destination = old }) end (record { closure = left; destination = new })

@@ -5,7 +5,7 @@ use Rattle.ac_util.specs.Node.{participates}
 use Rattle.ac_util.specs.Occurrence.{Occurrence}
 use Rattle.ac_util.specs.Sameness.{IsSame, plain}
 use Rattle.ac_util.specs.Search.{pattern_of}
-use Rattle.ac_util.specs.Stream.{streamed}
+use Rattle.ac_util.specs.Stream.{stream_result}
 
 -- a place is open where some bytes follow it, and a pattern that takes part begins with them and is longer: a match may
 -- still come of it
@@ -30,8 +30,8 @@ AreDecided built bytes from (m ∷ ms) to = NoneOpen built bytes from (m.start +
 -- these bytes of a stream came, and so many of their matches were given: the stream is settled up to a place where these end
 -- by there and are decided, and no other match starts before it
 pub record IsSettledAt (built : Built) (bytes : List ℕ) (given place : ℕ) : Type 0 where
-  pub few : given ≤ length (streamed built bytes)
+  pub few : given ≤ length (stream_result built bytes)
   pub within : place ≤ length bytes
-  pub ended : All (λ m. m.end ≤ place) (take given (streamed built bytes))
-  pub later : All (λ m. place ≤ m.start) (drop given (streamed built bytes))
-  pub decided : AreDecided built bytes 0 (take given (streamed built bytes)) place
+  pub ended : All (λ m. m.end ≤ place) (take given (stream_result built bytes))
+  pub later : All (λ m. place ≤ m.start) (drop given (stream_result built bytes))
+  pub decided : AreDecided built bytes 0 (take given (stream_result built bytes)) place

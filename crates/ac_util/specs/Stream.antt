@@ -4,15 +4,15 @@ use Rattle.ac_util.specs.declared.device.WriteError.{WriteError}
 use Rattle.ac_util.specs.declared.device.WriteError.TheVariants.{Io as WriteFailed, WriteZero as WroteNothing}
 use Rattle.ac_util.specs.declared.error.StreamError.{StreamError}
 use Rattle.ac_util.specs.declared.error.StreamError.TheVariants.{Io, WriteZero}
-use Rattle.ac_util.specs.Asked.{asked_whole}
-use Rattle.ac_util.specs.Built.{Built, walked}
+use Rattle.ac_util.specs.InputView.{whole_input}
+use Rattle.ac_util.specs.Built.{Built, walk_result}
 use Rattle.ac_util.specs.Occurrence.{Occurrence}
 use Rattle.ac_util.specs.Sizes.{longest_len}
 
 -- the matches of a stream of which the reader has given these bytes: the walk over all of them. Places count from 0
 -- over the whole stream
-abbrev pub streamed : Built → List ℕ → List Occurrence
-streamed built bytes = walked built (asked_whole bytes)
+abbrev pub stream_result : Built → List ℕ → List Occurrence
+stream_result built bytes = walk_result built (whole_input bytes)
 
 -- where the last of the matches ends, 0 without matches
 abbrev pub last_end : List Occurrence → ℕ
@@ -26,8 +26,8 @@ reserve built = max 1 (longest_len built.patterns) - 1
 
 -- how many of the bytes read so far are kept back before the next read: so many, but none of a match and of what
 -- stands before it
-abbrev pub held : Built → List ℕ → ℕ
-held built bytes = min (reserve built) (length bytes - last_end (streamed built bytes))
+abbrev pub kept_back_len : Built → List ℕ → ℕ
+kept_back_len built bytes = min (reserve built) (length bytes - last_end (stream_result built bytes))
 
 -- the bytes without so many of the last ones
 abbrev pub without_last : ℕ → List ℕ → List ℕ

@@ -16,7 +16,7 @@ use Rattle.ac_util.specs.Replaced.{replaced}
 use Rattle.ac_util.specs.Replacement.{Answer, Calls, Fails, Continues, Replacing, ReplacementSteps}
 use Rattle.ac_util.specs.Settled.{IsSettledAt}
 use Rattle.ac_util.specs.Sizes.{longest_len}
-use Rattle.ac_util.specs.Stream.{error_of, held, streamed, without_last}
+use Rattle.ac_util.specs.Stream.{error_of, kept_back_len, stream_result, without_last}
 
 -- one of five things, by why a stream ended
 abbrev pub MatchStreamError : StreamError → (MatchError → Type 0) → Type 0 → Type 0 → Type 0 → Type 0 → Type 0
@@ -38,12 +38,12 @@ FailsToRead seen old new bytes e =
 
 -- as far as which place a stream is settled under Standard, of which these bytes came: all but the bytes held back
 abbrev pub settled : Built → List ℕ → ℕ
-settled built bytes = length bytes - held built bytes
+settled built bytes = length bytes - kept_back_len built bytes
 
 -- these bytes of a stream came, and it is settled as far as a place by so many of their matches: under Standard by all of
 -- them, and under a leftmost kind by those that no longer stream changes
 abbrev pub IsSettledBy : MatchKind → Built → List ℕ → ℕ → ℕ → Type 0
-IsSettledBy Standard built bytes given place = (given ≡ length (streamed built bytes)) × (place ≡ settled built bytes)
+IsSettledBy Standard built bytes given place = (given ≡ length (stream_result built bytes)) × (place ≡ settled built bytes)
 IsSettledBy LeftmostFirst built bytes given place = IsSettledAt built bytes given place
 IsSettledBy LeftmostLongest built bytes given place = IsSettledAt built bytes given place
 
@@ -56,7 +56,7 @@ IsNear built bytes place = length bytes ≤ place + longest_len built.patterns
 abbrev pub IsSettled : Bool → Built → Reading → Reading → List ℕ → ℕ → ℕ → Type 0
 IsSettled ends built old new bytes given place =
     (ReadsSome old new bytes × IsSettledBy built.kind built bytes given place)
-    ⊎ (ReadsAll ends old new bytes × (given ≡ length (streamed built bytes)) × (place ≡ length bytes))
+    ⊎ (ReadsAll ends old new bytes × (given ≡ length (stream_result built bytes)) × (place ≡ length bytes))
 
 module _ {F D : Type 0} (told : D → Writing) where
   -- the bytes are written, all of them; or a beginning of them, and then a write has failed or took nothing
@@ -69,9 +69,9 @@ module _ {F D : Type 0} (told : D → Writing) where
       × WritesUntilFailure (told s.destination) (told t.destination) bytes failure)
 
 -- what the answer of a closure asks for: to go on, or to end at once with its error
-abbrev pub asked_by_result : Result (Unit {0}) Error → Answer StreamError
-asked_by_result (Ok done) = Continues
-asked_by_result (Err e) = Fails (Io e)
+abbrev pub answer_of_result : Result (Unit {0}) Error → Answer StreamError
+answer_of_result (Ok done) = Continues
+answer_of_result (Err e) = Fails (Io e)
 
 module _ {F D : Type 0} (told : D → Writing)
     (closures : Mut F (Bor Occurrence × (Bor (List ℕ) × (MutBor D × Unit {0})))
@@ -79,7 +79,7 @@ module _ {F D : Type 0} (told : D → Writing)
   -- the steps that exchange these matches of some bytes by a closure, as far as a place, lead a writer from `old` to `new`
   abbrev pub StreamStepsLead : List ℕ → List Occurrence → ℕ → Option StreamError → D → Type 0
   StreamStepsLead bytes ms place end new =
-      (left : F) × ReplacementSteps (WritesPiece told) (Calls closures) asked_by_result (take place bytes) 0
+      (left : F) × ReplacementSteps (WritesPiece told) (Calls closures) answer_of_result (take place bytes) 0
       ms (record { closure = closure; destination = old }) end
       (record { closure = left; destination = new })
 
@@ -87,15 +87,15 @@ module _ {F D : Type 0} (told : D → Writing)
   abbrev pub ReplacesStreamWith : Bool → Reading → Reading → D → Type 0
   ReplacesStreamWith ends reader new_reader new =
       (bytes : List ℕ) × ReadsAll ends reader new_reader bytes
-      × StreamStepsLead bytes (streamed built bytes) (length bytes) None new
+      × StreamStepsLead bytes (stream_result built bytes) (length bytes) None new
 
   -- the steps were made as far as the stream is settled, of which these bytes came: under Standard to all but the bytes held
   -- back, and under a leftmost kind to all but at most as many as the longest pattern has
   abbrev pub StepsAreSettled : MatchKind → List ℕ → D → Type 0
-  StepsAreSettled Standard bytes new = StreamStepsLead bytes (streamed built bytes) (settled built bytes) None new
+  StepsAreSettled Standard bytes new = StreamStepsLead bytes (stream_result built bytes) (settled built bytes) None new
   StepsAreSettled kind bytes new =
       (given place : ℕ) × IsSettledAt built bytes given place × IsNear built bytes place
-      × StreamStepsLead bytes (take given (streamed built bytes)) place None new
+      × StreamStepsLead bytes (take given (stream_result built bytes)) place None new
 
   -- a read has failed, or brought more than usize counts: the steps were made as far as the stream is settled. Or a
   -- write has failed, or took nothing, or the closure has failed: no step was made after that
@@ -104,12 +104,12 @@ module _ {F D : Type 0} (told : D → Writing)
       (bytes : List ℕ)
       × ((FailsToRead 0 reader new_reader bytes e × StepsAreSettled built.kind bytes new)
       ⊎ ((given place : ℕ) × IsSettled ends built reader new_reader bytes given place
-      × StreamStepsLead bytes (take given (streamed built bytes)) place (Some e) new))
+      × StreamStepsLead bytes (take given (stream_result built bytes)) place (Some e) new))
 
 module _ (built : Built) (texts : List (List ℕ)) (old new : Writing) where
   -- all bytes of the stream with their matches exchanged for texts
   abbrev pub stream_replaced : List ℕ → List ℕ
-  stream_replaced bytes = replaced bytes texts (streamed built bytes)
+  stream_replaced bytes = replaced bytes texts (stream_result built bytes)
 
   -- the stream was read to its end, and its replaced text was written
   abbrev pub ReplacesStream : Bool → Reading → Reading → Type 0
@@ -119,10 +119,10 @@ module _ (built : Built) (texts : List (List ℕ)) (old new : Writing) where
   -- the replaced text was written as far as the stream is settled, of which these bytes came: under Standard but for the bytes
   -- held back, and under a leftmost kind but for at most as many as the longest pattern has
   abbrev pub TextIsSettled : MatchKind → List ℕ → Type 0
-  TextIsSettled Standard bytes = WritesAll old new (without_last (held built bytes) (stream_replaced bytes))
+  TextIsSettled Standard bytes = WritesAll old new (without_last (kept_back_len built bytes) (stream_replaced bytes))
   TextIsSettled kind bytes =
       (given place : ℕ) × IsSettledAt built bytes given place × IsNear built bytes place
-      × WritesAll old new (replaced (take place bytes) texts (take given (streamed built bytes)))
+      × WritesAll old new (replaced (take place bytes) texts (take given (stream_result built bytes)))
 
   -- a read has failed, or brought more than usize counts: the replaced text was written as far as the stream is settled.
   -- Or a write has failed, or took nothing: a beginning of the replaced text of what was read was written

@@ -1,7 +1,7 @@
 //! What a search does: the bytes that it reads, and how often it looks at states.
 ghost use Rattle.std.specs.Prelude.{◌≡◌, ℕ, ◌+◌, ◌<◌, ◌≤◌, Bool, List, length, slice_index};
 ghost use Rattle.ac_util.specs.Counts.{no_counts, one_more_call, one_more_read, more_looks};
-ghost use Rattle.ac_util.specs.Inputs.{asked};
+ghost use Rattle.ac_util.specs.Inputs.{input_of};
 ghost use Rattle.ac_util.specs.Prefilters.{IsSkipFor, Promises, Tells, search_over, skip_of};
 
 use crate::prefilter::{Candidate, Prefilter};
@@ -154,7 +154,7 @@ impl<'h> Tape<'h> {
 /// Returns a tape over the haystack of an input, and counts of 0.
 #[inline]
 pub fn open<'h>(input: &Input<'h>) -> (Tape<'h>, Looks)
-    ensures tape { result.0 ≡ record { bytes = (asked input.now).haystack; place = 0 } }
+    ensures tape { result.0 ≡ record { bytes = (input_of input.now).haystack; place = 0 } }
     ensures looks { result.1 ≡ no_counts }
 {
     (Tape::new(input.haystack()), Looks::new())

@@ -5,7 +5,7 @@ ghost use Rattle.std.specs.Prelude.{◌≡◌, ℕ, ◌≤◌, ◌<◌, ◌⊎�
 ghost use Rattle.std.specs.List.{list_any};
 ghost use Rattle.memchr.specs.Find.{IsFirstByte};
 ghost use Rattle.ac_util.specs.declared.error.BuildError.TheVariants.{Memory};
-ghost use Rattle.ac_util.specs.Asked.{IsLegal};
+ghost use Rattle.ac_util.specs.InputView.{IsLegal};
 ghost use Rattle.ac_util.specs.Node.{is_empty};
 ghost use Rattle.ac_util.specs.Prefilters.{IsSkipFor, Promises, Skip, Tells, begins_with, byte_count, first_bytes_of, is_one_of, marked, search_over, skip_for, skip_of};
 ghost use Rattle.ac_util.specs.Prefilters.Skip.{FirstOf};

@@ -8,13 +8,13 @@ use Rattle.ac_util.specs.declared.search.MatchKind.TheVariants.{LeftmostFirst, L
 use Rattle.ac_util.specs.Built.{Built}
 use Rattle.ac_util.specs.Device.{Reading, ReadsAll, ReadsSome, Writing, WritesAll}
 use Rattle.ac_util.specs.Occurrence.{Occurrence}
-use Rattle.ac_util.specs.Stream.{streamed}
+use Rattle.ac_util.specs.Stream.{stream_result}
 use Rattle.ac_util.specs.StreamReplacing.{IsNear, IsSettledBy}
-use Rattle.ac_util.proofs.Devices.{fails-after, reads-on, reads-out}
+use Rattle.ac_util.proofs.Devices.{fails-after}
 use Rattle.ac_util.proofs.Lists.{drop-slice_get}
 use Rattle.ac_automaton.specs.declared.automaton.stream.Phase.{Phase}
 use Rattle.ac_automaton.specs.declared.automaton.stream.Phase.TheVariants.{Ended, Failed, Open}
-use Rattle.ac_automaton.specs.Streams.{EndsNow, GivesError, GivesMatch, GivesNextMatch, GivesNone, GoesOnBy, HasGivenSettled, KeepsGiven, Streaming, matches_so_far, stream_begun}
+use Rattle.ac_automaton.specs.Streams.{EndsNow, GivesError, GivesMatch, GivesNextMatch, GivesNone, GoesOnBy, HasGivenSettled, KeepsGiven, Streaming, matches_so_far, initial_stream}
 use Rattle.acs.specs.declared.fault.Fault.{Fault}
 use Rattle.acs.specs.declared.request.Mode.TheVariants.{Stream}
 use Rattle.acs.specs.declared.run.Outcome.{Outcome}
@@ -59,7 +59,7 @@ pub record IsPrintingStream (ends : Bool) (built : Built) (v : Streaming) (reade
   pub printing : PrintsSoFar v writer new_writer [] outcome
 
 -- at first none was given
-pub print-begins : (ends : Bool) (v : Streaming) (reader : Reading) (writer : Writing) → v ≡ stream_begun v.built
+pub print-begins : (ends : Bool) (v : Streaming) (reader : Reading) (writer : Writing) → v ≡ initial_stream v.built
     → IsPrintingStream ends v.built v reader reader writer writer [] Nothing
 print-begins ends v reader writer begun = search (rules, Consumes-nil, printing-begins)
 
@@ -68,12 +68,12 @@ module _ {ends : Bool} {built : Built} {v : Streaming} {reader new_reader : Read
     (h : IsPrintingStream ends built v reader new_reader writer new_writer text outcome) where
   -- of more bytes the same lines are written
   longer : (bytes : List ℕ) → KeepsGiven v bytes
-      → IsPrinting (streamed v.built bytes) (drop v.given (streamed v.built bytes)) writer new_writer [] outcome
-  longer bytes keeps = printing-longer v.given (matches_so_far v) (streamed v.built bytes) keeps h.printing
+      → IsPrinting (stream_result v.built bytes) (drop v.given (stream_result v.built bytes)) writer new_writer [] outcome
+  longer bytes keeps = printing-longer v.given (matches_so_far v) (stream_result v.built bytes) keeps h.printing
 
   -- and of all of them where all were given
-  all-written : (bytes : List ℕ) → KeepsGiven v bytes → v.given ≡ length (streamed built bytes)
-      → WritesAll writer new_writer (lines (streamed built bytes)) × (outcome ≡ outcome_of (streamed built bytes))
+  all-written : (bytes : List ℕ) → KeepsGiven v bytes → v.given ≡ length (stream_result built bytes)
+      → WritesAll writer new_writer (lines (stream_result built bytes)) × (outcome ≡ outcome_of (stream_result built bytes))
   all-written bytes keeps all = grind (arith, common_steps)
 
   -- what is settled is written
@@ -121,8 +121,8 @@ module _ {ends : Bool} {built : Built} {v : Streaming} {reader new_reader : Read
         rw h.nothing
         (subst (λ (u : Streaming). IsPrinting (matches_so_far u) (m ∷ drop u.given (matches_so_far u)) writer new_writer [] outcome)
         (sym gives.same)
-        (subst (λ (rest : List Occurrence). IsPrinting (streamed v.built (v.bytes ++ gives.more)) rest writer new_writer [] outcome)
-        (drop-slice_get (streamed v.built (v.bytes ++ gives.more)) v.given m gives.next) (longer (v.bytes ++ gives.more) gives.given)))
+        (subst (λ (rest : List Occurrence). IsPrinting (stream_result v.built (v.bytes ++ gives.more)) rest writer new_writer [] outcome)
+        (drop-slice_get (stream_result v.built (v.bytes ++ gives.more)) v.given m gives.next) (longer (v.bytes ++ gives.more) gives.given)))
 
     next-reads : GoesOnBy ends Open w.phase reader later w.bytes
     next-reads = grind (arith, common_steps)

@@ -1,11 +1,11 @@
 -- What the program prints.
 use Rattle.std.specs.Prelude.{ℕ, List, [], ◌∷◌, ◌++◌, codes, decimal, flat_map, option_to_list, Result, Ok, Err}
-use Rattle.ac_util.specs.Built.{Built, exchanged, found, search_in, walked}
-use Rattle.ac_util.specs.Asked.{asked_whole}
+use Rattle.ac_util.specs.Built.{Built, exchanged, find_result, search_in, walk_result}
+use Rattle.ac_util.specs.InputView.{whole_input}
 use Rattle.ac_util.specs.Listing.{all}
 use Rattle.ac_util.specs.Occurrence.{Occurrence}
 use Rattle.ac_util.specs.Replaced.{replaced}
-use Rattle.ac_util.specs.Stream.{streamed}
+use Rattle.ac_util.specs.Stream.{stream_result}
 use Rattle.acs.specs.declared.request.Mode.{Mode}
 use Rattle.acs.specs.declared.request.Mode.TheVariants.{Find, Walk, Overlap, Stream, Replace, StreamReplace}
 use Rattle.acs.specs.declared.run.Outcome.{Outcome}
@@ -35,16 +35,16 @@ lines_of ms = record { text = lines ms; outcome = outcome_of ms }
 -- what each mode writes for a haystack: the match that a find answers, those of a walk, all occurrences, those of a
 -- stream; or the haystack itself with each match exchanged for the text of its pattern, whether there is one or not
 abbrev pub output_of : Mode → Built → List (List ℕ) → List ℕ → Output
-output_of Find built texts haystack = lines_of (option_to_list (found built (asked_whole haystack)))
-output_of Walk built texts haystack = lines_of (walked built (asked_whole haystack))
-output_of Overlap built texts haystack = lines_of (all (search_in built (asked_whole haystack)))
-output_of Stream built texts haystack = lines_of (streamed built haystack)
+output_of Find built texts haystack = lines_of (option_to_list (find_result built (whole_input haystack)))
+output_of Walk built texts haystack = lines_of (walk_result built (whole_input haystack))
+output_of Overlap built texts haystack = lines_of (all (search_in built (whole_input haystack)))
+output_of Stream built texts haystack = lines_of (stream_result built haystack)
 output_of Replace built texts haystack = record {
   text = replaced haystack texts (exchanged built haystack);
   outcome = Found;
 }
 output_of StreamReplace built texts haystack = record {
-  text = replaced haystack texts (streamed built haystack);
+  text = replaced haystack texts (stream_result built haystack);
   outcome = Found;
 }
 

@@ -5,12 +5,12 @@ use Rattle.ac_util.specs.declared.error.MatchError.{MatchError}
 use Rattle.ac_util.specs.declared.error.StreamError.{StreamError}
 use Rattle.ac_util.specs.declared.search.MatchKind.{MatchKind}
 use Rattle.ac_util.specs.declared.search.MatchKind.TheVariants.{Standard}
-use Rattle.ac_util.specs.Asked.{asked_whole}
+use Rattle.ac_util.specs.InputView.{whole_input}
 use Rattle.ac_util.specs.Built.{Built, overlapping_iter_refusal, stream_refusal}
 use Rattle.ac_util.specs.Device.{Reading, ReadsAll, ReadsSome, Writing, WritesAll, WritesSome}
 use Rattle.ac_util.specs.Replaced.{replaced}
 use Rattle.ac_util.specs.Settled.{IsSettledAt}
-use Rattle.ac_util.specs.Stream.{held, streamed, without_last}
+use Rattle.ac_util.specs.Stream.{kept_back_len, stream_result, without_last}
 use Rattle.ac_util.specs.StreamReplacing.{FailsToRead, IsNear}
 use Rattle.acs.specs.declared.fault.Fault.{Fault}
 use Rattle.acs.specs.declared.fault.Fault.TheVariants.{Io, Memory, WriteZero}
@@ -22,7 +22,7 @@ use Rattle.acs.specs.Lines.{lines, output_of}
 
 -- why a searcher refuses a mode, if it does
 abbrev pub mode_refusal : Mode → Built → Option MatchError
-mode_refusal Overlap built = overlapping_iter_refusal built (asked_whole [])
+mode_refusal Overlap built = overlapping_iter_refusal built (whole_input [])
 mode_refusal Stream built = stream_refusal built
 mode_refusal StreamReplace built = stream_refusal built
 mode_refusal mode built = None
@@ -58,14 +58,14 @@ FailsToWriteFor mode old new bytes fault = FailsToPrint old new bytes fault
 -- their replaced text all but the bytes held back
 abbrev pub settled_text : Mode → Built → List (List ℕ) → List ℕ → List ℕ
 settled_text StreamReplace built texts bytes =
-    without_last (held built bytes) (output_of StreamReplace built texts bytes).text
+    without_last (kept_back_len built bytes) (output_of StreamReplace built texts bytes).text
 settled_text mode built texts bytes = (output_of mode built texts bytes).text
 
 -- what it writes for so many of the matches, as far as a place
 abbrev pub text_as_far : Mode → Built → List (List ℕ) → List ℕ → ℕ → ℕ → List ℕ
 text_as_far StreamReplace built texts bytes given place =
-    replaced (take place bytes) texts (take given (streamed built bytes))
-text_as_far mode built texts bytes given place = lines (take given (streamed built bytes))
+    replaced (take place bytes) texts (take given (stream_result built bytes))
+text_as_far mode built texts bytes given place = lines (take given (stream_result built bytes))
 
 -- what is settled at a read was written: under a leftmost kind for the matches that no longer stream changes, and as far as at
 -- most as many bytes follow as the longest pattern has

@@ -4,7 +4,7 @@ use Rattle.std.specs.Io.KnownBytes.{Appends}
 use Rattle.ac_util.specs.Built.{Built}
 use Rattle.ac_util.specs.Device.{Reading, ReadsAll, Writing, WritesAll}
 use Rattle.ac_util.specs.Occurrence.{Occurrence}
-use Rattle.ac_util.specs.Stream.{streamed}
+use Rattle.ac_util.specs.Stream.{stream_result}
 use Rattle.ac_automaton.specs.Streams.{Streaming, matches_so_far}
 use Rattle.acs.specs.declared.fault.Fault.{Fault}
 use Rattle.acs.specs.declared.request.Mode.TheVariants.{Stream}
@@ -41,8 +41,8 @@ module _ (ends : Bool) (built : Built) (reader new_reader : Reading) (writer new
   pub record PrintsStream (outcome : Outcome) : Type 0 where
     pub bytes : List ℕ
     pub reads : ReadsAll ends reader new_reader bytes
-    pub writes : WritesAll writer new_writer (lines (streamed built bytes))
-    pub outcome_is : outcome ≡ outcome_of (streamed built bytes)
+    pub writes : WritesAll writer new_writer (lines (stream_result built bytes))
+    pub outcome_is : outcome ≡ outcome_of (stream_result built bytes)
 
   -- or it couldn't be read, or the lines couldn't be written
   abbrev pub FailsToPrintStream : Fault → Type 0

@@ -61,8 +61,8 @@ abbrev pub words_among : {A : Type 0} → List (String A) → List (List ℕ)
 words_among arguments = drop 1 (map string_bytes arguments)
 
 -- the words after these three
-abbrev pub words_behind : List (List ℕ) → List (List ℕ)
-words_behind words = drop 3 words
+abbrev pub words_after : List (List ℕ) → List (List ℕ)
+words_after words = drop 3 words
 
 -- the first word of each pair, where words stand in pairs, and the second
 abbrev pub firsts : List (List ℕ) → List (List ℕ)

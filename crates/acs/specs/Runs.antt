@@ -10,7 +10,7 @@ use Rattle.acs.specs.declared.run.Outcome.{Outcome}
 use Rattle.acs.specs.Faults.{IsRefusal, line_of}
 use Rattle.acs.specs.Lines.{status_of}
 use Rattle.acs.specs.Modes.{Answers, FailsToAnswer, FailsToWrite}
-use Rattle.acs.specs.Requests.{built_for, patterns_in, request_of, settings_of, texts_in, words_behind}
+use Rattle.acs.specs.Requests.{built_for, patterns_in, request_of, settings_of, texts_in, words_after}
 
 -- no limit refuses the searcher for a request with these words
 abbrev pub IsServable : Request → List (List ℕ) → Type 0
@@ -44,19 +44,19 @@ HasAnswered ends words reader new_reader writer new_writer answered =
     MatchOption (request_of words)
     ((answered ≡ Err Usage) × (new_reader ≡ reader) × (new_writer ≡ writer))
     (λ request. MatchResult answered
-    (HasRun ends request (words_behind words) reader new_reader writer new_writer)
-    (HasFailed ends request (words_behind words) reader new_reader writer new_writer))
+    (HasRun ends request (words_after words) reader new_reader writer new_writer)
+    (HasFailed ends request (words_after words) reader new_reader writer new_writer))
 
 -- what is told of a fault: its line with a line end
-abbrev pub told_of : Fault → List ℕ
-told_of fault = line_of fault ++ codes "\n"
+abbrev pub message_of : Fault → List ℕ
+message_of fault = line_of fault ++ codes "\n"
 
 -- what is told of a fault was written, or a beginning of it where a write failed or took nothing; where there is no fault
 -- nothing was written
 abbrev pub HasTold : Result Outcome Fault → Writing → Writing → Type 0
 HasTold (Ok outcome) old new = new ≡ old
 HasTold (Err fault) old new =
-    WritesAll old new (told_of fault) ⊎ ((cause : Fault) × FailsToWrite old new (told_of fault) cause)
+    WritesAll old new (message_of fault) ⊎ ((cause : Fault) × FailsToWrite old new (message_of fault) cause)
 
 -- the run has answered the words, a fault was told, and this is the exit status
 abbrev pub HasEnded : Bool → List (List ℕ) → Reading → Reading → Writing → Writing → Writing → Writing → ℕ → Type 0

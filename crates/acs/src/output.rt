@@ -2,7 +2,7 @@
 ghost use Rattle.std.specs.Prelude.{◌≡◌, ◌++◌, ◌∷◌, [], List, codes, MatchResult, OnOk, option_to_list, string_bytes};
 ghost use Rattle.ac_util.specs.Device.{Writing, WritesAll};
 ghost use Rattle.ac_util.specs.Occurrence.{Occurrence};
-ghost use Rattle.ac_automaton.specs.Streams.{matches_so_far, stream_begun};
+ghost use Rattle.ac_automaton.specs.Streams.{matches_so_far, initial_stream};
 ghost use Rattle.acs.specs.declared.run.Outcome.{Outcome};
 ghost use Rattle.acs.specs.declared.run.Outcome.TheVariants.{Found};
 ghost use Rattle.acs.specs.Lines.{line, lines, outcome_of};
@@ -174,7 +174,7 @@ pub(crate) fn print_stream<A: Allocator + Clone, B: Allocator, Z: Allocator, R: 
     reader: &mut R,
     writer: &mut W,
 ) -> Result<Outcome, Fault>
-    requires { finder.old ≡ stream_begun finder.old.built }
+    requires { finder.old ≡ initial_stream finder.old.built }
     ensures { MatchResult result
         (PrintsStream R.empty_means_end finder.old.built (R.told reader.old) (R.told reader.new)
         (W.told writer.old) (W.told writer.new))

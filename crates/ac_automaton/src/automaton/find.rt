@@ -1,8 +1,8 @@
 //! The core of every find.
 ghost use Rattle.std.specs.Prelude.{◌≡◌, ◌+◌, ◌<◌, ◌≤◌, ◌↔◌, false, true, IsTrue, length, None, Some, MatchResult};
-ghost use Rattle.ac_automaton.specs.Util.{AnswersUnless, asked, find_refusal, found, is_leftmost, order_of, search_in, skip_of, Standard, start_refusal};
+ghost use Rattle.ac_automaton.specs.Util.{AnswersUnless, input_of, find_refusal, find_result, is_leftmost, order_of, search_in, skip_of, Standard, start_refusal};
 ghost use Rattle.ac_automaton.specs.Finders.{picking_of};
-ghost use Rattle.ac_automaton.specs.Finds.{HasSearched, asked_of};
+ghost use Rattle.ac_automaton.specs.Finds.{HasSearched, input_over};
 ghost use Rattle.ac_automaton.specs.Progress.{search_of, work_of};
 
 use super::Automaton;
@@ -41,11 +41,11 @@ pub fn find_core<A: Automaton>(
     requires end_within { end ≤ length tape.old.bytes }
     requires start_within { start ≤ end + 1 }
     requires unread { tape.old.place ≤ start }
-    ensures pick { result ≡ found (A.built automaton.now)
-        (asked_of tape.old.bytes start end anchored earliest) }
+    ensures pick { result ≡ find_result (A.built automaton.now)
+        (input_over tape.old.bytes start end anchored earliest) }
     ensures searched { HasSearched
         (picking_of A.LOOKS (A.built automaton.now).kind (A.filters automaton.now) earliest)
-        (search_in (A.built automaton.now) (asked_of tape.old.bytes start end anchored earliest)) result
+        (search_in (A.built automaton.now) (input_over tape.old.bytes start end anchored earliest)) result
         (work_of tape.old looks.old) (work_of tape.new looks.new) }
     ensures bytes { tape.new.bytes ≡ tape.old.bytes }
 {
@@ -61,8 +61,8 @@ pub(super) fn try_find<A: Automaton>(
     automaton: &A,
     input: Input<'_>,
 ) -> Result<Option<Match>, MatchError>
-    ensures { AnswersUnless (find_refusal (A.built automaton.now) (asked input.entry))
-        (found (A.built automaton.now) (asked input.entry)) result }
+    ensures { AnswersUnless (find_refusal (A.built automaton.now) (input_of input.entry))
+        (find_result (A.built automaton.now) (input_of input.entry)) result }
 {
     automaton.start_state(input.get_anchored())?;
     let (mut tape, mut looks) = open(&input);

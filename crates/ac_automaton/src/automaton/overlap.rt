@@ -1,8 +1,8 @@
 //! All occurrences, one after another: overlapping search by a state, and by an iterator.
 ghost use Rattle.std.specs.Prelude.{◌≡◌, ◌≢◌, ◌⊎◌, ℕ, ◌∷◌, ◌≤◌, List, [], None, Some, IfSome, MatchOption, MatchResult, length};
 ghost use Rattle.std.specs.Iterator.{item_count};
-ghost use Rattle.ac_automaton.specs.Util.{AnswersUnless, asked, overlapping_iter_refusal, overlapping_refusal, search_in, skip_of, Standard, start_refusal};
-ghost use Rattle.ac_automaton.specs.Overlaps.{GivesNext, IsPlaced, ListsNext, fresh, listing_begun};
+ghost use Rattle.ac_automaton.specs.Util.{AnswersUnless, input_of, overlapping_iter_refusal, overlapping_refusal, search_in, skip_of, Standard, start_refusal};
+ghost use Rattle.ac_automaton.specs.Overlaps.{GivesNext, IsPlaced, ListsNext, fresh, initial_listing};
 ghost use Rattle.ac_automaton.specs.Progress.{work_of};
 
 use super::Automaton;
@@ -92,13 +92,13 @@ pub(super) fn try_find_overlapping<A: Automaton>(
     input: Input<'_>,
     state: &mut OverlappingState,
 ) -> Result<(), MatchError>
-    requires placed { IsPlaced (A.stands automaton.now (asked input).anchored) (A.listed automaton.now)
-        (A.built automaton.now).kind (search_in (A.built automaton.now) (asked input)) state.old }
+    requires placed { IsPlaced (A.stands automaton.now (input_of input).anchored) (A.listed automaton.now)
+        (A.built automaton.now).kind (search_in (A.built automaton.now) (input_of input)) state.old }
     ensures { MatchResult result
-        (λ _. (overlapping_refusal (A.built automaton.now) (asked input.entry) ≡ None)
-        × GivesNext (A.stands automaton.now (asked input.entry).anchored) (A.listed automaton.now)
-        (A.built automaton.now).kind (search_in (A.built automaton.now) (asked input.entry)) state.old state.new)
-        (λ e. (overlapping_refusal (A.built automaton.now) (asked input.entry) ≡ Some e)
+        (λ _. (overlapping_refusal (A.built automaton.now) (input_of input.entry) ≡ None)
+        × GivesNext (A.stands automaton.now (input_of input.entry).anchored) (A.listed automaton.now)
+        (A.built automaton.now).kind (search_in (A.built automaton.now) (input_of input.entry)) state.old state.new)
+        (λ e. (overlapping_refusal (A.built automaton.now) (input_of input.entry) ≡ Some e)
         × (state.new ≡ state.old)) }
 {
     let anchored = input.get_anchored();
@@ -288,8 +288,8 @@ impl<'a, 'h, A: Automaton> FindOverlappingIter<'a, 'h, A> {
         automaton: &'a A,
         input: Input<'h>,
     ) -> Result<FindOverlappingIter<'a, 'h, A>, MatchError>
-        ensures { AnswersUnless (overlapping_iter_refusal (A.built automaton.now) (asked input.entry))
-            (listing_begun A.LOOKS (A.built automaton.now) (A.filters automaton.now) (asked input.entry)) result }
+        ensures { AnswersUnless (overlapping_iter_refusal (A.built automaton.now) (input_of input.entry))
+            (initial_listing A.LOOKS (A.built automaton.now) (A.filters automaton.now) (input_of input.entry)) result }
     {
         let anchored = input.get_anchored();
         let begun = start_of(automaton, anchored)?;

@@ -2,7 +2,7 @@
 ghost use Rattle.std.specs.Prelude.{◌≡◌, ◌≢◌, ◌⊎◌, ◌≤◌, ◌<◌, ◌+◌, ◌-◌, ◌*◌, MatchOption, MatchResult, None, Some, drop, false, true, if◌then◌else◌, length, max, min, slice_range, take, ⊤};
 ghost use Rattle.ac_automaton.specs.Util.{IsNear, IsStreamRefused, Reads, stream_refusal};
 ghost use Rattle.ac_automaton.specs.declared.automaton.stream.Phase.TheVariants.{Ended, Open};
-ghost use Rattle.ac_automaton.specs.Streams.{Fills, GivesEarly, GivesLast, GivesRead, StreamsOn, kept_from, kept_len, stream_begun};
+ghost use Rattle.ac_automaton.specs.Streams.{Fills, GivesEarly, GivesLast, GivesRead, StreamsOn, kept_from, kept_len, initial_stream};
 
 use super::Automaton;
 use super::scan::{Cursor, Scanner};
@@ -120,7 +120,7 @@ impl<'a, A: Automaton, Z: Allocator> StreamFinder<'a, A, Z> {
     /// `UnsupportedEmpty` where some pattern is empty; else `StreamError::Memory` where the memory for the buffer is refused.
     pub fn new(automaton: &'a A, alloc: Z) -> Result<StreamFinder<'a, A, Z>, StreamError>
         ensures { MatchResult result
-            (λ finder. (stream_refusal (A.built automaton.now) ≡ None) × (finder ≡ stream_begun (A.built automaton.now)))
+            (λ finder. (stream_refusal (A.built automaton.now) ≡ None) × (finder ≡ initial_stream (A.built automaton.now)))
             (IsStreamRefused (stream_refusal (A.built automaton.now)) ⊤) }
     {
         let start = automaton.start_state(Anchored::No)?;

@@ -2,7 +2,7 @@
 ghost use Rattle.std.specs.Prelude.{◌≡◌, MatchResult, None, ⊤};
 ghost use Rattle.std.specs.Iterator.{at_most};
 ghost use Rattle.ac_automaton.specs.Util.{IsStreamRefused, stream_refusal};
-ghost use Rattle.ac_automaton.specs.Streams.{GivesStreamItem, ReadsItem, items_left, kept_len, stream_begun};
+ghost use Rattle.ac_automaton.specs.Streams.{GivesStreamItem, ReadsItem, items_left, kept_len, initial_stream};
 
 use super::Automaton;
 use super::stream::StreamFinder;
@@ -40,7 +40,7 @@ impl<'a, A: Automaton, R: Source + Drop, Z: Allocator> StreamFindIter<'a, A, R, 
     ) -> Result<StreamFindIter<'a, A, R, Z>, StreamError>
         ensures { MatchResult result
             (λ matches. (stream_refusal (A.built automaton.now) ≡ None)
-            × (matches ≡ record { stream = stream_begun (A.built automaton.now); reader = R.told reader }))
+            × (matches ≡ record { stream = initial_stream (A.built automaton.now); reader = R.told reader }))
             (IsStreamRefused (stream_refusal (A.built automaton.now)) ⊤) }
     {
         let finder = StreamFinder::new(automaton, alloc)?;

@@ -1,9 +1,9 @@
 //! The matches of a walk, one after another.
 ghost use Rattle.std.specs.Prelude.{◌≡◌, ◌+◌, ◌<◌, ◌≤◌, ℕ, IfSome, length};
 ghost use Rattle.std.specs.Iterator.{item_count};
-ghost use Rattle.ac_automaton.specs.Util.{AnswersUnless, asked, find_refusal, next_match, repeats, Standard};
+ghost use Rattle.ac_automaton.specs.Util.{AnswersUnless, input_of, find_refusal, next_match, repeats, Standard};
 ghost use Rattle.ac_automaton.specs.Finds.{HasSearched};
-ghost use Rattle.ac_automaton.specs.Iterators.{Finds, GoesOn, after, begun, kept_place, walking_of};
+ghost use Rattle.ac_automaton.specs.Iterators.{Finds, GoesOn, after, initial_walk, kept_place, walking_of};
 ghost use Rattle.ac_automaton.specs.Progress.{search_of, work_of};
 
 use super::Automaton;
@@ -54,8 +54,8 @@ impl<'a, 'h, A: Automaton> FindIter<'a, 'h, A> {
     /// Returns what `Automaton::try_find_iter` does.
     #[inline]
     pub(super) fn new(automaton: &'a A, input: Input<'h>) -> Result<FindIter<'a, 'h, A>, MatchError>
-        ensures { AnswersUnless (find_refusal (A.built automaton.now) (asked input.entry))
-            (begun A.LOOKS (A.built automaton.now) (A.filters automaton.now) (asked input.entry)) result }
+        ensures { AnswersUnless (find_refusal (A.built automaton.now) (input_of input.entry))
+            (initial_walk A.LOOKS (A.built automaton.now) (A.filters automaton.now) (input_of input.entry)) result }
     {
         let finder = Finder::new(automaton, input.get_anchored(), input.get_earliest())?;
         let (tape, looks) = open(&input);

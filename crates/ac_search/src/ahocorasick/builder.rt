@@ -4,7 +4,7 @@ ghost use Rattle.ac_util.specs.declared.search.StartKind;
 ghost use Rattle.ac_util.specs.Borrowed.{bytes_of};
 ghost use Rattle.ac_automaton.specs.Builds.{IsRefused, RefusesBy};
 ghost use Rattle.ac_search.specs.Engines.{IsMadeFrom};
-ghost use Rattle.ac_search.specs.Searchers.{IsBuilt, chosen_from, engine_refusal, size_refusal, usual_settings};
+ghost use Rattle.ac_search.specs.Searchers.{IsBuilt, engine_chosen_from, engine_refusal, size_refusal, usual_settings};
 
 use super::AhoCorasick;
 use super::choice::{AhoCorasickKind, choose_kind};
@@ -191,7 +191,7 @@ impl AhoCorasickBuilder {
 
     /// Returns the engine that was named, or else the one that is chosen over this automaton.
     fn kind_over<A: Allocator>(&self, nfa: &noncontiguous::NFA<A>) -> AhoCorasickKind
-        ensures { result ≡ chosen_from self.now nfa.now.built }
+        ensures { result ≡ engine_chosen_from self.now nfa.now.built }
     {
         if let Some(kind) = self.kind {
             return kind;

@@ -1,7 +1,7 @@
 //! The engines of a searcher and their iterators. This file alone tells them apart.
 ghost use Rattle.std.specs.Prelude.{◌≡◌, ◌⊎◌, IfOk, MatchResult, None, length, string_bytes, ⊤};
-ghost use Rattle.ac_automaton.specs.Util.{AnswersUnless, AnswersWhole, asked, bytes_of, exchanged, exchanged_in_text, FailsToReplace, FailsToReplaceWith, find_refusal, found, IsStreamRefused, longest_len, MakesSteps, overlapping_iter_refusal, overlapping_refusal, replace_refusal, replaced, ReplacesStream, ReplacesStreamWith, search_in, shortest_len, StepsLead, stream_refusal};
-ghost use Rattle.ac_automaton.specs.Prelude.{begun, GivesRead, GoesOn, IsPlaced, kept_len, listing_begun, ListsNext, stream_begun, StreamsOn};
+ghost use Rattle.ac_automaton.specs.Util.{AnswersUnless, AnswersWhole, input_of, bytes_of, exchanged, exchanged_in_text, FailsToReplace, FailsToReplaceWith, find_refusal, find_result, IsStreamRefused, longest_len, MakesSteps, overlapping_iter_refusal, overlapping_refusal, replace_refusal, replaced, ReplacesStream, ReplacesStreamWith, search_in, shortest_len, StepsLead, stream_refusal};
+ghost use Rattle.ac_automaton.specs.Prelude.{initial_walk, GivesRead, GoesOn, IsPlaced, kept_len, initial_listing, ListsNext, initial_stream, StreamsOn};
 ghost use Rattle.ac_automaton.specs.Overlaps.{GivesNext};
 ghost use Rattle.ac_search.specs.Engines.{built_of, filters_of, listing_in, name_of, states_of, streaming_in, walking_in};
 ghost use Rattle.ac_search.specs.Searchers.{looks_allowed};
@@ -59,8 +59,8 @@ impl<A: Allocator> Engine<A> {
     /// Returns what `Automaton::try_find` does.
     #[inline]
     pub(super) fn try_find(&self, input: Input<'_>) -> Result<Option<Match>, MatchError>
-        ensures { AnswersUnless (find_refusal (built_of self.now) (asked input.entry))
-            (found (built_of self.now) (asked input.entry)) result }
+        ensures { AnswersUnless (find_refusal (built_of self.now) (input_of input.entry))
+            (find_result (built_of self.now) (input_of input.entry)) result }
     {
         match self {
             Engine::Noncontiguous(nfa) => nfa.as_ref().try_find(input),
@@ -76,10 +76,10 @@ impl<A: Allocator> Engine<A> {
         input: Input<'h>,
     ) -> Result<EngineFindIter<'a, 'h, A>, MatchError>
         ensures { MatchResult result
-            (λ matches. AnswersUnless (find_refusal (built_of self.now) (asked input.entry))
-            (begun (looks_allowed (name_of self.now)) (built_of self.now) (filters_of self.now) (asked input.entry))
+            (λ matches. AnswersUnless (find_refusal (built_of self.now) (input_of input.entry))
+            (initial_walk (looks_allowed (name_of self.now)) (built_of self.now) (filters_of self.now) (input_of input.entry))
             (Ok (walking_in matches)))
-            (λ e. find_refusal (built_of self.now) (asked input.entry) ≡ Some e) }
+            (λ e. find_refusal (built_of self.now) (input_of input.entry) ≡ Some e) }
     {
         match self {
             Engine::Noncontiguous(nfa) => {
@@ -104,15 +104,15 @@ impl<A: Allocator> Engine<A> {
         input: Input<'_>,
         state: &mut OverlappingState,
     ) -> Result<(), MatchError>
-        requires placed { IsPlaced (stands_in (states_of self.now) (asked input).anchored)
-            (listed_in (states_of self.now)) (built_of self.now).kind (search_in (built_of self.now) (asked input))
+        requires placed { IsPlaced (stands_in (states_of self.now) (input_of input).anchored)
+            (listed_in (states_of self.now)) (built_of self.now).kind (search_in (built_of self.now) (input_of input))
             state.old }
         ensures { MatchResult result
-            (λ _. (overlapping_refusal (built_of self.now) (asked input.entry) ≡ None)
-            × GivesNext (stands_in (states_of self.now) (asked input.entry).anchored)
+            (λ _. (overlapping_refusal (built_of self.now) (input_of input.entry) ≡ None)
+            × GivesNext (stands_in (states_of self.now) (input_of input.entry).anchored)
             (listed_in (states_of self.now)) (built_of self.now).kind
-            (search_in (built_of self.now) (asked input.entry)) state.old state.new)
-            (λ e. (overlapping_refusal (built_of self.now) (asked input.entry) ≡ Some e)
+            (search_in (built_of self.now) (input_of input.entry)) state.old state.new)
+            (λ e. (overlapping_refusal (built_of self.now) (input_of input.entry) ≡ Some e)
             × (state.new ≡ state.old)) }
     {
         match self {
@@ -129,10 +129,10 @@ impl<A: Allocator> Engine<A> {
         input: Input<'h>,
     ) -> Result<EngineFindOverlappingIter<'a, 'h, A>, MatchError>
         ensures { MatchResult result
-            (λ items. AnswersUnless (overlapping_iter_refusal (built_of self.now) (asked input.entry))
-            (listing_begun (looks_allowed (name_of self.now)) (built_of self.now) (filters_of self.now)
-            (asked input.entry)) (Ok (listing_in items)))
-            (λ e. overlapping_iter_refusal (built_of self.now) (asked input.entry) ≡ Some e) }
+            (λ items. AnswersUnless (overlapping_iter_refusal (built_of self.now) (input_of input.entry))
+            (initial_listing (looks_allowed (name_of self.now)) (built_of self.now) (filters_of self.now)
+            (input_of input.entry)) (Ok (listing_in items)))
+            (λ e. overlapping_iter_refusal (built_of self.now) (input_of input.entry) ≡ Some e) }
     {
         match self {
             Engine::Noncontiguous(nfa) => {
@@ -318,7 +318,7 @@ impl<A: Allocator> Engine<A> {
     ) -> Result<EngineStreamFinder<'_, A, Z>, StreamError>
         ensures { MatchResult result
             (λ finder. (stream_refusal (built_of self.now) ≡ None)
-            × (streaming_in finder ≡ stream_begun (built_of self.now)))
+            × (streaming_in finder ≡ initial_stream (built_of self.now)))
             (IsStreamRefused (stream_refusal (built_of self.now)) ⊤) }
     {
         match self {

@@ -4,8 +4,8 @@ ghost use Rattle.std.specs.Prelude.{List, [], ◌∷◌, All, Contains, AllPairs
 ghost use Rattle.std.specs.Prelude.{slice_index, Option, None, Some};
 ghost use Rattle.std.specs.Str.{IsCharBoundary, IsUtf8};
 ghost use Rattle.ac_util.specs.declared.search.MatchKind.{MatchKind};
-ghost use Rattle.ac_util.specs.Built.{Built, found, has_empty, search_in, walked};
-ghost use Rattle.ac_util.specs.Asked.{Asked, asked_whole};
+ghost use Rattle.ac_util.specs.Built.{Built, find_result, has_empty, search_in, walk_result};
+ghost use Rattle.ac_util.specs.InputView.{InputView, whole_input};
 ghost use Rattle.ac_util.specs.Inside.{LiesIn};
 ghost use Rattle.ac_util.specs.Listing.{all, IsBefore, item_at, place_after};
 ghost use Rattle.ac_util.specs.Node.{is_leftmost};
@@ -15,9 +15,9 @@ ghost use Rattle.ac_util.specs.Replaced.{exchanged_from, is_char_boundary, repla
 ghost use Rattle.ac_util.specs.Sameness.{AreOneLetter, IsSame, same_byte, same_string};
 ghost use Rattle.ac_util.specs.Search.{Occurs, Search, from, occurs, pattern_of};
 ghost use Rattle.ac_util.specs.declared.error.ReplaceError.{ReplaceError};
-ghost use Rattle.ac_util.specs.Replacement.{AlwaysWrites, AppendsAll, AppendsBeginning, Calls, OnlyAppends, Replacing, ReplacementSteps, WritesText, asked_by};
+ghost use Rattle.ac_util.specs.Replacement.{AlwaysWrites, AppendsAll, AppendsBeginning, Calls, OnlyAppends, Replacing, ReplacementSteps, WritesText, answer_of};
 ghost use Rattle.ac_util.specs.Settled.{IsSettledAt, NoneOpen};
-ghost use Rattle.ac_util.specs.Stream.{streamed};
+ghost use Rattle.ac_util.specs.Stream.{stream_result};
 ghost use Rattle.ac_util.specs.Text.{cut, outward};
 ghost use Rattle.ac_util.specs.Texts.{AreTexts, IsBetweenCharacters};
 ghost use Rattle.ac_util.specs.Walk.{IsAfter, next_match, walk, walk_after};
@@ -77,19 +77,19 @@ pub fn only_the_span_counts()
 /// of a pattern, and that pattern's length and bytes. Call this where a haystack is sliced at a match, or a
 /// list is indexed by its pattern.
 pub fn matches_lie_inside()
-    ensures find { (built : Built) (asked : Asked) (m : Occurrence) → asked.end ≤ length asked.haystack
-        → found built asked ≡ Some m → LiesIn built asked m }
-    ensures walk { (built : Built) (asked : Asked) → asked.end ≤ length asked.haystack
-        → All (LiesIn built asked) (walked built asked) }
-    ensures listing { (built : Built) (asked : Asked) → asked.end ≤ length asked.haystack
-        → All (LiesIn built asked) (all (search_in built asked)) }
+    ensures find { (built : Built) (input : InputView) (m : Occurrence) → input.end ≤ length input.haystack
+        → find_result built input ≡ Some m → LiesIn built input m }
+    ensures walk { (built : Built) (input : InputView) → input.end ≤ length input.haystack
+        → All (LiesIn built input) (walk_result built input) }
+    ensures listing { (built : Built) (input : InputView) → input.end ≤ length input.haystack
+        → All (LiesIn built input) (all (search_in built input)) }
 {}
 
 /// Where the haystack and all patterns are texts, and no pattern is empty, a match starts and ends between
 /// characters, whether case counts or not. Call this where a `str` is sliced at a match.
 pub fn matches_cut_no_character()
-    ensures { (built : Built) (asked : Asked) (m : Occurrence) → AreTexts built.patterns
-        → IsUtf8 asked.haystack → LiesIn built asked m → IsBetweenCharacters asked.haystack m }
+    ensures { (built : Built) (input : InputView) (m : Occurrence) → AreTexts built.patterns
+        → IsUtf8 input.haystack → LiesIn built input m → IsBetweenCharacters input.haystack m }
 {}
 
 /// The pick is the one answer that its relation allows; under Standard it is the first of the listing.
@@ -106,10 +106,10 @@ pub fn earliest_is_standard()
         → order_of MatchKind.Standard earliest ≡ MatchKind.Standard }
     ensures others { (kind : MatchKind) → order_of kind true ≡ MatchKind.Standard }
     ensures unasked { (kind : MatchKind) → order_of kind false ≡ kind }
-    ensures find { (built : Built) (asked : Asked) → found built (record asked { earliest = true })
-        ≡ found (record built { kind = MatchKind.Standard }) (record asked { earliest = false }) }
-    ensures walk { (built : Built) (asked : Asked) → walked built (record asked { earliest = true })
-        ≡ walked (record built { kind = MatchKind.Standard }) (record asked { earliest = false }) }
+    ensures find { (built : Built) (input : InputView) → find_result built (record input { earliest = true })
+        ≡ find_result (record built { kind = MatchKind.Standard }) (record input { earliest = false }) }
+    ensures walk { (built : Built) (input : InputView) → walk_result built (record input { earliest = true })
+        ≡ walk_result (record built { kind = MatchKind.Standard }) (record input { earliest = false }) }
 {}
 
 /// The walk ends where there is no next match; else it is that match, and then the walk from its end on.
@@ -129,7 +129,7 @@ pub fn walk_is_in_order()
 
 /// A walk has at most one match more than the span has bytes. Call this where matches are counted.
 pub fn walk_is_short()
-    ensures { (built : Built) (asked : Asked) → length (walked built asked) ≤ asked.end + 1 - asked.start }
+    ensures { (built : Built) (input : InputView) → length (walk_result built input) ≤ input.end + 1 - input.start }
 {}
 
 /// Under Standard the walk over a beginning of the span is those matches of the whole walk that end within it.
@@ -143,7 +143,7 @@ pub fn walk_has_beginnings()
 /// whatever the read brings.
 pub fn stream_goes_on()
     ensures { (built : Built) (bytes more : List ℕ) → built.kind ≡ MatchKind.Standard
-        → take (length (streamed built bytes)) (streamed built (bytes ++ more)) ≡ streamed built bytes }
+        → take (length (stream_result built bytes)) (stream_result built (bytes ++ more)) ≡ stream_result built bytes }
 {}
 
 /// Under a leftmost kind without an empty pattern the matches by which a stream is settled stay as more of it comes, and no
@@ -152,11 +152,11 @@ pub fn stream_goes_on()
 pub fn settled_stays()
     ensures stays { (built : Built) (bytes more : List ℕ) (given place : ℕ) → is_leftmost built.kind ≡ true
         → has_empty built ≡ false → IsSettledAt built bytes given place
-        → (take given (streamed built (bytes ++ more)) ≡ take given (streamed built bytes))
-        × All (λ m. place ≤ m.start) (drop given (streamed built (bytes ++ more))) }
+        → (take given (stream_result built (bytes ++ more)) ≡ take given (stream_result built bytes))
+        × All (λ m. place ≤ m.start) (drop given (stream_result built (bytes ++ more))) }
     ensures decided { (built : Built) (bytes : List ℕ) (low : ℕ) (m : Occurrence) → is_leftmost built.kind ≡ true
         → m.end ≤ length bytes
-        → ((more : List ℕ) → pick built.kind (from (search_in built (asked_whole (bytes ++ more))) low) ≡ Some m)
+        → ((more : List ℕ) → pick built.kind (from (search_in built (whole_input (bytes ++ more))) low) ≡ Some m)
         → NoneOpen built bytes low (m.start + 1) }
 {}
 
@@ -165,15 +165,15 @@ pub fn settled_stays()
 pub fn steps_replace()
     ensures whole { (haystack : List ℕ) (texts : List (List ℕ)) (ms : List Occurrence)
         (s t : Replacing (Unit {0}) (List ℕ))
-        → ReplacementSteps (AppendsBeginning {E = AllocError} (λ d. d)) (WritesText texts) asked_by haystack 0 ms s None t
+        → ReplacementSteps (AppendsBeginning {E = AllocError} (λ d. d)) (WritesText texts) answer_of haystack 0 ms s None t
         → t.destination ≡ s.destination ++ replaced haystack texts ms }
     ensures begun { (haystack : List ℕ) (texts : List (List ℕ)) (ms : List Occurrence)
         (s t : Replacing (Unit {0}) (List ℕ)) (end : Option AllocError)
-        → ReplacementSteps (AppendsBeginning (λ d. d)) (WritesText texts) asked_by haystack 0 ms s end t
+        → ReplacementSteps (AppendsBeginning (λ d. d)) (WritesText texts) answer_of haystack 0 ms s end t
         → (rest : List ℕ) × (t.destination ++ rest ≡ s.destination ++ replaced haystack texts ms) }
     ensures kept { (haystack : List ℕ) (texts : List (List ℕ)) (ms : List Occurrence)
         (s t : Replacing (Unit {0}) (List ℕ)) (end : Option AllocError)
-        → ReplacementSteps (AppendsBeginning (λ d. d)) (WritesText texts) asked_by haystack 0 ms s end t
+        → ReplacementSteps (AppendsBeginning (λ d. d)) (WritesText texts) answer_of haystack 0 ms s end t
         → (more : List ℕ) × (t.destination ≡ s.destination ++ more) }
 {}
 
@@ -184,15 +184,15 @@ pub fn steps_replace()
 pub fn closure_exchanges<D, F: FnMut(&Match, &[u8], &mut D) -> bool>(_closure: &F)
     ensures whole { (haystack : List ℕ) (holds : D → List ℕ) (write : Occurrence → List ℕ → List ℕ)
         (ms : List Occurrence) (s t : Replacing F D) → AlwaysWrites (Calls F.FnMut) holds write
-        → ReplacementSteps (AppendsAll {E = ReplaceError} holds) (Calls F.FnMut) asked_by haystack 0 ms s None t
+        → ReplacementSteps (AppendsAll {E = ReplaceError} holds) (Calls F.FnMut) answer_of haystack 0 ms s None t
         → holds t.destination ≡ holds s.destination ++ exchanged_from haystack write 0 ms }
     ensures begun { (haystack : List ℕ) (holds : D → List ℕ) (write : Occurrence → List ℕ → List ℕ)
         (ms : List Occurrence) (s t : Replacing F D) (end : Option ReplaceError) → AlwaysWrites (Calls F.FnMut) holds write
-        → ReplacementSteps (AppendsAll holds) (Calls F.FnMut) asked_by haystack 0 ms s end t
+        → ReplacementSteps (AppendsAll holds) (Calls F.FnMut) answer_of haystack 0 ms s end t
         → (rest : List ℕ) × (holds t.destination ++ rest ≡ holds s.destination ++ exchanged_from haystack write 0 ms) }
     ensures kept { (haystack : List ℕ) (holds : D → List ℕ) (ms : List Occurrence) (s t : Replacing F D)
         (end : Option ReplaceError) → OnlyAppends (Calls F.FnMut) holds
-        → ReplacementSteps (AppendsAll holds) (Calls F.FnMut) asked_by haystack 0 ms s end t
+        → ReplacementSteps (AppendsAll holds) (Calls F.FnMut) answer_of haystack 0 ms s end t
         → (more : List ℕ) × (holds t.destination ≡ holds s.destination ++ more) }
 {}
 
@@ -200,14 +200,14 @@ pub fn closure_exchanges<D, F: FnMut(&Match, &[u8], &mut D) -> bool>(_closure: &
 pub fn text_closure_exchanges<D, F: FnMut(&Match, &str, &mut D) -> bool>(_closure: &F)
     ensures whole { (text : List ℕ) (holds : D → List ℕ) (write : Occurrence → List ℕ → List ℕ)
         (ms : List Occurrence) (s t : Replacing F D) → AlwaysWrites (Calls F.FnMut) holds write
-        → ReplacementSteps (AppendsAll {E = ReplaceError} holds) (Calls F.FnMut) asked_by text 0 ms s None t
+        → ReplacementSteps (AppendsAll {E = ReplaceError} holds) (Calls F.FnMut) answer_of text 0 ms s None t
         → holds t.destination ≡ holds s.destination ++ exchanged_from text write 0 ms }
     ensures begun { (text : List ℕ) (holds : D → List ℕ) (write : Occurrence → List ℕ → List ℕ)
         (ms : List Occurrence) (s t : Replacing F D) (end : Option ReplaceError) → AlwaysWrites (Calls F.FnMut) holds write
-        → ReplacementSteps (AppendsAll holds) (Calls F.FnMut) asked_by text 0 ms s end t
+        → ReplacementSteps (AppendsAll holds) (Calls F.FnMut) answer_of text 0 ms s end t
         → (rest : List ℕ) × (holds t.destination ++ rest ≡ holds s.destination ++ exchanged_from text write 0 ms) }
     ensures kept { (text : List ℕ) (holds : D → List ℕ) (ms : List Occurrence) (s t : Replacing F D)
         (end : Option ReplaceError) → OnlyAppends (Calls F.FnMut) holds
-        → ReplacementSteps (AppendsAll holds) (Calls F.FnMut) asked_by text 0 ms s end t
+        → ReplacementSteps (AppendsAll holds) (Calls F.FnMut) answer_of text 0 ms s end t
         → (more : List ℕ) × (holds t.destination ≡ holds s.destination ++ more) }
 {}

@@ -14,7 +14,7 @@ ghost use Rattle.ac_util.specs.declared.search.Span.{Span};
 ghost use Rattle.ac_util.specs.declared.search.input.Input.{Input as AnInput};
 ghost use Rattle.ac_util.specs.declared.search.StartKind.{StartKind};
 ghost use Rattle.ac_util.specs.Classes.{AreClasses, IsLawful, SetsApart, alphabet_len, class_at, class_of, classes_of, singletons, is_in_patterns, stride, stride2};
-ghost use Rattle.ac_util.specs.Inputs.{asked};
+ghost use Rattle.ac_util.specs.Inputs.{input_of};
 ghost use Rattle.ac_util.specs.Node.{is_node};
 ghost use Rattle.ac_util.specs.Sameness.{plain, plain_byte};
 ghost use Rattle.ac_util.specs.Occurrence.{Occurrence};
@@ -42,7 +42,7 @@ pub fn clones_are_equal()
     ensures plain { (a b : ℕ) → ⟦<SmallIndex as Clone>⟧.is_clone a b → b ≡ a }
     ensures matches { (a b : Occurrence) → ⟦<Match as Clone>⟧.is_clone a b → b ≡ a }
     ensures spans { (a b : Span) → ⟦<Span as Clone>⟧.is_clone a b → b ≡ a }
-    ensures inputs { (a b : AnInput) → ⟦<Input<'static> as Clone>⟧.is_clone a b → asked b ≡ asked a }
+    ensures inputs { (a b : AnInput) → ⟦<Input<'static> as Clone>⟧.is_clone a b → input_of b ≡ input_of a }
     ensures kinds { (a b : MatchKind) → ⟦<MatchKind as Clone>⟧.is_clone a b → b ≡ a }
     ensures starts { (a b : StartKind) → ⟦<StartKind as Clone>⟧.is_clone a b → b ≡ a }
     ensures anchorings { (a b : Anchored) → ⟦<Anchored as Clone>⟧.is_clone a b → b ≡ a }

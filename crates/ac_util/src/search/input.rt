@@ -25,13 +25,13 @@ pub struct Input<'h> {
 }
 
 impl<'h> Input<'h> {
-    ghost use Rattle.ac_util.specs.Asked.{IsLegal, asked_whole};
-    ghost use Rattle.ac_util.specs.Inputs.{asked};
+    ghost use Rattle.ac_util.specs.InputView.{IsLegal, whole_input};
+    ghost use Rattle.ac_util.specs.Inputs.{input_of};
 
     /// Returns an input that searches all of a haystack, unanchored and not for the earliest end.
     #[inline]
     pub fn new(haystack: &'h [u8]) -> Input<'h>
-        ensures value { asked result ≡ asked_whole haystack.now }
+        ensures value { input_of result ≡ whole_input haystack.now }
     {
         Input {
             haystack,
@@ -45,7 +45,7 @@ impl<'h> Input<'h> {
     /// Returns an input that searches all of a text. Places count its bytes, not its characters.
     #[inline]
     pub fn of_text(text: &'h str) -> Input<'h>
-        ensures value { asked result ≡ asked_whole text.now }
+        ensures value { input_of result ≡ whole_input text.now }
     {
         Input::new(text.as_bytes())
     }
@@ -55,8 +55,8 @@ impl<'h> Input<'h> {
     /// The span has to end within the haystack, and to start no later than one past its end.
     #[inline]
     pub fn span(mut self, span: Span) -> Input<'h>
-        requires legal { IsLegal (asked self).haystack span.start span.end }
-        ensures value { asked result ≡ record (asked self.entry) { start = span.start; end = span.end } }
+        requires legal { IsLegal (input_of self).haystack span.start span.end }
+        ensures value { input_of result ≡ record (input_of self.entry) { start = span.start; end = span.end } }
     {
         self.set_span(span);
         self
@@ -65,8 +65,8 @@ impl<'h> Input<'h> {
     /// Returns the input with the span of this range.
     #[inline]
     pub fn range(mut self, range: Range<usize>) -> Input<'h>
-        requires legal { IsLegal (asked self).haystack range.start range.end }
-        ensures value { asked result ≡ record (asked self.entry) { start = range.start; end = range.end } }
+        requires legal { IsLegal (input_of self).haystack range.start range.end }
+        ensures value { input_of result ≡ record (input_of self.entry) { start = range.start; end = range.end } }
     {
         self.set_range(range);
         self
@@ -75,7 +75,7 @@ impl<'h> Input<'h> {
     /// Returns the input anchored, or not. Unanchored unless set.
     #[inline]
     pub fn anchored(mut self, mode: Anchored) -> Input<'h>
-        ensures value { asked result ≡ record (asked self.entry) { anchored = mode } }
+        ensures value { input_of result ≡ record (input_of self.entry) { anchored = mode } }
     {
         self.set_anchored(mode);
         self
@@ -86,7 +86,7 @@ impl<'h> Input<'h> {
     /// A search that asks for it answers what `MatchKind::Standard` picks, under every match kind.
     #[inline]
     pub fn earliest(mut self, yes: bool) -> Input<'h>
-        ensures value { asked result ≡ record (asked self.entry) { earliest = yes } }
+        ensures value { input_of result ≡ record (input_of self.entry) { earliest = yes } }
     {
         self.set_earliest(yes);
         self
@@ -95,8 +95,8 @@ impl<'h> Input<'h> {
     /// Sets the span, which has to end within the haystack and to start no later than one past its end.
     #[inline]
     pub fn set_span(&mut self, span: Span)
-        requires legal { IsLegal (asked self.old).haystack span.start span.end }
-        ensures value { asked self.new ≡ record (asked self.old) { start = span.start; end = span.end } }
+        requires legal { IsLegal (input_of self.old).haystack span.start span.end }
+        ensures value { input_of self.new ≡ record (input_of self.old) { start = span.start; end = span.end } }
     {
         let Input {
             haystack,
@@ -116,8 +116,8 @@ impl<'h> Input<'h> {
     /// Sets the span to that of this range.
     #[inline]
     pub fn set_range(&mut self, range: Range<usize>)
-        requires legal { IsLegal (asked self.old).haystack range.start range.end }
-        ensures value { asked self.new ≡ record (asked self.old) { start = range.start; end = range.end } }
+        requires legal { IsLegal (input_of self.old).haystack range.start range.end }
+        ensures value { input_of self.new ≡ record (input_of self.old) { start = range.start; end = range.end } }
     {
         self.set_span(Span {
             start: range.start,
@@ -128,8 +128,8 @@ impl<'h> Input<'h> {
     /// Sets where the span starts: no later than one past its end.
     #[inline]
     pub fn set_start(&mut self, start: usize)
-        requires legal { start ≤ (asked self.old).end + 1 }
-        ensures value { asked self.new ≡ record (asked self.old) { start = start } }
+        requires legal { start ≤ (input_of self.old).end + 1 }
+        ensures value { input_of self.new ≡ record (input_of self.old) { start = start } }
     {
         self.start = start;
     }
@@ -137,8 +137,8 @@ impl<'h> Input<'h> {
     /// Sets where the span ends: within the haystack, and no earlier than one before its start.
     #[inline]
     pub fn set_end(&mut self, end: usize)
-        requires legal { IsLegal (asked self.old).haystack (asked self.old).start end }
-        ensures value { asked self.new ≡ record (asked self.old) { end = end } }
+        requires legal { IsLegal (input_of self.old).haystack (input_of self.old).start end }
+        ensures value { input_of self.new ≡ record (input_of self.old) { end = end } }
     {
         self.set_span(Span {
             start: self.start,
@@ -149,7 +149,7 @@ impl<'h> Input<'h> {
     /// Sets whether a match must start where the span does.
     #[inline]
     pub fn set_anchored(&mut self, mode: Anchored)
-        ensures value { asked self.new ≡ record (asked self.old) { anchored = mode } }
+        ensures value { input_of self.new ≡ record (input_of self.old) { anchored = mode } }
     {
         self.anchored = mode;
     }
@@ -157,7 +157,7 @@ impl<'h> Input<'h> {
     /// Sets whether the search ends at the earliest place at which some match is known.
     #[inline]
     pub fn set_earliest(&mut self, yes: bool)
-        ensures value { asked self.new ≡ record (asked self.old) { earliest = yes } }
+        ensures value { input_of self.new ≡ record (input_of self.old) { earliest = yes } }
     {
         self.earliest = yes;
     }
@@ -165,7 +165,7 @@ impl<'h> Input<'h> {
     /// Returns the whole haystack, also what lies outside the span.
     #[inline]
     pub fn haystack(&self) -> &'h [u8]
-        ensures { result.now ≡ (asked self.now).haystack }
+        ensures { result.now ≡ (input_of self.now).haystack }
     {
         self.haystack
     }
@@ -173,7 +173,7 @@ impl<'h> Input<'h> {
     /// Returns where the span starts.
     #[inline]
     pub fn start(&self) -> usize
-        ensures { result ≡ (asked self.now).start }
+        ensures { result ≡ (input_of self.now).start }
     {
         self.start
     }
@@ -181,7 +181,7 @@ impl<'h> Input<'h> {
     /// Returns where the span ends.
     #[inline]
     pub fn end(&self) -> usize
-        ensures { result ≡ (asked self.now).end }
+        ensures { result ≡ (input_of self.now).end }
     {
         self.end
     }
@@ -189,7 +189,7 @@ impl<'h> Input<'h> {
     /// Returns the span.
     #[inline]
     pub fn get_span(&self) -> Span
-        ensures { result ≡ record { start = (asked self.now).start; end = (asked self.now).end } }
+        ensures { result ≡ record { start = (input_of self.now).start; end = (input_of self.now).end } }
     {
         Span {
             start: self.start,
@@ -200,8 +200,8 @@ impl<'h> Input<'h> {
     /// Returns the span as a range.
     #[inline]
     pub fn get_range(&self) -> Range<usize>
-        ensures start { result.start ≡ (asked self.now).start }
-        ensures end { result.end ≡ (asked self.now).end }
+        ensures start { result.start ≡ (input_of self.now).start }
+        ensures end { result.end ≡ (input_of self.now).end }
     {
         self.start..self.end
     }
@@ -209,7 +209,7 @@ impl<'h> Input<'h> {
     /// Returns whether a match must start where the span does.
     #[inline]
     pub fn get_anchored(&self) -> Anchored
-        ensures { result ≡ (asked self.now).anchored }
+        ensures { result ≡ (input_of self.now).anchored }
     {
         self.anchored
     }
@@ -217,7 +217,7 @@ impl<'h> Input<'h> {
     /// Returns whether the search ends at the earliest place at which some match is known.
     #[inline]
     pub fn get_earliest(&self) -> bool
-        ensures { result ≡ (asked self.now).earliest }
+        ensures { result ≡ (input_of self.now).earliest }
     {
         self.earliest
     }
@@ -225,7 +225,7 @@ impl<'h> Input<'h> {
     /// Returns whether the span starts past its end, so that nothing can be found.
     #[inline]
     pub fn is_done(&self) -> bool
-        ensures { IsTrue result ↔ ((asked self.now).end < (asked self.now).start) }
+        ensures { IsTrue result ↔ ((input_of self.now).end < (input_of self.now).start) }
     {
         self.start > self.end
     }

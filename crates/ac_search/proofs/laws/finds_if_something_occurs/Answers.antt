@@ -3,4 +3,4 @@ use Rattle.ac_search.proofs.SomeMatch.{picked-something}
 use Rattle.ac_search.proofs.laws.finds_if_something_occurs.Goals as goal
 
 pub returns : goal.returns
-returns c = λ built asked. picked-something (order_of built.kind asked.earliest) (search_in built asked)
+returns c = λ built input. picked-something (order_of built.kind input.earliest) (search_in built input)

@@ -1,6 +1,6 @@
 use Rattle.std.proofs.Common.{◌≡◌, [], ap, sym, subst, ◌∙◌, inl, inr, Option, Some, MatchOption, rules}
 use Rattle.std.proofs.lemmas.Bool.{cases_lt, false≢true}
-use Rattle.ac_automaton.specs.Util.{asked, search_in, Span}
+use Rattle.ac_automaton.specs.Util.{input_of, search_in, Span}
 use Rattle.ac_util.specs.declared.search.Anchored.{Anchored}
 use Rattle.ac_automaton.specs.Prelude.{in_memory, place_by, Reached, Scan, scan_by}
 use Rattle.ac_automaton.proofs.ListLoop.{arrived}
@@ -17,16 +17,16 @@ module _ (g : Over) (c : After-open-tape g) where
   s =
       let automaton = c.args.automaton.now in
       scan_by (g.A.Automaton.stands automaton) (g.A.Automaton.listed automaton) (g.A.Automaton.built automaton)
-      g.A.Automaton.LOOKS (g.A.Automaton.filters automaton) (asked c.args.input).anchored
+      g.A.Automaton.LOOKS (g.A.Automaton.filters automaton) (input_of c.args.input).anchored
 
   abbrev span : Span
-  span = record { start = (asked c.args.input).start; end = (asked c.args.input).end }
+  span = record { start = (input_of c.args.input).start; end = (input_of c.args.input).end }
 
   -- where the listing goes on
-  goes_on : GoesOnFrom s (in_memory (asked c.args.input).haystack span)
-      (place_by s.listed (search_in s.built (asked c.args.input)) c.args.state.now) c.match-state.reached
+  goes_on : GoesOnFrom s (in_memory (input_of c.args.input).haystack span)
+      (place_by s.listed (search_in s.built (input_of c.args.input)) c.args.state.now) c.match-state.reached
   goes_on =
-      let input = asked c.args.input in
+      let input = input_of c.args.input in
       let here = c.match-state.reached in
       let start = c.in_ok-start.start in
       let Goes : Option Reached → Type 0 =
@@ -54,7 +54,7 @@ next_item-found-requires-clause-listed g c = search (rules, goes_on)
 pub returns : goal.returns
 returns g c =
     let o = (goal.at.returns g c).After-open-tape in
-    let input = asked c.args.input in (
+    let input = input_of c.args.input in (
       by_state-served (s g o).built input
           (rw (sym c.get_anchored-anchored.ensures) c.in_ok-start.ensures.0)
           (c.in_ok-start.ensures.1),

@@ -1,7 +1,7 @@
 use Rattle.std.proofs.Common.{◌≡◌, ◌∙◌, ◌++◌, ℕ, true, [], List, ap, arith, refl, sym, subst, length, of_calls, rules, string_bytes}
 use Rattle.std.specs.Str.{IsCharBoundary}
 use Rattle.std.proofs.lemmas.Str.{IsCharBoundary-start}
-use Rattle.ac_automaton.specs.Util.{asked, exchanged_in_text, is_whole, Occurrence, replace_refusal, StepsLead, whole_characters}
+use Rattle.ac_automaton.specs.Util.{input_of, exchanged_in_text, is_whole, Occurrence, replace_refusal, StepsLead, whole_characters}
 use Rattle.ac_util.proofs.Exchanges.{AreInOrder, exchanged-in_order, in_order-earlier, is_whole-ends, whole_characters-skip, whole_characters-take}
 use Rattle.ac_automaton.proofs.Exchanging.{LeadsOn, leads-begin, leads-end, leads-end_refused, leads-out, leads-refused, leads-skip, leads-stop, leads-turn, stops-by_memory, unrefused}
 use Rattle.ac_automaton.proofs.automaton.replace.try_replace_all_with.Goals as goal
@@ -20,7 +20,7 @@ returns-in_err-push_str g c =
     (λ end. StepsLead g.F.FnMut (λ d. string_bytes d) text (exchanged_in_text built text) c.args.exchange
     c.args.destination.now end c.push_str.new.self) (c.push_str.new.self ≡ c.args.destination.now)
     c.from_residual-in_err-push_str.result c.from_residual-in_err-push_str.ensures.1
-    (unrefused built text (asked c.of_text.result) c.of_text.ensures.value c.in_ok-matches.ensures.0)
+    (unrefused built text (input_of c.of_text.result) c.of_text.ensures.value c.in_ok-matches.ensures.0)
     (leads-refused c.in-Some.found (whole_characters text c.next.new.self.rest) c.loop-found.invariant.5
     (ap (whole_characters text) c.in-Some.ensures.steps.gives
     ∙ whole_characters-take text c.in-Some.found c.next.new.self.rest
@@ -119,7 +119,7 @@ returns-in_err-push_str-2 g c =
     (λ end. StepsLead g.F.FnMut (λ d. string_bytes d) text (exchanged_in_text built text) c.args.exchange
     c.args.destination.now end c.push_str-2.new.self) (c.push_str-2.new.self ≡ c.args.destination.now)
     c.from_residual-in_err-push_str-2.result c.from_residual-in_err-push_str-2.ensures.1
-    (unrefused built text (asked c.of_text.result) c.of_text.ensures.value c.in_ok-matches.ensures.0)
+    (unrefused built text (input_of c.of_text.result) c.of_text.ensures.value c.in_ok-matches.ensures.0)
     (leads-end_refused c.push_str-2.new.self leads c.in_err-push_str-2.ensures.bytes)
 
 -- what follows the last match was appended
@@ -152,7 +152,7 @@ returns g c =
             leaves = refl;
           }) w.if-not-exchange.true) refl w.place-is w.exchange-is w.destination-is
     ] in (
-      unrefused built text (asked c.of_text.result) c.of_text.ensures.value c.in_ok-matches.ensures.0,
+      unrefused built text (input_of c.of_text.result) c.of_text.ensures.value c.in_ok-matches.ensures.0,
       leads-end c.push_str-2.new.self leads (c.in_ok-push_str-2.ensures.bytes
           ∙ ap (λ (rest : List ℕ). string_bytes c.match-next.destination ++ rest) c.range_from.ensures.value),
     )

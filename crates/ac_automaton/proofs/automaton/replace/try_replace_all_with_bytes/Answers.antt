@@ -1,6 +1,6 @@
 use Rattle.std.proofs.Common.{◌≡◌, ◌∙◌, ◌++◌, ℕ, [], List, ap, refl, sym, subst, length, of_calls, rules, arith}
 use Rattle.std.proofs.lemmas.Grind.{common_steps}
-use Rattle.ac_automaton.specs.Util.{asked, exchanged, Occurrence, replace_refusal, StepsLead}
+use Rattle.ac_automaton.specs.Util.{input_of, exchanged, Occurrence, replace_refusal, StepsLead}
 use Rattle.ac_util.proofs.Exchanges.{AreInOrder, exchanged-in_order}
 use Rattle.ac_automaton.proofs.Exchanging.{LeadsOn, leads-begin, leads-end, leads-end_refused, leads-out, leads-refused, leads-stop, leads-turn, slice_to_end, stops-by_memory, unrefused}
 use Rattle.ac_automaton.proofs.automaton.replace.try_replace_all_with_bytes.Goals as goal
@@ -12,7 +12,7 @@ loop-found-init g c = search (rules, exchanged-in_order, leads-begin)
 
 -- the gap was refused
 pub returns-in_err-extend_from_slice : goal.returns-in_err-extend_from_slice
-returns-in_err-extend_from_slice g c = grind (arith, common_steps, stops-by_memory, unrefused (g.A.Automaton.built c.args.automaton.now) (c.args.haystack.now) (asked c.new.result) c.new.ensures.value c.in_ok-matches.ensures.0, leads-refused c.in-Some.found c.next.new.self.rest c.loop-found.invariant.4 c.in-Some.ensures.steps.gives c.extend_from_slice.new.self c.in_err-extend_from_slice.ensures.items)
+returns-in_err-extend_from_slice g c = grind (arith, common_steps, stops-by_memory, unrefused (g.A.Automaton.built c.args.automaton.now) (c.args.haystack.now) (input_of c.new.result) c.new.ensures.value c.in_ok-matches.ensures.0, leads-refused c.in-Some.found c.next.new.self.rest c.loop-found.invariant.4 c.in-Some.ensures.steps.gives c.extend_from_slice.new.self c.in_err-extend_from_slice.ensures.items)
 
 -- the gap was appended, and the call asks to go on
 pub loop-found-preserved : goal.loop-found-preserved
@@ -57,7 +57,7 @@ returns-in_err-extend_from_slice-2 g c =
     c.args.destination.now end c.extend_from_slice-2.new.self)
     (c.extend_from_slice-2.new.self ≡ c.args.destination.now)
     c.from_residual-in_err-extend_from_slice-2.result c.from_residual-in_err-extend_from_slice-2.ensures.1
-    (unrefused built haystack (asked c.new.result) c.new.ensures.value c.in_ok-matches.ensures.0)
+    (unrefused built haystack (input_of c.new.result) c.new.ensures.value c.in_ok-matches.ensures.0)
     (leads-end_refused c.extend_from_slice-2.new.self leads c.in_err-extend_from_slice-2.ensures.items)
 
 -- what follows the last match was appended
@@ -78,7 +78,7 @@ returns g c =
           (record { found = _; text = _; before = _; after = _; shows = (refl, refl, refl); called = w.exchange.ensures; leaves = refl })
           w.if-not-exchange.true) refl w.place-is w.exchange-is w.destination-is
     ] in (
-      unrefused built haystack (asked c.new.result) c.new.ensures.value c.in_ok-matches.ensures.0,
+      unrefused built haystack (input_of c.new.result) c.new.ensures.value c.in_ok-matches.ensures.0,
       leads-end c.extend_from_slice-2.new.self leads (c.in_ok-extend_from_slice-2.ensures.items
           ∙ ap (λ (rest : List ℕ). c.match-next.destination.items ++ rest)
           (slice_to_end haystack c.match-next.place)),

@@ -1,9 +1,9 @@
 use Rattle.std.proofs.Common.{arith}
 use Rattle.std.proofs.Math.Seq.{take-append_seam}
 use Rattle.std.proofs.lemmas.Grind.{common_steps}
-use Rattle.ac_util.specs.Prelude.{streamed}
-use Rattle.ac_util.proofs.GoesOn.{streamed-begins}
+use Rattle.ac_util.specs.Prelude.{stream_result}
+use Rattle.ac_util.proofs.GoesOn.{stream_result-begins}
 use Rattle.ac_util.proofs.laws.answers.stream_goes_on.Goals as goal
 
 pub returns : goal.returns
-returns c built bytes more standard = grind (arith, common_steps, streamed-begins built standard bytes more, take-append_seam (streamed built bytes) (streamed-begins built standard bytes more).0)
+returns c built bytes more standard = grind (arith, common_steps, stream_result-begins built standard bytes more, take-append_seam (stream_result built bytes) (stream_result-begins built standard bytes more).0)

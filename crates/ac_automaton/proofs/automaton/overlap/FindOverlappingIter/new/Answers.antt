@@ -1,7 +1,6 @@
 use Rattle.std.proofs.Common.{◌≡◌, ℕ, ◌≤◌, List, false, ap, refl, sym, subst, ◌∙◌, Option, Some, rules, arith}
 use Rattle.std.proofs.lemmas.Grind.{common_steps}
-use Rattle.ac_util.specs.declared.search.Anchored.{Anchored}
-use Rattle.ac_automaton.specs.Util.{asked, No, Node, Span, Yes}
+use Rattle.ac_automaton.specs.Util.{input_of, No, Node, Span}
 use Rattle.ac_automaton.specs.Prelude.{given_by, in_memory, IsListing, Lists, nothing_done, Reached, Scan, scan_by, search_through}
 use Rattle.ac_automaton.proofs.ListLoop.{arrived}
 use Rattle.ac_automaton.proofs.Overlapping.{goes_on-start, iterator-served, listing-starts}
@@ -17,10 +16,10 @@ module _ (g : Over) (c : After-open-tape g) where
       g.A.Automaton.LOOKS (g.A.Automaton.filters automaton) c.get_anchored-anchored.result
 
   abbrev span : Span
-  span = record { start = (asked c.args.input).start; end = (asked c.args.input).end }
+  span = record { start = (input_of c.args.input).start; end = (input_of c.args.input).end }
 
   abbrev bytes : List ℕ
-  bytes = (asked c.args.input).haystack
+  bytes = (input_of c.args.input).haystack
 
   unanchored : s.anchored ≡ No
   unanchored = grind (arith, common_steps)

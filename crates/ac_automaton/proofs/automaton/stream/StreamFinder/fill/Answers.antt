@@ -1,7 +1,7 @@
 use Rattle.std.proofs.Common.{◌≡◌, ◌∙◌, ◌+◌, ◌-◌, ◌≤◌, ◌≢◌, ◌++◌, ℕ, List, length, length-append, length-drop, take, drop, sym, ap, subst, arith, rules}
 use Rattle.std.proofs.lemmas.List.{length-take-le}
 use Rattle.ac_util.proofs.Devices.{not-idle}
-use Rattle.ac_util.specs.Stream.{streamed}
+use Rattle.ac_util.specs.Stream.{stream_result}
 use Rattle.ac_automaton.specs.Streams.{Streaming, matches_so_far}
 use Rattle.ac_automaton.proofs.Places.{written-whole}
 use Rattle.ac_automaton.proofs.StreamFilling.{filled-as, given-stays, seen-as, streams-filled}
@@ -64,10 +64,10 @@ returns-in-Ok g c =
       small = (let l = ap length added ∙ length-append c.self.inside.history.bytes more in
           let k = c.self.invariant.counted in let w = took.within in
           let d = length-drop at c.read_behind.new.buffer in omega (arith, c.if-self-n.true));
-      given = ap (λ (k : ℕ). take k (streamed (g.A.Automaton.built c.self.inside.automaton.now) c.with-self-inside.result.bytes))
+      given = ap (λ (k : ℕ). take k (stream_result (g.A.Automaton.built c.self.inside.automaton.now) c.with-self-inside.result.bytes))
           (sym (ap (λ (v : Streaming). v.given) e))
           ∙ ap (λ (w : List ℕ). take c.self.inside.given.number
-          (streamed (g.A.Automaton.built c.self.inside.automaton.now) w)) added
+          (stream_result (g.A.Automaton.built c.self.inside.automaton.now) w)) added
           ∙ given-stays _ _ _ c.self.invariant more (λ ended. absurd (let no' = sym open' ∙ ended in cc))
           ∙ ap (λ (v : Streaming). take v.given (matches_so_far v)) e;
     }

@@ -54,8 +54,8 @@ loop-state-preserved g c = λ nodes ready.
       | else-is_match-front w ↦
           rw w.pages-is (passed-over f nodes ready c.args.front c.loop-state.state own.node c.loop-state.auto.state
           own.named old c.loop-state.pages.words.items (c.loop-state.invariant nodes ready)
-          (λ asked. false≢true (sym w.if-is_match-front.false
-          ∙ (booleans_Decides c.is_match.result c.args.front).1 (matched ∙ asked))))
+          (λ input. false≢true (sym w.if-is_match-front.false
+          ∙ (booleans_Decides c.is_match.result c.args.front).1 (matched ∙ input))))
     ]
 
 -- all are pushed

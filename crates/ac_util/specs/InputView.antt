@@ -5,7 +5,7 @@ use Rattle.ac_util.specs.declared.search.Anchored.TheVariants.{No}
 use Rattle.ac_util.specs.Search.{Search}
 
 -- the span begins at `start` and ends before `end`; it may begin one past its end, and then has nothing in it
-pub record Asked : Type 0 where
+pub record InputView : Type 0 where
   pub haystack : List ℕ
   pub start : ℕ
   pub end : ℕ
@@ -13,8 +13,8 @@ pub record Asked : Type 0 where
   pub earliest : Bool
 
 -- an input over a whole haystack, without options
-abbrev pub asked_whole : List ℕ → Asked
-asked_whole haystack = record {
+abbrev pub whole_input : List ℕ → InputView
+whole_input haystack = record {
   haystack = haystack;
   start = 0;
   end = length haystack;
@@ -28,12 +28,12 @@ pub record IsLegal (haystack : List ℕ) (start end : ℕ) : Type 0 where
   pub start_within : start ≤ end + 1
 
 -- the search for these patterns that an input asks for
-abbrev pub search_for : List (List ℕ) → Bool → Asked → Search
-search_for patterns fold asked = record {
+abbrev pub search_for : List (List ℕ) → Bool → InputView → Search
+search_for patterns fold input = record {
   patterns = patterns;
   fold = fold;
-  haystack = asked.haystack;
-  anchored = asked.anchored;
-  low = asked.start;
-  high = asked.end;
+  haystack = input.haystack;
+  anchored = input.anchored;
+  low = input.start;
+  high = input.end;
 }
