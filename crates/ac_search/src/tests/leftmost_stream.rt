@@ -4,7 +4,7 @@ ghost use Rattle.ac_util.specs.Borrowed.{bytes_of};
 
 use super::engines::KINDS;
 use super::same;
-use super::stream::{ALWAYS, End, Few, Pieces, end_of, message_of};
+use super::stream::{ALWAYS, End, Few, Pieces, end_of, item_of};
 use crate::MatchKind::{LeftmostFirst, LeftmostLongest};
 use crate::{AhoCorasick, AhoCorasickBuilder, AhoCorasickKind, MatchKind};
 use std::test::Fail;
@@ -99,13 +99,13 @@ fn matches_are_given_once_no_byte_changes_them(rt: HostRuntime) -> Result<(), Fa
             let reader = Pieces::new(stream, 1, *good);
             let mut matches = searcher.try_stream_find_iter(rt.alloc(), reader)?;
             for m in *wanted {
-                same(&rt, message_of(matches.next()), Some(Some(*m)));
+                same(&rt, item_of(matches.next()), Some(Some(*m)));
             }
             if *good != ALWAYS {
-                same(&rt, message_of(matches.next()), Some(None));
+                same(&rt, item_of(matches.next()), Some(None));
             }
-            same(&rt, message_of(matches.next()), None);
-            same(&rt, message_of(matches.next()), None);
+            same(&rt, item_of(matches.next()), None);
+            same(&rt, item_of(matches.next()), None);
             same(&rt, matches.kept_len(), *kept);
         }
     }

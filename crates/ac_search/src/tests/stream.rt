@@ -271,17 +271,17 @@ fn iterators_give_matches_and_then_an_error(rt: HostRuntime) -> Result<(), Fail>
         let reader = Pieces::new(SENTENCE, 1, 12);
         let mut matches = searcher.try_stream_find_iter(rt.alloc(), reader)?;
         same(&rt, matches.buffer_len(), 65536);
-        same(&rt, message_of(matches.next()), Some(Some((2, 4, 9))));
-        same(&rt, message_of(matches.next()), Some(None));
+        same(&rt, item_of(matches.next()), Some(Some((2, 4, 9))));
+        same(&rt, item_of(matches.next()), Some(None));
         same(&rt, matches.kept_len(), 3);
-        same(&rt, message_of(matches.next()), None);
-        same(&rt, message_of(matches.next()), None);
+        same(&rt, item_of(matches.next()), None);
+        same(&rt, item_of(matches.next()), None);
     }
     Ok(())
 }
 
 /// An item of an iterator: none, an error, or a match as its number, start and end.
-pub(super) fn message_of(
+pub(super) fn item_of(
     item: Option<Result<crate::Match, StreamError>>,
 ) -> Option<Option<(usize, usize, usize)>> {
     match item {
@@ -300,12 +300,8 @@ fn a_match_spans_two_buffers(rt: HostRuntime) -> Result<(), Fail> {
     for most in [1, 7, 65535, 65536, 65537] {
         let reader = Pieces::new(&stream, most, ALWAYS);
         let mut matches = searcher.try_stream_find_iter(rt.alloc(), reader)?;
-        same(
-            &rt,
-            message_of(matches.next()),
-            Some(Some((0, 65535, 65538))),
-        );
-        same(&rt, message_of(matches.next()), None);
+        same(&rt, item_of(matches.next()), Some(Some((0, 65535, 65538))));
+        same(&rt, item_of(matches.next()), None);
     }
     Ok(())
 }
@@ -337,17 +333,9 @@ fn long_patterns_have_long_buffers(rt: HostRuntime) -> Result<(), Fail> {
             let reader = Pieces::new(&stream, most, ALWAYS);
             let mut matches = searcher.try_stream_find_iter(rt.alloc(), reader)?;
             same(&rt, matches.buffer_len(), buffer);
-            same(
-                &rt,
-                message_of(matches.next()),
-                Some(Some((0, BEFORE, first))),
-            );
-            same(
-                &rt,
-                message_of(matches.next()),
-                Some(Some((0, first, second))),
-            );
-            same(&rt, message_of(matches.next()), None);
+            same(&rt, item_of(matches.next()), Some(Some((0, BEFORE, first))));
+            same(&rt, item_of(matches.next()), Some(Some((0, first, second))));
+            same(&rt, item_of(matches.next()), None);
         }
     }
     Ok(())
