@@ -157,18 +157,24 @@ module _ (site : Site) where
     pub below : (k : ℕ) → site.queued.from ≤ k → k < place → rank (next_byte k) < suc b
     below k a c = grind (arith, common_steps)
 
+    -- the run, by the bytes after the string
+    record IsRunAfter (n : ℕ) : Type 0 where
+      byte : byte_at site.sorted n place ≡ Some b
+      before : (k : ℕ) → site.queued.from ≤ k → k < place → rank (byte_at site.sorted n k) < suc b
+      same : (k : ℕ) → place ≤ k → k < end → byte_at site.sorted n k ≡ byte_at site.sorted n place
+      other : end < site.queued.to → byte_at site.sorted n end ≢ byte_at site.sorted n place
+
+    after-string : IsRunAfter (length string)
+    after-string =
+        subst IsRunAfter (sym long) (record { byte = run.byte; before = below; same = run.same; other = run.other })
+
     -- the patterns of the run are those that begin with the child's string
     pub child-range : IsRangeOf site.sorted (string ++ b ∷ []) place end
     child-range =
         run-range site.kind site.patterns site.sorted site.ready.order string site.queued.from
         site.queued.to h.waits.range place end b
-        (omega (arith, h.low, site.ends.later)) run.some run.high
-        (subst (λ (n : ℕ). byte_at site.sorted n place ≡ Some b) (sym long) run.byte)
-        (λ k a c. subst (λ (n : ℕ). rank (byte_at site.sorted n k) < suc b) (sym long) (below k a c))
-        (λ k a c. subst (λ (n : ℕ). byte_at site.sorted n k ≡ byte_at site.sorted n place) (sym long)
-        (run.same k a c))
-        (λ l. subst (λ (n : ℕ). byte_at site.sorted n end ≢ byte_at site.sorted n place) (sym long)
-        (run.other l))
+        (omega (arith, h.low, site.ends.later)) run.some run.high after-string.byte after-string.before after-string.same
+        after-string.other
 
     -- the pattern after the run has a greater one
     pub greater : end < site.queued.to → suc b < rank (next_byte end)
@@ -176,13 +182,8 @@ module _ (site : Site) where
         subst (λ (n : ℕ). suc b < rank (byte_at site.sorted n end)) long
         (next-greater site.kind site.patterns site.sorted site.ready.order string site.queued.from
         site.queued.to h.waits.range place end b
-        (omega (arith, h.low, site.ends.later)) run.some run.high
-        (subst (λ (n : ℕ). byte_at site.sorted n place ≡ Some b) (sym long) run.byte)
-        (λ k a c. subst (λ (n : ℕ). rank (byte_at site.sorted n k) < suc b) (sym long) (below k a c))
-        (λ k a c. subst (λ (n : ℕ). byte_at site.sorted n k ≡ byte_at site.sorted n place) (sym long)
-        (run.same k a c))
-        (λ m. subst (λ (n : ℕ). byte_at site.sorted n end ≢ byte_at site.sorted n place) (sym long)
-        (run.other m)) l)
+        (omega (arith, h.low, site.ends.later)) run.some run.high after-string.byte after-string.before after-string.same
+        after-string.other l)
 
     -- the string of the child is one byte longer
     pub pushed : length (string ++ b ∷ []) ≡ site.queued.depth + 1

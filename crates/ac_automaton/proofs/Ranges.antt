@@ -106,6 +106,23 @@ module _ (kind : MatchKind) (patterns : List (List ℕ)) (sorted : List Keyed)
         byte_at-ascends kind patterns sorted order u j k le (omega (arith, range.within))
         (begins j low (omega arith)) (begins k (omega arith) high)
 
+    -- a pattern that is the string has a place in the range
+    record IsStringAt (n : ℕ) : Type 0 where
+      place : ℕ
+      stands : Stands place n
+      key : key_at sorted place ≡ u
+      low : from ≤ place
+      high : place < to
+
+    string-at : (n : ℕ) → IsIn n (equal_to kind patterns u) → IsStringAt n
+    string-at n h =
+        let e = IsIn-from_filter (λ m. bytes_eq (pattern_of patterns m) u) n (participants kind patterns) h in
+        let s = place-at n e.0 in
+        let key : key_at sorted s.place ≡ u = s.stands.key ∙ (bytes_eq-Decides (pattern_of patterns n) u).0 e.1 in
+        let there = (range.begins s.place s.stands.within).1
+        (subst (λ (w : List ℕ). starts_with nat_eq w u ≡ true) (sym key) (starts_with-itself u)) in
+        record { place = s.place; stands = s.stands; key = key; low = there.0; high = there.1 }
+
     -- the patterns that are the string stand before the range
     module _ (end : ℕ) (later : from ≤ end) (within : end ≤ to)
         (ends : (k : ℕ) → from ≤ k → k < end → byte_at sorted (length u) k ≡ None)
@@ -130,22 +147,16 @@ module _ (kind : MatchKind) (patterns : List (List ℕ)) (sorted : List Keyed)
       equal_to-among : (n : ℕ) → IsIn n (equal_to kind patterns u)
           → IsIn n (slice_range (numbers sorted) from end)
       equal_to-among n h =
-          let e = IsIn-from_filter (λ m. bytes_eq (pattern_of patterns m) u) n (participants kind patterns) h in
-          let s = place-at n e.0 in
-          let same = (bytes_eq-Decides (pattern_of patterns n) u).0 e.1 in
-          let key : key_at sorted s.place ≡ u = s.stands.key ∙ same in
-          let there =
-          (range.begins s.place s.stands.within).1
-          (subst (λ (w : List ℕ). starts_with nat_eq w u ≡ true) (sym key) (starts_with-itself u)) in
+          let s = string-at n h in
           elim (cases_lt s.place end) [
             | inl before ↦
                 IsIn-place n (slice_range (numbers sorted) from end) (s.place - from)
-                (get-range (numbers sorted) from end (s.place - from) (omega (arith, there.0))
+                (get-range (numbers sorted) from end (s.place - from) (omega (arith, s.low))
                 ∙ ap (slice_get (numbers sorted))
-                (let at : from + (s.place - from) ≡ s.place = omega (arith, there.0) in at) ∙ s.stands.number)
+                (let at : from + (s.place - from) ≡ s.place = omega (arith, s.low) in at) ∙ s.stands.number)
             | inr behind ↦
                 absurd
-                (longer s.place behind there.1 (ap (λ (w : List ℕ). slice_get w (length u)) key ∙ ended u))
+                (longer s.place behind s.high (ap (λ (w : List ℕ). slice_get w (length u)) s.key ∙ ended u))
           ]
 
       -- their numbers ascend there
@@ -188,16 +199,10 @@ module _ (kind : MatchKind) (patterns : List (List ℕ)) (sorted : List Keyed)
     -- and where it is longer, none is
     pub equal_to-none : byte_at sorted (length u) from ≢ None → equal_to kind patterns u ≡ []
     equal_to-none goes_on = nil-from_none (equal_to kind patterns u) (λ n h.
-        let e = IsIn-from_filter (λ m. bytes_eq (pattern_of patterns m) u) n (participants kind patterns) h in
-        let s = place-at n e.0 in
-        let same = (bytes_eq-Decides (pattern_of patterns n) u).0 e.1 in
-        let key : key_at sorted s.place ≡ u = s.stands.key ∙ same in
-        let there =
-        (range.begins s.place s.stands.within).1
-        (subst (λ (w : List ℕ). starts_with nat_eq w u ≡ true) (sym key) (starts_with-itself u)) in
-        let up = range-ascends from s.place (omega arith) there.0 there.1 in
+        let s = string-at n h in
+        let up = range-ascends from s.place (omega arith) s.low s.high in
         let zero : rank (byte_at sorted (length u) s.place) ≡ 0 =
-        ap rank (ap (λ (w : List ℕ). slice_get w (length u)) key ∙ ended u) in
+        ap rank (ap (λ (w : List ℕ). slice_get w (length u)) s.key ∙ ended u) in
         goes_on (rank-None (byte_at sorted (length u) from) (omega arith)))
 
     -- a run of one byte is the range of the string with that byte

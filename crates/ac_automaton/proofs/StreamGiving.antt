@@ -50,34 +50,38 @@ settled-kind built bytes given place Standard leftmost h = absurd (false≢true 
 settled-kind built bytes given place LeftmostFirst leftmost h = h
 settled-kind built bytes given place LeftmostLongest leftmost h = h
 
+-- the search of what was read, from where on matches are sought up to a place
+abbrev pub up_to : Streaming → ℕ → ℕ → Search
+up_to v begun place = record (stream_from v.built v.bytes begun) { high = place }
+
+-- it has read no more than came
+pub within-bytes : {stands : ℕ → Node → Type 0} {i : Inside} {v : Streaming} {state at : ℕ} {picked : Option Occurrence}
+    → IsStreaming stands i v → HasReadOn stands i v state at picked → v.front + at ≤ length v.bytes
+within-bytes inv on = let w = on.within in let n = inv.counted in omega arith
+
 -- a search over a stream has its answer in what was read
 module _ (stands : ℕ → Node → Type 0) (listed : ℕ → List ℕ) (most : ℕ) (filters : Bool) (i : Inside) (v : Streaming)
     (inv : IsStreaming stands i v) (state at : ℕ) (picked : Option Occurrence) (on : HasReadOn stands i v state at picked)
-    (answered : IsAnswered i.stops i.filled at
-    (node_there stands listed v.built most filters v.bytes i.begun (v.front + at)) picked) where
+    (answered : IsAnswered i.stops i.filled at (node_there v.built v.bytes i.begun (v.front + at)) picked) where
   -- the node that is reached
   abbrev here : Node
-  here = node_there stands listed v.built most filters v.bytes i.begun (v.front + at)
-
-  -- the search as far as a place
-  abbrev up_to : ℕ → Search
-  up_to place = record (stream_from v.built v.bytes i.begun) { high = place }
+  here = node_there v.built v.bytes i.begun (v.front + at)
 
   inside-bytes : v.front + at ≤ length v.bytes
-  inside-bytes = let w = on.within in let n = inv.counted in omega arith
+  inside-bytes = within-bytes inv on
 
   -- it picks as its match kind does
   same-order : order_of v.built.kind i.stops ≡ v.built.kind
   same-order = order-by v.built.kind i.stops inv.stops
 
-  order-picks : picked ≡ pick (order_of v.built.kind i.stops) (up_to (v.front + at))
-  order-picks = on.picks ∙ ap (λ (k : MatchKind). pick k (up_to (v.front + at))) (sym same-order)
+  order-picks : picked ≡ pick (order_of v.built.kind i.stops) (up_to v i.begun (v.front + at))
+  order-picks = on.picks ∙ ap (λ (k : MatchKind). pick k (up_to v i.begun (v.front + at))) (sym same-order)
 
   -- a match that is picked, and settled: it stops at it, nothing more is found, or the end was met
   module _ (m : Occurrence) (is : picked ≡ Some m)
       (cause : (i.stops ≡ true) ⊎ ((here ≡ None) ⊎ (v.phase ≡ Ended))) where
-    occurs : Occurs (up_to (v.front + at)) m
-    occurs = pick-Occurs v.built.kind (up_to (v.front + at)) m (sym on.picks ∙ is)
+    occurs : Occurs (up_to v i.begun (v.front + at)) m
+    occurs = pick-Occurs v.built.kind (up_to v i.begun (v.front + at)) m (sym on.picks ∙ is)
 
     some-bytes : 0 < length (pattern_of v.built.patterns m.pattern)
     some-bytes = none-empty v.built.patterns m.pattern (allowed-some v.built inv.allowed) occurs.numbered
@@ -93,7 +97,7 @@ module _ (stands : ℕ → Node → Type 0) (listed : ℕ → List ℕ) (most : 
           (record (stream_from v.built (v.bytes ++ more) i.begun) { high = v.front + at })
       picks-there =
           sym is ∙ order-picks
-          ∙ sym (pick-extended (up_to (v.front + at)) more on.is_at.onward inside-bytes (order_of v.built.kind i.stops))
+          ∙ sym (pick-extended (up_to v i.begun (v.front + at)) more on.is_at.onward inside-bytes (order_of v.built.kind i.stops))
 
       kind-of : pick v.built.kind (stream_from v.built (v.bytes ++ more) i.begun)
           ≡ pick (order_of v.built.kind i.stops) (stream_from v.built (v.bytes ++ more) i.begun)
@@ -211,26 +215,17 @@ module _ (stands : ℕ → Node → Type 0) (listed : ℕ → List ℕ) (most : 
             ends-within (λ place from_end before. absurd (omega arith))
             (λ n picks. (pick-Occurs v.built.kind (stream_from v.built v.bytes m.end) n picks).from_low)
 
+        first-settles : is_leftmost v.built.kind ≡ true → (v.phase ≡ Ended → ⊥) → IsSettling v m
+        first-settles first open' = by-leftmost first (leftmost-settles first open') open'
+
         by : (p : Phase) → v.phase ≡ p → (k : MatchKind) → v.built.kind ≡ k → IsSettling v m
         by Ended e k kind = ended e
         by Open e Standard kind = standard kind (λ no. absurd (let x = sym e ∙ no in cc))
         by Failed e Standard kind = standard kind (λ no. absurd (let x = sym e ∙ no in cc))
-        by Open e LeftmostFirst kind =
-            let first = ap is_leftmost kind in
-            by-leftmost first (leftmost-settles first (λ no. absurd (let x = sym e ∙ no in cc)))
-            (λ no. absurd (let x = sym e ∙ no in cc))
-        by Open e LeftmostLongest kind =
-            let first = ap is_leftmost kind in
-            by-leftmost first (leftmost-settles first (λ no. absurd (let x = sym e ∙ no in cc)))
-            (λ no. absurd (let x = sym e ∙ no in cc))
-        by Failed e LeftmostFirst kind =
-            let first = ap is_leftmost kind in
-            by-leftmost first (leftmost-settles first (λ no. absurd (let x = sym e ∙ no in cc)))
-            (λ no. absurd (let x = sym e ∙ no in cc))
-        by Failed e LeftmostLongest kind =
-            let first = ap is_leftmost kind in
-            by-leftmost first (leftmost-settles first (λ no. absurd (let x = sym e ∙ no in cc)))
-            (λ no. absurd (let x = sym e ∙ no in cc))
+        by Open e LeftmostFirst kind = first-settles (ap is_leftmost kind) (λ no. absurd (let x = sym e ∙ no in cc))
+        by Open e LeftmostLongest kind = first-settles (ap is_leftmost kind) (λ no. absurd (let x = sym e ∙ no in cc))
+        by Failed e LeftmostFirst kind = first-settles (ap is_leftmost kind) (λ no. absurd (let x = sym e ∙ no in cc))
+        by Failed e LeftmostLongest kind = first-settles (ap is_leftmost kind) (λ no. absurd (let x = sym e ∙ no in cc))
 
     gives : GivesMatch v m (record v { given = v.given + 1; kept = m.end })
     gives =

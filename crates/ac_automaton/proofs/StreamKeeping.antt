@@ -3,13 +3,13 @@ use Rattle.std.proofs.Common.{◌≡◌, ◌≢◌, ◌⊎◌, ℕ, ◌+◌, ◌
 use Rattle.std.proofs.lemmas.Bool.{false≢true}
 use Rattle.std.proofs.lemmas.List.{append-nil}
 use Rattle.std.proofs.lemmas.Grind.{common_steps}
-use Rattle.ac_automaton.specs.Util.{is_leftmost, IsNear, IsSettledAt, IsSettledBy, longest_len, Node, Occurrence, pick, Search, Standard, stream_result}
+use Rattle.ac_automaton.specs.Util.{is_leftmost, IsNear, IsSettledAt, IsSettledBy, longest_len, Node, Occurrence, pick, Standard, stream_result}
 use Rattle.ac_util.proofs.Living.{dead-picked, node-short, pick-behind}
 use Rattle.ac_util.proofs.Decided.{settled-at}
 use Rattle.ac_util.proofs.Shortest.{longest-most, none-empty}
 use Rattle.ac_util.proofs.Walks.{walk_after-None}
 use Rattle.ac_automaton.specs.Prelude.{Ended, Failed, HasGivenSettled, HasReadOn, Inside, IsAnswered, IsSettledIn, IsStreaming, kept_from, Open, Phase, stream_from, Streaming}
-use Rattle.ac_automaton.proofs.StreamGiving.{settled-kind}
+use Rattle.ac_automaton.proofs.StreamGiving.{settled-kind, up_to, within-bytes}
 use Rattle.ac_automaton.proofs.StreamReserves.{most-few, most-leftmost}
 use Rattle.ac_automaton.proofs.StreamRefusals.{allowed-some}
 use Rattle.ac_automaton.proofs.StreamText.{node_there}
@@ -17,18 +17,10 @@ use Rattle.ac_automaton.proofs.StreamText.{node_there}
 -- a search over a stream has its answer in what was read
 module _ (stands : ℕ → Node → Type 0) (listed : ℕ → List ℕ) (most : ℕ) (filters : Bool) (i : Inside) (v : Streaming)
     (inv : IsStreaming stands i v) (state at : ℕ) (picked : Option Occurrence) (on : HasReadOn stands i v state at picked)
-    (answered : IsAnswered i.stops i.filled at
-    (node_there stands listed v.built most filters v.bytes i.begun (v.front + at)) picked) where
+    (answered : IsAnswered i.stops i.filled at (node_there v.built v.bytes i.begun (v.front + at)) picked) where
   -- the node that is reached
   abbrev here : Node
-  here = node_there stands listed v.built most filters v.bytes i.begun (v.front + at)
-
-  -- the search as far as a place
-  abbrev up_to : ℕ → Search
-  up_to place = record (stream_from v.built v.bytes i.begun) { high = place }
-
-  inside-bytes : v.front + at ≤ length v.bytes
-  inside-bytes = let w = on.within in let n = inv.counted in omega arith
+  here = node_there v.built v.bytes i.begun (v.front + at)
 
   -- nothing is picked, or that may still change
   module _ (open-pick : (picked ≡ None) ⊎ ((i.stops ≡ false) × (here ≢ None) × (v.phase ≢ Ended)))
@@ -36,7 +28,7 @@ module _ (stands : ℕ → Node → Type 0) (listed : ℕ → List ℕ) (most : 
       alive : here ≢ None
       alive = elim open-pick [
         | inl none ↦ λ dead.
-            dead-picked v.built.kind (up_to (v.front + at)) refl on.is_at.onward inside-bytes dead v.built.kind
+            dead-picked v.built.kind (up_to v i.begun (v.front + at)) refl on.is_at.onward (within-bytes inv on) dead v.built.kind
             (sym on.picks ∙ none)
         | inr open' ↦ open'.1
       ]
@@ -52,7 +44,7 @@ module _ (stands : ℕ → Node → Type 0) (listed : ℕ → List ℕ) (most : 
       kept_now = kept_from v.phase (max v.kept (v.front + at - i.reserve)) (v.front + at)
 
       picks-whole : picked ≡ pick v.built.kind (stream_from v.built v.bytes i.begun)
-      picks-whole = on.picks ∙ ap (λ (k : ℕ). pick v.built.kind (up_to k)) end-is
+      picks-whole = on.picks ∙ ap (λ (k : ℕ). pick v.built.kind (up_to v i.begun k)) end-is
 
       -- where nothing is picked all matches were given
       whole-given : picked ≡ None → stream_result v.built v.bytes ≡ inv.given.matches
@@ -80,9 +72,9 @@ module _ (stands : ℕ → Node → Type 0) (listed : ℕ → List ℕ) (most : 
           by : (u : Node) → here ≡ u → length v.bytes ≤ m.start + longest_len v.built.patterns
           by None dead = absurd (alive dead)
           by (Some u) stands' =
-              let behind = pick-behind v.built.kind (up_to (v.front + at)) refl on.is_at.onward inside-bytes first u
+              let behind = pick-behind v.built.kind (up_to v i.begun (v.front + at)) refl on.is_at.onward (within-bytes inv on) first u
               stands' v.built.kind m (sym on.picks ∙ is) in
-              let short = node-short v.built.kind (up_to (v.front + at)) refl on.is_at.onward inside-bytes u stands' in
+              let short = node-short v.built.kind (up_to v i.begun (v.front + at)) refl on.is_at.onward (within-bytes inv on) u stands' in
               let e = end-is in
               omega arith
 

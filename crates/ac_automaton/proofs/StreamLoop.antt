@@ -41,7 +41,7 @@ module _ (stands : ℕ → Node → Type 0) (listed : ℕ → List ℕ) (most : 
 
   -- the node reached at a place of the stream, and what it finds there
   abbrev pub node_here : ℕ → Node
-  node_here place = node_there stands listed v.built most filters v.bytes i.begun place
+  node_here place = node_there v.built v.bytes i.begun place
 
   abbrev found_there : ℕ → Option Occurrence
   found_there place = found_at v.built No (node_here place) place

@@ -14,6 +14,10 @@ pub tape-is : (buffer shown : List ℕ) (input : Input) (tape : Taped) → shown
     → tape ≡ record { bytes = input.haystack.now; place = 0 } → buffer ≡ tape.bytes
 tape-is buffer shown input tape shows whole opens = grind (arith, common_steps)
 
+-- the node that an automaton has come to in these bytes of a stream, which it searches from a place on
+abbrev pub node_there : Built → List ℕ → ℕ → ℕ → Node
+node_there built bytes begun place = node_at built.kind (stream_from built bytes begun) place
+
 module _ (stands : ℕ → Node → Type 0) (listed : ℕ → List ℕ) (built : Built) (most : ℕ) (filters : Bool) where
   -- the automaton without an anchor
   abbrev pub scan : Scan
@@ -22,10 +26,6 @@ module _ (stands : ℕ → Node → Type 0) (listed : ℕ → List ℕ) (built :
   -- where it has come to in these bytes of a stream, which it searches from a place on
   abbrev pub At : List ℕ → ℕ → ℕ → ℕ → Type 0
   At bytes begun state place = Reaches stands built.kind (stream_from built bytes begun) state place
-
-  -- and the node reached there
-  abbrev pub node_there : List ℕ → ℕ → ℕ → Node
-  node_there bytes begun place = node_at built.kind (stream_from built bytes begun) place
 
   -- where the search begins nothing is picked
   pub picked-nothing : has_empty built ≡ false → (order : MatchKind) (bytes : List ℕ) (begun : ℕ)
@@ -60,11 +60,11 @@ module _ (stands : ℕ → Node → Type 0) (listed : ℕ → List ℕ) (built :
     -- so the nodes are the same
     same_node : (k : ℕ) → begun ≤ k → k ≤ front + filled
         → node_at built.kind (search_of built No (take front bytes ++ buffer) begun (length bytes)) k
-        ≡ node_there bytes begun k
+        ≡ node_there built bytes begun k
     same_node k ordered within = grind (arith, common_steps, text-extended, whole)
 
     pub node-in_buffer : (k : ℕ) → begun ≤ front + k → k ≤ filled
-        → node scan buffer_text k ≡ node_there bytes begun (front + k)
+        → node scan buffer_text k ≡ node_there built bytes begun (front + k)
     node-in_buffer k ordered within = search (rules, place-is, same_node)
 
     -- and where it stands in the stream it stands in the buffer

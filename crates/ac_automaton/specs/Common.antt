@@ -11,18 +11,10 @@ pub record CommonView : Type 0 where
 
 -- what an engine was built from that has this and these starts
 abbrev pub built_as : CommonView → StartKind → Built
-built_as common start_kind = record {
-  patterns = common.patterns;
-  fold = common.fold;
-  kind = common.kind;
-  start_kind = start_kind;
-}
+built_as common start_kind =
+    record { patterns = common.patterns; fold = common.fold; kind = common.kind; start_kind = start_kind }
 
 -- what an engine has that was built from this, to have a prefilter or not
 abbrev pub common_of : Built → Bool → CommonView
-common_of built filters = record {
-  patterns = built.patterns;
-  fold = built.fold;
-  kind = built.kind;
-  filters = filters;
-}
+common_of built filters =
+    record { patterns = built.patterns; fold = built.fold; kind = built.kind; filters = filters }

@@ -10,13 +10,8 @@ use Rattle.ac_automaton.specs.Scans.{IsAt, Scan, ScanText, node, search_through}
 
 -- what a core is asked: a span of the bytes of a tape, and two options
 abbrev pub input_over : List ℕ → ℕ → ℕ → Anchored → Bool → InputView
-input_over bytes start end anchored earliest = record {
-  haystack = bytes;
-  start = start;
-  end = end;
-  anchored = anchored;
-  earliest = earliest;
-}
+input_over bytes start end anchored earliest =
+    record { haystack = bytes; start = start; end = end; anchored = anchored; earliest = earliest }
 
 -- unless the prefilter was called, the place of reading is past the match, and each byte from the start of the
 -- span to the end of the match was read

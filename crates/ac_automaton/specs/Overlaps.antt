@@ -4,9 +4,9 @@ use Rattle.std.specs.Iterator.{YieldsFirst}
 use Rattle.std.specs.List.{take_while}
 use Rattle.ac_util.specs.declared.search.Anchored.{Anchored}
 use Rattle.ac_automaton.specs.Util.{all, InputView, Built, Counts, ending, item_at, MatchKind, may_skip, No, no_counts, Node, Occurrence, pattern_of, place_after, Search, search_in, Span, Standard, Taped, Yes}
-use Rattle.ac_automaton.specs.declared.automaton.overlap.MatchRest.{MatchRest}
+use Rattle.ac_automaton.specs.declared.automaton.listing.MatchRest.{MatchRest}
 use Rattle.ac_automaton.specs.declared.automaton.overlap.OverlappingState.{OverlappingState}
-use Rattle.ac_automaton.specs.declared.automaton.overlap.Reached.{Reached}
+use Rattle.ac_automaton.specs.declared.automaton.listing.Reached.{Reached}
 use Rattle.ac_automaton.specs.Automata.{IsState}
 use Rattle.ac_automaton.specs.Progress.{Grows, HasRead, Reaches, Work, most_looks, nothing_done}
 use Rattle.ac_automaton.specs.Scans.{Scan, ScanText, ScansTo, in_memory, node, search_through}
@@ -121,15 +121,8 @@ pub record Overlapping : Type 0 where
 
 -- a listing of which so many items were given
 abbrev pub overlapping_of : ℕ → Bool → Search → ℕ → ℕ → Counts → Overlapping
-overlapping_of most filters q given place counts = record {
-  rest = drop given (all q);
-  search = q;
-  given = given;
-  place = place;
-  counts = counts;
-  most = most;
-  filters = filters;
-}
+overlapping_of most filters q given place counts =
+    record { rest = drop given (all q); search = q; given = given; place = place; counts = counts; most = most; filters = filters }
 
 -- a listing that begins: all its items are still to come
 abbrev pub initial_listing : ℕ → Built → Bool → InputView → Overlapping

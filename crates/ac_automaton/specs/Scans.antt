@@ -19,14 +19,8 @@ pub record Scan : Type 1 where
 
 -- that of an automaton with these states
 abbrev pub scan_by : (Anchored → ℕ → Node → Type 0) → (ℕ → List ℕ) → Built → ℕ → Bool → Anchored → Scan
-scan_by stands listed built most filters anchored = record {
-  stands = stands anchored;
-  listed = listed;
-  built = built;
-  anchored = anchored;
-  most = most;
-  filters = filters;
-}
+scan_by stands listed built most filters anchored =
+    record { stands = stands anchored; listed = listed; built = built; anchored = anchored; most = most; filters = filters }
 
 -- what a scan reads: the bytes that were read before the first of its tape, and those of the tape; and where in all of
 -- these the span starts that it searches, and where that ends

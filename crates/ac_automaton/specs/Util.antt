@@ -29,7 +29,7 @@ pub use Rattle.ac_util.specs.Search.{from, Occurs, pattern_of, Search}
 pub use Rattle.ac_util.specs.Settled.{AreDecided, IsSettledAt, NoneOpen}
 pub use Rattle.ac_util.specs.Sizes.{inner_nodes, longest_len, shortest_len, state_count}
 pub use Rattle.ac_util.specs.Stream.{buffer_len, error_of, kept_back_len, last_end, reserve, stream_result, without_last}
-pub use Rattle.ac_util.specs.StreamReplacing.{answer_of_result, FailsToRead, FailsToReplace, FailsToReplaceWith, IsNear, IsSettled, IsSettledBy, IsStreamRefused, ReplacesStream, ReplacesStreamWith, settled, StepsAreSettled, TextIsSettled, WritesPiece}
+pub use Rattle.ac_util.specs.StreamReplacing.{AnswersStream, answer_of_result, FailsToRead, FailsToReplace, FailsToReplaceWith, IsNear, IsSettled, IsSettledBy, IsStreamRefused, ReplacesStream, ReplacesStreamWith, settled, StepsAreSettled, TextIsSettled, WritesPiece}
 pub use Rattle.ac_util.specs.Text.{ending, found_at_end, plain_patterns, text}
 pub use Rattle.ac_util.specs.Texts.{AreTexts, IsBetweenCharacters}
 pub use Rattle.ac_util.specs.Walk.{IsAfter, next_match, repeats, unless_repeated}

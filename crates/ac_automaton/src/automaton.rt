@@ -2,7 +2,7 @@
 ghost use Rattle.std.specs.Prelude.{◌≡◌, ◌≢◌, ◌↔◌, ◌⊎◌, ℕ, ◌<◌, Bool, List, [], length, option_map, slice_get, string_bytes, Some, None, IfSome, IsTrue, MatchResult, ⊤};
 ghost use Rattle.std.specs.Iterator.Runs.{YieldsInOrder};
 ghost use Rattle.ac_util.specs.declared.search.Anchored.{Anchored};
-ghost use Rattle.ac_automaton.specs.Util.{AnswersUnless, AnswersWhole, input_of, Built, bytes_of, exchanged, exchanged_in_text, FailsToReplace, FailsToReplaceWith, find_refusal, find_result, IsSkipFor, IsStreamRefused, longest_len, MakesSteps, more_looks, Node, overlapping_iter_refusal, overlapping_refusal, pattern_of, replace_refusal, replaced, ReplacesStream, ReplacesStreamWith, search_in, shortest_len, skip_for, skip_of, start_refusal, StepsLead, stream_refusal};
+ghost use Rattle.ac_automaton.specs.Util.{AnswersStream, AnswersUnless, AnswersWhole, input_of, Built, bytes_of, exchanged, exchanged_in_text, FailsToReplace, FailsToReplaceWith, find_refusal, find_result, IsSkipFor, IsStreamRefused, longest_len, MakesSteps, more_looks, Node, overlapping_iter_refusal, overlapping_refusal, pattern_of, replace_refusal, replaced, ReplacesStream, ReplacesStreamWith, search_in, shortest_len, skip_for, skip_of, start_refusal, StepsLead, stream_refusal};
 ghost use Rattle.ac_automaton.specs.Iterators.{GoesOn, initial_walk};
 ghost use Rattle.ac_automaton.specs.Automata.{IsState, Lists, looks_of, step_of};
 ghost use Rattle.ac_automaton.specs.Common.{common_of};
@@ -21,7 +21,9 @@ use std::io;
 mod common;
 mod find;
 mod lengths;
+mod listing;
 mod overlap;
+mod overlap_iter;
 mod replace;
 mod scan;
 mod skip;
@@ -32,7 +34,9 @@ mod walk;
 
 pub use common::Common;
 pub use find::{Finder, find_core};
-pub use overlap::{FindOverlappingIter, MatchRest, OverlappingState};
+pub use listing::MatchRest;
+pub use overlap::OverlappingState;
+pub use overlap_iter::FindOverlappingIter;
 pub use scan::is_due;
 pub use stream::{Phase, StreamFinder};
 pub use stream_iter::StreamFindIter;
@@ -442,14 +446,11 @@ pub trait Automaton {
     where
         Self: Sized,
         requires texts { length texts.now ≡ length (built self.now).patterns }
-        ensures { MatchResult result
-            (λ _. (stream_refusal (built self.now) ≡ None)
-            × ReplacesStream (built self.now) (bytes_of texts.now) (W.told writer.old) (W.told writer.new)
+        ensures { AnswersStream (stream_refusal (built self.now)) ((reader.new ≡ reader.old) × (writer.new ≡ writer.old))
+            (ReplacesStream (built self.now) (bytes_of texts.now) (W.told writer.old) (W.told writer.new)
             R.empty_means_end (R.told reader.old) (R.told reader.new))
-            (λ e. IsStreamRefused (stream_refusal (built self.now)) ((reader.new ≡ reader.old) × (writer.new ≡ writer.old)) e
-            ⊎ ((stream_refusal (built self.now) ≡ None)
-            × FailsToReplace (built self.now) (bytes_of texts.now) (W.told writer.old) (W.told writer.new)
-            R.empty_means_end (R.told reader.old) (R.told reader.new) e)) }
+            (FailsToReplace (built self.now) (bytes_of texts.now) (W.told writer.old) (W.told writer.new)
+            R.empty_means_end (R.told reader.old) (R.told reader.new)) result }
     {
         stream_replace::try_stream_replace_all(self, alloc, reader, writer, texts)
     }
@@ -473,14 +474,11 @@ pub trait Automaton {
         Self: Sized,
         F: FnMut(&Match, &[u8], &mut W) -> io::Result<()>,
         requires callable { F.IsAlwaysCallable closure }
-        ensures { MatchResult result
-            (λ _. (stream_refusal (built self.now) ≡ None)
-            × ReplacesStreamWith W.told F.FnMut (built self.now) closure writer.old R.empty_means_end
+        ensures { AnswersStream (stream_refusal (built self.now)) ((reader.new ≡ reader.old) × (writer.new ≡ writer.old))
+            (ReplacesStreamWith W.told F.FnMut (built self.now) closure writer.old R.empty_means_end
             (R.told reader.old) (R.told reader.new) writer.new)
-            (λ e. IsStreamRefused (stream_refusal (built self.now)) ((reader.new ≡ reader.old) × (writer.new ≡ writer.old)) e
-            ⊎ ((stream_refusal (built self.now) ≡ None)
-            × FailsToReplaceWith W.told F.FnMut (built self.now) closure writer.old R.empty_means_end
-            (R.told reader.old) (R.told reader.new) writer.new e)) }
+            (FailsToReplaceWith W.told F.FnMut (built self.now) closure writer.old R.empty_means_end
+            (R.told reader.old) (R.told reader.new) writer.new) result }
     {
         stream_replace::try_stream_replace_all_with(self, alloc, reader, writer, closure)
     }

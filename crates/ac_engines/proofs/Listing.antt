@@ -7,7 +7,7 @@ use Rattle.std.proofs.lemmas.List.Sums.{take_while-cons}
 use Rattle.std.proofs.lemmas.Grind.{common_steps}
 use Rattle.ac_util.specs.declared.search.Anchored.{Anchored}
 use Rattle.ac_automaton.specs.Util.{depth, No, Node, pattern_of}
-use Rattle.ac_automaton.specs.declared.automaton.overlap.MatchRest.{MatchRest}
+use Rattle.ac_automaton.specs.declared.automaton.listing.MatchRest.{MatchRest}
 use Rattle.ac_automaton.specs.Prelude.{is_due, IsState, IsTrieState, listed_within, matches_of, rest_in, stands-lists, Trie}
 use Rattle.ac_automaton.proofs.Due.{counts, listed-due, listed-numbered}
 

@@ -1,8 +1,15 @@
 -- An engine answers for a searcher that supports some of its starts.
-use Rattle.std.proofs.Common.{◌≡◌, sym, ◌∙◌, Some, None, ◌⊎◌, Result, Ok, Err, arith}
+use Rattle.std.proofs.Common.{◌≡◌, sym, ◌∙◌, Some, None, ◌⊎◌, Result, Ok, Err, MatchResult, arith, rules}
 use Rattle.std.proofs.lemmas.Grind.{common_steps}
-use Rattle.ac_automaton.specs.Util.{AnswersUnless, InputView, Both, Built, find_refusal, MatchError, No, start_refusal, StartKind, stream_refusal}
+use Rattle.ac_automaton.specs.Util.{AnswersUnless, InputView, Both, Built, find_refusal, MatchError, No, overlapping_refusal, search_in, start_refusal, StartKind, stream_refusal}
+use Rattle.ac_automaton.specs.declared.automaton.overlap.OverlappingState.{OverlappingState}
+use Rattle.ac_automaton.specs.Overlaps.{GivesNext}
 use Rattle.ac_automaton.specs.Streams.{Streaming, initial_stream}
+use Rattle.ac_search.specs.declared.ahocorasick.engine.Engine.{Engine}
+use Rattle.ac_search.specs.Engines.{built_of, searcher_of, states_of, Supports}
+use Rattle.ac_search.specs.Places.{GivesItem}
+use Rattle.ac_search.specs.Searchers.{Searcher}
+use Rattle.ac_search.specs.States.{listed_in, stands_in}
 use Rattle.ac_search.specs.StreamsBegun.{HasBegun}
 
 -- a find or a walk is refused for its start alone
@@ -37,3 +44,22 @@ pub stream-served : (engine : Built) (start_kind : StartKind)
     → (stream_refusal (record engine { start_kind = start_kind }) ≡ None)
     × HasBegun (record engine { start_kind = start_kind }) finder
 stream-served engine start_kind supports free finder none begun = grind (arith, common_steps)
+
+-- so the item that it gives of a listing is that of its searcher
+module _ {Z : Type 0} (engine : Engine Z) (start_kind : StartKind) (input : InputView) (supports : Supports engine start_kind)
+    (free : start_refusal start_kind input.anchored ≡ None) (state new_state : OverlappingState) where
+  abbrev searcher : Searcher
+  searcher = searcher_of engine start_kind
+
+  refusals : overlapping_refusal searcher.built input ≡ overlapping_refusal (built_of engine) input
+  refusals = grind (arith, common_steps)
+
+  pub item-served : (r : Result (Unit {0}) MatchError)
+      → MatchResult r (λ _. (overlapping_refusal (built_of engine) input ≡ None)
+      × GivesNext (stands_in (states_of engine) input.anchored) (listed_in (states_of engine)) (built_of engine).kind
+      (search_in (built_of engine) input) state new_state)
+      (λ e. (overlapping_refusal (built_of engine) input ≡ Some e) × (new_state ≡ state))
+      → MatchResult r (λ _. (overlapping_refusal searcher.built input ≡ None) × GivesItem searcher input state new_state)
+      (λ e. (overlapping_refusal searcher.built input ≡ Some e) × (new_state ≡ state))
+  item-served (Ok done) h = search (rules, refusals)
+  item-served (Err e) h = (refusals ∙ h.0, h.1)

@@ -1,28 +1,11 @@
 -- The replacement of a stream by an engine that supports some starts of its searcher: what it leaves is the searcher's.
-use Rattle.std.proofs.Common.{◌≡◌, ◌∙◌, ◌+◌, ℕ, Bool, List, [], ◌∷◌, inl, inr, None, Result, Ok, Err, ◌⊎◌, MatchResult, rules, arith}
+use Rattle.std.proofs.Common.{◌≡◌, ◌∙◌, ◌+◌, ℕ, Bool, List, [], ◌∷◌, inl, inr, None, Result, Ok, Err, ◌⊎◌, subst, rules, arith}
 use Rattle.std.specs.Borrow.{Bor, MutBor}
 use Rattle.std.specs.Fn.{Mut}
 use Rattle.std.specs.declared.io.Error.{Error}
 use Rattle.std.proofs.lemmas.Grind.{common_steps}
-use Rattle.ac_automaton.specs.Util.{AreDecided, Both, Built, FailsToReplace, FailsToReplaceWith, IsSettledAt, IsSettledBy, IsStreamRefused, LeftmostFirst, LeftmostLongest, MatchKind, No, NoneOpen, Occurrence, Reading, ReplacesStream, ReplacesStreamWith, Standard, start_refusal, StartKind, StepsAreSettled, stream_refusal, StreamError, TextIsSettled, Writing}
+use Rattle.ac_automaton.specs.Util.{AnswersStream, AreDecided, Both, Built, FailsToReplace, FailsToReplaceWith, IsSettledAt, IsSettledBy, LeftmostFirst, LeftmostLongest, MatchKind, No, NoneOpen, Occurrence, Reading, ReplacesStream, ReplacesStreamWith, Standard, start_refusal, StartKind, StepsAreSettled, stream_refusal, StreamError, TextIsSettled, Writing}
 use Rattle.ac_search.proofs.Served.{stream-refusals}
-
--- what a replacement with a closure leaves, by what the engine is known to be built from
-pub exchanged-as : {F D : Type 0} (told : D → Writing)
-    (closures : Mut F (Bor Occurrence × (Bor (List ℕ) × (MutBor D × Unit {0})))
-    (Result (Unit {0}) Error × (MutBor D × Unit {0}))) (closure : F) (writer new_writer : D) (unchanged : Type 0) (ends : Bool)
-    (reader new_reader : Reading) (r : Result (Unit {0}) StreamError) {built same : Built} → built ≡ same
-    → MatchResult r (λ _. (stream_refusal built ≡ None)
-    × ReplacesStreamWith told closures built closure writer ends reader new_reader new_writer)
-    (λ e. IsStreamRefused (stream_refusal built) unchanged e
-    ⊎ ((stream_refusal built ≡ None)
-    × FailsToReplaceWith told closures built closure writer ends reader new_reader new_writer e))
-    → MatchResult r (λ _. (stream_refusal same ≡ None)
-    × ReplacesStreamWith told closures same closure writer ends reader new_reader new_writer)
-    (λ e. IsStreamRefused (stream_refusal same) unchanged e
-    ⊎ ((stream_refusal same ≡ None)
-    × FailsToReplaceWith told closures same closure writer ends reader new_reader new_writer e))
-exchanged-as told closures closure writer new_writer unchanged ends reader new_reader r is h = search rules
 
 module _ (engine : Built) (start_kind : StartKind) where
   -- the searcher over the engine
@@ -60,18 +43,20 @@ module _ (engine : Built) (start_kind : StartKind) where
       text LeftmostFirst bytes h = (h.0, h.1, settled-at bytes h.0 h.1 h.2, h.3, h.4)
       text LeftmostLongest bytes h = (h.0, h.1, settled-at bytes h.0 h.1 h.2, h.3, h.4)
 
-      pub replaced-served : (r : Result (Unit {0}) StreamError)
-          → MatchResult r (λ _. (stream_refusal engine ≡ None)
-          × ReplacesStream engine texts writer new_writer ends reader new_reader)
-          (λ e. IsStreamRefused (stream_refusal engine) unchanged e
-          ⊎ ((stream_refusal engine ≡ None) × FailsToReplace engine texts writer new_writer ends reader new_reader e))
-          → MatchResult r (λ _. (stream_refusal searcher ≡ None)
-          × ReplacesStream searcher texts writer new_writer ends reader new_reader)
-          (λ e. IsStreamRefused (stream_refusal searcher) unchanged e
-          ⊎ ((stream_refusal searcher ≡ None) × FailsToReplace searcher texts writer new_writer ends reader new_reader e))
-      replaced-served (Ok done) h = (refusals ∙ h.0, h.1)
-      replaced-served (Err e) (inl refused) = grind (arith, common_steps)
-      replaced-served (Err e) (inr fails) = search (rules, refusals, text)
+      abbrev Replaces : Built → Result (Unit {0}) StreamError → Type 0
+      Replaces built r =
+          AnswersStream (stream_refusal built) unchanged (ReplacesStream built texts writer new_writer ends reader new_reader)
+          (FailsToReplace built texts writer new_writer ends reader new_reader) r
+
+      replaced : (r : Result (Unit {0}) StreamError) → Replaces engine r → Replaces searcher r
+      replaced (Ok done) h = (refusals ∙ h.0, h.1)
+      replaced (Err e) (inl refused) = grind (arith, common_steps)
+      replaced (Err e) (inr fails) = search (rules, refusals, text)
+
+      -- what an automaton built as the engine leaves is what the searcher leaves
+      pub replaced-served : {built seen : Built} → built ≡ engine → searcher ≡ seen → (r : Result (Unit {0}) StreamError)
+          → Replaces built r → Replaces seen r
+      replaced-served same sees r h = subst (λ b. Replaces b r) sees (replaced r (subst (λ b. Replaces b r) same h))
 
     -- with a closure
     module _ {F D : Type 0} (told : D → Writing)
@@ -84,17 +69,18 @@ module _ (engine : Built) (start_kind : StartKind) where
       steps LeftmostFirst bytes h = (h.0, h.1, settled-at bytes h.0 h.1 h.2, h.3, h.4)
       steps LeftmostLongest bytes h = (h.0, h.1, settled-at bytes h.0 h.1 h.2, h.3, h.4)
 
-      pub exchanged-served : (r : Result (Unit {0}) StreamError)
-          → MatchResult r (λ _. (stream_refusal engine ≡ None)
-          × ReplacesStreamWith told closures engine closure writer ends reader new_reader new_writer)
-          (λ e. IsStreamRefused (stream_refusal engine) unchanged e
-          ⊎ ((stream_refusal engine ≡ None)
-          × FailsToReplaceWith told closures engine closure writer ends reader new_reader new_writer e))
-          → MatchResult r (λ _. (stream_refusal searcher ≡ None)
-          × ReplacesStreamWith told closures searcher closure writer ends reader new_reader new_writer)
-          (λ e. IsStreamRefused (stream_refusal searcher) unchanged e
-          ⊎ ((stream_refusal searcher ≡ None)
-          × FailsToReplaceWith told closures searcher closure writer ends reader new_reader new_writer e))
-      exchanged-served (Ok done) h = (refusals ∙ h.0, h.1)
-      exchanged-served (Err e) (inl refused) = grind (arith, common_steps)
-      exchanged-served (Err e) (inr fails) = search (rules, refusals, settled-by, steps)
+      abbrev Exchanges : Built → Result (Unit {0}) StreamError → Type 0
+      Exchanges built r =
+          AnswersStream (stream_refusal built) unchanged
+          (ReplacesStreamWith told closures built closure writer ends reader new_reader new_writer)
+          (FailsToReplaceWith told closures built closure writer ends reader new_reader new_writer) r
+
+      exchanged : (r : Result (Unit {0}) StreamError) → Exchanges engine r → Exchanges searcher r
+      exchanged (Ok done) h = (refusals ∙ h.0, h.1)
+      exchanged (Err e) (inl refused) = grind (arith, common_steps)
+      exchanged (Err e) (inr fails) = search (rules, refusals, settled-by, steps)
+
+      -- what an automaton built as the engine leaves is what the searcher leaves
+      pub exchanged-served : {built seen : Built} → built ≡ engine → searcher ≡ seen → (r : Result (Unit {0}) StreamError)
+          → Exchanges built r → Exchanges seen r
+      exchanged-served same sees r h = subst (λ b. Exchanges b r) sees (exchanged r (subst (λ b. Exchanges b r) same h))

@@ -104,14 +104,8 @@ IsSkipFor (Needle needle) fold patterns = (fold ≡ false) × (patterns ≡ need
 
 -- the unanchored search for patterns in a span of the haystack
 abbrev pub search_over : Bool → List (List ℕ) → List ℕ → ℕ → ℕ → Search
-search_over fold patterns haystack low high = record {
-  patterns = patterns;
-  fold = fold;
-  haystack = haystack;
-  anchored = No;
-  low = low;
-  high = high;
-}
+search_over fold patterns haystack low high =
+    record { patterns = patterns; fold = fold; haystack = haystack; anchored = No; low = low; high = high }
 
 -- what is told of a span in which a match may start here at first, or nowhere
 abbrev pub start_candidate : Option ℕ → Candidate

@@ -1,5 +1,5 @@
 -- What the replacement of a stream leaves in a writer, and when each error comes.
-use Rattle.std.specs.Prelude.{◌≡◌, ◌⊎◌, ℕ, ◌+◌, ◌-◌, ◌≤◌, Bool, List, Option, None, Some, Result, Ok, Err, length, take}
+use Rattle.std.specs.Prelude.{◌≡◌, ◌⊎◌, ℕ, ◌+◌, ◌-◌, ◌≤◌, Bool, List, Option, None, Some, Result, Ok, Err, MatchResult, length, take}
 use Rattle.std.specs.Borrow.{Bor, MutBor}
 use Rattle.std.specs.Fn.{Mut}
 use Rattle.std.specs.declared.io.Error.{Error}
@@ -30,6 +30,11 @@ MatchStreamError TooLong refused memory io zero long = long
 abbrev pub IsStreamRefused : Option MatchError → Type 0 → StreamError → Type 0
 IsStreamRefused refusal unchanged e =
     MatchStreamError e (λ m. (refusal ≡ Some m) × unchanged) ((refusal ≡ None) × unchanged) ⊥ ⊥ ⊥
+
+-- the replacement is made as `whole` says; or it is refused, and has changed nothing; or it ends early, as `fails` says
+abbrev pub AnswersStream : Option MatchError → Type 0 → Type 0 → (StreamError → Type 0) → Result (Unit {0}) StreamError → Type 0
+AnswersStream refusal unchanged whole fails result =
+    MatchResult result (λ _. (refusal ≡ None) × whole) (λ e. IsStreamRefused refusal unchanged e ⊎ ((refusal ≡ None) × fails e))
 
 -- after so many bytes of a stream these came, and then a read has failed, or brought more than usize counts
 abbrev pub FailsToRead : ℕ → Reading → Reading → List ℕ → StreamError → Type 0

@@ -1,6 +1,6 @@
 //! Replacement in a stream: its bytes are written as they were read, with each match exchanged by a list or by a closure.
 ghost use Rattle.std.specs.Prelude.{◌≡◌, ◌⊎◌, ℕ, ◌<◌, List, MatchResult, None, Result, length};
-ghost use Rattle.ac_automaton.specs.Util.{bytes_of, FailsToReplace, FailsToReplaceWith, IsStreamRefused, Occurrence, ReplacesStream, ReplacesStreamWith, Replacing, stream_refusal, StreamError};
+ghost use Rattle.ac_automaton.specs.Util.{AnswersStream, bytes_of, FailsToReplace, FailsToReplaceWith, IsStreamRefused, Occurrence, ReplacesStream, ReplacesStreamWith, Replacing, stream_refusal, StreamError};
 ghost use Rattle.ac_automaton.specs.Exchanges.{CallsBy, FailsBy, FailsToExchange, HasExchanged, ReplacesBy, WritesTexts};
 
 use super::Automaton;
@@ -20,15 +20,11 @@ pub(super) fn try_stream_replace_all<A: Automaton, Z: Allocator, R: Source, W: S
     texts: &[&[u8]],
 ) -> Result<(), StreamError>
     requires texts { length texts.now ≡ length (A.built automaton.now).patterns }
-    ensures { MatchResult result
-        (λ _. (stream_refusal (A.built automaton.now) ≡ None)
-        × ReplacesStream (A.built automaton.now) (bytes_of texts.now) (W.told writer.old) (W.told writer.new)
+    ensures { AnswersStream (stream_refusal (A.built automaton.now)) ((reader.new ≡ reader.old) × (writer.new ≡ writer.old))
+        (ReplacesStream (A.built automaton.now) (bytes_of texts.now) (W.told writer.old) (W.told writer.new)
         R.empty_means_end (R.told reader.old) (R.told reader.new))
-        (λ e. IsStreamRefused (stream_refusal (A.built automaton.now))
-        ((reader.new ≡ reader.old) × (writer.new ≡ writer.old)) e
-        ⊎ ((stream_refusal (A.built automaton.now) ≡ None)
-        × FailsToReplace (A.built automaton.now) (bytes_of texts.now) (W.told writer.old) (W.told writer.new)
-        R.empty_means_end (R.told reader.old) (R.told reader.new) e)) }
+        (FailsToReplace (A.built automaton.now) (bytes_of texts.now) (W.told writer.old) (W.told writer.new)
+        R.empty_means_end (R.told reader.old) (R.told reader.new)) result }
 {
     let mut exchange = ByTexts { texts };
     replace_stream(automaton, alloc, reader, writer, &mut exchange)
@@ -49,15 +45,11 @@ where
     W: Sink,
     F: FnMut(&Match, &[u8], &mut W) -> io::Result<()>,
     requires callable { F.IsAlwaysCallable closure }
-    ensures { MatchResult result
-        (λ _. (stream_refusal (A.built automaton.now) ≡ None)
-        × ReplacesStreamWith W.told F.FnMut (A.built automaton.now) closure writer.old R.empty_means_end
+    ensures { AnswersStream (stream_refusal (A.built automaton.now)) ((reader.new ≡ reader.old) × (writer.new ≡ writer.old))
+        (ReplacesStreamWith W.told F.FnMut (A.built automaton.now) closure writer.old R.empty_means_end
         (R.told reader.old) (R.told reader.new) writer.new)
-        (λ e. IsStreamRefused (stream_refusal (A.built automaton.now))
-        ((reader.new ≡ reader.old) × (writer.new ≡ writer.old)) e
-        ⊎ ((stream_refusal (A.built automaton.now) ≡ None)
-        × FailsToReplaceWith W.told F.FnMut (A.built automaton.now) closure writer.old R.empty_means_end
-        (R.told reader.old) (R.told reader.new) writer.new e)) }
+        (FailsToReplaceWith W.told F.FnMut (A.built automaton.now) closure writer.old R.empty_means_end
+        (R.told reader.old) (R.told reader.new) writer.new) result }
 {
     let mut exchange = ByClosure { closure };
     replace_stream(automaton, alloc, reader, writer, &mut exchange)
@@ -165,17 +157,13 @@ fn replace_stream<A: Automaton, Z: Allocator, R: Source, W: Sink, E: Exchange<W>
 ) -> Result<(), StreamError>
     requires accepted { (m : Occurrence) → m.pattern < length (A.built automaton.now).patterns
         → E.accepts exchange.old m }
-    ensures { MatchResult result
-        (λ _. (stream_refusal (A.built automaton.now) ≡ None)
-        × ReplacesBy W.told E.calls R.empty_means_end (A.built automaton.now) (R.told reader.old) (R.told reader.new)
+    ensures { AnswersStream (stream_refusal (A.built automaton.now)) ((reader.new ≡ reader.old) × (writer.new ≡ writer.old))
+        (ReplacesBy W.told E.calls R.empty_means_end (A.built automaton.now) (R.told reader.old) (R.told reader.new)
         (record { closure = exchange.old; destination = writer.old })
         (record { closure = exchange.new; destination = writer.new }))
-        (λ e. IsStreamRefused (stream_refusal (A.built automaton.now))
-        ((reader.new ≡ reader.old) × (writer.new ≡ writer.old)) e
-        ⊎ ((stream_refusal (A.built automaton.now) ≡ None)
-        × FailsBy W.told E.calls R.empty_means_end (A.built automaton.now) (R.told reader.old) (R.told reader.new)
+        (λ e. FailsBy W.told E.calls R.empty_means_end (A.built automaton.now) (R.told reader.old) (R.told reader.new)
         (record { closure = exchange.old; destination = writer.old }) e
-        (record { closure = exchange.new; destination = writer.new }))) }
+        (record { closure = exchange.new; destination = writer.new })) result }
 {
     let mut finder = StreamFinder::new(automaton, alloc)?;
     while finder.fill(reader)? {

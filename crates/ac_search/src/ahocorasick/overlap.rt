@@ -1,11 +1,138 @@
-//! The searcher's iterator over all occurrences.
+//! The overlapping searches of a searcher.
+ghost use Rattle.std.specs.Prelude.{◌≡◌, MatchResult, None};
 ghost use Rattle.std.specs.Iterator.{item_count};
-ghost use Rattle.ac_automaton.specs.Overlaps.{ListsNext};
+ghost use Rattle.std.specs.Iterator.Runs.{YieldsInOrder};
+ghost use Rattle.ac_automaton.specs.Util.{AnswersUnless, input_of, item_at, overlapping_iter_refusal, overlapping_refusal, place_after, search_in};
+ghost use Rattle.ac_automaton.specs.Overlaps.{ListsNext, initial_listing};
+ghost use Rattle.ac_search.specs.Places.{GivesItem, HasPlace, rank_in};
+ghost use Rattle.ac_search.specs.Searchers.{looks_allowed};
 
-use super::engine::EngineFindOverlappingIter;
-use ac_util::search::Match;
+use super::engine::{Engine, EngineFindOverlappingIter};
+use super::{AhoCorasick, check_start};
+use ac_automaton::automaton::{Automaton, OverlappingState};
+use ac_util::error::MatchError;
+use ac_util::search::{Input, Match};
 use std::alloc::{Allocator, Global};
 use std::marker::Model;
+
+impl<A: Allocator> AhoCorasick<A> {
+    /// Gives the next item of the listing of the input: all that occur in its span, each once, by their ends, then
+    /// their starts, then their patterns. `OverlappingState::get_match` tells it, and `None` at every call past the
+    /// last item.
+    ///
+    /// The searcher has to support the input's anchoring, and its match kind to be `MatchKind::Standard`. The state
+    /// has to be fresh, or left by this searcher over this same input. An anchored search gives what starts at the
+    /// span's start. `laws::listing_is_exact` says what the listing has, and `laws::answers_lie_inside` that all of
+    /// it lies in the span.
+    ///
+    /// ```
+    /// // a searcher over "append", "appendage" and "app", by `MatchKind::Standard`
+    /// let mut state = OverlappingState::start();
+    /// searcher.find_overlapping(Input::new(b"append the app"), &mut state);
+    /// state.get_match() // pattern 2, 0..3; pattern 0, 0..6 after one more call
+    /// ```
+    #[inline]
+    pub fn find_overlapping(&self, input: Input<'_>, state: &mut OverlappingState)
+        requires supported { overlapping_refusal self.now.built (input_of input) ≡ None }
+        requires placed { HasPlace self.now (input_of input) state.old }
+        ensures item { state.new.found ≡ item_at (search_in self.now.built (input_of input.entry))
+            (rank_in self.now (input_of input.entry) state.old) }
+        ensures place { rank_in self.now (input_of input.entry) state.new
+            ≡ place_after (search_in self.now.built (input_of input.entry))
+            (rank_in self.now (input_of input.entry) state.old) }
+        ensures placed { HasPlace self.now (input_of input.entry) state.new }
+    {
+        let Ok(()) = self.try_find_overlapping(input, state) else {
+            unreachable!()
+        };
+    }
+
+    /// Returns an iterator over the listing of the input, as `find_overlapping` gives it.
+    ///
+    /// The searcher has to support unanchored searches, its match kind to be `MatchKind::Standard`, and the input to
+    /// be unanchored. `laws::answers_lie_inside` says that all items lie in the span: call it before a loop over
+    /// them.
+    ///
+    /// ```
+    /// // a searcher over "append", "appendage" and "app", by `MatchKind::Standard`
+    /// for found in searcher.find_overlapping_iter(Input::new(b"append the app")) {
+    ///     // pattern 2, 0..3; pattern 0, 0..6; pattern 2, 11..14
+    /// }
+    /// ```
+    #[inline]
+    pub fn find_overlapping_iter<'a, 'h>(
+        &'a self,
+        input: Input<'h>,
+    ) -> FindOverlappingIter<'a, 'h, A>
+        requires supported { overlapping_iter_refusal self.now.built (input_of input) ≡ None }
+        ensures begun { result
+            ≡ initial_listing (looks_allowed self.now.kind) self.now.built self.now.filters (input_of input.entry) }
+        ensures runs { YieldsInOrder ListsNext (λ l. l.rest) }
+    {
+        let Ok(items) = self.try_find_overlapping_iter(input) else {
+            unreachable!()
+        };
+        items
+    }
+
+    /// Does the same as `find_overlapping`. The state has to be as there.
+    ///
+    /// # Errors
+    /// As `try_find`, else `UnsupportedOverlapping` where the match kind isn't `MatchKind::Standard`. Then the state
+    /// is as it was.
+    #[inline]
+    pub fn try_find_overlapping(
+        &self,
+        input: Input<'_>,
+        state: &mut OverlappingState,
+    ) -> Result<(), MatchError>
+        requires placed { HasPlace self.now (input_of input) state.old }
+        ensures { MatchResult result
+            (λ _. (overlapping_refusal self.now.built (input_of input.entry) ≡ None)
+            × GivesItem self.now (input_of input.entry) state.old state.new)
+            (λ e. (overlapping_refusal self.now.built (input_of input.entry) ≡ Some e)
+            × (state.new ≡ state.old)) }
+    {
+        check_start(self.start_kind, input.get_anchored())?;
+        match &self.engine {
+            Engine::Noncontiguous(nfa) => nfa.as_ref().try_find_overlapping(input, state),
+            Engine::Contiguous(nfa) => nfa.as_ref().try_find_overlapping(input, state),
+            Engine::Dfa(dfa) => dfa.as_ref().try_find_overlapping(input, state),
+        }
+    }
+
+    /// Returns the same as `find_overlapping_iter`.
+    ///
+    /// # Errors
+    /// As `try_find_overlapping`, and else `InvalidInputAnchored` for an anchored input.
+    #[inline]
+    pub fn try_find_overlapping_iter<'a, 'h>(
+        &'a self,
+        input: Input<'h>,
+    ) -> Result<FindOverlappingIter<'a, 'h, A>, MatchError>
+        ensures begun { AnswersUnless (overlapping_iter_refusal self.now.built (input_of input.entry))
+            (initial_listing (looks_allowed self.now.kind) self.now.built self.now.filters (input_of input.entry))
+            result }
+        ensures runs { YieldsInOrder ListsNext (λ l. l.rest) }
+    {
+        check_start(self.start_kind, input.get_anchored())?;
+        let items = match &self.engine {
+            Engine::Noncontiguous(nfa) => {
+                let items = nfa.as_ref().try_find_overlapping_iter(input)?;
+                EngineFindOverlappingIter::Noncontiguous(items)
+            }
+            Engine::Contiguous(nfa) => {
+                let items = nfa.as_ref().try_find_overlapping_iter(input)?;
+                EngineFindOverlappingIter::Contiguous(items)
+            }
+            Engine::Dfa(dfa) => {
+                let items = dfa.as_ref().try_find_overlapping_iter(input)?;
+                EngineFindOverlappingIter::Dfa(items)
+            }
+        };
+        Ok(FindOverlappingIter { items })
+    }
+}
 
 /// An iterator over all occurrences in the span of an input, made by `AhoCorasick::find_overlapping_iter`.
 ///

@@ -2,7 +2,9 @@
 ghost use Rattle.std.specs.Prelude.{◌≡◌, Err, IfErr, IfOk, MatchResult, None, Ok, Some, length, string_bytes};
 ghost use Rattle.ac_automaton.specs.Util.{AnswersWhole, bytes_of, exchanged, exchanged_in_text, MakesSteps, replace_refusal, replaced, StepsLead};
 
+use super::engine::Engine;
 use super::{AhoCorasick, check_start};
+use ac_automaton::automaton::Automaton;
 use ac_util::error::ReplaceError;
 use ac_util::search::{Anchored, Match};
 use std::alloc::{AllocError, Allocator};
@@ -133,7 +135,11 @@ impl<A: Allocator> AhoCorasick<A> {
             result }
     {
         check_start(self.start_kind, Anchored::No)?;
-        self.engine.try_replace_all(alloc, haystack, texts)
+        match &self.engine {
+            Engine::Noncontiguous(nfa) => nfa.as_ref().try_replace_all(alloc, haystack, texts),
+            Engine::Contiguous(nfa) => nfa.as_ref().try_replace_all(alloc, haystack, texts),
+            Engine::Dfa(dfa) => dfa.as_ref().try_replace_all(alloc, haystack, texts),
+        }
     }
 
     /// Returns the same as `replace_all_bytes`. There have to be as many texts as patterns.
@@ -152,7 +158,13 @@ impl<A: Allocator> AhoCorasick<A> {
             ≡ replaced haystack.now (bytes_of texts.now) (exchanged self.now.built haystack.now)) result }
     {
         check_start(self.start_kind, Anchored::No)?;
-        self.engine.try_replace_all_bytes(alloc, haystack, texts)
+        match &self.engine {
+            Engine::Noncontiguous(nfa) => nfa
+                .as_ref()
+                .try_replace_all_bytes(alloc, haystack, texts),
+            Engine::Contiguous(nfa) => nfa.as_ref().try_replace_all_bytes(alloc, haystack, texts),
+            Engine::Dfa(dfa) => dfa.as_ref().try_replace_all_bytes(alloc, haystack, texts),
+        }
     }
 
     /// Does the same as `replace_all_with`. The closure may be called at each match and destination.
@@ -175,8 +187,17 @@ impl<A: Allocator> AhoCorasick<A> {
             (destination.new ≡ destination.old) result }
     {
         check_start(self.start_kind, Anchored::No)?;
-        self.engine
-            .try_replace_all_with(haystack, destination, exchange)
+        match &self.engine {
+            Engine::Noncontiguous(nfa) => nfa
+                .as_ref()
+                .try_replace_all_with(haystack, destination, exchange),
+            Engine::Contiguous(nfa) => nfa
+                .as_ref()
+                .try_replace_all_with(haystack, destination, exchange),
+            Engine::Dfa(dfa) => dfa
+                .as_ref()
+                .try_replace_all_with(haystack, destination, exchange),
+        }
     }
 
     /// Does the same as `replace_all_with_bytes`. The closure may be called at each match and destination.
@@ -198,8 +219,17 @@ impl<A: Allocator> AhoCorasick<A> {
             (destination.new ≡ destination.old) result }
     {
         check_start(self.start_kind, Anchored::No)?;
-        self.engine
-            .try_replace_all_with_bytes(haystack, destination, exchange)
+        match &self.engine {
+            Engine::Noncontiguous(nfa) => nfa
+                .as_ref()
+                .try_replace_all_with_bytes(haystack, destination, exchange),
+            Engine::Contiguous(nfa) => nfa
+                .as_ref()
+                .try_replace_all_with_bytes(haystack, destination, exchange),
+            Engine::Dfa(dfa) => dfa
+                .as_ref()
+                .try_replace_all_with_bytes(haystack, destination, exchange),
+        }
     }
 }
 

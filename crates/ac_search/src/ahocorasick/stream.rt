@@ -1,12 +1,14 @@
 //! The search of a stream by a searcher.
 ghost use Rattle.std.specs.Prelude.{◌≡◌, ◌⊎◌, Err, IfErr, IfOk, MatchResult, None, Ok, length, ⊤};
 ghost use Rattle.std.specs.Iterator.{at_most};
-ghost use Rattle.ac_automaton.specs.Util.{bytes_of, FailsToReplace, FailsToReplaceWith, IsStreamRefused, ReplacesStream, ReplacesStreamWith, stream_refusal};
+ghost use Rattle.ac_automaton.specs.Util.{AnswersStream, bytes_of, FailsToReplace, FailsToReplaceWith, IsStreamRefused, ReplacesStream, ReplacesStreamWith, stream_refusal};
 ghost use Rattle.ac_automaton.specs.Streams.{GivesStreamItem, GivesRead, ReadsItem, StreamsOn, items_left, kept_len};
 ghost use Rattle.ac_search.specs.StreamsBegun.{HasBegun, HasBegunOver};
 
-use super::engine::EngineStreamFinder;
+use super::engine::{Engine, EngineStreamFinder};
+use super::stream_iter::StreamFindIter;
 use super::{AhoCorasick, check_start};
+use ac_automaton::automaton::{self, Automaton};
 use ac_util::device::{Sink, Source};
 use ac_util::error::StreamError;
 use ac_util::search::{Anchored, Match};
@@ -90,18 +92,24 @@ impl<A: Allocator> AhoCorasick<A> {
         texts: &[&[u8]],
     ) -> Result<(), StreamError>
         requires texts { length texts.now ≡ length self.now.built.patterns }
-        ensures { MatchResult result
-            (λ _. (stream_refusal self.now.built ≡ None)
-            × ReplacesStream self.now.built (bytes_of texts.now) (W.told writer.old) (W.told writer.new)
+        ensures { AnswersStream (stream_refusal self.now.built) ((reader.new ≡ reader.old) × (writer.new ≡ writer.old))
+            (ReplacesStream self.now.built (bytes_of texts.now) (W.told writer.old) (W.told writer.new)
             R.empty_means_end (R.told reader.old) (R.told reader.new))
-            (λ e. IsStreamRefused (stream_refusal self.now.built) ((reader.new ≡ reader.old) × (writer.new ≡ writer.old)) e
-            ⊎ ((stream_refusal self.now.built ≡ None)
-            × FailsToReplace self.now.built (bytes_of texts.now) (W.told writer.old) (W.told writer.new)
-            R.empty_means_end (R.told reader.old) (R.told reader.new) e)) }
+            (FailsToReplace self.now.built (bytes_of texts.now) (W.told writer.old) (W.told writer.new)
+            R.empty_means_end (R.told reader.old) (R.told reader.new)) result }
     {
         check_start(self.start_kind, Anchored::No)?;
-        self.engine
-            .try_stream_replace_all(alloc, reader, writer, texts)
+        match &self.engine {
+            Engine::Noncontiguous(nfa) => nfa
+                .as_ref()
+                .try_stream_replace_all(alloc, reader, writer, texts),
+            Engine::Contiguous(nfa) => nfa
+                .as_ref()
+                .try_stream_replace_all(alloc, reader, writer, texts),
+            Engine::Dfa(dfa) => dfa
+                .as_ref()
+                .try_stream_replace_all(alloc, reader, writer, texts),
+        }
     }
 
     /// Does the same as `try_stream_replace_all` with a call of the closure at each match: it is handed the match, with
@@ -122,18 +130,24 @@ impl<A: Allocator> AhoCorasick<A> {
     where
         F: FnMut(&Match, &[u8], &mut W) -> io::Result<()>,
         requires callable { F.IsAlwaysCallable closure }
-        ensures { MatchResult result
-            (λ _. (stream_refusal self.now.built ≡ None)
-            × ReplacesStreamWith W.told F.FnMut self.now.built closure writer.old R.empty_means_end
-            (R.told reader.old) (R.told reader.new) writer.new)
-            (λ e. IsStreamRefused (stream_refusal self.now.built) ((reader.new ≡ reader.old) × (writer.new ≡ writer.old)) e
-            ⊎ ((stream_refusal self.now.built ≡ None)
-            × FailsToReplaceWith W.told F.FnMut self.now.built closure writer.old R.empty_means_end
-            (R.told reader.old) (R.told reader.new) writer.new e)) }
+        ensures { AnswersStream (stream_refusal self.now.built) ((reader.new ≡ reader.old) × (writer.new ≡ writer.old))
+            (ReplacesStreamWith W.told F.FnMut self.now.built closure writer.old R.empty_means_end (R.told reader.old)
+            (R.told reader.new) writer.new)
+            (FailsToReplaceWith W.told F.FnMut self.now.built closure writer.old R.empty_means_end (R.told reader.old)
+            (R.told reader.new) writer.new) result }
     {
         check_start(self.start_kind, Anchored::No)?;
-        self.engine
-            .try_stream_replace_all_with(alloc, reader, writer, closure)
+        match &self.engine {
+            Engine::Noncontiguous(nfa) => nfa
+                .as_ref()
+                .try_stream_replace_all_with(alloc, reader, writer, closure),
+            Engine::Contiguous(nfa) => nfa
+                .as_ref()
+                .try_stream_replace_all_with(alloc, reader, writer, closure),
+            Engine::Dfa(dfa) => dfa
+                .as_ref()
+                .try_stream_replace_all_with(alloc, reader, writer, closure),
+        }
     }
 
     /// Returns a search over a stream of which nothing was read yet: what `try_stream_find_iter` iterates by, but its reader
@@ -150,7 +164,20 @@ impl<A: Allocator> AhoCorasick<A> {
             (IsStreamRefused (stream_refusal self.now.built) ⊤) }
     {
         check_start(self.start_kind, Anchored::No)?;
-        let finder = self.engine.try_stream_finder(alloc)?;
+        let finder = match &self.engine {
+            Engine::Noncontiguous(nfa) => {
+                let finder = automaton::StreamFinder::new(nfa.as_ref(), alloc)?;
+                EngineStreamFinder::Noncontiguous(finder)
+            }
+            Engine::Contiguous(nfa) => {
+                let finder = automaton::StreamFinder::new(nfa.as_ref(), alloc)?;
+                EngineStreamFinder::Contiguous(finder)
+            }
+            Engine::Dfa(dfa) => {
+                let finder = automaton::StreamFinder::new(dfa.as_ref(), alloc)?;
+                EngineStreamFinder::Dfa(finder)
+            }
+        };
         Ok(StreamFinder { finder })
     }
 }
@@ -209,73 +236,6 @@ impl<'a, A: Allocator, Z: Allocator> StreamFinder<'a, A, Z> {
         ensures { result ≡ self.now.buffer }
     {
         self.finder.buffer_len()
-    }
-}
-
-/// An iterator over the matches of what a reader gives, made by `AhoCorasick::stream_find_iter`.
-///
-/// The matches are those of the walk over all bytes of the reader, however it cuts them; offsets count bytes from 0 over the
-/// whole stream. An item is `Io` where a read failed, and `TooLong` where more bytes came than a `usize` counts. The first
-/// error is the last item: after an error, as after the end, it keeps giving `None`, and the reader isn't asked again.
-/// Before each read all matches of the bytes read so far were given that no byte to come can change.
-#[derive(Drop)]
-pub struct StreamFindIter<'a, R: Source + Drop, A: Allocator = Global, Z: Allocator = Global> {
-    finder: StreamFinder<'a, A, Z>,
-    reader: R,
-}
-
-impl<'a, R: Source + Drop, A: Allocator, Z: Allocator> Model for StreamFindIter<'a, R, A, Z> {
-    ghost use Rattle.ac_automaton.specs.Streams.{StreamReading};
-
-    ghost Value = { StreamReading };
-
-    ghost view = { λ s. record { stream = s.finder; reader = R.told s.reader } };
-}
-
-impl<'a, R: Source + Drop, A: Allocator, Z: Allocator> StreamFindIter<'a, R, A, Z> {
-    /// Returns the next match of the bytes that were read, without reading more of them. `None` says that all their matches
-    /// were given that no byte to come can change.
-    pub fn next_read(&mut self) -> Option<Match>
-        ensures { ReadsItem self.old result self.new }
-    {
-        self.finder.next_read()
-    }
-
-    /// Returns how many bytes of the stream are kept: those from the end of the last match given on; or of these, once all
-    /// matches of what was read that are settled were given, as many as a match to come may need. After an error they are no
-    /// more than the longest pattern has, and after the end there are none.
-    pub fn kept_len(&self) -> usize
-        ensures { result ≡ kept_len self.now.stream }
-    {
-        self.finder.kept_len()
-    }
-
-    /// Returns how many bytes the buffer has: 65,536, or eight times as many as the longest pattern if that is more.
-    pub fn buffer_len(&self) -> usize
-        ensures { result ≡ self.now.stream.buffer }
-    {
-        self.finder.buffer_len()
-    }
-
-    /// Returns the next match of the stream, and reads more of it where that is needed.
-    #[inline]
-    fn advance(&mut self) -> Option<Result<Match, StreamError>>
-        ensures { GivesStreamItem R.empty_means_end self.old result self.new }
-    {
-        self.finder.next(&mut self.reader)
-    }
-}
-
-impl<'a, R: Source + Drop, A: Allocator, Z: Allocator> Iterator for StreamFindIter<'a, R, A, Z> {
-    type Item = Result<Match, StreamError>;
-
-    ghost next_gives = { GivesStreamItem R.empty_means_end };
-
-    ghost remaining = { λ s. at_most (items_left s) };
-
-    #[inline]
-    fn next(&mut self) -> Option<Result<Match, StreamError>> {
-        self.advance()
     }
 }
 

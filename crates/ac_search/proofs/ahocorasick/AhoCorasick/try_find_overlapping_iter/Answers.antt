@@ -6,6 +6,3 @@ returns-clause-runs g c = lists-runs
 
 pub returns-in_err-check_start-clause-runs : goal.returns-in_err-check_start-clause-runs
 returns-in_err-check_start-clause-runs g c = lists-runs
-
-pub returns-in_err-items-clause-runs : goal.returns-in_err-items-clause-runs
-returns-in_err-items-clause-runs g c = lists-runs

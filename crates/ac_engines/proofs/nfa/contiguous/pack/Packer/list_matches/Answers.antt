@@ -2,7 +2,7 @@ use Rattle.std.proofs.Common.{◌≡◌, ℕ, ◌++◌, ◌∷◌, [], List, ap,
 use Rattle.std.proofs.lemmas.List.{append-nil}
 use Rattle.std.proofs.lemmas.Grind.{common_steps}
 use Rattle.ac_util.specs.declared.search.Anchored.TheVariants.{No}
-use Rattle.ac_automaton.specs.declared.automaton.overlap.MatchRest.{MatchRest}
+use Rattle.ac_automaton.specs.declared.automaton.listing.MatchRest.{MatchRest}
 use Rattle.ac_automaton.specs.Prelude.{IsState, IsTrieState, Trie}
 use Rattle.ac_engines.specs.Prelude.{anchored_of, packed_of, Packer, PackPlan, places_of}
 use Rattle.ac_engines.proofs.Listing.{rest_of}

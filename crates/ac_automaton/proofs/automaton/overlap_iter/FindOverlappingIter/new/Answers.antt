@@ -4,9 +4,9 @@ use Rattle.ac_automaton.specs.Util.{input_of, No, Node, Span}
 use Rattle.ac_automaton.specs.Prelude.{given_by, in_memory, IsListing, Lists, nothing_done, Reached, Scan, scan_by, search_through}
 use Rattle.ac_automaton.proofs.ListLoop.{arrived}
 use Rattle.ac_automaton.proofs.Overlapping.{goes_on-start, iterator-served, listing-starts}
-use Rattle.ac_automaton.proofs.automaton.overlap.FindOverlappingIter.new.Given.{Over}
-use Rattle.ac_automaton.proofs.automaton.overlap.FindOverlappingIter.new.Goals.{After-open-tape, then-is_done, else-is_done}
-use Rattle.ac_automaton.proofs.automaton.overlap.FindOverlappingIter.new.Goals as goal
+use Rattle.ac_automaton.proofs.automaton.overlap_iter.FindOverlappingIter.new.Given.{Over}
+use Rattle.ac_automaton.proofs.automaton.overlap_iter.FindOverlappingIter.new.Goals.{After-open-tape, then-is_done, else-is_done}
+use Rattle.ac_automaton.proofs.automaton.overlap_iter.FindOverlappingIter.new.Goals as goal
 
 module _ (g : Over) (c : After-open-tape g) where
   abbrev s : Scan

@@ -2,9 +2,9 @@ use Rattle.std.proofs.Common.{◌≡◌, ap, sym, subst, ◌∙◌, List, ℕ, O
 use Rattle.std.proofs.lemmas.Grind.{common_steps}
 use Rattle.ac_automaton.specs.Prelude.{in_memory, IsListing, ListsNext, Overlapping, overlapping_by, Reached, Scan, scan_by, ScanText, work_of}
 use Rattle.ac_automaton.proofs.Overlapping.{lists-next, lists-past_end, listing-goes_on}
-use Rattle.ac_automaton.proofs.automaton.overlap.FindOverlappingIter.advance.Given.{Over}
-use Rattle.ac_automaton.proofs.automaton.overlap.FindOverlappingIter.advance.Goals.{After-self}
-use Rattle.ac_automaton.proofs.automaton.overlap.FindOverlappingIter.advance.Goals as goal
+use Rattle.ac_automaton.proofs.automaton.overlap_iter.FindOverlappingIter.advance.Given.{Over}
+use Rattle.ac_automaton.proofs.automaton.overlap_iter.FindOverlappingIter.advance.Goals.{After-self}
+use Rattle.ac_automaton.proofs.automaton.overlap_iter.FindOverlappingIter.advance.Goals as goal
 
 -- the listing, and how it is seen
 module _ (g : Over) (c : After-self g) where

@@ -1,0 +1,125 @@
+//! The iterator over all occurrences.
+ghost use Rattle.std.specs.Prelude.{◌≡◌};
+ghost use Rattle.std.specs.Iterator.{item_count};
+ghost use Rattle.ac_automaton.specs.Util.{AnswersUnless, input_of, overlapping_iter_refusal};
+ghost use Rattle.ac_automaton.specs.Overlaps.{ListsNext, initial_listing};
+
+use super::Automaton;
+use super::listing::Reached;
+use super::overlap::start_of;
+use super::scan::Scanner;
+use super::skip::Credit;
+use ac_util::error::MatchError;
+use ac_util::looks::{Looks, Tape, open};
+use ac_util::prefilter::Prefilter;
+use ac_util::search::{Input, Match};
+use std::marker::Model;
+
+/// An iterator over all occurrences in the span of an input, made by `Automaton::try_find_overlapping_iter`.
+///
+/// After its end it keeps giving `None`. Contracts see the items still to come, and what was read and counted since
+/// it was made: all calls together read each byte of the span at most once, and none past the end of the item that
+/// was given last.
+#[derive(Drop)]
+pub struct FindOverlappingIter<'a, 'h, A: Automaton> {
+    scanner: Scanner<'a, A>,
+    /// That of `Scanner::listing_prefilter`.
+    prefilter: Option<&'a Prefilter<A::Memory>>,
+    /// None where the span starts past its end.
+    reached: Option<Reached>,
+    /// Kept from item to item, so that a listing gives up a prefilter that skips too little.
+    credit: Credit,
+    tape: Tape<'h>,
+    looks: Looks,
+}
+
+impl<'a, 'h, A: Automaton> Model for FindOverlappingIter<'a, 'h, A> {
+    ghost use Rattle.std.specs.Prelude.{IfSome};
+    ghost use Rattle.ac_util.specs.Prefilters.{skip_of};
+    ghost use Rattle.ac_automaton.specs.Overlaps.{IsListing, Overlapping, overlapping_by};
+    ghost use Rattle.ac_automaton.specs.Progress.{work_of};
+    ghost use Rattle.ac_automaton.specs.Scans.{in_memory, scan_by};
+    ghost use Rattle.ac_automaton.specs.Skipping.{SkipsByBytes};
+
+    ghost Value = { Overlapping };
+
+    ghost view = { λ s. overlapping_by (scan_by (A.stands s.scanner.automaton.now) (A.listed s.scanner.automaton.now)
+        (A.built s.scanner.automaton.now) A.LOOKS (A.filters s.scanner.automaton.now) s.scanner.anchored)
+        (in_memory s.tape.bytes s.scanner.span) s.reached (work_of s.tape s.looks) };
+
+    ghost invariant = { λ s.
+        let scan = scan_by (A.stands s.scanner.automaton.now) (A.listed s.scanner.automaton.now)
+        (A.built s.scanner.automaton.now) A.LOOKS (A.filters s.scanner.automaton.now) s.scanner.anchored in
+        record {
+          listing : IsListing scan (in_memory s.tape.bytes s.scanner.span) s.reached (work_of s.tape s.looks);
+          skips : IfSome s.prefilter (λ p. SkipsByBytes scan (skip_of p.now));
+        } };
+}
+
+impl<'a, 'h, A: Automaton> FindOverlappingIter<'a, 'h, A> {
+    /// Returns what `Automaton::try_find_overlapping_iter` does.
+    #[inline]
+    pub(super) fn new(
+        automaton: &'a A,
+        input: Input<'h>,
+    ) -> Result<FindOverlappingIter<'a, 'h, A>, MatchError>
+        ensures { AnswersUnless (overlapping_iter_refusal (A.built automaton.now) (input_of input.entry))
+            (initial_listing A.LOOKS (A.built automaton.now) (A.filters automaton.now) (input_of input.entry)) result }
+    {
+        let anchored = input.get_anchored();
+        let begun = start_of(automaton, anchored)?;
+        if anchored.is_anchored() {
+            return Err(MatchError::InvalidInputAnchored);
+        }
+        let reached = if input.is_done() {
+            None
+        } else {
+            Some(Reached::new(begun, input.start()))
+        };
+        let scanner = Scanner {
+            automaton,
+            anchored,
+            span: input.get_span(),
+        };
+        let prefilter = scanner.listing_prefilter();
+        let (tape, looks) = open(&input);
+        Ok(FindOverlappingIter {
+            scanner,
+            prefilter,
+            reached,
+            credit: Credit::new(),
+            tape,
+            looks,
+        })
+    }
+
+    /// Returns the next item, and moves on.
+    #[inline]
+    fn advance(&mut self) -> Option<Match>
+        ensures { ListsNext self.old result self.new }
+    {
+        let mut reached = self.reached?;
+        let found = self.scanner.next_item(
+            self.prefilter,
+            &mut reached,
+            &mut self.credit,
+            &mut self.tape,
+            &mut self.looks,
+        );
+        self.reached = Some(reached);
+        found
+    }
+}
+
+impl<'a, 'h, A: Automaton> Iterator for FindOverlappingIter<'a, 'h, A> {
+    type Item = Match;
+
+    ghost next_gives = { ListsNext };
+
+    ghost remaining = { item_count (λ l. l.rest) };
+
+    #[inline]
+    fn next(&mut self) -> Option<Match> {
+        self.advance()
+    }
+}

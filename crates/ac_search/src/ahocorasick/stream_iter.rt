@@ -1,0 +1,78 @@
+//! The searcher's iterator over the matches of what a reader gives.
+ghost use Rattle.std.specs.Prelude.{◌≡◌};
+ghost use Rattle.std.specs.Iterator.{at_most};
+ghost use Rattle.ac_automaton.specs.Streams.{GivesStreamItem, ReadsItem, items_left, kept_len};
+
+use super::stream::StreamFinder;
+use ac_util::device::Source;
+use ac_util::error::StreamError;
+use ac_util::search::Match;
+use std::alloc::{Allocator, Global};
+use std::marker::Model;
+
+/// An iterator over the matches of what a reader gives, made by `AhoCorasick::stream_find_iter`.
+///
+/// The matches are those of the walk over all bytes of the reader, however it cuts them; offsets count bytes from 0 over the
+/// whole stream. An item is `Io` where a read failed, and `TooLong` where more bytes came than a `usize` counts. The first
+/// error is the last item: after an error, as after the end, it keeps giving `None`, and the reader isn't asked again.
+/// Before each read all matches of the bytes read so far were given that no byte to come can change.
+#[derive(Drop)]
+pub struct StreamFindIter<'a, R: Source + Drop, A: Allocator = Global, Z: Allocator = Global> {
+    pub(super) finder: StreamFinder<'a, A, Z>,
+    pub(super) reader: R,
+}
+
+impl<'a, R: Source + Drop, A: Allocator, Z: Allocator> Model for StreamFindIter<'a, R, A, Z> {
+    ghost use Rattle.ac_automaton.specs.Streams.{StreamReading};
+
+    ghost Value = { StreamReading };
+
+    ghost view = { λ s. record { stream = s.finder; reader = R.told s.reader } };
+}
+
+impl<'a, R: Source + Drop, A: Allocator, Z: Allocator> StreamFindIter<'a, R, A, Z> {
+    /// Returns the next match of the bytes that were read, without reading more of them. `None` says that all their matches
+    /// were given that no byte to come can change.
+    pub fn next_read(&mut self) -> Option<Match>
+        ensures { ReadsItem self.old result self.new }
+    {
+        self.finder.next_read()
+    }
+
+    /// Returns how many bytes of the stream are kept: those from the end of the last match given on; or of these, once all
+    /// matches of what was read that are settled were given, as many as a match to come may need. After an error they are no
+    /// more than the longest pattern has, and after the end there are none.
+    pub fn kept_len(&self) -> usize
+        ensures { result ≡ kept_len self.now.stream }
+    {
+        self.finder.kept_len()
+    }
+
+    /// Returns how many bytes the buffer has: 65,536, or eight times as many as the longest pattern if that is more.
+    pub fn buffer_len(&self) -> usize
+        ensures { result ≡ self.now.stream.buffer }
+    {
+        self.finder.buffer_len()
+    }
+
+    /// Returns the next match of the stream, and reads more of it where that is needed.
+    #[inline]
+    fn advance(&mut self) -> Option<Result<Match, StreamError>>
+        ensures { GivesStreamItem R.empty_means_end self.old result self.new }
+    {
+        self.finder.next(&mut self.reader)
+    }
+}
+
+impl<'a, R: Source + Drop, A: Allocator, Z: Allocator> Iterator for StreamFindIter<'a, R, A, Z> {
+    type Item = Result<Match, StreamError>;
+
+    ghost next_gives = { GivesStreamItem R.empty_means_end };
+
+    ghost remaining = { λ s. at_most (items_left s) };
+
+    #[inline]
+    fn next(&mut self) -> Option<Result<Match, StreamError>> {
+        self.advance()
+    }
+}
