@@ -9,7 +9,7 @@ use Rattle.std.proofs.lemmas.Grind.{common_steps}
 use Rattle.ac_automaton.specs.Util.{is_node, MatchKind, plain_byte, step, Yes}
 use Rattle.ac_util.proofs.Prefixes.{starts_with-front}
 use Rattle.ac_util.proofs.Lists.{AllPairs-from_IsOrdered, Contains-from_IsIn, IsIn, IsIn-from_Contains, IsIn-from_map, IsIn-map}
-use Rattle.ac_automaton.specs.Prelude.{AreStates, byte_at, FIRST_INNER, grown_meaning, HasBranched, HasSorted, IsNext, IsOrder, key_at, Keyed, LinkIsDue, Links, nodes_of, QueuedState, State, Transition, transition_bytes}
+use Rattle.ac_automaton.specs.Prelude.{AreStates, byte_at, FIRST_INNER, grown_view, HasBranched, HasSorted, IsNext, IsOrder, key_at, Keyed, LinkIsDue, Links, nodes_of, QueuedState, State, Transition, transition_bytes}
 use Rattle.ac_automaton.proofs.Branching.{IsBranching, Site, string, word-length}
 use Rattle.ac_automaton.proofs.Grown.{AreStates-more, IsGrown-later}
 use Rattle.ac_automaton.proofs.Leading.{sorted-ascends}
@@ -18,16 +18,16 @@ use Rattle.ac_automaton.proofs.Ranges.{pattern-node, node-pattern, range-equal_t
 use Rattle.ac_automaton.proofs.Prefixes.{starts_with-last, starts_with-push}
 
 -- an anchored search goes on exactly by the bytes that make a node
-pub own_target-is : (kind : MatchKind) (patterns : List (List ℕ)) (u : List ℕ) (b : ℕ)
+pub transition_target-is : (kind : MatchKind) (patterns : List (List ℕ)) (u : List ℕ) (b : ℕ)
     → is_node kind patterns (u ++ b ∷ []) ≡ true
     → step kind patterns Yes (Some u) b ≡ Some (u ++ b ∷ [])
-own_target-is kind patterns u b node = cc
+transition_target-is kind patterns u b node = cc
 
 -- where it goes on, the longer string is a node
-pub own_target-node : (kind : MatchKind) (patterns : List (List ℕ)) (u : List ℕ) (b : ℕ)
+pub transition_target-node : (kind : MatchKind) (patterns : List (List ℕ)) (u : List ℕ) (b : ℕ)
     → step kind patterns Yes (Some u) b ≢ None
     → is_node kind patterns (u ++ b ∷ []) ≡ true
-own_target-node kind patterns u b some = grind (arith, common_steps)
+transition_target-node kind patterns u b some = grind (arith, common_steps)
 
 -- some pattern begins with a node
 pub some_node : (kind : MatchKind) (patterns : List (List ℕ)) (sorted : List Keyed)
@@ -89,7 +89,7 @@ module _ (site : Site) {unsorted : List Transition} {queue : List QueuedState}
 
   -- there is a transition by a byte exactly if it makes a node
   transition-node : (t : Transition) → IsIn t h.added
-      → is_node site.kind site.patterns (string site ++ plain_byte site.fold t.byte ∷ []) ≡ true
+      → is_node site.kind site.patterns (string site ++ plain_byte site.ignores_case t.byte ∷ []) ≡ true
   transition-node t has =
       let m = h.by_patterns t has in
       let inside : m.at < length site.sorted =
@@ -97,28 +97,28 @@ module _ (site : Site) {unsorted : List Transition} {queue : List QueuedState}
       let front = (h.waits.range.begins m.at inside).0
       ((omega (arith, site.ends.later, m.low)), m.high) in
       pattern-node site.kind site.patterns site.sorted site.ready.order m.at
-      (string site ++ plain_byte site.fold t.byte ∷ []) inside
-      (starts_with-push (key_at site.sorted m.at) (string site) (plain_byte site.fold t.byte) front
-      (subst (λ (n : ℕ). byte_at site.sorted n m.at ≡ Some (plain_byte site.fold t.byte)) (sym long) m.byte))
+      (string site ++ plain_byte site.ignores_case t.byte ∷ []) inside
+      (starts_with-push (key_at site.sorted m.at) (string site) (plain_byte site.ignores_case t.byte) front
+      (subst (λ (n : ℕ). byte_at site.sorted n m.at ≡ Some (plain_byte site.ignores_case t.byte)) (sym long) m.byte))
 
   -- and each byte that makes a node has a transition
   node-transition : (b : ℕ)
-      → is_node site.kind site.patterns (string site ++ plain_byte site.fold b ∷ []) ≡ true
+      → is_node site.kind site.patterns (string site ++ plain_byte site.ignores_case b ∷ []) ≡ true
       → Contains (transition_bytes range) b
   node-transition b node =
       let m =
       some_node site.kind site.patterns site.sorted site.ready.order (string site)
-      (plain_byte site.fold b) node in
+      (plain_byte site.ignores_case b) node in
       let there =
       (h.waits.range.begins m.0 m.1).1
-      (starts_with-front (key_at site.sorted m.0) (string site) (plain_byte site.fold b) m.2) in
-      let byte = starts_with-last (key_at site.sorted m.0) (string site) (plain_byte site.fold b) m.2 in
+      (starts_with-front (key_at site.sorted m.0) (string site) (plain_byte site.ignores_case b) m.2) in
+      let byte = starts_with-last (key_at site.sorted m.0) (string site) (plain_byte site.ignores_case b) m.2 in
       elim (cases_lt m.0 site.patterns_end) [
         | inl before ↦ absurd (let none = whole' m.0 there.0 before in cc)
         | inr le ↦
             let t =
-            h.covered m.0 (plain_byte site.fold b) b le there.1
-            (subst (λ (n : ℕ). byte_at site.sorted n m.0 ≡ Some (plain_byte site.fold b)) long byte) refl
+            h.covered m.0 (plain_byte site.ignores_case b) b le there.1
+            (subst (λ (n : ℕ). byte_at site.sorted n m.0 ≡ Some (plain_byte site.ignores_case b)) long byte) refl
             in
             subst (Contains (transition_bytes range)) t.by
             (Contains-from_IsIn t.transition.byte (transition_bytes range)
@@ -127,38 +127,38 @@ module _ (site : Site) {unsorted : List Transition} {queue : List QueuedState}
 
   -- so the transitions are by the bytes by which an anchored search goes on
   branches : (b : ℕ) → Contains (transition_bytes range) b ↔
-      (step site.kind site.patterns Yes (Some (string site)) (plain_byte site.fold b) ≢ None)
+      (step site.kind site.patterns Yes (Some (string site)) (plain_byte site.ignores_case b) ≢ None)
   branches b = (
     (λ has none.
         let t =
         IsIn-from_map (λ (x : Transition). x.byte) b range (IsIn-from_Contains b (transition_bytes range) has)
         in
         let node = transition-node t.0 (from-range t.0 t.1) in
-        let some = own_target-is site.kind site.patterns (string site) (plain_byte site.fold t.0.byte) node in
+        let some = transition_target-is site.kind site.patterns (string site) (plain_byte site.ignores_case t.0.byte) node in
         let same =
-        ap (λ (x : ℕ). step site.kind site.patterns Yes (Some (string site)) (plain_byte site.fold x)) t.2 in
+        ap (λ (x : ℕ). step site.kind site.patterns Yes (Some (string site)) (plain_byte site.ignores_case x)) t.2 in
         absurd (cc)),
     (λ some. node-transition b
-        (own_target-node site.kind site.patterns (string site) (plain_byte site.fold b) some)),
+        (transition_target-node site.kind site.patterns (string site) (plain_byte site.ignores_case b) some)),
   )
 
   -- and each leads where it goes on
   leads : (k : ℕ) (t : Transition) → slice_get range k ≡ Some t
       → slice_get (nodes_of site.sorted queue) t.target
-      ≡ Some (step site.kind site.patterns Yes (Some (string site)) (plain_byte site.fold t.byte))
+      ≡ Some (step site.kind site.patterns Yes (Some (string site)) (plain_byte site.ignores_case t.byte))
   leads k t e = grind (arith, common_steps, from-range t (IsIn-place t range k e), IsIn-place t range k e, transition-node)
 
   -- the states that were whole stay what they are
   pub still-meant : AreStates
-      (grown_meaning site.kind site.fold site.patterns site.sorted transitions queue) site.states
+      (grown_view site.kind site.ignores_case site.patterns site.sorted transitions queue) site.states
   still-meant =
       AreStates-more
-      (grown_meaning site.kind site.fold site.patterns site.sorted site.transitions queue) transitions
+      (grown_view site.kind site.ignores_case site.patterns site.sorted site.transitions queue) transitions
       s.sorted split (nodes_of site.sorted queue)
       (λ k v e. e) site.states (omega arith) h.meant
 
   -- the failure target decides the link
-  pub link-due : LinkIsDue (grown_meaning site.kind site.fold site.patterns site.sorted transitions queue)
+  pub link-due : LinkIsDue (grown_view site.kind site.ignores_case site.patterns site.sorted transitions queue)
       (length site.states) (string site) site.queued.fail
   link-due = grind (arith, common_steps)
 
@@ -176,9 +176,9 @@ module _ (site : Site) {unsorted : List Transition} {queue : List QueuedState}
 
   -- the trie has branched: the state is whole
   pub has-branched : {link : ℕ}
-      → Links (grown_meaning site.kind site.fold site.patterns site.sorted transitions queue)
+      → Links (grown_view site.kind site.ignores_case site.patterns site.sorted transitions queue)
       (length site.states) (Some (string site)) link
-      → HasBranched site.kind site.fold site.patterns site.sorted site.states site.queue site.queued
+      → HasBranched site.kind site.ignores_case site.patterns site.sorted site.states site.queue site.queued
       (whole_state link) transitions queue
   has-branched {link} links = record {
     grown = IsGrown-later (omega arith) (omega (arith, as-many)) h.grown;

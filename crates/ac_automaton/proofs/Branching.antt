@@ -6,7 +6,7 @@ use Rattle.std.proofs.lemmas.Option.{slice_get_within}
 use Rattle.std.proofs.lemmas.Grind.{common_steps}
 use Rattle.ac_automaton.specs.Util.{MatchKind, plain_byte}
 use Rattle.ac_util.proofs.Lists.{IsIn, IsOrdered}
-use Rattle.ac_automaton.specs.Prelude.{AreStates, byte_at, EndsPatterns, grown_meaning, HasChild, IsGrown, IsNext, IsRangeOf, key_at, Keyed, nodes_of, QueuedState, Source, State, Transition, Waits, word}
+use Rattle.ac_automaton.specs.Prelude.{AreStates, byte_at, EndsPatterns, grown_view, HasChild, IsGrown, IsNext, IsRangeOf, key_at, Keyed, nodes_of, QueuedState, Source, State, Transition, Waits, word}
 use Rattle.ac_automaton.specs.Growths.{IsQueueReady}
 use Rattle.ac_automaton.proofs.Grown.{AreStates-more, IsGrown-later, nodes-inner, nodes-more}
 use Rattle.ac_automaton.proofs.Orders.{rank}
@@ -40,14 +40,14 @@ pub record HasTransition (x : ℕ) (transitions : List Transition) : Type 0 wher
 -- its string
 pub record Site : Type 0 where
   pub kind : MatchKind
-  pub fold : Bool
+  pub ignores_case : Bool
   pub patterns : List (List ℕ)
   pub sorted : List Keyed
   pub states : List State
   pub transitions : List Transition
   pub queue : List QueuedState
   pub queued : QueuedState
-  pub ready : IsQueueReady kind fold patterns sorted states transitions queue queued
+  pub ready : IsQueueReady kind ignores_case patterns sorted states transitions queue queued
   pub patterns_end : ℕ
   pub ends : EndsPatterns sorted queued patterns_end
 
@@ -76,7 +76,7 @@ module _ (site : Site) where
   pub record IsBranching (place : ℕ) (transitions : List Transition) (queue : List QueuedState) : Type 0 where
     pub grown : IsGrown site.kind site.patterns site.sorted (length site.states + 1) transitions queue
     pub meant : AreStates
-        (grown_meaning site.kind site.fold site.patterns site.sorted site.transitions queue) site.states
+        (grown_view site.kind site.ignores_case site.patterns site.sorted site.transitions queue) site.states
     pub waits : Waits site.kind site.patterns site.sorted queue (length site.states) site.queued
     pub node : slice_get (nodes_of site.sorted queue) (length site.states) ≡ Some (Some string)
     pub kept : (k : ℕ) (q : QueuedState) → slice_get site.queue k ≡ Some q → slice_get queue k ≡ Some q
@@ -89,11 +89,11 @@ module _ (site : Site) where
     pub split : transitions ≡ site.transitions ++ added
     pub leads : (t : Transition) → IsIn t added
         → slice_get (nodes_of site.sorted queue) t.target
-        ≡ Some (Some (string ++ plain_byte site.fold t.byte ∷ []))
-    pub by_patterns : (t : Transition) → IsIn t added → GoesOnBy place (plain_byte site.fold t.byte)
+        ≡ Some (Some (string ++ plain_byte site.ignores_case t.byte ∷ []))
+    pub by_patterns : (t : Transition) → IsIn t added → GoesOnBy place (plain_byte site.ignores_case t.byte)
     pub small : (t : Transition) → IsIn t added → t.byte < 256
     pub covered : (k b x : ℕ) → site.patterns_end ≤ k → k < place → next_byte k ≡ Some b
-        → plain_byte site.fold x ≡ b
+        → plain_byte site.ignores_case x ≡ b
         → HasTransition x added
     pub apart : IsOrdered (λ s t. s.byte ≢ t.byte) added
     pub smaller : place < site.queued.to → (k : ℕ) → site.queued.from ≤ k → k < place
@@ -198,14 +198,14 @@ module _ (site : Site) where
     child-deep = search (rules, front, pushed, starts_with-length)
 
     -- what the child's failure target is told by
-    pub has-child : HasChild site.kind site.fold site.patterns site.sorted site.states transitions queue
+    pub has-child : HasChild site.kind site.ignores_case site.patterns site.sorted site.states transitions queue
         site.queued place b
     has-child = record {
       order = site.ready.order;
       settled = site.ready.settled place site.queued.depth b run.byte;
       meant =
           AreStates-more
-          (grown_meaning site.kind site.fold site.patterns site.sorted site.transitions queue) transitions
+          (grown_view site.kind site.ignores_case site.patterns site.sorted site.transitions queue) transitions
           h.added h.split (nodes_of site.sorted queue)
           (λ s v e. e) site.states (omega arith) h.meant;
       waits = h.waits;
@@ -226,12 +226,12 @@ abbrev pub IsBranchingFrom : Source → List Transition → List QueuedState →
     → List Transition → List QueuedState → Type 0
 IsBranchingFrom from transitions queue queued end place new_transitions new_queue =
     (patterns : List (List ℕ))
-    (ready : IsQueueReady from.kind from.sorted.fold patterns from.sorted.patterns from.states transitions queue
+    (ready : IsQueueReady from.kind from.sorted.ignores_case patterns from.sorted.patterns from.states transitions queue
     queued)
     (ends : EndsPatterns from.sorted.patterns queued end)
     → IsBranching (record {
       kind = from.kind;
-      fold = from.sorted.fold;
+      ignores_case = from.sorted.ignores_case;
       patterns = patterns;
       sorted = from.sorted.patterns;
       states = from.states;

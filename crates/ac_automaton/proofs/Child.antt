@@ -7,7 +7,7 @@ use Rattle.std.proofs.Math.Seq.{take-append_seam}
 use Rattle.std.proofs.lemmas.Grind.{common_steps}
 use Rattle.ac_automaton.specs.Util.{GREATEST, plain_byte}
 use Rattle.ac_util.proofs.Lists.{IsIn, IsIn-append_cases, IsIn-append_left, IsIn-append_right, IsOrdered, IsOrdered-append}
-use Rattle.ac_automaton.specs.Prelude.{ANCHORED_START, FIRST_INNER, grown_meaning, IsGrown, IsNext, IsRangeOf, key_at, leading, miss, nodes_of, QueuedState, START, Transition, Waits, word}
+use Rattle.ac_automaton.specs.Prelude.{ANCHORED_START, FIRST_INNER, grown_view, IsGrown, IsNext, IsRangeOf, key_at, leading, fallback, nodes_of, QueuedState, START, Transition, Waits, word}
 use Rattle.ac_automaton.proofs.Grown.{AreStates-more, IsInner, nodes-cases, nodes-inner, nodes-more}
 use Rattle.ac_automaton.proofs.Leading.{leading-apart, leading-has, leading-length, leading-plain, leading-small}
 use Rattle.ac_automaton.proofs.Orders.{rank}
@@ -19,7 +19,7 @@ use Rattle.ac_automaton.proofs.Branching.{GoesOnBy, HasTransition, IsBranching, 
 module _ (site : Site) {place end b : ℕ} {transitions : List Transition} {queue : List QueuedState}
     (h : IsBranching site place transitions queue) (run : IsRun site place end b)
     (fail : ℕ) (fails : slice_get (nodes_of site.sorted queue) fail
-    ≡ Some (miss site.kind site.patterns (Some (string site ++ b ∷ [])))) where
+    ≡ Some (fallback site.kind site.patterns (Some (string site ++ b ∷ [])))) where
   -- the queued state
   abbrev child : QueuedState
   child = record { from = place; to = end; depth = site.queued.depth + 1; fail = fail }
@@ -106,14 +106,14 @@ module _ (site : Site) {place end b : ℕ} {transitions : List Transition} {queu
       starts_with-length (key_at site.sorted place) (string site ++ b ∷ []) (front site h run) in
       let named =
       slice_get_within (nodes_of site.sorted queue) fail
-      (miss site.kind site.patterns (Some (string site ++ b ∷ []))) fails in
+      (fallback site.kind site.patterns (Some (string site ++ b ∷ []))) fails in
       let count = length-map queue (λ (q : QueuedState). Some (word site.sorted q)) in
       record {
         deep = omega (arith, pushed site h run);
         range = subst (λ (v : List ℕ). IsRangeOf site.sorted v place end) (sym child-word)
             (child-range site h run);
         fails = nodes-more site.sorted queue (child ∷ []) fail _
-            (fails ∙ ap (λ (v : List ℕ). Some (miss site.kind site.patterns (Some v))) (sym child-word));
+            (fails ∙ ap (λ (v : List ℕ). Some (fallback site.kind site.patterns (Some v))) (sym child-word));
         unanchored = unanchored;
         back = λ l. omega arith;
         some = λ l. run.some;
@@ -132,10 +132,10 @@ module _ (site : Site) {place end b : ℕ} {transitions : List Transition} {queu
 
   -- the transitions to it
   abbrev pub more_transitions : List Transition
-  more_transitions = leading site.fold b (FIRST_INNER + length queue)
+  more_transitions = leading site.ignores_case b (FIRST_INNER + length queue)
 
   -- the byte is a plain one
-  settled : plain_byte site.fold b ≡ b
+  settled : plain_byte site.ignores_case b ≡ b
   settled = site.ready.settled place site.queued.depth b run.byte
 
   -- the trie is grown with it
@@ -143,7 +143,7 @@ module _ (site : Site) {place end b : ℕ} {transitions : List Transition} {queu
       → IsGrown site.kind site.patterns site.sorted (length site.states + 1)
       (transitions ++ more_transitions) (queue ++ child ∷ [])
   still-grown unanchored few = record {
-    counted = (let added = leading-length site.fold b (FIRST_INNER + length queue) in
+    counted = (let added = leading-length site.ignores_case b (FIRST_INNER + length queue) in
         omega (arith, h.grown.counted, added, length-append {A = Transition}, length_push queue child));
     few = omega (arith, length_push queue child);
     waits = λ k q e. elim (get-added_cases queue child q k e) [
@@ -180,11 +180,11 @@ module _ (site : Site) {place end b : ℕ} {transitions : List Transition} {queu
   -- each transition leads to the state of its string
   step-leads : (t : Transition) → IsIn t (h.added ++ more_transitions)
       → slice_get (nodes_of site.sorted (queue ++ child ∷ [])) t.target
-      ≡ Some (Some (string site ++ plain_byte site.fold t.byte ∷ []))
+      ≡ Some (Some (string site ++ plain_byte site.ignores_case t.byte ∷ []))
   step-leads t has = elim (IsIn-append_cases t h.added more_transitions has) [
     | inl old ↦ nodes-more site.sorted queue (child ∷ []) t.target _ (h.leads t old)
     | inr new ↦
-        let by = leading-plain site.fold b (FIRST_INNER + length queue) settled t new in
+        let by = leading-plain site.ignores_case b (FIRST_INNER + length queue) settled t new in
         ap (slice_get (nodes_of site.sorted (queue ++ child ∷ []))) by.1
         ∙ nodes-inner site.sorted (queue ++ child ∷ []) (length queue) child (get-added queue child)
         ∙ ap (λ (v : List ℕ). Some (Some v)) (child-word ∙ ap (λ (y : ℕ). string site ++ y ∷ []) (sym by.0))
@@ -192,7 +192,7 @@ module _ (site : Site) {place end b : ℕ} {transitions : List Transition} {queu
 
   -- each is by the byte of some pattern
   step-by_patterns : (t : Transition) → IsIn t (h.added ++ more_transitions)
-      → GoesOnBy site end (plain_byte site.fold t.byte)
+      → GoesOnBy site end (plain_byte site.ignores_case t.byte)
   step-by_patterns t has = elim (IsIn-append_cases t h.added more_transitions has) [
     | inl old ↦
         let r = h.by_patterns t old in
@@ -204,7 +204,7 @@ module _ (site : Site) {place end b : ℕ} {transitions : List Transition} {queu
       high = run.some;
       byte = run.byte
           ∙ ap (λ (y : ℕ). Some y)
-          (sym (leading-plain site.fold b (FIRST_INNER + length queue) settled t new).0);
+          (sym (leading-plain site.ignores_case b (FIRST_INNER + length queue) settled t new).0);
     }
   ]
 
@@ -212,12 +212,12 @@ module _ (site : Site) {place end b : ℕ} {transitions : List Transition} {queu
   step-small : (t : Transition) → IsIn t (h.added ++ more_transitions) → t.byte < 256
   step-small t has = elim (IsIn-append_cases t h.added more_transitions has) [
     | inl old ↦ h.small t old
-    | inr new ↦ leading-small site.fold b (FIRST_INNER + length queue) run.small t new
+    | inr new ↦ leading-small site.ignores_case b (FIRST_INNER + length queue) run.small t new
   ]
 
   -- each pattern up to the end of the run has a transition by its byte
   step-covered : (k c x : ℕ) → site.patterns_end ≤ k → k < end → next_byte site k ≡ Some c
-      → plain_byte site.fold x ≡ c
+      → plain_byte site.ignores_case x ≡ c
       → HasTransition x (h.added ++ more_transitions)
   step-covered k c x l m e is = elim (cases_lt k place) [
     | inl before ↦
@@ -232,7 +232,7 @@ module _ (site : Site) {place end b : ℕ} {transitions : List Transition} {queu
         record {
           transition = record { byte = x; target = FIRST_INNER + length queue };
           among = IsIn-append_right _ h.added more_transitions
-              (leading-has site.fold b (FIRST_INNER + length queue) settled x (is ∙ same_byte));
+              (leading-has site.ignores_case b (FIRST_INNER + length queue) settled x (is ∙ same_byte));
           by = refl;
         }
   ]
@@ -241,15 +241,15 @@ module _ (site : Site) {place end b : ℕ} {transitions : List Transition} {queu
   step-apart : IsOrdered (λ s t. s.byte ≢ t.byte) (h.added ++ more_transitions)
   step-apart =
       IsOrdered-append (λ (s t : Transition). s.byte ≢ t.byte) h.added more_transitions h.apart
-      (leading-apart site.fold b (FIRST_INNER + length queue))
+      (leading-apart site.ignores_case b (FIRST_INNER + length queue))
       (λ s t old new e.
       let r = h.by_patterns s old in
       let less =
       h.smaller run.more r.at (omega (arith, site.ends.later, r.low)) r.high in
-      let low : rank (next_byte site r.at) ≡ suc (plain_byte site.fold s.byte) = ap rank r.byte in
+      let low : rank (next_byte site r.at) ≡ suc (plain_byte site.ignores_case s.byte) = ap rank r.byte in
       let high : rank (next_byte site place) ≡ suc b = ap rank run.byte in
-      let is : plain_byte site.fold s.byte ≡ b =
-      ap (plain_byte site.fold) e ∙ (leading-plain site.fold b (FIRST_INNER + length queue) settled t new).0
+      let is : plain_byte site.ignores_case s.byte ≡ b =
+      ap (plain_byte site.ignores_case) e ∙ (leading-plain site.ignores_case b (FIRST_INNER + length queue) settled t new).0
       in
       absurd (omega arith))
 
@@ -265,7 +265,7 @@ module _ (site : Site) {place end b : ℕ} {transitions : List Transition} {queu
     grown = still-grown unanchored few;
     meant =
         AreStates-more
-        (grown_meaning site.kind site.fold site.patterns site.sorted site.transitions queue)
+        (grown_view site.kind site.ignores_case site.patterns site.sorted site.transitions queue)
         site.transitions [] (sym (append-nil site.transitions))
         (nodes_of site.sorted (queue ++ child ∷ []))
         (nodes-more site.sorted queue (child ∷ [])) site.states

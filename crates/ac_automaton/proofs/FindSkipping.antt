@@ -17,9 +17,9 @@ use Rattle.ac_automaton.proofs.ReadOn.{node-start}
 use Rattle.ac_automaton.proofs.Skipping.{none-there}
 
 -- a search that skips has no empty pattern
-pub skip-some : (filters fold : Bool) (patterns : List (List ℕ)) (skip : Skip)
-    → skip_for filters fold patterns ≡ Some skip → list_any is_empty patterns ≡ false
-skip-some filters fold patterns skip = grind (arith, common_steps)
+pub skip-some : (wants_prefilter ignores_case : Bool) (patterns : List (List ℕ)) (skip : Skip)
+    → skip_for wants_prefilter ignores_case patterns ≡ Some skip → list_any is_empty patterns ≡ false
+skip-some wants_prefilter ignores_case patterns skip = grind (arith, common_steps)
 
 -- where nothing occurs nothing is picked
 pub picks-none : (kind : MatchKind) (q : Search) → ((m : Occurrence) → ¬ Occurs q m) → None ≡ pick kind q
@@ -62,11 +62,11 @@ module _ (s : Scan) (bytes : List ℕ) (span : Span) {skip : Skip} (by : SkipsBy
 
   -- the search of a span that isn't anchored
   unanchored : (kind : MatchKind) {r : Option Occurrence}
-      → pick kind (search_over s.built.fold s.built.patterns bytes span.start span.end) ≡ r → r ≡ pick kind searched
+      → pick kind (search_over s.built.ignores_case s.built.patterns bytes span.start span.end) ≡ r → r ≡ pick kind searched
   unanchored kind is = cc
 
   pub searched-told : (stops : Bool) (r : Option Occurrence)
-      → pick (order_of s.built.kind stops) (search_over s.built.fold s.built.patterns bytes span.start span.end) ≡ r
+      → pick (order_of s.built.kind stops) (search_over s.built.ignores_case s.built.patterns bytes span.start span.end) ≡ r
       → span.start < span.end → place ≤ span.start
       → HasSearched (picking_by s stops) searched r before after
   searched-told stops r answer some_bytes unread =

@@ -6,9 +6,9 @@ use Rattle.std.proofs.lemmas.Grind.{common_steps}
 use Rattle.ac_util.specs.declared.search.Anchored.{Anchored}
 use Rattle.ac_automaton.specs.Util.{Counts, looks, more_looks, No, Node, plain_byte, step, Yes}
 use Rattle.ac_util.proofs.Lists.{Contains-from_IsIn, IsIn-map}
-use Rattle.ac_automaton.specs.Prelude.{ANCHORED_START, DEAD, FIRST_INNER, HasState, Meaning, own_target, Represents, RootTells, START, State, Transition, transition_bytes, transitions_of}
+use Rattle.ac_automaton.specs.Prelude.{ANCHORED_START, DEAD, FIRST_INNER, HasState, TrieView, transition_target, Represents, RootTells, START, State, Transition, transition_bytes, transitions_of}
 use Rattle.ac_automaton.proofs.Places.{IsIn-place, get-same}
-use Rattle.ac_automaton.proofs.Steps.{step-own_target, step-on, looks-own_target, looks-short, looks-on}
+use Rattle.ac_automaton.proofs.Steps.{step-transition_target, step-on, looks-transition_target, looks-short, looks-on}
 
 -- no more looks change nothing, and n and then m are n + m
 pub more_looks-none : (counts : Counts) → counts ≡ more_looks 0 counts
@@ -19,23 +19,23 @@ pub more_looks-twice : (n m : ℕ) (counts : Counts) → more_looks m (more_look
 more_looks-twice n m counts = grind (arith, common_steps)
 
 -- no transition of a node's own leads to the empty string
-own_target-longer : (g : Meaning) (v : Node) (b : ℕ) → own_target g v b ≢ Some []
-own_target-longer g None b e = absurd (cc)
-own_target-longer g (Some w) b e = grind (arith, common_steps)
+transition_target-longer : (g : TrieView) (v : Node) (b : ℕ) → transition_target g v b ≢ Some []
+transition_target-longer g None b e = absurd (cc)
+transition_target-longer g (Some w) b e = grind (arith, common_steps)
 
 -- the state that was read stands for the node of its number
-pub represented : (g : Meaning) (states : List State) (s : ℕ) (v : Node) (t : State)
+pub represented : (g : TrieView) (states : List State) (s : ℕ) (v : Node) (t : State)
     → HasState g states s v → t ≡ get_or states s t → Represents g s v t
 represented g states s v t h is =
     subst (λ (x : State). Represents g s v x) (sym (get_or_read states s t h.there is _))
     (h.meant.each s v h.there h.named)
 
-module _ (g : Meaning) (transitions : List Transition) (same : g.transitions ≡ transitions)
+module _ (g : TrieView) (transitions : List Transition) (same : g.transitions ≡ transitions)
     (s : ℕ) (v : Node) (t : State) (r : Represents g s v t) (b : ℕ) where
   -- a byte with a transition leads on
   pub leads-on : (k target : ℕ)
       → slice_get (transitions_of transitions t) k ≡ Some (record { byte = b; target = target })
-      → own_target g v b ≢ None
+      → transition_target g v b ≢ None
   leads-on k target at =
       let own = transitions_of g.transitions t in
       let there : slice_get own k ≡ Some (record { byte = b; target = target }) = rw same at in
@@ -47,41 +47,41 @@ module _ (g : Meaning) (transitions : List Transition) (same : g.transitions ≡
   -- and it leads to the target
   pub leads-to : (k target : ℕ)
       → slice_get (transitions_of transitions t) k ≡ Some (record { byte = b; target = target })
-      → slice_get g.nodes target ≡ Some (own_target g v b)
+      → slice_get g.nodes target ≡ Some (transition_target g v b)
   leads-to k target at = r.leads k (record { byte = b; target = target }) (rw same at)
 
   -- so the target is no start
   pub leads-inner : (k target : ℕ)
       → slice_get (transitions_of transitions t) k ≡ Some (record { byte = b; target = target })
       → slice_get g.nodes ANCHORED_START ≡ Some (Some []) → target ≢ ANCHORED_START
-  leads-inner k target at start is = search (rules, get-same, leads-to, own_target-longer)
+  leads-inner k target at start is = search (rules, get-same, leads-to, transition_target-longer)
 
   -- any other byte leads nowhere
-  pub leads-nowhere : (Contains (transition_bytes (transitions_of transitions t)) b → ⊥) → own_target g v b
+  pub leads-nowhere : (Contains (transition_bytes (transitions_of transitions t)) b → ⊥) → transition_target g v b
       ≡ None
   leads-nowhere none = grind (arith, common_steps)
 
 -- on the way to where the byte leads from the node, the walk is at a state, and has counted what it took to
 -- come there
-pub record Onward (g : Meaning) (states : List State) (anchored : Anchored) (b : ℕ) (u : Node)
+pub record Onward (g : TrieView) (states : List State) (anchored : Anchored) (b : ℕ) (u : Node)
     (old now : Counts) (at : ℕ)
     : Type 0 where
   pub node : Node
   pub state : HasState g states at node
-  pub steps : step g.kind g.patterns anchored u (plain_byte g.fold b) ≡ step g.kind g.patterns anchored node
-      (plain_byte g.fold b)
+  pub steps : step g.kind g.patterns anchored u (plain_byte g.ignores_case b) ≡ step g.kind g.patterns anchored node
+      (plain_byte g.ignores_case b)
   pub taken : ℕ
   pub looks : looks g.kind g.patterns anchored u
-      (plain_byte g.fold b) ≡ taken + looks g.kind g.patterns anchored node (plain_byte g.fold b)
+      (plain_byte g.ignores_case b) ≡ taken + looks g.kind g.patterns anchored node (plain_byte g.ignores_case b)
   pub counted : now ≡ more_looks taken old
 
 -- at its end it is where the byte leads, and has counted all looks
-pub record Ended (g : Meaning) (anchored : Anchored) (b : ℕ) (u : Node) (old new : Counts)
+pub record Ended (g : TrieView) (anchored : Anchored) (b : ℕ) (u : Node) (old new : Counts)
     (next : ℕ) : Type 0 where
-  pub steps : slice_get g.nodes next ≡ Some (step g.kind g.patterns anchored u (plain_byte g.fold b))
-  pub looks : new ≡ more_looks (looks g.kind g.patterns anchored u (plain_byte g.fold b)) old
+  pub steps : slice_get g.nodes next ≡ Some (step g.kind g.patterns anchored u (plain_byte g.ignores_case b))
+  pub looks : new ≡ more_looks (looks g.kind g.patterns anchored u (plain_byte g.ignores_case b)) old
 
-module _ (g : Meaning) (states : List State) (b : ℕ) (u : Node) (old : Counts) where
+module _ (g : TrieView) (states : List State) (b : ℕ) (u : Node) (old : Counts) where
   -- before the first look the walk is on the way
   pub onward-start : (anchored : Anchored) (s : ℕ) → HasState g states s u
       → Onward g states anchored b u old old s
@@ -89,20 +89,20 @@ module _ (g : Meaning) (states : List State) (b : ℕ) (u : Node) (old : Counts)
 
   -- with one look more the walk has counted all
   counted-last : (anchored : Anchored) (now new : Counts) (s : ℕ) (o : Onward g states anchored b u old now s)
-      → looks g.kind g.patterns anchored o.node (plain_byte g.fold b) ≡ 1 → new ≡ more_looks 1 now
-      → new ≡ more_looks (looks g.kind g.patterns anchored u (plain_byte g.fold b)) old
+      → looks g.kind g.patterns anchored o.node (plain_byte g.ignores_case b) ≡ 1 → new ≡ more_looks 1 now
+      → new ≡ more_looks (looks g.kind g.patterns anchored u (plain_byte g.ignores_case b)) old
   counted-last anchored now new s o one more = grind (arith, common_steps)
 
   -- a byte that leads on leads to one node in any search, with one look
-  step-leads : (anchored : Anchored) (v : Node) → own_target g v b ≢ None
-      → step g.kind g.patterns anchored v (plain_byte g.fold b) ≡ own_target g v b
-  step-leads No v on = step-own_target g.kind g.patterns v (plain_byte g.fold b) on
+  step-leads : (anchored : Anchored) (v : Node) → transition_target g v b ≢ None
+      → step g.kind g.patterns anchored v (plain_byte g.ignores_case b) ≡ transition_target g v b
+  step-leads No v on = step-transition_target g.kind g.patterns v (plain_byte g.ignores_case b) on
   step-leads Yes v on = refl
 
   -- where a node has a transition of its own, a step takes one look
-  looks-leads : (anchored : Anchored) (v : Node) → own_target g v b ≢ None
-      → looks g.kind g.patterns anchored v (plain_byte g.fold b) ≡ 1
-  looks-leads No v on = looks-own_target g.kind g.patterns v (plain_byte g.fold b) on
+  looks-leads : (anchored : Anchored) (v : Node) → transition_target g v b ≢ None
+      → looks g.kind g.patterns anchored v (plain_byte g.ignores_case b) ≡ 1
+  looks-leads No v on = looks-transition_target g.kind g.patterns v (plain_byte g.ignores_case b) on
   looks-leads Yes v on = refl
 
   -- at the start an unanchored walk ends with one look where a root table tells
@@ -115,7 +115,7 @@ module _ (g : Meaning) (states : List State) (b : ℕ) (u : Node) (old : Counts)
       grind (
         arith,
         common_steps,
-        looks-short g.kind g.patterns o.node (plain_byte g.fold b) ((o.state.meant.each s o.node o.state.there o.state.named).outer (omega (
+        looks-short g.kind g.patterns o.node (plain_byte g.ignores_case b) ((o.state.meant.each s o.node o.state.there o.state.named).outer (omega (
           arith,
           at_start,
         ))),
@@ -160,9 +160,9 @@ module _ (g : Meaning) (states : List State) (b : ℕ) (u : Node) (old : Counts)
             arith,
             common_steps,
             represented g states s o.node t o.state is,
-            looks-on g.kind g.patterns o.node (plain_byte g.fold b) (leads-nowhere g transitions same s o.node t (represented g states s o.node t
+            looks-on g.kind g.patterns o.node (plain_byte g.ignores_case b) (leads-nowhere g transitions same s o.node t (represented g states s o.node t
                 o.state is) b none) ((represented g states s o.node t o.state is).inner large),
-            step-on g.kind g.patterns o.node (plain_byte g.fold b) (leads-nowhere g transitions same s o.node t (represented g states s o.node t o.state
+            step-on g.kind g.patterns o.node (plain_byte g.ignores_case b) (leads-nowhere g transitions same s o.node t (represented g states s o.node t o.state
                 is) b none) ((represented g states s o.node t o.state is).inner large),
             more_looks-twice o.taken 1 old,
           )

@@ -7,7 +7,7 @@ use Rattle.std.proofs.lemmas.Option.{slice_get-map, slice_get-get_or, slice_get_
 use Rattle.std.proofs.lemmas.Grind.{common_steps}
 use Rattle.ac_automaton.specs.Util.{MatchKind, Node}
 use Rattle.ac_util.proofs.PiecesLemmas.{slice_range-append}
-use Rattle.ac_automaton.specs.Prelude.{AreStates, FIRST_INNER, IsGrown, Keyed, Meaning, nodes_of, own_target, QueuedState, Represents, START, State, state_at, Transition, transition_bytes, transitions_of, word}
+use Rattle.ac_automaton.specs.Prelude.{AreStates, FIRST_INNER, IsGrown, Keyed, TrieView, nodes_of, transition_target, QueuedState, Represents, START, State, state_at, Transition, transition_bytes, transitions_of, word}
 use Rattle.ac_automaton.proofs.Places.{get-from_map, get-same}
 
 -- what a number says of its node: dead, the start, or the string of a state in the queue
@@ -68,10 +68,10 @@ pub IsGrown-later : {kind : MatchKind} {patterns : List (List ℕ)} {sorted : Li
 IsGrown-later more few grown = search rules
 
 -- the meaning with other transitions and nodes
-abbrev pub more_meaning : Meaning → List Transition → List Node → Meaning
+abbrev pub more_meaning : TrieView → List Transition → List Node → TrieView
 more_meaning g transitions nodes = record {
   kind = g.kind;
-  fold = g.fold;
+  ignores_case = g.ignores_case;
   patterns = g.patterns;
   order = g.order;
   transitions = transitions;
@@ -79,7 +79,7 @@ more_meaning g transitions nodes = record {
 }
 
 -- with more transitions, and with nodes of which each keeps its number
-module _ (g : Meaning) (transitions more : List Transition) (split : transitions ≡ g.transitions ++ more)
+module _ (g : TrieView) (transitions more : List Transition) (split : transitions ≡ g.transitions ++ more)
     (nodes : List Node)
     (keeps : (s : ℕ) (v : Node) → slice_get g.nodes s ≡ Some v → slice_get nodes s ≡ Some v) where
   -- a state that is whole stays what it is
@@ -97,7 +97,7 @@ module _ (g : Meaning) (transitions more : List Transition) (split : transitions
         ascending = subst (λ (ts : List Transition). IsStrictlyIncreasing (transition_bytes ts))
             (sym e) r.ascending;
         branches = λ b. subst
-            (λ (ts : List Transition). Contains (transition_bytes ts) b ↔ (own_target g v b ≢ None)) (sym e)
+            (λ (ts : List Transition). Contains (transition_bytes ts) b ↔ (transition_target g v b ≢ None)) (sym e)
             (r.branches b);
         leads =
             λ k next h. keeps _ _ (r.leads k next (sym (ap (λ (ts : List Transition). slice_get ts k) e) ∙ h));
@@ -134,7 +134,7 @@ module _ (g : Meaning) (transitions more : List Transition) (split : transitions
   }
 
 -- one more state is whole
-module _ (g : Meaning) (states : List State) (v : Node) (t : State) where
+module _ (g : TrieView) (states : List State) (v : Node) (t : State) where
   -- then all of them are
   pub AreStates-push : AreStates g states → slice_get g.nodes (length states) ≡ Some v
       → Represents g (length states) v t

@@ -13,18 +13,18 @@ use Rattle.ac_automaton.proofs.Places.{IsIn-from_take}
 use Rattle.ac_automaton.proofs.Stacks.{Standing, Standing-keep, Standing-shrink, Standing-skip, least-from_last, no_part, none, numbered, sorted_of, takes_part_here}
 
 -- a filter by number commutes with the view
-keyed-filter : (fold : Bool) (f : ℕ → Bool) (sorted : List SortedPattern)
-    → keyed fold (filter (λ m. f m.number) sorted) ≡ filter (λ m. f m.number) (keyed fold sorted)
-keyed-filter fold f [] = refl
-keyed-filter fold f (m ∷ sorted) = grind (arith, common_steps, keyed-filter fold f sorted)
+keyed-filter : (ignores_case : Bool) (f : ℕ → Bool) (sorted : List SortedPattern)
+    → keyed ignores_case (filter (λ m. f m.number) sorted) ≡ filter (λ m. f m.number) (keyed ignores_case sorted)
+keyed-filter ignores_case f [] = refl
+keyed-filter ignores_case f (m ∷ sorted) = grind (arith, common_steps, keyed-filter ignores_case f sorted)
 
 -- those that take part, in order
-pub IsOrder-kept : (fold : Bool) (patterns : List (List ℕ)) (sorted : List SortedPattern)
-    → IsOrder Standard patterns (keyed fold sorted)
+pub IsOrder-kept : (ignores_case : Bool) (patterns : List (List ℕ)) (sorted : List SortedPattern)
+    → IsOrder Standard patterns (keyed ignores_case sorted)
     → IsOrder LeftmostFirst patterns
-    (keyed fold (filter (λ m. participates LeftmostFirst patterns m.number) sorted))
-IsOrder-kept fold patterns sorted order =
-    let all = keyed fold sorted in
+    (keyed ignores_case (filter (λ m. participates LeftmostFirst patterns m.number) sorted))
+IsOrder-kept ignores_case patterns sorted order =
+    let all = keyed ignores_case sorted in
     let takes = λ (m : Keyed). participates LeftmostFirst patterns m.number in
     let kept : IsOrder LeftmostFirst patterns (filter takes all) = record {
       ascending = AllPairs-filter Precedes takes all order.ascending;
@@ -54,43 +54,43 @@ IsOrder-kept fold patterns sorted order =
       );
     } in
     subst (IsOrder LeftmostFirst patterns)
-    (sym (keyed-filter fold (participates LeftmostFirst patterns) sorted)) kept
+    (sym (keyed-filter ignores_case (participates LeftmostFirst patterns) sorted)) kept
 
-module _ (fold : Bool) (patterns : List (List ℕ)) (all : List SortedPattern)
-    (order : IsOrder Standard patterns (keyed fold all)) (at : ℕ)
+module _ (ignores_case : Bool) (patterns : List (List ℕ)) (all : List SortedPattern)
+    (order : IsOrder Standard patterns (keyed ignores_case all)) (at : ℕ)
     (within : at < length all) (pattern : SortedPattern) (is : pattern ≡ get_or all at pattern)
     (old new : List SortedPattern)
-    (s : Standing patterns (keyed fold all) at (keyed fold old)) (left : new ≡ take (length new) old)
-    (gone : AllWithin (λ p. is_prefix fold pattern p ≡ false) old (length new) (length old)) where
+    (s : Standing patterns (keyed ignores_case all) at (keyed ignores_case old)) (left : new ≡ take (length new) old)
+    (gone : AllWithin (λ p. is_prefix ignores_case pattern p ≡ false) old (length new) (length old)) where
   -- the place lies within the view
-  within-view : at < length (keyed fold all)
-  within-view = omega (arith, length-map all (keyed_one fold))
+  within-view : at < length (keyed ignores_case all)
+  within-view = omega (arith, length-map all (keyed_one ignores_case))
 
   -- the pattern there is the stored one
-  here-is : get_or (keyed fold all) at none ≡ keyed_one fold pattern
-  here-is = get_or-map (keyed_one fold) all at pattern none within ∙ ap (keyed_one fold) (sym is)
+  here-is : get_or (keyed ignores_case all) at none ≡ keyed_one ignores_case pattern
+  here-is = get_or-map (keyed_one ignores_case) all at pattern none within ∙ ap (keyed_one ignores_case) (sym is)
 
   -- the stack without those that are no prefixes any more
-  shrunk : Standing patterns (keyed fold all) at (keyed fold new)
+  shrunk : Standing patterns (keyed ignores_case all) at (keyed ignores_case new)
   shrunk =
-      let l = length-map old (keyed_one fold) in
-      subst (Standing patterns (keyed fold all) at)
-      (sym (ap (keyed fold) left ∙ sym (take-map (keyed_one fold) (length new) old)))
-      (Standing-shrink patterns (keyed fold all) order at within-view (keyed fold old) s (length new)
+      let l = length-map old (keyed_one ignores_case) in
+      subst (Standing patterns (keyed ignores_case all) at)
+      (sym (ap (keyed ignores_case) left ∙ sym (take-map (keyed_one ignores_case) (length new) old)))
+      (Standing-shrink patterns (keyed ignores_case all) order at within-view (keyed ignores_case old) s (length new)
       (λ k le below.
       let inside : k < length old = omega arith in
-      subst (λ (w : Keyed). starts_with nat_eq w.key (key_at (keyed fold old) k) ≡ false) (sym here-is)
-      (subst (λ (w : Keyed). starts_with nat_eq (plain fold pattern.bytes.now) w.key ≡ false)
-      (sym (get_or-map (keyed_one fold) old k pattern none inside)) (gone k pattern le inside))))
+      subst (λ (w : Keyed). starts_with nat_eq w.key (key_at (keyed ignores_case old) k) ≡ false) (sym here-is)
+      (subst (λ (w : Keyed). starts_with nat_eq (plain ignores_case pattern.bytes.now) w.key ≡ false)
+      (sym (get_or-map (keyed_one ignores_case) old k pattern none inside)) (gone k pattern le inside))))
 
   -- the last of the stack stands in its view
-  last-in : 0 < length new → IsIn (keyed_one fold (get_or new (length new - 1) pattern)) (keyed fold new)
-  last-in some = IsIn-map (keyed_one fold) (get_or new (length new - 1) pattern) new
+  last-in : 0 < length new → IsIn (keyed_one ignores_case (get_or new (length new - 1) pattern)) (keyed ignores_case new)
+  last-in some = IsIn-map (keyed_one ignores_case) (get_or new (length new - 1) pattern) new
       (IsIn-at (get_or new (length new - 1) pattern) pattern new (length new - 1) (omega arith) refl)
 
   -- a pattern after one of a lesser number takes no part
   shadowed-part : (0 < length new)
-      × HoldsAt (λ p. (is_prefix fold pattern p ≡ true) × (p.number < pattern.number)) new (length new - 1)
+      × HoldsAt (λ p. (is_prefix ignores_case pattern p ≡ true) × (p.number < pattern.number)) new (length new - 1)
       → participates LeftmostFirst patterns pattern.number ≡ false
   shadowed-part h =
       grind (
@@ -98,36 +98,36 @@ module _ (fold : Bool) (patterns : List (List ℕ)) (all : List SortedPattern)
         common_steps,
         here-is,
         no_part,
-        IsIn-from_take (keyed_one fold (get_or new (length new - 1) pattern)) at (keyed fold all) (shrunk.before (keyed_one fold (get_or new (length new
+        IsIn-from_take (keyed_one ignores_case (get_or new (length new - 1) pattern)) at (keyed ignores_case all) (shrunk.before (keyed_one ignores_case (get_or new (length new
             - 1) pattern)) (last-in h.0)),
       )
 
   -- it is passed over, and the stack stays
   pub shadowed-skips : (0 < length new)
-      × HoldsAt (λ p. (is_prefix fold pattern p ≡ true) × (p.number < pattern.number)) new (length new - 1)
+      × HoldsAt (λ p. (is_prefix ignores_case pattern p ≡ true) × (p.number < pattern.number)) new (length new - 1)
       → (participates LeftmostFirst patterns pattern.number ≡ false)
-      × Standing patterns (keyed fold all) (at + 1) (keyed fold new)
+      × Standing patterns (keyed ignores_case all) (at + 1) (keyed ignores_case new)
   shadowed-skips h = search (rules, Standing-skip, here-is, shadowed-part, shrunk, within-view)
 
   -- and else it does, and goes on the stack
   pub free-keeps : (0 < length new → HoldsAt (λ p. pattern.number ≤ p.number) new (length new - 1))
       → (participates LeftmostFirst patterns pattern.number ≡ true)
-      × Standing patterns (keyed fold all) (at + 1) (keyed fold (new ++ pattern ∷ []))
+      × Standing patterns (keyed ignores_case all) (at + 1) (keyed ignores_case (new ++ pattern ∷ []))
   free-keeps h =
-      let long = length-map new (keyed_one fold) in
+      let long = length-map new (keyed_one ignores_case) in
       let number = ap (λ (w : Keyed). w.number) here-is in
       let least =
-      least-from_last (keyed fold new) none (get_or (keyed fold all) at none).number shrunk.falling (λ some.
+      least-from_last (keyed ignores_case new) none (get_or (keyed ignores_case all) at none).number shrunk.falling (λ some.
       let l = h (omega arith) pattern in
-      let e = ap (λ (w : Keyed). w.number) (ap (λ (i : ℕ). get_or (keyed fold new) (i - 1) none) long
-      ∙ get_or-map (keyed_one fold) new (length new - 1) pattern none (omega arith)) in
+      let e = ap (λ (w : Keyed). w.number) (ap (λ (i : ℕ). get_or (keyed ignores_case new) (i - 1) none) long
+      ∙ get_or-map (keyed_one ignores_case) new (length new - 1) pattern none (omega arith)) in
       omega arith) in (
         ap (λ (w : Keyed). participates LeftmostFirst patterns w.number) (sym here-is)
-            ∙ takes_part_here patterns (keyed fold all) order at within-view (keyed fold new) shrunk least,
-        subst (Standing patterns (keyed fold all) (at + 1))
-            (ap (λ (w : Keyed). keyed fold new ++ w ∷ []) here-is
-            ∙ sym (map-append (keyed_one fold) new (pattern ∷ [])))
-            (Standing-keep patterns (keyed fold all) order at within-view (keyed fold new) shrunk least),
+            ∙ takes_part_here patterns (keyed ignores_case all) order at within-view (keyed ignores_case new) shrunk least,
+        subst (Standing patterns (keyed ignores_case all) (at + 1))
+            (ap (λ (w : Keyed). keyed ignores_case new ++ w ∷ []) here-is
+            ∙ sym (map-append (keyed_one ignores_case) new (pattern ∷ [])))
+            (Standing-keep patterns (keyed ignores_case all) order at within-view (keyed ignores_case new) shrunk least),
       )
 
 -- under the other kinds all patterns take part
@@ -141,29 +141,29 @@ IsOrder-all kind patterns sorted (inr e) order =
     subst (λ k. IsOrder k patterns sorted) (sym e) longest
 
 -- of all patterns those before a place that take part stand first, and the stack is that of the place
-pub record Keeps (fold : Bool) (all sorted : List SortedPattern) (kept at : ℕ)
+pub record Keeps (ignores_case : Bool) (all sorted : List SortedPattern) (kept at : ℕ)
     (prefixes : List SortedPattern) : Type 0 where
-  pub behind : kept ≤ at
+  pub beyond : kept ≤ at
   pub long : length sorted ≡ length all
   pub short : All (λ p. length p.bytes.now ≤ GREATEST) all → All (λ p. length p.bytes.now ≤ GREATEST) sorted
   pub numbers_small : All (λ p. p.number ≤ GREATEST) all → All (λ p. p.number ≤ GREATEST) sorted
-  pub first : (patterns : List (List ℕ)) → IsOrder Standard patterns (keyed fold all)
+  pub first : (patterns : List (List ℕ)) → IsOrder Standard patterns (keyed ignores_case all)
       → FiltersInPlace (λ m. participates LeftmostFirst patterns m.number) all sorted kept at
-  pub standing : (patterns : List (List ℕ)) → IsOrder Standard patterns (keyed fold all)
-      → Standing patterns (keyed fold all) at (keyed fold prefixes)
+  pub standing : (patterns : List (List ℕ)) → IsOrder Standard patterns (keyed ignores_case all)
+      → Standing patterns (keyed ignores_case all) at (keyed ignores_case prefixes)
 
 -- what stands at the place is as it was
 unmoved : {X : Type 0} (p : X → Bool) (all sorted : List X) (kept at : ℕ) (x : X)
     → FiltersInPlace p all sorted kept at → x ≡ get_or sorted at x → x ≡ get_or all at x
 unmoved p all sorted kept at x f is = grind (arith, common_steps)
 
-module _ (fold : Bool) (all sorted : List SortedPattern) (kept at : ℕ) (old new : List SortedPattern)
+module _ (ignores_case : Bool) (all sorted : List SortedPattern) (kept at : ℕ) (old new : List SortedPattern)
     (pattern : SortedPattern)
-    (keeps : Keeps fold all sorted kept at old) (within : at < length sorted)
+    (keeps : Keeps ignores_case all sorted kept at old) (within : at < length sorted)
     (is : pattern ≡ get_or sorted at pattern)
     (left : new ≡ take (length new) old)
-    (gone : AllWithin (λ p. is_prefix fold pattern p ≡ false) old (length new) (length old)) where
-  module _ (patterns : List (List ℕ)) (order : IsOrder Standard patterns (keyed fold all)) where
+    (gone : AllWithin (λ p. is_prefix ignores_case pattern p ≡ false) old (length new) (length old)) where
+  module _ (patterns : List (List ℕ)) (order : IsOrder Standard patterns (keyed ignores_case all)) where
     -- the place is one of all patterns
     in_all : at < length all
     in_all = omega (arith, keeps.long)
@@ -176,15 +176,15 @@ module _ (fold : Bool) (all sorted : List SortedPattern) (kept at : ℕ) (old ne
 
   -- a pattern that stands after one of a lesser number is passed over
   pub Keeps-skip : (0 < length new)
-      × HoldsAt (λ p. (is_prefix fold pattern p ≡ true) × (p.number < pattern.number)) new (length new - 1)
-      → Keeps fold all sorted kept (at + 1) new
+      × HoldsAt (λ p. (is_prefix ignores_case pattern p ≡ true) × (p.number < pattern.number)) new (length new - 1)
+      → Keeps ignores_case all sorted kept (at + 1) new
   Keeps-skip h =
-      let step = λ (patterns : List (List ℕ)) (order : IsOrder Standard patterns (keyed fold all)).
-      shadowed-skips fold patterns all order at (in_all patterns order) pattern
+      let step = λ (patterns : List (List ℕ)) (order : IsOrder Standard patterns (keyed ignores_case all)).
+      shadowed-skips ignores_case patterns all order at (in_all patterns order) pattern
       (is_in_all patterns order) old new
       (keeps.standing patterns order) left gone h in
-      let b = keeps.behind in record {
-        behind = omega arith;
+      let b = keeps.beyond in record {
+        beyond = omega arith;
         long = keeps.long;
         short = keeps.short;
         numbers_small = keeps.numbers_small;
@@ -195,13 +195,13 @@ module _ (fold : Bool) (all sorted : List SortedPattern) (kept at : ℕ) (old ne
 
   -- any other is moved down, and goes on the stack
   pub Keeps-keep : (0 < length new → HoldsAt (λ p. pattern.number ≤ p.number) new (length new - 1))
-      → Keeps fold all (set sorted kept pattern) (kept + 1) (at + 1) (new ++ pattern ∷ [])
+      → Keeps ignores_case all (set sorted kept pattern) (kept + 1) (at + 1) (new ++ pattern ∷ [])
   Keeps-keep h =
-      let step = λ (patterns : List (List ℕ)) (order : IsOrder Standard patterns (keyed fold all)).
-      free-keeps fold patterns all order at (in_all patterns order) pattern (is_in_all patterns order) old new
+      let step = λ (patterns : List (List ℕ)) (order : IsOrder Standard patterns (keyed ignores_case all)).
+      free-keeps ignores_case patterns all order at (in_all patterns order) pattern (is_in_all patterns order) old new
       (keeps.standing patterns order) left gone h in
-      let b = keeps.behind in record {
-        behind = omega arith;
+      let b = keeps.beyond in record {
+        beyond = omega arith;
         long = length-set sorted kept pattern ∙ keeps.long;
         short = λ small. All-set (λ p. length p.bytes.now ≤ GREATEST) sorted kept pattern
             (subst (λ (w : SortedPattern). length w.bytes.now ≤ GREATEST) (sym is)
@@ -216,11 +216,11 @@ module _ (fold : Bool) (all sorted : List SortedPattern) (kept at : ℕ) (old ne
       }
 
 -- after the loop those that take part are left
-pub Keeps-end : (fold : Bool) (all sorted cut : List SortedPattern) (kept at : ℕ)
+pub Keeps-end : (ignores_case : Bool) (all sorted cut : List SortedPattern) (kept at : ℕ)
     (prefixes : List SortedPattern)
-    → Keeps fold all sorted kept at prefixes
+    → Keeps ignores_case all sorted kept at prefixes
     → length all ≤ at → cut ≡ take kept sorted → (patterns : List (List ℕ))
-    → IsOrder Standard patterns (keyed fold all)
-    → IsOrder LeftmostFirst patterns (keyed fold cut)
-Keeps-end fold all sorted cut kept at prefixes keeps done is patterns order =
-    search (rules, FiltersInPlace-all (keeps.first patterns order) done, IsOrder-kept fold patterns all order)
+    → IsOrder Standard patterns (keyed ignores_case all)
+    → IsOrder LeftmostFirst patterns (keyed ignores_case cut)
+Keeps-end ignores_case all sorted cut kept at prefixes keeps done is patterns order =
+    search (rules, FiltersInPlace-all (keeps.first patterns order) done, IsOrder-kept ignores_case patterns all order)

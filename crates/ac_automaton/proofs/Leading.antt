@@ -28,29 +28,29 @@ one b target = record { byte = b; target = target } ∷ []
 abbrev two : ℕ → ℕ → ℕ → List Transition
 two b x target = record { byte = b; target = target } ∷ one x target
 
-module _ (fold : Bool) (b target : ℕ) (settled : plain_byte fold b ≡ b) where
+module _ (ignores_case : Bool) (b target : ℕ) (settled : plain_byte ignores_case b ≡ b) where
   -- each is by a byte that is one with the plain byte, and leads to the target
-  pub leading-plain : (t : Transition) → IsIn t (leading fold b target)
-      → (plain_byte fold t.byte ≡ b) × (t.target ≡ target)
+  pub leading-plain : (t : Transition) → IsIn t (leading ignores_case b target)
+      → (plain_byte ignores_case t.byte ≡ b) × (t.target ≡ target)
   leading-plain t h = grind (arith, common_steps)
 
   -- each byte that is one with it has one
-  pub leading-has : (x : ℕ) → plain_byte fold x ≡ b
-      → IsIn (record { byte = x; target = target }) (leading fold b target)
+  pub leading-has : (x : ℕ) → plain_byte ignores_case x ≡ b
+      → IsIn (record { byte = x; target = target }) (leading ignores_case b target)
   leading-has x is = grind (arith, common_steps)
 
 -- they are by different bytes
-pub leading-apart : (fold : Bool) (b target : ℕ) → IsOrdered (λ s t. s.byte ≢ t.byte) (leading fold b target)
-leading-apart fold b target = grind (arith, common_steps)
+pub leading-apart : (ignores_case : Bool) (b target : ℕ) → IsOrdered (λ s t. s.byte ≢ t.byte) (leading ignores_case b target)
+leading-apart ignores_case b target = grind (arith, common_steps)
 
 -- each is below 256 where the plain one is
-pub leading-small : (fold : Bool) (b target : ℕ) → b < 256 → (t : Transition) → IsIn t (leading fold b target)
+pub leading-small : (ignores_case : Bool) (b target : ℕ) → b < 256 → (t : Transition) → IsIn t (leading ignores_case b target)
     → t.byte < 256
-leading-small fold b target small t h = grind (arith, common_steps)
+leading-small ignores_case b target small t h = grind (arith, common_steps)
 
 -- and at most two
-pub leading-length : (fold : Bool) (b target : ℕ) → length (leading fold b target) ≤ 2
-leading-length fold b target = grind (arith, common_steps)
+pub leading-length : (ignores_case : Bool) (b target : ℕ) → length (leading ignores_case b target) ≤ 2
+leading-length ignores_case b target = grind (arith, common_steps)
 
 -- transitions by different bytes that are sorted by them rise strictly
 pub sorted-ascends : (old sorted : List Transition) → AllPairs (λ s t. s.byte ≢ t.byte) old

@@ -2,9 +2,10 @@
 use Rattle.std.proofs.Common.{◌≡◌, ℕ, ◌+◌, ◌≤◌, List, [], ◌∷◌, length, drop, min, max, Some, ap, arith, slice_get}
 use Rattle.ac_util.specs.Sizes.{longest_len, shortest_len}
 use Rattle.ac_util.proofs.Lists.{drop-slice_get}
+use Rattle.ac_automaton.specs.Util.{usize_max}
 
 -- the shortest of no list of patterns passes the greatest usize
-pub shortest_len-le : (ps : List (List ℕ)) → shortest_len ps ≤ 18446744073709551615
+pub shortest_len-le : (ps : List (List ℕ)) → shortest_len ps ≤ usize_max
 shortest_len-le [] = omega arith
 shortest_len-le (p ∷ ps) = omega (arith, shortest_len-le ps)
 

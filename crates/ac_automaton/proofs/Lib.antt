@@ -42,6 +42,7 @@ pub mod StreamRefusals
 pub mod StreamText
 pub mod StreamFilling
 pub mod StreamReplacing
+pub mod StreamTexts
 pub mod Steps
 pub mod TrieStates
 pub mod WalkLoop

@@ -3,14 +3,14 @@ use Rattle.std.proofs.Common.{◌≢◌, ℕ, ◌<◌, ◌≤◌, List, [], ◌�
 use Rattle.std.proofs.lemmas.Grind.{common_steps}
 use Rattle.ac_util.proofs.Advance.{append_nil_left}
 use Rattle.ac_util.proofs.Found.{matches-failure}
-use Rattle.ac_automaton.specs.Prelude.{AreStates, DEAD, LinkIsDue, Links, Meaning, miss, Represents, State, state_at, state_patterns}
+use Rattle.ac_automaton.specs.Prelude.{AreStates, DEAD, LinkIsDue, Links, TrieView, fallback, Represents, State, state_at, state_patterns}
 
 -- a state has patterns exactly if its range of them isn't empty
 pub state_patterns-some : (order : List ℕ) (t : State) → t.patterns < t.patterns_end
     → t.patterns_end ≤ length order → state_patterns order t ≢ []
 state_patterns-some order t l within none = grind (arith, common_steps)
 
-module _ (g : Meaning) (states : List State) where
+module _ (g : TrieView) (states : List State) where
   -- only patterns that equal its string end at the start
   pub link-start : (fail : ℕ) → LinkIsDue g (length states) [] fail → Links g (length states) (Some []) DEAD
   link-start fail due = grind (arith, common_steps)
@@ -18,8 +18,8 @@ module _ (g : Meaning) (states : List State) where
   -- the failure target as a state
   target : (u : List ℕ) (fail : ℕ) → AreStates g states → LinkIsDue g (length states) u fail
       → fail < length states
-      → Represents g fail (miss g.kind g.patterns (Some u)) (state_at states fail)
-  target u fail a due l = a.each fail (miss g.kind g.patterns (Some u)) l due.fails
+      → Represents g fail (fallback g.kind g.patterns (Some u)) (state_at states fail)
+  target u fail a due l = a.each fail (fallback g.kind g.patterns (Some u)) l due.fails
 
   -- a failure target of the start that comes before it is dead
   dead_target : (fail : ℕ) → AreStates g states → LinkIsDue g (length states) [] fail → fail < length states
@@ -36,9 +36,9 @@ module _ (g : Meaning) (states : List State) where
       grind (arith, common_steps, target (x ∷ u) fail a due l, state_patterns-some, append_nil_left, matches-failure)
 
   -- and of another target its output link
-  pub link-behind : (u : List ℕ) (fail : ℕ) → AreStates g states → LinkIsDue g (length states) u fail
+  pub link-beyond : (u : List ℕ) (fail : ℕ) → AreStates g states → LinkIsDue g (length states) u fail
       → fail < length states
       → (state_at states fail).patterns_end ≤ (state_at states fail).patterns
       → Links g (length states) (Some u) (state_at states fail).output_link
-  link-behind [] fail a due l none = search (rules, dead_target, link-start)
-  link-behind (x ∷ u) fail a due l none = grind (arith, common_steps, target (x ∷ u) fail a due l, matches-failure)
+  link-beyond [] fail a due l none = search (rules, dead_target, link-start)
+  link-beyond (x ∷ u) fail a due l none = grind (arith, common_steps, target (x ∷ u) fail a due l, matches-failure)

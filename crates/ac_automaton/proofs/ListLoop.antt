@@ -17,18 +17,18 @@ use Rattle.ac_automaton.proofs.Due.{counts, listed-due, listed-numbered}
 use Rattle.ac_automaton.proofs.ReadOn.{node-fits}
 
 -- the element after a list in two lists put together
-pub get-behind : {X : Type 0} (xs ys : List X) (y : X) → slice_get (xs ++ y ∷ ys) (length xs) ≡ Some y
-get-behind [] ys y = refl
-get-behind (x ∷ xs) ys y = get-behind xs ys y
+pub get-beyond : {X : Type 0} (xs ys : List X) (y : X) → slice_get (xs ++ y ∷ ys) (length xs) ≡ Some y
+get-beyond [] ys y = refl
+get-beyond (x ∷ xs) ys y = get-beyond xs ys y
 
 -- the item of a listing that stands after so many, and the place after it
 pub record IsItem (q : Search) (place : ℕ) (m : Occurrence) : Type 0 where
   pub item : item_at q place ≡ Some m
   pub after : place_after q place ≡ place + 1
 
-item-behind : (q : Search) (before later : List Occurrence) (m : Occurrence) → all q ≡ before ++ m ∷ later
+item-beyond : (q : Search) (before later : List Occurrence) (m : Occurrence) → all q ≡ before ++ m ∷ later
     → IsItem q (length before) m
-item-behind q before later m e = grind (arith, common_steps, get-behind, item-some)
+item-beyond q before later m e = grind (arith, common_steps, get-beyond, item-some)
 
 -- after the last item there is none, and the place stays
 pub record IsPast (q : Search) (place : ℕ) : Type 0 where
@@ -145,7 +145,7 @@ module _ (s : Scan) (bytes : List ℕ) (span : Span) where
     -- the match given is the next item
     pub given-item : span.end ≤ length bytes → (m : Occurrence) (new_reached : Reached)
         → HasGivenItem s t reached (Some m) new_reached → IsItem q (given_in s.listed q reached) m
-    given-item legal m new_reached gave = grind (arith, common_steps, given-count, goes_on, item-behind)
+    given-item legal m new_reached gave = grind (arith, common_steps, given-count, goes_on, item-beyond)
 
     -- and the place is one further
     pub given-place : (m : Occurrence) (new_reached : Reached)

@@ -4,7 +4,7 @@ use Rattle.std.proofs.Math.Seq.{drop-append-add, drop-nil}
 use Rattle.std.proofs.lemmas.List.{drop-append-le, get_or-drop, get_or-take, get_or_default}
 use Rattle.std.proofs.lemmas.Grind.{common_steps}
 use Rattle.ac_util.specs.Node.{Node}
-use Rattle.ac_automaton.specs.Prelude.{all_matches, DEAD, HasState, listed_within, Meaning, Represents, State, state_at, state_patterns}
+use Rattle.ac_automaton.specs.Prelude.{all_matches, DEAD, HasState, listed_within, TrieView, Represents, State, state_at, state_patterns}
 use Rattle.ac_automaton.proofs.Follows.{represented}
 
 -- what is left of a list from one of its elements on begins with that element
@@ -13,7 +13,7 @@ drop-here [] k h = absurd (omega arith)
 drop-here (x ∷ xs) zero h = refl
 drop-here (x ∷ xs) (suc k) h = search (rules, drop-here xs k (omega arith))
 
-module _ (g : Meaning) (states : List State) where
+module _ (g : TrieView) (states : List State) where
   -- the first state stands for the dead node alone
   dead_first : (s : ℕ) (v : Node) → HasState g states s v → s ≡ DEAD → v ≡ None
   dead_first s v h first = let dead = h.meant.dead in let named = rw first at h.named in cc

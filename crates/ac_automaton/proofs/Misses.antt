@@ -8,7 +8,7 @@ use Rattle.ac_util.proofs.Prefixes.{starts_with-whole}
 use Rattle.ac_util.proofs.Lists.{none-from_nil}
 use Rattle.ac_util.proofs.Participants.{IsIn-equal_to, begins-more, begins-from_Prefixes, leader, leader-takes_part, equal_to-none_begins}
 use Rattle.ac_util.proofs.Reached.{stops, reached-nil, step-reached}
-use Rattle.ac_automaton.specs.Tries.{miss}
+use Rattle.ac_automaton.specs.Tries.{fallback}
 
 module _ (kind : MatchKind) (patterns : List (List ℕ)) where
   -- where no pattern is the longer string, it begins with a pattern if the shorter one does
@@ -46,10 +46,10 @@ module _ (kind : MatchKind) (patterns : List (List ℕ)) where
   stops-free w free = ap (λ (l : Bool). l && begins_with_pattern patterns w) free
 
   -- under a leftmost kind a node that is a pattern has no failure target
-  pub miss-pattern : (w : List ℕ) (b : ℕ) → is_leftmost kind ≡ true → equal_to kind patterns (w ++ b ∷ []) ≢ []
-      → miss kind patterns (Some (w ++ b ∷ [])) ≡ None
-  miss-pattern [] b leftmost some = grind (arith, common_steps, stops-pattern (b ∷ []) leftmost some)
-  miss-pattern (x ∷ w) b leftmost some = search (rules, cond-true, failure-cons, stops-pattern)
+  pub fallback-pattern : (w : List ℕ) (b : ℕ) → is_leftmost kind ≡ true → equal_to kind patterns (w ++ b ∷ []) ≢ []
+      → fallback kind patterns (Some (w ++ b ∷ [])) ≡ None
+  fallback-pattern [] b leftmost some = grind (arith, common_steps, stops-pattern (b ∷ []) leftmost some)
+  fallback-pattern (x ∷ w) b leftmost some = search (rules, cond-true, failure-cons, stops-pattern)
 
   -- where no pattern is the longer string, it stops a search if the shorter one does
   same-stop : (w : List ℕ) (b : ℕ) → (is_leftmost kind ≡ true → equal_to kind patterns (w ++ b ∷ []) ≡ [])
@@ -57,9 +57,9 @@ module _ (kind : MatchKind) (patterns : List (List ℕ)) where
   same-stop w b none = search (rules, cases_Bool, stops-child, stops-free)
 
   -- else a child of the start fails as the start does
-  pub miss-start : (b : ℕ) → (is_leftmost kind ≡ true → equal_to kind patterns (b ∷ []) ≡ [])
-      → miss kind patterns (Some (b ∷ [])) ≡ miss kind patterns (Some [])
-  miss-start b none = search (rules, same-stop [] b none, reached-nil kind patterns No)
+  pub fallback-start : (b : ℕ) → (is_leftmost kind ≡ true → equal_to kind patterns (b ∷ []) ≡ [])
+      → fallback kind patterns (Some (b ∷ [])) ≡ fallback kind patterns (Some [])
+  fallback-start b none = search (rules, same-stop [] b none, reached-nil kind patterns No)
 
   -- a step after the shorter string leads where the longer one does
   stepped : (w : List ℕ) (b : ℕ) (s : Bool)
@@ -69,8 +69,8 @@ module _ (kind : MatchKind) (patterns : List (List ℕ)) where
   stepped w b false = sym (step-reached kind patterns No w b)
 
   -- and any other child fails to where the byte leads from the failure target of its parent
-  pub miss-child : (x : ℕ) (w : List ℕ) (b : ℕ)
+  pub fallback-child : (x : ℕ) (w : List ℕ) (b : ℕ)
       → (is_leftmost kind ≡ true → equal_to kind patterns (x ∷ w ++ b ∷ []) ≡ [])
-      → miss kind patterns (Some (x ∷ w ++ b ∷ []))
-      ≡ step kind patterns No (miss kind patterns (Some (x ∷ w))) b
-  miss-child x w b none = grind (arith, common_steps, same-stop (x ∷ w) b none, stepped w b (stops kind patterns (x ∷ w)))
+      → fallback kind patterns (Some (x ∷ w ++ b ∷ []))
+      ≡ step kind patterns No (fallback kind patterns (Some (x ∷ w))) b
+  fallback-child x w b none = grind (arith, common_steps, same-stop (x ∷ w) b none, stepped w b (stops kind patterns (x ∷ w)))

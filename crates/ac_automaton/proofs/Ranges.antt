@@ -154,9 +154,9 @@ module _ (kind : MatchKind) (patterns : List (List ℕ)) (sorted : List Keyed)
                 (get-range (numbers sorted) from end (s.place - from) (omega (arith, s.low))
                 ∙ ap (slice_get (numbers sorted))
                 (let at : from + (s.place - from) ≡ s.place = omega (arith, s.low) in at) ∙ s.stands.number)
-            | inr behind ↦
+            | inr beyond ↦
                 absurd
-                (longer s.place behind s.high (ap (λ (w : List ℕ). slice_get w (length u)) s.key ∙ ended u))
+                (longer s.place beyond s.high (ap (λ (w : List ℕ). slice_get w (length u)) s.key ∙ ended u))
           ]
 
       -- their numbers ascend there

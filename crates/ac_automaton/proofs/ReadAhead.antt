@@ -55,7 +55,7 @@ module _ {s : Scan} {t : ScanText} where
           scans = passes.scans;
           none = λ k low high. elim (cases_lt k then_cursor.at) [
             | inl before ↦ passes.none k low before
-            | inr behind ↦
+            | inr beyond ↦
                 let e : then_cursor.at ≡ k = omega arith in
                 subst (λ (n : ℕ). matches_of s.built s.anchored (node s t n) ≡ []) e none
           ];

@@ -101,7 +101,7 @@ module _ (s : Scan) (t : ScanText) where
   -- what a search of the text has read that began at its start, in memory
   pub read-scanned : {at : ℕ} {work new_work : Work} → t.before ≡ []
       → ScansTo s t t.start work at new_work → at ≤ t.end
-      → HasRead most (may_skip s.filters q) t.start t.end work new_work
+      → HasRead most (may_skip s.wants_prefilter q) t.start t.end work new_work
   read-scanned {at} {work} {new_work} memory scans up = grind (arith, common_steps)
 
 module _ {s : Scan} {t : ScanText} where

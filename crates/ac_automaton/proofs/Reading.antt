@@ -9,7 +9,7 @@ use Rattle.std.proofs.lemmas.Option.{slice_get-get_or, slice_get-map, slice_get_
 use Rattle.std.proofs.lemmas.Grind.{common_steps}
 use Rattle.ac_automaton.specs.Util.{Node, state_count}
 use Rattle.ac_util.proofs.Lists.{Contains-from_IsIn, IsIn, IsIn-filter, IsIn-from_Contains, IsIn-from_filter, IsIn-from_map, IsIn-range, IsOrdered-filter, IsOrdered-range, IsOrdered-unique}
-use Rattle.ac_automaton.specs.Prelude.{HasOwn, IsOwn, IsTrie, leads_on, meaning_of, own_bytes, own_target, plain_of, Represents, State, Transition, transition_bytes, transitions_of, Trie}
+use Rattle.ac_automaton.specs.Prelude.{HasOwn, IsOwn, IsTrie, leads_on, meaning_of, transition_bytes_of, transition_target, plain_of, Represents, State, Transition, transition_bytes, transitions_of, Trie}
 use Rattle.ac_automaton.proofs.Counting.{IsOrdered-from_AllPairs}
 use Rattle.ac_automaton.proofs.Follows.{leads-on, represented}
 use Rattle.ac_automaton.proofs.Places.{get-range, place-of}
@@ -37,7 +37,7 @@ pub record IsRead (trie : Trie) (s : ℕ) (t : State) : Type 0 where
 
 module _ (trie : Trie) (nodes : List Node) where
   -- a byte leads on exactly if a state's own transitions go on by it
-  goes-on : (u : Node) (b : ℕ) → (own_target (meaning_of trie nodes) u b ≢ None) ↔ (leads_on trie.built u b ≡ true)
+  goes-on : (u : Node) (b : ℕ) → (transition_target (meaning_of trie nodes) u b ≢ None) ↔ (leads_on trie.built u b ≡ true)
   goes-on None b = ((λ some. absurd (some refl)), (λ e. absurd (false≢true e)))
   goes-on (Some w) b = grind (arith, common_steps)
 
@@ -55,8 +55,8 @@ module _ (trie : Trie) (nodes : List Node) where
   -- what a state says that stands for a node
   module _ (s : ℕ) (u : Node) (t : State) (r : Represents (meaning_of trie nodes) s u t) where
     -- its transitions are by the bytes that lead on
-    own-is : transition_bytes (transitions_of trie.transitions t) ≡ own_bytes trie.built u
-    unfolding own_bytes
+    own-is : transition_bytes (transitions_of trie.transitions t) ≡ transition_bytes_of trie.built u
+    unfolding transition_bytes_of
     own-is =
         let own = transitions_of trie.transitions t in
         passing (leads_on trie.built u) 256 (transition_bytes own) r.ascending
@@ -70,7 +70,7 @@ module _ (trie : Trie) (nodes : List Node) where
         ))
 
     -- so it has as many
-    pub own-length : t.transitions_end - t.transitions ≡ length (own_bytes trie.built u)
+    pub own-length : t.transitions_end - t.transitions ≡ length (transition_bytes_of trie.built u)
     own-length = search (rules, length-map, length-part, own-is)
 
   -- and each place below their count is that of an own one

@@ -15,25 +15,25 @@ use Rattle.ac_automaton.specs.Prelude.{Cursor, HasSkipped, IsAlive, matches_of, 
 use Rattle.ac_automaton.proofs.ReadOn.{grows-trans, inside-past, node-step, past-is}
 
 -- where a plain pattern begins with a plain byte, some pattern begins with the byte
-begins-from_plain : (fold : Bool) (b : ℕ) (patterns : List (List ℕ)) (n : ℕ)
-    → starts_with nat_eq (pattern_of (map (plain fold) patterns) n) (plain_byte fold b ∷ []) ≡ true
-    → list_any (begins_with fold b) patterns ≡ true
-begins-from_plain fold b [] n h = absurd (false≢true h)
-begins-from_plain fold b ([] ∷ ps) zero h = absurd (false≢true h)
-begins-from_plain fold b ((c ∷ p) ∷ ps) zero h = search rules
-begins-from_plain fold b (q ∷ ps) (suc n) h =
-    or_right (begins_with fold b q) (list_any (begins_with fold b) ps) (begins-from_plain fold b ps n h)
+begins-from_plain : (ignores_case : Bool) (b : ℕ) (patterns : List (List ℕ)) (n : ℕ)
+    → starts_with nat_eq (pattern_of (map (plain ignores_case) patterns) n) (plain_byte ignores_case b ∷ []) ≡ true
+    → list_any (begins_with ignores_case b) patterns ≡ true
+begins-from_plain ignores_case b [] n h = absurd (false≢true h)
+begins-from_plain ignores_case b ([] ∷ ps) zero h = absurd (false≢true h)
+begins-from_plain ignores_case b ((c ∷ p) ∷ ps) zero h = search rules
+begins-from_plain ignores_case b (q ∷ ps) (suc n) h =
+    or_right (begins_with ignores_case b q) (list_any (begins_with ignores_case b) ps) (begins-from_plain ignores_case b ps n h)
 
 -- no pattern begins with nothing, where none is empty
-begins-not_empty : (fold : Bool) (patterns : List (List ℕ)) → list_any is_empty patterns ≡ false
-    → begins_with_pattern (map (plain fold) patterns) [] ≡ false
-begins-not_empty fold [] h = refl
-begins-not_empty fold ([] ∷ ps) h = absurd (false≢true (sym h))
-begins-not_empty fold ((c ∷ p) ∷ ps) h = begins-not_empty fold ps h
+begins-not_empty : (ignores_case : Bool) (patterns : List (List ℕ)) → list_any is_empty patterns ≡ false
+    → begins_with_pattern (map (plain ignores_case) patterns) [] ≡ false
+begins-not_empty ignores_case [] h = refl
+begins-not_empty ignores_case ([] ∷ ps) h = absurd (false≢true (sym h))
+begins-not_empty ignores_case ((c ∷ p) ∷ ps) h = begins-not_empty ignores_case ps h
 
 module _ (built : Built) (some : list_any is_empty built.patterns ≡ false) where
   no_empty : begins_with_pattern (plain_of built) [] ≡ false
-  no_empty = begins-not_empty built.fold built.patterns some
+  no_empty = begins-not_empty built.ignores_case built.patterns some
 
   -- at the start nothing is found
   pub matches-start : matches_of built No (Some []) ≡ []
@@ -41,7 +41,7 @@ module _ (built : Built) (some : list_any is_empty built.patterns ≡ false) whe
       matches-nil built.kind (plain_of built) ∙ equal_to-none_begins built.kind (plain_of built) [] no_empty
 
   -- a byte with which no pattern begins leads back to it
-  pub step-stays : (b : ℕ) → list_any (begins_with built.fold b) built.patterns ≡ false
+  pub step-stays : (b : ℕ) → list_any (begins_with built.ignores_case b) built.patterns ≡ false
       → step_of built No (Some []) b ≡ Some []
   step-stays b none = search (rules, any_passes, begins-from_plain, false≢true, no_empty, step-nil)
 
@@ -71,8 +71,8 @@ none-there s free some start = search (rules, matches-start)
 
 -- a scan that skips by first bytes
 module _ {s : Scan} {skip : Skip} (by : SkipsByBytes s skip) where
-  begin : BeginWith by.bytes s.built.fold s.built.patterns
-  begin = subst (λ (k : Skip). IsSkipFor k s.built.fold s.built.patterns) by.by_bytes by.skips.serves
+  begin : BeginWith by.bytes s.built.ignores_case s.built.patterns
+  begin = subst (λ (k : Skip). IsSkipFor k s.built.ignores_case s.built.patterns) by.by_bytes by.skips.serves
 
   -- over bytes with which no pattern begins it stays there
   module _ (t : ScanText) (at to : ℕ) (onward : t.start ≤ past t.before at) (inside : to ≤ length t.bytes)
@@ -82,7 +82,7 @@ module _ {s : Scan} {skip : Skip} (by : SkipsByBytes s skip) where
     stays-for (suc n) up =
         let here = stays-for n (omega arith) in
         let byte = slice_index t.bytes (at + n) in
-        let other = false_from_ne_true (list_any (begins_with s.built.fold byte) s.built.patterns)
+        let other = false_from_ne_true (list_any (begins_with s.built.ignores_case byte) s.built.patterns)
         (λ f. none (at + n) (omega arith) (omega arith) (begin.begins byte f)) in
         let low = past-is t.before at in
         let here_past = past-is t.before (at + n) in
@@ -114,7 +114,7 @@ module _ {s : Scan} {skip : Skip} (by : SkipsByBytes s skip) where
               inside = inside-past s t inside;
               alive = λ k from below. elim (cases_lt k (past t.before cursor.at)) [
                 | inl before ↦ alive.is_at.alive k from before
-                | inr behind ↦ (λ dead.
+                | inr beyond ↦ (λ dead.
                     let local = past-is t.before (k - length t.before) in
                     let place : past t.before (k - length t.before) ≡ k = omega arith in
                     let start = gone.1 (k - length t.before) (omega arith) (omega arith) in

@@ -29,12 +29,12 @@ use Rattle.ac_automaton.specs.Prelude.{AreListed, compared, IsOrder, Keyed, keye
 use Rattle.ac_automaton.proofs.Counting.{IsOrdered-from_AllPairs}
 
 -- the view has the number of the pattern that is stored at a place
-pub sorted_number : (fold : Bool) (sorted : List SortedPattern) (place : ℕ) (m : SortedPattern)
+pub sorted_number : (ignores_case : Bool) (sorted : List SortedPattern) (place : ℕ) (m : SortedPattern)
     → place < length sorted
-    → m ≡ get_or sorted place m → slice_get (numbers (keyed fold sorted)) place ≡ Some m.number
-sorted_number fold [] place m within is = absurd (omega arith)
-sorted_number fold (x ∷ sorted) zero m within is = ap (λ (w : SortedPattern). Some w.number) (sym is)
-sorted_number fold (x ∷ sorted) (suc place) m within is = sorted_number fold sorted place m (omega arith) is
+    → m ≡ get_or sorted place m → slice_get (numbers (keyed ignores_case sorted)) place ≡ Some m.number
+sorted_number ignores_case [] place m within is = absurd (omega arith)
+sorted_number ignores_case (x ∷ sorted) zero m within is = ap (λ (w : SortedPattern). Some w.number) (sym is)
+sorted_number ignores_case (x ∷ sorted) (suc place) m within is = sorted_number ignores_case sorted place m (omega arith) is
 
 -- one element more of a list of which f gives the first elements
 pub map-push : {X Y : Type 0} (f : X → Y) (all : List Y) (xs ys : List X) (n : ℕ) (x : X) → ys ≡ xs ++ x ∷ []
@@ -57,21 +57,21 @@ pub All-pushed : {X : Type 0} (P : X → Type 0) (xs ys : List X) (x : X) → ys
 All-pushed P xs ys x is all here = All-same P ys (xs ++ x ∷ []) is (All-push P xs x all here)
 
 -- the comparison is a total order
-pub compared-total : (fold : Bool) → IsTotalOrder (compared fold)
-compared-total fold =
-    then_total (on_total (λ (m : SortedPattern). plain fold m.bytes.now) nat_list_cmp_total)
+pub compared-total : (ignores_case : Bool) → IsTotalOrder (compared ignores_case)
+compared-total ignores_case =
+    then_total (on_total (λ (m : SortedPattern). plain ignores_case m.bytes.now) nat_list_cmp_total)
     (on_total (λ (m : SortedPattern). m.number) nat_cmp_total)
 
 -- what a sort ensures whose closure answers by the comparison
 pub IsSortedBy-from_calls :
-    (fold : Bool) {F : Type 0} {g : Mut F (Bor SortedPattern × (Bor SortedPattern × Unit {0})) Ordering} {f : F}
+    (ignores_case : Bool) {F : Type 0} {g : Mut F (Bor SortedPattern × (Bor SortedPattern × Unit {0})) Ordering} {f : F}
     (sorted : List SortedPattern) → IsSortedByClosure g f sorted
     → ((a : Bor SortedPattern × (Bor SortedPattern × Unit {0})) (r : Ordering) (f' : F) → Called g f a r f'
-    → (r ≡ compared fold a.0.now a.1.0.now) × (f' ≡ f))
-    → IsSortedBy (λ a b. is_lt (compared fold a b)) sorted
-IsSortedBy-from_calls fold {g = g} {f = f} sorted up answers =
-    up (λ a b. is_lt (compared fold a b)) (ranks_by (compared-total fold) (λ m. m))
-    (always_returns_same g (λ a r. is_lt r ≡ is_lt (compared fold a.0.now a.1.0.now)) f
+    → (r ≡ compared ignores_case a.0.now a.1.0.now) × (f' ≡ f))
+    → IsSortedBy (λ a b. is_lt (compared ignores_case a b)) sorted
+IsSortedBy-from_calls ignores_case {g = g} {f = f} sorted up answers =
+    up (λ a b. is_lt (compared ignores_case a b)) (ranks_by (compared-total ignores_case) (λ m. m))
+    (always_returns_same g (λ a r. is_lt r ≡ is_lt (compared ignores_case a.0.now a.1.0.now)) f
     (λ a r f' called. (ap is_lt (answers a r f' called).0, (answers a r f' called).1)))
 
 -- the greater of two is the lesser the other way round
@@ -91,17 +91,17 @@ Precedes-by_parts a b Equal Greater bytes numbers le apart = absurd (false≢tru
 Precedes-by_parts a b Greater p bytes numbers le apart = absurd (false≢true (sym le))
 
 -- a is no greater than b, and has another number
-record StandsBefore (fold : Bool) (a b : SortedPattern) : Type 0 where
-  no_greater : is_lt (compared fold b a) ≡ false
+record StandsBefore (ignores_case : Bool) (a b : SortedPattern) : Type 0 where
+  no_greater : is_lt (compared ignores_case b a) ≡ false
   apart : a.number ≢ b.number
 
 -- such patterns precede each other in the view
-Precedes-from_StandsBefore : (fold : Bool) (a b : SortedPattern) → StandsBefore fold a b
-    → Precedes (keyed_one fold a) (keyed_one fold b)
-Precedes-from_StandsBefore fold a b s =
-    Precedes-by_parts (keyed_one fold a) (keyed_one fold b)
-    (slice_cmp nat_cmp (plain fold a.bytes.now) (plain fold b.bytes.now)) (nat_cmp a.number b.number) refl refl
-    (ap is_gt ((compared-total fold).antisymm a b) ∙ is_gt-reverse (compared fold b a) ∙ s.no_greater) s.apart
+Precedes-from_StandsBefore : (ignores_case : Bool) (a b : SortedPattern) → StandsBefore ignores_case a b
+    → Precedes (keyed_one ignores_case a) (keyed_one ignores_case b)
+Precedes-from_StandsBefore ignores_case a b s =
+    Precedes-by_parts (keyed_one ignores_case a) (keyed_one ignores_case b)
+    (slice_cmp nat_cmp (plain ignores_case a.bytes.now) (plain ignores_case b.bytes.now)) (nat_cmp a.number b.number) refl refl
+    (ap is_gt ((compared-total ignores_case).antisymm a b) ∙ is_gt-reverse (compared ignores_case b a) ∙ s.no_greater) s.apart
 
 -- a filter that lets all pass keeps the list
 all_kept : (xs : List ℕ) → filter (λ _. true) xs ≡ xs
@@ -109,15 +109,15 @@ all_kept [] = refl
 all_kept (x ∷ xs) = ap (λ w. x ∷ w) (all_kept xs)
 
 -- under Standard all patterns take part
-pub participants-Standard : (fold : Bool) (patterns : List (List ℕ))
-    → participants Standard (map (plain fold) patterns) ≡ range_with_len 0 (length patterns)
-participants-Standard fold patterns = search (rules, all_kept, length-map)
+pub participants-Standard : (ignores_case : Bool) (patterns : List (List ℕ))
+    → participants Standard (map (plain ignores_case) patterns) ≡ range_with_len 0 (length patterns)
+participants-Standard ignores_case patterns = search (rules, all_kept, length-map)
 
 -- the view has the numbers of the stored patterns
-numbers-keyed : (fold : Bool) (sorted : List SortedPattern)
-    → numbers (keyed fold sorted) ≡ map (λ m. m.number) sorted
-numbers-keyed fold [] = refl
-numbers-keyed fold (m ∷ sorted) = ap (λ w. m.number ∷ w) (numbers-keyed fold sorted)
+numbers-keyed : (ignores_case : Bool) (sorted : List SortedPattern)
+    → numbers (keyed ignores_case sorted) ≡ map (λ m. m.number) sorted
+numbers-keyed ignores_case [] = refl
+numbers-keyed ignores_case (m ∷ sorted) = ap (λ w. m.number ∷ w) (numbers-keyed ignores_case sorted)
 
 -- a weaker order of the same elements
 IsOrdered-weaker : {X : Type 0} (R S : X → X → Type 0) → ((x y : X) → R x y → S x y) → (xs : List X)
@@ -125,14 +125,14 @@ IsOrdered-weaker : {X : Type 0} (R S : X → X → Type 0) → ((x y : X) → R 
 IsOrdered-weaker R S weaker [] o = tt
 IsOrdered-weaker R S weaker (x ∷ xs) o = ((λ y h. weaker x y (o.0 y h)), IsOrdered-weaker R S weaker xs o.1)
 
-module _ (fold : Bool) (patterns : List (List ℕ)) (listed : List SortedPattern)
+module _ (ignores_case : Bool) (patterns : List (List ℕ)) (listed : List SortedPattern)
     (are : AreListed patterns listed) where
   -- the number of a listed pattern
   abbrev number_of : SortedPattern → ℕ
   number_of m = m.number
 
   -- each is the pattern of its number
-  listed-named : All (λ m. plain fold m.bytes.now ≡ pattern_of (map (plain fold) patterns) m.number) listed
+  listed-named : All (λ m. plain ignores_case m.bytes.now ≡ pattern_of (map (plain ignores_case) patterns) m.number) listed
   listed-named k d within =
       let long = ap length are.numbers ∙ length-range_with_len 0 (length patterns) in
       let same = length-map listed number_of in
@@ -143,8 +143,8 @@ module _ (fold : Bool) (patterns : List (List ℕ)) (listed : List SortedPattern
       let bytes : (get_or listed k d).bytes.now ≡ get_or patterns k d.bytes.now =
       sym (get_or-map (λ m. m.bytes.now) listed k d d.bytes.now within)
       ∙ ap (λ w. get_or w k d.bytes.now) are.bytes in
-      ap (plain fold) bytes ∙ sym (get_or-map (plain fold) patterns k d.bytes.now [] below)
-      ∙ ap (pattern_of (map (plain fold) patterns)) (sym number)
+      ap (plain ignores_case) bytes ∙ sym (get_or-map (plain ignores_case) patterns k d.bytes.now [] below)
+      ∙ ap (pattern_of (map (plain ignores_case) patterns)) (sym number)
     where
       zero-plus : (n : ℕ) → 0 + n ≡ n
       zero-plus n = omega arith
@@ -178,35 +178,35 @@ module _ (fold : Bool) (patterns : List (List ℕ)) (listed : List SortedPattern
 
     -- and they are those of the patterns that take part
     numbers-kept : (n : ℕ)
-        → Contains (numbers (keyed fold sorted)) n
-        ↔ Contains (participants Standard (map (plain fold) patterns)) n
+        → Contains (numbers (keyed ignores_case sorted)) n
+        ↔ Contains (participants Standard (map (plain ignores_case) patterns)) n
     numbers-kept n =
-        let is = are.numbers ∙ sym (participants-Standard fold patterns) in (
+        let is = are.numbers ∙ sym (participants-Standard ignores_case patterns) in (
           (λ h. subst (λ w. Contains w n) is
               (Contains-permutation (map number_of sorted) (map number_of listed) n
               (IsPermutation-sym (map number_of listed) (map number_of sorted) numbers-moved)
-              (subst (λ w. Contains w n) (numbers-keyed fold sorted) h))),
-          (λ h. subst (λ w. Contains w n) (sym (numbers-keyed fold sorted))
+              (subst (λ w. Contains w n) (numbers-keyed ignores_case sorted) h))),
+          (λ h. subst (λ w. Contains w n) (sym (numbers-keyed ignores_case sorted))
               (Contains-permutation (map number_of listed) (map number_of sorted) n numbers-moved
               (subst (λ w. Contains w n) (sym is) h))),
         )
 
     -- sorted by the comparison they stand in order
-    pub IsOrder-from_sorted : IsSortedBy (λ a b. is_lt (compared fold a b)) sorted
-        → IsOrder Standard (map (plain fold) patterns) (keyed fold sorted)
+    pub IsOrder-from_sorted : IsSortedBy (λ a b. is_lt (compared ignores_case a b)) sorted
+        → IsOrder Standard (map (plain ignores_case) patterns) (keyed ignores_case sorted)
     IsOrder-from_sorted up =
-        let less = λ (a b : SortedPattern). is_lt (compared fold a b) in
-        let far = sorted_far less (ranks_by (compared-total fold) (λ m. m)) sorted up in
-        let before = IsOrdered-from_AllPairs (StandsBefore fold) sorted (λ i j d below within. record {
+        let less = λ (a b : SortedPattern). is_lt (compared ignores_case a b) in
+        let far = sorted_far less (ranks_by (compared-total ignores_case) (λ m. m)) sorted up in
+        let before = IsOrdered-from_AllPairs (StandsBefore ignores_case) sorted (λ i j d below within. record {
           no_greater = far i j d (omega arith) within;
           apart = sorted-apart i j d below within;
         }) in record {
-          ascending = AllPairs-from_IsOrdered Precedes (keyed fold sorted)
-              (IsOrdered-map (StandsBefore fold) Precedes (keyed_one fold) sorted
-              (Precedes-from_StandsBefore fold) before);
-          named = All-map (λ m. m.key ≡ pattern_of (map (plain fold) patterns) m.number) (keyed_one fold) sorted
+          ascending = AllPairs-from_IsOrdered Precedes (keyed ignores_case sorted)
+              (IsOrdered-map (StandsBefore ignores_case) Precedes (keyed_one ignores_case) sorted
+              (Precedes-from_StandsBefore ignores_case) before);
+          named = All-map (λ m. m.key ≡ pattern_of (map (plain ignores_case) patterns) m.number) (keyed_one ignores_case) sorted
               (All-permutation
-              (λ m. plain fold m.bytes.now ≡ pattern_of (map (plain fold) patterns) m.number) listed sorted
+              (λ m. plain ignores_case m.bytes.now ≡ pattern_of (map (plain ignores_case) patterns) m.number) listed sorted
               moved listed-named);
           lists = numbers-kept;
         }

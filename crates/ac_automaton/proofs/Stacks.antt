@@ -152,7 +152,7 @@ module _ (patterns : List (List ℕ)) (all : List Keyed) (order : IsOrder Standa
           not_later : (m : Keyed) (p : ℕ) → m.number ≡ j → p < length all → get_or all p none ≡ m
               → starts_with nat_eq here.key m.key ≡ true → at ≤ p → ⊥
           not_later m p number more is front later = elim (cases_lt at p) [
-            | inl behind ↦ elim (subst (λ (w : Keyed). Precedes here w) is (precedes at p behind more)) [
+            | inl beyond ↦ elim (subst (λ (w : Keyed). Precedes here w) is (precedes at p beyond more)) [
               | inl less ↦ false≢true (sym (front-no_less m.key here.key front) ∙ ap is_lt less)
               | inr after ↦ omega (arith, after.1)
             ]

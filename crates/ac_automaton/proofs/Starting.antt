@@ -6,7 +6,7 @@ use Rattle.ac_automaton.specs.Util.{begins_with_pattern, equal_to, is_leftmost, 
 use Rattle.ac_util.proofs.Prefixes.{starts_with-length}
 use Rattle.ac_util.proofs.Lists.{IsIn-from_filter, nil-from_none, none-from_nil}
 use Rattle.ac_util.proofs.Participants.{IsIn-equal_to, equal_to-none_begins, leader, leader-takes_part}
-use Rattle.ac_automaton.specs.Prelude.{ANCHORED_START, byte_at, DEAD, IsOrder, IsRangeOf, Keyed, miss, QueuedState, START, Waits}
+use Rattle.ac_automaton.specs.Prelude.{ANCHORED_START, byte_at, DEAD, IsOrder, IsRangeOf, Keyed, fallback, QueuedState, START, Waits}
 use Rattle.ac_automaton.proofs.Ranges.{equal_to-some, equal_to-none, place-at}
 
 -- a string without bytes is empty
@@ -37,9 +37,9 @@ module _ (kind : MatchKind) (patterns : List (List ℕ)) (sorted : List Keyed)
   some-begins some = search (rules, cases_Bool, equal_to-none_begins)
 
   -- under a leftmost kind an empty pattern lets no match start later
-  miss-dead : is_leftmost kind ≡ true → 0 < length sorted → byte_at sorted 0 0 ≡ None
-      → miss kind patterns (Some []) ≡ None
-  miss-dead leftmost some ends =
+  fallback-dead : is_leftmost kind ≡ true → 0 < length sorted → byte_at sorted 0 0 ≡ None
+      → fallback kind patterns (Some []) ≡ None
+  fallback-dead leftmost some ends =
       let begins =
       some-begins (equal_to-some kind patterns sorted order [] 0 (length sorted) all-range some ends) in
       cond-true (is_leftmost kind && begins_with_pattern patterns []) None (Some [])
@@ -57,9 +57,9 @@ module _ (kind : MatchKind) (patterns : List (List ℕ)) (sorted : List Keyed)
   ]))
 
   -- then a search stays at the start
-  miss-stays : (is_leftmost kind ≡ true → 0 < length sorted → byte_at sorted 0 0 ≢ None)
-      → miss kind patterns (Some []) ≡ Some []
-  miss-stays goes_on = search (rules, cases_Bool, cond-false, none-begins)
+  fallback-stays : (is_leftmost kind ≡ true → 0 < length sorted → byte_at sorted 0 0 ≢ None)
+      → fallback kind patterns (Some []) ≡ Some []
+  fallback-stays goes_on = search (rules, cases_Bool, cond-false, none-begins)
 
   -- the start as it waits for its children
   abbrev pub queued_start : ℕ → QueuedState
@@ -67,16 +67,16 @@ module _ (kind : MatchKind) (patterns : List (List ℕ)) (sorted : List Keyed)
 
   -- the start waits with a failure target that stands for where it goes on
   waits : (fail : ℕ) → slice_get (None ∷ None ∷ Some [] ∷ Some [] ∷ []) fail ≡ Some
-      (miss kind patterns (Some []))
+      (fallback kind patterns (Some []))
       → fail ≢ ANCHORED_START → Waits kind patterns sorted [] START (queued_start fail)
   waits fail e unanchored = grind (arith, common_steps)
 
   -- with an empty pattern a leftmost search ends there
   pub waits-dead : is_leftmost kind ≡ true → 0 < length sorted → byte_at sorted 0 0 ≡ None
       → Waits kind patterns sorted [] START (queued_start DEAD)
-  waits-dead leftmost some ends = search (rules, miss-dead, waits)
+  waits-dead leftmost some ends = search (rules, fallback-dead, waits)
 
   -- and else it stays there
   pub waits-start : (is_leftmost kind ≡ true → 0 < length sorted → byte_at sorted 0 0 ≢ None)
       → Waits kind patterns sorted [] START (queued_start START)
-  waits-start goes_on = search (rules, miss-stays, waits)
+  waits-start goes_on = search (rules, fallback-stays, waits)

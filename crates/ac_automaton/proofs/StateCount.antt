@@ -8,8 +8,8 @@ use Rattle.ac_automaton.specs.Util.{BuildError, GREATEST, inner_nodes, is_node, 
 use Rattle.ac_util.proofs.Lists.{IsIn, IsOrdered, IsIn-from_Contains, IsIn-from_map, Contains-from_IsIn}
 use Rattle.ac_util.proofs.NodeCount.{inner_nodes-has, inner_nodes-only, inner_nodes-apart}
 use Rattle.ac_util.proofs.Participants.{is_node-front}
-use Rattle.ac_automaton.specs.Prelude.{AreStates, byte_at, FIRST_INNER, grown_meaning, IsGrown, IsNotPushed, IsNumberOf, IsOrder, IsRangeOf, IsRefused, key_at, Keyed, miss, nodes_of, NumbersNodes, QueuedState, Represents, START, State, state_at, too_many_states, Transition, transition_bytes, transitions_of, word}
-use Rattle.ac_automaton.proofs.Branched.{own_target-is, some_node}
+use Rattle.ac_automaton.specs.Prelude.{AreStates, byte_at, FIRST_INNER, grown_view, IsGrown, IsNotPushed, IsNumberOf, IsOrder, IsRangeOf, IsRefused, key_at, Keyed, fallback, nodes_of, NumbersNodes, QueuedState, Represents, START, State, state_at, too_many_states, Transition, transition_bytes, transitions_of, word}
+use Rattle.ac_automaton.proofs.Branched.{transition_target-is, some_node}
 use Rattle.ac_automaton.proofs.Branching.{IsBranching, IsRun, Site, child-range, string, word-length}
 use Rattle.ac_automaton.proofs.Child.{fresh}
 use Rattle.ac_automaton.proofs.Counting.{IsOrdered-from_AllPairs, length-le-from_IsOrdered}
@@ -104,10 +104,10 @@ module _ (kind : MatchKind) (patterns : List (List ℕ)) (sorted : List Keyed)
       ]) in
       omega (arith, length-map queue (word sorted))
 
-  module _ (fold : Bool)
-      (settled : (place depth b : ℕ) → byte_at sorted depth place ≡ Some b → plain_byte fold b ≡ b)
+  module _ (ignores_case : Bool)
+      (settled : (place depth b : ℕ) → byte_at sorted depth place ≡ Some b → plain_byte ignores_case b ≡ b)
       (states : List State)
-      (meant : AreStates (grown_meaning kind fold patterns sorted transitions queue) states)
+      (meant : AreStates (grown_view kind ignores_case patterns sorted transitions queue) states)
       (all : length states ≡ FIRST_INNER + length queue) where
     -- the string has a state, with this number
     record HasNumber (u : List ℕ) : Type 0 where
@@ -118,17 +118,17 @@ module _ (kind : MatchKind) (patterns : List (List ℕ)) (sorted : List Keyed)
     module _ (w : List ℕ) (b s : ℕ) (at : slice_get (nodes_of sorted queue) s ≡ Some (Some w))
         (longer : is_node kind patterns (w ++ b ∷ []) ≡ true) where
       -- the byte is a plain one
-      settled-byte : plain_byte fold b ≡ b
+      settled-byte : plain_byte ignores_case b ≡ b
       settled-byte =
           let m = some_node kind patterns sorted order w b longer in
           settled m.0 (length w) b (starts_with-last (key_at sorted m.0) w b m.2)
 
       -- an anchored search goes on by it
-      onto : step kind patterns Yes (Some w) (plain_byte fold b) ≡ Some (w ++ b ∷ [])
-      onto = ap (step kind patterns Yes (Some w)) settled-byte ∙ own_target-is kind patterns w b longer
+      onto : step kind patterns Yes (Some w) (plain_byte ignores_case b) ≡ Some (w ++ b ∷ [])
+      onto = ap (step kind patterns Yes (Some w)) settled-byte ∙ transition_target-is kind patterns w b longer
 
       -- the state stands for its string
-      represented : Represents (grown_meaning kind fold patterns sorted transitions queue) s (Some w)
+      represented : Represents (grown_view kind ignores_case patterns sorted transitions queue) s (Some w)
           (state_at states s)
       represented =
           let count = length-map queue (λ (q : QueuedState). Some (word sorted q)) in
@@ -142,13 +142,13 @@ module _ (kind : MatchKind) (patterns : List (List ℕ)) (sorted : List Keyed)
       leads-on t k e is =
           represented.leads k t e
           ∙ ap (λ (v : Node). Some v)
-          (ap (λ (x : ℕ). step kind patterns Yes (Some w) (plain_byte fold x)) is ∙ onto)
+          (ap (λ (x : ℕ). step kind patterns Yes (Some w) (plain_byte ignores_case x)) is ∙ onto)
 
       -- and there is one
       onward : HasNumber (w ++ b ∷ [])
       onward =
           let own = transitions_of transitions (state_at states s) in
-          let some : step kind patterns Yes (Some w) (plain_byte fold b) ≢ None =
+          let some : step kind patterns Yes (Some w) (plain_byte ignores_case b) ≢ None =
           λ none. let e = sym onto ∙ none in
           absurd (cc) in
           let t =
@@ -218,7 +218,7 @@ module _ (kind : MatchKind) (patterns : List (List ℕ)) (sorted : List Keyed)
 module _ (site : Site) {place end b : ℕ} {transitions : List Transition} {queue : List QueuedState}
     (h : IsBranching site place transitions queue) (run : IsRun site place end b)
     (fail : ℕ) (fails : slice_get (nodes_of site.sorted queue) fail
-    ≡ Some (miss site.kind site.patterns (Some (string site ++ b ∷ [])))) where
+    ≡ Some (fallback site.kind site.patterns (Some (string site ++ b ∷ [])))) where
   pub refused : (e : BuildError) → IsNotPushed queue e → IsRefused (too_many_states site.kind site.patterns) e
   refused e (inl memory) = inl memory.0
   refused e (inr full) =

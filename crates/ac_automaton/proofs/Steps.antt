@@ -5,12 +5,12 @@ use Rattle.std.proofs.lemmas.Grind.{common_steps}
 use Rattle.ac_automaton.specs.Util.{depth, failure, is_node, looks, looks_within, MatchKind, No, Node, step, Yes}
 use Rattle.ac_util.proofs.Reached.{stops, reached-nil, reached-cons, step-all}
 use Rattle.ac_util.proofs.Failures.{step-failure, depth-failure}
-use Rattle.ac_automaton.specs.Tries.{miss}
+use Rattle.ac_automaton.specs.Tries.{fallback}
 
 module _ (kind : MatchKind) (patterns : List (List ℕ)) where
   -- where an anchored search goes on from a node
-  abbrev own_target : Node → ℕ → Node
-  own_target v b = step kind patterns Yes v b
+  abbrev transition_target : Node → ℕ → Node
+  transition_target v b = step kind patterns Yes v b
 
   -- where an unanchored search goes on
   abbrev stepped : Node → ℕ → Node
@@ -33,20 +33,20 @@ module _ (kind : MatchKind) (patterns : List (List ℕ)) where
   from_start b = search (rules, reached-cons, reached-nil, step-all)
 
   -- where a byte leads on in an anchored search it leads there in any search
-  pub step-own_target : (v : Node) (b : ℕ) → own_target v b ≢ None → stepped v b ≡ own_target v b
-  step-own_target None b on = refl
-  step-own_target (Some []) b on = grind (arith, common_steps)
-  step-own_target (Some (x ∷ u)) b on = grind (arith, common_steps)
+  pub step-transition_target : (v : Node) (b : ℕ) → transition_target v b ≢ None → stepped v b ≡ transition_target v b
+  step-transition_target None b on = refl
+  step-transition_target (Some []) b on = grind (arith, common_steps)
+  step-transition_target (Some (x ∷ u)) b on = grind (arith, common_steps)
 
   -- by any other byte the start and the dead node lead where their states say
-  pub step-miss : (v : Node) (b : ℕ) → own_target v b ≡ None → depth v ≡ 0 → stepped v b ≡ miss kind patterns v
-  step-miss None b off short = refl
-  step-miss (Some []) b off short = grind (arith, common_steps)
-  step-miss (Some (x ∷ u)) b off short = absurd (omega arith)
+  pub step-fallback : (v : Node) (b : ℕ) → transition_target v b ≡ None → depth v ≡ 0 → stepped v b ≡ fallback kind patterns v
+  step-fallback None b off short = refl
+  step-fallback (Some []) b off short = grind (arith, common_steps)
+  step-fallback (Some (x ∷ u)) b off short = absurd (omega arith)
 
   -- and a longer node steps as its failure target does
-  pub step-on : (v : Node) (b : ℕ) → own_target v b ≡ None → 0 < depth v
-      → stepped v b ≡ stepped (miss kind patterns v) b
+  pub step-on : (v : Node) (b : ℕ) → transition_target v b ≡ None → 0 < depth v
+      → stepped v b ≡ stepped (fallback kind patterns v) b
   step-on None b off long = refl
   step-on (Some []) b off long = absurd (omega arith)
   step-on (Some (x ∷ u)) b off long = search (rules, stays, step-failure)
@@ -73,10 +73,10 @@ module _ (kind : MatchKind) (patterns : List (List ℕ)) where
   counted x u b t is = cc
 
   -- a byte that leads on takes one look
-  pub looks-own_target : (v : Node) (b : ℕ) → own_target v b ≢ None → looks kind patterns No v b ≡ 1
-  looks-own_target None b on = refl
-  looks-own_target (Some []) b on = refl
-  looks-own_target (Some (x ∷ u)) b on = grind (arith, common_steps)
+  pub looks-transition_target : (v : Node) (b : ℕ) → transition_target v b ≢ None → looks kind patterns No v b ≡ 1
+  looks-transition_target None b on = refl
+  looks-transition_target (Some []) b on = refl
+  looks-transition_target (Some (x ∷ u)) b on = grind (arith, common_steps)
 
   -- and so does every byte at the start and at the dead node
   pub looks-short : (v : Node) (b : ℕ) → depth v ≡ 0 → looks kind patterns No v b ≡ 1
@@ -85,8 +85,8 @@ module _ (kind : MatchKind) (patterns : List (List ℕ)) where
   looks-short (Some (x ∷ u)) b short = absurd (omega arith)
 
   -- where a search goes on at the failure target there is one look more than from there
-  pub looks-on : (v : Node) (b : ℕ) → own_target v b ≡ None → 0 < depth v
-      → looks kind patterns No v b ≡ 1 + looks kind patterns No (miss kind patterns v) b
+  pub looks-on : (v : Node) (b : ℕ) → transition_target v b ≡ None → 0 < depth v
+      → looks kind patterns No v b ≡ 1 + looks kind patterns No (fallback kind patterns v) b
   looks-on None b off long = absurd (omega arith)
   looks-on (Some []) b off long = absurd (omega arith)
   looks-on (Some (x ∷ u)) b off long = search (rules, counted, depth-failure, enough, stays)

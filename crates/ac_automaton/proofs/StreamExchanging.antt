@@ -3,10 +3,10 @@ use Rattle.std.proofs.Common.{◌≡◌, ℕ, zero, suc, ◌+◌, ◌-◌, ◌<�
 use Rattle.std.proofs.Math.Seq.{take-add, take-append-add}
 use Rattle.std.proofs.lemmas.List.{append-nil, append_assoc, drop-drop, drop-take, drop_all, take-append-le, take-take, take_all}
 use Rattle.std.proofs.lemmas.Grind.{common_steps}
-use Rattle.ac_automaton.specs.Util.{Built, IsNear, IsSettledBy, Occurrence, Reading, ReadsAll, ReadsSome, Replacing, stream_result, StreamError, WritesPiece, Writing}
+use Rattle.ac_automaton.specs.Util.{Built, IsNear, IsSettledBy, Occurrence, Reading, ReadsAll, ReadsSome, Replacing, stream_result, StreamError, Turn, WritesPiece, Writing}
 use Rattle.ac_util.proofs.Devices.{fails-on, reads-on, reads-out}
 use Rattle.ac_util.proofs.Spans.{take_drop_take}
-use Rattle.ac_automaton.specs.Prelude.{Ended, FailsBy, FailsToExchange, FailsToFill, FillsMore, GivesMatch, HasExchanged, HasReplaced, IsSettledIn, matches_so_far, MeetsEnd, Open, ReplacesBy, StartFrom, Steps, initial_stream, Streaming}
+use Rattle.ac_automaton.specs.Prelude.{answer_of_exchange, Ended, FailsBy, FailsToExchange, FailsToFill, FillsMore, GivesMatch, HasExchanged, HasReplaced, initial_stream, IsSettledIn, matches_so_far, MeetsEnd, Open, ReplacesBy, StartFrom, Steps, Streaming}
 use Rattle.ac_automaton.proofs.Places.{take-next}
 
 -- a part of a list and then the next are a part
@@ -131,13 +131,17 @@ module _ {E D : Type 0} (told : D → Writing)
 
       -- the bytes before it were written, and it was exchanged
       module _ (at_match : Replacing E D) (gap : WritesPiece told (slice_range v.bytes v.kept m.start) s None at_match) where
-        turned : (haystack : List ℕ) → take m.end haystack ≡ take m.end v.bytes
-            → WritesPiece told (slice_range haystack v.kept m.start) s None at_match
-        turned haystack same = search (rules, part-same)
-
-        sliced : (haystack : List ℕ) → take m.end haystack ≡ take m.end v.bytes
-            → slice_range haystack m.start m.end ≡ slice_range v.bytes m.start m.end
-        sliced haystack same = part-same haystack v.bytes m.end m.start m.end same gives.ordered (omega arith)
+        -- so in each haystack that begins alike its turn was made
+        turn : (haystack : List ℕ) → take m.end haystack ≡ take m.end v.bytes → (r : Result (Unit {0}) StreamError)
+            (t : Replacing E D) → calls m (slice_range v.bytes m.start m.end) at_match r t
+            → Turn (WritesPiece told) calls answer_of_exchange haystack v.kept m s r t
+        turn haystack same r t call = record {
+          at_match = at_match;
+          gap = subst (λ (w : List ℕ). WritesPiece told w s None at_match)
+              (sym (part-same haystack v.bytes m.end v.kept m.start same gives.after gives.ordered)) gap;
+          call = subst (λ (w : List ℕ). calls m w at_match r t)
+              (sym (part-same haystack v.bytes m.end m.start m.end same gives.ordered (omega arith))) call;
+        }
 
         pub replaced-match : (t : Replacing E D) → calls m (slice_range v.bytes m.start m.end) at_match (Ok tt) t
             → HasReplaced told calls new first t
@@ -155,16 +159,7 @@ module _ {E D : Type 0} (told : D → Writing)
                 (done.steps haystack
                 (take-same haystack v.bytes m.end v.kept same (let a = gives.after in let o = gives.ordered in omega arith))
                 (m ∷ ms) gives.after end u
-                (inr (
-                  Ok tt,
-                  t,
-                  record {
-                    at_match = at_match;
-                    gap = turned haystack same;
-                    call = subst (λ (w : List ℕ). calls m w at_match (Ok tt) t) (sym (sliced haystack same)) call;
-                  },
-                  steps,
-                )))
+                (inr (Ok tt, t, turn haystack same (Ok tt) t call, steps)))
 
         -- or it could not be exchanged
         pub exchange-fails : (e : StreamError) (t : Replacing E D)
@@ -173,16 +168,7 @@ module _ {E D : Type 0} (told : D → Writing)
         exchange-fails e t call =
             subst (λ (ns : List Occurrence). Steps told calls (take place v.bytes) 0 ns first (Some e) t) cut.1
             (done.steps (take place v.bytes) kept-alike (m ∷ cut.0) gives.after (Some e) t
-            (inr (
-              Err e,
-              t,
-              record {
-                at_match = at_match;
-                gap = turned (take place v.bytes) alike;
-                call = subst (λ (w : List ℕ). calls m w at_match (Err e) t) (sym (sliced (take place v.bytes) alike)) call;
-              },
-              (refl, refl),
-            )))
+            (inr (Err e, t, turn (take place v.bytes) alike (Err e) t call, (refl, refl))))
 
       -- or the bytes before it could not be written
       pub gap-fails : (e : StreamError) (t : Replacing E D)

@@ -4,7 +4,7 @@ use Rattle.std.specs.Prelude.{⊤}
 use Rattle.std.proofs.lemmas.List.{append-nil, drop-append-le, drop-drop, length-take-le}
 use Rattle.std.proofs.Math.Seq.{take-add, take-append_seam}
 use Rattle.std.proofs.lemmas.Grind.{common_steps}
-use Rattle.ac_automaton.specs.Util.{buffer_len, Built, from, is_leftmost, IsSettledBy, longest_len, Node, Occurrence, pick, Span, stream_refusal, stream_result, walk_after}
+use Rattle.ac_automaton.specs.Util.{buffer_len, Built, from, is_leftmost, IsSettledBy, longest_len, Node, Occurrence, pick, Span, stream_refusal, stream_result, walk_after, usize_max}
 use Rattle.ac_util.proofs.Longer.{pick-extended}
 use Rattle.ac_util.proofs.Spans.{take_drop_take}
 use Rattle.ac_util.proofs.Walks.{next-none, walk_after-None}
@@ -125,7 +125,7 @@ module _ (stands : ℕ → Node → Type 0) (i : Inside) (v : Streaming) (inv : 
 
     -- and some of that is bytes more
     module _ (n : ℕ) (more : List ℕ) (reads : more ≡ take n (drop i.filled buffer)) (room : n ≤ length (drop i.filled buffer))
-        (small : v.front + i.filled + n ≤ 18446744073709551615) (bytes : List ℕ) (added : bytes ≡ v.bytes ++ more) where
+        (small : v.front + i.filled + n ≤ usize_max) (bytes : List ℕ) (added : bytes ≡ v.bytes ++ more) where
       size-more : length more ≡ n
       size-more = ap length reads ∙ length-take-le n (drop i.filled buffer) room
 

@@ -11,7 +11,7 @@ use Rattle.ac_util.proofs.Shortest.{none-empty}
 use Rattle.ac_util.proofs.Walks.{next-some, pick-Occurs, walk-ordered, walk_after-Some}
 use Rattle.ac_automaton.specs.Prelude.{Ended, Failed, GivesMatch, HasReadOn, in_memory, Inside, IsAnswered, IsSettledIn, IsSettling, IsStreaming, Open, Phase, stream_from, Streaming}
 use Rattle.ac_automaton.proofs.FindLoop.{dead-stays, goes_on-by, picked-final}
-use Rattle.ac_automaton.proofs.ListLoop.{get-behind}
+use Rattle.ac_automaton.proofs.ListLoop.{get-beyond}
 use Rattle.ac_automaton.proofs.ReadOn.{at-start}
 use Rattle.ac_automaton.proofs.StreamLoop.{leftmost-by, order-by, standard-by}
 use Rattle.ac_automaton.proofs.StreamRefusals.{allowed-some}
@@ -60,7 +60,7 @@ pub within-bytes : {stands : ℕ → Node → Type 0} {i : Inside} {v : Streamin
 within-bytes inv on = let w = on.within in let n = inv.counted in omega arith
 
 -- a search over a stream has its answer in what was read
-module _ (stands : ℕ → Node → Type 0) (listed : ℕ → List ℕ) (most : ℕ) (filters : Bool) (i : Inside) (v : Streaming)
+module _ (stands : ℕ → Node → Type 0) (listed : ℕ → List ℕ) (most : ℕ) (wants_prefilter : Bool) (i : Inside) (v : Streaming)
     (inv : IsStreaming stands i v) (state at : ℕ) (picked : Option Occurrence) (on : HasReadOn stands i v state at picked)
     (answered : IsAnswered i.stops i.filled at (node_there v.built v.bytes i.begun (v.front + at)) picked) where
   -- the node that is reached
@@ -106,7 +106,7 @@ module _ (stands : ℕ → Node → Type 0) (listed : ℕ → List ℕ) (most : 
       by-first : i.stops ≡ true → pick v.built.kind (stream_from v.built (v.bytes ++ more) i.begun) ≡ Some m
       by-first first =
           let long = length-append v.bytes more in let w = inside-bytes in
-          kind-of ∙ sym (picked-final (scan stands listed v.built most filters) i.stops (v.bytes ++ more) whole_span (v.front + at) m (omega arith)
+          kind-of ∙ sym (picked-final (scan stands listed v.built most wants_prefilter) i.stops (v.bytes ++ more) whole_span (v.front + at) m (omega arith)
           (same-order ∙ standard-by v.built.kind i.stops inv.stops first) picks-there)
 
       by-dead : here ≡ None
@@ -117,7 +117,7 @@ module _ (stands : ℕ → Node → Type 0) (listed : ℕ → List ℕ) (most : 
           by true first = by-first first
           by false on' =
               let long = length-append v.bytes more in let w = inside-bytes in
-              kind-of ∙ sym (dead-stays (scan stands listed v.built most filters) i.stops (v.bytes ++ more) whole_span (v.front + at) (Some m)
+              kind-of ∙ sym (dead-stays (scan stands listed v.built most wants_prefilter) i.stops (v.bytes ++ more) whole_span (v.front + at) (Some m)
               on.is_at.onward picks-there (goes_on-by v.built.kind i.stops (Some m) (leftmost-by v.built.kind i.stops inv.stops) (λ yes. absurd (false≢true (sym on' ∙ yes))))
               (omega arith) (omega arith)
               (node-longer v.built v.bytes more i.begun (v.front + at) on.is_at.onward inside-bytes ∙ dead))
@@ -146,10 +146,10 @@ module _ (stands : ℕ → Node → Type 0) (listed : ℕ → List ℕ) (most : 
           (walk_after v.built.kind (stream_from v.built (v.bytes ++ more) m.end) (Some m.end)))
 
     next-there : slice_get (stream_result v.built v.bytes) v.given ≡ Some m
-    next-there = grind (arith, common_steps, append-nil v.bytes, walks-on, get-behind)
+    next-there = grind (arith, common_steps, append-nil v.bytes, walks-on, get-beyond)
 
-    starts-behind : v.kept ≤ m.start
-    starts-behind = subst (λ (r : Option Occurrence). IfSome r (λ n. v.kept ≤ n.start)) is on.after
+    starts-beyond : v.kept ≤ m.start
+    starts-beyond = subst (λ (r : Option Occurrence). IfSome r (λ n. v.kept ≤ n.start)) is on.after
 
     -- so it is settled: it is the last of the matches by which the stream is settled as far as its end
     settling : IsSettling v m
@@ -234,7 +234,7 @@ module _ (stands : ℕ → Node → Type 0) (listed : ℕ → List ℕ) (most : 
           next = next-there;
           same = refl;
           numbered = occurs.numbered;
-          after = starts-behind;
+          after = starts-beyond;
           ordered = omega arith;
           within = ends-within;
           settled = settling;
@@ -262,12 +262,12 @@ module _ (stands : ℕ → Node → Type 0) (listed : ℕ → List ℕ) (most : 
           searched = record {
             within = omega arith;
             onward = omega arith;
-            is_at = subst (λ (k : ℕ). At stands listed v.built most filters v.bytes m.end i.start k) place
-                (at-start (scan stands listed v.built most filters) (in_memory v.bytes (record { start = m.end; end = length v.bytes })) m.end inv.starts
+            is_at = subst (λ (k : ℕ). At stands listed v.built most wants_prefilter v.bytes m.end i.start k) place
+                (at-start (scan stands listed v.built most wants_prefilter) (in_memory v.bytes (record { start = m.end; end = length v.bytes })) m.end inv.starts
                 refl ends-within);
             picks = sym (ap (λ (k : ℕ). pick v.built.kind (record (stream_from v.built v.bytes m.end) { high = k }))
                 (sym place)
-                ∙ picked-nothing stands listed v.built most filters (allowed-some v.built inv.allowed) v.built.kind v.bytes
+                ∙ picked-nothing stands listed v.built most wants_prefilter (allowed-some v.built inv.allowed) v.built.kind v.bytes
                 m.end);
             after = tt;
           };

@@ -4,7 +4,7 @@ use Rattle.std.proofs.lemmas.Bool.{false≢true}
 use Rattle.std.proofs.lemmas.List.{append-nil}
 use Rattle.std.proofs.lemmas.Grind.{common_steps}
 use Rattle.ac_automaton.specs.Util.{is_leftmost, IsNear, IsSettledAt, IsSettledBy, longest_len, Node, Occurrence, pick, Standard, stream_result}
-use Rattle.ac_util.proofs.Living.{dead-picked, node-short, pick-behind}
+use Rattle.ac_util.proofs.Living.{dead-picked, node-short, pick-beyond}
 use Rattle.ac_util.proofs.Decided.{settled-at}
 use Rattle.ac_util.proofs.Shortest.{longest-most, none-empty}
 use Rattle.ac_util.proofs.Walks.{walk_after-None}
@@ -15,7 +15,7 @@ use Rattle.ac_automaton.proofs.StreamRefusals.{allowed-some}
 use Rattle.ac_automaton.proofs.StreamText.{node_there}
 
 -- a search over a stream has its answer in what was read
-module _ (stands : ℕ → Node → Type 0) (listed : ℕ → List ℕ) (most : ℕ) (filters : Bool) (i : Inside) (v : Streaming)
+module _ (stands : ℕ → Node → Type 0) (listed : ℕ → List ℕ) (most : ℕ) (wants_prefilter : Bool) (i : Inside) (v : Streaming)
     (inv : IsStreaming stands i v) (state at : ℕ) (picked : Option Occurrence) (on : HasReadOn stands i v state at picked)
     (answered : IsAnswered i.stops i.filled at (node_there v.built v.bytes i.begun (v.front + at)) picked) where
   -- the node that is reached
@@ -72,14 +72,14 @@ module _ (stands : ℕ → Node → Type 0) (listed : ℕ → List ℕ) (most : 
           by : (u : Node) → here ≡ u → length v.bytes ≤ m.start + longest_len v.built.patterns
           by None dead = absurd (alive dead)
           by (Some u) stands' =
-              let behind = pick-behind v.built.kind (up_to v i.begun (v.front + at)) refl on.is_at.onward (within-bytes inv on) first u
+              let beyond = pick-beyond v.built.kind (up_to v i.begun (v.front + at)) refl on.is_at.onward (within-bytes inv on) first u
               stands' v.built.kind m (sym on.picks ∙ is) in
               let short = node-short v.built.kind (up_to v i.begun (v.front + at)) refl on.is_at.onward (within-bytes inv on) u stands' in
               let e = end-is in
               omega arith
 
-      starts-behind-kept : is_leftmost v.built.kind ≡ true → (m : Occurrence) → picked ≡ Some m → kept_open ≤ m.start
-      starts-behind-kept first m is = search (rules, end-is, most-leftmost, near-picked)
+      starts-beyond-kept : is_leftmost v.built.kind ≡ true → (m : Occurrence) → picked ≡ Some m → kept_open ≤ m.start
+      starts-beyond-kept first m is = search (rules, end-is, most-leftmost, near-picked)
 
       settles-leftmost : is_leftmost v.built.kind ≡ true → (v.phase ≡ Ended → ⊥)
           → IsSettledBy v.built.kind v.built v.bytes v.given kept_open
@@ -95,7 +95,7 @@ module _ (stands : ℕ → Node → Type 0) (listed : ℕ → List ℕ) (most : 
           (λ place from_begun before opens.
           let long = longest-most v.built.patterns opens.number opens.numbered in let longer = opens.longer in
           absurd (omega arith))
-          (λ m is. starts-behind-kept first m (picks-whole ∙ is))))
+          (λ m is. starts-beyond-kept first m (picks-whole ∙ is))))
 
       settles : (v.phase ≡ Ended → ⊥) → IsSettledBy v.built.kind v.built v.bytes v.given kept_open
       settles open' = search (rules, settles-leftmost, settles-standard)
@@ -111,7 +111,7 @@ module _ (stands : ℕ → Node → Type 0) (listed : ℕ → List ℕ) (most : 
 
       is-kept-open : (p : Phase) → v.phase ≡ p → (p ≡ Ended → ⊥)
           → IsSettledIn p v.built v.bytes v.given kept_open → IsKept p kept_open
-      is-kept-open p is open' settled' = search (rules, back-open, end-is, most-few, starts-behind-kept)
+      is-kept-open p is open' settled' = search (rules, back-open, end-is, most-few, starts-beyond-kept)
 
       is-kept : IsKept v.phase kept_now
       is-kept = by v.phase refl

@@ -30,14 +30,14 @@ standard-by LeftmostFirst stops is first = absurd (false≢true (sym is ∙ firs
 standard-by LeftmostLongest stops is first = absurd (false≢true (sym is ∙ first))
 
 -- a search over a stream as it is kept between two calls
-module _ (stands : ℕ → Node → Type 0) (listed : ℕ → List ℕ) (most : ℕ) (filters : Bool) (i : Inside) (v : Streaming)
+module _ (stands : ℕ → Node → Type 0) (listed : ℕ → List ℕ) (most : ℕ) (wants_prefilter : Bool) (i : Inside) (v : Streaming)
     (inv : IsStreaming stands i v) where
   abbrev pub stream_scan : Scan
-  stream_scan = scan stands listed v.built most filters
+  stream_scan = scan stands listed v.built most wants_prefilter
 
   abbrev pub stream_text : ScanText
   stream_text =
-      buffer_text stands listed v.built most filters v.bytes i.buffer v.front i.filled i.begun inv.counted inv.holds
+      buffer_text stands listed v.built most wants_prefilter v.bytes i.buffer v.front i.filled i.begun inv.counted inv.holds
 
   -- the node reached at a place of the stream, and what it finds there
   abbrev pub node_here : ℕ → Node
@@ -91,10 +91,10 @@ module _ (stands : ℕ → Node → Type 0) (listed : ℕ → List ℕ) (most : 
           search (
             rules,
             node-fits stream_scan stream_text cursor.state cursor.at passes.is_at,
-            place-is stands listed v.built most filters v.bytes i.buffer v.front i.filled i.begun inv.counted inv.holds cursor.at,
+            place-is stands listed v.built most wants_prefilter v.bytes i.buffer v.front i.filled i.begun inv.counted inv.holds cursor.at,
           )
 
-      there : At stands listed v.built most filters v.bytes i.begun cursor.state (v.front + cursor.at)
+      there : At stands listed v.built most wants_prefilter v.bytes i.begun cursor.state (v.front + cursor.at)
       there = search (rules, at-in_stream)
 
       none-between : NoMatchBetween stream_scan (in_memory v.bytes span) (v.front + at) (v.front + cursor.at)
@@ -106,7 +106,7 @@ module _ (stands : ℕ → Node → Type 0) (listed : ℕ → List ℕ) (most : 
         finds-there : found ≡ found_there (v.front + cursor.at)
         finds-there =
             finds ∙ ap (λ (u : Node). found_at v.built No u (v.front + cursor.at))
-            (node-in_buffer stands listed v.built most filters v.bytes i.buffer v.front i.filled i.begun inv.counted inv.holds
+            (node-in_buffer stands listed v.built most wants_prefilter v.bytes i.buffer v.front i.filled i.begun inv.counted inv.holds
             cursor.at ordered within)
 
         -- what is found there is picked
@@ -116,7 +116,7 @@ module _ (stands : ℕ → Node → Type 0) (listed : ℕ → List ℕ) (most : 
           onward = (let o = on.onward in omega arith);
           is_at = there;
           picks = picks;
-          after = behind found refl;
+          after = beyond found refl;
         }
           where
             picks : found ≡ pick v.built.kind (up_to (v.front + cursor.at))
@@ -125,9 +125,9 @@ module _ (stands : ℕ → Node → Type 0) (listed : ℕ → List ℕ) (most : 
                 (omega arith) found finds-there some
                 ∙ ap (λ (k : MatchKind). pick k (up_to (v.front + cursor.at))) same-order
 
-            behind : (r : Option Occurrence) → r ≡ found → IfSome r (λ m. v.kept ≤ m.start)
-            behind None is = tt
-            behind (Some m) is =
+            beyond : (r : Option Occurrence) → r ≡ found → IfSome r (λ m. v.kept ≤ m.start)
+            beyond None is = tt
+            beyond (Some m) is =
                 let ends = found-end v.built No _ (v.front + cursor.at) m (sym finds-there ∙ sym is) in
                 let o = pick-Occurs v.built.kind (up_to (v.front + cursor.at)) m (sym picks ∙ sym is) in
                 let long = longest-most v.built.patterns m.pattern o.numbered in

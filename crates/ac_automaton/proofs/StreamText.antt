@@ -18,10 +18,10 @@ tape-is buffer shown input tape shows whole opens = grind (arith, common_steps)
 abbrev pub node_there : Built → List ℕ → ℕ → ℕ → Node
 node_there built bytes begun place = node_at built.kind (stream_from built bytes begun) place
 
-module _ (stands : ℕ → Node → Type 0) (listed : ℕ → List ℕ) (built : Built) (most : ℕ) (filters : Bool) where
+module _ (stands : ℕ → Node → Type 0) (listed : ℕ → List ℕ) (built : Built) (most : ℕ) (wants_prefilter : Bool) where
   -- the automaton without an anchor
   abbrev pub scan : Scan
-  scan = record { stands = stands; listed = listed; built = built; anchored = No; most = most; filters = filters }
+  scan = record { stands = stands; listed = listed; built = built; anchored = No; most = most; wants_prefilter = wants_prefilter }
 
   -- where it has come to in these bytes of a stream, which it searches from a place on
   abbrev pub At : List ℕ → ℕ → ℕ → ℕ → Type 0

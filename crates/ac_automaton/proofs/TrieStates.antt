@@ -4,7 +4,7 @@ use Rattle.std.proofs.lemmas.Bool.{cases_lt}
 use Rattle.std.proofs.lemmas.Option.{slice_get_within}
 use Rattle.std.proofs.lemmas.Grind.{common_steps}
 use Rattle.ac_util.specs.Node.{Node, depth}
-use Rattle.ac_automaton.specs.Prelude.{all_matches, DEAD, FIRST_INNER, HasState, IsState, IsTrie, IsTrieState, listed_within, MatchRest, Meaning, meaning_of, Represents, START, State, Takes, TakesFrom, Trie}
+use Rattle.ac_automaton.specs.Prelude.{all_matches, DEAD, FIRST_INNER, HasState, IsState, IsTrie, IsTrieState, listed_within, MatchRest, TrieView, meaning_of, Represents, START, State, Takes, TakesFrom, Trie}
 use Rattle.ac_automaton.proofs.Follows.{represented}
 use Rattle.ac_automaton.proofs.ListsOf.{length-listed, none-linked}
 
@@ -14,7 +14,7 @@ not_nil-length xs h e = omega (arith, ap (length {A = ℕ}) e)
 
 module _ (trie : Trie) (s : ℕ) (u : Node) (h : IsTrieState trie s u) where
   -- what the numbers mean
-  abbrev pub meaning : Meaning
+  abbrev pub meaning : TrieView
   meaning = meaning_of trie h.nodes
 
   -- one of the states stands for the node
@@ -81,5 +81,5 @@ module _ (trie : Trie) where
 
 -- one of the states of a trie is the start, which stands for the empty string
 pub start-state : (trie : Trie) (nodes : List Node) → IsTrie trie nodes
-    → (g : Meaning) × (u : Node) × (g.transitions ≡ trie.transitions) × HasState g trie.states START u
+    → (g : TrieView) × (u : Node) × (g.transitions ≡ trie.transitions) × HasState g trie.states START u
 start-state trie nodes is_trie = grind (arith, common_steps)

@@ -28,9 +28,9 @@ pub record HasRepeated (picking : Picking) (q : Search) (work new_work : Work) :
 pub repeated : {picking : Picking} {q : Search} {r : Option Occurrence} {work new_work : Work} (last : Option ℕ)
     → HasSearched picking q r work new_work → IfSome last (λ e. e ≤ q.low) → repeats r last ≡ true
     → HasRepeated picking q work new_work
-repeated {r = None} last found behind again = absurd (cc)
-repeated {r = Some m} None found behind again = absurd (cc)
-repeated {picking = picking} {q = q} {r = Some m} (Some e) found behind again =
+repeated {r = None} last found beyond again = absurd (cc)
+repeated {r = Some m} None found beyond again = absurd (cc)
+repeated {picking = picking} {q = q} {r = Some m} (Some e) found beyond again =
     grind (
       arith,
       common_steps,
@@ -57,7 +57,7 @@ next walking r work = going_on walking (after walking.left.high r) (last_after w
 record MayGoOn (walking : Walking) (work : Work) (stop : ℕ) (last : Option ℕ) : Type 0 where
   onward : walking.left.low ≤ stop
   legal : stop ≤ walking.left.high + 1
-  behind : IfSome last (λ e. e ≤ stop)
+  beyond : IfSome last (λ e. e ≤ stop)
   place : walking.picking.order ≡ Standard
       → work.place ≤ max (kept_place walking.picking.order walking.work.place) stop
   calls : walking.picking.order ≡ Standard
@@ -77,7 +77,7 @@ under_way-on {walking = walking} {work = work} way found may = grind (arith, com
 under_way-further : {walking : Walking} {work : Work} {r : Option Occurrence} → IsUnderWay walking
     → HasFound walking walking.left r walking.work work → repeats r walking.last ≡ true
     → IsUnderWay (going_on walking (walking.left.low + 1) walking.last work)
-under_way-further {walking = walking} way found again = grind (arith, common_steps, repeated walking.last found way.behind again)
+under_way-further {walking = walking} way found again = grind (arith, common_steps, repeated walking.last found way.beyond again)
 
 -- and it may go on after what was found
 under_way-found : {walking : Walking} {work : Work} {r : Option Occurrence} → IsUnderWay walking
@@ -87,7 +87,7 @@ under_way-found {walking = walking} {r = None} way found =
     under_way-on way found (record {
       onward = omega arith;
       legal = omega arith;
-      behind = IfSome_then walking.last way.behind (λ e b. omega arith);
+      beyond = IfSome_then walking.last way.beyond (λ e b. omega arith);
       place = λ _. omega arith;
       calls = λ _. omega arith;
       covered = λ _ _ past. absurd (omega arith);
@@ -98,7 +98,7 @@ under_way-found {walking = walking} {r = Some m} way found =
     under_way-on way found (record {
       onward = omega arith;
       legal = omega arith;
-      behind = omega arith;
+      beyond = omega arith;
       place = λ standard. (found.stops standard).place;
       calls = λ standard. omega (arith, (found.stops standard).calls);
       covered = λ same _ _. found.tells.reads same;

@@ -4,104 +4,104 @@ use Rattle.std.proofs.lemmas.List.{get_or_past, length-map, length_push}
 use Rattle.std.proofs.lemmas.Option.{slice_get_within}
 use Rattle.std.proofs.lemmas.Grind.{common_steps}
 use Rattle.ac_automaton.specs.Util.{MatchKind, Node, pattern_of, plain, plain_byte}
-use Rattle.ac_automaton.specs.Prelude.{ANCHORED_START, AreStates, byte_at, FIRST_INNER, first_states, grown_meaning, Growth, HasRoot, HasBranched, IsGrown, IsOrder, IsTrie, key_at, Keyed, Meaning, nodes_of, numbers, NumbersNodes, QueuedState, Represents, Sorted, START, State, too_many_states, Transition, trie_of, Waits, word}
+use Rattle.ac_automaton.specs.Prelude.{ANCHORED_START, AreStates, byte_at, FIRST_INNER, first_states, grown_view, Growth, HasRoot, HasBranched, IsGrown, IsOrder, IsTrie, key_at, Keyed, TrieView, nodes_of, numbers, NumbersNodes, QueuedState, Represents, Sorted, START, State, too_many_states, Transition, trie_of, Waits, word}
 use Rattle.ac_automaton.specs.Growths.{IsQueueReady}
 use Rattle.ac_automaton.proofs.Grown.{AreStates-push, IsGrown-later, nodes-inner}
 use Rattle.ac_automaton.proofs.ListsOf.{listed_within-matches}
 use Rattle.ac_automaton.proofs.StateCount.{numbers-nodes, too_many_states-none}
 
 -- the state of the unanchored start is that of the anchored start too
-pub Represents-beside : (g : Meaning) (v : Node) (t : State) → Represents g START v t
+pub Represents-beside : (g : TrieView) (v : Node) (t : State) → Represents g START v t
     → Represents g ANCHORED_START v t
 Represents-beside g v t r = grind (arith, common_steps)
 
 -- so does each byte of a plain string
-plain-byte : (fold : Bool) (text : List ℕ) (k b : ℕ) → slice_get (plain fold text) k ≡ Some b
-    → plain_byte fold b ≡ b
-plain-byte fold [] k b e = absurd (cc)
-plain-byte fold (x ∷ text) zero b e = grind (arith, common_steps)
-plain-byte fold (x ∷ text) (suc k) b e = plain-byte fold text k b e
+plain-byte : (ignores_case : Bool) (text : List ℕ) (k b : ℕ) → slice_get (plain ignores_case text) k ≡ Some b
+    → plain_byte ignores_case b ≡ b
+plain-byte ignores_case [] k b e = absurd (cc)
+plain-byte ignores_case (x ∷ text) zero b e = grind (arith, common_steps)
+plain-byte ignores_case (x ∷ text) (suc k) b e = plain-byte ignores_case text k b e
 
 -- and of a plain pattern
-plain-pattern : (fold : Bool) (texts : List (List ℕ)) (n k b : ℕ)
-    → slice_get (pattern_of (map (plain fold) texts) n) k ≡ Some b
-    → plain_byte fold b ≡ b
-plain-pattern fold [] n k b e = absurd (cc)
-plain-pattern fold (t ∷ texts) zero k b e = plain-byte fold t k b e
-plain-pattern fold (t ∷ texts) (suc n) k b e = plain-pattern fold texts n k b e
+plain-pattern : (ignores_case : Bool) (texts : List (List ℕ)) (n k b : ℕ)
+    → slice_get (pattern_of (map (plain ignores_case) texts) n) k ≡ Some b
+    → plain_byte ignores_case b ≡ b
+plain-pattern ignores_case [] n k b e = absurd (cc)
+plain-pattern ignores_case (t ∷ texts) zero k b e = plain-byte ignores_case t k b e
+plain-pattern ignores_case (t ∷ texts) (suc n) k b e = plain-pattern ignores_case texts n k b e
 
 -- the bytes of patterns that are plain patterns are plain
-pub sorted-plain : (kind : MatchKind) (fold : Bool) (texts : List (List ℕ)) (sorted : List Keyed)
-    → IsOrder kind (map (plain fold) texts) sorted
-    → (place depth b : ℕ) → byte_at sorted depth place ≡ Some b → plain_byte fold b ≡ b
-sorted-plain kind fold texts sorted order place depth b e = search (rules, get_or_past, plain-pattern)
+pub sorted-plain : (kind : MatchKind) (ignores_case : Bool) (texts : List (List ℕ)) (sorted : List Keyed)
+    → IsOrder kind (map (plain ignores_case) texts) sorted
+    → (place depth b : ℕ) → byte_at sorted depth place ≡ Some b → plain_byte ignores_case b ≡ b
+sorted-plain kind ignores_case texts sorted order place depth b e = search (rules, get_or_past, plain-pattern)
 
-module _ (kind : MatchKind) (fold : Bool) (patterns : List (List ℕ)) (sorted : List Keyed) where
+module _ (kind : MatchKind) (ignores_case : Bool) (patterns : List (List ℕ)) (sorted : List Keyed) where
   -- the start is next
   pub start-ready : (p : QueuedState) → IsOrder kind patterns sorted
-      → ((place depth b : ℕ) → byte_at sorted depth place ≡ Some b → plain_byte fold b ≡ b)
+      → ((place depth b : ℕ) → byte_at sorted depth place ≡ Some b → plain_byte ignores_case b ≡ b)
       → Waits kind patterns sorted [] START p → p.depth ≡ 0
-      → IsQueueReady kind fold patterns sorted first_states [] [] p
+      → IsQueueReady kind ignores_case patterns sorted first_states [] [] p
   start-ready p order settled waits depth = grind (arith, common_steps)
 
   -- the states up to those of the queue before `at` are whole
   pub record IsGoing (states : List State) (transitions : List Transition) (queue : List QueuedState)
       (at : ℕ) : Type 0 where
     pub order : IsOrder kind patterns sorted
-    pub settled : (place depth b : ℕ) → byte_at sorted depth place ≡ Some b → plain_byte fold b ≡ b
+    pub settled : (place depth b : ℕ) → byte_at sorted depth place ≡ Some b → plain_byte ignores_case b ≡ b
     pub grown : IsGrown kind patterns sorted (length states) transitions queue
-    pub meant : AreStates (grown_meaning kind fold patterns sorted transitions queue) states
+    pub meant : AreStates (grown_view kind ignores_case patterns sorted transitions queue) states
     pub count : length states ≡ FIRST_INNER + at
     pub within : at ≤ length queue
 
   -- with the start at both its numbers the first four are whole
   started : (p : QueuedState) (t : State) (transitions : List Transition) (queue : List QueuedState)
       → IsOrder kind patterns sorted
-      → ((place depth b : ℕ) → byte_at sorted depth place ≡ Some b → plain_byte fold b ≡ b) → p.depth ≡ 0
-      → HasBranched kind fold patterns sorted first_states [] p t transitions queue
+      → ((place depth b : ℕ) → byte_at sorted depth place ≡ Some b → plain_byte ignores_case b ≡ b) → p.depth ≡ 0
+      → HasBranched kind ignores_case patterns sorted first_states [] p t transitions queue
       → IsGoing ((first_states ++ t ∷ []) ++ t ∷ []) transitions queue 0
   started p t transitions queue order settled depth h = record {
     order = order;
     settled = settled;
     grown = IsGrown-later (omega arith) (omega arith) h.grown;
     meant =
-        AreStates-push (grown_meaning kind fold patterns sorted transitions queue) (first_states ++ t ∷ [])
+        AreStates-push (grown_view kind ignores_case patterns sorted transitions queue) (first_states ++ t ∷ [])
         (Some []) t once refl
-        (Represents-beside (grown_meaning kind fold patterns sorted transitions queue) (Some []) t start);
+        (Represents-beside (grown_view kind ignores_case patterns sorted transitions queue) (Some []) t start);
     count = refl;
     within = omega arith;
   }
     where
-      start : Represents (grown_meaning kind fold patterns sorted transitions queue) START (Some []) t
+      start : Represents (grown_view kind ignores_case patterns sorted transitions queue) START (Some []) t
       start =
-          subst (λ (v : List ℕ). Represents (grown_meaning kind fold patterns sorted transitions queue) START
+          subst (λ (v : List ℕ). Represents (grown_view kind ignores_case patterns sorted transitions queue) START
           (Some v) t)
           (ap (λ (n : ℕ). take n (key_at sorted p.from)) depth) h.represents
 
-      once : AreStates (grown_meaning kind fold patterns sorted transitions queue) (first_states ++ t ∷ [])
+      once : AreStates (grown_view kind ignores_case patterns sorted transitions queue) (first_states ++ t ∷ [])
       once =
-          AreStates-push (grown_meaning kind fold patterns sorted transitions queue) first_states
+          AreStates-push (grown_view kind ignores_case patterns sorted transitions queue) first_states
           (Some []) t h.meant refl start
 
   -- with the start at both its numbers a trie goes on to grow
   pub start-going : (first : List State) (none : List QueuedState) (p : QueuedState) (t : State)
       (transitions : List Transition) (queue : List QueuedState) → first ≡ first_states → none ≡ []
       → IsOrder kind patterns sorted
-      → ((place depth b : ℕ) → byte_at sorted depth place ≡ Some b → plain_byte fold b ≡ b) → p.depth ≡ 0
-      → HasBranched kind fold patterns sorted first none p t transitions queue
+      → ((place depth b : ℕ) → byte_at sorted depth place ≡ Some b → plain_byte ignores_case b ≡ b) → p.depth ≡ 0
+      → HasBranched kind ignores_case patterns sorted first none p t transitions queue
       → IsGoing ((first ++ t ∷ []) ++ t ∷ []) transitions queue 0
   start-going first none p t transitions queue is empty order settled depth h =
       subst (λ (ss : List State). IsGoing ((ss ++ t ∷ []) ++ t ∷ []) transitions queue 0) (sym is)
       (started p t transitions queue order settled depth
-      (subst (λ (q : List QueuedState). HasBranched kind fold patterns sorted first_states q p t transitions
+      (subst (λ (q : List QueuedState). HasBranched kind ignores_case patterns sorted first_states q p t transitions
       queue)
       empty
-      (subst (λ (ss : List State). HasBranched kind fold patterns sorted ss none p t transitions queue) is h)))
+      (subst (λ (ss : List State). HasBranched kind ignores_case patterns sorted ss none p t transitions queue) is h)))
 
   -- the first in the queue that isn't whole is next
   pub going-ready : {states : List State} {transitions : List Transition} {queue : List QueuedState} {at : ℕ}
       {p : QueuedState} → IsGoing states transitions queue at → slice_get queue at ≡ Some p
-      → IsQueueReady kind fold patterns sorted states transitions queue p
+      → IsQueueReady kind ignores_case patterns sorted states transitions queue p
   going-ready {queue = queue} {at = at} {p = p} h e = record {
     order = h.order;
     settled = h.settled;
@@ -116,14 +116,14 @@ module _ (kind : MatchKind) (fold : Bool) (patterns : List (List ℕ)) (sorted :
       {p : QueuedState} {t : State} {new_transitions : List Transition} {new_queue : List QueuedState}
       → IsGoing states transitions queue at
       → slice_get queue at ≡ Some p
-      → HasBranched kind fold patterns sorted states queue p t new_transitions new_queue
+      → HasBranched kind ignores_case patterns sorted states queue p t new_transitions new_queue
       → IsGoing (states ++ t ∷ []) new_transitions new_queue (at + 1)
   going-on {states} {transitions} {queue} {at} {p} {t} {new_transitions} {new_queue} h e b = record {
     order = h.order;
     settled = h.settled;
     grown = subst (λ (n : ℕ). IsGrown kind patterns sorted n new_transitions new_queue)
         (omega (arith, length_push states t)) b.grown;
-    meant = AreStates-push (grown_meaning kind fold patterns sorted new_transitions new_queue) states
+    meant = AreStates-push (grown_view kind ignores_case patterns sorted new_transitions new_queue) states
         (Some (word sorted p)) t b.meant node b.represents;
     count = omega (arith, length_push states t, h.count);
     within = omega (arith, slice_get_within new_queue at p (b.kept at p e));
@@ -137,36 +137,36 @@ module _ (kind : MatchKind) (fold : Bool) (patterns : List (List ℕ)) (sorted :
 -- the states up to those of the queue before a place are whole, whatever list the sorted patterns are of
 abbrev pub IsGoingFrom : MatchKind → Sorted → List State → List Transition → List QueuedState → ℕ → Type 0
 IsGoingFrom kind sorted states transitions queue at =
-    (texts : List (List ℕ)) → IsOrder kind (map (plain sorted.fold) texts) sorted.patterns
-    → IsGoing kind sorted.fold (map (plain sorted.fold) texts) sorted.patterns states transitions queue at
+    (texts : List (List ℕ)) → IsOrder kind (map (plain sorted.ignores_case) texts) sorted.patterns
+    → IsGoing kind sorted.ignores_case (map (plain sorted.ignores_case) texts) sorted.patterns states transitions queue at
 
 -- the patterns of a trie that begins to grow are in order
-pub begun-order : {Z : Type 0} (fold : Bool) (texts : List (List ℕ)) (growth : Growth Z)
-    → HasRoot fold texts growth
-    → IsOrder growth.kind (map (plain growth.sorted.fold) texts) growth.sorted.patterns
-begun-order fold texts growth begun = grind (arith, common_steps)
+pub begun-order : {Z : Type 0} (ignores_case : Bool) (texts : List (List ℕ)) (growth : Growth Z)
+    → HasRoot ignores_case texts growth
+    → IsOrder growth.kind (map (plain growth.sorted.ignores_case) texts) growth.sorted.patterns
+begun-order ignores_case texts growth begun = grind (arith, common_steps)
 
 -- where the whole queue is, the states are those of an automaton
-module _ (texts : List (List ℕ)) {fold : Bool} {kind : MatchKind} {sorted : List Keyed}
+module _ (texts : List (List ℕ)) {ignores_case : Bool} {kind : MatchKind} {sorted : List Keyed}
     {states : List State} {transitions : List Transition} {queue : List QueuedState} {at : ℕ}
-    (h : IsGoing kind fold (map (plain fold) texts) sorted states transitions queue at)
+    (h : IsGoing kind ignores_case (map (plain ignores_case) texts) sorted states transitions queue at)
     (all : length queue ≤ at) where
   -- there are as many states as the first ones and the queue
   counted : length states ≡ FIRST_INNER + length queue
   counted = omega (arith, h.count, h.within)
 
   -- so their numbers are those of the nodes
-  numbered : NumbersNodes kind (map (plain fold) texts) (nodes_of sorted queue)
+  numbered : NumbersNodes kind (map (plain ignores_case) texts) (nodes_of sorted queue)
   numbered = search (rules, counted, numbers-nodes)
 
   -- the states are those of an automaton
-  pub whole-trie : (filters : Bool) → IsTrie (trie_of (record {
+  pub whole-trie : (wants_prefilter : Bool) → IsTrie (trie_of (record {
     patterns = texts;
-    fold = fold;
+    ignores_case = ignores_case;
     kind = kind;
-    filters = filters;
+    wants_prefilter = wants_prefilter;
   }) (numbers sorted) transitions states) (nodes_of sorted queue)
-  whole-trie filters =
+  whole-trie wants_prefilter =
       let named = length-map queue (λ (q : QueuedState). Some (word sorted q)) in
       record {
         both = refl;
@@ -179,7 +179,7 @@ module _ (texts : List (List ℕ)) {fold : Bool} {kind : MatchKind} {sorted : Li
         numbered = numbered;
         lists = λ s v e.
             listed_within-matches
-            (grown_meaning kind fold (map (plain fold) texts) sorted transitions queue) states s s v
+            (grown_view kind ignores_case (map (plain ignores_case) texts) sorted transitions queue) states s s v
             (record {
               meant = h.meant;
               there =
@@ -190,9 +190,9 @@ module _ (texts : List (List ℕ)) {fold : Bool} {kind : MatchKind} {sorted : Li
       }
 
   -- and there are enough numbers
-  pub whole-few : too_many_states kind (map (plain fold) texts) ≡ None
+  pub whole-few : too_many_states kind (map (plain ignores_case) texts) ≡ None
   whole-few =
       let count = numbered.count in
       let few = h.grown.few in
       let long = length-map queue (λ (q : QueuedState). Some (word sorted q)) in
-      too_many_states-none kind (map (plain fold) texts) (omega arith)
+      too_many_states-none kind (map (plain ignores_case) texts) (omega arith)

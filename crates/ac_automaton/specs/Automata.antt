@@ -5,15 +5,15 @@ use Rattle.ac_automaton.specs.Util.{Built, looks_by, matches, No, Node, plain, p
 
 -- the patterns as the nodes know them
 abbrev pub plain_of : Built → List (List ℕ)
-plain_of built = map (plain built.fold) built.patterns
+plain_of built = map (plain built.ignores_case) built.patterns
 
 -- where a byte leads from a node, the looks that this takes, and the matches of a node
 abbrev pub step_of : Built → Anchored → Node → ℕ → Node
-step_of built anchored u byte = step built.kind (plain_of built) anchored u (plain_byte built.fold byte)
+step_of built anchored u byte = step built.kind (plain_of built) anchored u (plain_byte built.ignores_case byte)
 
 abbrev pub looks_of : ℕ → Built → Anchored → Node → ℕ → ℕ
 looks_of most built anchored u byte =
-    looks_by most built.kind (plain_of built) anchored u (plain_byte built.fold byte)
+    looks_by most built.kind (plain_of built) anchored u (plain_byte built.ignores_case byte)
 
 abbrev pub matches_of : Built → Anchored → Node → List ℕ
 matches_of built anchored u = matches built.kind (plain_of built) anchored u

@@ -13,24 +13,24 @@ too_many_states kind patterns =
 -- the match kind, whether case is ignored, and whether to have a prefilter
 pub record EngineSettings : Type 0 where
   pub kind : MatchKind
-  pub fold : Bool
+  pub ignores_case : Bool
   pub prefilter : Bool
 
 abbrev pub usual_engine_settings : EngineSettings
-usual_engine_settings = record { kind = Standard; fold = false; prefilter = true }
+usual_engine_settings = record { kind = Standard; ignores_case = false; prefilter = true }
 
 -- a noncontiguous NFA over these patterns, which has both starts
 abbrev pub engine_built_by : EngineSettings → List (List ℕ) → Built
 engine_built_by settings patterns = record {
   patterns = patterns;
-  fold = settings.fold;
+  ignores_case = settings.ignores_case;
   kind = settings.kind;
   start_kind = Both;
 }
 
 -- why it is refused within the limits of the list, if it is, but for want of memory
 abbrev pub state_refusal : EngineSettings → List (List ℕ) → Option BuildError
-state_refusal settings patterns = too_many_states settings.kind (map (plain settings.fold) patterns)
+state_refusal settings patterns = too_many_states settings.kind (map (plain settings.ignores_case) patterns)
 
 -- no limit refuses a build: neither the patterns' count, nor a length, nor a limit of its own
 pub record IsAllowed (own_refusal : Option BuildError) (patterns : List (List ℕ)) : Type 0 where
@@ -40,7 +40,7 @@ pub record IsAllowed (own_refusal : Option BuildError) (patterns : List (List �
 -- a build by these settings has succeeded
 pub record IsEngineBuilt (settings : EngineSettings) (patterns : List (List ℕ)) (trie : Trie) : Type 0 where
   pub value : trie.built ≡ engine_built_by settings patterns
-  pub filters : trie.filters ≡ settings.prefilter
+  pub wants_prefilter : trie.wants_prefilter ≡ settings.prefilter
   pub allowed : IsAllowed (state_refusal settings patterns) patterns
 
 -- the first of two refusals

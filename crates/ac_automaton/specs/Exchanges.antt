@@ -13,9 +13,9 @@ error_in (Ok done) = None
 error_in (Err e) = Some e
 
 -- and what it asks for: to go on, or to end with the error
-abbrev pub asked_by_answer : Result (Unit {0}) StreamError → Answer StreamError
-asked_by_answer (Ok done) = Continues
-asked_by_answer (Err e) = Fails e
+abbrev pub answer_of_exchange : Result (Unit {0}) StreamError → Answer StreamError
+answer_of_exchange (Ok done) = Continues
+answer_of_exchange (Err e) = Fails e
 
 -- the text of the match's pattern was written, or a beginning of it
 abbrev pub WritesTexts : {F D : Type 0} → (D → Writing) → List (List ℕ) → Occurrence → Replacing F D
@@ -41,7 +41,7 @@ module _ {E D : Type 0} (told : D → Writing)
     (calls : Occurrence → List ℕ → Replacing E D → Result (Unit {0}) StreamError → Replacing E D → Type 0) where
   -- the steps that exchange these matches of a haystack, from a place on
   abbrev pub Steps : List ℕ → ℕ → List Occurrence → Replacing E D → Option StreamError → Replacing E D → Type 0
-  Steps haystack place ms s end t = ReplacementSteps (WritesPiece told) calls asked_by_answer haystack place ms s end t
+  Steps haystack place ms s end t = ReplacementSteps (WritesPiece told) calls answer_of_exchange haystack place ms s end t
 
   -- the matches given so far were exchanged, and what isn't kept any more was written: in any haystack that begins as
   -- the stream does, steps from there on are the last of steps from the start

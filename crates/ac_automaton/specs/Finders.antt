@@ -9,12 +9,12 @@ pub record Picking : Type 0 where
   pub kind : MatchKind
   pub order : MatchKind
   pub most : ℕ
-  pub filters : Bool
+  pub wants_prefilter : Bool
 
 -- by an automaton of this kind, with `earliest` or without
 abbrev pub picking_of : ℕ → MatchKind → Bool → Bool → Picking
-picking_of most kind filters earliest =
-    record { kind = kind; order = order_of kind earliest; most = most; filters = filters }
+picking_of most kind wants_prefilter earliest =
+    record { kind = kind; order = order_of kind earliest; most = most; wants_prefilter = wants_prefilter }
 
 -- what its automaton was built from, and the anchoring; and how the find is made
 pub record Finding : Type 0 where

@@ -35,7 +35,7 @@ IsDecided kind order q found place =
 -- past its end, and none has read from the dead node on; and unless it called the prefilter it has read enough
 pub record HasSearched (picking : Picking) (q : Search) (found : Option Occurrence) (work new_work : Work) : Type 0 where
   pub answer : found ≡ pick picking.order q
-  pub read : HasRead (most_looks q.anchored picking.most) (may_skip picking.filters q) q.low q.high work new_work
+  pub read : HasRead (most_looks q.anchored picking.most) (may_skip picking.wants_prefilter q) q.low q.high work new_work
   pub tells : IfSome found (HasReadMatch q.low work new_work)
   pub stops : picking.order ≡ Standard → IfSome found (ReadsTo q.low work new_work)
   pub dead : StopsAtDead picking.kind q new_work.place
@@ -68,7 +68,7 @@ FindsAt s start cursor found =
 
 -- how a scan's finds are made that stop at the first match, or not
 abbrev pub picking_by : Scan → Bool → Picking
-picking_by s stops = picking_of s.most s.built.kind s.filters stops
+picking_by s stops = picking_of s.most s.built.kind s.wants_prefilter stops
 
 -- a find may read on from here: of the text so far it picks what the node finds
 pub record IsReady (s : Scan) (t : ScanText) (stops : Bool) (cursor : Cursor) : Type 0 where

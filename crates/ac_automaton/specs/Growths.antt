@@ -14,7 +14,7 @@ use Rattle.ac_automaton.specs.declared.nfa.noncontiguous.state.TheConstants.{DEA
 use Rattle.ac_automaton.specs.declared.nfa.noncontiguous.state.Transition.{Transition}
 use Rattle.ac_automaton.specs.Builds.{too_many_states}
 use Rattle.ac_automaton.specs.Sorted.{AreSorted, Keyed, IsOrder, Sorted, byte_at, key_at, numbers}
-use Rattle.ac_automaton.specs.Tries.{Meaning, AreStates, IsTrie, Represents, dead_state, miss, trie_of}
+use Rattle.ac_automaton.specs.Tries.{TrieView, AreStates, IsTrie, Represents, dead_state, fallback, trie_of}
 
 -- the dead state, and the one that no search reaches
 abbrev pub first_states : List State
@@ -30,16 +30,16 @@ nodes_of sorted queue = None ∷ None ∷ Some [] ∷ Some [] ∷ map (λ p. Som
 
 -- the transitions to a target by a plain byte: where case is ignored by a letter's capital too
 abbrev pub leading : Bool → ℕ → ℕ → List Transition
-leading fold byte target =
+leading ignores_case byte target =
     record { byte = byte; target = target }
-    ∷ (if fold && is_ascii_lowercase byte then record { byte = to_ascii_uppercase byte; target = target } ∷ []
+    ∷ (if ignores_case && is_ascii_lowercase byte then record { byte = to_ascii_uppercase byte; target = target } ∷ []
     else [])
 
 -- a state has been added to the queue, and the transitions to it by a plain byte to the others
-pub record HasPushed (fold : Bool) (byte : ℕ) (p : QueuedState) (transitions : List Transition)
+pub record HasPushed (ignores_case : Bool) (byte : ℕ) (p : QueuedState) (transitions : List Transition)
     (queue : List QueuedState)
     (new_transitions : List Transition) (new_queue : List QueuedState) : Type 0 where
-  pub leads : new_transitions ≡ transitions ++ leading fold byte (FIRST_INNER + length queue)
+  pub leads : new_transitions ≡ transitions ++ leading ignores_case byte (FIRST_INNER + length queue)
   pub waits : new_queue ≡ queue ++ p ∷ []
   pub numbered : FIRST_INNER + length queue < GREATEST + 1
 
@@ -75,7 +75,7 @@ module _ (kind : MatchKind) (patterns : List (List ℕ)) (sorted : List Keyed) w
   pub record Waits (queue : List QueuedState) (s : ℕ) (p : QueuedState) : Type 0 where
     pub deep : p.depth ≤ length (key_at sorted p.from)
     pub range : IsRangeOf sorted (word sorted p) p.from p.to
-    pub fails : slice_get (nodes_of sorted queue) p.fail ≡ Some (miss kind patterns (Some (word sorted p)))
+    pub fails : slice_get (nodes_of sorted queue) p.fail ≡ Some (fallback kind patterns (Some (word sorted p)))
     pub unanchored : p.fail ≢ ANCHORED_START
     pub back : FIRST_INNER ≤ s → p.fail < s
     pub some : FIRST_INNER ≤ s → p.from < p.to
@@ -112,12 +112,12 @@ module _ (kind : MatchKind) (patterns : List (List ℕ)) (sorted : List Keyed) w
   abbrev pub IsNext : List QueuedState → ℕ → QueuedState → Type 0
   IsNext queue s p = IsFirstQueued queue s p ⊎ IsQueued queue s p
 
-module _ (kind : MatchKind) (fold : Bool) (patterns : List (List ℕ)) (sorted : List Keyed) where
+module _ (kind : MatchKind) (ignores_case : Bool) (patterns : List (List ℕ)) (sorted : List Keyed) where
   -- what the numbers mean as far as the trie has grown
-  abbrev pub grown_meaning : List Transition → List QueuedState → Meaning
-  grown_meaning transitions queue = record {
+  abbrev pub grown_view : List Transition → List QueuedState → TrieView
+  grown_view transitions queue = record {
     kind = kind;
-    fold = fold;
+    ignores_case = ignores_case;
     patterns = patterns;
     order = numbers sorted;
     transitions = transitions;
@@ -128,9 +128,9 @@ module _ (kind : MatchKind) (fold : Bool) (patterns : List (List ℕ)) (sorted :
   pub record IsQueueReady (states : List State) (transitions : List Transition) (queue : List QueuedState)
       (p : QueuedState) : Type 0 where
     pub order : IsOrder kind patterns sorted
-    pub settled : (place depth b : ℕ) → byte_at sorted depth place ≡ Some b → plain_byte fold b ≡ b
+    pub settled : (place depth b : ℕ) → byte_at sorted depth place ≡ Some b → plain_byte ignores_case b ≡ b
     pub grown : IsGrown kind patterns sorted (length states) transitions queue
-    pub meant : AreStates (grown_meaning transitions queue) states
+    pub meant : AreStates (grown_view transitions queue) states
     pub waits : Waits kind patterns sorted queue (length states) p
     pub next : IsNext kind patterns sorted queue (length states) p
 
@@ -139,8 +139,8 @@ module _ (kind : MatchKind) (fold : Bool) (patterns : List (List ℕ)) (sorted :
       (p : QueuedState)
       (place byte : ℕ) : Type 0 where
     pub order : IsOrder kind patterns sorted
-    pub settled : plain_byte fold byte ≡ byte
-    pub meant : AreStates (grown_meaning transitions queue) states
+    pub settled : plain_byte ignores_case byte ≡ byte
+    pub meant : AreStates (grown_view transitions queue) states
     pub waits : Waits kind patterns sorted queue (length states) p
     pub near : p.depth ≢ 0 → p.fail < length states
     pub to : ℕ
@@ -152,8 +152,8 @@ module _ (kind : MatchKind) (fold : Bool) (patterns : List (List ℕ)) (sorted :
       (new_transitions : List Transition)
       (new_queue : List QueuedState) : Type 0 where
     pub grown : IsGrown kind patterns sorted (length states + 1) new_transitions new_queue
-    pub meant : AreStates (grown_meaning new_transitions new_queue) states
-    pub represents : Represents (grown_meaning new_transitions new_queue) (length states)
+    pub meant : AreStates (grown_view new_transitions new_queue) states
+    pub represents : Represents (grown_view new_transitions new_queue) (length states)
         (Some (word sorted p)) t
     pub kept : (k : ℕ) (q : QueuedState) → slice_get queue k ≡ Some q → slice_get new_queue k ≡ Some q
 
@@ -170,44 +170,44 @@ source_of growth = record { kind = growth.kind; sorted = growth.sorted; states =
 -- a growing trie may branch at a queued state
 abbrev pub MayBranch : {Z : Type 0} → List (List ℕ) → Growth Z → QueuedState → Type 0
 MayBranch patterns growth queued =
-    IsQueueReady growth.kind growth.sorted.fold patterns growth.sorted.patterns growth.states.items
+    IsQueueReady growth.kind growth.sorted.ignores_case patterns growth.sorted.patterns growth.states.items
     growth.transitions.items growth.queue.items queued
 
 -- it has branched there, and the complete state is t
 abbrev pub Branches : {Z : Type 0} → List (List ℕ) → Growth Z → Growth Z → QueuedState → State → Type 0
 Branches patterns growth new_growth queued t =
-    HasBranched growth.kind growth.sorted.fold patterns growth.sorted.patterns growth.states.items
+    HasBranched growth.kind growth.sorted.ignores_case patterns growth.sorted.patterns growth.states.items
     growth.queue.items queued t new_growth.transitions.items new_growth.queue.items
 
 -- a queued state of a growing trie has such a child
 abbrev pub HasChildIn : {Z : Type 0} → List (List ℕ) → Growth Z → QueuedState → ℕ → ℕ → Type 0
 HasChildIn patterns growth queued place byte =
-    HasChild growth.kind growth.sorted.fold patterns growth.sorted.patterns growth.states.items
+    HasChild growth.kind growth.sorted.ignores_case patterns growth.sorted.patterns growth.states.items
     growth.transitions.items growth.queue.items queued place byte
 
 -- the number fail stands for the failure target of the node; that of the start may be the start itself, any
 -- other is less than s
-pub record LinkIsDue (g : Meaning) (s : ℕ) (u : List ℕ) (fail : ℕ) : Type 0 where
-  pub fails : slice_get g.nodes fail ≡ Some (miss g.kind g.patterns (Some u))
+pub record LinkIsDue (g : TrieView) (s : ℕ) (u : List ℕ) (fail : ℕ) : Type 0 where
+  pub fails : slice_get g.nodes fail ≡ Some (fallback g.kind g.patterns (Some u))
   pub dead : slice_get g.nodes DEAD ≡ Some None
   pub near : u ≢ [] → fail < s
   pub start : u ≡ [] → fail < s → (fail < START) × (slice_get g.nodes fail ≡ Some None)
 
 -- a trie of the patterns begins to grow: with its first two states, and nothing in the queue
-pub record HasRoot {Z : Type 0} (fold : Bool) (texts : List (List ℕ)) (growth : Growth Z) : Type 0 where
-  pub sorts : AreSorted growth.kind fold texts growth.sorted
+pub record HasRoot {Z : Type 0} (ignores_case : Bool) (texts : List (List ℕ)) (growth : Growth Z) : Type 0 where
+  pub sorts : AreSorted growth.kind ignores_case texts growth.sorted
   pub two : growth.states.items ≡ first_states
   pub no_transitions : growth.transitions.items ≡ []
   pub no_queue : growth.queue.items ≡ []
 
 -- the transitions and states are those of an automaton, which has no more states than there are numbers
-pub record IsWhole (texts : List (List ℕ)) (fold : Bool) (kind : MatchKind) (order : List ℕ)
+pub record IsWhole (texts : List (List ℕ)) (ignores_case : Bool) (kind : MatchKind) (order : List ℕ)
     (transitions : List Transition) (states : List State) : Type 0 where
   pub nodes : List Node
-  pub is_trie : (filters : Bool) → IsTrie (trie_of (record {
+  pub is_trie : (wants_prefilter : Bool) → IsTrie (trie_of (record {
     patterns = texts;
-    fold = fold;
+    ignores_case = ignores_case;
     kind = kind;
-    filters = filters;
+    wants_prefilter = wants_prefilter;
   }) order transitions states) nodes
-  pub few : too_many_states kind (map (plain fold) texts) ≡ None
+  pub few : too_many_states kind (map (plain ignores_case) texts) ≡ None

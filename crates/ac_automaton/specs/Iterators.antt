@@ -29,11 +29,11 @@ walking_of finding bytes span last start work = record {
 
 -- a walk that begins: all its matches are still to come
 abbrev pub initial_walk : ℕ → Built → Bool → InputView → Walking
-initial_walk most built filters input =
+initial_walk most built wants_prefilter input =
     walking_of (record {
       built = built;
       anchored = input.anchored;
-      picking = picking_of most built.kind filters input.earliest;
+      picking = picking_of most built.kind wants_prefilter input.earliest;
     }) input.haystack (record { start = input.start; end = input.end }) None input.start nothing_done
 
 -- where a walk in a span with this end goes on once a find has answered: at the end of the match, or past that of
@@ -80,7 +80,7 @@ pub record IsPaid (walking : Walking) : Type 0 where
   pub looks : walking.work.counts.looks ≤ most_looks walking.left.anchored walking.picking.most * walking.work.counts.reads
   pub reads : walking.picking.order ≡ Standard → walking.work.counts.reads ≤ walking.left.high - walking.start
   pub calls : walking.picking.order ≡ Standard → walking.work.counts.calls ≤ walking.left.high - walking.start
-  pub quiet : may_skip walking.picking.filters walking.left ≡ false → walking.work.counts.calls ≡ 0
+  pub quiet : may_skip walking.picking.wants_prefilter walking.left ≡ false → walking.work.counts.calls ≡ 0
   pub told : walking.work.counts.calls ≡ 0 → 0 < shortest_len walking.left.patterns
       → IfSome walking.last (λ e. e - walking.start ≤ walking.work.counts.reads)
 
@@ -104,7 +104,7 @@ pub record IsUnderWay (walking : Walking) : Type 0 where
   pub paid : IsPaid walking
   pub onward : walking.start ≤ walking.left.low
   pub legal : walking.left.low ≤ walking.left.high + 1
-  pub behind : IfSome walking.last (λ e. e ≤ walking.left.low)
+  pub beyond : IfSome walking.last (λ e. e ≤ walking.left.low)
   pub unread : walking.picking.order ≡ Standard → walking.work.place ≤ walking.left.low
   pub within : walking.work.place ≤ walking.left.high
   pub reads : walking.picking.order ≡ Standard → walking.work.counts.reads ≤ walking.work.place - walking.start

@@ -117,16 +117,16 @@ pub record Overlapping : Type 0 where
   pub place : ℕ
   pub counts : Counts
   pub most : ℕ
-  pub filters : Bool
+  pub wants_prefilter : Bool
 
 -- a listing of which so many items were given
 abbrev pub overlapping_of : ℕ → Bool → Search → ℕ → ℕ → Counts → Overlapping
-overlapping_of most filters q given place counts =
-    record { rest = drop given (all q); search = q; given = given; place = place; counts = counts; most = most; filters = filters }
+overlapping_of most wants_prefilter q given place counts =
+    record { rest = drop given (all q); search = q; given = given; place = place; counts = counts; most = most; wants_prefilter = wants_prefilter }
 
 -- a listing that begins: all its items are still to come
 abbrev pub initial_listing : ℕ → Built → Bool → InputView → Overlapping
-initial_listing most built filters input = overlapping_of most filters (search_in built input) 0 0 no_counts
+initial_listing most built wants_prefilter input = overlapping_of most wants_prefilter (search_in built input) 0 0 no_counts
 
 -- an iterator over the listing has given its next item, or had none. It has read on by the same tape, and nothing
 -- past the end of the item; unless it called the prefilter it has read as far as that, and past the last item
@@ -148,13 +148,13 @@ pub record ListsNext (listing : Overlapping) (found : Option Occurrence) (new_li
   pub whole : new_listing.counts.calls ≡ 0 → found ≡ None
       → listing.search.high ≤ max listing.search.low new_listing.place
   pub read : HasRead (most_looks listing.search.anchored listing.most)
-      (may_skip listing.filters listing.search) listing.search.low listing.search.high nothing_done
+      (may_skip listing.wants_prefilter listing.search) listing.search.low listing.search.high nothing_done
       (record { place = new_listing.place; counts = new_listing.counts })
 
 -- what is seen of a listing that a scan makes
 abbrev pub overlapping_by : Scan → ScanText → Option Reached → Work → Overlapping
 overlapping_by s t reached work =
-    overlapping_of s.most s.filters (search_through s t) (given_by s.listed (search_through s t) reached) work.place
+    overlapping_of s.most s.wants_prefilter (search_through s t) (given_by s.listed (search_through s t) reached) work.place
     work.counts
 
 -- what an iterator over the listing keeps: it searches unanchored and by Standard; where the span doesn't start past its

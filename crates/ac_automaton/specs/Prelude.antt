@@ -2,27 +2,27 @@
 pub use Rattle.ac_automaton.specs.Automata.{IsState, Lists, looks_of, matches_of, plain_of, step_of}
 pub use Rattle.ac_automaton.specs.Builds.{engine_built_by, EngineSettings, IsAllowed, IsEngineBuilt, IsRefused, IsRefusedExactly, refusal_or, RefusesBy, state_refusal, too_many_states, usual_engine_settings}
 pub use Rattle.ac_automaton.specs.Common.{built_as, common_of, CommonView}
-pub use Rattle.ac_automaton.specs.Exchanges.{asked_by_answer, CallsBy, error_in, FailsBy, FailsToExchange, HasExchanged, HasReplaced, ReplacesBy, StartFrom, Steps, WritesTexts}
+pub use Rattle.ac_automaton.specs.Exchanges.{answer_of_exchange, CallsBy, error_in, FailsBy, FailsToExchange, HasExchanged, HasReplaced, ReplacesBy, StartFrom, Steps, WritesTexts}
 pub use Rattle.ac_automaton.specs.Finders.{Finding, Picking}
 pub use Rattle.ac_automaton.specs.Finds.{FitsIn, found_at, HasSearched, IsAnswered, IsDecided, picking_by, place_of, ReadsTo, HasReadMatch}
-pub use Rattle.ac_automaton.specs.Growths.{EndsPatterns, first_states, grown_meaning, HasRoot, HasBranched, HasChild, HasSorted, IsGrown, IsNext, IsNotPushed, IsRangeOf, IsWhole, leading, LinkIsDue, MayBranch, nodes_of, Source, source_of, Waits, word}
+pub use Rattle.ac_automaton.specs.Growths.{EndsPatterns, first_states, grown_view, HasRoot, HasBranched, HasChild, HasSorted, IsGrown, IsNext, IsNotPushed, IsRangeOf, IsWhole, leading, LinkIsDue, MayBranch, nodes_of, Source, source_of, Waits, word}
 pub use Rattle.ac_automaton.specs.Iterators.{after, initial_walk, Finds, GoesOn, HasFound, IsUnderWay, kept_place, last_after, Walking, walking_of}
 pub use Rattle.ac_automaton.specs.Overlaps.{due_in, given_by, given_in, HasListed, HasMoved, is_due, IsListed, IsListing, IsPlaced, initial_listing, ListsNext, Overlapping, overlapping_by, overlapping_of, place_by, rest_in, Takes}
 pub use Rattle.ac_automaton.specs.Progress.{Grows, HasRead, most_looks, node_at, nothing_done, Reaches, search_of, Work, work_of}
 pub use Rattle.ac_automaton.specs.Readers.{AreNodes, HasOwn, IsOwn, leads_on}
-unfoldable pub use Rattle.ac_automaton.specs.Readers.{own_bytes}
-pub use Rattle.ac_automaton.specs.Scans.{HasSkipped, in_memory, IsAlive, IsAt, node, NoMatchBetween, PassesNoMatch, past, Scan, scan_by, ScansTo, ScanText, search_through, StaysAtStart}
+unfoldable pub use Rattle.ac_automaton.specs.Readers.{transition_bytes_of}
+pub use Rattle.ac_automaton.specs.Scans.{HasSkipped, in_memory, IsAlive, IsAt, node, NoMatchBetween, PassesNoMatch, past, Scan, scan_by, scan_of, ScansTo, ScanText, search_through, StaysAtStart}
 pub use Rattle.ac_automaton.specs.Skipping.{Skips, SkipsByBytes, SkipsByNeedle}
 pub use Rattle.ac_automaton.specs.Sorted.{AreListed, byte_at, compared, is_prefix, IsOrder, key_at, Keyed, keyed, keyed_one, numbers, Precedes, Sorted}
 pub use Rattle.ac_automaton.specs.Streams.{EndsNow, FailsToFill, FillsMore, GivesEarly, GivesLast, GivesMatch, GivesNone, GivesRead, GoesOnBy, HasGivenSettled, HasReadOn, Inside, IsSettledIn, IsSettling, IsStreaming, KeepsGiven, kept_from, kept_len, matches_so_far, MeetsEnd, most_kept, initial_stream, stream_from, Streaming, StreamsOn}
-pub use Rattle.ac_automaton.specs.Tries.{all_matches, anchored_matches, AreStates, dead_state, HasState, IsNumberOf, IsRoot, IsTrie, IsTrieState, Links, listed_within, Meaning, meaning_of, miss, NumbersNodes, own_target, Represents, RootTells, stands-lists, state_at, state_patterns, TakesFrom, transition_bytes, transitions_of, Trie, trie_of}
+pub use Rattle.ac_automaton.specs.Tries.{all_matches, anchored_matches, AreStates, dead_state, HasState, IsNumberOf, IsRoot, IsTrie, IsTrieState, Links, listed_within, TrieView, meaning_of, fallback, NumbersNodes, transition_target, Represents, RootTells, stands-lists, state_at, state_patterns, TakesFrom, transition_bytes, transitions_of, Trie, trie_of}
 pub use Rattle.ac_automaton.specs.declared.automaton.listing.MatchRest.{MatchRest}
 pub use Rattle.ac_automaton.specs.declared.automaton.overlap.OverlappingState.{OverlappingState}
 pub use Rattle.ac_automaton.specs.declared.automaton.listing.Reached.{Reached}
 pub use Rattle.ac_automaton.specs.declared.automaton.scan.Cursor.{Cursor}
 pub use Rattle.ac_automaton.specs.declared.automaton.scan.Scanner.{Scanner}
-pub use Rattle.ac_automaton.specs.declared.automaton.stream.Phase.{Phase}
-pub use Rattle.ac_automaton.specs.declared.automaton.stream.Phase.TheVariants.{Ended, Failed, Open}
+pub use Rattle.ac_automaton.specs.declared.automaton.stream_settled.Phase.{Phase}
+pub use Rattle.ac_automaton.specs.declared.automaton.stream_settled.Phase.TheVariants.{Ended, Failed, Open}
 pub use Rattle.ac_automaton.specs.declared.automaton.stream_replace.ByClosure.{ByClosure}
 pub use Rattle.ac_automaton.specs.declared.nfa.noncontiguous.growth.Growth.{Growth}
 pub use Rattle.ac_automaton.specs.declared.nfa.noncontiguous.growth.QueuedState.{QueuedState}

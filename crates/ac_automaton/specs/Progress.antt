@@ -14,7 +14,7 @@ most_looks Yes most = 1
 abbrev pub search_of : Built → Anchored → List ℕ → ℕ → ℕ → Search
 search_of built anchored bytes start end = record {
   patterns = built.patterns;
-  fold = built.fold;
+  ignores_case = built.ignores_case;
   haystack = bytes;
   anchored = anchored;
   low = start;

@@ -9,11 +9,11 @@ use Rattle.ac_automaton.specs.Tries.{IsTrie, NumbersNodes, IsTrieState, Trie}
 -- whether a byte leads on from a node to a longer one
 abbrev pub leads_on : Built → Node → ℕ → Bool
 leads_on built None b = false
-leads_on built (Some u) b = is_node built.kind (plain_of built) (u ++ plain_byte built.fold b ∷ [])
+leads_on built (Some u) b = is_node built.kind (plain_of built) (u ++ plain_byte built.ignores_case b ∷ [])
 
 -- the bytes that do, in ascending order
-unfoldable pub own_bytes : Built → Node → List ℕ
-own_bytes built u = filter (leads_on built u) (range_with_len 0 256)
+unfoldable pub transition_bytes_of : Built → Node → List ℕ
+transition_bytes_of built u = filter (leads_on built u) (range_with_len 0 256)
 
 -- the nodes are those that the state numbers stand for. The table is for the proofs of the readers alone
 pub record AreNodes (trie : Trie) (nodes : List Node) : Type 0 where
@@ -31,9 +31,9 @@ pub record HasOwn (trie : Trie) (s index : ℕ) : Type 0 where
   pub are_nodes : AreNodes trie nodes
   pub node : Node
   pub named : slice_get nodes s ≡ Some node
-  pub within : index < length (own_bytes trie.built node)
+  pub within : index < length (transition_bytes_of trie.built node)
 
 -- the byte stands at the place among those that lead on from the string, and leads to the state number
 pub record IsOwn (trie : Trie) (nodes : List Node) (w : List ℕ) (index byte target : ℕ) : Type 0 where
-  pub place : slice_get (own_bytes trie.built (Some w)) index ≡ Some byte
-  pub leads : slice_get nodes target ≡ Some (Some (w ++ plain_byte trie.built.fold byte ∷ []))
+  pub place : slice_get (transition_bytes_of trie.built (Some w)) index ≡ Some byte
+  pub leads : slice_get nodes target ≡ Some (Some (w ++ plain_byte trie.built.ignores_case byte ∷ []))

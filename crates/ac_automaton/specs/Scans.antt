@@ -15,12 +15,18 @@ pub record Scan : Type 1 where
   pub built : Built
   pub anchored : Anchored
   pub most : ℕ
-  pub filters : Bool
+  pub wants_prefilter : Bool
 
 -- that of an automaton with these states
 abbrev pub scan_by : (Anchored → ℕ → Node → Type 0) → (ℕ → List ℕ) → Built → ℕ → Bool → Anchored → Scan
-scan_by stands listed built most filters anchored =
-    record { stands = stands anchored; listed = listed; built = built; anchored = anchored; most = most; filters = filters }
+scan_by stands listed built most wants_prefilter anchored =
+    record { stands = stands anchored; listed = listed; built = built; anchored = anchored; most = most; wants_prefilter = wants_prefilter }
+
+-- that of an automaton under an anchoring, by how its states are seen
+abbrev pub scan_of : {Z : Type 0} → (Z → Anchored → ℕ → Node → Type 0) → (Z → ℕ → List ℕ) → (Z → Built) → ℕ → (Z → Bool)
+    → Z → Anchored → Scan
+scan_of stands listed built most wants_prefilter automaton anchored =
+    scan_by (stands automaton) (listed automaton) (built automaton) most (wants_prefilter automaton) anchored
 
 -- what a scan reads: the bytes that were read before the first of its tape, and those of the tape; and where in all of
 -- these the span starts that it searches, and where that ends
@@ -78,7 +84,7 @@ module _ (s : Scan) (t : ScanText) where
         ≤ work.counts.looks + credit (most_looks s.anchored s.most) (node from)
         + most_looks s.anchored s.most * (new_work.counts.reads - work.counts.reads)
     pub calls : new_work.counts.calls ≤ work.counts.calls + (to - from)
-    pub quiet : may_skip s.filters search_through ≡ false → new_work.counts.calls ≡ work.counts.calls
+    pub quiet : may_skip s.wants_prefilter search_through ≡ false → new_work.counts.calls ≡ work.counts.calls
 
   -- it has come to where its automaton stands now, and has passed over no match
   pub record PassesNoMatch (from : ℕ) (work : Work) (cursor : Cursor) (new_work : Work) : Type 0 where

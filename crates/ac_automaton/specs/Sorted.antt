@@ -16,7 +16,7 @@ pub record Keyed : Type 0 where
 
 -- sorted patterns, and whether their case is ignored
 pub record Sorted : Type 0 where
-  pub fold : Bool
+  pub ignores_case : Bool
   pub patterns : List Keyed
 
 -- the numbers of sorted patterns
@@ -25,11 +25,11 @@ numbers sorted = map (λ m. m.number) sorted
 
 -- a pattern with its plain bytes
 abbrev pub keyed_one : Bool → SortedPattern → Keyed
-keyed_one fold m = record { key = plain fold m.bytes.now; number = m.number }
+keyed_one ignores_case m = record { key = plain ignores_case m.bytes.now; number = m.number }
 
 -- each pattern of a list with its plain bytes
 abbrev pub keyed : Bool → List SortedPattern → List Keyed
-keyed fold sorted = map (keyed_one fold) sorted
+keyed ignores_case sorted = map (keyed_one ignores_case) sorted
 
 -- the plain bytes of the pattern at a place
 abbrev pub key_at : List Keyed → ℕ → List ℕ
@@ -41,13 +41,13 @@ byte_at sorted depth place = slice_get (key_at sorted place) depth
 
 -- how two patterns compare: by their plain bytes, and then by number
 abbrev pub compared : Bool → SortedPattern → SortedPattern → Ordering
-compared fold a b =
-    ordering_then (slice_cmp nat_cmp (plain fold a.bytes.now) (plain fold b.bytes.now))
+compared ignores_case a b =
+    ordering_then (slice_cmp nat_cmp (plain ignores_case a.bytes.now) (plain ignores_case b.bytes.now))
     (nat_cmp a.number b.number)
 
 -- whether b's plain bytes are a prefix of a's
 abbrev pub is_prefix : Bool → SortedPattern → SortedPattern → Bool
-is_prefix fold a b = starts_with nat_eq (plain fold a.bytes.now) (plain fold b.bytes.now)
+is_prefix ignores_case a b = starts_with nat_eq (plain ignores_case a.bytes.now) (plain ignores_case b.bytes.now)
 
 -- all patterns are listed by number
 pub record AreListed (patterns : List (List ℕ)) (listed : List SortedPattern) : Type 0 where
@@ -65,6 +65,6 @@ pub record IsOrder (kind : MatchKind) (patterns : List (List ℕ)) (sorted : Lis
   pub lists : (n : ℕ) → Contains (numbers sorted) n ↔ Contains (participants kind patterns) n
 
 -- these are the patterns of the list that take part, sorted with or without case
-pub record AreSorted (kind : MatchKind) (fold : Bool) (texts : List (List ℕ)) (sorted : Sorted) : Type 0 where
-  pub fold_is : sorted.fold ≡ fold
-  pub order : IsOrder kind (map (plain fold) texts) sorted.patterns
+pub record AreSorted (kind : MatchKind) (ignores_case : Bool) (texts : List (List ℕ)) (sorted : Sorted) : Type 0 where
+  pub fold_is : sorted.ignores_case ≡ ignores_case
+  pub order : IsOrder kind (map (plain ignores_case) texts) sorted.patterns

@@ -1,8 +1,8 @@
 -- What is seen of a search over a stream, and what its calls do.
 use Rattle.std.specs.Prelude.{◌≡◌, ◌⊎◌, ℕ, ◌+◌, ◌-◌, ◌<◌, ◌≤◌, Bool, not, List, [], ◌++◌, Option, None, Some, IfSome, Result, MatchBool, MatchOption, MatchResult, if◌then◌else◌, length, max, slice_get, take, drop}
-use Rattle.ac_automaton.specs.Util.{buffer_len, Built, FailsToRead, is_leftmost, IsNear, IsSettledBy, last_end, longest_len, No, Node, Occurrence, pick, Reading, ReadsAll, ReadsSome, reserve, Search, Standard, stream_refusal, stream_result, StreamError, walk_after}
-use Rattle.ac_automaton.specs.declared.automaton.stream.Phase.{Phase}
-use Rattle.ac_automaton.specs.declared.automaton.stream.Phase.TheVariants.{Open, Ended, Failed}
+use Rattle.ac_automaton.specs.Util.{buffer_len, Built, FailsToRead, is_leftmost, IsNear, IsSettledBy, last_end, longest_len, No, Node, Occurrence, pick, Reading, ReadsAll, ReadsSome, reserve, Search, Standard, stream_refusal, stream_result, StreamError, walk_after, usize_max}
+use Rattle.ac_automaton.specs.declared.automaton.stream_settled.Phase.{Phase}
+use Rattle.ac_automaton.specs.declared.automaton.stream_settled.Phase.TheVariants.{Open, Ended, Failed}
 use Rattle.ac_automaton.specs.Progress.{Reaches, search_of}
 
 -- what its automaton was built from; all bytes that were read so far; how many of their matches were given; where in the
@@ -16,17 +16,13 @@ pub record Streaming : Type 0 where
   pub phase : Phase
   pub buffer : ℕ
 
+abbrev pub streaming_by : Built → List ℕ → ℕ → ℕ → ℕ → Phase → ℕ → Streaming
+streaming_by built bytes given front kept phase buffer =
+    record { built = built; bytes = bytes; given = given; front = front; kept = kept; phase = phase; buffer = buffer }
+
 -- one that begins: nothing was read
 abbrev pub initial_stream : Built → Streaming
-initial_stream built = record {
-  built = built;
-  bytes = [];
-  given = 0;
-  front = 0;
-  kept = 0;
-  phase = Open;
-  buffer = buffer_len built.patterns;
-}
+initial_stream built = streaming_by built [] 0 0 0 Open (buffer_len built.patterns)
 
 -- all matches of the bytes read so far
 abbrev pub matches_so_far : Streaming → List Occurrence
@@ -60,7 +56,7 @@ pub record GivesMatch (old : Streaming) (m : Occurrence) (new : Streaming) : Typ
   pub ordered : m.start ≤ m.end
   pub within : m.end ≤ length old.bytes
   pub settled : IsSettling old m
-  pub counted : new.given ≤ 18446744073709551615
+  pub counted : new.given ≤ usize_max
 
 -- all matches of the bytes read so far that are settled were given, and what is settled is kept no more
 pub record HasGivenSettled (old new : Streaming) : Type 0 where
@@ -84,7 +80,7 @@ pub record FillsMore (old new : Streaming) (reader new_reader : Reading) : Type 
   pub some : 0 < length more
   pub reads : ReadsSome reader new_reader more
   pub same : new ≡ record old { bytes = old.bytes ++ more; front = new.front }
-  pub small : length new.bytes ≤ 18446744073709551615
+  pub small : length new.bytes ≤ usize_max
   pub given : take old.given (matches_so_far new) ≡ take old.given (matches_so_far old)
 
 -- or the end was met
@@ -121,7 +117,7 @@ pub record GivesNextMatch (ends : Bool) (old : Streaming) (m : Occurrence) (new 
   pub early : old.built.kind ≡ Standard → new.phase ≡ Open
   pub given : KeepsGiven old (old.bytes ++ more)
   pub next : slice_get (stream_result old.built (old.bytes ++ more)) old.given ≡ Some m
-  pub counted : new.given ≤ 18446744073709551615
+  pub counted : new.given ≤ usize_max
   pub same : new ≡ record old {
     bytes = old.bytes ++ more;
     given = old.given + 1;
@@ -237,7 +233,7 @@ pub record IsStreaming (stands : ℕ → Node → Type 0) (i : Inside) (v : Stre
   pub fits : longest_len v.built.patterns < length i.buffer
   pub filled : i.filled ≤ length i.buffer
   pub counted : length v.bytes ≡ v.front + i.filled
-  pub small : length v.bytes ≤ 18446744073709551615
+  pub small : length v.bytes ≤ usize_max
   pub holds : take i.filled i.buffer ≡ drop v.front v.bytes
   pub searched : HasReadOn stands i v i.state i.at i.picked
   pub given : HasGiven v.phase v.built v.bytes v.given i.begun
@@ -263,8 +259,8 @@ ReadsItem old found new = GivesRead old.stream found new.stream × (new.reader �
 
 -- how many items may follow at most: each match has a byte, and an error is the last one
 abbrev pub items_in : Phase → ℕ → ℕ
-items_in Open given = 18446744073709551615 - given + 1
-items_in Ended given = 18446744073709551615 - given
+items_in Open given = usize_max - given + 1
+items_in Ended given = usize_max - given
 items_in Failed given = 0
 
 abbrev pub items_left : StreamReading → ℕ

@@ -17,7 +17,7 @@ use Rattle.ac_automaton.specs.Common.{CommonView, built_as}
 -- the sorted order, the transitions of all states, and the states
 pub record Trie : Type 0 where
   pub built : Built
-  pub filters : Bool
+  pub wants_prefilter : Bool
   pub order : List ℕ
   pub transitions : List Transition
   pub states : List State
@@ -26,7 +26,7 @@ pub record Trie : Type 0 where
 abbrev pub trie_of : CommonView → List ℕ → List Transition → List State → Trie
 trie_of common order transitions states = record {
   built = built_as common Both;
-  filters = common.filters;
+  wants_prefilter = common.wants_prefilter;
   order = order;
   transitions = transitions;
   states = states;
@@ -75,25 +75,25 @@ listed_within order states (suc n) s =
 
 -- where an unanchored search goes on from a node by a byte without a transition: from the start it stays there,
 -- unless under a leftmost kind an empty pattern has begun the match
-abbrev pub miss : MatchKind → List (List ℕ) → Node → Node
-miss kind patterns None = None
-miss kind patterns (Some []) = if is_leftmost kind && begins_with_pattern patterns [] then None else Some []
-miss kind patterns (Some (x ∷ u)) = failure kind patterns (x ∷ u)
+abbrev pub fallback : MatchKind → List (List ℕ) → Node → Node
+fallback kind patterns None = None
+fallback kind patterns (Some []) = if is_leftmost kind && begins_with_pattern patterns [] then None else Some []
+fallback kind patterns (Some (x ∷ u)) = failure kind patterns (x ∷ u)
 
 -- what the states of a trie mean: the kind, whether case is ignored, the plain patterns, the sorted order of
 -- their numbers, the transitions of all states, and the node of each state's number
-pub record Meaning : Type 0 where
+pub record TrieView : Type 0 where
   pub kind : MatchKind
-  pub fold : Bool
+  pub ignores_case : Bool
   pub patterns : List (List ℕ)
   pub order : List ℕ
   pub transitions : List Transition
   pub nodes : List Node
 
-module _ (g : Meaning) where
+module _ (g : TrieView) where
   -- where a node's own transition by a byte leads: to the longer node, or to the dead node where there is none
-  abbrev pub own_target : Node → ℕ → Node
-  own_target v b = step g.kind g.patterns Yes v (plain_byte g.fold b)
+  abbrev pub transition_target : Node → ℕ → Node
+  transition_target v b = step g.kind g.patterns Yes v (plain_byte g.ignores_case b)
 
   -- the patterns that equal the string of a node
   abbrev pub anchored_matches : Node → List ℕ
@@ -120,12 +120,12 @@ module _ (g : Meaning) where
     pub listed : t.transitions_end ≤ length g.transitions
     pub ascending : IsStrictlyIncreasing (transition_bytes (transitions_of g.transitions t))
     pub branches : (b : ℕ)
-        → Contains (transition_bytes (transitions_of g.transitions t)) b ↔ (own_target v b ≢ None)
+        → Contains (transition_bytes (transitions_of g.transitions t)) b ↔ (transition_target v b ≢ None)
     pub leads : (k : ℕ) (next : Transition) → slice_get (transitions_of g.transitions t) k ≡ Some next
-        → slice_get g.nodes next.target ≡ Some (own_target v next.byte)
+        → slice_get g.nodes next.target ≡ Some (transition_target v next.byte)
     pub small : (k : ℕ) (next : Transition) → slice_get (transitions_of g.transitions t) k ≡ Some next
         → next.byte < 256
-    pub fails : slice_get g.nodes t.fail ≡ Some (miss g.kind g.patterns v)
+    pub fails : slice_get g.nodes t.fail ≡ Some (fallback g.kind g.patterns v)
     pub unanchored : t.fail ≢ ANCHORED_START
     pub back : FIRST_INNER ≤ s → t.fail < s
     pub patterns_ordered : t.patterns ≤ t.patterns_end
@@ -152,9 +152,9 @@ module _ (g : Meaning) where
 -- where a search that is at its start goes on by a byte, as the entry of a root table tells it; it is never the start
 -- of anchored searches
 pub record RootTells (transitions : List Transition) (states : List State) (b next : ℕ) : Type 0 where
-  pub leads : (g : Meaning) (v : Node) → g.transitions ≡ transitions → HasState g states START v
-      → slice_get g.nodes next ≡ Some (step g.kind g.patterns No v (plain_byte g.fold b))
-  pub inner : (g : Meaning) (v : Node) → g.transitions ≡ transitions → HasState g states START v
+  pub leads : (g : TrieView) (v : Node) → g.transitions ≡ transitions → HasState g states START v
+      → slice_get g.nodes next ≡ Some (step g.kind g.patterns No v (plain_byte g.ignores_case b))
+  pub inner : (g : TrieView) (v : Node) → g.transitions ≡ transitions → HasState g states START v
       → slice_get g.nodes ANCHORED_START ≡ Some (Some []) → next ≢ ANCHORED_START
 
 -- a root table has an entry for each byte
@@ -164,17 +164,17 @@ pub record IsRoot (transitions : List Transition) (states : List State) (root : 
 
 -- r is one of a node's matches, that after so many, and where the matches after it stand in the list of a state;
 -- or None where there are no more
-abbrev pub TakesFrom : Meaning → List State → Node → ℕ → Option (ℕ × MatchRest) → Type 0
+abbrev pub TakesFrom : TrieView → List State → Node → ℕ → Option (ℕ × MatchRest) → Type 0
 TakesFrom g states u index r =
     MatchOption r (drop index (all_matches g u) ≡ [])
     (λ first. (v : Node) × HasState g states first.1.state v
     × (drop index (all_matches g u) ≡ first.0 ∷ drop first.1.index (all_matches g v)))
 
 -- what the states of an automaton mean
-abbrev pub meaning_of : Trie → List Node → Meaning
+abbrev pub meaning_of : Trie → List Node → TrieView
 meaning_of trie nodes = record {
   kind = trie.built.kind;
-  fold = trie.built.fold;
+  ignores_case = trie.built.ignores_case;
   patterns = plain_of trie.built;
   order = trie.order;
   transitions = trie.transitions;

@@ -17,7 +17,6 @@ pub use Rattle.ac_util.specs.Node.{begins_with_pattern, depth, failure, first_no
 pub use Rattle.ac_util.specs.Occurrence.{Occurrence, occurrence}
 pub use Rattle.ac_util.specs.Pick.{IsPick, order_of}
 unfoldable pub use Rattle.ac_util.specs.Pick.{pick}
-pub use Rattle.ac_util.specs.Pieces.{AreBounds, pieces}
 pub use Rattle.ac_util.specs.Prefilters.{begins_with, BeginWith, is_one_of, IsSkipFor, match_candidate, may_skip, Promises, search_over, Skip, skip_among, skip_for, skip_of, Tells}
 pub use Rattle.ac_util.specs.Prefilters.Skip.{FirstOf}
 pub use Rattle.ac_util.specs.Refusal.{AnswersUnless, empty_refusal, Find, first_refusal, form_refusal, kind_refusal, OverlappingByState, OverlappingIterator, refusal, Replace, start_refusal, Stream}
@@ -27,7 +26,7 @@ pub use Rattle.ac_util.specs.Replacing.{AnswersWhole, MakesSteps, MatchReplaceEr
 pub use Rattle.ac_util.specs.Sameness.{plain, plain_byte}
 pub use Rattle.ac_util.specs.Search.{from, Occurs, pattern_of, Search}
 pub use Rattle.ac_util.specs.Settled.{AreDecided, IsSettledAt, NoneOpen}
-pub use Rattle.ac_util.specs.Sizes.{inner_nodes, longest_len, shortest_len, state_count}
+pub use Rattle.ac_util.specs.Sizes.{inner_nodes, longest_len, shortest_len, state_count, usize_max}
 pub use Rattle.ac_util.specs.Stream.{buffer_len, error_of, kept_back_len, last_end, reserve, stream_result, without_last}
 pub use Rattle.ac_util.specs.StreamReplacing.{AnswersStream, answer_of_result, FailsToRead, FailsToReplace, FailsToReplaceWith, IsNear, IsSettled, IsSettledBy, IsStreamRefused, ReplacesStream, ReplacesStreamWith, settled, StepsAreSettled, TextIsSettled, WritesPiece}
 pub use Rattle.ac_util.specs.Text.{ending, found_at_end, plain_patterns, text}

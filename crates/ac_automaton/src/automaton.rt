@@ -30,6 +30,7 @@ mod skip;
 mod stream;
 mod stream_iter;
 mod stream_replace;
+mod stream_settled;
 mod walk;
 
 pub use common::Common;
@@ -38,13 +39,14 @@ pub use listing::MatchRest;
 pub use overlap::OverlappingState;
 pub use overlap_iter::FindOverlappingIter;
 pub use scan::is_due;
-pub use stream::{Phase, StreamFinder};
+pub use stream::StreamFinder;
 pub use stream_iter::StreamFindIter;
+pub use stream_settled::Phase;
 pub use walk::FindIter;
 
 /// An automaton that finds patterns: states, and where each byte leads from a state.
 ///
-/// A state is told by its number. Contracts see which node a number stands for, in an unanchored or in an
+/// A state is identified by its number. Contracts see which node a number stands for, in an unanchored or in an
 /// anchored search: a string of bytes, or the dead node from which nothing is found any more. State numbers
 /// that are handed in have to stand for some node: `start_state` gives such a number, and `next_state` gives
 /// one where it was handed one, under the same anchoring.
@@ -68,7 +70,7 @@ pub trait Automaton {
     ghost listed: { Self → ℕ → List ℕ };
 
     // Whether the automaton was built to have a prefilter, where there is one for its patterns.
-    ghost filters: { Self → Bool };
+    ghost wants_prefilter: { Self → Bool };
 
     /// Returns the state at which a search begins.
     ///
@@ -149,7 +151,7 @@ pub trait Automaton {
 
     /// Returns what every engine has, whatever its states are.
     fn common(&self) -> &Common<Self::Memory>
-        ensures { result.now ≡ common_of (built self.now) (filters self.now) };
+        ensures { result.now ≡ common_of (built self.now) (wants_prefilter self.now) };
 
     /// Returns which of the occurrences in a span a search answers.
     #[inline]
@@ -201,9 +203,9 @@ pub trait Automaton {
     #[inline]
     final fn prefilter(&self) -> Option<&Prefilter<Self::Memory>>
         ensures skips { option_map (λ p. skip_of p.now) result
-            ≡ skip_for (filters self.now) (built self.now).fold (built self.now).patterns }
+            ≡ skip_for (wants_prefilter self.now) (built self.now).ignores_case (built self.now).patterns }
         ensures serves { IfSome result
-            (λ p. IsSkipFor (skip_of p.now) (built self.now).fold (built self.now).patterns) }
+            (λ p. IsSkipFor (skip_of p.now) (built self.now).ignores_case (built self.now).patterns) }
     {
         self.common().prefilter()
     }
@@ -247,14 +249,14 @@ pub trait Automaton {
     where
         Self: Sized,
         ensures begun { AnswersUnless (find_refusal (built self.now) (input_of input.entry))
-            (initial_walk LOOKS (built self.now) (filters self.now) (input_of input.entry)) result }
+            (initial_walk LOOKS (built self.now) (wants_prefilter self.now) (input_of input.entry)) result }
         ensures runs { YieldsInOrder GoesOn (λ w. w.rest) }
     {
         FindIter::new(self, input)
     }
 
     /// Gives the next item of the listing of an input: all occurrences in its span, each once, by their ends, then
-    /// their starts, then their patterns. `OverlappingState::get_match` tells it, and `None` at every call past the
+    /// their starts, then their patterns. `OverlappingState::get_match` returns it, and `None` at every call past the
     /// last item. This ports `Automaton::try_find_overlapping`. The law `ac_util::laws::listing_is_exact` says what
     /// the listing has.
     ///
@@ -297,7 +299,7 @@ pub trait Automaton {
     where
         Self: Sized,
         ensures begun { AnswersUnless (overlapping_iter_refusal (built self.now) (input_of input.entry))
-            (initial_listing LOOKS (built self.now) (filters self.now) (input_of input.entry)) result }
+            (initial_listing LOOKS (built self.now) (wants_prefilter self.now) (input_of input.entry)) result }
         ensures runs { YieldsInOrder ListsNext (λ l. l.rest) }
     {
         FindOverlappingIter::new(self, input)

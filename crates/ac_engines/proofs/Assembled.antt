@@ -9,22 +9,22 @@ use Rattle.ac_util.proofs.ClassLists.{class_at-below, classes_of-AreClasses, cla
 use Rattle.ac_util.proofs.NodeCount.{inner_nodes-has}
 use Rattle.ac_util.proofs.StrideLemmas.{stride-enough}
 use Rattle.ac_automaton.specs.Prelude.{AreNodes, plain_of, Trie}
-use Rattle.ac_engines.specs.Prelude.{anchored_shift, classes_by, DfaView, FilledUpTo, Filling, HasMatchesAmong, HasRow, IsDfa, IsFilled, IsLayout, MayFill, first_row_in, rows_refusal, sheet_of, table_rows, width}
+use Rattle.ac_engines.specs.Prelude.{anchored_shift, classes_by, DfaView, FilledUpTo, Filling, HasMatchesAmong, HasRow, IsDfa, IsFilled, IsLayout, MayFill, first_row_in, rows_refusal, row_input, table_rows, width}
 use Rattle.ac_engines.proofs.Numbered.{after-starts, place-row, place-start}
 use Rattle.ac_engines.proofs.Owning.{row-room}
 use Rattle.ac_engines.proofs.RowLists.{anchored_shift-rows}
 
 -- the classes by which a DFA steps are those of all bytes
-classes_by-AreClasses : (byte_classes fold : Bool) (patterns : List (List ℕ))
-    → AreClasses (classes_by byte_classes fold patterns)
-classes_by-AreClasses true fold patterns = classes_of-AreClasses fold patterns
-classes_by-AreClasses false fold patterns = singletons-AreClasses
+classes_by-AreClasses : (byte_classes ignores_case : Bool) (patterns : List (List ℕ))
+    → AreClasses (classes_by byte_classes ignores_case patterns)
+classes_by-AreClasses true ignores_case patterns = classes_of-AreClasses ignores_case patterns
+classes_by-AreClasses false ignores_case patterns = singletons-AreClasses
 
 -- and set each byte of a pattern apart
-pub classes_by-set_apart : (byte_classes fold : Bool) (patterns : List (List ℕ))
-    → SetsApart fold patterns (classes_by byte_classes fold patterns)
-classes_by-set_apart true fold patterns = classes_of-set_apart fold patterns
-classes_by-set_apart false fold patterns = singletons-set_apart fold patterns
+pub classes_by-set_apart : (byte_classes ignores_case : Bool) (patterns : List (List ℕ))
+    → SetsApart ignores_case patterns (classes_by byte_classes ignores_case patterns)
+classes_by-set_apart true ignores_case patterns = classes_of-set_apart ignores_case patterns
+classes_by-set_apart false ignores_case patterns = singletons-set_apart ignores_case patterns
 
 -- where the last row begins at a number that a state may have, there are few entries
 few-entries : (rows width : ℕ) → 1 ≤ rows → (rows - 1) * width ≤ GREATEST → rows * width ≤ GREATEST + width
@@ -34,12 +34,12 @@ few-entries (suc rows) width some last = grind (arith, common_steps)
 -- the classes of a DFA have room in its rows, and set each byte of a pattern apart
 pub record HasClasses (built : Built) (classes : List ℕ) (exponent : ℕ) : Type 0 where
   pub are : AreClasses classes
-  pub apart : SetsApart built.fold built.patterns classes
+  pub apart : SetsApart built.ignores_case built.patterns classes
   pub room : alphabet_len classes ≤ 2 ^ exponent
 
 -- those by which a DFA steps do
 has-classes : (built : Built) (byte_classes : Bool) (classes : List ℕ) (exponent : ℕ)
-    → classes ≡ classes_by byte_classes built.fold built.patterns → exponent ≡ stride2 classes
+    → classes ≡ classes_by byte_classes built.ignores_case built.patterns → exponent ≡ stride2 classes
     → HasClasses built classes exponent
 has-classes built byte_classes classes exponent e f = grind (arith, common_steps, classes_by-AreClasses, classes_by-set_apart, stride-enough)
 
@@ -52,13 +52,13 @@ pub record IsPlanned (trie : Trie) (start_kind : StartKind) (classes : List ℕ)
   pub allowed : rows_refusal start_kind classes (state_count trie.built.kind (plain_of trie.built)) ≡ None
 
 -- the steps of a build tell this
-pub planned : (trie : Trie) (start_kind : StartKind) (byte_classes : Bool) (classes : List ℕ)
-    (exponent width states rows len : ℕ)
-    → classes ≡ classes_by byte_classes trie.built.fold trie.built.patterns → exponent ≡ stride2 classes
-    → width ≡ stride classes → states ≡ state_count trie.built.kind (plain_of trie.built)
-    → rows ≡ table_rows start_kind states → 1 ≤ rows → len ≡ rows * 2 ^ exponent
-    → (rows - 1) * 2 ^ exponent ≤ GREATEST → IsPlanned trie start_kind classes exponent width len
-planned trie start_kind byte_classes classes exponent width states rows len class two wide count height some long last =
+pub planned : (trie : Trie) (start_kind : StartKind) (byte_classes : Bool) (classes : List ℕ) (exponent width len : ℕ)
+    → classes ≡ classes_by byte_classes trie.built.ignores_case trie.built.patterns → exponent ≡ stride2 classes
+    → width ≡ stride classes
+    → len ≡ table_rows start_kind (state_count trie.built.kind (plain_of trie.built)) * stride classes
+    → rows_refusal start_kind classes (state_count trie.built.kind (plain_of trie.built)) ≡ None
+    → IsPlanned trie start_kind classes exponent width len
+planned trie start_kind byte_classes classes exponent width len class two wide long allowed =
     grind (arith, common_steps, has-classes trie.built byte_classes classes exponent class two, few-entries)
 
 module _ (trie : Trie) (start_kind : StartKind) (classes : List ℕ) (exponent : ℕ) (numbers : List ℕ)
@@ -107,8 +107,8 @@ module _ (trie : Trie) (start_kind : StartKind) (classes : List ℕ) (exponent :
 
     -- the rows of an earlier state and of a later one stand apart
     ordered-apart : (s t : ℕ) (v w : List ℕ) → HasRow filling nodes size s v → HasRow filling nodes size t w → s < t
-        → (first_row_in nodes numbers v + width (sheet_of filling nodes) ≤ first_row_in nodes numbers w)
-        ⊎ (first_row_in nodes numbers w + width (sheet_of filling nodes) ≤ first_row_in nodes numbers v)
+        → (first_row_in nodes numbers v + width (row_input filling nodes) ≤ first_row_in nodes numbers w)
+        ⊎ (first_row_in nodes numbers w + width (row_input filling nodes) ≤ first_row_in nodes numbers v)
     ordered-apart s t v w first later order =
         grind (
           arith,
@@ -120,8 +120,8 @@ module _ (trie : Trie) (start_kind : StartKind) (classes : List ℕ) (exponent :
 
     -- so do those of any two strings
     strings-apart : (s t : ℕ) (v w : List ℕ) → HasRow filling nodes size s v → HasRow filling nodes size t w → v ≢ w
-        → (first_row_in nodes numbers v + width (sheet_of filling nodes) ≤ first_row_in nodes numbers w)
-        ⊎ (first_row_in nodes numbers w + width (sheet_of filling nodes) ≤ first_row_in nodes numbers v)
+        → (first_row_in nodes numbers v + width (row_input filling nodes) ≤ first_row_in nodes numbers w)
+        ⊎ (first_row_in nodes numbers w + width (row_input filling nodes) ≤ first_row_in nodes numbers v)
     strings-apart s t v w one two other = search (rules, cases_lt, ordered-apart)
 
     module _ (entries : List ℕ) (lists : List (List ℕ)) (first end : ℕ)
@@ -131,7 +131,7 @@ module _ (trie : Trie) (start_kind : StartKind) (classes : List ℕ) (exponent :
       abbrev pub table : DfaView
       table = record {
         built = built;
-        filters = trie.filters;
+        wants_prefilter = trie.wants_prefilter;
         classes = classes;
         stride2 = exponent;
         entries = entries;
@@ -181,7 +181,7 @@ module _ (trie : Trie) (start_kind : StartKind) (classes : List ℕ) (exponent :
           narrow b byte = let below = may.below b byte in let room = may.room in omega arith
 
           filled-row : (w : List ℕ) → (s : ℕ) × HasRow filling nodes size s w → (anchored : Anchored)
-              → start_refusal start_kind anchored ≡ None → IsFilled (sheet_of filling nodes) anchored (Some w) entries
+              → start_refusal start_kind anchored ≡ None → IsFilled (row_input filling nodes) anchored (Some w) entries
           filled-row w state anchored supported =
               filled.filled state.0 (Some w) (slice_get_within nodes state.0 (Some w) state.1.named)
               (λ same. elim state.1.place [ inl start ↦ omega arith | inr inner ↦ omega arith ])

@@ -13,48 +13,48 @@ abbrev pub targets_of : List Edge → List ℕ
 targets_of es = map (λ e. e.target) es
 
 -- a place below 4 is that of the target among these, and any other says that the target is the missing one
-pub record Picks (targets : List ℕ) (place target missing : ℕ) : Type 0 where
+pub record Picks (targets : List ℕ) (place target default_target : ℕ) : Type 0 where
   pub within : place < 4 → place < length targets
   pub found : place < 4 → target ≡ slice_index_or targets place 0
-  pub missed : 4 ≤ place → target ≡ missing
+  pub missed : 4 ≤ place → target ≡ default_target
 
-hit : (targets : List ℕ) (place missing : ℕ) → place < 4 → place < length targets
-    → Picks targets place (slice_index_or targets place 0) missing
-hit targets place missing low within = grind (arith, common_steps)
+hit : (targets : List ℕ) (place default_target : ℕ) → place < 4 → place < length targets
+    → Picks targets place (slice_index_or targets place 0) default_target
+hit targets place default_target low within = grind (arith, common_steps)
 
-miss : (targets : List ℕ) (missing : ℕ) → Picks targets 4 missing missing
-miss targets missing = grind (arith, common_steps)
+fallback : (targets : List ℕ) (default_target : ℕ) → Picks targets 4 default_target default_target
+fallback targets default_target = grind (arith, common_steps)
 
 -- the first of four tests that holds, or 4
 abbrev pub first_true : Bool → Bool → Bool → Bool → ℕ
 first_true t u v w = cond t 0 (cond u 1 (cond v 2 (cond w 3 4)))
 
 -- the first test that holds picks its target, of four and of fewer, where the last test stands in for those after it
-picks-four : (t u v w : Bool) (a b c d : ℕ) (more : List ℕ) (missing : ℕ)
+picks-four : (t u v w : Bool) (a b c d : ℕ) (more : List ℕ) (default_target : ℕ)
     → Picks (a ∷ b ∷ c ∷ d ∷ more) (first_true t u v w)
-    (cond t a (cond u b (cond v c (cond w d missing)))) missing
-picks-four true u v w a b c d more missing = hit (a ∷ b ∷ c ∷ d ∷ more) 0 missing (omega arith) (omega arith)
-picks-four false true v w a b c d more missing = hit (a ∷ b ∷ c ∷ d ∷ more) 1 missing (omega arith) (omega arith)
-picks-four false false true w a b c d more missing = hit (a ∷ b ∷ c ∷ d ∷ more) 2 missing (omega arith) (omega arith)
-picks-four false false false true a b c d more missing = hit (a ∷ b ∷ c ∷ d ∷ more) 3 missing (omega arith) (omega arith)
-picks-four false false false false a b c d more missing = miss (a ∷ b ∷ c ∷ d ∷ more) missing
+    (cond t a (cond u b (cond v c (cond w d default_target)))) default_target
+picks-four true u v w a b c d more default_target = hit (a ∷ b ∷ c ∷ d ∷ more) 0 default_target (omega arith) (omega arith)
+picks-four false true v w a b c d more default_target = hit (a ∷ b ∷ c ∷ d ∷ more) 1 default_target (omega arith) (omega arith)
+picks-four false false true w a b c d more default_target = hit (a ∷ b ∷ c ∷ d ∷ more) 2 default_target (omega arith) (omega arith)
+picks-four false false false true a b c d more default_target = hit (a ∷ b ∷ c ∷ d ∷ more) 3 default_target (omega arith) (omega arith)
+picks-four false false false false a b c d more default_target = fallback (a ∷ b ∷ c ∷ d ∷ more) default_target
 
-picks-three : (t u v : Bool) (a b c missing : ℕ)
-    → Picks (a ∷ b ∷ c ∷ []) (first_true t u v v) (cond t a (cond u b (cond v c missing))) missing
-picks-three true u v a b c missing = hit (a ∷ b ∷ c ∷ []) 0 missing (omega arith) (omega arith)
-picks-three false true v a b c missing = hit (a ∷ b ∷ c ∷ []) 1 missing (omega arith) (omega arith)
-picks-three false false true a b c missing = hit (a ∷ b ∷ c ∷ []) 2 missing (omega arith) (omega arith)
-picks-three false false false a b c missing = miss (a ∷ b ∷ c ∷ []) missing
+picks-three : (t u v : Bool) (a b c default_target : ℕ)
+    → Picks (a ∷ b ∷ c ∷ []) (first_true t u v v) (cond t a (cond u b (cond v c default_target))) default_target
+picks-three true u v a b c default_target = hit (a ∷ b ∷ c ∷ []) 0 default_target (omega arith) (omega arith)
+picks-three false true v a b c default_target = hit (a ∷ b ∷ c ∷ []) 1 default_target (omega arith) (omega arith)
+picks-three false false true a b c default_target = hit (a ∷ b ∷ c ∷ []) 2 default_target (omega arith) (omega arith)
+picks-three false false false a b c default_target = fallback (a ∷ b ∷ c ∷ []) default_target
 
-picks-two : (t u : Bool) (a b missing : ℕ)
-    → Picks (a ∷ b ∷ []) (first_true t u u u) (cond t a (cond u b missing)) missing
-picks-two true u a b missing = hit (a ∷ b ∷ []) 0 missing (omega arith) (omega arith)
-picks-two false true a b missing = hit (a ∷ b ∷ []) 1 missing (omega arith) (omega arith)
-picks-two false false a b missing = miss (a ∷ b ∷ []) missing
+picks-two : (t u : Bool) (a b default_target : ℕ)
+    → Picks (a ∷ b ∷ []) (first_true t u u u) (cond t a (cond u b default_target)) default_target
+picks-two true u a b default_target = hit (a ∷ b ∷ []) 0 default_target (omega arith) (omega arith)
+picks-two false true a b default_target = hit (a ∷ b ∷ []) 1 default_target (omega arith) (omega arith)
+picks-two false false a b default_target = fallback (a ∷ b ∷ []) default_target
 
-picks-one : (t : Bool) (a missing : ℕ) → Picks (a ∷ []) (first_true t t t t) (cond t a missing) missing
-picks-one true a missing = hit (a ∷ []) 0 missing (omega arith) (omega arith)
-picks-one false a missing = miss (a ∷ []) missing
+picks-one : (t : Bool) (a default_target : ℕ) → Picks (a ∷ []) (first_true t t t t) (cond t a default_target) default_target
+picks-one true a default_target = hit (a ∷ []) 0 default_target (omega arith) (omega arith)
+picks-one false a default_target = fallback (a ∷ []) default_target
 
 module _ (class : ℕ) where
   -- what the first class word of transitions tells of where a class leads: its four classes are those of the first
@@ -64,79 +64,50 @@ module _ (class : ℕ) where
     pub b : ℕ
     pub c : ℕ
     pub d : ℕ
-    pub a_small : a < 256
-    pub b_small : b < 256
-    pub c_small : c < 256
-    pub d_small : d < 256
+    pub small : (a < 256) × (b < 256) × (c < 256) × (d < 256)
     pub word_is : word ≡ word_of a b c d
     pub after : words ≡ class_words (edge_classes (drop 4 es))
     pub picks : Picks (targets_of es) (first_of a b c d class) (target_by FAIL es class)
         (target_by FAIL (drop 4 es) class)
 
-  -- the first of a list of words, and the others
-  first : (v w : ℕ) (vs ws : List ℕ) → v ∷ vs ≡ w ∷ ws → w ≡ v
-  first v w vs ws same = sym (ap (λ (ns : List ℕ). slice_index_or ns 0 0) same)
-
-  others : (v w : ℕ) (vs ws : List ℕ) → v ∷ vs ≡ w ∷ ws → ws ≡ vs
-  others v w vs ws same = sym (ap (λ (ns : List ℕ). drop 1 ns) same)
+  -- it does by its four classes, where its first word is known
+  reads : (es : List Edge) (a b c d word : ℕ) (words : List ℕ) → (a < 256) × (b < 256) × (c < 256) × (d < 256)
+      → word_of a b c d ∷ class_words (edge_classes (drop 4 es)) ≡ word ∷ words
+      → Picks (targets_of es) (first_of a b c d class) (target_by FAIL es class) (target_by FAIL (drop 4 es) class)
+      → ReadsWord es word words
+  reads es a b c d word words small are picks = record {
+    a = a;
+    b = b;
+    c = c;
+    d = d;
+    small = small;
+    word_is = sym (ap (λ (ns : List ℕ). slice_index_or ns 0 0) are);
+    after = sym (ap (λ (ns : List ℕ). drop 1 ns) are);
+    picks = picks;
+  }
 
   pub tells : (es : List Edge) (word : ℕ) (words : List ℕ) → All (λ e. e.class < 256) es
       → class_words (edge_classes es) ≡ word ∷ words → ReadsWord es word words
   unfolding class_words target_by
   tells [] word words small are = absurd (let none = ap (λ (ns : List ℕ). length ns) are in omega (arith, none))
-  tells (a ∷ []) word words small are = record {
-    a = a.class;
-    b = a.class;
-    c = a.class;
-    d = a.class;
-    a_small = small 0 a (omega arith);
-    b_small = small 0 a (omega arith);
-    c_small = small 0 a (omega arith);
-    d_small = small 0 a (omega arith);
-    word_is = first _ word [] words are;
-    after = others _ word [] words are;
-    picks = picks-one (a.class == class) a.target FAIL;
-  }
-  tells (a ∷ b ∷ []) word words small are = record {
-    a = a.class;
-    b = b.class;
-    c = b.class;
-    d = b.class;
-    a_small = small 0 a (omega arith);
-    b_small = small 1 a (omega arith);
-    c_small = small 1 a (omega arith);
-    d_small = small 1 a (omega arith);
-    word_is = first _ word [] words are;
-    after = others _ word [] words are;
-    picks = picks-two (a.class == class) (b.class == class) a.target b.target FAIL;
-  }
-  tells (a ∷ b ∷ c ∷ []) word words small are = record {
-    a = a.class;
-    b = b.class;
-    c = c.class;
-    d = c.class;
-    a_small = small 0 a (omega arith);
-    b_small = small 1 a (omega arith);
-    c_small = small 2 a (omega arith);
-    d_small = small 2 a (omega arith);
-    word_is = first _ word [] words are;
-    after = others _ word [] words are;
-    picks = picks-three (a.class == class) (b.class == class) (c.class == class) a.target b.target c.target FAIL;
-  }
-  tells (a ∷ b ∷ c ∷ d ∷ es) word words small are = record {
-    a = a.class;
-    b = b.class;
-    c = c.class;
-    d = d.class;
-    a_small = small 0 a (omega arith);
-    b_small = small 1 a (omega arith);
-    c_small = small 2 a (omega arith);
-    d_small = small 3 a (omega arith);
-    word_is = first _ word (class_words (edge_classes es)) words are;
-    after = others _ word (class_words (edge_classes es)) words are;
-    picks = picks-four (a.class == class) (b.class == class) (c.class == class) (d.class == class)
-        a.target b.target c.target d.target (targets_of es) (target_by FAIL es class);
-  }
+  tells (a ∷ []) word words small are =
+      let first = small 0 a (omega arith) in
+      reads (a ∷ []) a.class a.class a.class a.class word words (first, first, first, first) are
+      (picks-one (a.class == class) a.target FAIL)
+  tells (a ∷ b ∷ []) word words small are =
+      let second = small 1 a (omega arith) in
+      reads (a ∷ b ∷ []) a.class b.class b.class b.class word words (small 0 a (omega arith), second, second, second) are
+      (picks-two (a.class == class) (b.class == class) a.target b.target FAIL)
+  tells (a ∷ b ∷ c ∷ []) word words small are =
+      let third = small 2 a (omega arith) in
+      reads (a ∷ b ∷ c ∷ []) a.class b.class c.class c.class word words
+      (small 0 a (omega arith), small 1 a (omega arith), third, third) are
+      (picks-three (a.class == class) (b.class == class) (c.class == class) a.target b.target c.target FAIL)
+  tells (a ∷ b ∷ c ∷ d ∷ es) word words small are =
+      reads (a ∷ b ∷ c ∷ d ∷ es) a.class b.class c.class d.class word words
+      (small 0 a (omega arith), small 1 a (omega arith), small 2 a (omega arith), small 3 a (omega arith)) are
+      (picks-four (a.class == class) (b.class == class) (c.class == class) (d.class == class)
+      a.target b.target c.target d.target (targets_of es) (target_by FAIL es class))
 
   -- four transitions on stand the others of one word on
   drop-class_words : (es : List Edge) (index : ℕ)
@@ -196,7 +167,7 @@ module _ (es : List Edge) (front : List ℕ) (is : front ≡ class_words (edge_c
         (target_by FAIL (drop 4 (drop (4 * index) es)) class)
     picks-at =
         let t = tells-at class es index small (subst (λ (ns : List ℕ). index < length ns) is within) in
-        let place_is = seen t.a t.b t.c t.d t.a_small t.b_small t.c_small t.d_small
+        let place_is = seen t.a t.b t.c t.d t.small.0 t.small.1 t.small.2 t.small.3
         (ap (λ (ns : List ℕ). slice_index_or ns index 0) is ∙ t.word_is) in
         subst (λ (n : ℕ). Picks (targets_of (drop (4 * index) es)) n (target_by FAIL (drop (4 * index) es) class)
         (target_by FAIL (drop 4 (drop (4 * index) es)) class)) (sym place_is) t.picks

@@ -5,7 +5,7 @@ use Rattle.ac_automaton.specs.Util.{alphabet_len, Counts, depth, GREATEST, IsNod
 use Rattle.ac_util.specs.declared.search.Anchored.{Anchored}
 use Rattle.ac_automaton.specs.Prelude.{looks_of, plain_of, step_of}
 use Rattle.ac_automaton.proofs.Follows.{more_looks-none, more_looks-twice}
-use Rattle.ac_engines.specs.Prelude.{BeginsWith, ContiguousView, FAIL, IsContiguousState, node_format, spelling_at}
+use Rattle.ac_engines.specs.Prelude.{BeginsWith, ContiguousView, FAIL, IsContiguousState, node_format, packed_at}
 use Rattle.ac_engines.proofs.NodeLengths.{node-length}
 use Rattle.ac_engines.proofs.Numbers.{step-node}
 use Rattle.ac_engines.proofs.PackedSteps.{reads, target_of}
@@ -20,7 +20,7 @@ step-to-node p anchored (Some w) b = search (rules, step-node)
 -- and so do the words that were read there
 pub begins-at : (p : ContiguousView) (anchored : Anchored) (s : ℕ) (u : Node) (h : IsContiguousState p anchored s u)
     (words there : List ℕ) → p.words ≡ words → there ≡ drop s words
-    → BeginsWith there (node_format p.built p.dense_depth u) (alphabet_len p.classes) (spelling_at p h.at anchored u)
+    → BeginsWith there (node_format p.built p.dense_depth u) (alphabet_len p.classes) (packed_at p h.at anchored u)
 begins-at p anchored s u h words there same is = search rules
 
 -- its number is in the words, and small
@@ -64,7 +64,7 @@ module _ (p : ContiguousView) (anchored : Anchored) (b : ℕ) (u : Node) (old : 
       short None stands = omega arith
       short (Some w) stands =
           let few = stands.is_contiguous.short in
-          let long = node-length p.built.kind p.built.fold p.built.patterns w stands.node in
+          let long = node-length p.built.kind p.built.ignores_case p.built.patterns w stands.node in
           omega arith
 
   module _ (now new : Counts) (s : ℕ) (o : WalkGoesOnward p anchored b u old now s) (more : new ≡ more_looks 1 now) where
@@ -84,6 +84,6 @@ module _ (p : ContiguousView) (anchored : Anchored) (b : ℕ) (u : Node) (old : 
 
     -- else it goes on at the failure target
     pub goes-on : (failure : ℕ) → b < 256 → target_of p o.stands.at anchored o.node b ≡ FAIL → anchored ≡ No
-        → failure ≡ (spelling_at p o.stands.at anchored o.node).failure → WalkGoesOnward p anchored b u old new failure
+        → failure ≡ (packed_at p o.stands.at anchored o.node).failure → WalkGoesOnward p anchored b u old new failure
     goes-on failure byte fail is-no is =
         grind (arith, common_steps, reads p o.stands.at o.stands.is_contiguous anchored o.node b byte, more_looks-twice o.taken 1 old)

@@ -27,16 +27,15 @@ pub mod PlanSums
 pub mod PushedStates
 pub mod Pushing
 pub mod PushingClasses
-pub mod Ranges
 pub mod RowByRow
 pub mod RowLists
 pub mod Setting
 pub mod SettingTargets
 mod SizeRows
-pub mod Spellings
+pub mod PackedWords
 pub mod Starts
 pub mod StateRows
-pub mod StateSpellings
+pub mod PackedNodes
 pub mod Transitions
 pub mod Vectors
 pub mod WordCounts

@@ -1,7 +1,7 @@
 -- Listing the matches of a state that count, one after another.
-use Rattle.std.proofs.Common.{◌≡◌, ℕ, ◌-◌, ◌<◌, Bool, true, cond, List, [], ◌∷◌, ◌++◌, length, ap, sym, subst, ◌∙◌, arith, All, rules}
+use Rattle.std.proofs.Common.{◌≡◌, ℕ, ◌-◌, ◌<◌, Bool, true, cond, List, [], ◌∷◌, ◌++◌, length, ap, subst, ◌∙◌, arith, All, rules}
 use Rattle.std.specs.List.{take_while}
-use Rattle.std.proofs.lemmas.List.{append_assoc, append-nil}
+use Rattle.std.proofs.lemmas.List.{append_assoc}
 use Rattle.std.proofs.lemmas.List.Elements.{All-tail}
 use Rattle.std.proofs.lemmas.List.Sums.{take_while-cons}
 use Rattle.std.proofs.lemmas.Grind.{common_steps}
@@ -38,10 +38,10 @@ module _ (trie : Trie) where
         };
       }
 
-  -- what was listed after the old matches, and those in front of the rest that count, are the matches of the node
-  abbrev pub HasListed : Anchored → ℕ → Node → List ℕ → List ℕ → MatchRest → Type 0
-  HasListed anchored deep u old now rest =
-      now ++ take_while (counts trie.built anchored deep) (rest_of rest) ≡ old ++ matches_of trie.built anchored u
+  -- what was listed, and those in front of the rest that count, are the matches of the node
+  abbrev pub HasListed : Anchored → ℕ → Node → List ℕ → MatchRest → Type 0
+  HasListed anchored deep u now rest =
+      now ++ take_while (counts trie.built anchored deep) (rest_of rest) ≡ matches_of trie.built anchored u
 
   module _ (s : ℕ) (u : Node) (h : IsTrieState trie s u) where
     -- all of a state's list can be read
@@ -50,30 +50,24 @@ module _ (trie : Trie) where
         grind (arith, common_steps, listed-numbered trie.built (rest_of (record { state = s; index = 0 })) 0 0 No u (stands-lists trie No s u h))
 
     -- nothing was listed at first
-    pub none-listed : (anchored : Anchored) (old : List ℕ)
-        → HasListed anchored (depth u) u old old (record { state = s; index = 0 })
-    none-listed anchored old =
-        ap (λ (n : ℕ). old ++ take_while (counts trie.built anchored n) (rest_of (record { state = s; index = 0 })))
+    pub none-listed : (anchored : Anchored) → HasListed anchored (depth u) u [] (record { state = s; index = 0 })
+    none-listed anchored =
+        ap (λ (n : ℕ). take_while (counts trie.built anchored n) (rest_of (record { state = s; index = 0 })))
         (let e : depth u ≡ depth u - 0 = omega arith in e)
-        ∙ ap (λ (ns : List ℕ). old ++ ns)
-        (listed-due trie.built (rest_of (record { state = s; index = 0 })) 0 (depth u) anchored u
+        ∙ listed-due trie.built (rest_of (record { state = s; index = 0 })) 0 (depth u) anchored u
         (stands-lists trie anchored s u h)
-        (record { ordered = omega arith; short = omega arith; whole = λ is some. omega arith }))
+        (record { ordered = omega arith; short = omega arith; whole = λ is some. omega arith })
 
-  module _ (anchored : Anchored) (deep : ℕ) (u : Node) (old now : List ℕ) (rest : MatchRest)
-      (h : HasListed anchored deep u old now rest) where
-    -- all that count were listed where the rest is empty
-    pub all-listed : rest_of rest ≡ [] → now ≡ old ++ matches_of trie.built anchored u
-    all-listed none = sym (append-nil now) ∙ ap (λ ns. now ++ take_while (counts trie.built anchored deep) ns) (sym none) ∙ h
-
+  module _ (anchored : Anchored) (deep : ℕ) (u : Node) (now : List ℕ) (rest : MatchRest)
+      (h : HasListed anchored deep u now rest) where
     module _ (pattern : ℕ) (after : MatchRest) (taken : rest_of rest ≡ pattern ∷ rest_of after) where
       -- what counts of the rest, where it is known whether its first match does
       front : (t : Bool) → counts trie.built anchored deep pattern ≡ t
           → now ++ cond t (pattern ∷ take_while (counts trie.built anchored deep) (rest_of after)) []
-          ≡ old ++ matches_of trie.built anchored u
+          ≡ matches_of trie.built anchored u
       front t counted = search (rules, take_while-cons (counts trie.built anchored deep) pattern (rest_of after))
 
       -- one that counts is listed
       pub one-more : is_due anchored (length (pattern_of trie.built.patterns pattern)) deep ≡ true
-          → HasListed anchored deep u old (now ++ pattern ∷ []) after
+          → HasListed anchored deep u (now ++ pattern ∷ []) after
       one-more due = search (rules, append_assoc, front)

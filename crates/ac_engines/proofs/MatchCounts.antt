@@ -8,7 +8,7 @@ use Rattle.std.proofs.lemmas.Grind.{common_steps}
 use Rattle.ac_automaton.specs.Util.{Built, equal_to, last_start, matches, MatchKind, No, Node, open_suffixes, plain, starting_by, suffixes}
 use Rattle.ac_util.proofs.Lists.{All-from_IsIn, IsIn, IsIn-from_flat_map, IsIn-range, IsOrdered, IsOrdered-flat_map}
 use Rattle.ac_util.proofs.Participants.{IsIn-from_equal_to, equal_to-ordered}
-use Rattle.ac_automaton.specs.Prelude.{leads_on, matches_of, own_bytes, plain_of}
+use Rattle.ac_automaton.specs.Prelude.{leads_on, matches_of, transition_bytes_of, plain_of}
 use Rattle.ac_automaton.proofs.Counting.{length-le-from_IsOrdered}
 
 -- what is ordered by R is ordered by what R implies
@@ -73,7 +73,7 @@ match-numbered built (Some w) n h =
     let from = IsIn-from_flat_map (equal_to built.kind (plain_of built)) n
     (open_suffixes built.kind (plain_of built) w) h in
     let numbered = (IsIn-from_equal_to built.kind (plain_of built) from.0 n from.2).numbered in
-    omega (arith, numbered, length-map built.patterns (plain built.fold))
+    omega (arith, numbered, length-map built.patterns (plain built.ignores_case))
 
 -- the same of all of them
 pub matches-numbered : (built : Built) (u : Node) → All (λ n. n < length built.patterns) (matches_of built No u)
@@ -89,9 +89,9 @@ matches-few built (Some w) =
     omega (arith, few, length-range_with_len 0 (length built.patterns))
 
 -- own bytes are bytes, each once
-pub own_bytes-few : (built : Built) (u : Node) → length (own_bytes built u) ≤ 256
-unfolding own_bytes
-own_bytes-few built u =
+pub transition_bytes_of-few : (built : Built) (u : Node) → length (transition_bytes_of built u) ≤ 256
+unfolding transition_bytes_of
+transition_bytes_of-few built u =
     omega (
       arith,
       length-filter_both (leads_on built u) (λ b. not (leads_on built u b)) (λ b. refl) (range_with_len 0 256),

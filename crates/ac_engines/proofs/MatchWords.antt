@@ -2,7 +2,7 @@
 use Rattle.std.proofs.Common.{refl, ◌≡◌, ◌≢◌, ℕ, ◌+◌, ◌-◌, ◌<◌, ◌≤◌, List, [], ◌∷◌, ◌++◌, length, arith, slice_index_or, rules}
 use Rattle.std.proofs.lemmas.List.{get_or_append_left, length-append}
 use Rattle.std.proofs.lemmas.Grind.{common_steps}
-use Rattle.ac_engines.specs.Prelude.{match_spelling, ONE_MATCH}
+use Rattle.ac_engines.specs.Prelude.{match_list_words, ONE_MATCH}
 
 -- what the first word of some matches tells: it is the only one of them, or their number
 pub record ReadsMatches (matches words : List ℕ) : Type 0 where
@@ -15,7 +15,7 @@ pub record ReadsMatches (matches words : List ℕ) : Type 0 where
   pub each : slice_index_or words 0 0 < ONE_MATCH → (index : ℕ) → index < length matches
       → slice_index_or words (1 + index) 0 ≡ slice_index_or matches index 0
 
-pub reads : (matches rest words : List ℕ) → words ≡ match_spelling matches ++ rest → matches ≢ []
+pub reads : (matches rest words : List ℕ) → words ≡ match_list_words matches ++ rest → matches ≢ []
     → length matches < ONE_MATCH → ReadsMatches matches words
 reads [] rest words are some few = absurd (some refl)
 reads (p ∷ []) rest words are some few = grind (arith, common_steps)

@@ -7,19 +7,19 @@ use Rattle.ac_util.proofs.NodeCount.{any_passes}
 use Rattle.ac_util.proofs.Prefixes.{starts_with-length}
 
 -- no plain pattern is longer than the longest
-pattern-length : (fold : Bool) (patterns : List (List ℕ)) (n : ℕ)
-    → length (get_or (map (plain fold) patterns) n []) ≤ longest_len patterns
-pattern-length fold [] n = omega arith
-pattern-length fold (p ∷ ps) zero = omega (arith, length-map p (plain_byte fold))
-pattern-length fold (p ∷ ps) (suc n) = omega (arith, pattern-length fold ps n)
+pattern-length : (ignores_case : Bool) (patterns : List (List ℕ)) (n : ℕ)
+    → length (get_or (map (plain ignores_case) patterns) n []) ≤ longest_len patterns
+pattern-length ignores_case [] n = omega arith
+pattern-length ignores_case (p ∷ ps) zero = omega (arith, length-map p (plain_byte ignores_case))
+pattern-length ignores_case (p ∷ ps) (suc n) = omega (arith, pattern-length ignores_case ps n)
 
 -- a node is a prefix of a pattern, and so no longer than the longest
-pub node-length : (kind : MatchKind) (fold : Bool) (patterns : List (List ℕ)) (w : List ℕ)
-    → IsNode kind (map (plain fold) patterns) (Some w) → length w ≤ longest_len patterns
-node-length kind fold patterns [] node = omega arith
-node-length kind fold patterns (x ∷ w) node =
-    let plains = map (plain fold) patterns in
+pub node-length : (kind : MatchKind) (ignores_case : Bool) (patterns : List (List ℕ)) (w : List ℕ)
+    → IsNode kind (map (plain ignores_case) patterns) (Some w) → length w ≤ longest_len patterns
+node-length kind ignores_case patterns [] node = omega arith
+node-length kind ignores_case patterns (x ∷ w) node =
+    let plains = map (plain ignores_case) patterns in
     let one =
     any_passes (λ n. starts_with nat_eq (pattern_of plains n) (x ∷ w)) (participants kind plains) node in
     let short = starts_with-length (pattern_of plains one.0) (x ∷ w) one.2 in
-    omega (arith, short, pattern-length fold patterns one.0)
+    omega (arith, short, pattern-length ignores_case patterns one.0)

@@ -5,20 +5,20 @@ use Rattle.std.proofs.lemmas.Bool.{false≢true}
 use Rattle.std.proofs.lemmas.Grind.{common_steps}
 use Rattle.ac_automaton.specs.Util.{alphabet_len, class_at, failure, No, Node, plain_byte, Yes}
 use Rattle.ac_util.proofs.Reached.{step-nil, stops}
-use Rattle.ac_automaton.specs.Prelude.{leads_on, own_bytes, plain_of, step_of}
-use Rattle.ac_engines.specs.Prelude.{anchored_shift, EndsDead, entry, Filling, HasFilled, HasRow, HasSet, IsFilled, MayFillRow, row_at, SameBeside, Sheet, sheet_of}
-use Rattle.ac_engines.proofs.Filled.{filled-anchored, filled-longer, own_bytes-has, own_bytes-only, past-set}
+use Rattle.ac_automaton.specs.Prelude.{leads_on, transition_bytes_of, plain_of, step_of}
+use Rattle.ac_engines.specs.Prelude.{anchored_shift, EndsDead, entry, Filling, HasFilled, HasRow, HasSet, IsFilled, MayFillRow, row_at, SameBeside, RowInput, row_input}
+use Rattle.ac_engines.proofs.Filled.{filled-anchored, filled-longer, transition_bytes_of-has, transition_bytes_of-only, past-set}
 use Rattle.ac_engines.proofs.StateRows.{narrow}
 
 -- what holds beside a part of the table that was changed twice
-pub beside-both : (p : Sheet) (first room : ℕ) (old between new : List ℕ) → SameBeside p first room old between
+pub beside-both : (p : RowInput) (first room : ℕ) (old between new : List ℕ) → SameBeside p first room old between
     → SameBeside p first room between new → SameBeside p first room old new
 beside-both p first room old between new one two = λ k outside. two k outside ∙ one k outside
 
 module _ (f : Filling) (nodes : List Node) (size s : ℕ) (w : List ℕ) (h : HasRow f nodes size s w) where
   -- the sheet of the table
-  abbrev p : Sheet
-  p = sheet_of f nodes
+  abbrev p : RowInput
+  p = row_input f nodes
 
   -- what was changed within the classes was changed within the row
   beside-row : (row : ℕ) (old new : List ℕ) → SameBeside p row (alphabet_len f.classes) old new
@@ -28,28 +28,28 @@ module _ (f : Filling) (nodes : List Node) (size s : ℕ) (w : List ℕ) (h : Ha
 
   -- an anchored row is filled once its own transitions are set
   pub anchored-filled : (old new : List ℕ) → MayFillRow f nodes size s w Yes old
-      → HasSet p Yes w (own_bytes p.built (Some w)) old new → HasFilled p Yes w old new
+      → HasSet p Yes w (transition_bytes_of p.built (Some w)) old new → HasFilled p Yes w old new
   anchored-filled old new m set = search (rules, beside-row, filled-anchored, narrow)
 
   -- where a byte leads from the start that leads on
   start-own : (b : ℕ) → leads_on p.built (Some []) b ≡ true
-      → step_of p.built No (Some []) b ≡ Some (plain_byte p.built.fold b ∷ [])
-  start-own b own = step-nil p.built.kind (plain_of p.built) (plain_byte p.built.fold b) ∙ rw own refl
+      → step_of p.built No (Some []) b ≡ Some (plain_byte p.built.ignores_case b ∷ [])
+  start-own b own = step-nil p.built.kind (plain_of p.built) (plain_byte p.built.ignores_case b) ∙ rw own refl
 
   -- the start's row is filled where all classes led where a byte leads that doesn't lead on
-  pub start-filled : (missing : Node) (old led new : List ℕ)
-      → ((b : ℕ) → leads_on p.built (Some []) b ≡ false → step_of p.built No (Some []) b ≡ missing)
+  pub start-filled : (default_target : Node) (old led new : List ℕ)
+      → ((b : ℕ) → leads_on p.built (Some []) b ≡ false → step_of p.built No (Some []) b ≡ default_target)
       → length led ≡ length old → EndsDead p No (Some []) old
       → SameBeside p (row_at p No (Some [])) (alphabet_len f.classes) old led
-      → ((b : ℕ) → b < 256 → entry f.classes led (row_at p No (Some [])) b ≡ row_at p No missing)
-      → HasSet p No [] (own_bytes p.built (Some [])) led new → HasFilled p No [] old new
-  start-filled missing old led new misses long past beside leads set = record {
+      → ((b : ℕ) → b < 256 → entry f.classes led (row_at p No (Some [])) b ≡ row_at p No default_target)
+      → HasSet p No [] (transition_bytes_of p.built (Some [])) led new → HasFilled p No [] old new
+  start-filled default_target old led new misses long past beside leads set = record {
     same_length = set.same_length ∙ long;
     beside = beside-row (row_at p No (Some [])) old new
         (beside-both p (row_at p No (Some [])) (alphabet_len f.classes) old led new beside set.beside);
     filled = record {
       steps = λ b byte. go b byte (leads_on p.built (Some []) b) refl;
-      past = past-set p No [] (own_bytes p.built (Some [])) led new set past-led;
+      past = past-set p No [] (transition_bytes_of p.built (Some [])) led new set past-led;
     };
   }
     where
@@ -59,10 +59,10 @@ module _ (f : Filling) (nodes : List Node) (size s : ℕ) (w : List ℕ) (h : Ha
       go : (b : ℕ) → b < 256 → (t : Bool) → leads_on p.built (Some []) b ≡ t
           → entry p.classes new (row_at p No (Some [])) b ≡ row_at p No (step_of p.built No (Some []) b)
       go b byte true own =
-          set.own b byte (own_bytes-has p.built (Some []) b byte own)
+          set.own b byte (transition_bytes_of-has p.built (Some []) b byte own)
           ∙ ap (row_at p No) (sym (start-own b own))
       go b byte false none =
-          set.others b byte (λ has. false≢true (sym none ∙ own_bytes-only p.built (Some []) b has))
+          set.others b byte (λ has. false≢true (sym none ∙ transition_bytes_of-only p.built (Some []) b has))
           ∙ leads b byte ∙ ap (row_at p No) (sym (misses b none))
 
   -- where a byte leads from the start that doesn't lead on
@@ -71,9 +71,9 @@ module _ (f : Filling) (nodes : List Node) (size s : ℕ) (w : List ℕ) (h : Ha
   start-misses t stopped b none = grind (arith, common_steps)
 
   -- the row of that node
-  pub missing-row : (t : Bool) → (if t then 0 else row_at p No (Some [])) ≡ row_at p No (cond t None (Some []))
-  missing-row true = refl
-  missing-row false = refl
+  pub default_target-row : (t : Bool) → (if t then 0 else row_at p No (Some [])) ≡ row_at p No (cond t None (Some []))
+  default_target-row true = refl
+  default_target-row false = refl
 
   -- the start's row, where all its classes first led to that node
   pub start-led : (t : Bool) (start to len : ℕ) (old led new : List ℕ) → w ≡ []
@@ -82,13 +82,13 @@ module _ (f : Filling) (nodes : List Node) (size s : ℕ) (w : List ℕ) (h : Ha
       → EndsDead p No (Some []) old
       → ((k : ℕ) → start ≤ k → k < start + len → slice_index_or led k 0 ≡ to)
       → ((k : ℕ) → (k < start) ⊎ (start + len ≤ k) → slice_index_or led k 0 ≡ slice_index_or old k 0)
-      → HasSet p No [] (own_bytes p.built (Some [])) led new → HasFilled p No [] old new
+      → HasSet p No [] (transition_bytes_of p.built (Some [])) led new → HasFilled p No [] old new
   start-led t start to len old led new empty stopped row target classes long past leads beside set =
       start-filled (cond t None (Some [])) old led new (start-misses t stopped) long past
       (λ k outside. beside k (elim outside [ inl before ↦ inl (omega arith) | inr after ↦ inr (omega arith) ]))
       (λ b byte. leads (row_at p No (Some []) + class_at f.classes b) (omega arith)
       (let below = h.may.below b byte in omega arith)
-      ∙ target ∙ ap (λ n. if t then 0 else n) row ∙ missing-row t)
+      ∙ target ∙ ap (λ n. if t then 0 else n) row ∙ default_target-row t)
       set
 
   -- an inner row is filled once that of the failure target was copied and its own transitions are set
@@ -97,7 +97,7 @@ module _ (f : Filling) (nodes : List Node) (size s : ℕ) (w : List ℕ) (h : Ha
       → from ≡ row_at p No (failure f.trie.built.kind (plain_of f.trie.built) w) → to ≡ row_at p No (Some w)
       → len ≡ alphabet_len f.classes → length copied ≡ length old → EndsDead p No (Some w) old
       → CopiedTo old copied from to len → SameBelow old copied to → SameFrom old copied (to + len)
-      → HasSet p No w (own_bytes p.built (Some w)) copied new → HasFilled p No w old new
+      → HasSet p No w (transition_bytes_of p.built (Some w)) copied new → HasFilled p No w old new
   inner-filled from to len old copied new some earlier target row classes long past copies below above set = record {
     same_length = set.same_length ∙ long;
     beside = beside-row (row_at p No (Some w)) old new

@@ -7,10 +7,10 @@ use Rattle.ac_automaton.specs.Util.{Both, Built, class_at, No, Node, plain_byte,
 use Rattle.ac_util.specs.declared.search.StartKind.TheVariants.{Anchored as AnchoredAlone}
 use Rattle.ac_util.proofs.ClassLemmas.{stands-from_node}
 use Rattle.ac_util.proofs.Lists.{Contains-from_IsIn, IsIn, IsIn-at}
-use Rattle.ac_automaton.specs.Prelude.{AreNodes, IsOwn, own_bytes, plain_of, Trie}
+use Rattle.ac_automaton.specs.Prelude.{AreNodes, IsOwn, transition_bytes_of, plain_of, Trie}
 use Rattle.ac_automaton.proofs.Places.{take-next}
-use Rattle.ac_engines.specs.Prelude.{anchored_shift, Filling, HasRow, HasSet, row_at, sheet_of}
-use Rattle.ac_engines.proofs.Filled.{own_bytes-only, own_bytes-small}
+use Rattle.ac_engines.specs.Prelude.{anchored_shift, Filling, HasRow, HasSet, row_at, row_input}
+use Rattle.ac_engines.proofs.Filled.{transition_bytes_of-only, transition_bytes_of-small}
 use Rattle.ac_engines.proofs.Numbered.{after-starts, place-row}
 use Rattle.ac_engines.proofs.Setting.{set-more}
 
@@ -28,11 +28,11 @@ anchored_shift-most Unanchored anchored stride = omega arith
 anchored_shift-most AnchoredAlone anchored stride = omega arith
 
 -- which starts there are says nothing of own transitions
-pub own_bytes-starts : (built : Built) (start_kind : StartKind) (u : Node)
-    → own_bytes (record built { start_kind = start_kind }) u ≡ own_bytes built u
-unfolding own_bytes
-own_bytes-starts built start_kind None = refl
-own_bytes-starts built start_kind (Some w) = refl
+pub transition_bytes_of-starts : (built : Built) (start_kind : StartKind) (u : Node)
+    → transition_bytes_of (record built { start_kind = start_kind }) u ≡ transition_bytes_of built u
+unfolding transition_bytes_of
+transition_bytes_of-starts built start_kind None = refl
+transition_bytes_of-starts built start_kind (Some w) = refl
 
 -- what stands at a place is an element
 IsIn-slice_get : (x : ℕ) (xs : List ℕ) (k : ℕ) → slice_get xs k ≡ Some x → IsIn x xs
@@ -46,35 +46,35 @@ longer (x ∷ w) b e = absurd cc
 
 module _ (f : Filling) (nodes : List Node) (size s : ℕ) (w : List ℕ) (h : HasRow f nodes size s w) where
   -- the row of a string lies in the table
-  pub row-room : (anchored : Anchored) → row_at (sheet_of f nodes) anchored (Some w) + f.stride ≤ size
+  pub row-room : (anchored : Anchored) → row_at (row_input f nodes) anchored (Some w) + f.stride ≤ size
   row-room anchored = grind (arith, common_steps, place-row f nodes size s w h, slice_get_within nodes s (Some w) h.named)
 
   module _ (index byte next : ℕ) (own : IsOwn f.trie nodes w index byte next) where
     -- an own transition leads to a state that has rows too
-    pub next-row : HasRow f nodes size next (w ++ plain_byte f.trie.built.fold byte ∷ [])
+    pub next-row : HasRow f nodes size next (w ++ plain_byte f.trie.built.ignores_case byte ∷ [])
     next-row =
         grind (
           arith,
           common_steps,
-          after-starts f.trie nodes h.may.are_nodes next (w ++ plain_byte f.trie.built.fold byte ∷ []) (longer w (plain_byte f.trie.built.fold byte))
+          after-starts f.trie nodes h.may.are_nodes next (w ++ plain_byte f.trie.built.ignores_case byte ∷ []) (longer w (plain_byte f.trie.built.ignores_case byte))
               own.leads,
         )
 
     -- with one own transition more set, one more of the bytes leads on in the row
     pub own-more : (anchored : Anchored) (v : ℕ) (old now : List ℕ) → length now ≡ size
-        → v ≡ row_at (sheet_of f nodes) anchored (Some (w ++ plain_byte f.trie.built.fold byte ∷ []))
-        → HasSet (sheet_of f nodes) anchored w (take index (own_bytes f.trie.built (Some w))) old now
-        → HasSet (sheet_of f nodes) anchored w (take (index + 1) (own_bytes f.trie.built (Some w))) old
-        (slice_set now (row_at (sheet_of f nodes) anchored (Some w) + class_at f.classes byte) v)
+        → v ≡ row_at (row_input f nodes) anchored (Some (w ++ plain_byte f.trie.built.ignores_case byte ∷ []))
+        → HasSet (row_input f nodes) anchored w (take index (transition_bytes_of f.trie.built (Some w))) old now
+        → HasSet (row_input f nodes) anchored w (take (index + 1) (transition_bytes_of f.trie.built (Some w))) old
+        (slice_set now (row_at (row_input f nodes) anchored (Some w) + class_at f.classes byte) v)
     own-more anchored v old now long e set =
-        let has : Contains (own_bytes f.trie.built (Some w)) byte = Contains-from_IsIn byte _ (IsIn-slice_get byte _ index own.place) in
-        let small = own_bytes-small f.trie.built (Some w) byte has in
-        let leads = own_bytes-only f.trie.built (Some w) byte has in
-        let stands = stands-from_node f.trie.built.fold f.trie.built.patterns f.trie.built.kind w byte leads in
+        let has : Contains (transition_bytes_of f.trie.built (Some w)) byte = Contains-from_IsIn byte _ (IsIn-slice_get byte _ index own.place) in
+        let small = transition_bytes_of-small f.trie.built (Some w) byte has in
+        let leads = transition_bytes_of-only f.trie.built (Some w) byte has in
+        let stands = stands-from_node f.trie.built.ignores_case f.trie.built.patterns f.trie.built.kind w byte leads in
         let room = row-room anchored in
         let below = h.may.below byte small in
         let fits = h.may.room in
-        rw (take-next (own_bytes f.trie.built (Some w)) index byte own.place)
-        (set-more (sheet_of f nodes) anchored w h.may.below
-        (take index (own_bytes f.trie.built (Some w))) byte v old now small
+        rw (take-next (transition_bytes_of f.trie.built (Some w)) index byte own.place)
+        (set-more (row_input f nodes) anchored w h.may.below
+        (take index (transition_bytes_of f.trie.built (Some w))) byte v old now small
         (λ a less same. h.may.apart.own a byte less small stands same) (omega arith) e set)

@@ -14,7 +14,7 @@ module _ (settings : ContiguousSettings) (patterns : List (List ℕ)) (trie : Tr
   -- what is packed from the automaton of these settings is packed by them, or refused by them
   pub packed-built : (r : Result ContiguousView BuildError)
       → MatchResult r
-      (λ packed. IsContiguousFrom settings.dense_depth settings.byte_classes trie.built trie.filters packed
+      (λ packed. IsContiguousFrom settings.dense_depth settings.byte_classes trie.built trie.wants_prefilter packed
       × (contiguous_refusal settings.dense_depth settings.byte_classes trie.built ≡ None))
       (IsRefusedExactly (contiguous_refusal settings.dense_depth settings.byte_classes trie.built))
       → MatchResult r (IsContiguousBuilt settings patterns) (RefusesBy (contiguous_refusal_by settings patterns) patterns)

@@ -5,16 +5,16 @@ use Rattle.std.proofs.lemmas.Grind.{common_steps}
 use Rattle.ac_automaton.specs.Util.{alphabet_len, GREATEST, No, Node, Yes}
 use Rattle.ac_util.specs.declared.search.Anchored.{Anchored}
 use Rattle.ac_automaton.specs.Automata.{matches_of}
-use Rattle.ac_engines.specs.Prelude.{BeginsWith, ContiguousView, Format, IsContiguousState, match_list_at, node_format, number_at, Places, Spelling, spelling_at}
+use Rattle.ac_engines.specs.Prelude.{BeginsWith, ContiguousView, Format, IsContiguousState, match_list_at, node_format, number_at, Places, PackedState, packed_at}
 use Rattle.ac_engines.proofs.MatchCounts.{matches-numbered}
 
 -- what a state spells has the matches of its node
-spelled-matches : (p : ContiguousView) (at : Places) (anchored : Anchored) (u : Node)
-    → (spelling_at p at anchored u).matches ≡ matches_of p.built No u
-spelled-matches p at anchored None = refl
-spelled-matches p at No (Some []) = refl
-spelled-matches p at Yes (Some []) = refl
-spelled-matches p at anchored (Some (x ∷ w)) = refl
+format_words-matches : (p : ContiguousView) (at : Places) (anchored : Anchored) (u : Node)
+    → (packed_at p at anchored u).matches ≡ matches_of p.built No u
+format_words-matches p at anchored None = refl
+format_words-matches p at No (Some []) = refl
+format_words-matches p at Yes (Some []) = refl
+format_words-matches p at anchored (Some (x ∷ w)) = refl
 
 module _ (p : ContiguousView) (anchored : Anchored) (s : ℕ) where
   -- the dead node's number is 0, and no other's
@@ -56,9 +56,9 @@ module _ (p : ContiguousView) (anchored : Anchored) (s : ℕ) where
   -- the words there begin with those of a state that spells what is listed
   pub record Begins (there : List ℕ) (classes : ℕ) : Type 0 where
     pub format : Format
-    pub spelling : Spelling
-    pub words : BeginsWith there format classes spelling
-    pub same : spelling.matches ≡ match_list_at p s
+    pub as_packed : PackedState
+    pub words : BeginsWith there format classes as_packed
+    pub same : as_packed.matches ≡ match_list_at p s
     pub numbered : (k : ℕ) → k < length (match_list_at p s) → slice_index_or (match_list_at p s) k 0 ≤ GREATEST
 
   listed-matches : (u : Node) → IsContiguousState p anchored s u → match_list_at p s ≡ matches_of p.built No u
@@ -69,9 +69,9 @@ module _ (p : ContiguousView) (anchored : Anchored) (s : ℕ) where
       → classes ≡ alphabet_len p.classes → Begins there classes
   begins u h there classes there_is classes_is = record {
     format = node_format p.built p.dense_depth u;
-    spelling = spelling_at p h.at anchored u;
+    as_packed = packed_at p h.at anchored u;
     words = rw (there_is, classes_is, h.number) (h.is_contiguous.states anchored u h.node);
-    same = spelled-matches p h.at anchored u ∙ sym (listed-matches u h);
+    same = format_words-matches p h.at anchored u ∙ sym (listed-matches u h);
     numbered = λ k below.
         let few = h.is_contiguous.few in
         let low = subst (All (λ n. n < length p.built.patterns)) (sym (listed-matches u h)) (matches-numbered p.built u) k 0 below in

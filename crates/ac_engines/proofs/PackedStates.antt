@@ -10,16 +10,16 @@ use Rattle.ac_util.proofs.ClassLists.{alphabet_len-few}
 use Rattle.ac_util.proofs.NodeCount.{inner_nodes-has}
 use Rattle.ac_automaton.specs.declared.nfa.noncontiguous.state.TheConstants.{START}
 use Rattle.ac_automaton.specs.Prelude.{matches_of, plain_of}
-use Rattle.ac_engines.specs.Prelude.{AreReady, BeginsWith, ContiguousView, Dense, FAIL, Format, front_end, has_matches, HasPushedWords, IsContiguous, match_list_at, node_format, number_at, One, packed_of, packed_words, Packer, place_at, Places, places_of, size_at, size_of, Sparse, spelled, Spelling, spelling_at, state_spelling, total, words_of_state}
-use Rattle.ac_engines.proofs.Decoding.{listed-none, listed-spelled}
+use Rattle.ac_engines.specs.Prelude.{AreReady, BeginsWith, ContiguousView, Dense, FAIL, Format, front_end, has_matches, HasPushedWords, IsContiguous, match_list_at, node_format, number_at, One, packed_of, packed_words, Packer, place_at, Places, places_of, size_at, size_of, Sparse, format_words, PackedState, packed_at, packed_state, total, words_of_state}
+use Rattle.ac_engines.proofs.Decoding.{listed-none, listed-format_words}
 use Rattle.ac_engines.proofs.Numbered.{place-inner, place-start}
 use Rattle.ac_engines.proofs.PackedSums.{total-grows}
 use Rattle.ac_engines.proofs.PlanSums.{before, sizes-whole, takes}
-use Rattle.ac_engines.proofs.PushedStates.{begins-before, begins-after, length-spelled}
+use Rattle.ac_engines.proofs.PushedStates.{begins-before, begins-after, length-format_words}
 
 -- what the dead state spells
-abbrev pub dead_spelling : Spelling
-dead_spelling = record { failure = 0; missing = 0; edges = []; matches = [] }
+abbrev pub packed_dead : PackedState
+packed_dead = record { failure = 0; default_target = 0; edges = []; matches = [] }
 
 module _ (f : Packer) (nodes : List Node) (ready : AreReady f nodes) (words : List ℕ) where
   -- what is packed, and where
@@ -35,7 +35,7 @@ module _ (f : Packer) (nodes : List Node) (ready : AreReady f nodes) (words : Li
     pub reached : START ≤ state
     pub named : slice_get nodes state ≡ Some (Some w)
     pub number : number_at places anchored (Some w) ≡ place_at f.plan nodes state
-    pub spells : state_spelling f nodes state (Some w) ≡ spelling_at packed places anchored (Some w)
+    pub spells : packed_state f nodes state (Some w) ≡ packed_at packed places anchored (Some w)
 
   numbered : (s : ℕ) (u : Node) → slice_get nodes s ≡ Some u → slice_index_or f.numbers s 0 ≡ place_at f.plan nodes s
   numbered s u named = ready.places.each s (slice_get_within nodes s u named)
@@ -68,21 +68,30 @@ words-some One classes transitions matches = omega arith
 words-some Sparse classes transitions matches = omega arith
 
 module _ (f : Packer) (nodes : List Node) (ready : AreReady f nodes) where
+  -- where the states begin that have matches, and the others
+  abbrev side : Bool → ℕ
+  side true = size_of f.plan nodes None
+  side false = front_end f.plan nodes
+
   -- where a state is placed: in front or after, and no other state has a place before its words end
-  record IsPlacedAt (s : ℕ) (u : Node) (t : Bool) : Type 0 where
-    front : t ≡ true → place_at f.plan nodes s ≡ size_of f.plan nodes None + before f.plan nodes true s
-    front_ends : t ≡ true → place_at f.plan nodes s < size_of f.plan nodes None + before f.plan nodes true (s + 1)
+  record IsPlacedAt (s : ℕ) (t : Bool) : Type 0 where
+    begins : place_at f.plan nodes s ≡ side t + before f.plan nodes t s
+    ends : place_at f.plan nodes s < side t + before f.plan nodes t (s + 1)
     front_within : t ≡ true → place_at f.plan nodes s < front_end f.plan nodes
-    back : t ≡ false → place_at f.plan nodes s ≡ front_end f.plan nodes + before f.plan nodes false s
-    back_ends : t ≡ false → place_at f.plan nodes s < front_end f.plan nodes + before f.plan nodes false (s + 1)
 
   placed-at : (s : ℕ) (u : Node) → 2 ≤ s → slice_get nodes s ≡ Some u → (t : Bool) → t ≡ has_matches f.plan nodes u
-      → IsPlacedAt s u t
+      → IsPlacedAt s t
   placed-at s u reached named true is =
       search (rules, takes f.plan nodes s u reached named true (size_of f.plan nodes u) is refl, total-grows, words-some, slice_get_within)
   placed-at s u reached named false is = search (rules, takes f.plan nodes s u reached named false (size_of f.plan nodes u) is refl)
 
-  -- two states have two places
+  -- two states on one side have two places
+  places-beside : (s t : ℕ) (b : Bool) → s < t → IsPlacedAt s b → IsPlacedAt t b
+      → place_at f.plan nodes s ≢ place_at f.plan nodes t
+  places-beside s t b earlier at then e =
+      omega (arith, total-grows (size_at f.plan nodes b) (s + 1) t (omega arith), at.ends, then.begins)
+
+  -- and so have any two
   places-apart : (s t : ℕ) (u v : Node) → 2 ≤ s → s < t → slice_get nodes s ≡ Some u → slice_get nodes t ≡ Some v
       → place_at f.plan nodes s ≢ place_at f.plan nodes t
   places-apart s t u v reached earlier named other e =
@@ -90,37 +99,27 @@ module _ (f : Packer) (nodes : List Node) (ready : AreReady f nodes) where
     where
       by : (a b : Bool) → a ≡ has_matches f.plan nodes u → b ≡ has_matches f.plan nodes v → ⊥
       by true true is js =
-          let at = placed-at s u reached named true is in
-          let then = placed-at t v (omega arith) other true js in
-          let grows = total-grows (size_at f.plan nodes true) (s + 1) t (omega arith) in
-          let ends = at.front_ends refl in
-          let begins = then.front refl in
-          omega arith
+          places-beside s t true earlier (placed-at s u reached named true is) (placed-at t v (omega arith) other true js) e
       by false false is js =
-          let at = placed-at s u reached named false is in
-          let then = placed-at t v (omega arith) other false js in
-          let grows = total-grows (size_at f.plan nodes false) (s + 1) t (omega arith) in
-          let ends = at.back_ends refl in
-          let begins = then.back refl in
-          omega arith
+          places-beside s t false earlier (placed-at s u reached named false is) (placed-at t v (omega arith) other false js) e
       by true false is js =
           let ends = (placed-at s u reached named true is).front_within refl in
-          let begins = (placed-at t v (omega arith) other false js).back refl in
+          let begins = (placed-at t v (omega arith) other false js).begins in
           omega arith
       by false true is js =
-          let begins = (placed-at s u reached named false is).back refl in
+          let begins = (placed-at s u reached named false is).begins in
           let ends = (placed-at t v (omega arith) other true js).front_within refl in
           omega arith
 
   -- the words of the dead state, then those of the states that have matches, and then those of the others
-  module _ (dead front words : List ℕ) (first : dead ≡ spelled Dense (alphabet_len f.plan.classes) dead_spelling)
+  module _ (dead front words : List ℕ) (first : dead ≡ format_words Dense (alphabet_len f.plan.classes) packed_dead)
       (in_front : HasPushedWords f nodes true dead front) (after : HasPushedWords f nodes false front words) where
     -- the state of the dead node
-    dead-begins : BeginsWith dead Dense (alphabet_len f.plan.classes) dead_spelling
+    dead-begins : BeginsWith dead Dense (alphabet_len f.plan.classes) packed_dead
     dead-begins = search (rules, begins-after, alphabet_len-few f.plan.classes ready.may.classes)
 
     dead-long : length dead ≡ size_of f.plan nodes None
-    dead-long = ap (λ (ws : List ℕ). length ws) first ∙ length-spelled Dense (alphabet_len f.plan.classes) dead_spelling tt
+    dead-long = ap (λ (ws : List ℕ). length ws) first ∙ length-format_words Dense (alphabet_len f.plan.classes) packed_dead tt
 
     front-long : length front ≡ front_end f.plan nodes
     front-long = let long = in_front.long in let first_long = dead-long in omega arith
@@ -132,7 +131,7 @@ module _ (f : Packer) (nodes : List Node) (ready : AreReady f nodes) where
     -- each state's words begin at its place
     record Begins (s : ℕ) (u : Node) : Type 0 where
       begins : BeginsWith (drop (place_at f.plan nodes s) words) (node_format f.plan.trie.built f.plan.dense_depth u)
-          (alphabet_len f.plan.classes) (state_spelling f nodes s u)
+          (alphabet_len f.plan.classes) (packed_state f nodes s u)
       within : place_at f.plan nodes s < length words
       late : FAIL < place_at f.plan nodes s
       front_if : has_matches f.plan nodes u ≡ true → place_at f.plan nodes s < front_end f.plan nodes
@@ -144,17 +143,17 @@ module _ (f : Packer) (nodes : List Node) (ready : AreReady f nodes) where
         by : (t : Bool) → t ≡ has_matches f.plan nodes u → Begins s u
         by true is =
             let at = placed-at s u reached named true is in
-            let place = at.front refl in
+            let place = at.begins in
             let inside = at.front_within refl in
             let long = front-long in
             let dead_is = dead-long in
             let all = after.long in
             record {
               begins = rw after.same (begins-before (node_format f.plan.trie.built f.plan.dense_depth u)
-                  (alphabet_len f.plan.classes) (state_spelling f nodes s u) front after.pushed (place_at f.plan nodes s)
+                  (alphabet_len f.plan.classes) (packed_state f nodes s u) front after.pushed (place_at f.plan nodes s)
                   (omega arith)
                   (subst (λ (n : ℕ). BeginsWith (drop n front) (node_format f.plan.trie.built f.plan.dense_depth u)
-                  (alphabet_len f.plan.classes) (state_spelling f nodes s u))
+                  (alphabet_len f.plan.classes) (packed_state f nodes s u))
                   (let e : length dead + total (size_at f.plan nodes true) s ≡ place_at f.plan nodes s = omega arith in e)
                   (in_front.each s u reached named (sym is))));
               within = omega arith;
@@ -164,15 +163,15 @@ module _ (f : Packer) (nodes : List Node) (ready : AreReady f nodes) where
             }
         by false is =
             let at = placed-at s u reached named false is in
-            let place = at.back refl in
-            let ends = at.back_ends refl in
+            let place = at.begins in
+            let ends = at.ends in
             let long = front-long in
             let all = after.long in
             let grows = total-grows (size_at f.plan nodes false) (s + 1) (length nodes)
             (let below = slice_get_within nodes s u named in omega arith) in
             record {
               begins = subst (λ (n : ℕ). BeginsWith (drop n words) (node_format f.plan.trie.built f.plan.dense_depth u)
-                  (alphabet_len f.plan.classes) (state_spelling f nodes s u))
+                  (alphabet_len f.plan.classes) (packed_state f nodes s u))
                   (let e : length front + total (size_at f.plan nodes false) s ≡ place_at f.plan nodes s = omega arith in e)
                   (after.each s u reached named (sym is));
               within = omega arith;
@@ -185,7 +184,7 @@ module _ (f : Packer) (nodes : List Node) (ready : AreReady f nodes) where
     node-begins : (anchored : Anchored) (u : Node) → IsNode f.plan.trie.built.kind (plain_of f.plan.trie.built) u
         → BeginsWith (drop (number_at (places f nodes ready words) anchored u) words)
         (node_format f.plan.trie.built f.plan.dense_depth u) (alphabet_len f.plan.classes)
-        (spelling_at (packed f nodes ready words) (places f nodes ready words) anchored u)
+        (packed_at (packed f nodes ready words) (places f nodes ready words) anchored u)
     node-begins anchored None node = search (rules, append_assoc, begins-before)
     node-begins anchored (Some w) node =
         let at = has-place f nodes ready words anchored w node in
@@ -201,60 +200,64 @@ module _ (f : Packer) (nodes : List Node) (ready : AreReady f nodes) where
     has-none w is = search (rules, ltb-false, nil_from_length)
 
     -- what the spelling of a string lists
-    spelled-matches : (anchored : Anchored) (w : List ℕ)
-        → (spelling_at (packed f nodes ready words) (places f nodes ready words) anchored (Some w)).matches
+    format_words-matches : (anchored : Anchored) (w : List ℕ)
+        → (packed_at (packed f nodes ready words) (places f nodes ready words) anchored (Some w)).matches
         ≡ matches_of f.plan.trie.built No (Some w)
-    spelled-matches No [] = refl
-    spelled-matches Yes [] = refl
-    spelled-matches anchored (x ∷ w) = refl
+    format_words-matches No [] = refl
+    format_words-matches Yes [] = refl
+    format_words-matches anchored (x ∷ w) = refl
 
-    -- what stands at the number of a string
-    record StandsWithin (anchored : Anchored) (w : List ℕ) : Type 0 where
-      within : number_at (places f nodes ready words) anchored (Some w) < length words
-      late : FAIL < number_at (places f nodes ready words) anchored (Some w)
+    -- what the number of a string tells, and what its state lists
+    record ListsMatches (anchored : Anchored) (w : List ℕ) : Type 0 where
       matched : (number_at (places f nodes ready words) anchored (Some w) < front_end f.plan nodes)
           ↔ (matches_of f.plan.trie.built No (Some w) ≢ [])
       lists : match_list_at (packed f nodes ready words) (number_at (places f nodes ready words) anchored (Some w))
           ≡ matches_of f.plan.trie.built No (Some w)
 
+    lists-matches : (anchored : Anchored) (w : List ℕ) → IsNode f.plan.trie.built.kind (plain_of f.plan.trie.built) (Some w)
+        → FAIL < number_at (places f nodes ready words) anchored (Some w) → (t : Bool)
+        → (t ≡ true → number_at (places f nodes ready words) anchored (Some w) < front_end f.plan nodes)
+        → (t ≡ false → front_end f.plan nodes ≤ number_at (places f nodes ready words) anchored (Some w))
+        → has_matches f.plan nodes (Some w) ≡ t → ListsMatches anchored w
+    lists-matches anchored w node late true front_if back_if is =
+        let front = front_if refl in
+        record {
+          matched = (λ below. has-some w is, λ some. front);
+          lists = listed-format_words (packed f nodes ready words) (number_at (places f nodes ready words) anchored (Some w))
+              (node_format f.plan.trie.built f.plan.dense_depth (Some w))
+              (packed_at (packed f nodes ready words) (places f nodes ready words) anchored (Some w))
+              (node-begins anchored (Some w) node) (omega arith) (omega arith)
+              (λ none. has-some w is (sym (format_words-matches anchored w) ∙ none))
+              ∙ format_words-matches anchored w;
+        }
+    lists-matches anchored w node late false front_if back_if is =
+        let back = back_if refl in
+        record {
+          matched = (λ below. absurd (omega arith), λ some. absurd (some (has-none w is)));
+          lists = listed-none (packed f nodes ready words)
+              (number_at (places f nodes ready words) anchored (Some w)) (omega arith) ∙ sym (has-none w is);
+        }
+
+    -- what stands at the number of a string
+    record StandsWithin (anchored : Anchored) (w : List ℕ) : Type 0 where
+      within : number_at (places f nodes ready words) anchored (Some w) < length words
+      late : FAIL < number_at (places f nodes ready words) anchored (Some w)
+      listed : ListsMatches anchored w
+
     tells : (anchored : Anchored) (w : List ℕ) → IsNode f.plan.trie.built.kind (plain_of f.plan.trie.built) (Some w)
         → StandsWithin anchored w
-    tells anchored w node = by (has_matches f.plan nodes (Some w)) refl
-      where
-        by : (t : Bool) → has_matches f.plan nodes (Some w) ≡ t → StandsWithin anchored w
-        by true is =
-            let at = has-place f nodes ready words anchored w node in
-            let there = state-begins at.state (Some w) at.reached at.named in
-            let number = at.number in
-            let within = there.within in
-            let late = there.late in
-            let front = there.front_if is in
-            record {
-              within = omega arith;
-              late = omega arith;
-              matched = (λ below. has-some w is, λ some. omega arith);
-              lists = listed-spelled (packed f nodes ready words)
-                  (number_at (places f nodes ready words) anchored (Some w))
-                  (node_format f.plan.trie.built f.plan.dense_depth (Some w))
-                  (spelling_at (packed f nodes ready words) (places f nodes ready words) anchored (Some w))
-                  (node-begins anchored (Some w) node) (omega arith) (omega arith)
-                  (λ none. has-some w is (sym (spelled-matches anchored w) ∙ none))
-                  ∙ spelled-matches anchored w;
-            }
-        by false is =
-            let at = has-place f nodes ready words anchored w node in
-            let there = state-begins at.state (Some w) at.reached at.named in
-            let number = at.number in
-            let within = there.within in
-            let late = there.late in
-            let back = there.back_if is in
-            record {
-              within = omega arith;
-              late = omega arith;
-              matched = (λ below. absurd (omega arith), λ some. absurd (some (has-none w is)));
-              lists = listed-none (packed f nodes ready words)
-                  (number_at (places f nodes ready words) anchored (Some w)) (omega arith) ∙ sym (has-none w is);
-            }
+    tells anchored w node =
+        let at = has-place f nodes ready words anchored w node in
+        let there = state-begins at.state (Some w) at.reached at.named in
+        let number = at.number in
+        let within = there.within in
+        let late = there.late in
+        record {
+          within = omega arith;
+          late = omega arith;
+          listed = lists-matches anchored w node (omega arith) (has_matches f.plan nodes (Some w))
+              (λ is. let front = there.front_if is in omega arith) (λ is. let back = there.back_if is in omega arith) refl;
+        }
 
     -- two states of different nodes have two places
     unlike : (s t : ℕ) (u v : Node) → 2 ≤ s → 2 ≤ t → slice_get nodes s ≡ Some u → slice_get nodes t ≡ Some v → u ≢ v
@@ -284,6 +287,6 @@ module _ (f : Packer) (nodes : List Node) (ready : AreReady f nodes) where
       after = λ anchored w node. (tells anchored w node).late;
       longer = no-start;
       ended = let long = dead-long in omega arith;
-      matched = λ anchored w node. (tells anchored w node).matched;
-      lists = λ anchored w node. (tells anchored w node).lists;
+      matched = λ anchored w node. (tells anchored w node).listed.matched;
+      lists = λ anchored w node. (tells anchored w node).listed.lists;
     }

@@ -6,29 +6,29 @@ use Rattle.std.proofs.lemmas.Grind.{common_steps}
 use Rattle.ac_util.specs.declared.search.Anchored.{Anchored}
 use Rattle.ac_automaton.specs.Util.{class_at, depth, IsNode, No, Node, plain_byte, step, Yes}
 use Rattle.ac_util.proofs.Failures.{depth-failure}
-use Rattle.ac_automaton.specs.Prelude.{leads_on, looks_of, miss, own_bytes, plain_of, step_of}
-use Rattle.ac_automaton.proofs.Steps.{looks-on, step-miss, step-on}
-use Rattle.ac_engines.specs.Prelude.{AreNamed, ContiguousView, Edge, edges_of, FAIL, IsContiguous, number_at, Places, spelling_at, target_by}
+use Rattle.ac_automaton.specs.Prelude.{leads_on, looks_of, fallback, transition_bytes_of, plain_of, step_of}
+use Rattle.ac_automaton.proofs.Steps.{looks-on, step-fallback, step-on}
+use Rattle.ac_engines.specs.Prelude.{AreNamed, ContiguousView, Edge, edges_of, FAIL, IsContiguous, number_at, Places, packed_at, target_by}
 use Rattle.ac_engines.proofs.EdgeTargets.{no-target, own-target}
-use Rattle.ac_engines.proofs.Filled.{own_bytes-only}
+use Rattle.ac_engines.proofs.Filled.{transition_bytes_of-only}
 use Rattle.ac_engines.proofs.Numbers.{failure-node}
 
 -- where a class leads from a node, or FAIL
 abbrev pub target_of : ContiguousView → Places → Anchored → Node → ℕ → ℕ
 target_of p at anchored v b =
-    target_by (spelling_at p at anchored v).missing (spelling_at p at anchored v).edges (class_at p.classes b)
+    target_by (packed_at p at anchored v).default_target (packed_at p at anchored v).edges (class_at p.classes b)
 
 module _ (p : ContiguousView) (at : Places) (h : IsContiguous p at) where
   -- a byte leads there in any search where it leads in an anchored one
   abbrev own : Node → ℕ → Node
-  own v b = step p.built.kind (plain_of p.built) Yes v (plain_byte p.built.fold b)
+  own v b = step p.built.kind (plain_of p.built) Yes v (plain_byte p.built.ignores_case b)
 
   own-is : (w : List ℕ) (b : ℕ) → leads_on p.built (Some w) b ≡ true
-      → own (Some w) b ≡ Some (w ++ plain_byte p.built.fold b ∷ [])
-  own-is w b leads = cond-true (leads_on p.built (Some w) b) (Some (w ++ plain_byte p.built.fold b ∷ [])) None leads
+      → own (Some w) b ≡ Some (w ++ plain_byte p.built.ignores_case b ∷ [])
+  own-is w b leads = cond-true (leads_on p.built (Some w) b) (Some (w ++ plain_byte p.built.ignores_case b ∷ [])) None leads
 
   own-none : (w : List ℕ) (b : ℕ) → leads_on p.built (Some w) b ≡ false → own (Some w) b ≡ None
-  own-none w b none = cond-false (leads_on p.built (Some w) b) (Some (w ++ plain_byte p.built.fold b ∷ [])) None none
+  own-none w b none = cond-false (leads_on p.built (Some w) b) (Some (w ++ plain_byte p.built.ignores_case b ∷ [])) None none
 
   -- what a target says that isn't FAIL
   pub record Leads (anchored : Anchored) (v : Node) (b : ℕ) : Type 0 where
@@ -37,11 +37,11 @@ module _ (p : ContiguousView) (at : Places) (h : IsContiguous p at) where
 
   -- where an unanchored search goes on
   abbrev onward : Node → Node
-  onward v = miss p.built.kind (plain_of p.built) v
+  onward v = fallback p.built.kind (plain_of p.built) v
 
   -- it goes on at the failure target, which is shorter
   pub record StepsOn (v : Node) (b : ℕ) : Type 0 where
-    pub failure : (spelling_at p at No v).failure ≡ number_at at No (onward v)
+    pub failure : (packed_at p at No v).failure ≡ number_at at No (onward v)
     pub node : IsNode p.built.kind (plain_of p.built) (onward v)
     pub steps : step_of p.built No v b ≡ step_of p.built No (onward v) b
     pub looks : looks_of 2 p.built No v b ≡ 1 + looks_of 2 p.built No (onward v) b
@@ -55,7 +55,7 @@ module _ (p : ContiguousView) (at : Places) (h : IsContiguous p at) where
 
   -- the string that is longer by a byte
   abbrev longer : List ℕ → ℕ → List ℕ
-  longer w b = w ++ plain_byte p.built.fold b ∷ []
+  longer w b = w ++ plain_byte p.built.ignores_case b ∷ []
 
   longer-number : (anchored : Anchored) (w : List ℕ) (c : ℕ)
       → at.place (w ++ c ∷ []) ≡ number_at at anchored (Some (w ++ c ∷ []))
@@ -93,13 +93,13 @@ module _ (p : ContiguousView) (at : Places) (h : IsContiguous p at) where
   own-named w =
       All-map (λ (e : Edge). e.target ≢ FAIL) (λ b. record {
         class = class_at p.classes b;
-        target = at.place (w ++ plain_byte p.built.fold b ∷ []);
-      }) (own_bytes p.built (Some w)) (λ k d within.
-      let b = slice_index_or (own_bytes p.built (Some w)) k d in
-      after-fail No w (plain_byte p.built.fold b)
-      (own_bytes-only p.built (Some w) b (Contains-get_or (own_bytes p.built (Some w)) k d within)))
+        target = at.place (w ++ plain_byte p.built.ignores_case b ∷ []);
+      }) (transition_bytes_of p.built (Some w)) (λ k d within.
+      let b = slice_index_or (transition_bytes_of p.built (Some w)) k d in
+      after-fail No w (plain_byte p.built.ignores_case b)
+      (transition_bytes_of-only p.built (Some w) b (Contains-get_or (transition_bytes_of p.built (Some w)) k d within)))
 
-  pub are-named : (anchored : Anchored) (v : Node) → AreNamed (spelling_at p at anchored v).edges
+  pub are-named : (anchored : Anchored) (v : Node) → AreNamed (packed_at p at anchored v).edges
   are-named anchored None = λ k d within. absurd (omega arith)
   are-named No (Some []) = own-named []
   are-named Yes (Some []) = own-named []
@@ -124,7 +124,7 @@ module _ (p : ContiguousView) (at : Places) (h : IsContiguous p at) where
   home-is false = inr refl
 
   reads-start : (b : ℕ) → b < 256 → leads_on p.built (Some []) b ≡ false → ReadsStep No (Some []) b
-  reads-start b byte none = search (rules, home-is, home-not-fail, no-target, own-none, step-miss)
+  reads-start b byte none = search (rules, home-is, home-not-fail, no-target, own-none, step-fallback)
 
   reads-anchored : (w : List ℕ) (b : ℕ) → target_of p at Yes (Some w) b ≡ FAIL → leads_on p.built (Some w) b ≡ false
       → ReadsStep Yes (Some w) b
@@ -138,8 +138,8 @@ module _ (p : ContiguousView) (at : Places) (h : IsContiguous p at) where
         common_steps,
         own-none (x ∷ w) b none,
         failure-node p.built.kind (plain_of p.built) x w,
-        step-on p.built.kind (plain_of p.built) (Some (x ∷ w)) (plain_byte p.built.fold b) (own-none (x ∷ w) b none) (omega arith),
-        looks-on p.built.kind (plain_of p.built) (Some (x ∷ w)) (plain_byte p.built.fold b) (own-none (x ∷ w) b none) (omega arith),
+        step-on p.built.kind (plain_of p.built) (Some (x ∷ w)) (plain_byte p.built.ignores_case b) (own-none (x ∷ w) b none) (omega arith),
+        looks-on p.built.kind (plain_of p.built) (Some (x ∷ w)) (plain_byte p.built.ignores_case b) (own-none (x ∷ w) b none) (omega arith),
         no-target,
         depth-failure,
       )

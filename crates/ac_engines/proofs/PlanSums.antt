@@ -1,5 +1,5 @@
 -- The places of a plan's states, by the sums of their sizes.
-use Rattle.std.proofs.Common.{◌≡◌, ℕ, zero, suc, ◌+◌, ◌*◌, ◌<◌, ◌≤◌, Bool, true, false, cond, List, [], ◌∷◌, ◌++◌, length, None, Some, refl, arith, slice_get, slice_index_or, rules}
+use Rattle.std.proofs.Common.{◌≡◌, ℕ, zero, suc, ◌+◌, ◌*◌, ◌<◌, ◌≤◌, Bool, true, false, cond, List, [], ◌∷◌, ◌++◌, length, None, Some, refl, sym, ◌∙◌, length-append, arith, slice_get, slice_index_or, rules}
 use Rattle.std.proofs.lemmas.Bool.{cond-false, le-ltb}
 use Rattle.std.proofs.lemmas.Option.{slice_get-get_or}
 use Rattle.std.proofs.lemmas.Grind.{common_steps}
@@ -74,15 +74,21 @@ module _ (q : PackPlan) (nodes : List Node) where
         → 2 ≤ s → s < n → sid ≡ s → HasWords q sid
     has-words p n s sid same states reached below at = search (rules, named-below p n s same states below)
 
-    -- what stands in front lies within the words of the plan
-    pub front-within : (s : ℕ) → s ≤ length nodes → size_of q nodes None + before q nodes true s
-        ≤ packed_words q.trie.built q.dense_depth (alphabet_len q.classes)
-    front-within s le = omega (arith, total-grows (size_at q nodes true) s (length nodes) le, sizes-whole)
+    module _ (p : PackPlan) (n s : ℕ) (same : p ≡ q) (states : n ≡ state_count p.trie.built.kind (plain_of p.trie.built))
+        (below : s < n) where
+      -- the states before one take no more words than all
+      grows : (front : Bool) → before q nodes front s ≤ before q nodes front (length nodes)
+      grows front = total-grows (size_at q nodes front) s (length nodes) (omega (arith, plan-states p q nodes n may same states, below))
 
-    -- and so does what stands after it
-    pub back-within : (s : ℕ) → s ≤ length nodes → front_end q nodes + before q nodes false s
-        ≤ packed_words q.trie.built q.dense_depth (alphabet_len q.classes)
-    back-within s le = omega (arith, total-grows (size_at q nodes false) s (length nodes) le, sizes-whole)
+      -- what stands in front lies within the words of the plan
+      pub front-within : size_of q nodes None + before q nodes true s
+          ≤ packed_words q.trie.built q.dense_depth (alphabet_len q.classes)
+      front-within = omega (arith, grows true, sizes-whole)
+
+      -- and so does what stands after it
+      pub back-within : front_end q nodes + before q nodes false s
+          ≤ packed_words q.trie.built q.dense_depth (alphabet_len q.classes)
+      back-within = omega (arith, grows false, sizes-whole)
 
   -- the first two states stand at 0
   pub places-first : (s : ℕ) → s < 2 → slice_index_or (0 ∷ 0 ∷ []) s 0 ≡ place_at q nodes s
@@ -91,7 +97,30 @@ module _ (q : PackPlan) (nodes : List Node) where
   places-first (suc (suc s)) below = absurd (omega arith)
 
   -- one place more
-  pub places-more : (numbers : List ℕ) (s n : ℕ) → length numbers ≡ s
+  places-more : (numbers : List ℕ) (s n : ℕ) → length numbers ≡ s
       → ((t : ℕ) → t < s → slice_index_or numbers t 0 ≡ place_at q nodes t) → n ≡ place_at q nodes s
       → (t : ℕ) → t < s + 1 → slice_index_or (numbers ++ n ∷ []) t 0 ≡ place_at q nodes t
   places-more numbers s n count each next t below = grind (arith, common_steps)
+
+  -- the states before one have their places, and where the next ones follow in front and after
+  pub record ArePlaced (s : ℕ) (numbers : List ℕ) (front back : ℕ) : Type 0 where
+    pub count : length numbers ≡ s
+    pub each : (t : ℕ) → t < s → slice_index_or numbers t 0 ≡ place_at q nodes t
+    pub front_is : front ≡ size_of q nodes None + before q nodes true s
+    pub back_is : back ≡ front_end q nodes + before q nodes false s
+
+  -- one more follows those on its side
+  pub placed-more : (s : ℕ) (numbers : List ℕ) (front back : ℕ) → ArePlaced s numbers front back → (t : Bool) (words : ℕ)
+      → TakesSize q nodes s t words → (new_front new_back : ℕ) → new_front ≡ front + cond t words 0
+      → new_back ≡ back + cond t 0 words → ArePlaced (s + 1) (numbers ++ cond t front back ∷ []) new_front new_back
+  placed-more s numbers front back are t words step new_front new_back fronts backs = record {
+    count = omega (arith, length-append numbers (cond t front back ∷ []), are.count);
+    each = places-more numbers s (cond t front back) are.count are.each (on_side t (sym step.place));
+    front_is = omega (arith, are.front_is, step.front, fronts);
+    back_is = omega (arith, are.back_is, step.back, backs);
+  }
+    where
+      on_side : (b : Bool) → cond b (size_of q nodes None + before q nodes true s) (front_end q nodes + before q nodes false s)
+          ≡ place_at q nodes s → cond b front back ≡ place_at q nodes s
+      on_side true is = are.front_is ∙ is
+      on_side false is = are.back_is ∙ is

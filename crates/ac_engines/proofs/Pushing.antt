@@ -6,11 +6,11 @@ use Rattle.std.proofs.lemmas.Option.{slice_get_within}
 use Rattle.ac_automaton.specs.Util.{alphabet_len, Node}
 use Rattle.ac_automaton.specs.declared.nfa.noncontiguous.state.TheConstants.{START}
 use Rattle.ac_automaton.proofs.Places.{get-same}
-use Rattle.ac_engines.specs.Prelude.{AreReady, BeginsWith, has_matches, HasPushedWords, node_format, Packer, size_at, size_of, state_spelling, state_words}
+use Rattle.ac_engines.specs.Prelude.{AreReady, BeginsWith, has_matches, HasPushedWords, node_format, Packer, size_at, size_of, packed_state, state_words}
 use Rattle.ac_engines.proofs.PackedSums.{total-grows}
 use Rattle.ac_engines.proofs.PlanSums.{before, before-starts, takes}
-use Rattle.ac_engines.proofs.PushedStates.{begins-before, begins-after, length-spelled}
-use Rattle.ac_engines.proofs.StateSpellings.{edges-count, matches-spelled, state-spells}
+use Rattle.ac_engines.proofs.PushedStates.{begins-before, begins-after, length-format_words}
+use Rattle.ac_engines.proofs.PackedNodes.{edges-count, matches-format_words, state-spells}
 
 module _ (f : Packer) (nodes : List Node) where
   -- the states before one that are asked for were pushed: each stands after those before it
@@ -21,7 +21,7 @@ module _ (f : Packer) (nodes : List Node) where
     pub each : (s : ℕ) (u : Node) → START ≤ s → s < state → slice_get nodes s ≡ Some u
         → has_matches f.plan nodes u ≡ front
         → BeginsWith (drop (length old + before f.plan nodes front s) new)
-        (node_format f.plan.trie.built f.plan.dense_depth u) (alphabet_len f.plan.classes) (state_spelling f nodes s u)
+        (node_format f.plan.trie.built f.plan.dense_depth u) (alphabet_len f.plan.classes) (packed_state f nodes s u)
 
   -- none was pushed at first
   pub pushed-none : (front : Bool) (words : List ℕ) → HasPushedUpTo front 2 words words
@@ -36,7 +36,7 @@ module _ (f : Packer) (nodes : List Node) where
       (named : slice_get nodes s ≡ Some u) where
     -- a state takes as many words as its node
     length-state_words : length (state_words f nodes s u) ≡ size_of f.plan nodes u
-    length-state_words = search (rules, edges-count, length-spelled, matches-spelled, state-spells)
+    length-state_words = search (rules, edges-count, length-format_words, matches-format_words, state-spells)
 
     -- one that is asked for takes up its words
     grows-asked : (wanted : Bool) → has_matches f.plan nodes u ≡ wanted
@@ -93,7 +93,7 @@ module _ (f : Packer) (nodes : List Node) where
               let most = total-grows (size_at f.plan nodes front) t s (omega arith) in
               let long = h.long in
               rw now (begins-before (node_format f.plan.trie.built f.plan.dense_depth v) (alphabet_len f.plan.classes)
-              (state_spelling f nodes t v) words (state_words f nodes s u)
+              (packed_state f nodes t v) words (state_words f nodes s u)
               (length old + before f.plan nodes front t) (omega arith) (h.each t v from less is has))
           | inr more ↦
               let at : t ≡ s = omega arith in
@@ -101,7 +101,7 @@ module _ (f : Packer) (nodes : List Node) where
               let spells = state-spells f nodes ready s u reached named in
               rw (at, sym same, sym h.long)
               (begins-after (node_format f.plan.trie.built f.plan.dense_depth u) (alphabet_len f.plan.classes)
-              (state_spelling f nodes s u) words new now spells.fits spells.few spells.below spells.ascending
+              (packed_state f nodes s u) words new now spells.fits spells.few spells.below spells.ascending
               spells.few_matches spells.numbers)
         ];
       }

@@ -6,7 +6,7 @@ use Rattle.std.proofs.lemmas.Grind.{common_steps}
 use Rattle.ac_util.specs.declared.search.Anchored.{Anchored}
 use Rattle.ac_automaton.specs.Util.{Both, No, Node, start_refusal, StartKind, Unanchored, Yes}
 use Rattle.ac_util.specs.declared.search.StartKind.TheVariants.{Anchored as AnchoredAlone}
-use Rattle.ac_engines.specs.Prelude.{FilledUpTo, Filling, HasFilled, HasRow, IsFilled, MayFill, MayFillRow, row_at, SameBeside, Sheet, sheet_of, width}
+use Rattle.ac_engines.specs.Prelude.{FilledUpTo, Filling, HasFilled, HasRow, IsFilled, MayFill, MayFillRow, row_at, SameBeside, RowInput, row_input, width}
 use Rattle.ac_engines.proofs.Filled.{filled-beside}
 use Rattle.ac_engines.proofs.Numbered.{place-row}
 use Rattle.ac_engines.proofs.Owning.{anchored_shift-most}
@@ -15,8 +15,8 @@ use Rattle.ac_engines.proofs.StateRows.{has-row, narrow, row-anchored_shift, row
 
 module _ (f : Filling) (nodes : List Node) (size s : ℕ) (w : List ℕ) (h : HasRow f nodes size s w) where
   -- the sheet of the table
-  abbrev p : Sheet
-  p = sheet_of f nodes
+  abbrev p : RowInput
+  p = row_input f nodes
 
   -- where the rows of this state are filled and nothing else, those of all up to it are
   pub filled-on : (old new : List ℕ) → FilledUpTo f nodes size s old → length new ≡ length old

@@ -82,9 +82,8 @@ module _ (built : Built) (u : Node) where
   row_lists-at Both No h = refl
   row_lists-at Both Yes h = refl
   row_lists-at Unanchored No h = refl
-  row_lists-at Unanchored Yes h = absurd cc
-  row_lists-at AnchoredAlone No h = absurd cc
   row_lists-at AnchoredAlone Yes h = refl
+  row_lists-at start_kind anchored h = absurd cc
 
 module _ (built : Built) where
   -- so do those of the start
@@ -94,27 +93,20 @@ module _ (built : Built) where
   first_lists-at Both No h = refl
   first_lists-at Both Yes h = refl
   first_lists-at Unanchored No h = refl
-  first_lists-at Unanchored Yes h = absurd cc
-  first_lists-at AnchoredAlone No h = absurd cc
   first_lists-at AnchoredAlone Yes h = refl
+  first_lists-at start_kind anchored h = absurd cc
 
   -- the first two are empty
   pub first_lists-empty : (start_kind : StartKind) (k : ℕ) → k < 2 → slice_index_or (first_lists start_kind built) k [] ≡ []
-  first_lists-empty Both zero h = refl
-  first_lists-empty Both (suc zero) h = refl
-  first_lists-empty Both (suc (suc k)) h = absurd (omega arith)
-  first_lists-empty Unanchored zero h = refl
-  first_lists-empty Unanchored (suc zero) h = refl
-  first_lists-empty Unanchored (suc (suc k)) h = absurd (omega arith)
-  first_lists-empty AnchoredAlone zero h = refl
-  first_lists-empty AnchoredAlone (suc zero) h = refl
-  first_lists-empty AnchoredAlone (suc (suc k)) h = absurd (omega arith)
+  first_lists-empty start_kind zero h = refl
+  first_lists-empty start_kind (suc zero) h = refl
+  first_lists-empty start_kind (suc (suc k)) h = absurd (omega arith)
 
   -- all four are where the start has no matches
   pub first_lists-none : (start_kind : StartKind) → ((anchored : Anchored) → matches_of built anchored (Some []) ≡ [])
       → (k : ℕ) → k < 4 → slice_index_or (first_lists start_kind built) k [] ≡ []
-  first_lists-none start_kind none zero h = first_lists-empty start_kind 0 (omega arith)
-  first_lists-none start_kind none (suc zero) h = first_lists-empty start_kind 1 (omega arith)
+  first_lists-none start_kind none zero h = refl
+  first_lists-none start_kind none (suc zero) h = refl
   first_lists-none Both none (suc (suc zero)) h = none No
   first_lists-none Both none (suc (suc (suc zero))) h = none Yes
   first_lists-none Unanchored none (suc (suc zero)) h = none No

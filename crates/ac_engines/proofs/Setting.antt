@@ -6,7 +6,7 @@ use Rattle.std.proofs.lemmas.List.Elements.{Contains-append_cases, Contains-appe
 use Rattle.ac_util.specs.declared.search.Anchored.{Anchored}
 use Rattle.ac_automaton.specs.Util.{alphabet_len, class_at, plain_byte}
 use Rattle.ac_util.proofs.Lists.{IsIn-from_Contains}
-use Rattle.ac_engines.specs.Dfa.Filling.{HasSet, Sheet, row_at}
+use Rattle.ac_engines.specs.Dfa.Filling.{HasSet, RowInput, row_at}
 
 Contains-one : (a b : ℕ) → Contains (b ∷ []) a → a ≡ b
 Contains-one a b h = elim (IsIn-from_Contains a (b ∷ []) h) [ inl same ↦ sym same | inr none ↦ absurd none ]
@@ -14,7 +14,7 @@ Contains-one a b h = elim (IsIn-from_Contains a (b ∷ []) h) [ inl same ↦ sym
 Contains-own : (a b : ℕ) → a ≡ b → Contains (b ∷ []) a
 Contains-own a b same = (0, omega arith, sym same)
 
-module _ (p : Sheet) (anchored : Anchored) (w : List ℕ)
+module _ (p : RowInput) (anchored : Anchored) (w : List ℕ)
     (below : (b : ℕ) → b < 256 → class_at p.classes b < alphabet_len p.classes) where
   -- the row begins here
   abbrev row : ℕ
@@ -24,7 +24,7 @@ module _ (p : Sheet) (anchored : Anchored) (w : List ℕ)
   pub set-more : (bytes : List ℕ) (b v : ℕ) (old now : List ℕ) → b < 256
       → ((a : ℕ) → a < 256 → class_at p.classes a ≡ class_at p.classes b → a ≡ b)
       → row_at p anchored (Some w) + class_at p.classes b < length now
-      → v ≡ row_at p anchored (Some (w ++ plain_byte p.built.fold b ∷ []))
+      → v ≡ row_at p anchored (Some (w ++ plain_byte p.built.ignores_case b ∷ []))
       → HasSet p anchored w bytes old now
       → HasSet p anchored w (bytes ++ b ∷ []) old (slice_set now (row_at p anchored (Some w) + class_at p.classes b) v)
   set-more bytes b v old now byte alone within e h =

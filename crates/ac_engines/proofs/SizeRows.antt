@@ -2,7 +2,7 @@
 use Rattle.std.specs.Prelude.{◌≡◌, ℕ, ◌*◌, Bool, true, false, List, [], ◌∷◌, codes, map, refl}
 use Rattle.ac_automaton.specs.Util.{alphabet_len, Both, Built, class_of, classes_of, LeftmostFirst, MatchKind, singletons, Standard, StartKind, state_count, stride, stride2, Unanchored}
 use Rattle.ac_util.specs.declared.search.StartKind.TheVariants.{Anchored as AnchoredAlone}
-use Rattle.ac_automaton.specs.Prelude.{own_bytes, plain_of}
+use Rattle.ac_automaton.specs.Prelude.{transition_bytes_of, plain_of}
 use Rattle.ac_engines.specs.Prelude.{classes_by, Dense, packed_words, Sparse, table_rows, words_of_state}
 
 -- three patterns, two of which begin alike, and one alone
@@ -13,7 +13,7 @@ abbrev alone : List (List ℕ)
 alone = codes "abcd" ∷ []
 
 abbrev built_of : MatchKind → Bool → List (List ℕ) → Built
-built_of kind fold patterns = record { patterns = patterns; fold = fold; kind = kind; start_kind = Both }
+built_of kind ignores_case patterns = record { patterns = patterns; ignores_case = ignores_case; kind = kind; start_kind = Both }
 
 -- a dense depth, and how many words there are where bytes share classes
 abbrev TakesWords : MatchKind → List (List ℕ) → List (ℕ × ℕ) → Type 0
@@ -34,32 +34,32 @@ TakesEntries kind patterns rows =
     * stride (classes_by true false patterns)) rows ≡ map (λ row. row.1) rows
 
 words-none : TakesWords Standard [] ((2, 9) ∷ [])
-unfolding own_bytes classes_of class_of
+unfolding transition_bytes_of classes_of class_of
 words-none = refl
 
 words-three : TakesWords Standard three ((2, 54) ∷ [])
-unfolding own_bytes classes_of class_of
+unfolding transition_bytes_of classes_of class_of
 words-three = refl
 
 words-first : TakesWords LeftmostFirst three ((2, 49) ∷ [])
-unfolding own_bytes classes_of class_of
+unfolding transition_bytes_of classes_of class_of
 words-first = refl
 
 words-alone : TakesWords Standard alone ((0, 36) ∷ (1, 36) ∷ (2, 41) ∷ (6, 57) ∷ [])
-unfolding own_bytes classes_of class_of
+unfolding transition_bytes_of classes_of class_of
 words-alone = refl
 
 words-empty : TakesWords Standard ([] ∷ []) ((2, 11) ∷ [])
-unfolding own_bytes classes_of class_of
+unfolding transition_bytes_of classes_of class_of
 words-empty = refl
 
 words-empty-twice : TakesWords Standard ([] ∷ [] ∷ []) ((0, 15) ∷ [])
-unfolding own_bytes classes_of class_of
+unfolding transition_bytes_of classes_of class_of
 words-empty-twice = refl
 
 -- each letter leads on in both cases
 words-folded : TakesFoldedWords (codes "ab" ∷ []) ((2, true, 39) ∷ (0, true, 35) ∷ (0, false, 782) ∷ [])
-unfolding own_bytes classes_of class_of singletons
+unfolding transition_bytes_of classes_of class_of singletons
 words-folded = refl
 
 -- a state of 127 transitions and one of 128, over 131 classes

@@ -4,7 +4,7 @@ use Rattle.std.proofs.lemmas.Option.{slice_get_within}
 use Rattle.std.proofs.lemmas.Grind.{common_steps}
 use Rattle.ac_automaton.specs.Util.{Both, class_at, failure, MatchKind, No, Node, StartKind, Unanchored}
 use Rattle.ac_util.specs.declared.search.StartKind.TheVariants.{Anchored as AnchoredAlone}
-use Rattle.ac_engines.specs.Prelude.{anchored_shift, Filling, HasRow, MayFill, row_at, sheet_of, width}
+use Rattle.ac_engines.specs.Prelude.{anchored_shift, Filling, HasRow, MayFill, row_at, row_input, width}
 use Rattle.ac_engines.proofs.Numbered.{place-inner, place-start}
 
 -- an unanchored row stands at the place of its state
@@ -20,7 +20,7 @@ module _ (f : Filling) (nodes : List Node) (size : ℕ) (may : MayFill f nodes s
 
   -- the number of a state is where the unanchored row of its node begins
   pub row-of : (t : ℕ) (u : Node) → slice_get nodes t ≡ Some u → t ≢ 3
-      → slice_index_or f.numbers t 0 ≡ row_at (sheet_of f nodes) No u
+      → slice_index_or f.numbers t 0 ≡ row_at (row_input f nodes) No u
   row-of zero None named other = may.laid.dead
   row-of zero (Some w) named other = let dead = may.are_nodes.dead in absurd cc
   row-of (suc zero) None named other = may.laid.unreached
@@ -51,8 +51,8 @@ module _ (f : Filling) (nodes : List Node) (size : ℕ) (may : MayFill f nodes s
 
   -- the rows of two states stand apart
   pub rows-apart : (s t : ℕ) → (s ≡ 2) ⊎ (4 ≤ s) → 4 ≤ t → s < t → t < length f.numbers
-      → (slice_index_or f.numbers s 0 + width (sheet_of f nodes) ≤ slice_index_or f.numbers t 0)
-      ⊎ (slice_index_or f.numbers t 0 + width (sheet_of f nodes) ≤ slice_index_or f.numbers s 0)
+      → (slice_index_or f.numbers s 0 + width (row_input f nodes) ≤ slice_index_or f.numbers t 0)
+      ⊎ (slice_index_or f.numbers t 0 + width (row_input f nodes) ≤ slice_index_or f.numbers s 0)
   rows-apart s t (inl start) inner order there = grind (arith, common_steps)
   rows-apart s t (inr other) inner order there = may.laid.apart s t other order there
 

@@ -8,9 +8,9 @@ use Rattle.std.proofs.lemmas.List.{get_or_append_left}
 use Rattle.std.proofs.lemmas.List.Elements.{All-drop}
 use Rattle.std.proofs.lemmas.List.FromFn.{length-map-range_with_len}
 use Rattle.std.proofs.lemmas.Grind.{common_steps}
-use Rattle.ac_engines.specs.Prelude.{BeginsWith, class_of_place, class_words, Dense, Edge, edges_from, Format, One, packed_class, Sparse, Spelling, target_by, spelled_transitions, word_of}
+use Rattle.ac_engines.specs.Prelude.{BeginsWith, class_of_place, class_words, Dense, Edge, edges_from, Format, One, packed_class, Sparse, PackedState, target_by, transitions_of_state, word_of}
 use Rattle.ac_engines.proofs.ClassWords.{edge_classes, targets_of}
-use Rattle.ac_engines.proofs.Spellings.{after, dense-words, form, form-dense, form-one, form-sparse, one-words, splits-at}
+use Rattle.ac_engines.proofs.PackedWords.{after, dense-words, form, form-dense, form-one, form-sparse, one-words, splits-at}
 
 -- the targets of transitions, by the classes of these, make up the transitions
 edges-from : (class_of : ℕ → ℕ) (place : ℕ) (es : List Edge)
@@ -88,20 +88,20 @@ packed-class (a ∷ b ∷ c ∷ d ∷ es) place small low =
     (λ k after. packed-class es k (All-drop (λ e. e.class < 256) 4 (a ∷ b ∷ c ∷ d ∷ es) small)
     (omega (arith, low, after)))
 
-module _ (words : List ℕ) (classes : ℕ) (s : Spelling) (targets : List ℕ) where
+module _ (words : List ℕ) (classes : ℕ) (s : PackedState) (targets : List ℕ) where
   -- a dense state has a target for each class
   pub dense-transitions : (format : Format) → BeginsWith words format classes s → form words classes s ≡ 255
       → targets ≡ take classes (drop 2 words)
-      → edges_from (class_of_place None) 0 targets ≡ spelled_transitions format classes s
+      → edges_from (class_of_place None) 0 targets ≡ transitions_of_state format classes s
   dense-transitions Dense h tells are =
-      grind (arith, common_steps, dense-words words classes s h, edges-of-all (target_by s.missing s.edges) 0 classes, length-map-range_with_len)
+      grind (arith, common_steps, dense-words words classes s h, edges-of-all (target_by s.default_target s.edges) 0 classes, length-map-range_with_len)
   dense-transitions One h tells are = let one = form-one words classes s h in absurd (omega (arith, one, tells))
   dense-transitions Sparse h tells are = grind (arith, common_steps, form-sparse words classes s h)
 
   -- a state with one transition has one target, and its class stands beside the form
   pub one-transition : (format : Format) (class : ℕ) → BeginsWith words format classes s → form words classes s ≡ 254
       → class ≡ slice_index_or words 0 0 / 256 % 256 → targets ≡ take 1 (drop 2 words)
-      → edges_from (class_of_place None) class targets ≡ spelled_transitions format classes s
+      → edges_from (class_of_place None) class targets ≡ transitions_of_state format classes s
   unfolding edges_from
   one-transition Dense class h tells is are =
       let dense = form-dense words classes s h in absurd (omega (arith, dense, tells))
@@ -129,7 +129,7 @@ module _ (words : List ℕ) (classes : ℕ) (s : Spelling) (targets : List ℕ) 
       → BeginsWith words format classes s → transitions ≡ form words classes s → transitions ≢ 255 → transitions ≢ 254
       → count ≡ div_ceil transitions 4 → front.now ≡ take count (after words classes s)
       → targets ≡ take transitions (drop count (after words classes s))
-      → edges_from (class_of_place (Some front)) 0 targets ≡ spelled_transitions format classes s
+      → edges_from (class_of_place (Some front)) 0 targets ≡ transitions_of_state format classes s
   sparse-transitions Dense transitions count front h is dense one words_are front_is are =
       absurd (dense (is ∙ form-dense words classes s h))
   sparse-transitions One transitions count front h is dense one words_are front_is are =

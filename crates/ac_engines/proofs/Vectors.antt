@@ -1,16 +1,26 @@
 -- States whose words are written by hand.
-use Rattle.std.proofs.Common.{refl, ℕ, zero, suc, ◌+◌, ◌<◌, [], ◌∷◌, arith, All, slice_index, slice_index_or}
-use Rattle.ac_engines.specs.Prelude.{AreNamed, BeginsWith, class_words, Dense, Edge, FAIL, One, ONE_MATCH, Sparse, spelled, Spelling, target_by}
+use Rattle.std.proofs.Common.{refl, ◌≡◌, ℕ, zero, suc, ◌+◌, ◌<◌, ◌≤◌, ◌≢◌, List, [], ◌∷◌, ◌++◌, length, map, arith, All, slice_index, slice_index_or}
+use Rattle.std.specs.List.Sorted.{IsStrictlyIncreasing}
+use Rattle.ac_engines.specs.Contiguous.Words.{Fits}
+use Rattle.ac_engines.specs.Prelude.{AreNamed, BeginsWith, class_words, Dense, Edge, FAIL, Format, One, ONE_MATCH, Sparse, format_words, PackedState, target_by}
 
 -- a transition
 abbrev edge : ℕ → ℕ → Edge
 edge class target = record { class = class; target = target }
 
+-- words that are those of a state, and no more
+by_hand : (words : List ℕ) (format : Format) (classes : ℕ) (s : PackedState) → words ≡ format_words format classes s ++ []
+    → Fits format s → classes ≤ 256 → All (λ e. e.class < classes) s.edges
+    → IsStrictlyIncreasing (map (λ e. e.class) s.edges) → length s.matches < ONE_MATCH
+    → ((k : ℕ) → slice_index_or s.matches k 0 < ONE_MATCH) → BeginsWith words format classes s
+by_hand words format classes s are fits few below up some numbers =
+    record { rest = []; words_are = are; fits = fits; few = few; below = below; ascending = up; few_matches = some; numbers = numbers }
+
 -- five transitions and one match
-abbrev pub five_edges : Spelling
+abbrev pub five_edges : PackedState
 five_edges = record {
   failure = 40;
-  missing = FAIL;
+  default_target = FAIL;
   edges = edge 3 100 ∷ edge 7 110 ∷ edge 9 120 ∷ edge 12 130 ∷ edge 20 140 ∷ [];
   matches = 6 ∷ [];
 }
@@ -23,43 +33,33 @@ five-ascend (suc (suc zero)) low = omega arith
 five-ascend (suc (suc (suc zero))) low = omega arith
 five-ascend (suc (suc (suc (suc k)))) low = absurd (omega (arith, low))
 
-five-below : All (λ e. e.class < 131) five_edges.edges
-five-below zero d low = omega arith
-five-below (suc zero) d low = omega arith
-five-below (suc (suc zero)) d low = omega arith
-five-below (suc (suc (suc zero))) d low = omega arith
-five-below (suc (suc (suc (suc zero)))) d low = omega arith
-five-below (suc (suc (suc (suc (suc k))))) d low = absurd (omega (arith, low))
+five-each : (k : ℕ) (d : Edge) → k < 5
+    → ((slice_index_or five_edges.edges k d).class < 131) × ((slice_index_or five_edges.edges k d).target ≢ FAIL)
+five-each zero d low = (omega arith, omega arith)
+five-each (suc zero) d low = (omega arith, omega arith)
+five-each (suc (suc zero)) d low = (omega arith, omega arith)
+five-each (suc (suc (suc zero))) d low = (omega arith, omega arith)
+five-each (suc (suc (suc (suc zero)))) d low = (omega arith, omega arith)
+five-each (suc (suc (suc (suc (suc k))))) d low = absurd (omega (arith, low))
 
 pub five-named : AreNamed five_edges.edges
-five-named zero d low = omega arith
-five-named (suc zero) d low = omega arith
-five-named (suc (suc zero)) d low = omega arith
-five-named (suc (suc (suc zero))) d low = omega arith
-five-named (suc (suc (suc (suc zero)))) d low = omega arith
-five-named (suc (suc (suc (suc (suc k))))) d low = absurd (omega (arith, low))
+five-named k d low = (five-each k d low).1
 
 six-numbers : (k : ℕ) → slice_index_or (6 ∷ []) k 0 < ONE_MATCH
 six-numbers zero = omega arith
 six-numbers (suc k) = omega arith
 
-pub sparse-begins : BeginsWith
-    (5 ∷ 40 ∷ 201918211 ∷ 336860180 ∷ 100 ∷ 110 ∷ 120 ∷ 130 ∷ 140 ∷ 2147483654 ∷ []) Sparse 131 five_edges
-unfolding spelled class_words
-sparse-begins = record {
-  rest = [];
-  words_are = refl;
-  fits = (omega arith, refl);
-  few = omega arith;
-  below = five-below;
-  ascending = five-ascend;
-  few_matches = omega arith;
-  numbers = six-numbers;
-}
+abbrev pub sparse_words : List ℕ
+sparse_words = 5 ∷ 40 ∷ 201918211 ∷ 336860180 ∷ 100 ∷ 110 ∷ 120 ∷ 130 ∷ 140 ∷ 2147483654 ∷ []
+
+pub sparse-begins : BeginsWith sparse_words Sparse 131 five_edges
+unfolding format_words class_words
+sparse-begins =
+    by_hand _ _ _ _ refl (omega arith, refl) (omega arith) (λ k d low. (five-each k d low).0) five-ascend (omega arith) six-numbers
 
 -- one transition
-abbrev pub one_edge : Spelling
-one_edge = record { failure = 40; missing = FAIL; edges = edge 9 100 ∷ []; matches = [] }
+abbrev pub one_edge : PackedState
+one_edge = record { failure = 40; default_target = FAIL; edges = edge 9 100 ∷ []; matches = [] }
 
 no-numbers : (k : ℕ) → slice_index_or [] k 0 < ONE_MATCH
 no-numbers zero = omega arith
@@ -73,21 +73,12 @@ one-below zero d low = omega arith
 one-below (suc k) d low = absurd (omega (arith, low))
 
 pub one-begins : BeginsWith (2558 ∷ 40 ∷ 100 ∷ []) One 131 one_edge
-unfolding spelled
-one-begins = record {
-  rest = [];
-  words_are = refl;
-  fits = (refl, refl, refl);
-  few = omega arith;
-  below = one-below;
-  ascending = one-ascends 9;
-  few_matches = omega arith;
-  numbers = no-numbers;
-}
+unfolding format_words
+one-begins = by_hand _ _ _ _ refl (refl, refl, refl) (omega arith) one-below (one-ascends 9) (omega arith) no-numbers
 
 -- three classes, one of them with a transition, and three matches
-abbrev pub three_classes : Spelling
-three_classes = record { failure = 40; missing = FAIL; edges = edge 1 100 ∷ []; matches = 6 ∷ 2 ∷ 9 ∷ [] }
+abbrev pub three_classes : PackedState
+three_classes = record { failure = 40; default_target = FAIL; edges = edge 1 100 ∷ []; matches = 6 ∷ 2 ∷ 9 ∷ [] }
 
 three-numbers : (k : ℕ) → slice_index_or (6 ∷ 2 ∷ 9 ∷ []) k 0 < ONE_MATCH
 three-numbers zero = omega arith
@@ -100,35 +91,19 @@ three-below zero d low = omega arith
 three-below (suc k) d low = absurd (omega (arith, low))
 
 pub dense-begins : BeginsWith (255 ∷ 40 ∷ 1 ∷ 100 ∷ 1 ∷ 3 ∷ 6 ∷ 2 ∷ 9 ∷ []) Dense 3 three_classes
-unfolding spelled target_by
-dense-begins = record {
-  rest = [];
-  words_are = refl;
-  fits = tt;
-  few = omega arith;
-  below = three-below;
-  ascending = one-ascends 1;
-  few_matches = omega arith;
-  numbers = three-numbers;
-}
+unfolding format_words target_by
+dense-begins = by_hand _ _ _ _ refl tt (omega arith) three-below (one-ascends 1) (omega arith) three-numbers
 
 -- no transition and one match
-abbrev pub no_edges : Spelling
-no_edges = record { failure = 40; missing = FAIL; edges = []; matches = 0 ∷ [] }
+abbrev pub no_edges : PackedState
+no_edges = record { failure = 40; default_target = FAIL; edges = []; matches = 0 ∷ [] }
 
 zero-numbers : (k : ℕ) → slice_index_or (0 ∷ []) k 0 < ONE_MATCH
 zero-numbers zero = omega arith
 zero-numbers (suc k) = omega arith
 
 pub bare-begins : BeginsWith (0 ∷ 40 ∷ 2147483648 ∷ []) Sparse 131 no_edges
-unfolding spelled class_words
-bare-begins = record {
-  rest = [];
-  words_are = refl;
-  fits = (omega arith, refl);
-  few = omega arith;
-  below = λ k d low. absurd (omega (arith, low));
-  ascending = λ k low. absurd (omega (arith, low));
-  few_matches = omega arith;
-  numbers = zero-numbers;
-}
+unfolding format_words class_words
+bare-begins =
+    by_hand _ _ _ _ refl (omega arith, refl) (omega arith) (λ k d low. absurd (omega (arith, low)))
+    (λ k low. absurd (omega (arith, low))) (omega arith) zero-numbers

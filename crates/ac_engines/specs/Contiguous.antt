@@ -8,17 +8,17 @@ pub mod Words
 use Rattle.std.specs.Prelude.{◌≡◌, ◌≢◌, ℕ, ◌<◌, ◌≤◌, ◌↔◌, ◌+◌, ◌-◌, ◌/◌, ◌%◌, ◌==◌, ◌&&◌, nat_lt, if◌then◌else◌, Bool, List, [], ◌∷◌, ◌++◌, drop, length, map, slice_index_or, take, Some, None}
 use Rattle.ac_automaton.specs.Util.{alphabet_len, AreClasses, Both, Built, class_at, GREATEST, IsNode, longest_len, No, Node, plain_byte, SetsApart, Yes}
 use Rattle.ac_util.specs.declared.search.Anchored.{Anchored}
-use Rattle.ac_automaton.specs.Prelude.{built_as, CommonView, matches_of, miss, own_bytes, plain_of}
+use Rattle.ac_automaton.specs.Prelude.{built_as, CommonView, matches_of, fallback, transition_bytes_of, plain_of}
 use Rattle.ac_engines.specs.declared.nfa.contiguous.state.Edge.{Edge}
 use Rattle.ac_engines.specs.Contiguous.Formats.{dense_form, no_target, one_match}
 use Rattle.ac_engines.specs.Contiguous.Sizes.{node_format}
-use Rattle.ac_engines.specs.Contiguous.Words.{BeginsWith, Spelling}
+use Rattle.ac_engines.specs.Contiguous.Words.{BeginsWith, PackedState}
 
 -- what the words were built from, and whether to have a prefilter; below which length states are dense, the class of
 -- each byte, the words, the numbers of the starts, and from which number on no state has matches
 pub record ContiguousView : Type 0 where
   pub built : Built
-  pub filters : Bool
+  pub wants_prefilter : Bool
   pub dense_depth : ℕ
   pub classes : List ℕ
   pub words : List ℕ
@@ -26,17 +26,17 @@ pub record ContiguousView : Type 0 where
   pub anchored_start : ℕ
   pub match_end : ℕ
 
--- the contiguous NFA of an engine that has this
-abbrev pub contiguous_of : CommonView → ℕ → List ℕ → List ℕ → ℕ → ℕ → ℕ → ContiguousView
-contiguous_of common dense_depth classes words start anchored_start match_end = record {
+-- the contiguous NFA of an engine that has this, with the numbers of the starts and the one after the match states
+abbrev pub contiguous_of : CommonView → ℕ → List ℕ → List ℕ → ℕ × ℕ × ℕ → ContiguousView
+contiguous_of common dense_depth classes words numbers = record {
   built = built_as common Both;
-  filters = common.filters;
+  wants_prefilter = common.wants_prefilter;
   dense_depth = dense_depth;
   classes = classes;
   words = words;
-  start = start;
-  anchored_start = anchored_start;
-  match_end = match_end;
+  start = numbers.0;
+  anchored_start = numbers.1;
+  match_end = numbers.2;
 }
 
 -- where states begin: that of each string, and the anchored start
@@ -73,39 +73,39 @@ module _ (p : ContiguousView) (at : Places) where
   edges_of w =
       map (λ b. record {
         class = class_at p.classes b;
-        target = at.place (w ++ plain_byte p.built.fold b ∷ []);
-      }) (own_bytes p.built (Some w))
+        target = at.place (w ++ plain_byte p.built.ignores_case b ∷ []);
+      }) (transition_bytes_of p.built (Some w))
 
   -- what the words of a string spell
-  abbrev pub spelling_of : List ℕ → Spelling
-  spelling_of w = record {
-    failure = number_at at No (miss p.built.kind (plain_of p.built) (Some w));
-    missing = no_target;
+  abbrev pub packed_node : List ℕ → PackedState
+  packed_node w = record {
+    failure = number_at at No (fallback p.built.kind (plain_of p.built) (Some w));
+    default_target = no_target;
     edges = edges_of w;
     matches = matches_of p.built No (Some w);
   }
 
   -- the starts lead somewhere by each class or by none, and have no failure target; an unanchored search goes on at
   -- its start, unless an empty pattern has begun its match
-  abbrev pub start_spelling : Anchored → Spelling
-  start_spelling No = record (spelling_of []) {
+  abbrev pub packed_start : Anchored → PackedState
+  packed_start No = record (packed_node []) {
     failure = 0;
-    missing = number_at at No (miss p.built.kind (plain_of p.built) (Some []));
+    default_target = number_at at No (fallback p.built.kind (plain_of p.built) (Some []));
   }
-  start_spelling Yes = record (spelling_of []) { failure = 0 }
+  packed_start Yes = record (packed_node []) { failure = 0 }
 
   -- what the state of a node spells: from the dead one every class leads to itself
-  abbrev pub spelling_at : Anchored → Node → Spelling
-  spelling_at anchored None = record { failure = 0; missing = 0; edges = []; matches = [] }
-  spelling_at anchored (Some []) = start_spelling anchored
-  spelling_at anchored (Some (x ∷ w)) = spelling_of (x ∷ w)
+  abbrev pub packed_at : Anchored → Node → PackedState
+  packed_at anchored None = record { failure = 0; default_target = 0; edges = []; matches = [] }
+  packed_at anchored (Some []) = packed_start anchored
+  packed_at anchored (Some (x ∷ w)) = packed_node (x ∷ w)
 
   -- the words stand for the nodes: each has a state, after the number that is no target but for the dead one, whose
   -- number is 0, and no string but the empty one has the number of a start. The states of strings that have matches come
   -- before the others, and list these. Patterns are few and short enough for their numbers and lengths
   pub record IsContiguous : Type 0 where
     pub classes : AreClasses p.classes
-    pub apart : SetsApart p.built.fold p.built.patterns p.classes
+    pub apart : SetsApart p.built.ignores_case p.built.patterns p.classes
     pub small : length p.words ≤ GREATEST
     pub few : length p.built.patterns ≤ GREATEST + 1
     pub short : longest_len p.built.patterns < 18446744073709551616
@@ -113,7 +113,7 @@ module _ (p : ContiguousView) (at : Places) where
     pub anchored_start : at.anchored_start ≡ p.anchored_start
     pub states : (anchored : Anchored) (u : Node) → IsNode p.built.kind (plain_of p.built) u
         → BeginsWith (drop (number_at at anchored u) p.words) (node_format p.built p.dense_depth u)
-        (alphabet_len p.classes) (spelling_at anchored u)
+        (alphabet_len p.classes) (packed_at anchored u)
     pub within : (anchored : Anchored) (w : List ℕ) → IsNode p.built.kind (plain_of p.built) (Some w)
         → number_at at anchored (Some w) < length p.words
     pub after : (anchored : Anchored) (w : List ℕ) → IsNode p.built.kind (plain_of p.built) (Some w)

@@ -4,7 +4,7 @@ pub mod Filling
 pub mod Layouts
 use Rattle.std.specs.Prelude.{◌≡◌, ◌≢◌, ◌⊎◌, ℕ, ◌+◌, ◌*◌, ◌^◌, ◌/◌, ◌<◌, ◌≤◌, Bool, List, [], length, slice_index_or, Some, None}
 use Rattle.ac_util.specs.declared.search.Anchored.{Anchored}
-use Rattle.ac_automaton.specs.Util.{alphabet_len, Both, Built, class_at, IsNode, matches, No, Node, pieces, start_refusal, StartKind, Unanchored, Yes}
+use Rattle.ac_automaton.specs.Util.{alphabet_len, Both, Built, class_at, IsNode, matches, No, Node, start_refusal, StartKind, Unanchored, Yes}
 use Rattle.ac_util.specs.declared.search.StartKind.TheVariants.{Anchored as AnchoredAlone}
 use Rattle.ac_automaton.specs.Prelude.{built_as, CommonView, matches_of, plain_of, step_of}
 
@@ -12,7 +12,7 @@ use Rattle.ac_automaton.specs.Prelude.{built_as, CommonView, matches_of, plain_o
 -- a row, the entries of all rows, and the match list of each row up to the last that has one
 pub record DfaView : Type 0 where
   pub built : Built
-  pub filters : Bool
+  pub wants_prefilter : Bool
   pub classes : List ℕ
   pub stride2 : ℕ
   pub entries : List ℕ
@@ -80,15 +80,9 @@ pub record HasMatchesAmong (t : DfaView) (first end : ℕ) : Type 0 where
   pub starts : 4 * stride_of t ≤ end
 
 -- the DFA of an engine that has this, with these starts
-abbrev pub dfa_of : CommonView → StartKind → List ℕ → ℕ → List ℕ → List ℕ → List ℕ → DfaView
-dfa_of common start_kind classes stride2 entries listed bounds = record {
-  built = built_as common start_kind;
-  filters = common.filters;
-  classes = classes;
-  stride2 = stride2;
-  entries = entries;
-  lists = pieces listed bounds;
-}
+abbrev pub dfa_of : CommonView → StartKind → List ℕ → ℕ → List ℕ → List (List ℕ) → DfaView
+dfa_of common start_kind classes stride2 entries lists =
+    record { built = built_as common start_kind; wants_prefilter = common.wants_prefilter; classes = classes; stride2 = stride2; entries = entries; lists = lists }
 
 -- the state at which a search with this anchoring begins, or the dead one where there is none
 abbrev pub start_number : StartKind → Anchored → ℕ → ℕ

@@ -3,4 +3,5 @@ pub mod Classes
 pub mod Contiguous
 pub mod Dfa
 pub mod Listed
+pub mod Nodes
 pub mod Prelude

@@ -9,8 +9,8 @@ use std::alloc::Allocator;
 
 /// Returns the classes by which an engine steps that is built from an automaton.
 pub(crate) fn classes_for<A: Allocator>(nfa: &NFA<A>, byte_classes: bool) -> ByteClasses
-    ensures value { result ≡ classes_by byte_classes nfa.now.built.fold nfa.now.built.patterns }
-    ensures apart { SetsApart nfa.now.built.fold nfa.now.built.patterns result }
+    ensures value { result ≡ classes_by byte_classes nfa.now.built.ignores_case nfa.now.built.patterns }
+    ensures apart { SetsApart nfa.now.built.ignores_case nfa.now.built.patterns result }
 {
     if byte_classes {
         ByteClasses::of(nfa.patterns(), nfa.fold())

@@ -11,9 +11,9 @@ use ac_automaton::automaton::{Automaton, Common, MatchRest};
 use ac_util::alphabet::ByteClasses;
 use ac_util::error::{BuildError, MatchError};
 use ac_util::looks::Looks;
+use ac_util::patterns::pieces::Pieces;
 use ac_util::primitives::{PatternID, StateID};
 use ac_util::search::{Anchored, StartKind};
-use lists::MatchLists;
 use std::alloc::{AllocError, Allocator, Global};
 use std::marker::Model;
 use std::mem::size_of;
@@ -44,7 +44,8 @@ pub struct DFA<A: Allocator = Global> {
     /// A row has two to this power entries.
     stride2: u32,
     table: Vec<StateID, A>,
-    lists: MatchLists<A>,
+    /// The match list of each row up to the last that has one.
+    lists: Pieces<PatternID, A>,
     /// The unanchored start, or the dead state where there is none.
     start: StateID,
     /// The anchored start, or the dead state where there is none.
@@ -56,24 +57,22 @@ pub struct DFA<A: Allocator = Global> {
 }
 
 impl<A: Allocator> Model for DFA<A> {
-    ghost use Rattle.std.specs.Prelude.{◌≡◌, ◌≤◌, ◌^◌, List, ℕ, length};
-    ghost use Rattle.ac_automaton.specs.Util.{AreBounds, No, Yes};
+    ghost use Rattle.std.specs.Prelude.{◌≡◌, ◌≤◌, ◌^◌, List, ℕ};
+    ghost use Rattle.ac_automaton.specs.Util.{No, Yes};
     ghost use Rattle.ac_engines.specs.Dfa.{DfaView, HasMatchesAmong, IsDfa, dfa_of, start_number};
 
     ghost Value = { DfaView };
 
-    ghost view = { λ d. dfa_of d.common d.start_kind d.classes d.stride2 d.table.items d.lists.listed.items
-        d.lists.bounds.items };
+    ghost view = { λ d. dfa_of d.common d.start_kind d.classes d.stride2 d.table.items d.lists };
 
     ghost invariant = { λ d. record {
-      is_dfa : (place : List ℕ → ℕ) × IsDfa (dfa_of d.common d.start_kind d.classes d.stride2 d.table.items
-          d.lists.listed.items d.lists.bounds.items) place;
+      is_dfa : (place : List ℕ → ℕ)
+          × IsDfa (dfa_of d.common d.start_kind d.classes d.stride2 d.table.items d.lists) place;
       few : d.stride2 ≤ 8;
-      bounds : AreBounds d.lists.bounds.items (length d.lists.listed.items);
       start : d.start ≡ start_number d.start_kind No (2 ^ d.stride2);
       anchored_start : d.anchored_start ≡ start_number d.start_kind Yes (2 ^ d.stride2);
-      among : HasMatchesAmong (dfa_of d.common d.start_kind d.classes d.stride2 d.table.items d.lists.listed.items
-          d.lists.bounds.items) d.first_match d.match_end;
+      among : HasMatchesAmong (dfa_of d.common d.start_kind d.classes d.stride2 d.table.items d.lists)
+          d.first_match d.match_end;
     } };
 }
 
@@ -87,15 +86,9 @@ impl<A: Allocator + Clone> Clone for DFA<A> {
     fn clone(&self) -> Result<DFA<A>, AllocError> {
         Ok(DFA {
             common: self.common.clone()?,
-            start_kind: self.start_kind,
-            classes: self.classes,
-            stride2: self.stride2,
             table: self.table.clone()?,
             lists: self.lists.clone()?,
-            start: self.start,
-            anchored_start: self.anchored_start,
-            first_match: self.first_match,
-            match_end: self.match_end,
+            ..*self
         })
     }
 }
@@ -148,7 +141,12 @@ impl<A: Allocator> DFA<A> {
     fn list(&self, sid: StateID) -> &[PatternID]
         ensures { result.now ≡ list_at self.now sid }
     {
-        self.lists.get(sid.as_usize() >> self.stride2)
+        let row = sid.as_usize() >> self.stride2;
+        if row < self.lists.len() {
+            self.lists.get(row)
+        } else {
+            &[]
+        }
     }
 }
 
@@ -165,7 +163,7 @@ impl<A: Allocator> Automaton for DFA<A> {
 
     ghost listed = { λ d s. list_at d s };
 
-    ghost filters = { λ d. d.filters };
+    ghost wants_prefilter = { λ d. d.wants_prefilter };
 
     ghost one_or_two = { inl refl };
 

@@ -3,4 +3,5 @@
 
 mod classes;
 pub mod dfa;
+mod matches;
 pub mod nfa;

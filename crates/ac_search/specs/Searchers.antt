@@ -11,7 +11,7 @@ use Rattle.ac_search.specs.States.{States, Contiguous, Dfa, Noncontiguous}
 
 pub record Searcher : Type 0 where
   pub built : Built
-  pub filters : Bool
+  pub wants_prefilter : Bool
   pub kind : AhoCorasickKind
   pub states : States
 
@@ -96,14 +96,14 @@ engine_refusal settings patterns = refusal_of (chosen_engine settings patterns) 
 abbrev pub AreLaidOut : Settings → Built → States → Type 0
 AreLaidOut settings from (Noncontiguous trie) = ⊤
 AreLaidOut settings from (Contiguous nfa) =
-    IsContiguousFrom settings.dense_depth settings.byte_classes from nfa.filters nfa
-AreLaidOut settings from (Dfa dfa) = IsDfaFrom settings.start_kind settings.byte_classes from dfa.filters dfa
+    IsContiguousFrom settings.dense_depth settings.byte_classes from nfa.wants_prefilter nfa
+AreLaidOut settings from (Dfa dfa) = IsDfaFrom settings.start_kind settings.byte_classes from dfa.wants_prefilter dfa
 
 -- a build by these settings has succeeded: the searcher is over these patterns, is to have a prefilter if that was set,
 -- is laid out as was set, and no limit refused it
 pub record IsBuilt (settings : Settings) (patterns : List (List ℕ)) (searcher : Searcher) : Type 0 where
   pub built : searcher.built ≡ built_by settings patterns
-  pub filters : searcher.filters ≡ settings.engine.prefilter
+  pub wants_prefilter : searcher.wants_prefilter ≡ settings.engine.prefilter
   pub kind : searcher.kind ≡ chosen_engine settings patterns
   pub laid_out : AreLaidOut settings (engine_built_by settings.engine patterns) searcher.states
   pub allowed : IsAllowed (engine_refusal settings patterns) patterns

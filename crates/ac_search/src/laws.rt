@@ -78,7 +78,7 @@ pub fn shortest_is_empty()
 pub fn engines_agree<A: Allocator, B: Allocator>(one: &AhoCorasick<A>, other: &AhoCorasick<B>)
     requires patterns { one.now.built.patterns ≡ other.now.built.patterns }
     requires kind { one.now.built.kind ≡ other.now.built.kind }
-    requires fold { one.now.built.fold ≡ other.now.built.fold }
+    requires ignores_case { one.now.built.ignores_case ≡ other.now.built.ignores_case }
     requires start_kind { one.now.built.start_kind ≡ other.now.built.start_kind }
     ensures built { one.now.built ≡ other.now.built }
     ensures find { (input : InputView) → (find_refusal one.now.built input ≡ find_refusal other.now.built input)
@@ -100,7 +100,7 @@ pub fn engines_agree<A: Allocator, B: Allocator>(one: &AhoCorasick<A>, other: &A
 pub fn settings_change_no_answer()
     ensures { (one other : Settings) (patterns : List (List ℕ)) (s t : Searcher) → IsBuilt one patterns s
         → IsBuilt other patterns t → one.engine.kind ≡ other.engine.kind
-        → one.engine.fold ≡ other.engine.fold
+        → one.engine.ignores_case ≡ other.engine.ignores_case
         → one.start_kind ≡ other.start_kind → s.built ≡ t.built }
 {}
 

@@ -1,6 +1,5 @@
-ghost use Rattle.std.specs.Prelude.{◌≡◌, IfOk, None, length};
-ghost use Rattle.ac_search.specs.Built.{find_refusal, overlapping_refusal, search_in, walk_result};
-ghost use Rattle.ac_search.specs.Listing.{all};
+ghost use Rattle.std.specs.Prelude.{◌≡◌, None, length};
+ghost use Rattle.ac_search.specs.Built.{find_refusal, walk_result};
 ghost use Rattle.ac_search.specs.InputView.{whole_input};
 ghost use Rattle.ac_search.specs.Texts.{AreTexts};
 
@@ -9,7 +8,7 @@ use crate::StartKind::{Both, Unanchored};
 use crate::laws::{answers_cut_no_character, answers_lie_inside};
 use crate::{
     AhoCorasick, AhoCorasickBuilder, AhoCorasickKind, Anchored, BuildError, Input, Match,
-    MatchError, MatchKind, OverlappingState, StartKind,
+    MatchError, MatchKind, StartKind,
 };
 use engines::KINDS;
 use std::alloc::{AllocError, Global};
@@ -18,110 +17,19 @@ use std::process::Abort;
 use std::test::Fail;
 
 mod alone;
+mod choice;
+mod devices;
 mod engines;
 mod leftmost_stream;
+mod listings;
+mod refusals;
 mod replace;
+mod states;
 mod stream;
+mod walks;
 
 /// A pattern number, a start and an end.
-type Told = (usize, usize, usize);
-
-/// Why a search is refused.
-const NOT_ANCHORED: Option<MatchError> = Some(MatchError::InvalidInputAnchored);
-
-const NOT_UNANCHORED: Option<MatchError> = Some(MatchError::InvalidInputUnanchored);
-
-const NOT_FIRST: Option<MatchError> = Some(MatchError::UnsupportedOverlapping {
-    got: LeftmostFirst,
-});
-
-const NOT_LONGEST: Option<MatchError> = Some(MatchError::UnsupportedOverlapping {
-    got: LeftmostLongest,
-});
-
-/// The start kinds that rule out an anchoring, and with which error; then those that rule out none.
-const STARTS: &[(StartKind, Anchored, Option<MatchError>)] = &[
-    (Unanchored, Anchored::Yes, NOT_ANCHORED),
-    (StartKind::Anchored, Anchored::No, NOT_UNANCHORED),
-    (Unanchored, Anchored::No, None),
-    (StartKind::Anchored, Anchored::Yes, None),
-    (Both, Anchored::No, None),
-    (Both, Anchored::Yes, None),
-];
-
-/// Patterns, a haystack, and the listing.
-type Listing = (&'static [&'static [u8]], &'static [u8], &'static [Told]);
-
-const LISTINGS: &[Listing] = &[
-    (
-        &[b"he", b"she", b"his", b"hers"],
-        b"ushers",
-        &[(1, 1, 4), (0, 2, 4), (3, 2, 6)],
-    ),
-    (
-        &[b"append", b"appendage", b"app"],
-        b"append the app to the appendage",
-        &[
-            (2, 0, 3),
-            (0, 0, 6),
-            (2, 11, 14),
-            (2, 22, 25),
-            (0, 22, 28),
-            (1, 22, 31),
-        ],
-    ),
-    (&[b"", b"a"], b"a", &[(0, 0, 0), (1, 0, 1), (0, 1, 1)]),
-    (
-        &[b"ab", b"ab"],
-        b"abab",
-        &[(0, 0, 2), (1, 0, 2), (0, 2, 4), (1, 2, 4)],
-    ),
-    (&[b"aba"], b"ababa", &[(0, 0, 3), (0, 2, 5)]),
-    (&[b"abc"], b"xyz", &[]),
-];
-
-/// A start kind, a match kind and an anchoring, and why a search by a state and an iterator are refused, if they
-/// are.
-type Refusals = (
-    StartKind,
-    MatchKind,
-    Anchored,
-    Option<MatchError>,
-    Option<MatchError>,
-);
-
-const OVERLAPPING_REFUSALS: &[Refusals] = &[
-    (
-        Unanchored,
-        LeftmostFirst,
-        Anchored::No,
-        NOT_FIRST,
-        NOT_FIRST,
-    ),
-    (
-        Unanchored,
-        LeftmostFirst,
-        Anchored::Yes,
-        NOT_ANCHORED,
-        NOT_ANCHORED,
-    ),
-    (
-        StartKind::Anchored,
-        LeftmostLongest,
-        Anchored::No,
-        NOT_UNANCHORED,
-        NOT_UNANCHORED,
-    ),
-    (Both, Standard, Anchored::Yes, None, NOT_ANCHORED),
-    (Unanchored, Standard, Anchored::No, None, None),
-    (
-        Both,
-        LeftmostLongest,
-        Anchored::Yes,
-        NOT_LONGEST,
-        NOT_LONGEST,
-    ),
-];
+type Triple = (usize, usize, usize);
 
 /// Ends the test where what was found is not what was wanted. It is proved once, and `assert_eq!` where it stands.
 fn same<T: PartialEq + Debug + Drop>(rt: &impl Abort, found: T, wanted: T) {
@@ -134,17 +42,28 @@ fn same_by<T: PartialEq + Debug + Drop, B: Debug>(rt: &impl Abort, found: T, wan
 }
 
 /// Returns what a row says of a match.
-fn told(m: &Match) -> Told {
+fn triple_of(m: &Match) -> Triple {
     (m.pattern().as_usize(), m.start(), m.end())
 }
 
-/// Returns the walk of a searcher as a row says it.
-fn walk_of(alloc: Global, searcher: &AhoCorasick, input: Input<'_>) -> Result<Vec<Told>, Fail> {
-    let mut walked = Vec::new(alloc);
-    for found in searcher.try_find_iter(input)? {
-        walked.push(told(&found))?;
+/// Returns what a row says of each match of an iterator.
+fn triples_of<I: Iterator<Item = Match>>(
+    alloc: Global,
+    mut matches: I,
+) -> Result<Vec<Triple>, AllocError> {
+    let mut triples = Vec::new(alloc);
+    for _ in 0..u64::MAX {
+        let Some(found) = matches.next() else {
+            break;
+        };
+        triples.push(triple_of(&found))?;
     }
-    Ok(walked)
+    Ok(triples)
+}
+
+/// Returns the walk of a searcher as a row says it.
+fn walk_of(alloc: Global, searcher: &AhoCorasick, input: Input<'_>) -> Result<Vec<Triple>, Fail> {
+    Ok(triples_of(alloc, searcher.try_find_iter(input)?)?)
 }
 
 /// Returns the slices of a haystack at which the matches stand.
@@ -207,27 +126,6 @@ fn count_of(searcher: &AhoCorasick, haystack: &[u8]) -> usize
     searcher.find_iter(Input::new(haystack)).count()
 }
 
-/// Returns all occurrences in a haystack, one call after another.
-fn all_by_state(
-    alloc: Global,
-    searcher: &AhoCorasick,
-    haystack: &[u8],
-) -> Result<Vec<Match>, AllocError>
-    requires { overlapping_refusal searcher.now.built (whole_input haystack.now) ≡ None }
-    ensures { IfOk result (λ found. found.items
-        ≡ all (search_in searcher.now.built (whole_input haystack.now))) }
-{
-    let mut state = OverlappingState::start();
-    let mut found = Vec::new(alloc);
-    loop {
-        searcher.find_overlapping(Input::new(haystack), &mut state);
-        let Some(m) = state.get_match() else {
-            return Ok(found);
-        };
-        found.push(m)?;
-    }
-}
-
 /// Returns the slice at which the first match stands.
 fn first_slice<'t>(searcher: &AhoCorasick, haystack: &'t [u8]) -> Option<&'t [u8]>
     requires { find_refusal searcher.now.built (whole_input haystack.now) ≡ None }
@@ -241,14 +139,14 @@ fn first_slice<'t>(searcher: &AhoCorasick, haystack: &'t [u8]) -> Option<&'t [u8
 fn a_new_searcher_finds(rt: HostRuntime) -> Result<(), Fail> {
     let searcher = AhoCorasick::new(rt.alloc(), &[b"apple", b"maple", b"Snapple"])?;
     let haystack = b"Nobody likes maple in their apple flavored Snapple.";
-    let found = searcher.find(Input::new(haystack)).map(|m| told(&m));
+    let found = searcher.find(Input::new(haystack)).map(|m| triple_of(&m));
     same(&rt, found, Some((1, 13, 18)));
     assert!(rt; searcher.is_match(Input::new(haystack)));
     assert!(rt; !searcher.is_match(Input::new(b"Nobody")));
     same(&rt, searcher.find(Input::new(b"Nobody")), None);
     let mut walked = Vec::new(rt.alloc());
     for found in searcher.find_iter(Input::new(haystack)) {
-        walked.push(told(&found))?;
+        walked.push(triple_of(&found))?;
     }
     let wanted = [(1, 13, 18), (0, 28, 33), (2, 43, 50)];
     same(&rt, walked.as_slice(), wanted.as_slice());
@@ -360,19 +258,7 @@ fn a_build_succeeds_or_wants_memory(rt: HostRuntime) -> Result<(), Fail> {
             }
         };
         let found = searcher.try_find(Input::new(b"ushers"))?;
-        same_by(&rt, found.map(|m| told(&m)), Some((1, 1, 4)), &kind);
+        same_by(&rt, found.map(|m| triple_of(&m)), Some((1, 1, 4)), &kind);
     }
-    Ok(())
-}
-
-#[test]
-fn all_occurrences_are_listed(rt: HostRuntime) -> Result<(), Fail> {
-    let searcher = AhoCorasick::new(rt.alloc(), &[b"he", b"she", b"his", b"hers"])?;
-    let found = all_by_state(rt.alloc(), &searcher, b"ushers")?;
-    let listed: Vec<Told> = found.iter().map(told).collect(rt.alloc())?;
-    let wanted = [(1, 1, 4), (0, 2, 4), (3, 2, 6)];
-    same(&rt, listed.as_slice(), wanted.as_slice());
-    let items = searcher.find_overlapping_iter(Input::new(b"ushers"));
-    same(&rt, items.count(), 3);
     Ok(())
 }

@@ -11,7 +11,7 @@ use Rattle.ac_util.proofs.Participants.{Prefixes, Equals, begins-from_Prefixes, 
 use Rattle.ac_util.proofs.Prefixes.{starts_with-itself}
 use Rattle.ac_util.proofs.Reached.{stops}
 use Rattle.ac_util.proofs.Found.{matches-nil, matches-cons}
-use Rattle.ac_util.proofs.Standing.{Stands, standing_at, IsPickIn, first-by_start, first-one_on, Prefixes-cases, Prefixes-length, Prefixes-equal, Stands-behind, Stands-from_behind, Stands-from_Prefixes}
+use Rattle.ac_util.proofs.Standing.{Stands, standing_at, IsPickIn, first-by_start, first-one_on, Prefixes-cases, Prefixes-length, Prefixes-equal, Stands-beyond, Stands-from_behind, Stands-from_Prefixes}
 
 -- the front of an empty list is empty
 pub append_nil_left : (xs ys : List ℕ) → xs ++ ys ≡ [] → xs ≡ []
@@ -66,16 +66,16 @@ module _ (kind : MatchKind) (patterns : List (List ℕ)) where
       better_front No (x ∷ w) b n
       (append_nil_left _ _ (sym (matches-cons kind patterns x (w ++ b ∷ [])) ∙ none)) h.prefixes
   better_free (x ∷ w) b n (suc s) none h =
-      behind (stops kind patterns (x ∷ w ++ b ∷ [])) refl
+      beyond (stops kind patterns (x ∷ w ++ b ∷ [])) refl
       (sym (matches-cons kind patterns x (w ++ b ∷ [])) ∙ none)
       (λ e. better_free w b n s e (Stands-from_behind patterns x (w ++ b ∷ []) n s h))
     where
-      behind : (t : Bool) → stops kind patterns (x ∷ w ++ b ∷ []) ≡ t
+      beyond : (t : Bool) → stops kind patterns (x ∷ w ++ b ∷ []) ≡ t
           → own (x ∷ w ++ b ∷ []) ++ cond (stops kind patterns (x ∷ w ++ b ∷ [])) []
           (matches kind patterns No (Some (w ++ b ∷ []))) ≡ []
           → (matches kind patterns No (Some (w ++ b ∷ [])) ≡ [] → (j : ℕ) × (k : ℕ) × Better No w n s j k)
           → (j : ℕ) × (k : ℕ) × Better No (x ∷ w) n (suc s) j k
-      behind true stop none later =
+      beyond true stop none later =
           let both = and_parts (is_leftmost kind) (begins_with_pattern patterns (x ∷ w ++ b ∷ [])) stop in
           let l = leader patterns (x ∷ w ++ b ∷ []) both.1 in
           let p = kept_front (x ∷ w) b l.0 (append_nil_left _ _ none) l.1.prefixes in (
@@ -87,7 +87,7 @@ module _ (kind : MatchKind) (patterns : List (List ℕ)) where
                   (inl both.0);
             },
           )
-      behind false stop none later =
+      beyond false stop none later =
           let no_own = append_nil_left (own (x ∷ w ++ b ∷ [])) _ none in
           let r =
           later (sym (cond-false (stops kind patterns (x ∷ w ++ b ∷ [])) []
@@ -97,7 +97,7 @@ module _ (kind : MatchKind) (patterns : List (List ℕ)) where
             r.0,
             suc r.1,
             record {
-              stands = Stands-behind patterns x w r.0 r.1 r.2.stands;
+              stands = Stands-beyond patterns x w r.0 r.1 r.2.stands;
               first = first-one_on kind patterns r.0 r.1 n s r.2.first;
             },
           )
@@ -195,7 +195,7 @@ module _ (kind : MatchKind) (patterns : List (List ℕ)) where
   head_behind : (x : ℕ) (v : List ℕ) (i k : ℕ) → own (x ∷ v) ≡ [] → stops kind patterns (x ∷ v) ≡ false
       → IsHead No v i k → IsHead No (x ∷ v) i (suc k)
   head_behind x v i k none goes_on head = record {
-    stands = Stands-behind patterns x v i k head.stands;
+    stands = Stands-beyond patterns x v i k head.stands;
     whole = (let w = head.whole in omega arith);
     first = first;
   }

@@ -62,32 +62,32 @@ module _ (kind : MatchKind) (patterns : List (List ℕ)) where
   step-alike a b no_a no_b No (Some u) = step-free_alike a b no_a no_b u
   step-alike a b no_a no_b Yes (Some u) = grind (arith, common_steps)
 
-module _ (fold : Bool) (patterns : List (List ℕ)) where
+module _ (ignores_case : Bool) (patterns : List (List ℕ)) where
   -- the class of a byte, and whether it stands in a pattern, with the shorter names of this file
   abbrev pub class : ℕ → ℕ
-  class b = class_of fold patterns b
+  class b = class_of ignores_case patterns b
 
   abbrev pub stands : ℕ → Bool
-  stands b = is_in_patterns fold patterns b
+  stands b = is_in_patterns ignores_case patterns b
 
   -- a byte that ends a node stands in a pattern
   pub stands-from_node : (kind : MatchKind) (v : List ℕ) (b : ℕ)
-      → is_node kind (map (plain fold) patterns) (v ++ plain_byte fold b ∷ []) ≡ true → stands b ≡ true
+      → is_node kind (map (plain ignores_case) patterns) (v ++ plain_byte ignores_case b ∷ []) ≡ true → stands b ≡ true
   stands-from_node kind v b node =
-      let plains = map (plain fold) patterns in
-      let w = v ++ plain_byte fold b ∷ [] in
+      let plains = map (plain ignores_case) patterns in
+      let w = v ++ plain_byte ignores_case b ∷ [] in
       let starts = λ (n : ℕ). starts_with nat_eq (pattern_of plains n) w in
-      let has = λ (p : List ℕ). list_any (nat_eq (plain_byte fold b)) p in
+      let has = λ (p : List ℕ). list_any (nat_eq (plain_byte ignores_case b)) p in
       let some : list_any starts (participants kind plains) ≡ true =
       elim (or_cases (is_empty w) (list_any starts (participants kind plains)) node) [
-        | inl empty ↦ absurd (false≢true (sym (is_empty-push v (plain_byte fold b)) ∙ empty))
+        | inl empty ↦ absurd (false≢true (sym (is_empty-push v (plain_byte ignores_case b)) ∙ empty))
         | inr any ↦ any
       ] in
       let one = any_passes starts (participants kind plains) some in
       let among = any-from_read has plains one.0 refl (any-from_prefix (pattern_of plains one.0) v _ one.2) in
-      list_any-weaker (λ p. has (plain fold p)) (λ p. list_any (same_byte fold b) p)
-      (λ p h. sym (list_any-map (nat_eq (plain_byte fold b)) (plain_byte fold) p) ∙ h) patterns
-      (sym (list_any-map has (plain fold) patterns) ∙ among)
+      list_any-weaker (λ p. has (plain ignores_case p)) (λ p. list_any (same_byte ignores_case b) p)
+      (λ p h. sym (list_any-map (nat_eq (plain_byte ignores_case b)) (plain_byte ignores_case) p) ∙ h) patterns
+      (sym (list_any-map has (plain ignores_case) patterns) ∙ among)
 
   -- the class of the next byte
   class-next : (b : ℕ) → class (b + 1) ≡ class b + cond (stands (b + 1) || stands b) 1 0
@@ -102,11 +102,11 @@ module _ (fold : Bool) (patterns : List (List ℕ)) where
   -- the class rises at a byte of a pattern, and at the byte after it
   pub class-up : (b : ℕ) → (stands (b + 1) ≡ true) ⊎ (stands b ≡ true) → class (b + 1) ≡ class b + 1
   class-up b (inl at) = search (rules, class-next, or_left)
-  class-up b (inr behind) = search (rules, class-next, or_right)
+  class-up b (inr beyond) = search (rules, class-next, or_right)
 
   -- and nowhere else
   pub class-stays : (b : ℕ) → stands (b + 1) ≡ false → stands b ≡ false → class (b + 1) ≡ class b
-  class-stays b at behind = search (rules, class-next)
+  class-stays b at beyond = search (rules, class-next)
 
   -- a class rises by one or not at all
   one_or_none : (t : Bool) → cond t 1 0 ≤ 1
@@ -156,20 +156,20 @@ module _ (fold : Bool) (patterns : List (List ℕ)) where
 
   -- a byte that stands in no pattern ends no node
   ends_none : (kind : MatchKind) (b : ℕ) → stands b ≡ false
-      → EndsNone kind (map (plain fold) patterns) (plain_byte fold b)
+      → EndsNone kind (map (plain ignores_case) patterns) (plain_byte ignores_case b)
   ends_none kind b none v = search (rules, false≢true, stands-from_node)
 
   -- an automaton may step by these classes
-  pub class_of-lawful : (kind : MatchKind) → IsLawful (class_of fold patterns) kind fold patterns
+  pub class_of-lawful : (kind : MatchKind) → IsLawful (class_of ignores_case patterns) kind ignores_case patterns
   class_of-lawful kind = record {
     begins = class-zero;
     rises = λ b h. class-rises b;
     rises_by_one = λ b h. class-rises_by_one b;
     steps_alike = λ a b low high e anchored u node.
-        let plains = map (plain fold) patterns in
+        let plains = map (plain ignores_case) patterns in
         elim (strangers a b e) [
-          | inl same ↦ ap (λ (x : ℕ). step kind plains anchored u (plain_byte fold x)) same
-          | inr s ↦ step-alike kind plains (plain_byte fold a) (plain_byte fold b) (ends_none kind a s.left)
+          | inl same ↦ ap (λ (x : ℕ). step kind plains anchored u (plain_byte ignores_case x)) same
+          | inr s ↦ step-alike kind plains (plain_byte ignores_case a) (plain_byte ignores_case b) (ends_none kind a s.left)
               (ends_none kind b s.right) anchored u
         ];
   }

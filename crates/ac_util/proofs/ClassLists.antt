@@ -14,9 +14,9 @@ none_marked (suc n) zero = refl
 none_marked (suc n) (suc k) = none_marked n k
 
 -- an automaton may step by classes that are, of all bytes, those of others that it may step by
-lawful-alike : (kind : MatchKind) (fold : Bool) (patterns : List (List ℕ)) (f g : ℕ → ℕ)
-    → ((b : ℕ) → b < 256 → g b ≡ f b) → IsLawful f kind fold patterns → IsLawful g kind fold patterns
-lawful-alike kind fold patterns f g same lawful = record {
+lawful-alike : (kind : MatchKind) (ignores_case : Bool) (patterns : List (List ℕ)) (f g : ℕ → ℕ)
+    → ((b : ℕ) → b < 256 → g b ≡ f b) → IsLawful f kind ignores_case patterns → IsLawful g kind ignores_case patterns
+lawful-alike kind ignores_case patterns f g same lawful = record {
   begins = same 0 (omega arith) ∙ lawful.begins;
   rises = λ b h. omega (arith, same b (omega arith), same (b + 1) (omega arith), lawful.rises b h);
   rises_by_one = λ b h. omega (arith, same b (omega arith), same (b + 1) (omega arith), lawful.rises_by_one b h);
@@ -24,36 +24,36 @@ lawful-alike kind fold patterns f g same lawful = record {
 }
 
 -- the classes of the patterns' bytes
-module _ (fold : Bool) (patterns : List (List ℕ)) where
+module _ (ignores_case : Bool) (patterns : List (List ℕ)) where
   -- the class that is read for a byte
-  class_at-of : (b : ℕ) → b < 256 → class_at (classes_of fold patterns) b ≡ class_of fold patterns b
+  class_at-of : (b : ℕ) → b < 256 → class_at (classes_of ignores_case patterns) b ≡ class_of ignores_case patterns b
   unfolding classes_of
-  class_at-of b h = get_or-map-range_with_len (class_of fold patterns) 0 256 b b 0 h (omega arith)
+  class_at-of b h = get_or-map-range_with_len (class_of ignores_case patterns) 0 256 b b 0 h (omega arith)
 
   -- as many are read as there are bytes
-  length-classes_of : length (classes_of fold patterns) ≡ 256
+  length-classes_of : length (classes_of ignores_case patterns) ≡ 256
   unfolding classes_of
-  length-classes_of = length-map-range_with_len (class_of fold patterns) 0 256
+  length-classes_of = length-map-range_with_len (class_of ignores_case patterns) 0 256
 
   -- they are the classes of all bytes
-  pub classes_of-AreClasses : AreClasses (classes_of fold patterns)
+  pub classes_of-AreClasses : AreClasses (classes_of ignores_case patterns)
   classes_of-AreClasses = search (rules, class-rises, class-rises_by_one, class-zero, class_at-of, length-classes_of)
 
   -- an automaton may step by the classes that are read
-  pub classes_of-lawful : (kind : MatchKind) → IsLawful (class_at (classes_of fold patterns)) kind fold patterns
+  pub classes_of-lawful : (kind : MatchKind) → IsLawful (class_at (classes_of ignores_case patterns)) kind ignores_case patterns
   classes_of-lawful kind =
-      lawful-alike kind fold patterns (class_of fold patterns) (class_at (classes_of fold patterns)) class_at-of
-      (class_of-lawful fold patterns kind)
+      lawful-alike kind ignores_case patterns (class_of ignores_case patterns) (class_at (classes_of ignores_case patterns)) class_at-of
+      (class_of-lawful ignores_case patterns kind)
 
   -- a list in which each byte has this class is the list of them
   pub classes_of-from_each : (classes : List ℕ) → length classes ≡ 256
-      → ((b : ℕ) → b < 256 → class_at classes b ≡ class_of fold patterns b) → classes ≡ classes_of fold patterns
+      → ((b : ℕ) → b < 256 → class_at classes b ≡ class_of ignores_case patterns b) → classes ≡ classes_of ignores_case patterns
   classes_of-from_each classes whole each = search (rules, class_at-of, length-classes_of, same_number_lists)
 
   -- a byte of a pattern has a class of its own
-  pub classes_of-set_apart : SetsApart fold patterns (classes_of fold patterns)
+  pub classes_of-set_apart : SetsApart ignores_case patterns (classes_of ignores_case patterns)
   classes_of-set_apart = record {
-    own = λ a b low high here e. elim (strangers fold patterns a b (sym (class_at-of a low) ∙ e ∙ class_at-of b high)) [
+    own = λ a b low high here e. elim (strangers ignores_case patterns a b (sym (class_at-of a low) ∙ e ∙ class_at-of b high)) [
       | inl same ↦ same
       | inr s ↦ absurd (false≢true (sym s.right ∙ here))
     ];
@@ -79,13 +79,13 @@ pub singletons-AreClasses : AreClasses singletons
 singletons-AreClasses = search (rules, class_at-singletons, length-singletons)
 
 -- an automaton may step by them as they are read
-pub singletons-lawful : (fold : Bool) (patterns : List (List ℕ)) (kind : MatchKind)
-    → IsLawful (class_at singletons) kind fold patterns
-singletons-lawful fold patterns kind = search (rules, class_at-singletons, lawful-alike)
+pub singletons-lawful : (ignores_case : Bool) (patterns : List (List ℕ)) (kind : MatchKind)
+    → IsLawful (class_at singletons) kind ignores_case patterns
+singletons-lawful ignores_case patterns kind = search (rules, class_at-singletons, lawful-alike)
 
 -- and each byte, of a pattern or not, has a class of its own
-pub singletons-set_apart : (fold : Bool) (patterns : List (List ℕ)) → SetsApart fold patterns singletons
-singletons-set_apart fold patterns = search (rules, class_at-singletons)
+pub singletons-set_apart : (ignores_case : Bool) (patterns : List (List ℕ)) → SetsApart ignores_case patterns singletons
+singletons-set_apart ignores_case patterns = search (rules, class_at-singletons)
 
 -- of the classes of all bytes
 module _ (classes : List ℕ) (are : AreClasses classes) where

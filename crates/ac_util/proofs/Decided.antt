@@ -49,7 +49,7 @@ module _ (built : Built) (leftmost : is_leftmost built.kind ≡ true) (bytes : L
     at-start = let starts = first-starts built.kind m comes leftmost preferred in omega arith
 
     -- it would begin with the pattern of the match
-    fronts : starts_with nat_eq (plain built.fold pattern) (plain built.fold (pattern_of built.patterns m.pattern)) ≡ true
+    fronts : starts_with nat_eq (plain built.ignores_case pattern) (plain built.ignores_case (pattern_of built.patterns m.pattern)) ≡ true
     fronts =
         let o = occurs-then in
         let as_long = o.as_long in
@@ -60,11 +60,11 @@ module _ (built : Built) (leftmost : is_leftmost built.kind ≡ true) (bytes : L
         ap (λ (k : ℕ). take k (drop m.start (bytes ++ rest))) (let k : m.end - m.start ≡ len = omega arith in k)
         ∙ ap (λ (k : ℕ). take len (drop k (bytes ++ rest))) (sym start)
         ∙ sym (take-take len (place + length pattern - place) (drop place (bytes ++ rest)) (omega arith)) in
-        let part : plain built.fold (pattern_of built.patterns m.pattern) ≡ take len (plain built.fold pattern) =
-        o.reads ∙ ap (plain built.fold) slice
-        ∙ sym (take-map (plain_byte built.fold) len (slice_range (bytes ++ rest) place (place + length pattern)))
+        let part : plain built.ignores_case (pattern_of built.patterns m.pattern) ≡ take len (plain built.ignores_case pattern) =
+        o.reads ∙ ap (plain built.ignores_case) slice
+        ∙ sym (take-map (plain_byte built.ignores_case) len (slice_range (bytes ++ rest) place (place + length pattern)))
         ∙ ap (take len) (sym comes-there.reads) in
-        ap (starts_with nat_eq (plain built.fold pattern)) part ∙ starts_with-take len (plain built.fold pattern)
+        ap (starts_with nat_eq (plain built.ignores_case pattern)) part ∙ starts_with-take len (plain built.ignores_case pattern)
 
     closed-by : (kind : MatchKind) → built.kind ≡ kind → ⊥
     closed-by Standard is = let no = sym leftmost ∙ ap is_leftmost is in absurd (cc)
@@ -72,20 +72,20 @@ module _ (built : Built) (leftmost : is_leftmost built.kind ≡ true) (bytes : L
     closed-by LeftmostFirst is =
         let first : IsFirst LeftmostFirst m comes = subst (λ (k : MatchKind). IsFirst k m comes) is preferred in
         let least = first.patterns (sym at-start) in
-        let ps = map (plain built.fold) built.patterns in
+        let ps = map (plain built.ignores_case) built.patterns in
         let numbered = occurs-then.numbered in
         let its = open'.numbered in
-        let all = length-map built.patterns (plain built.fold) in
-        let pattern_is : pattern_of ps open'.number ≡ plain built.fold pattern =
-        get_or-map (plain built.fold) built.patterns open'.number [] [] its in
-        let match_is : pattern_of ps m.pattern ≡ plain built.fold (pattern_of built.patterns m.pattern) =
-        get_or-map (plain built.fold) built.patterns m.pattern [] [] numbered in
+        let all = length-map built.patterns (plain built.ignores_case) in
+        let pattern_is : pattern_of ps open'.number ≡ plain built.ignores_case pattern =
+        get_or-map (plain built.ignores_case) built.patterns open'.number [] [] its in
+        let match_is : pattern_of ps m.pattern ≡ plain built.ignores_case (pattern_of built.patterns m.pattern) =
+        get_or-map (plain built.ignores_case) built.patterns m.pattern [] [] numbered in
         let no_earlier : open'.number ≤ m.pattern =
-        participant-least ps (plain built.fold pattern) open'.number m.pattern (omega arith)
+        participant-least ps (plain built.ignores_case pattern) open'.number m.pattern (omega arith)
         (ap (λ (k : MatchKind). participates k ps open'.number) (sym is) ∙ open'.takes_part) pattern_is
         (record {
           numbered = omega arith;
-          front = ap (starts_with nat_eq (plain built.fold pattern)) match_is ∙ fronts;
+          front = ap (starts_with nat_eq (plain built.ignores_case pattern)) match_is ∙ fronts;
         }) in
         let same : m.pattern ≡ open'.number = omega arith in
         let len = ap (λ (n : ℕ). length (pattern_of built.patterns n)) same in
@@ -156,7 +156,7 @@ module _ (built : Built) (leftmost : is_leftmost built.kind ≡ true) (bytes : L
       → last_end ms ≡ begun → begun ≤ place → place ≤ length bytes → NoneOpen built bytes begun place
       → ((m : Occurrence) → pick built.kind (here built leftmost bytes [] begun) ≡ Some m → place ≤ m.start)
       → IsSettledAt built bytes (length ms) place
-  settled-at ms begun place next walks end behind within closed first = record {
+  settled-at ms begun place next walks end beyond within closed first = record {
     few = (let n = ap length whole in let a = length-append ms rest in omega arith);
     within = within;
     ended = subst (All (λ (m : Occurrence). m.end ≤ place)) (sym taken) (λ k d at.

@@ -71,10 +71,10 @@ module _ (kind : MatchKind) (patterns : List (List ℕ)) where
   own-fits : (u : List ℕ) (n : ℕ) → IsIn n (own u) → Fits u n
   own-fits u n h = search (rules, IsIn-from_equal_to)
 
-  behind-fits : (x : ℕ) (u : List ℕ) (n : ℕ) (s : Bool) → (IsIn n (found (Some u)) → Fits u n)
+  beyond-fits : (x : ℕ) (u : List ℕ) (n : ℕ) (s : Bool) → (IsIn n (found (Some u)) → Fits u n)
       → IsIn n (cond s [] (found (Some u))) → Fits u n
-  behind-fits x u n true later h = absurd h
-  behind-fits x u n false later h = later h
+  beyond-fits x u n true later h = absurd h
+  beyond-fits x u n false later h = later h
 
   pub matches-fits : (u : List ℕ) (n : ℕ) → IsIn n (found (Some u)) → Fits u n
   matches-fits [] n h = own-fits [] n (rw matches-nil at h)
@@ -83,7 +83,7 @@ module _ (kind : MatchKind) (patterns : List (List ℕ)) where
       (rw (matches-cons x u) at h)) [
         | inl here ↦ own-fits (x ∷ u) n here
         | inr later ↦
-            let f = behind-fits x u n (stops kind patterns (x ∷ u)) (matches-fits u n) later in
+            let f = beyond-fits x u n (stops kind patterns (x ∷ u)) (matches-fits u n) later in
             record { numbered = f.numbered; short = (let s = f.short in omega arith) }
       ]
 
@@ -100,7 +100,7 @@ module _ (kind : MatchKind) (patterns : List (List ℕ)) where
       )
 
   -- and those after the ones that equal the string are shorter than it
-  pub matches-shorter : (u behind : List ℕ) → found (Some u) ≡ own u ++ behind → (n : ℕ) → IsIn n behind
+  pub matches-shorter : (u beyond : List ℕ) → found (Some u) ≡ own u ++ beyond → (n : ℕ) → IsIn n beyond
       → length (pattern_of patterns n) < length u
-  matches-shorter [] behind e n h = search (rules, append-nil, append_cancel_left)
-  matches-shorter (x ∷ u) behind e n h = search (rules, append_cancel_left, matches-fits)
+  matches-shorter [] beyond e n h = search (rules, append-nil, append_cancel_left)
+  matches-shorter (x ∷ u) beyond e n h = search (rules, append_cancel_left, matches-fits)

@@ -43,3 +43,4 @@ pub mod PlainWalk
 pub mod PlainReplaced
 pub mod Exchanges
 pub mod Devices
+pub mod LawSets

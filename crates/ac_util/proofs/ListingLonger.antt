@@ -11,7 +11,7 @@ use Rattle.ac_util.proofs.Picks.{same_occurrence}
 use Rattle.ac_util.proofs.Prefixes.{starts_with-itself}
 use Rattle.ac_util.proofs.Participants.{IsIn-equal_to, IsIn-from_equal_to, equal_to-ordered}
 use Rattle.ac_util.proofs.Found.{matches-nil, matches-cons}
-use Rattle.ac_util.proofs.Standing.{Stands, standing_at, Prefixes-equal, Stands-behind, Stands-from_behind}
+use Rattle.ac_util.proofs.Standing.{Stands, standing_at, Prefixes-equal, Stands-beyond, Stands-from_behind}
 use Rattle.ac_util.proofs.Spans.{pattern_length, text_length, Stands-from_Occurs, Occurs-from_Stands}
 use Rattle.ac_util.proofs.OneLonger.{find_result-text}
 
@@ -56,7 +56,7 @@ module _ (patterns : List (List ℕ)) where
             let r = from_free v n later in (
               suc r.0,
               record {
-                stands = Stands-behind patterns x v n r.0 r.1.stands;
+                stands = Stands-beyond patterns x v n r.0 r.1.stands;
                 whole =
                     (let w = r.1.whole in omega arith);
               },

@@ -115,9 +115,9 @@ module _ (kind : MatchKind) (q : Search) (free : q.anchored ≡ No) (ordered : q
       grind (arith, common_steps, dead-begins kind (plain_patterns q) (text q) dead, pick-in_text q ordered inside order, leader)
 
   -- under a leftmost kind its node begins no later than what is picked
-  pub pick-behind : is_leftmost kind ≡ true → (u : List ℕ) → reached kind (plain_patterns q) No (text q) ≡ Some u
+  pub pick-beyond : is_leftmost kind ≡ true → (u : List ℕ) → reached kind (plain_patterns q) No (text q) ≡ Some u
       → (order : MatchKind) (m : Occurrence) → pick order q ≡ Some m → q.high ≤ m.start + length u
-  pick-behind leftmost u stands order m is =
+  pick-beyond leftmost u stands order m is =
       grind (
         arith,
         common_steps,

@@ -12,7 +12,7 @@ module _ (q : Search) (more : List ℕ) (ordered : q.low ≤ q.high) (inside : q
 
   -- its text
   pub text-extended : text extended ≡ text q
-  text-extended = ap (plain q.fold) (slice_range-append q.haystack more q.low q.high ordered inside)
+  text-extended = ap (plain q.ignores_case) (slice_range-append q.haystack more q.low q.high ordered inside)
 
   -- and its pick
   pub pick-extended : (kind : MatchKind) → pick kind extended ≡ pick kind q

@@ -17,15 +17,15 @@ is_empty-length [] = refl
 is_empty-length (b ∷ p) = grind (arith, nat_tests)
 
 -- a pattern with a first byte begins with what is the same
-pub begins_with-first : (fold : Bool) (b c : ℕ) (p : List ℕ) → slice_get p 0 ≡ Some c
-    → begins_with fold b p ≡ same_byte fold b c
-begins_with-first fold b c [] e = absurd (cc)
-begins_with-first fold b c (a ∷ p) e = ap (same_byte fold b) (let s : a ≡ c = cc in s)
+pub begins_with-first : (ignores_case : Bool) (b c : ℕ) (p : List ℕ) → slice_get p 0 ≡ Some c
+    → begins_with ignores_case b p ≡ same_byte ignores_case b c
+begins_with-first ignores_case b c [] e = absurd (cc)
+begins_with-first ignores_case b c (a ∷ p) e = ap (same_byte ignores_case b) (let s : a ≡ c = cc in s)
 
 -- one without begins with nothing
-pub begins_with-none : (fold : Bool) (b : ℕ) (p : List ℕ) → slice_get p 0 ≡ None → begins_with fold b p ≡ false
-begins_with-none fold b [] e = refl
-begins_with-none fold b (a ∷ p) e = absurd (cc)
+pub begins_with-none : (ignores_case : Bool) (b : ℕ) (p : List ℕ) → slice_get p 0 ≡ None → begins_with ignores_case b p ≡ false
+begins_with-none ignores_case b [] e = refl
+begins_with-none ignores_case b (a ∷ p) e = absurd (cc)
 
 -- one more mark
 pub marked_more : (marks : List Bool) (j k : ℕ) → k < length marks
@@ -34,7 +34,7 @@ marked_more marks j k h = grind (arith, common_steps)
 
 -- whether the plain byte of a byte is marked
 abbrev pub is_marked : Bool → List Bool → ℕ → Bool
-is_marked fold marks b = get_or marks (plain_byte fold b) false
+is_marked ignores_case marks b = get_or marks (plain_byte ignores_case b) false
 
 -- the numbers below one more that pass are those below, and the one if it passes
 filter-one_more : (p : ℕ → Bool) (n : ℕ)
@@ -79,16 +79,16 @@ first_ones (a ∷ b ∷ c ∷ []) e = (refl, refl, refl)
 first_ones (a ∷ b ∷ c ∷ d ∷ xs) e = absurd (omega arith)
 
 -- what is noted once all bytes were tested is what is marked
-pub noted_all : (fold : Bool) (marks : List Bool) (bytes : List ℕ) (count k byte : ℕ) → byte ≡ 256 → count ≡ k
-    → take count bytes ≡ filter (is_marked fold marks) (range_with_len 0 byte) → take k bytes ≡ marked fold marks
-noted_all fold marks bytes count k byte e f h = cc
+pub noted_all : (ignores_case : Bool) (marks : List Bool) (bytes : List ℕ) (count k byte : ℕ) → byte ≡ 256 → count ≡ k
+    → take count bytes ≡ filter (is_marked ignores_case marks) (range_with_len 0 byte) → take k bytes ≡ marked ignores_case marks
+noted_all ignores_case marks bytes count k byte e f h = cc
 
 -- three are noted, and one more is marked
-pub marked_more_than_noted : (fold : Bool) (marks : List Bool) (bytes : List ℕ) (byte : ℕ) → byte < 256
-    → length bytes ≡ 3 → take 3 bytes ≡ filter (is_marked fold marks) (range_with_len 0 byte)
-    → is_marked fold marks byte ≡ true → 3 < length (marked fold marks)
-marked_more_than_noted fold marks bytes byte within whole noted passes =
-    grind (arith, common_steps, filter-exceeds (is_marked fold marks) (take 3 bytes) byte 256 within passes noted, length-take 3 bytes)
+pub marked_more_than_noted : (ignores_case : Bool) (marks : List Bool) (bytes : List ℕ) (byte : ℕ) → byte < 256
+    → length bytes ≡ 3 → take 3 bytes ≡ filter (is_marked ignores_case marks) (range_with_len 0 byte)
+    → is_marked ignores_case marks byte ≡ true → 3 < length (marked ignores_case marks)
+marked_more_than_noted ignores_case marks bytes byte within whole noted passes =
+    grind (arith, common_steps, filter-exceeds (is_marked ignores_case marks) (take 3 bytes) byte 256 within passes noted, length-take 3 bytes)
 
 -- a byte among the bytes is one of these
 is_one_of-IsIn : (b : ℕ) (bytes : List ℕ) → IsIn b bytes → is_one_of bytes b ≡ true
@@ -97,7 +97,7 @@ is_one_of-IsIn b (a ∷ bytes) (inl e) = or_left (b == a) (is_one_of bytes b) (e
 is_one_of-IsIn b (a ∷ bytes) (inr h) = or_right (b == a) (is_one_of bytes b) (is_one_of-IsIn b bytes h)
 
 -- a plain byte is no less than its byte
-plain_byte-ge : (fold : Bool) (b : ℕ) → b ≤ plain_byte fold b
+plain_byte-ge : (ignores_case : Bool) (b : ℕ) → b ≤ plain_byte ignores_case b
 plain_byte-ge false b = omega arith
 plain_byte-ge true b = grind (arith, nat_tests)
 
@@ -108,44 +108,44 @@ read_within (m ∷ marks) zero e = omega arith
 read_within (m ∷ marks) (suc k) e = let h = read_within marks k e in omega arith
 
 -- marks of the bytes with which patterns begin, of which there are some and none is empty
-module _ (fold : Bool) (patterns : List (List ℕ)) (marks : List Bool) (whole : length marks ≡ 256)
-    (reads : (b : ℕ) → get_or marks (plain_byte fold b) false ≡ list_any (begins_with fold b) patterns)
+module _ (ignores_case : Bool) (patterns : List (List ℕ)) (marks : List Bool) (whole : length marks ≡ 256)
+    (reads : (b : ℕ) → get_or marks (plain_byte ignores_case b) false ≡ list_any (begins_with ignores_case b) patterns)
     (some : list_any is_empty patterns ≡ false) where
   -- what is marked are the bytes with which the patterns begin
-  pub marked-first_bytes : marked fold marks ≡ first_bytes fold patterns
+  pub marked-first_bytes : marked ignores_case marks ≡ first_bytes ignores_case patterns
   unfolding first_bytes
   marked-first_bytes = λ i. filter (λ b. reads b i) (range_with_len 0 256)
 
   -- a byte with which a pattern begins is marked
-  marked-has : (b : ℕ) → list_any (begins_with fold b) patterns ≡ true → IsIn b (marked fold marks)
+  marked-has : (b : ℕ) → list_any (begins_with ignores_case b) patterns ≡ true → IsIn b (marked ignores_case marks)
   marked-has b e =
       grind (
         arith,
         common_steps,
-        IsIn-filter (is_marked fold marks) b (range_with_len 0 256) (IsIn-range b 0 256 (omega arith) (omega (
+        IsIn-filter (is_marked ignores_case marks) b (range_with_len 0 256) (IsIn-range b 0 256 (omega arith) (omega (
           arith,
-          read_within marks (plain_byte fold
+          read_within marks (plain_byte ignores_case
               b) (reads b ∙ e),
-          plain_byte-ge fold b,
+          plain_byte-ge ignores_case b,
         ))) (reads b ∙ e),
       )
 
   -- the patterns begin with what is marked
-  pub marked-BeginWith : BeginWith (marked fold marks) fold patterns
+  pub marked-BeginWith : BeginWith (marked ignores_case marks) ignores_case patterns
   marked-BeginWith = search (rules, is_one_of-IsIn, marked-has)
 
 -- patterns of which none is empty begin with some byte
-begin_somehow : (fold : Bool) (patterns : List (List ℕ)) → list_any is_empty patterns ≡ false
-    → (length patterns ≡ 0 → ⊥) → (b : ℕ) × (list_any (begins_with fold b) patterns ≡ true)
-begin_somehow fold [] some more = absurd (more refl)
-begin_somehow fold ([] ∷ ps) some more = absurd (true≢false some)
-begin_somehow fold ((c ∷ p) ∷ ps) some more =
-    (c, or_left (same_byte fold c c) (list_any (begins_with fold c) ps) (eq-eqb (plain_byte fold c) (plain_byte fold c) refl))
+begin_somehow : (ignores_case : Bool) (patterns : List (List ℕ)) → list_any is_empty patterns ≡ false
+    → (length patterns ≡ 0 → ⊥) → (b : ℕ) × (list_any (begins_with ignores_case b) patterns ≡ true)
+begin_somehow ignores_case [] some more = absurd (more refl)
+begin_somehow ignores_case ([] ∷ ps) some more = absurd (true≢false some)
+begin_somehow ignores_case ((c ∷ p) ∷ ps) some more =
+    (c, or_left (same_byte ignores_case c c) (list_any (begins_with ignores_case c) ps) (eq-eqb (plain_byte ignores_case c) (plain_byte ignores_case c) refl))
 
 -- where no pattern is empty a search skips as it does among these
-skip_for-among : (fold : Bool) (patterns : List (List ℕ)) → list_any is_empty patterns ≡ false
-    → skip_for true fold patterns ≡ skip_among fold patterns
-skip_for-among fold patterns some = ap (λ (t : Bool). cond (true && not t) (skip_among fold patterns) None) some
+skip_for-among : (ignores_case : Bool) (patterns : List (List ℕ)) → list_any is_empty patterns ≡ false
+    → skip_for true ignores_case patterns ≡ skip_among ignores_case patterns
+skip_for-among ignores_case patterns some = ap (λ (t : Bool). cond (true && not t) (skip_among ignores_case patterns) None) some
 
 -- a pattern alone is skipped to by itself
 pub skip_for-needle : (patterns : List (List ℕ)) (needle : List ℕ) → patterns ≡ needle ∷ []
@@ -153,16 +153,16 @@ pub skip_for-needle : (patterns : List (List ℕ)) (needle : List ℕ) → patte
 skip_for-needle patterns needle e some = skip_for-among false patterns some ∙ ap (skip_among false) e
 
 -- at most a hundred patterns
-module _ (fold : Bool) (patterns : List (List ℕ)) (some : list_any is_empty patterns ≡ false)
-    (more : length patterns ≡ 0 → ⊥) (alone : length patterns ≡ 1 → fold ≡ true)
+module _ (ignores_case : Bool) (patterns : List (List ℕ)) (some : list_any is_empty patterns ≡ false)
+    (more : length patterns ≡ 0 → ⊥) (alone : length patterns ≡ 1 → ignores_case ≡ true)
     (few : length patterns ≤ MOST_PATTERNS) where
   -- are skipped to by their first bytes where these are at most three
-  pub skip_for-bytes : (bytes : List ℕ) → bytes ≡ first_bytes fold patterns → length bytes ≤ MOST_BYTES
-      → Some (FirstOf bytes) ≡ skip_for true fold patterns
+  pub skip_for-bytes : (bytes : List ℕ) → bytes ≡ first_bytes ignores_case patterns → length bytes ≤ MOST_BYTES
+      → Some (FirstOf bytes) ≡ skip_for true ignores_case patterns
   skip_for-bytes bytes e h = grind (arith, common_steps)
 
   -- and not at all where these are more
-  pub skip_for-many_bytes : MOST_BYTES < length (first_bytes fold patterns) → None ≡ skip_for true fold patterns
+  pub skip_for-many_bytes : MOST_BYTES < length (first_bytes ignores_case patterns) → None ≡ skip_for true ignores_case patterns
   skip_for-many_bytes h = grind (arith, common_steps)
 
 -- the bytes of a prefilter are at most three
@@ -172,15 +172,15 @@ first_few (Two a b) = omega arith
 first_few (Three a b c) = omega arith
 
 -- where no byte is marked or more than three are, patterns that aren't empty begin with more than three bytes
-pub too_many : (fold : Bool) (patterns : List (List ℕ)) (marks : List Bool) → length marks ≡ 256
-    → ((b : ℕ) → get_or marks (plain_byte fold b) false ≡ list_any (begins_with fold b) patterns)
+pub too_many : (ignores_case : Bool) (patterns : List (List ℕ)) (marks : List Bool) → length marks ≡ 256
+    → ((b : ℕ) → get_or marks (plain_byte ignores_case b) false ≡ list_any (begins_with ignores_case b) patterns)
     → list_any is_empty patterns ≡ false → (length patterns ≡ 0 → ⊥)
-    → (marked fold marks ≡ []) ⊎ (3 < length (marked fold marks)) → MOST_BYTES < length (first_bytes fold patterns)
-too_many fold patterns marks whole reads some more (inl none) =
-    let b = begin_somehow fold patterns some more in
-    absurd (none-from_nil b.0 (marked fold marks) none (marked-has fold patterns marks whole reads some b.0 b.1))
-too_many fold patterns marks whole reads some more (inr h) =
-    omega (arith, ap length (marked-first_bytes fold patterns marks whole reads some))
+    → (marked ignores_case marks ≡ []) ⊎ (3 < length (marked ignores_case marks)) → MOST_BYTES < length (first_bytes ignores_case patterns)
+too_many ignores_case patterns marks whole reads some more (inl none) =
+    let b = begin_somehow ignores_case patterns some more in
+    absurd (none-from_nil b.0 (marked ignores_case marks) none (marked-has ignores_case patterns marks whole reads some b.0 b.1))
+too_many ignores_case patterns marks whole reads some more (inr h) =
+    omega (arith, ap length (marked-first_bytes ignores_case patterns marks whole reads some))
 
 -- a list of one pattern is that alone
 pub only_one : (patterns : List (List ℕ)) (p : List ℕ) → length patterns ≡ 1 → slice_get patterns 0 ≡ Some p

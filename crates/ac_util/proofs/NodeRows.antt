@@ -27,6 +27,16 @@ abbrev AreSteps : MatchKind → List (List ℕ) → Anchored → List (String ×
 AreSteps kind patterns anchored rows =
     map (λ row. step kind patterns anchored (at row.0) (byte row.1)) rows ≡ map (λ row. row.2) rows
 
+-- the steps on which the leftmost kinds agree
+abbrev leftmost_rows : List (String × String × Node)
+leftmost_rows =
+    ("", "a", at "a") ∷ ("", "b", at "b") ∷ ("", "c", at "")
+    ∷ ("a", "a", at "a") ∷ ("a", "b", at "ab") ∷ ("a", "x", at "")
+    ∷ ("b", "a", None) ∷ ("b", "b", None)
+    ∷ ("ab", "a", None) ∷ ("ab", "b", None) ∷ ("ab", "c", at "abc")
+    ∷ ("abc", "b", None)
+    ∷ []
+
 -- a node and its failure target
 abbrev AreFailures : MatchKind → List (List ℕ) → List (String × Node) → Type 0
 AreFailures kind patterns rows = map (λ row. failure kind patterns (codes row.0)) rows ≡ map (λ row. row.1) rows
@@ -53,25 +63,13 @@ standard-steps : AreSteps Standard nested_words No (
 standard-steps = refl
 
 -- under a leftmost kind not to one that starts after the first occurrence
-first-steps : AreSteps LeftmostFirst nested_words No (
-    ("", "a", at "a") ∷ ("", "b", at "b") ∷ ("", "c", at "")
-    ∷ ("a", "a", at "a") ∷ ("a", "b", at "ab") ∷ ("a", "x", at "")
-    ∷ ("b", "a", None) ∷ ("b", "b", None)
-    ∷ ("ab", "a", None) ∷ ("ab", "b", None) ∷ ("ab", "c", at "abc")
-    ∷ ("abc", "b", None) ∷ ("abc", "d", None)
-    ∷ [])
-first-steps = refl
+leftmost-steps : AreSteps LeftmostFirst nested_words No leftmost_rows × AreSteps LeftmostLongest nested_words No leftmost_rows
+leftmost-steps = (refl, refl)
 
--- the same, with the node "abcd" besides
-longest-steps : AreSteps LeftmostLongest nested_words No (
-    ("", "a", at "a") ∷ ("", "b", at "b") ∷ ("", "c", at "")
-    ∷ ("a", "a", at "a") ∷ ("a", "b", at "ab") ∷ ("a", "x", at "")
-    ∷ ("b", "a", None) ∷ ("b", "b", None)
-    ∷ ("ab", "a", None) ∷ ("ab", "b", None) ∷ ("ab", "c", at "abc")
-    ∷ ("abc", "b", None) ∷ ("abc", "d", at "abcd")
-    ∷ ("abcd", "a", None)
-    ∷ [])
-longest-steps = refl
+-- under LeftmostLongest there is the node "abcd" besides
+longest-steps : AreSteps LeftmostFirst nested_words No (("abc", "d", None) ∷ [])
+    × AreSteps LeftmostLongest nested_words No (("abc", "d", at "abcd") ∷ ("abcd", "a", None) ∷ [])
+longest-steps = (refl, refl)
 
 -- an anchored step leads to the whole string, or to the dead node
 standard-steps-anchored : AreSteps Standard nested_words Yes (

@@ -27,7 +27,7 @@ none-from_text order q ordered inside none = sym (pick-from_text q ordered insid
 
 -- the byte that comes in, as an automaton sees it
 abbrev pub byte_in : Search → ℕ
-byte_in q = plain_byte q.fold (get_or q.haystack q.high 0)
+byte_in q = plain_byte q.ignores_case (get_or q.haystack q.high 0)
 
 module _ (kind : MatchKind) (q : Search) (order : q.low ≤ q.high) (room : q.high < length q.haystack) where
   now-text : found_at_end kind (one_longer q) ≡ matches kind (plain_patterns q) q.anchored

@@ -1,7 +1,7 @@
 -- What the steps of a replacement leave, by what each call does.
 use Rattle.std.proofs.Common.{◌≡◌, ℕ, List, [], ◌∷◌, ◌++◌, drop, inl, inr, refl, ap, sym, subst, ◌∙◌, append_assoc, append-nil, Bool, Option, None, Some, slice_index_or, slice_range, rules, arith}
 use Rattle.std.proofs.lemmas.Grind.{common_steps}
-use Rattle.ac_util.specs.Prelude.{AlwaysWrites, Answer, AppendsAll, AppendsBeginning, answer_of, CallsNoMore, exchanged_from, Fails, Continues, MatchAnswer, Occurrence, OnlyAppends, replaced, ReplacementSteps, Replacing, Turn, WritesText}
+use Rattle.ac_util.specs.Prelude.{AlwaysWrites, Answer, AppendsAll, AppendsBeginning, answer_of, CallsNoMore, ClosureExchanges, exchanged_from, Fails, Continues, MatchAnswer, Occurrence, OnlyAppends, replaced, ReplacementSteps, Replacing, Turn, WritesText}
 
 module _ {S R E : Type 0} (appends : List ℕ → S → Option E → S → Type 0)
     (calls : Occurrence → List ℕ → S → R → S → Type 0) (asks : R → Answer E) (haystack : List ℕ) where
@@ -39,6 +39,13 @@ module _ {S R E : Type 0} (appends : List ℕ → S → Option E → S → Type 
         → holds t ++ later ≡ holds s ++ (slice_range haystack place m.start ++ write m (slice_range haystack m.start m.end) ++ later)
     turn-writes place m s t r later turn = search (rules, append_assoc)
 
+    -- after a turn it goes on
+    after-turn : {place : ℕ} {m : Occurrence} {s t : S} {r : R} (on last : Type 0) (fails : E → Type 0)
+        → Turn appends calls asks haystack place m s r t → MatchAnswer (asks r) on last fails → on
+    after-turn {m = m} {t = t} {r = r} on last fails turn later =
+        subst (λ (answer : Answer E). MatchAnswer answer on last fails)
+        (called m (slice_range haystack m.start m.end) turn.at_match t r turn.call).0 later
+
     -- the steps leave what was there and then the haystack with its matches exchanged
     pub steps-exchange : (place : ℕ) (ms : List Occurrence) (s t : S)
         → ReplacementSteps appends calls asks haystack place ms s None t
@@ -46,20 +53,7 @@ module _ {S R E : Type 0} (appends : List ℕ → S → Option E → S → Type 
     steps-exchange place [] s t h = appended (drop place haystack) s t h
     steps-exchange place (m ∷ ms) s t (inl h) = absurd (h.0 refl)
     steps-exchange place (m ∷ ms) s t (inr h) =
-        by (asks h.0) h.3 (called m (slice_range haystack m.start m.end) h.2.at_match h.1 h.0 h.2.call).0
-        (λ later. steps-exchange m.end ms h.1 t later)
-      where
-        by : (answer : Answer E) → MatchAnswer answer
-            (ReplacementSteps appends calls asks haystack m.end ms h.1 None t)
-            (appends (drop m.end haystack) h.1 None t) (λ failure. (None ≡ Some failure) × (t ≡ h.1))
-            → answer ≡ Continues
-            → (ReplacementSteps appends calls asks haystack m.end ms h.1 None t
-            → holds t ≡ holds h.1 ++ exchanged_from haystack write m.end ms)
-            → holds t ≡ holds s ++ exchanged_from haystack write place (m ∷ ms)
-        by Continues later goes on =
-            on later ∙ turn-writes place m s h.1 h.0 (exchanged_from haystack write m.end ms) h.2
-        by CallsNoMore later goes on = absurd (cc)
-        by (Fails failure) later goes on = absurd (cc)
+        steps-exchange m.end ms h.1 t (after-turn _ _ _ h.2 h.3) ∙ turn-writes place m s h.1 h.0 (exchanged_from haystack write m.end ms) h.2
 
     -- wherever they end, what the steps leave begins what they leave as a whole
     pub steps-begin : (place : ℕ) (ms : List Occurrence) (s t : S) (end : Option E)
@@ -74,21 +68,8 @@ module _ {S R E : Type 0} (appends : List ℕ → S → Option E → S → Type 
               exchanged_from haystack write m.end ms),
         )
     steps-begin place (m ∷ ms) s t end (inr h) =
-        by (asks h.0) h.3 (called m (slice_range haystack m.start m.end) h.2.at_match h.1 h.0 h.2.call).0
-        (λ later. steps-begin m.end ms h.1 t end later)
-      where
-        by : (answer : Answer E) → MatchAnswer answer
-            (ReplacementSteps appends calls asks haystack m.end ms h.1 end t)
-            (appends (drop m.end haystack) h.1 end t) (λ failure. (end ≡ Some failure) × (t ≡ h.1))
-            → answer ≡ Continues
-            → (ReplacementSteps appends calls asks haystack m.end ms h.1 end t
-            → (rest : List ℕ) × (holds t ++ rest ≡ holds h.1 ++ exchanged_from haystack write m.end ms))
-            → (rest : List ℕ) × (holds t ++ rest ≡ holds s ++ exchanged_from haystack write place (m ∷ ms))
-        by Continues later goes on =
-            let rest = on later in
-            (rest.0, rest.1 ∙ turn-writes place m s h.1 h.0 (exchanged_from haystack write m.end ms) h.2)
-        by CallsNoMore later goes on = absurd (cc)
-        by (Fails failure) later goes on = absurd (cc)
+        let later = steps-begin m.end ms h.1 t end (after-turn _ _ _ h.2 h.3) in
+        (later.0, later.1 ∙ turn-writes place m s h.1 h.0 (exchanged_from haystack write m.end ms) h.2)
 
 module _ {F D E : Type 0} (holds : D → List ℕ) where
   -- appending all or nothing appends a beginning
@@ -120,14 +101,14 @@ module _ (E : Type 0) {F D : Type 0} (calls : Occurrence → List ℕ → Replac
       → (answer_of {E = E} r ≡ Continues) × (holds t.destination ≡ holds s.destination ++ write m slice)
   asks_on m slice s t r call = grind (arith, common_steps)
 
-  pub closure-exchanges : (ms : List Occurrence) (s t : Replacing F D)
+  closure-exchanges : (ms : List Occurrence) (s t : Replacing F D)
       → ReplacementSteps (AppendsAll {E = E} holds) calls answer_of haystack 0 ms s None t
       → holds t.destination ≡ holds s.destination ++ exchanged_from haystack write 0 ms
   closure-exchanges ms s t =
       steps-exchange (AppendsAll {E = E} holds) calls answer_of haystack (λ u. holds u.destination) write
       (λ bytes u v e. e.1) (AppendsAll-begins holds) asks_on 0 ms s t
 
-  pub closure-begins : (ms : List Occurrence) (s t : Replacing F D) (end : Option E)
+  closure-begins : (ms : List Occurrence) (s t : Replacing F D) (end : Option E)
       → ReplacementSteps (AppendsAll {E = E} holds) calls answer_of haystack 0 ms s end t
       → (rest : List ℕ)
       × (holds t.destination ++ rest ≡ holds s.destination ++ exchanged_from haystack write 0 ms)
@@ -149,7 +130,7 @@ module _ (E : Type 0) {F D : Type 0} (calls : Occurrence → List ℕ → Replac
   added bytes s t None h = (bytes, h.1)
   added bytes s t (Some failure) h = ([], h.1 ∙ sym (append-nil (holds s.destination)))
 
-  pub closure-keeps : (haystack : List ℕ) (ms : List Occurrence) (s t : Replacing F D) (end : Option E)
+  closure-keeps : (haystack : List ℕ) (ms : List Occurrence) (s t : Replacing F D) (end : Option E)
       → ReplacementSteps (AppendsAll {E = E} holds) calls answer_of haystack 0 ms s end t
       → (more : List ℕ) × (holds t.destination ≡ holds s.destination ++ more)
   closure-keeps haystack ms s t end steps =
@@ -160,6 +141,15 @@ module _ (E : Type 0) {F D : Type 0} (calls : Occurrence → List ℕ → Replac
       (λ m slice u v r h p.
       appends-on (holds s.destination) (holds u.destination) (holds v.destination) (appends m slice u r v h) p)
       0 ms s t end steps ([], sym (append-nil (holds s.destination)))
+
+-- both together
+pub closure-leaves : (E : Type 0) {F D : Type 0} (calls : Occurrence → List ℕ → Replacing F D → Bool → Replacing F D → Type 0)
+    → ClosureExchanges E calls
+closure-leaves E calls = record {
+  whole = λ haystack holds write ms s t writes. closure-exchanges E calls holds write writes haystack ms s t;
+  begun = λ haystack holds write ms s t end writes. closure-begins E calls holds write writes haystack ms s t end;
+  kept = λ haystack holds ms s t end appends. closure-keeps E calls holds appends haystack ms s t end;
+}
 
 -- what calls that write the texts of patterns leave
 module _ (E : Type 0) (haystack : List ℕ) (texts : List (List ℕ)) where

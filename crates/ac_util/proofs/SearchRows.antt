@@ -6,7 +6,7 @@ use Rattle.ac_util.specs.Prelude.{all, LeftmostFirst, LeftmostLongest, MatchKind
 abbrev pub in_text : List (List ℕ) → List ℕ → Search
 in_text patterns haystack = record {
   patterns = patterns;
-  fold = false;
+  ignores_case = false;
   haystack = haystack;
   anchored = No;
   low = 0;
@@ -19,7 +19,7 @@ at_start q = record q { anchored = Yes }
 
 -- the same search where case is ignored
 abbrev pub caseless : Search → Search
-caseless q = record q { fold = true }
+caseless q = record q { ignores_case = true }
 
 -- the same search in a span
 abbrev pub within : ℕ → ℕ → Search → Search

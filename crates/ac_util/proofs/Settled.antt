@@ -21,7 +21,7 @@ first-starts LeftmostLongest a b leftmost h = h.starts
 
 -- where a pattern stands, each of its prefixes among the patterns stands too
 module _ (q : Search) (m : Occurrence) (o : Occurs q m) (number : ℕ) (numbered : number < length q.patterns)
-    (front : starts_with nat_eq (plain q.fold (pattern_of q.patterns m.pattern)) (plain q.fold (pattern_of q.patterns number)) ≡ true)
+    (front : starts_with nat_eq (plain q.ignores_case (pattern_of q.patterns m.pattern)) (plain q.ignores_case (pattern_of q.patterns number)) ≡ true)
   where
     abbrev prefix : Occurrence
     prefix = occurrence number m.start (m.start + length (pattern_of q.patterns number))
@@ -44,19 +44,19 @@ pick-takes_part LeftmostFirst q m leftmost is =
     o : Occurs q m
     o = pick-Occurs LeftmostFirst q m is
 
-    plain_of : (k : ℕ) → k < length q.patterns → pattern_of (plain_patterns q) k ≡ plain q.fold (pattern_of q.patterns k)
-    plain_of k within = get_or-map (plain q.fold) q.patterns k [] [] within
+    plain_of : (k : ℕ) → k < length q.patterns → pattern_of (plain_patterns q) k ≡ plain q.ignores_case (pattern_of q.patterns k)
+    plain_of k within = get_or-map (plain q.ignores_case) q.patterns k [] [] within
 
     by : (i : ℕ) × IsFirstAny (λ (p : List ℕ). starts_with nat_eq (pattern_of (plain_patterns q) m.pattern) p) []
         (take m.pattern (plain_patterns q)) i → ⊥
     by found =
         let i = found.0 in
         let numbered = o.numbered in
-        let all = length-map q.patterns (plain q.fold) in
+        let all = length-map q.patterns (plain q.ignores_case) in
         let fewer = length-take-le m.pattern (plain_patterns q) (omega arith) in
         let below : i < m.pattern = (let within = found.1.within in omega arith) in
-        let front : starts_with nat_eq (plain q.fold (pattern_of q.patterns m.pattern)) (plain q.fold (pattern_of q.patterns i)) ≡ true =
-        ap (λ (w : List ℕ). starts_with nat_eq w (plain q.fold (pattern_of q.patterns i))) (sym (plain_of m.pattern o.numbered))
+        let front : starts_with nat_eq (plain q.ignores_case (pattern_of q.patterns m.pattern)) (plain q.ignores_case (pattern_of q.patterns i)) ≡ true =
+        ap (λ (w : List ℕ). starts_with nat_eq w (plain q.ignores_case (pattern_of q.patterns i))) (sym (plain_of m.pattern o.numbered))
         ∙ ap (λ (p : List ℕ). starts_with nat_eq (pattern_of (plain_patterns q) m.pattern) p)
         (sym (get_or-take m.pattern (plain_patterns q) i [] below ∙ plain_of i (omega arith)))
         ∙ found.1.passes in
@@ -95,10 +95,10 @@ module _ (built : Built) (leftmost : is_leftmost built.kind ≡ true) (bytes mor
         takes_part = pick-takes_part built.kind (there low) m leftmost is;
         longer = omega arith;
         begins =
-            sym (take-map (plain_byte built.fold) n (pattern_of built.patterns m.pattern))
+            sym (take-map (plain_byte built.ignores_case) n (pattern_of built.patterns m.pattern))
             ∙ ap (take n) o.reads
-            ∙ take-map (plain_byte built.fold) n (slice_range (bytes ++ more) m.start m.end)
-            ∙ ap (plain built.fold) (shown m.start m.end inside beyond);
+            ∙ take-map (plain_byte built.ignores_case) n (slice_range (bytes ++ more) m.start m.end)
+            ∙ ap (plain built.ignores_case) (shown m.start m.end inside beyond);
       }
     where
       -- of a slice that ends after the bytes, as many as there are of these
@@ -188,9 +188,9 @@ module _ (built : Built) (leftmost : is_leftmost built.kind ≡ true) (bytes mor
             )
 
     -- a walk after a match starts no match before its end
-    walk-behind : (q : Search) → All (λ (x : Occurrence). q.low ≤ x.start) (walk_after built.kind q (Some q.low))
+    walk-beyond : (q : Search) → All (λ (x : Occurrence). q.low ≤ x.start) (walk_after built.kind q (Some q.low))
     unfolding walk_after
-    walk-behind q = λ k d within.
+    walk-beyond q = λ k d within.
         let n = q.high + 1 - q.low in
         let r = next_match built.kind q (Some q.low) in
         (later built.kind q n r (get_or (continued built.kind q n r) k d) refl
@@ -210,18 +210,18 @@ module _ (built : Built) (leftmost : is_leftmost built.kind ≡ true) (bytes mor
             let is = next-picks q last n same e in
             let starts = first n is in
             let long = some-bytes q n same is in
-            let behind = walk-behind (from q n.end) in
+            let beyond = walk-beyond (from q n.end) in
             let rest = walk_after built.kind (from q n.end) (Some n.end) in
             let far : All (λ (m : Occurrence). place ≤ m.start) rest =
-            λ k d at. (let far = behind k d at in let end : place ≤ (get_or rest k d).start = omega arith in end) in
+            λ k d at. (let far = beyond k d at in let end : place ≤ (get_or rest k d).start = omega arith in end) in
             subst (All (λ (m : Occurrence). place ≤ m.start)) (sym (walk_after-Some built.kind q last n e))
             (All-cons (λ (m : Occurrence). place ≤ m.start) n rest starts far)
 
     -- where none starts before a place and none is open up to there, none starts before it later
-    later-behind : (low place : ℕ) (last : Option ℕ) → place ≤ length bytes → NoneOpen built bytes low place
+    later-beyond : (low place : ℕ) (last : Option ℕ) → place ≤ length bytes → NoneOpen built bytes low place
         → All (λ (m : Occurrence). place ≤ m.start) (walk_after built.kind (here low) last)
         → All (λ (m : Occurrence). place ≤ m.start) (walk_after built.kind (there low) last)
-    later-behind low place last within closed all =
+    later-beyond low place last within closed all =
         walk-from (there low) place last refl (pick-later low place within closed none)
       where
         none : (m : Occurrence) → pick built.kind (here low) ≡ Some m → place ≤ m.start
@@ -236,7 +236,7 @@ module _ (built : Built) (leftmost : is_leftmost built.kind ≡ true) (bytes mor
         → All (λ (m : Occurrence). place ≤ m.start) rest
         → (others : List Occurrence) × (walk_after built.kind (there low) last ≡ ms ++ others)
         × All (λ (m : Occurrence). place ≤ m.start) others
-    decided-stays [] rest low place last within walks closed all = search (rules, later-behind)
+    decided-stays [] rest low place last within walks closed all = search (rules, later-beyond)
     decided-stays (m ∷ ms) rest low place last within walks decided all =
         let first = walk-first (here low) last m (ms ++ rest) walks in
         let is = next-picks (here low) last m refl first.0 in

@@ -45,22 +45,22 @@ pub first_in_range : (test : ℕ → Bool) (hay : List ℕ) (low high : ℕ) (r 
 first_in_range test hay low high r ordered within h = search (rules, first_moved, length-range, range-at)
 
 -- a pattern that isn't empty begins with each byte that is the same as its first one
-begins : (fold : Bool) (b : ℕ) (p : List ℕ) → is_empty p ≡ false
-    → plain_byte fold (get_or p 0 0) ≡ plain_byte fold b → begins_with fold b p ≡ true
-begins fold b [] e h = absurd (false≢true (sym e))
-begins fold b (c ∷ p) e h = eq-eqb (plain_byte fold b) (plain_byte fold c) (sym h)
+begins : (ignores_case : Bool) (b : ℕ) (p : List ℕ) → is_empty p ≡ false
+    → plain_byte ignores_case (get_or p 0 0) ≡ plain_byte ignores_case b → begins_with ignores_case b p ≡ true
+begins ignores_case b [] e h = absurd (false≢true (sym e))
+begins ignores_case b (c ∷ p) e h = eq-eqb (plain_byte ignores_case b) (plain_byte ignores_case c) (sym h)
 
 -- a search for patterns that begin with some bytes
-module _ (bytes : List ℕ) (fold : Bool) (patterns : List (List ℕ)) (hay : List ℕ) (low high : ℕ)
-    (begin : BeginWith bytes fold patterns) where
+module _ (bytes : List ℕ) (ignores_case : Bool) (patterns : List (List ℕ)) (hay : List ℕ) (low high : ℕ)
+    (begin : BeginWith bytes ignores_case patterns) where
   -- what occurs isn't empty, and starts with one of the bytes
-  starts_so : (m : Occurrence) → Occurs (search_over fold patterns hay low high) m
+  starts_so : (m : Occurrence) → Occurs (search_over ignores_case patterns hay low high) m
       → (m.start < m.end) × Passes (is_one_of bytes) hay m.start
   starts_so m o = grind (arith, common_steps)
 
   -- so nothing starts before the first place that holds one of the bytes
   bytes_promise : (place : Option ℕ) → IsFirst (Passes (is_one_of bytes) hay) low high place
-      → Promises (search_over fold patterns hay low high) (start_candidate place)
+      → Promises (search_over ignores_case patterns hay low high) (start_candidate place)
   bytes_promise None none = λ m o. let s = starts_so m o in none m.start o.from_low (omega (arith, s.0, o.to_high)) s.1
   bytes_promise (Some k) (b, p) = (
     b.low,
@@ -146,12 +146,12 @@ module _ (needle : List ℕ) (hay : List ℕ) (low high : ℕ) where
       (λ k l. occurs_from_range k ordered within) (λ k l. range_from_occurs k ordered within) h))
 
 -- what a skip tells is promised of each search that may skip so
-pub promised : (skip : Skip) (fold : Bool) (patterns : List (List ℕ)) (hay : List ℕ) (low high : ℕ)
-    (candidate : Candidate) → Tells skip hay low high candidate → IsSkipFor skip fold patterns
-    → Promises (search_over fold patterns hay low high) candidate
-promised (FirstOf bytes) fold patterns hay low high candidate (place, first, is) begin =
-    grind (arith, common_steps, bytes_promise bytes fold patterns hay low high begin place first)
-promised (Needle needle) fold patterns hay low high candidate is (counts, single) = search (rules, needle_promise)
+pub promised : (skip : Skip) (ignores_case : Bool) (patterns : List (List ℕ)) (hay : List ℕ) (low high : ℕ)
+    (candidate : Candidate) → Tells skip hay low high candidate → IsSkipFor skip ignores_case patterns
+    → Promises (search_over ignores_case patterns hay low high) candidate
+promised (FirstOf bytes) ignores_case patterns hay low high candidate (place, first, is) begin =
+    grind (arith, common_steps, bytes_promise bytes ignores_case patterns hay low high begin place first)
+promised (Needle needle) ignores_case patterns hay low high candidate is (counts, single) = search (rules, needle_promise)
 
 -- where a span starts past its end a skip tells of nothing
 pub tells-nothing : (skip : Skip) (hay : List ℕ) (low high : ℕ) → high < low → Tells skip hay low high Nothing

@@ -55,12 +55,12 @@ nothing-past_end q m past = grind (arith, common_steps)
 
 module _ (q : Search) (order : q.low ≤ q.high) (inside : q.high ≤ length q.haystack) where
   -- a plain pattern is the pattern made plain
-  pattern_plain : (n : ℕ) → pattern_of (plain_patterns q) n ≡ plain q.fold (pattern_of q.patterns n)
-  pattern_plain n = get_or-map (plain q.fold) q.patterns n []
+  pattern_plain : (n : ℕ) → pattern_of (plain_patterns q) n ≡ plain q.ignores_case (pattern_of q.patterns n)
+  pattern_plain n = get_or-map (plain q.ignores_case) q.patterns n []
 
   -- it is as long
   pub pattern_length : (n : ℕ) → length (pattern_of (plain_patterns q) n) ≡ length (pattern_of q.patterns n)
-  pattern_length n = ap length (pattern_plain n) ∙ length-map (pattern_of q.patterns n) (plain_byte q.fold)
+  pattern_length n = ap length (pattern_plain n) ∙ length-map (pattern_of q.patterns n) (plain_byte q.ignores_case)
 
   -- the text is as long as the span
   pub text_length : length (text q) ≡ q.high - q.low
@@ -68,7 +68,7 @@ module _ (q : Search) (order : q.low ≤ q.high) (inside : q.high ≤ length q.h
 
   -- a part of the text is the plain part of the haystack
   part : (k n : ℕ) → k + n ≤ q.high - q.low
-      → take n (drop k (text q)) ≡ plain q.fold (slice_range q.haystack (q.low + k) (q.low + k + n))
+      → take n (drop k (text q)) ≡ plain q.ignores_case (slice_range q.haystack (q.low + k) (q.low + k + n))
   part k n h = search (rules, drop-drop, drop-map, take-map, take_drop_take)
 
   -- what occurs stands in the text
@@ -143,7 +143,7 @@ module _ (q : Search) (order : q.low ≤ q.high) (inside : q.high ≤ length q.h
 
 -- the text of a span that is one place longer has one byte more
 pub text_longer : (q : Search) → q.low ≤ q.high → q.high < length q.haystack
-    → text (one_longer q) ≡ text q ++ plain_byte q.fold (get_or q.haystack q.high 0) ∷ []
+    → text (one_longer q) ≡ text q ++ plain_byte q.ignores_case (get_or q.haystack q.high 0) ∷ []
 text_longer q order room =
     let d = length-drop q.low q.haystack in
     let part : slice_range q.haystack q.low (q.high + 1)
@@ -152,5 +152,5 @@ text_longer q order room =
     ∙ take_more (drop q.low q.haystack) (q.high - q.low) 0 (omega arith)
     ∙ ap (λ (x : ℕ). slice_range q.haystack q.low q.high ++ x ∷ [])
     (get_or-drop q.low q.haystack (q.high - q.low) 0 ∙ ap (λ (k : ℕ). get_or q.haystack k 0) (omega arith)) in
-    ap (plain q.fold) part
-    ∙ map-append (plain_byte q.fold) (slice_range q.haystack q.low q.high) (get_or q.haystack q.high 0 ∷ [])
+    ap (plain q.ignores_case) part
+    ∙ map-append (plain_byte q.ignores_case) (slice_range q.haystack q.low q.high) (get_or q.haystack q.high 0 ∷ [])

@@ -74,9 +74,9 @@ module _ (patterns : List (List ℕ)) where
     Stands-end w n s h = grind (arith, common_steps)
 
   -- what stands in w stands one further on after one more byte, and the other way round
-  pub Stands-behind : (x : ℕ) (w : List ℕ) (n s : ℕ) → Stands patterns No w n s
+  pub Stands-beyond : (x : ℕ) (w : List ℕ) (n s : ℕ) → Stands patterns No w n s
       → Stands patterns No (x ∷ w) n (suc s)
-  Stands-behind x w n s h = grind (arith, common_steps)
+  Stands-beyond x w n s h = grind (arith, common_steps)
 
   -- what stands after the first byte stands in the rest
   pub Stands-from_behind : (x : ℕ) (w : List ℕ) (n s : ℕ) → Stands patterns No (x ∷ w) n (suc s)

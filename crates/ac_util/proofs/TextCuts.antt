@@ -12,63 +12,63 @@ use Rattle.ac_util.specs.Prelude.{all, AreTexts, InputView, Built, find_result, 
 use Rattle.ac_util.proofs.Lying.{find_result-IfSome, listed-lie, walk_result-lie}
 
 -- a byte of no ASCII letter keeps its class, and so does the small form of one
-plain_byte-low : (fold : Bool) (b : ℕ) → b < 128 → plain_byte fold b < 128
+plain_byte-low : (ignores_case : Bool) (b : ℕ) → b < 128 → plain_byte ignores_case b < 128
 plain_byte-low false b low = low
 plain_byte-low true b low = lowercase_ascii b low
 
-plain_byte-high : (fold : Bool) (b : ℕ) → 128 ≤ b → plain_byte fold b ≡ b
+plain_byte-high : (ignores_case : Bool) (b : ℕ) → 128 ≤ b → plain_byte ignores_case b ≡ b
 plain_byte-high false b high = refl
 plain_byte-high true b high = (lowercase_is b).2 (omega arith)
 
 -- bytes above those of ASCII stay
-plain-high : (fold : Bool) (bs : List ℕ) → ((k : ℕ) → k < length bs → 128 ≤ get_or bs k 0)
-    → plain fold bs ≡ bs
-plain-high fold [] high = refl
-plain-high fold (b ∷ bs) high =
-    ap₂ (λ (c : ℕ) (cs : List ℕ). c ∷ cs) (plain_byte-high fold b (high 0 (omega arith)))
-    (plain-high fold bs (λ k below. high (suc k) (omega arith)))
+plain-high : (ignores_case : Bool) (bs : List ℕ) → ((k : ℕ) → k < length bs → 128 ≤ get_or bs k 0)
+    → plain ignores_case bs ≡ bs
+plain-high ignores_case [] high = refl
+plain-high ignores_case (b ∷ bs) high =
+    ap₂ (λ (c : ℕ) (cs : List ℕ). c ∷ cs) (plain_byte-high ignores_case b (high 0 (omega arith)))
+    (plain-high ignores_case bs (λ k below. high (suc k) (omega arith)))
 
 -- one ASCII byte is a text
 one-IsUtf8 : (b : ℕ) → b < 128 → IsUtf8 (b ∷ [])
 one-IsUtf8 b low = subst IsUtf8 (encode_ascii b low) (IsUtf8-encode b (low_scalar b (omega arith)))
 
 -- the plain bytes of a character are a text
-plain-character : (fold : Bool) (c : ℕ) → scalar c ≡ true → IsUtf8 (plain fold (encode c))
-plain-character fold c ok = elim (cases_lt c 128) [
+plain-character : (ignores_case : Bool) (c : ℕ) → scalar c ≡ true → IsUtf8 (plain ignores_case (encode c))
+plain-character ignores_case c ok = elim (cases_lt c 128) [
   | inl low ↦
-      subst (λ (bs : List ℕ). IsUtf8 (plain fold bs)) (sym (encode_ascii c low))
-      (one-IsUtf8 (plain_byte fold c) (plain_byte-low fold c low))
+      subst (λ (bs : List ℕ). IsUtf8 (plain ignores_case bs)) (sym (encode_ascii c low))
+      (one-IsUtf8 (plain_byte ignores_case c) (plain_byte-low ignores_case c low))
   | inr high ↦
       let above : (k : ℕ) → k < length (encode c) → 128 ≤ get_or (encode c) k 0 =
       λ k below. elim (cases_lt (get_or (encode c) k 0) 128) [
         | inl low ↦ absurd (omega (arith, inside_one c [] (encode c) k (sym (append-nil _)) below low))
         | inr h ↦ h
       ] in
-      subst IsUtf8 (sym (plain-high fold (encode c) above)) (IsUtf8-encode c ok)
+      subst IsUtf8 (sym (plain-high ignores_case (encode c) above)) (IsUtf8-encode c ok)
 ]
 
 -- and so are those of characters in a row
-plain-characters : (fold : Bool) (cs : List ℕ) → scalars cs ≡ true → IsUtf8 (plain fold (encodes cs))
-plain-characters fold [] ok = IsUtf8-nil
-plain-characters fold (c ∷ cs) ok =
+plain-characters : (ignores_case : Bool) (cs : List ℕ) → scalars cs ≡ true → IsUtf8 (plain ignores_case (encodes cs))
+plain-characters ignores_case [] ok = IsUtf8-nil
+plain-characters ignores_case (c ∷ cs) ok =
     let each = and_parts _ _ ok in
-    subst IsUtf8 (sym (map-append (plain_byte fold) (encode c) (encodes cs)))
-    (IsUtf8-append _ _ (plain-character fold c each.0) (plain-characters fold cs each.1))
+    subst IsUtf8 (sym (map-append (plain_byte ignores_case) (encode c) (encodes cs)))
+    (IsUtf8-append _ _ (plain-character ignores_case c each.0) (plain-characters ignores_case cs each.1))
 
 -- the plain bytes of a text are a text
-plain-IsUtf8 : (fold : Bool) (text : List ℕ) → IsUtf8 text → IsUtf8 (plain fold text)
-plain-IsUtf8 fold text u = grind (arith, common_steps, plain-characters fold u.0 u.1.0)
+plain-IsUtf8 : (ignores_case : Bool) (text : List ℕ) → IsUtf8 text → IsUtf8 (plain ignores_case text)
+plain-IsUtf8 ignores_case text u = grind (arith, common_steps, plain-characters ignores_case u.0 u.1.0)
 
 -- a boundary of the plain text is one of the text
-IsCharBoundary-from_plain : (fold : Bool) (text : List ℕ) (i : ℕ) → IsCharBoundary (plain fold text) i
+IsCharBoundary-from_plain : (ignores_case : Bool) (text : List ℕ) (i : ℕ) → IsCharBoundary (plain ignores_case text) i
     → IsCharBoundary text i
-IsCharBoundary-from_plain fold text i b = grind (arith, common_steps)
+IsCharBoundary-from_plain ignores_case text i b = grind (arith, common_steps)
 
 -- what follows whole characters of a text is a text
-IsUtf8-behind : (cs rest text : List ℕ) → IsUtf8 text → text ≡ encodes cs ++ rest → IsUtf8 rest
-IsUtf8-behind [] rest text u e = subst IsUtf8 e u
-IsUtf8-behind (c ∷ cs) rest text u e =
-    IsUtf8-behind cs rest (encodes cs ++ rest)
+IsUtf8-beyond : (cs rest text : List ℕ) → IsUtf8 text → text ≡ encodes cs ++ rest → IsUtf8 rest
+IsUtf8-beyond [] rest text u e = subst IsUtf8 e u
+IsUtf8-beyond (c ∷ cs) rest text u e =
+    IsUtf8-beyond cs rest (encodes cs ++ rest)
     (IsUtf8-past_char text (encodes cs ++ rest) c u (e ∙ append_assoc (encode c) (encodes cs) rest)) refl
 
 -- Where a text p that is not empty stands in a text at i.
@@ -94,22 +94,22 @@ module _ (text p : List ℕ) (i : ℕ) (u : IsUtf8 text) (v : IsUtf8 p) (nonempt
   at_end =
       IsCharBoundary-from_rest text i (length p) (omega arith)
       (IsCharBoundary-at_seam (drop i text) p (drop (length p) (drop i text)) parts
-      (IsUtf8-behind v.0 (drop (length p) (drop i text)) (drop i text) (IsUtf8-drop text i u at_start)
+      (IsUtf8-beyond v.0 (drop (length p) (drop i text)) (drop i text) (IsUtf8-drop text i u at_start)
       (parts ∙ ap (λ (bs : List ℕ). bs ++ drop (length p) (drop i text)) (sym v.1.1))))
 
 -- a match of a text in a text lies between characters
 pub lies-between : (built : Built) (input : InputView) (m : Occurrence) → AreTexts built.patterns
     → IsUtf8 input.haystack → LiesIn built input m → IsBetweenCharacters input.haystack m
 lies-between built input m texts u lies = record {
-  starts = IsCharBoundary-from_plain fold bytes m.start
-      (at_start (plain fold bytes) (plain fold p) m.start plain_text plain_pattern some inside stands);
-  ends = IsCharBoundary-from_plain fold bytes m.end
-      (subst (IsCharBoundary (plain fold bytes)) (omega (arith, lies.as_long, same_length))
-      (at_end (plain fold bytes) (plain fold p) m.start plain_text plain_pattern some inside stands));
+  starts = IsCharBoundary-from_plain ignores_case bytes m.start
+      (at_start (plain ignores_case bytes) (plain ignores_case p) m.start plain_text plain_pattern some inside stands);
+  ends = IsCharBoundary-from_plain ignores_case bytes m.end
+      (subst (IsCharBoundary (plain ignores_case bytes)) (omega (arith, lies.as_long, same_length))
+      (at_end (plain ignores_case bytes) (plain ignores_case p) m.start plain_text plain_pattern some inside stands));
 }
   where
-    fold : Bool
-    fold = built.fold
+    ignores_case : Bool
+    ignores_case = built.ignores_case
 
     bytes : List ℕ
     bytes = input.haystack
@@ -117,29 +117,29 @@ lies-between built input m texts u lies = record {
     p : List ℕ
     p = pattern_of built.patterns m.pattern
 
-    plain_text : IsUtf8 (plain fold bytes)
-    plain_text = plain-IsUtf8 fold bytes u
+    plain_text : IsUtf8 (plain ignores_case bytes)
+    plain_text = plain-IsUtf8 ignores_case bytes u
 
-    plain_pattern : IsUtf8 (plain fold p)
-    plain_pattern = plain-IsUtf8 fold p (texts.texts m.pattern [] lies.numbered)
+    plain_pattern : IsUtf8 (plain ignores_case p)
+    plain_pattern = plain-IsUtf8 ignores_case p (texts.texts m.pattern [] lies.numbered)
 
-    same_length : length (plain fold p) ≡ length p
-    same_length = length-map p (plain_byte fold)
+    same_length : length (plain ignores_case p) ≡ length p
+    same_length = length-map p (plain_byte ignores_case)
 
-    some : plain fold p ≢ []
+    some : plain ignores_case p ≢ []
     some e = texts.nonempty m.pattern [] lies.numbered
         (nil_from_length p (sym same_length ∙ ap length e))
 
-    inside : m.start + length (plain fold p) ≤ length (plain fold bytes)
-    inside = let l = length-map bytes (plain_byte fold) in
+    inside : m.start + length (plain ignores_case p) ≤ length (plain ignores_case bytes)
+    inside = let l = length-map bytes (plain_byte ignores_case) in
         let long = lies.as_long in let high = lies.in_haystack in
         let same = same_length in omega arith
 
-    stands : take (length (plain fold p)) (drop m.start (plain fold bytes)) ≡ plain fold p
+    stands : take (length (plain ignores_case p)) (drop m.start (plain ignores_case bytes)) ≡ plain ignores_case p
     stands =
-        ap (take (length (plain fold p))) (drop-map (plain_byte fold) m.start bytes)
-        ∙ take-map (plain_byte fold) (length (plain fold p)) (drop m.start bytes)
-        ∙ ap (λ (n : ℕ). plain fold (take n (drop m.start bytes)))
+        ap (take (length (plain ignores_case p))) (drop-map (plain_byte ignores_case) m.start bytes)
+        ∙ take-map (plain_byte ignores_case) (length (plain ignores_case p)) (drop m.start bytes)
+        ∙ ap (λ (n : ℕ). plain ignores_case (take n (drop m.start bytes)))
         (let long = lies.as_long in let same = same_length in omega arith)
         ∙ sym lies.same
 

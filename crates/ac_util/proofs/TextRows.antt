@@ -35,7 +35,7 @@ abbrev fox_words : List (List ℕ)
 fox_words = codes "fox" ∷ codes "brown" ∷ codes "quick" ∷ []
 
 abbrev foxes : Built
-foxes = record { patterns = fox_words; fold = false; kind = Standard; start_kind = Unanchored }
+foxes = record { patterns = fox_words; ignores_case = false; kind = Standard; start_kind = Unanchored }
 
 abbrev fox_texts : List (List ℕ)
 fox_texts = codes "sloth" ∷ codes "grey" ∷ codes "slow" ∷ []

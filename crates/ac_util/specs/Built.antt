@@ -16,7 +16,7 @@ use Rattle.ac_util.specs.InputView.{InputView, whole_input, search_for}
 -- the patterns, whether case is ignored, the match kind, and which starts there are
 pub record Built : Type 0 where
   pub patterns : List (List ℕ)
-  pub fold : Bool
+  pub ignores_case : Bool
   pub kind : MatchKind
   pub start_kind : StartKind
 
@@ -26,7 +26,7 @@ has_empty built = list_any (λ p. length p == 0) built.patterns
 
 -- the search that an input asks for
 abbrev pub search_in : Built → InputView → Search
-search_in built input = search_for built.patterns built.fold input
+search_in built input = search_for built.patterns built.ignores_case input
 
 -- what a find answers
 abbrev pub find_result : Built → InputView → Option Occurrence

@@ -13,29 +13,29 @@ IsNode kind patterns (Some u) = is_node kind patterns u ≡ true
 
 -- an automaton may step by the class of a byte in place of the byte: byte 0 has class 0, classes rise by at
 -- most one along the bytes, and two bytes of one class lead alike from every node
-pub record IsLawful (class : ℕ → ℕ) (kind : MatchKind) (fold : Bool) (patterns : List (List ℕ)) : Type 0 where
+pub record IsLawful (class : ℕ → ℕ) (kind : MatchKind) (ignores_case : Bool) (patterns : List (List ℕ)) : Type 0 where
   pub begins : class 0 ≡ 0
   pub rises : (b : ℕ) → b < 255 → class b ≤ class (b + 1)
   pub rises_by_one : (b : ℕ) → b < 255 → class (b + 1) ≤ class b + 1
   pub steps_alike : (a b : ℕ) → a < 256 → b < 256 → class a ≡ class b
-      → (anchored : Anchored) (u : Node) → IsNode kind (map (plain fold) patterns) u
-      → step kind (map (plain fold) patterns) anchored u (plain_byte fold a)
-      ≡ step kind (map (plain fold) patterns) anchored u (plain_byte fold b)
+      → (anchored : Anchored) (u : Node) → IsNode kind (map (plain ignores_case) patterns) u
+      → step kind (map (plain ignores_case) patterns) anchored u (plain_byte ignores_case a)
+      ≡ step kind (map (plain ignores_case) patterns) anchored u (plain_byte ignores_case b)
 
 -- whether the byte stands in some pattern, in either case where case is ignored
 abbrev pub is_in_patterns : Bool → List (List ℕ) → ℕ → Bool
-is_in_patterns fold patterns b = list_any (λ p. list_any (same_byte fold b) p) patterns
+is_in_patterns ignores_case patterns b = list_any (λ p. list_any (same_byte ignores_case b) p) patterns
 
 -- the class of a byte: it rises at each byte that stands in a pattern, and at the byte after it
 unfoldable pub class_of : Bool → List (List ℕ) → ℕ → ℕ
-class_of fold patterns zero = 0
-class_of fold patterns (suc b) =
-    class_of fold patterns b
-    + (if is_in_patterns fold patterns (suc b) || is_in_patterns fold patterns b then 1 else 0)
+class_of ignores_case patterns zero = 0
+class_of ignores_case patterns (suc b) =
+    class_of ignores_case patterns b
+    + (if is_in_patterns ignores_case patterns (suc b) || is_in_patterns ignores_case patterns b then 1 else 0)
 
 -- the classes of all bytes
 unfoldable pub classes_of : Bool → List (List ℕ) → List ℕ
-classes_of fold patterns = map (class_of fold patterns) (range_with_len 0 256)
+classes_of ignores_case patterns = map (class_of ignores_case patterns) (range_with_len 0 256)
 
 -- each byte as a class of its own
 unfoldable pub singletons : List ℕ
@@ -65,6 +65,6 @@ pub record AreClasses (classes : List ℕ) : Type 0 where
   pub rises_by_one : (b : ℕ) → b < 255 → class_at classes (b + 1) ≤ class_at classes b + 1
 
 -- each byte of a pattern has a class of its own
-pub record SetsApart (fold : Bool) (patterns : List (List ℕ)) (classes : List ℕ) : Type 0 where
-  pub own : (a b : ℕ) → a < 256 → b < 256 → is_in_patterns fold patterns b ≡ true
+pub record SetsApart (ignores_case : Bool) (patterns : List (List ℕ)) (classes : List ℕ) : Type 0 where
+  pub own : (a b : ℕ) → a < 256 → b < 256 → is_in_patterns ignores_case patterns b ≡ true
       → class_at classes a ≡ class_at classes b → a ≡ b

@@ -7,6 +7,10 @@ pub record Counts : Type 0 where
   pub looks : ℕ
   pub calls : ℕ
 
+-- a count of one thing
+pub record Tallied : Type 0 where
+  pub number : ℕ
+
 -- nothing was counted
 abbrev pub no_counts : Counts
 no_counts = record { reads = 0; looks = 0; calls = 0 }

@@ -4,6 +4,7 @@ use Rattle.std.specs.Io.{StartsWith}
 use Rattle.std.specs.Io.KnownBytes.{Consumes, IsAtEnd, Appends}
 use Rattle.ac_util.specs.declared.device.WriteError.{WriteError}
 use Rattle.ac_util.specs.declared.device.WriteError.TheVariants.{Io, WriteZero}
+use Rattle.ac_util.specs.Sizes.{usize_max}
 
 -- the bytes that a reader has left, if it tells them; how many of its calls failed; and how many reads into a
 -- slice that isn't empty gave no byte
@@ -75,7 +76,7 @@ pub record ReadsUntilFailure (old new : Reading) (bytes : List ℕ) : Type 0 whe
 -- the bytes came, and then a read gave so many that usize doesn't count all of them and those `seen` before
 pub record ReadsTooMany (seen : ℕ) (old new : Reading) (bytes : List ℕ) : Type 0 where
   pub lost : List ℕ
-  pub too_many : 18446744073709551615 < seen + length bytes + length lost
+  pub too_many : usize_max < seen + length bytes + length lost
   pub moved : Consumes old.left new.left (bytes ++ lost)
   pub failed : new.failed ≡ old.failed
   pub empties : new.empties ≡ old.empties

@@ -29,9 +29,9 @@ pub record IsLegal (haystack : List ℕ) (start end : ℕ) : Type 0 where
 
 -- the search for these patterns that an input asks for
 abbrev pub search_for : List (List ℕ) → Bool → InputView → Search
-search_for patterns fold input = record {
+search_for patterns ignores_case input = record {
   patterns = patterns;
-  fold = fold;
+  ignores_case = ignores_case;
   haystack = input.haystack;
   anchored = input.anchored;
   low = input.start;

@@ -14,5 +14,5 @@ pub record LiesIn (built : Built) (input : InputView) (m : Occurrence) : Type 0 
   pub to_end : m.end ≤ input.end
   pub in_haystack : m.end ≤ length input.haystack
   pub as_long : m.start + length (pattern_of built.patterns m.pattern) ≡ m.end
-  pub same : IsSame built.fold (pattern_of built.patterns m.pattern)
+  pub same : IsSame built.ignores_case (pattern_of built.patterns m.pattern)
       (slice_range input.haystack m.start m.end)

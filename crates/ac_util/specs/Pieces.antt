@@ -1,4 +1,4 @@
--- A list of bytes cut into pieces at bounds: where each piece starts, and where the last one ends.
+-- A list cut into pieces at bounds: where each piece starts, and where the last one ends.
 use Rattle.std.specs.Prelude.{◌≡◌, ℕ, ◌≤◌, List, [], ◌∷◌, slice_range}
 
 -- the bounds rise up to the last place, which is one of them
@@ -8,7 +8,7 @@ AreBounds (b ∷ []) last = b ≡ last
 AreBounds (b ∷ e ∷ es) last = (b ≤ e) × AreBounds (e ∷ es) last
 
 -- the pieces, from each bound up to the next
-abbrev pub pieces : List ℕ → List ℕ → List (List ℕ)
-pieces bytes [] = []
-pieces bytes (b ∷ []) = []
-pieces bytes (b ∷ e ∷ es) = slice_range bytes b e ∷ pieces bytes (e ∷ es)
+abbrev pub pieces : {X : Type 0} → List X → List ℕ → List (List X)
+pieces items [] = []
+pieces items (b ∷ []) = []
+pieces items (b ∷ e ∷ es) = slice_range items b e ∷ pieces items (e ∷ es)

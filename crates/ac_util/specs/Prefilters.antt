@@ -26,12 +26,12 @@ pub data Skip : Type 0 where
 
 -- whether a pattern begins with this byte, or where case is ignored with the same letter
 abbrev pub begins_with : Bool → ℕ → List ℕ → Bool
-begins_with fold b [] = false
-begins_with fold b (c ∷ p) = same_byte fold b c
+begins_with ignores_case b [] = false
+begins_with ignores_case b (c ∷ p) = same_byte ignores_case b c
 
 -- the bytes with which patterns begin, in ascending order
 unfoldable pub first_bytes : Bool → List (List ℕ) → List ℕ
-first_bytes fold patterns = filter (λ b. list_any (begins_with fold b) patterns) (range_with_len 0 256)
+first_bytes ignores_case patterns = filter (λ b. list_any (begins_with ignores_case b) patterns) (range_with_len 0 256)
 
 -- whether the byte is one of these
 abbrev pub is_one_of : List ℕ → ℕ → Bool
@@ -47,26 +47,26 @@ MOST_BYTES = 3
 
 -- how a search for some patterns skips by their first bytes, if they and these are few
 abbrev pub skip_by_bytes : Bool → List (List ℕ) → Option Skip
-skip_by_bytes fold patterns =
-    if nat_le (length patterns) MOST_PATTERNS && nat_le (length (first_bytes fold patterns)) MOST_BYTES
-    then Some (FirstOf (first_bytes fold patterns)) else None
+skip_by_bytes ignores_case patterns =
+    if nat_le (length patterns) MOST_PATTERNS && nat_le (length (first_bytes ignores_case patterns)) MOST_BYTES
+    then Some (FirstOf (first_bytes ignores_case patterns)) else None
 
 -- how a search for patterns that aren't empty skips: for a single one by itself where case counts, else by
 -- their first bytes
 abbrev pub skip_among : Bool → List (List ℕ) → Option Skip
-skip_among fold [] = None
+skip_among ignores_case [] = None
 skip_among false (p ∷ []) = Some (Needle p)
-skip_among fold (p ∷ ps) = skip_by_bytes fold (p ∷ ps)
+skip_among ignores_case (p ∷ ps) = skip_by_bytes ignores_case (p ∷ ps)
 
 -- how a search skips where the setting is on: not at all where some pattern is empty, since a match may then
 -- start anywhere
 abbrev pub skip_for : Bool → Bool → List (List ℕ) → Option Skip
-skip_for on fold patterns = if on && not (list_any is_empty patterns) then skip_among fold patterns else None
+skip_for on ignores_case patterns = if on && not (list_any is_empty patterns) then skip_among ignores_case patterns else None
 
 -- whether a search may call a prefilter, where the setting is on or off: there is one for its patterns, and a
 -- match may start anywhere
 abbrev pub may_skip : Bool → Search → Bool
-may_skip on q = skips_in q.anchored (is_some (skip_for on q.fold q.patterns))
+may_skip on q = skips_in q.anchored (is_some (skip_for on q.ignores_case q.patterns))
   where
     skips_in : Anchored → Bool → Bool
     skips_in No some = some
@@ -90,22 +90,22 @@ byte_count (Needle needle) = 0
 
 -- the bytes whose plain byte is marked, in ascending order
 abbrev pub marked : Bool → List Bool → List ℕ
-marked fold marks = filter (λ b. slice_index_or marks (plain_byte fold b) false) (range_with_len 0 256)
+marked ignores_case marks = filter (λ b. slice_index_or marks (plain_byte ignores_case b) false) (range_with_len 0 256)
 
 -- no pattern is empty, and each begins with one of the bytes
-pub record BeginWith (bytes : List ℕ) (fold : Bool) (patterns : List (List ℕ)) : Type 0 where
+pub record BeginWith (bytes : List ℕ) (ignores_case : Bool) (patterns : List (List ℕ)) : Type 0 where
   pub some : list_any is_empty patterns ≡ false
-  pub begins : (b : ℕ) → list_any (begins_with fold b) patterns ≡ true → is_one_of bytes b ≡ true
+  pub begins : (b : ℕ) → list_any (begins_with ignores_case b) patterns ≡ true → is_one_of bytes b ≡ true
 
 -- a search for the patterns may skip so: they begin with these bytes, or the needle is the only one and case counts
 abbrev pub IsSkipFor : Skip → Bool → List (List ℕ) → Type 0
-IsSkipFor (FirstOf bytes) fold patterns = BeginWith bytes fold patterns
-IsSkipFor (Needle needle) fold patterns = (fold ≡ false) × (patterns ≡ needle ∷ [])
+IsSkipFor (FirstOf bytes) ignores_case patterns = BeginWith bytes ignores_case patterns
+IsSkipFor (Needle needle) ignores_case patterns = (ignores_case ≡ false) × (patterns ≡ needle ∷ [])
 
 -- the unanchored search for patterns in a span of the haystack
 abbrev pub search_over : Bool → List (List ℕ) → List ℕ → ℕ → ℕ → Search
-search_over fold patterns haystack low high =
-    record { patterns = patterns; fold = fold; haystack = haystack; anchored = No; low = low; high = high }
+search_over ignores_case patterns haystack low high =
+    record { patterns = patterns; ignores_case = ignores_case; haystack = haystack; anchored = No; low = low; high = high }
 
 -- what is told of a span in which a match may start here at first, or nowhere
 abbrev pub start_candidate : Option ℕ → Candidate

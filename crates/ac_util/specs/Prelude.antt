@@ -15,14 +15,13 @@ pub use Rattle.ac_util.specs.Node.{begins_with_pattern, depth, failure, is_empty
 pub use Rattle.ac_util.specs.Occurrence.{Occurrence, occurrence}
 pub use Rattle.ac_util.specs.Pick.{beats, best, better, IsFirst, IsFirstByEnd, IsPick, order_of}
 unfoldable pub use Rattle.ac_util.specs.Pick.{pick}
-pub use Rattle.ac_util.specs.Pieces.{pieces}
 pub use Rattle.ac_util.specs.Plain.{EndsBy, IsReplaceable}
 pub use Rattle.ac_util.specs.Prefilters.{begins_with, BeginWith, first_bytes_of, is_one_of, IsSkipFor, marked, match_candidate, MOST_BYTES, MOST_PATTERNS, Promises, search_over, Skip, skip_among, skip_by_bytes, skip_for, start_candidate, Tells}
 unfoldable pub use Rattle.ac_util.specs.Prefilters.{first_bytes}
 pub use Rattle.ac_util.specs.Prefilters.Skip.{FirstOf}
 pub use Rattle.ac_util.specs.Refusal.{Call, Find, OverlappingByState, OverlappingIterator, refusal, Replace, Stream}
 pub use Rattle.ac_util.specs.Replaced.{exchanged_from, is_char_boundary, is_whole, replaced, replaced_from, whole_characters}
-pub use Rattle.ac_util.specs.Replacement.{AlwaysWrites, Answer, AppendsAll, AppendsBeginning, answer_of, Calls, CallsNoMore, Fails, Continues, MatchAnswer, OnlyAppends, ReplacementSteps, Replacing, Turn, WritesText}
+pub use Rattle.ac_util.specs.Replacement.{AlwaysWrites, Answer, AppendsAll, AppendsBeginning, answer_of, Calls, CallsNoMore, ClosureExchanges, Fails, Continues, MatchAnswer, OnlyAppends, ReplacementSteps, Replacing, Turn, WritesText}
 pub use Rattle.ac_util.specs.Sameness.{plain, plain_byte, same_byte, same_string}
 pub use Rattle.ac_util.specs.Search.{from, may_start, Occurs, occurs, pattern_of, Search}
 pub use Rattle.ac_util.specs.Settled.{AreDecided, IsOpen, IsSettledAt, NoneOpen}

@@ -3,6 +3,7 @@ use Rattle.std.specs.Prelude.{◌≡◌, ◌≢◌, ◌⊎◌, ◌++◌, ℕ, Bo
 use Rattle.std.specs.Borrow.{Bor, MutBor}
 use Rattle.std.specs.Fn.{Called, Mut}
 use Rattle.ac_util.specs.Occurrence.{Occurrence}
+use Rattle.ac_util.specs.Replaced.{exchanged_from}
 
 -- what the answer of a call asks for: to go on, to call no more, or to end at once with a failure
 pub data Answer (E : Type 0) : Type 0 where
@@ -98,3 +99,19 @@ abbrev pub OnlyAppends : {F D : Type 0}
 OnlyAppends {F} {D} calls holds =
     (m : Occurrence) (slice : List ℕ) (s : Replacing F D) (r : Bool) (t : Replacing F D) → calls m slice s r t
     → (more : List ℕ) × (holds t.destination ≡ holds s.destination ++ more)
+
+-- what the steps leave behind what was there, where the calls of a closure are these: where each appends what `write` gives and
+-- goes on, the haystack with each match exchanged for that, or a beginning of it after a failure; where each only appends, more
+pub record ClosureExchanges (E : Type 0) {F D : Type 0}
+    (calls : Occurrence → List ℕ → Replacing F D → Bool → Replacing F D → Type 0) : Type 0 where
+  pub whole : (haystack : List ℕ) (holds : D → List ℕ) (write : Occurrence → List ℕ → List ℕ) (ms : List Occurrence)
+      (s t : Replacing F D) → AlwaysWrites calls holds write
+      → ReplacementSteps (AppendsAll {E = E} holds) calls answer_of haystack 0 ms s None t
+      → holds t.destination ≡ holds s.destination ++ exchanged_from haystack write 0 ms
+  pub begun : (haystack : List ℕ) (holds : D → List ℕ) (write : Occurrence → List ℕ → List ℕ) (ms : List Occurrence)
+      (s t : Replacing F D) (end : Option E) → AlwaysWrites calls holds write
+      → ReplacementSteps (AppendsAll holds) calls answer_of haystack 0 ms s end t
+      → (rest : List ℕ) × (holds t.destination ++ rest ≡ holds s.destination ++ exchanged_from haystack write 0 ms)
+  pub kept : (haystack : List ℕ) (holds : D → List ℕ) (ms : List Occurrence) (s t : Replacing F D) (end : Option E)
+      → OnlyAppends calls holds → ReplacementSteps (AppendsAll holds) calls answer_of haystack 0 ms s end t
+      → (more : List ℕ) × (holds t.destination ≡ holds s.destination ++ more)

@@ -4,15 +4,15 @@ use Rattle.std.specs.Char.{to_ascii_lowercase}
 
 -- the byte, or the small letter where case is ignored and the byte is a capital one
 abbrev pub plain_byte : Bool → ℕ → ℕ
-plain_byte fold b = if fold then to_ascii_lowercase b else b
+plain_byte ignores_case b = if ignores_case then to_ascii_lowercase b else b
 
 -- each byte of a string as a plain byte
 abbrev pub plain : Bool → List ℕ → List ℕ
-plain fold bytes = map (plain_byte fold) bytes
+plain ignores_case bytes = map (plain_byte ignores_case) bytes
 
 -- two bytes are the same: they are equal, or one letter in its two cases where case is ignored
 abbrev pub same_byte : Bool → ℕ → ℕ → Bool
-same_byte fold a b = plain_byte fold a == plain_byte fold b
+same_byte ignores_case a b = plain_byte ignores_case a == plain_byte ignores_case b
 
 -- a is an ASCII capital letter, and b is its small one
 pub record IsCapitalOf (a b : ℕ) : Type 0 where
@@ -26,8 +26,8 @@ AreOneLetter a b = IsCapitalOf a b ⊎ IsCapitalOf b a
 
 -- two strings are the same: they have one length, and are the same byte by byte
 abbrev pub IsSame : Bool → List ℕ → List ℕ → Type 0
-IsSame fold s t = plain fold s ≡ plain fold t
+IsSame ignores_case s t = plain ignores_case s ≡ plain ignores_case t
 
 -- `IsSame` as a test
 abbrev pub same_string : Bool → List ℕ → List ℕ → Bool
-same_string fold s t = bytes_eq (plain fold s) (plain fold t)
+same_string ignores_case s t = bytes_eq (plain ignores_case s) (plain ignores_case t)

@@ -9,7 +9,7 @@ use Rattle.ac_util.specs.Sameness.{IsSame, same_string}
 -- case of ASCII letters is ignored. Whoever asks for a search sees to it that high lies in the haystack
 pub record Search : Type 0 where
   pub patterns : List (List ℕ)
-  pub fold : Bool
+  pub ignores_case : Bool
   pub haystack : List ℕ
   pub anchored : Anchored
   pub low : ℕ
@@ -30,7 +30,7 @@ pub record Occurs (q : Search) (m : Occurrence) : Type 0 where
   pub from_low : q.low ≤ m.start
   pub as_long : m.start + length (pattern_of q.patterns m.pattern) ≡ m.end
   pub to_high : m.end ≤ q.high
-  pub reads : IsSame q.fold (pattern_of q.patterns m.pattern) (slice_range q.haystack m.start m.end)
+  pub reads : IsSame q.ignores_case (pattern_of q.patterns m.pattern) (slice_range q.haystack m.start m.end)
   pub at_low : q.anchored ≡ Yes → m.start ≡ q.low
 
 -- whether a match may start at this place of a span with this low end
@@ -45,5 +45,5 @@ occurs q m =
     && nat_le q.low m.start
     && (m.start + length (pattern_of q.patterns m.pattern) == m.end)
     && nat_le m.end q.high
-    && same_string q.fold (pattern_of q.patterns m.pattern) (slice_range q.haystack m.start m.end)
+    && same_string q.ignores_case (pattern_of q.patterns m.pattern) (slice_range q.haystack m.start m.end)
     && may_start q.anchored q.low m.start

@@ -13,9 +13,9 @@ pub record IsOpen (built : Built) (bytes : List ℕ) (place : ℕ) : Type 0 wher
   pub inside : place < length bytes
   pub number : ℕ
   pub numbered : number < length built.patterns
-  pub takes_part : participates built.kind (map (plain built.fold) built.patterns) number ≡ true
+  pub takes_part : participates built.kind (map (plain built.ignores_case) built.patterns) number ≡ true
   pub longer : length bytes < place + length (pattern_of built.patterns number)
-  pub begins : IsSame built.fold (take (length bytes - place) (pattern_of built.patterns number)) (drop place bytes)
+  pub begins : IsSame built.ignores_case (take (length bytes - place) (pattern_of built.patterns number)) (drop place bytes)
 
 -- no place from one up to another is open
 abbrev pub NoneOpen : Built → List ℕ → ℕ → ℕ → Type 0

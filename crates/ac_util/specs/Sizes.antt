@@ -5,6 +5,10 @@ use Rattle.ac_util.specs.declared.search.MatchKind.{MatchKind}
 use Rattle.ac_util.specs.Search.{pattern_of}
 use Rattle.ac_util.specs.Node.{participants}
 
+-- the greatest number that a usize has
+abbrev pub usize_max : ℕ
+usize_max = 18446744073709551615
+
 -- the length of the longest pattern, 0 without patterns
 abbrev pub longest_len : List (List ℕ) → ℕ
 longest_len [] = 0
@@ -12,7 +16,7 @@ longest_len (p ∷ ps) = max (length p) (longest_len ps)
 
 -- the length of the shortest pattern, the greatest usize without patterns
 abbrev pub shortest_len : List (List ℕ) → ℕ
-shortest_len [] = 18446744073709551615
+shortest_len [] = usize_max
 shortest_len (p ∷ ps) = min (length p) (shortest_len ps)
 
 -- the prefixes of a pattern that aren't empty, shortest first

@@ -7,7 +7,7 @@ use Rattle.ac_util.specs.declared.error.StreamError.TheVariants.{Io, WriteZero}
 use Rattle.ac_util.specs.InputView.{whole_input}
 use Rattle.ac_util.specs.Built.{Built, walk_result}
 use Rattle.ac_util.specs.Occurrence.{Occurrence}
-use Rattle.ac_util.specs.Sizes.{longest_len}
+use Rattle.ac_util.specs.Sizes.{longest_len, usize_max}
 
 -- the matches of a stream of which the reader has given these bytes: the walk over all of them. Places count from 0
 -- over the whole stream
@@ -36,7 +36,7 @@ without_last n bytes = take (length bytes - n) bytes
 -- how many bytes the buffer of a stream has: 65,536, or eight times as many as the longest pattern if that is more, and
 -- no more than usize counts
 abbrev pub buffer_len : List (List ℕ) → ℕ
-buffer_len patterns = max 65536 (min 18446744073709551615 (8 * longest_len patterns))
+buffer_len patterns = max 65536 (min usize_max (8 * longest_len patterns))
 
 -- the error that a failed write is
 abbrev pub error_of : WriteError → StreamError

@@ -9,11 +9,11 @@ use Rattle.ac_util.specs.Matches.{matches}
 
 -- the patterns as plain strings
 abbrev pub plain_patterns : Search → List (List ℕ)
-plain_patterns q = map (plain q.fold) q.patterns
+plain_patterns q = map (plain q.ignores_case) q.patterns
 
 -- the bytes of the span as a plain string
 abbrev pub text : Search → List ℕ
-text q = plain q.fold (slice_range q.haystack q.low q.high)
+text q = plain q.ignores_case (slice_range q.haystack q.low q.high)
 
 -- the same search in a span that ends one place later
 abbrev pub one_longer : Search → Search

@@ -45,15 +45,15 @@ impl ByteClasses {
 
     /// Returns classes in which each byte that stands in a pattern has a class of its own, in either case where
     /// case is ignored. This takes no memory. Ports upstream's `ByteClassSet`, and its `byte_classes`.
-    pub fn of<A: Allocator>(patterns: &Patterns<A>, fold: bool) -> ByteClasses
-        ensures { result ≡ classes_of fold patterns.now }
+    pub fn of<A: Allocator>(patterns: &Patterns<A>, ignores_case: bool) -> ByteClasses
+        ensures { result ≡ classes_of ignores_case patterns.now }
     {
-        let marks = marks_of(patterns, fold);
+        let marks = marks_of(patterns, ignores_case);
         let mut classes = [0; 256];
         let mut class = 0;
         for byte in 0..255u8 {
-            let here = marks[plain_byte(fold, byte) as usize];
-            let next = marks[plain_byte(fold, byte + 1) as usize];
+            let here = marks[plain_byte(ignores_case, byte) as usize];
+            let next = marks[plain_byte(ignores_case, byte + 1) as usize];
             if next || here {
                 class += 1;
             }
@@ -107,23 +107,23 @@ impl ByteClasses {
 }
 
 /// Marks the plain bytes that stand in some pattern.
-fn marks_of<A: Allocator>(patterns: &Patterns<A>, fold: bool) -> [bool; 256]
-    ensures { (b : ℕ) → slice_index_or result (plain_byte fold b) false ≡ is_in_patterns fold patterns.now b }
+fn marks_of<A: Allocator>(patterns: &Patterns<A>, ignores_case: bool) -> [bool; 256]
+    ensures { (b : ℕ) → slice_index_or result (plain_byte ignores_case b) false ≡ is_in_patterns ignores_case patterns.now b }
 {
     let mut marks = [false; 256];
     for number in 0..patterns.len() {
-        mark(&mut marks, patterns.get(number), fold);
+        mark(&mut marks, patterns.get(number), ignores_case);
     }
     marks
 }
 
 /// Marks the plain bytes of one pattern too.
-fn mark(marks: &mut [bool; 256], pattern: &[u8], fold: bool)
-    ensures { (b : ℕ) → slice_index_or marks.new (plain_byte fold b) false
-        ≡ (slice_index_or marks.old (plain_byte fold b) false || list_any (same_byte fold b) pattern.now) }
+fn mark(marks: &mut [bool; 256], pattern: &[u8], ignores_case: bool)
+    ensures { (b : ℕ) → slice_index_or marks.new (plain_byte ignores_case b) false
+        ≡ (slice_index_or marks.old (plain_byte ignores_case b) false || list_any (same_byte ignores_case b) pattern.now) }
 {
     for &byte in pattern {
-        marks[plain_byte(fold, byte) as usize] = true;
+        marks[plain_byte(ignores_case, byte) as usize] = true;
     }
 }
 

@@ -126,7 +126,7 @@ impl<'h> Tape<'h> {
 }
 
 impl<'h> Tape<'h> {
-    /// Returns what a prefilter tells of the bytes from `at` up to `end`, and counts the call. The place of reading
+    /// Returns what a prefilter says of the bytes from `at` up to `end`, and counts the call. The place of reading
     /// stays.
     ///
     /// `at` has to be no later than `end`, and not before the place after the last read; `end` lies in the haystack.
@@ -142,8 +142,8 @@ impl<'h> Tape<'h> {
         requires ordered { at ≤ end }
         requires within { end ≤ length self.now.bytes }
         ensures tells { Tells (skip_of prefilter.now) self.now.bytes at end result }
-        ensures promises { (fold : Bool) (patterns : List (List ℕ)) → IsSkipFor (skip_of prefilter.now) fold patterns
-            → Promises (search_over fold patterns self.now.bytes at end) result }
+        ensures promises { (ignores_case : Bool) (patterns : List (List ℕ)) → IsSkipFor (skip_of prefilter.now) ignores_case patterns
+            → Promises (search_over ignores_case patterns self.now.bytes at end) result }
         ensures counted { looks.new ≡ one_more_call looks.old }
     {
         looks.call();

@@ -4,38 +4,34 @@ ghost use Rattle.std.specs.Prelude.{MatchOption, MatchResult};
 ghost use Rattle.ac_util.specs.declared.error.BuildError.TheVariants.{Memory};
 ghost use Rattle.ac_util.specs.Borrowed.{bytes_of};
 ghost use Rattle.ac_util.specs.Limits.{limit_refusal};
-ghost use Rattle.ac_util.specs.Pieces.{AreBounds, pieces};
 ghost use Rattle.ac_util.specs.Sameness.{plain_byte};
 
 use crate::error::BuildError;
 use crate::primitives::{GREATEST, PatternID};
+use pieces::Pieces;
 use std::alloc::Allocator;
 use std::convert::AsSlice;
 use std::marker::Model;
-use std::mem::size_of;
 
-/// A list of patterns: all their bytes in one list, and where in it each pattern starts and the last one ends.
+pub mod pieces;
+
+/// A list of patterns, stored one after another.
 ///
 /// Contracts see it as the list of the patterns. There are never more of them than `PatternID` has numbers for.
 #[derive(Drop)]
 pub struct Patterns<A: Allocator> {
-    bytes: Vec<u8, A>,
-    bounds: Vec<usize, A>,
+    pieces: Pieces<u8, A>,
 }
 
 impl<A: Allocator> Model for Patterns<A> {
-    ghost use Rattle.std.specs.Prelude.{List, ℕ, length};
+    ghost use Rattle.std.specs.Prelude.{List, ℕ};
     ghost use Rattle.ac_util.specs.Limits.{IsWithinLimits};
-    ghost use Rattle.ac_util.specs.Pieces.{AreBounds, pieces};
 
     ghost Value = { List (List ℕ) };
 
-    ghost view = { λ p. pieces p.bytes.items p.bounds.items };
+    ghost view = { λ p. p.pieces };
 
-    ghost invariant = { λ p. record {
-      bounds : AreBounds p.bounds.items (length p.bytes.items);
-      limits : IsWithinLimits (pieces p.bytes.items p.bounds.items);
-    } };
+    ghost invariant = { λ p. IsWithinLimits p.pieces };
 }
 
 impl<A: Allocator> Patterns<A> {
@@ -45,7 +41,7 @@ impl<A: Allocator> Patterns<A> {
         ensures value { result ≡ length self.now }
         ensures numbered { result ≤ GREATEST + 1 }
     {
-        self.bounds.len() - 1
+        self.pieces.len()
     }
 
     /// Returns a pattern by its number, which has to be below `len`.
@@ -55,20 +51,19 @@ impl<A: Allocator> Patterns<A> {
         ensures value { slice_get self.now number ≡ Some result.now }
         ensures short { length result.now ≤ GREATEST }
     {
-        piece(&self.bytes, &self.bounds, number)
+        self.pieces.get(number)
     }
 }
 
 impl<A: Allocator> Patterns<A> {
     /// Returns the allocator of the list.
     pub fn allocator(&self) -> &A {
-        self.bytes.allocator()
+        self.pieces.allocator()
     }
 
     /// Returns about how many bytes of memory the patterns take. Nothing is promised of the number.
     pub fn memory_usage(&self) -> usize {
-        let bounds = self.bounds.len().saturating_mul(size_of::<usize>());
-        self.bytes.len().saturating_add(bounds)
+        self.pieces.memory_usage()
     }
 }
 
@@ -84,46 +79,31 @@ impl<A: Allocator + Clone> Patterns<A> {
             (λ refusal. result ≡ Err refusal) }
     {
         check_limits(patterns)?;
-        let mut bytes = Vec::new(alloc.clone()?);
-        let mut bounds = Vec::new(alloc);
-        bounds.push(0)?;
+        let mut pieces = Pieces::new(alloc)?;
         for pattern in patterns {
-            bytes.extend_from_slice(pattern)?;
-            bounds.push(bytes.len())?;
+            pieces.push(pattern)?;
         }
-        Ok(Patterns { bytes, bounds })
+        Ok(Patterns { pieces })
     }
 }
 
 /// Returns the byte, or its small letter where case is ignored and it is a capital ASCII letter.
 #[inline]
-pub fn plain_byte(fold: bool, byte: u8) -> u8
-    ensures { result ≡ plain_byte fold byte }
+pub fn plain_byte(ignores_case: bool, byte: u8) -> u8
+    ensures { result ≡ plain_byte ignores_case byte }
 {
-    if fold {
+    if ignores_case {
         byte.to_ascii_lowercase()
     } else {
         byte
     }
 }
 
-/// Returns a piece of a list of bytes by its number.
-#[inline]
-fn piece<'a>(bytes: &'a [u8], bounds: &[usize], number: usize) -> &'a [u8]
-    requires bounds { AreBounds bounds.now (length bytes.now) }
-    requires numbered { number + 1 < length bounds.now }
-    ensures { slice_get (pieces bytes.now bounds.now) number ≡ Some result.now }
-{
-    let start = bounds[number];
-    let end = bounds[number + 1];
-    &bytes[start..end]
-}
-
 /// Tests that each pattern can have a number and that none is too long. A pattern is a slice of bytes or a
 /// text.
 ///
 /// This takes no memory. A caller that needs memory before it stores the patterns tests them first, and so
-/// tells a passed limit even where there is no memory.
+/// reports a passed limit even where there is no memory.
 ///
 /// # Errors
 /// `PatternIdOverflow` or `PatternTooLong`, whichever limit is passed first.

@@ -27,7 +27,7 @@ pub use walks::{next_match, walk};
 #[derive(Drop)]
 pub struct Query<'a> {
     patterns: &'a [&'a [u8]],
-    fold: bool,
+    ignores_case: bool,
     haystack: &'a [u8],
     anchored: Anchored,
     low: usize,
@@ -44,7 +44,7 @@ impl<'a> Model for Query<'a> {
 
     ghost view = { λ q. record {
       patterns = bytes_of q.patterns.now;
-      fold = q.fold;
+      ignores_case = q.ignores_case;
       haystack = q.haystack.now;
       anchored = q.anchored;
       low = q.low;
@@ -60,12 +60,12 @@ impl<'a> Model for Query<'a> {
 impl<'a> Query<'a> {
     /// Returns the search for these patterns in a span of the haystack.
     ///
-    /// With `fold` the case of ASCII letters is ignored. Places count bytes of the whole haystack, in which the
+    /// With `ignores_case` the case of ASCII letters is ignored. Places count bytes of the whole haystack, in which the
     /// span has to end. In a span that starts after its end nothing is found. There have to be no more patterns
     /// than `PatternID::LIMIT`.
     pub fn new(
         patterns: &'a [&'a [u8]],
-        fold: bool,
+        ignores_case: bool,
         haystack: &'a [u8],
         anchored: Anchored,
         span: Span,
@@ -74,7 +74,7 @@ impl<'a> Query<'a> {
         requires within { span.end ≤ length haystack.now }
         ensures { result ≡ record {
           patterns = bytes_of patterns.now;
-          fold = fold;
+          ignores_case = ignores_case;
           haystack = haystack.now;
           anchored = anchored;
           low = span.start;
@@ -83,7 +83,7 @@ impl<'a> Query<'a> {
     {
         Query {
             patterns,
-            fold,
+            ignores_case,
             haystack,
             anchored,
             low: span.start,
@@ -97,7 +97,7 @@ impl<'a> Query<'a> {
     {
         Query {
             patterns: self.patterns,
-            fold: self.fold,
+            ignores_case: self.ignores_case,
             haystack: self.haystack,
             anchored: self.anchored,
             low: place,
@@ -117,7 +117,7 @@ impl<'a> Query<'a> {
             && end <= self.high
             && end - start == pattern.len()
             && (!self.anchored.is_anchored() || start == self.low)
-            && same_string(self.fold, pattern, &self.haystack[start..end])
+            && same_string(self.ignores_case, pattern, &self.haystack[start..end])
     }
 }
 
@@ -164,15 +164,15 @@ fn beats(kind: MatchKind, left: Match, right: Match) -> bool
     }
 }
 
-/// Returns whether two strings are the same, where `fold` ignores the case of ASCII letters.
-fn same_string(fold: bool, left: &[u8], right: &[u8]) -> bool
-    ensures { IsTrue result ↔ IsSame fold left.now right.now }
+/// Returns whether two strings are the same, where `ignores_case` ignores the case of ASCII letters.
+fn same_string(ignores_case: bool, left: &[u8], right: &[u8]) -> bool
+    ensures { IsTrue result ↔ IsSame ignores_case left.now right.now }
 {
     if left.len() != right.len() {
         return false;
     }
     for i in 0..left.len() {
-        if plain_byte(fold, left[i]) != plain_byte(fold, right[i]) {
+        if plain_byte(ignores_case, left[i]) != plain_byte(ignores_case, right[i]) {
             return false;
         }
     }

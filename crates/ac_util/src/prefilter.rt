@@ -36,7 +36,7 @@ pub enum Prefilter<A: Allocator = Global> {
     Needle(Needle<A>),
 }
 
-/// What a prefilter tells of a span.
+/// What a prefilter says of a span.
 #[derive(Clone, Copy, PartialEq, Eq, Debug)]
 pub enum Candidate {
     /// No pattern occurs in it.
@@ -117,15 +117,15 @@ impl<A: Allocator> Needle<A> {
 
 impl FirstBytes {
     /// Returns the bytes whose plain byte is marked, where these are one to three.
-    fn of(marks: &[bool; 256], fold: bool) -> Option<FirstBytes>
+    fn of(marks: &[bool; 256], ignores_case: bool) -> Option<FirstBytes>
         ensures { MatchOption result
-            ((marked fold marks.now ≡ []) ⊎ (3 < length (marked fold marks.now)))
-            (λ first. first_bytes_of first ≡ marked fold marks.now) }
+            ((marked ignores_case marks.now ≡ []) ⊎ (3 < length (marked ignores_case marks.now)))
+            (λ first. first_bytes_of first ≡ marked ignores_case marks.now) }
     {
         let mut bytes = [0; MOST_BYTES];
         let mut count = 0;
         for byte in 0..256usize {
-            if marks[plain_byte(fold, byte as u8) as usize] {
+            if marks[plain_byte(ignores_case, byte as u8) as usize] {
                 if count == MOST_BYTES {
                     return None;
                 }
@@ -194,7 +194,7 @@ impl<A: Allocator + Clone> Clone for Prefilter<A> {
 }
 
 impl<A: Allocator> Prefilter<A> {
-    /// Returns the prefilter of a search for some patterns, with `fold` without regard to the case of ASCII letters.
+    /// Returns the prefilter of a search for some patterns, with `ignores_case` without regard to the case of ASCII letters.
     ///
     /// None where a pattern is empty, since a match may then start anywhere, and where there are no patterns. A single
     /// pattern is searched for itself, unless case is ignored. Else at most 100 patterns are searched for by their first
@@ -205,25 +205,25 @@ impl<A: Allocator> Prefilter<A> {
     pub fn of<Z: Allocator>(
         alloc: A,
         patterns: &Patterns<Z>,
-        fold: bool,
+        ignores_case: bool,
     ) -> Result<Option<Prefilter<A>>, BuildError>
         ensures { MatchResult result
-            (λ found. (option_map skip_of found ≡ skip_for true fold patterns.now)
-            × IfSome found (λ p. IsSkipFor (skip_of p) fold patterns.now))
+            (λ found. (option_map skip_of found ≡ skip_for true ignores_case patterns.now)
+            × IfSome found (λ p. IsSkipFor (skip_of p) ignores_case patterns.now))
             (λ e. e ≡ Memory) }
     {
         if has_empty(patterns) || patterns.len() == 0 {
             return Ok(None);
         }
-        if patterns.len() == 1 && !fold {
+        if patterns.len() == 1 && !ignores_case {
             let needle = Needle::of(alloc, patterns.get(0))?;
             return Ok(Some(Prefilter::Needle(needle)));
         }
         if patterns.len() > MOST_PATTERNS {
             return Ok(None);
         }
-        let marks = first_marks(patterns, fold);
-        match FirstBytes::of(&marks, fold) {
+        let marks = first_marks(patterns, ignores_case);
+        match FirstBytes::of(&marks, ignores_case) {
             Some(first) => Ok(Some(Prefilter::Bytes(first))),
             None => Ok(None),
         }
@@ -239,7 +239,7 @@ impl<A: Allocator> Prefilter<A> {
         }
     }
 
-    /// Returns what is told of the bytes of a span: the first place of it that holds one of the first bytes, or the
+    /// Returns what is known of the bytes of a span: the first place of it that holds one of the first bytes, or the
     /// first match of the needle.
     ///
     /// The span has to end within the haystack, and to start no later than one past its end: where it starts past its
@@ -248,8 +248,8 @@ impl<A: Allocator> Prefilter<A> {
     pub fn find_in(&self, haystack: &[u8], span: Span) -> Candidate
         requires legal { IsLegal haystack.now span.start span.end }
         ensures tells { Tells (skip_of self.now) haystack.now span.start span.end result }
-        ensures promises { (fold : Bool) (patterns : List (List ℕ)) → IsSkipFor (skip_of self.now) fold patterns
-            → Promises (search_over fold patterns haystack.now span.start span.end) result }
+        ensures promises { (ignores_case : Bool) (patterns : List (List ℕ)) → IsSkipFor (skip_of self.now) ignores_case patterns
+            → Promises (search_over ignores_case patterns haystack.now span.start span.end) result }
     {
         if span.start > span.end {
             return Candidate::None;
@@ -274,14 +274,14 @@ fn has_empty<A: Allocator>(patterns: &Patterns<A>) -> bool
 }
 
 /// Marks the plain bytes with which patterns begin.
-fn first_marks<A: Allocator>(patterns: &Patterns<A>, fold: bool) -> [bool; 256]
-    ensures { (b : ℕ) → slice_index_or result (plain_byte fold b) false
-        ≡ list_any (begins_with fold b) patterns.now }
+fn first_marks<A: Allocator>(patterns: &Patterns<A>, ignores_case: bool) -> [bool; 256]
+    ensures { (b : ℕ) → slice_index_or result (plain_byte ignores_case b) false
+        ≡ list_any (begins_with ignores_case b) patterns.now }
 {
     let mut marks = [false; 256];
     for number in 0..patterns.len() {
         if let Some(&byte) = patterns.get(number).first() {
-            marks[plain_byte(fold, byte) as usize] = true;
+            marks[plain_byte(ignores_case, byte) as usize] = true;
         }
     }
     marks

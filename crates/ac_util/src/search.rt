@@ -119,7 +119,7 @@ impl Match {
         Match { pattern, span }
     }
 
-    /// Returns the match of a pattern, told by its number, at a range of places.
+    /// Returns the match of a pattern, given by its number, at a range of places.
     ///
     /// The number has to be at most `PatternID::MAX`, and the range to start no later than it ends.
     pub fn must(pattern: usize, range: Range<usize>) -> Match

@@ -67,17 +67,17 @@ module _ (all rest : List Occurrence) (old new : Writing) (text : List ℕ) (out
       → FailsToPrint old later (lines all) fault
   printing-fails later fault f =
       let part = f.some.part in
-      let behind = drop (length part) text in
-      let split : text ≡ part ++ behind =
-      sym (take-append-drop (length part) text) ∙ ap (λ (w : List ℕ). w ++ behind) f.some.begins in
-      let begun : lines all ≡ (h.out ++ part) ++ (behind ++ lines rest) =
+      let beyond = drop (length part) text in
+      let split : text ≡ part ++ beyond =
+      sym (take-append-drop (length part) text) ∙ ap (λ (w : List ℕ). w ++ beyond) f.some.begins in
+      let begun : lines all ≡ (h.out ++ part) ++ (beyond ++ lines rest) =
       all-lines ∙ ap (λ (w : List ℕ). h.out ++ (w ++ lines rest)) split
-      ∙ ap (λ (w : List ℕ). h.out ++ w) (append_assoc part behind (lines rest))
-      ∙ sym (append_assoc h.out part (behind ++ lines rest)) in
+      ∙ ap (λ (w : List ℕ). h.out ++ w) (append_assoc part beyond (lines rest))
+      ∙ sym (append_assoc h.out part (beyond ++ lines rest)) in
       inl (record {
         some = record {
           part = h.out ++ part;
-          begins = starts-from (lines all) (h.out ++ part) (behind ++ lines rest) begun;
+          begins = starts-from (lines all) (h.out ++ part) (beyond ++ lines rest) begun;
           left_out =
               (let whole = ap length all-lines in
               let a = length-append h.out (text ++ lines rest) in

@@ -12,8 +12,8 @@ use Rattle.ac_util.specs.Stream.{stream_result}
 use Rattle.ac_util.specs.StreamReplacing.{IsNear, IsSettledBy}
 use Rattle.ac_util.proofs.Devices.{fails-after}
 use Rattle.ac_util.proofs.Lists.{drop-slice_get}
-use Rattle.ac_automaton.specs.declared.automaton.stream.Phase.{Phase}
-use Rattle.ac_automaton.specs.declared.automaton.stream.Phase.TheVariants.{Ended, Failed, Open}
+use Rattle.ac_automaton.specs.declared.automaton.stream_settled.Phase.{Phase}
+use Rattle.ac_automaton.specs.declared.automaton.stream_settled.Phase.TheVariants.{Ended, Failed, Open}
 use Rattle.ac_automaton.specs.Streams.{EndsNow, GivesError, GivesMatch, GivesNextMatch, GivesNone, GoesOnBy, HasGivenSettled, KeepsGiven, Streaming, matches_so_far, initial_stream}
 use Rattle.acs.specs.declared.fault.Fault.{Fault}
 use Rattle.acs.specs.declared.request.Mode.TheVariants.{Stream}
@@ -24,6 +24,7 @@ use Rattle.acs.specs.Lines.{lines, outcome_of}
 use Rattle.acs.specs.Printed.{FailsToPrintStream, HasPrintedRead, IsPrinting, PrintsSoFar, PrintsStream}
 use Rattle.acs.specs.Modes.{FailsToPrint, WritesSettled}
 use Rattle.acs.proofs.Printing.{printing-begins, printing-writes}
+use Rattle.ac_util.specs.Sizes.{usize_max}
 
 -- of another list that begins with the matches given, the same lines are written
 printing-longer : (n : ℕ) (all others : List Occurrence) {old new : Writing} {text : List ℕ} {outcome : Outcome}
@@ -116,13 +117,20 @@ module _ {ends : Bool} {built : Built} {v : Streaming} {reader new_reader : Read
 
   module _ {later : Reading} {m : Occurrence} {w : Streaming} (gives : GivesNextMatch ends v m w new_reader later) where
     -- the next match is the first one whose line isn't written
-    pub next-printing : IsPrinting (matches_so_far w) (m ∷ drop w.given (matches_so_far w)) writer new_writer text outcome
+    next-printing : IsPrinting (matches_so_far w) (m ∷ drop w.given (matches_so_far w)) writer new_writer text outcome
     next-printing =
         rw h.nothing
         (subst (λ (u : Streaming). IsPrinting (matches_so_far u) (m ∷ drop u.given (matches_so_far u)) writer new_writer [] outcome)
         (sym gives.same)
         (subst (λ (rest : List Occurrence). IsPrinting (stream_result v.built (v.bytes ++ gives.more)) rest writer new_writer [] outcome)
         (drop-slice_get (stream_result v.built (v.bytes ++ gives.more)) v.given m gives.next) (longer (v.bytes ++ gives.more) gives.given)))
+
+    -- the line of the next match is printed, if this is what printing a line does
+    pub line-printed : {new : Writing} {more : List ℕ}
+        → ((all rest : List Occurrence) (old : Writing) (before : Outcome) → IsPrinting all (m ∷ rest) old new_writer text before
+        → IsPrinting all rest old new more Found)
+        → PrintsSoFar w writer new more Found
+    line-printed prints = prints (matches_so_far w) (drop w.given (matches_so_far w)) writer outcome next-printing
 
     next-reads : GoesOnBy ends Open w.phase reader later w.bytes
     next-reads = grind (arith, common_steps)
@@ -135,6 +143,13 @@ module _ {ends : Bool} {built : Built} {v : Streaming} {reader new_reader : Read
         → FailsToPrintStream ends built reader later writer new fault
     print-stops {new} {fault} fails = search (rules, next-built, next-reads, reads-either)
 
+    -- nor could that of the next match
+    pub line-stops : {new : Writing} {fault : Fault}
+        → ((all rest : List Occurrence) (old : Writing) (before : Outcome) → IsPrinting all (m ∷ rest) old new_writer text before
+        → FailsToPrint old new (lines all) fault)
+        → FailsToPrintStream ends built reader later writer new fault
+    line-stops fails = print-stops (fails (matches_so_far w) (drop w.given (matches_so_far w)) writer outcome next-printing)
+
     -- the lines of all matches so far were written
     pub printed-more : {x : Streaming} {new : Writing} {left : List ℕ} → HasPrintedRead w x writer new left Found
         → IsPrintingStream ends built x reader later writer new left Found
@@ -142,5 +157,5 @@ module _ {ends : Bool} {built : Built} {v : Streaming} {reader new_reader : Read
 
     -- fewer matches than usize counts may follow
     pub given-more : {x : Streaming} {new : Writing} {left : List ℕ} → HasPrintedRead w x writer new left Found
-        → 18446744073709551615 - x.given < 18446744073709551615 - v.given
+        → usize_max - x.given < usize_max - v.given
     given-more printed = grind (arith, common_steps)

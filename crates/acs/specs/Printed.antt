@@ -1,6 +1,7 @@
 -- How far the printing of matches has come.
-use Rattle.std.specs.Prelude.{◌≡◌, ◌≤◌, ℕ, Bool, List, [], ◌++◌, drop}
+use Rattle.std.specs.Prelude.{◌≡◌, ◌≤◌, ℕ, Bool, List, [], ◌++◌, drop, Option}
 use Rattle.std.specs.Io.KnownBytes.{Appends}
+use Rattle.std.specs.Iterator.{YieldsFirst}
 use Rattle.ac_util.specs.Built.{Built}
 use Rattle.ac_util.specs.Device.{Reading, ReadsAll, Writing, WritesAll}
 use Rattle.ac_util.specs.Occurrence.{Occurrence}
@@ -11,6 +12,10 @@ use Rattle.acs.specs.declared.request.Mode.TheVariants.{Stream}
 use Rattle.acs.specs.declared.run.Outcome.{Outcome}
 use Rattle.acs.specs.Lines.{lines, outcome_of}
 use Rattle.acs.specs.Modes.{FailsOnStream}
+
+-- each call of an iterator gives the first match of what is left
+abbrev pub GivesRest : {S : Type 0} → (S → Option Occurrence → S → Type 0) → (S → List Occurrence) → Type 0
+GivesRest {S} steps rest = (s t : S) (m : Option Occurrence) → steps s m t → YieldsFirst rest s m t
 
 -- of all the matches some are printed and the rest is not: the lines of the first are written, but for the text
 pub record IsPrinting (all rest : List Occurrence) (old new : Writing) (text : List ℕ)

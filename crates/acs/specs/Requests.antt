@@ -1,5 +1,5 @@
 -- What the words after the program's name ask for.
-use Rattle.std.specs.Prelude.{ℕ, ◌%◌, ◌==◌, List, [], ◌∷◌, Option, None, Some, Bool, true, bytes_eq, String, codes, drop, length, map, string_bytes, if◌then◌else◌}
+use Rattle.std.specs.Prelude.{ℕ, ◌%◌, ◌==◌, List, [], ◌∷◌, Option, None, Some, Bool, false, true, bytes_eq, String, codes, drop, length, map, string_bytes, if◌then◌else◌}
 use Rattle.ac_util.specs.declared.search.MatchKind.{MatchKind}
 use Rattle.ac_util.specs.declared.search.MatchKind.TheVariants.{Standard, LeftmostFirst, LeftmostLongest}
 use Rattle.ac_search.specs.declared.ahocorasick.choice.AhoCorasickKind.{AhoCorasickKind}
@@ -72,6 +72,11 @@ firsts words = []
 abbrev pub seconds : List (List ℕ) → List (List ℕ)
 seconds (first ∷ second ∷ words) = second ∷ seconds words
 seconds words = []
+
+-- the second word of each pair, or else the first
+abbrev pub side : Bool → List (List ℕ) → List (List ℕ)
+side false words = firsts words
+side true words = seconds words
 
 -- which of the words are patterns, and which are texts: for the replacing modes they are pattern and text in turn
 abbrev pub patterns_in : Mode → List (List ℕ) → List (List ℕ)

@@ -4,7 +4,7 @@ ghost use Rattle.acs.specs.declared.fault.Fault.TheVariants.{Memory as OutOfMemo
 ghost use Rattle.acs.specs.Faults.{fault_of, line_of, refusal_fault_of, stream_fault_of, write_fault_of};
 
 use ac_search::{BuildError, MatchError, StreamError, WriteError};
-use std::alloc::{AllocError, AllocFailed};
+use std::alloc::AllocError;
 
 /// Why a run fails.
 #[derive(Clone, Copy, PartialEq, Eq, Debug)]
@@ -35,7 +35,7 @@ pub enum Fault {
 }
 
 impl Fault {
-    /// Returns the line that tells of the fault, without its end.
+    /// Returns the line that reports the fault, without its end.
     pub fn line(&self) -> &'static str
         ensures { result.now ≡ line_of self.now }
     {
@@ -110,14 +110,6 @@ impl From<AllocError> for Fault {
     ghost from_gives = { λ _ fault. fault ≡ OutOfMemory };
 
     fn from(_refused: AllocError) -> Fault {
-        Fault::Memory
-    }
-}
-
-impl<T: Drop> From<AllocFailed<T>> for Fault {
-    ghost from_gives = { λ _ fault. fault ≡ OutOfMemory };
-
-    fn from(_refused: AllocFailed<T>) -> Fault {
         Fault::Memory
     }
 }

@@ -3,7 +3,7 @@
 
 use ac_search::{FromRead, IntoWrite, Sink};
 use fault::Fault;
-use run::{run_on_arguments, status, tell};
+use run::{report, run_on_arguments, status};
 use std::process::ExitCode;
 use std::{env, io};
 
@@ -23,7 +23,7 @@ fn main(rt: HostRuntime) -> ExitCode {
         Ok(status) => status,
         Err(fault) => {
             let outcome = Err(fault);
-            tell(&outcome, &mut errors);
+            report(&outcome, &mut errors);
             status(&outcome)
         }
     };

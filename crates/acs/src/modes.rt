@@ -10,7 +10,7 @@ ghost use Rattle.acs.specs.Requests.{firsts, seconds};
 
 use crate::fault::Fault;
 use crate::input::read_all;
-use crate::output::{print_found, print_listing, print_stream, print_text, print_walk};
+use crate::output::{print_all, print_found, print_stream, print_text};
 use crate::request::texts_of;
 use crate::run::Outcome;
 use ac_search::{AhoCorasick, Input, MatchKind, Sink, Source};
@@ -50,7 +50,7 @@ pub(crate) fn walk<A: Allocator + Clone, R: Source, W: Sink>(
         (R.told reader.old) (R.told reader.new) (W.told writer.old) (W.told writer.new) result }
 {
     let haystack = read_all(alloc.clone()?, reader)?;
-    print_walk(alloc, searcher.find_iter(Input::new(&haystack)), writer)
+    print_all(alloc, searcher.find_iter(Input::new(&haystack)), writer)
 }
 
 /// Reads all that the reader gives, and writes a line for each occurrence.
@@ -70,7 +70,7 @@ pub(crate) fn overlap<A: Allocator + Clone, R: Source, W: Sink>(
     check_overlapping(searcher.match_kind())?;
     let haystack = read_all(alloc.clone()?, reader)?;
     let items = searcher.find_overlapping_iter(Input::new(&haystack));
-    print_listing(alloc, items, writer)
+    print_all(alloc, items, writer)
 }
 
 /// Writes a line for each match of the stream that the reader gives, while it is read.

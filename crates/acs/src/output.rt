@@ -1,5 +1,6 @@
 //! Lines for matches, written in large pieces, and replaced texts.
 ghost use Rattle.std.specs.Prelude.{◌≡◌, ◌++◌, ◌∷◌, [], List, codes, MatchResult, OnOk, option_to_list, string_bytes};
+ghost use Rattle.std.specs.Iterator.{IsFinite};
 ghost use Rattle.ac_util.specs.Device.{Writing, WritesAll};
 ghost use Rattle.ac_util.specs.Occurrence.{Occurrence};
 ghost use Rattle.ac_automaton.specs.Streams.{matches_so_far, initial_stream};
@@ -7,11 +8,11 @@ ghost use Rattle.acs.specs.declared.run.Outcome.{Outcome};
 ghost use Rattle.acs.specs.declared.run.Outcome.TheVariants.{Found};
 ghost use Rattle.acs.specs.Lines.{line, lines, outcome_of};
 ghost use Rattle.acs.specs.Modes.{FailsToPrint, FailsToWrite};
-ghost use Rattle.acs.specs.Printed.{FailsToPrintStream, HasPrintedRead, IsPrinting, PrintsSoFar, PrintsStream};
+ghost use Rattle.acs.specs.Printed.{FailsToPrintStream, GivesRest, HasPrintedRead, IsPrinting, PrintsSoFar, PrintsStream};
 
 use crate::fault::Fault;
 use crate::run::Outcome;
-use ac_search::{FindIter, FindOverlappingIter, Match, Sink, Source, StreamFinder};
+use ac_search::{Match, Sink, Source, StreamFinder};
 use std::alloc::{AllocError, Allocator};
 
 /// From how many bytes on the lines are written.
@@ -57,7 +58,7 @@ pub(crate) fn write_line<W: Sink>(writer: &mut W, line: &str) -> Result<(), Faul
 /// Adds the line of a match to the text, and writes the text where it is full.
 ///
 /// # Errors
-/// As `print_walk`.
+/// As `print_all`.
 fn print_line<A: Allocator + Clone, W: Sink>(
     text: &mut String<A>,
     m: &Match,
@@ -80,7 +81,7 @@ fn print_line<A: Allocator + Clone, W: Sink>(
 /// Writes the text after the last line.
 ///
 /// # Errors
-/// As `print_walk`.
+/// As `print_all`.
 fn print_end<W: Sink>(text: &[u8], writer: &mut W) -> Result<(), Fault>
     ensures { (all : List Occurrence) → (old : Writing) → (outcome : Outcome)
         → IsPrinting all [] old (W.told writer.old) text.now outcome
@@ -91,20 +92,22 @@ fn print_end<W: Sink>(text: &[u8], writer: &mut W) -> Result<(), Fault>
     write_all(writer, text)
 }
 
-/// Writes a line for each match of a walk.
+/// Writes a line for each match that an iterator has left.
 ///
 /// # Errors
 /// `Io` where a write fails, `WriteZero` where it takes no byte, `Memory` where a request for memory is
 /// refused. A beginning of the lines was written then, and not all of them.
-pub(crate) fn print_walk<A: Allocator + Clone, B: Allocator, W: Sink>(
+pub(crate) fn print_all<A: Allocator + Clone, I: Iterator<Item = Match> + Drop, W: Sink>(
     alloc: A,
-    matches: FindIter<'_, '_, B>,
+    matches: I,
     writer: &mut W,
 ) -> Result<Outcome, Fault>
-    ensures { MatchResult result
-        (λ outcome. WritesAll (W.told writer.old) (W.told writer.new) (lines matches.entry.rest)
-        × (outcome ≡ outcome_of matches.entry.rest))
-        (FailsToPrint (W.told writer.old) (W.told writer.new) (lines matches.entry.rest)) }
+    requires can { I.can_next matches }
+    requires finite { IsFinite (I.remaining matches) }
+    ensures { (rest : I → List Occurrence) → GivesRest I.next_gives rest → MatchResult result
+        (λ outcome. WritesAll (W.told writer.old) (W.told writer.new) (lines (rest matches))
+        × (outcome ≡ outcome_of (rest matches)))
+        (FailsToPrint (W.told writer.old) (W.told writer.new) (lines (rest matches))) }
 {
     let mut text = String::new(alloc);
     let mut outcome = Outcome::Nothing;
@@ -116,34 +119,10 @@ pub(crate) fn print_walk<A: Allocator + Clone, B: Allocator, W: Sink>(
     Ok(outcome)
 }
 
-/// Writes a line for each item of a listing.
-///
-/// # Errors
-/// As `print_walk`.
-pub(crate) fn print_listing<A: Allocator + Clone, B: Allocator, W: Sink>(
-    alloc: A,
-    items: FindOverlappingIter<'_, '_, B>,
-    writer: &mut W,
-) -> Result<Outcome, Fault>
-    ensures { MatchResult result
-        (λ outcome. WritesAll (W.told writer.old) (W.told writer.new) (lines items.entry.rest)
-        × (outcome ≡ outcome_of items.entry.rest))
-        (FailsToPrint (W.told writer.old) (W.told writer.new) (lines items.entry.rest)) }
-{
-    let mut text = String::new(alloc);
-    let mut outcome = Outcome::Nothing;
-    for item in items {
-        outcome = Outcome::Found;
-        print_line(&mut text, &item, writer)?;
-    }
-    print_end(text.as_bytes(), writer)?;
-    Ok(outcome)
-}
-
 /// Adds the lines of all matches that need no further read, and writes the text.
 ///
 /// # Errors
-/// As `print_walk`, of the matches of what was read.
+/// As `print_all`, of the matches of what was read.
 fn print_read<A: Allocator + Clone, B: Allocator, Z: Allocator, W: Sink>(
     text: &mut String<A>,
     finder: &mut StreamFinder<'_, B, Z>,
@@ -167,7 +146,7 @@ fn print_read<A: Allocator + Clone, B: Allocator, Z: Allocator, W: Sink>(
 ///
 /// # Errors
 /// `Io` where a read fails and `TooLong` where more bytes come than a `usize` counts: these lines were written then. Those of
-/// `print_walk`: a beginning of the lines of all matches so far was written then, and not all of them.
+/// `print_all`: a beginning of the lines of all matches so far was written then, and not all of them.
 pub(crate) fn print_stream<A: Allocator + Clone, B: Allocator, Z: Allocator, R: Source, W: Sink>(
     alloc: A,
     finder: &mut StreamFinder<'_, B, Z>,
@@ -195,7 +174,7 @@ pub(crate) fn print_stream<A: Allocator + Clone, B: Allocator, Z: Allocator, R: 
 /// Writes a line for a match, if there is one.
 ///
 /// # Errors
-/// As `print_walk`.
+/// As `print_all`.
 pub(crate) fn print_found<A: Allocator + Clone, W: Sink>(
     alloc: A,
     found: Option<Match>,

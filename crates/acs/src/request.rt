@@ -3,7 +3,7 @@ ghost use Rattle.std.specs.Prelude.{◌≡◌, Err, IfOk, MatchOption, Ok};
 ghost use Rattle.ac_util.specs.Borrowed.{bytes_of};
 ghost use Rattle.ac_util.specs.Limits.{limit_refusal};
 ghost use Rattle.acs.specs.Faults.{fault_of};
-ghost use Rattle.acs.specs.Requests.{allows_count, engine_of, firsts, kind_of, mode_of, patterns_in, request_of, seconds, words_among};
+ghost use Rattle.acs.specs.Requests.{allows_count, engine_of, firsts, kind_of, mode_of, patterns_in, request_of, seconds, side, words_among};
 
 use crate::fault::Fault;
 use ac_search::{AhoCorasickKind, MatchKind, PatternID, check_limits};
@@ -166,7 +166,7 @@ pub(crate) fn patterns_of<'w, A: Allocator>(
 {
     match mode {
         Mode::Find | Mode::Walk | Mode::Overlap | Mode::Stream => all_of(alloc, words),
-        Mode::Replace | Mode::StreamReplace => firsts_of(alloc, words),
+        Mode::Replace | Mode::StreamReplace => side_of(alloc, words, false),
     }
 }
 
@@ -180,25 +180,25 @@ pub(crate) fn texts_of<'w, A: Allocator>(
 ) -> Result<Vec<&'w [u8], A>, AllocError>
     ensures { IfOk result (λ texts. bytes_of texts.items ≡ seconds (bytes_of words.now)) }
 {
-    let mut texts = Vec::new(alloc);
-    for pair in words.chunks_exact(2) {
-        texts.push(pair[1].as_bytes())?;
-    }
-    Ok(texts)
+    side_of(alloc, words, true)
 }
 
-/// Returns the bytes of the first words of pairs.
+/// Returns the bytes of one word of each pair: the second one, or else the first.
 ///
 /// # Errors
 /// As `patterns_of`.
-fn firsts_of<'w, A: Allocator>(alloc: A, words: &[&'w str]) -> Result<Vec<&'w [u8], A>, AllocError>
-    ensures { IfOk result (λ patterns. bytes_of patterns.items ≡ firsts (bytes_of words.now)) }
+fn side_of<'w, A: Allocator>(
+    alloc: A,
+    words: &[&'w str],
+    second: bool,
+) -> Result<Vec<&'w [u8], A>, AllocError>
+    ensures { IfOk result (λ chosen. bytes_of chosen.items ≡ side second (bytes_of words.now)) }
 {
-    let mut patterns = Vec::new(alloc);
+    let mut side = Vec::new(alloc);
     for pair in words.chunks_exact(2) {
-        patterns.push(pair[0].as_bytes())?;
+        side.push(pair[usize::from(second)].as_bytes())?;
     }
-    Ok(patterns)
+    Ok(side)
 }
 
 /// Returns the bytes of all words.

@@ -69,10 +69,10 @@ pub fn run<A: Allocator + Clone, R: Source, W: Sink>(
 }
 
 /// Runs on the words among the arguments: all but the first, which is the program's name, each as it was given. Tells a
-/// fault and returns the exit status, as `run_and_tell` does.
+/// fault and returns the exit status, as `run_and_report` does.
 ///
 /// # Errors
-/// `Memory` where the arguments can't be copied: then nothing is read, written or told.
+/// `Memory` where the arguments can't be copied: then nothing is read, written or reported.
 pub fn run_on_arguments<
     A: Allocator + Clone,
     I: Iterator<Item = String>,
@@ -90,14 +90,14 @@ pub fn run_on_arguments<
 {
     let arguments: Vec<String, A> = arguments.collect(alloc.clone()?)?;
     let words = words_among(alloc.clone()?, &arguments)?;
-    Ok(run_and_tell(alloc, &words, reader, writer, errors))
+    Ok(run_and_report(alloc, &words, reader, writer, errors))
 }
 
-/// Runs, tells a fault by its line on a third device, and returns the exit status: 0 where a line or a whole replaced
+/// Runs, reports a fault by its line on a third device, and returns the exit status: 0 where a line or a whole replaced
 /// text was written, 1 where no line was, 2 after a fault.
 ///
 /// Where that device fails, a beginning of the line was written. Where there is no fault nothing is written there.
-pub fn run_and_tell<A: Allocator + Clone, R: Source, W: Sink, E: Sink>(
+pub fn run_and_report<A: Allocator + Clone, R: Source, W: Sink, E: Sink>(
     alloc: A,
     words: &[&str],
     reader: &mut R,
@@ -108,12 +108,12 @@ pub fn run_and_tell<A: Allocator + Clone, R: Source, W: Sink, E: Sink>(
         (W.told writer.old) (W.told writer.new) (E.told errors.old) (E.told errors.new) result }
 {
     let outcome = run(alloc, words, reader, writer);
-    tell(&outcome, errors);
+    report(&outcome, errors);
     status(&outcome)
 }
 
 /// Writes the line of a fault, if there is one. A failure to write this line is ignored.
-pub fn tell<E: Sink>(outcome: &Result<Outcome, Fault>, errors: &mut E)
+pub fn report<E: Sink>(outcome: &Result<Outcome, Fault>, errors: &mut E)
     ensures { HasTold outcome.now (E.told errors.old) (E.told errors.new) }
 {
     if let Err(fault) = outcome {
@@ -154,7 +154,7 @@ fn search<A: Allocator + Clone, R: Source, W: Sink>(
 /// Builds the searcher that is asked for.
 ///
 /// # Errors
-/// As `AhoCorasickBuilder::build`: a limit of the list is told as that limit.
+/// As `AhoCorasickBuilder::build`: a limit of the list is reported as that limit.
 fn searcher_for<A: Allocator + Clone>(
     alloc: A,
     request: Request,

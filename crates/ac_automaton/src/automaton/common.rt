@@ -17,11 +17,11 @@ use std::rc::Rc;
 pub struct Common<A: Allocator = Global> {
     patterns: Rc<Patterns<A>, A>,
     kind: MatchKind,
-    fold: bool,
+    ignores_case: bool,
     shortest: usize,
     longest: usize,
     /// Whether to have a prefilter, where there is one for the patterns.
-    filters: bool,
+    wants_prefilter: bool,
     prefilter: Option<Prefilter<A>>,
 }
 
@@ -34,16 +34,16 @@ impl<A: Allocator> Model for Common<A> {
 
     ghost view = { λ c. record {
       patterns = c.patterns.value;
-      fold = c.fold;
+      ignores_case = c.ignores_case;
       kind = c.kind;
-      filters = c.filters;
+      wants_prefilter = c.wants_prefilter;
     } };
 
     ghost invariant = { λ c. record {
       shortest : c.shortest ≡ shortest_len c.patterns.value;
       longest : c.longest ≡ longest_len c.patterns.value;
-      skips : option_map skip_of c.prefilter ≡ skip_for c.filters c.fold c.patterns.value;
-      serves : IfSome c.prefilter (λ p. IsSkipFor (skip_of p) c.fold c.patterns.value);
+      skips : option_map skip_of c.prefilter ≡ skip_for c.wants_prefilter c.ignores_case c.patterns.value;
+      serves : IfSome c.prefilter (λ p. IsSkipFor (skip_of p) c.ignores_case c.patterns.value);
     } };
 }
 
@@ -58,10 +58,10 @@ impl<A: Allocator + Clone> Clone for Common<A> {
         Ok(Common {
             patterns: self.patterns.clone()?,
             kind: self.kind,
-            fold: self.fold,
+            ignores_case: self.ignores_case,
             shortest: self.shortest,
             longest: self.longest,
-            filters: self.filters,
+            wants_prefilter: self.wants_prefilter,
             prefilter: self.prefilter.clone()?,
         })
     }
@@ -75,15 +75,15 @@ impl<A: Allocator + Clone> Common<A> {
     pub(crate) fn new(
         patterns: Patterns<A>,
         kind: MatchKind,
-        fold: bool,
-        filters: bool,
+        ignores_case: bool,
+        wants_prefilter: bool,
     ) -> Result<Common<A>, BuildError>
         ensures { MatchResult result
-            (λ common. common ≡ record { patterns = patterns; fold = fold; kind = kind; filters = filters })
+            (λ common. common ≡ record { patterns = patterns; ignores_case = ignores_case; kind = kind; wants_prefilter = wants_prefilter })
             (λ e. e ≡ Memory) }
     {
-        let prefilter = if filters {
-            Prefilter::of(patterns.allocator().clone()?, &patterns, fold)?
+        let prefilter = if wants_prefilter {
+            Prefilter::of(patterns.allocator().clone()?, &patterns, ignores_case)?
         } else {
             None
         };
@@ -93,8 +93,8 @@ impl<A: Allocator + Clone> Common<A> {
             longest: longest_of(&patterns),
             patterns: Rc::new(alloc, patterns)?,
             kind,
-            fold,
-            filters,
+            ignores_case,
+            wants_prefilter,
             prefilter,
         })
     }
@@ -120,17 +120,17 @@ impl<A: Allocator> Common<A> {
     /// Returns whether case is ignored.
     #[inline]
     pub fn fold(&self) -> bool
-        ensures { result ≡ self.now.fold }
+        ensures { result ≡ self.now.ignores_case }
     {
-        self.fold
+        self.ignores_case
     }
 
     /// Returns whether to have a prefilter, where there is one for the patterns.
     #[inline]
-    pub fn filters(&self) -> bool
-        ensures { result ≡ self.now.filters }
+    pub fn wants_prefilter(&self) -> bool
+        ensures { result ≡ self.now.wants_prefilter }
     {
-        self.filters
+        self.wants_prefilter
     }
 
     /// Returns how many bytes the shortest pattern has, or `usize::MAX` without patterns.
@@ -153,9 +153,9 @@ impl<A: Allocator> Common<A> {
     #[inline]
     pub fn prefilter(&self) -> Option<&Prefilter<A>>
         ensures skips { option_map (λ p. skip_of p.now) result
-            ≡ skip_for self.now.filters self.now.fold self.now.patterns }
+            ≡ skip_for self.now.wants_prefilter self.now.ignores_case self.now.patterns }
         ensures serves { IfSome result
-            (λ p. IsSkipFor (skip_of p.now) self.now.fold self.now.patterns) }
+            (λ p. IsSkipFor (skip_of p.now) self.now.ignores_case self.now.patterns) }
     {
         self.prefilter.as_ref()
     }

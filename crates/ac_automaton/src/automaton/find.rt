@@ -44,7 +44,7 @@ pub fn find_core<A: Automaton>(
     ensures pick { result ≡ find_result (A.built automaton.now)
         (input_over tape.old.bytes start end anchored earliest) }
     ensures searched { HasSearched
-        (picking_of A.LOOKS (A.built automaton.now).kind (A.filters automaton.now) earliest)
+        (picking_of A.LOOKS (A.built automaton.now).kind (A.wants_prefilter automaton.now) earliest)
         (search_in (A.built automaton.now) (input_over tape.old.bytes start end anchored earliest)) result
         (work_of tape.old looks.old) (work_of tape.new looks.new) }
     ensures bytes { tape.new.bytes ≡ tape.old.bytes }
@@ -105,14 +105,14 @@ impl<'a, A: Automaton> Model for Finder<'a, A> {
     ghost view = { λ f. record {
       built = A.built f.automaton.now;
       anchored = f.anchored;
-      picking = picking_of A.LOOKS (A.built f.automaton.now).kind (A.filters f.automaton.now) f.stops;
+      picking = picking_of A.LOOKS (A.built f.automaton.now).kind (A.wants_prefilter f.automaton.now) f.stops;
     } };
 
     ghost invariant = { λ f. record {
       starts : A.stands f.automaton.now f.anchored f.start (Some []);
       leftmost : f.stops ≡ false → is_leftmost (A.built f.automaton.now).kind ≡ true;
       skips : IfSome f.prefilter (λ p. (f.anchored ≡ No)
-          × Skips (A.filters f.automaton.now) (A.built f.automaton.now) (skip_of p.now));
+          × Skips (A.wants_prefilter f.automaton.now) (A.built f.automaton.now) (skip_of p.now));
     } };
 }
 
@@ -132,7 +132,7 @@ impl<'a, A: Automaton> Finder<'a, A> {
             × (finder ≡ record {
               built = A.built automaton.now;
               anchored = anchored;
-              picking = picking_of A.LOOKS (A.built automaton.now).kind (A.filters automaton.now) earliest;
+              picking = picking_of A.LOOKS (A.built automaton.now).kind (A.wants_prefilter automaton.now) earliest;
             }))
             (λ e. start_refusal (A.built automaton.now).start_kind anchored ≡ Some e) }
     {

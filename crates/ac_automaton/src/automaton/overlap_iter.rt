@@ -38,18 +38,18 @@ impl<'a, 'h, A: Automaton> Model for FindOverlappingIter<'a, 'h, A> {
     ghost use Rattle.ac_util.specs.Prefilters.{skip_of};
     ghost use Rattle.ac_automaton.specs.Overlaps.{IsListing, Overlapping, overlapping_by};
     ghost use Rattle.ac_automaton.specs.Progress.{work_of};
-    ghost use Rattle.ac_automaton.specs.Scans.{in_memory, scan_by};
+    ghost use Rattle.ac_automaton.specs.Scans.{in_memory, scan_of};
     ghost use Rattle.ac_automaton.specs.Skipping.{SkipsByBytes};
 
     ghost Value = { Overlapping };
 
-    ghost view = { λ s. overlapping_by (scan_by (A.stands s.scanner.automaton.now) (A.listed s.scanner.automaton.now)
-        (A.built s.scanner.automaton.now) A.LOOKS (A.filters s.scanner.automaton.now) s.scanner.anchored)
+    ghost view = { λ s. overlapping_by (scan_of A.stands A.listed A.built A.LOOKS A.wants_prefilter s.scanner.automaton.now
+        s.scanner.anchored)
         (in_memory s.tape.bytes s.scanner.span) s.reached (work_of s.tape s.looks) };
 
     ghost invariant = { λ s.
-        let scan = scan_by (A.stands s.scanner.automaton.now) (A.listed s.scanner.automaton.now)
-        (A.built s.scanner.automaton.now) A.LOOKS (A.filters s.scanner.automaton.now) s.scanner.anchored in
+        let scan = scan_of A.stands A.listed A.built A.LOOKS A.wants_prefilter s.scanner.automaton.now
+        s.scanner.anchored in
         record {
           listing : IsListing scan (in_memory s.tape.bytes s.scanner.span) s.reached (work_of s.tape s.looks);
           skips : IfSome s.prefilter (λ p. SkipsByBytes scan (skip_of p.now));
@@ -64,7 +64,7 @@ impl<'a, 'h, A: Automaton> FindOverlappingIter<'a, 'h, A> {
         input: Input<'h>,
     ) -> Result<FindOverlappingIter<'a, 'h, A>, MatchError>
         ensures { AnswersUnless (overlapping_iter_refusal (A.built automaton.now) (input_of input.entry))
-            (initial_listing A.LOOKS (A.built automaton.now) (A.filters automaton.now) (input_of input.entry)) result }
+            (initial_listing A.LOOKS (A.built automaton.now) (A.wants_prefilter automaton.now) (input_of input.entry)) result }
     {
         let anchored = input.get_anchored();
         let begun = start_of(automaton, anchored)?;

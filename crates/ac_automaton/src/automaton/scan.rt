@@ -40,7 +40,7 @@ pub(super) trait Scans {
 
 impl<A: Automaton> Scans for A {
     ghost scan = { λ automaton. scan_by (A.stands automaton) (A.listed automaton) (A.built automaton) A.LOOKS
-        (A.filters automaton) };
+        (A.wants_prefilter automaton) };
 }
 
 /// An automaton under an anchoring, and the span of a tape that it searches.

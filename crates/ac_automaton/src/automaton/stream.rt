@@ -1,11 +1,12 @@
 //! The search of a stream: what a reader gives is read into a buffer, and its matches are given one after another.
 ghost use Rattle.std.specs.Prelude.{◌≡◌, ◌≢◌, ◌⊎◌, ◌≤◌, ◌<◌, ◌+◌, ◌-◌, ◌*◌, MatchOption, MatchResult, None, Some, drop, false, true, if◌then◌else◌, length, max, min, slice_range, take, ⊤};
 ghost use Rattle.ac_automaton.specs.Util.{IsNear, IsStreamRefused, Reads, stream_refusal};
-ghost use Rattle.ac_automaton.specs.declared.automaton.stream.Phase.TheVariants.{Ended, Open};
+ghost use Rattle.ac_automaton.specs.declared.automaton.stream_settled.Phase.TheVariants.{Ended, Open};
 ghost use Rattle.ac_automaton.specs.Streams.{Fills, GivesEarly, GivesLast, GivesRead, StreamsOn, kept_from, kept_len, initial_stream};
 
 use super::Automaton;
 use super::scan::{Cursor, Scanner};
+use super::stream_settled::{Phase, buffer_len, most_kept, settled_from, settled_match};
 use ac_util::device::Source;
 use ac_util::error::{MatchError, StreamError};
 use ac_util::history::History;
@@ -17,23 +18,6 @@ use std::alloc::Allocator;
 use std::io;
 use std::marker::Model;
 use std::snapshot::Snapshot;
-
-/// How many bytes a buffer has at least.
-const LEAST_BUFFER: usize = 65536;
-
-/// How many times as long as the longest pattern a buffer is at least.
-const BUFFER_FACTOR: usize = 8;
-
-/// Whether a stream goes on.
-#[derive(Clone, Copy, PartialEq, Eq, Debug)]
-pub enum Phase {
-    /// More may be read.
-    Open,
-    /// A read gave no byte, though there was room: the reader isn't asked again.
-    Ended,
-    /// A read failed, or brought more than a `usize` counts: the reader isn't asked again.
-    Failed,
-}
 
 /// A search over a stream, whose reader is handed to each call. `StreamFindIter` is one with a reader of its own.
 ///
@@ -75,19 +59,12 @@ pub struct StreamFinder<'a, A: Automaton, Z: Allocator> {
 impl<'a, A: Automaton, Z: Allocator> Model for StreamFinder<'a, A, Z> {
     ghost use Rattle.std.specs.Prelude.{length};
     ghost use Rattle.ac_util.specs.declared.search.Anchored.TheVariants.{No};
-    ghost use Rattle.ac_automaton.specs.Streams.{IsStreaming, Streaming};
+    ghost use Rattle.ac_automaton.specs.Streams.{IsStreaming, Streaming, streaming_by};
 
     ghost Value = { Streaming };
 
-    ghost view = { λ f. record {
-      built = A.built f.automaton.now;
-      bytes = f.history.bytes;
-      given = f.given.number;
-      front = f.front;
-      kept = f.kept;
-      phase = f.phase;
-      buffer = length f.buffer.items;
-    } };
+    ghost view = { λ f. streaming_by (A.built f.automaton.now) f.history.bytes f.given.number f.front f.kept f.phase
+        (length f.buffer.items) };
 
     ghost invariant = { λ f. IsStreaming (A.stands f.automaton.now No)
         (record {
@@ -101,15 +78,8 @@ impl<'a, A: Automaton, Z: Allocator> Model for StreamFinder<'a, A, Z> {
           picked = f.picked;
           begun = f.begun.value;
         })
-        (record {
-          built = A.built f.automaton.now;
-          bytes = f.history.bytes;
-          given = f.given.number;
-          front = f.front;
-          kept = f.kept;
-          phase = f.phase;
-          buffer = length f.buffer.items;
-        }) };
+        (streaming_by (A.built f.automaton.now) f.history.bytes f.given.number f.front f.kept f.phase
+        (length f.buffer.items)) };
 }
 
 impl<'a, A: Automaton, Z: Allocator> StreamFinder<'a, A, Z> {
@@ -240,7 +210,7 @@ impl<'a, A: Automaton, Z: Allocator> StreamFinder<'a, A, Z> {
         ensures { Fills R.empty_means_end self.old result self.new (R.told reader.old) (R.told reader.new) }
     {
         self.make_room();
-        match read_behind(reader, &mut self.buffer, self.filled) {
+        match read_after(reader, &mut self.buffer, self.filled) {
             Ok(0) => {
                 self.phase = Phase::Ended;
                 Ok(false)
@@ -318,50 +288,11 @@ impl<'a, A: Automaton, Z: Allocator> StreamFinder<'a, A, Z> {
 }
 
 /// Reads into a buffer after its first bytes, which stay as they are.
-fn read_behind<R: Source>(reader: &mut R, buffer: &mut [u8], filled: usize) -> io::Result<usize>
+fn read_after<R: Source>(reader: &mut R, buffer: &mut [u8], filled: usize) -> io::Result<usize>
     requires inside { filled ≤ length buffer.old }
     ensures long { length buffer.new ≡ length buffer.old }
     ensures keeps { take filled buffer.new ≡ take filled buffer.old }
     ensures reads { Reads R.empty_means_end (R.told reader.old) (R.told reader.new) result (drop filled buffer.new) }
 {
     reader.read_some(&mut buffer[filled..])
-}
-
-/// Returns what a search picks so far, where it is settled: the first match found counts, nothing more is found, or the end was
-/// met.
-fn settled_match(picked: Option<Match>, stops: bool, dead: bool, phase: Phase) -> Option<Match>
-    ensures { MatchOption result
-        ((picked ≡ None) ⊎ ((stops ≡ false) × (dead ≡ false) × (phase ≢ Ended)))
-        (λ m. (picked ≡ Some m) × ((stops ≡ true) ⊎ ((dead ≡ true) ⊎ (phase ≡ Ended)))) }
-{
-    if stops || dead || matches!(phase, Phase::Ended) {
-        picked
-    } else {
-        None
-    }
-}
-
-/// Returns as far as where nothing is kept once all matches of the bytes read that are settled were given.
-fn settled_from(phase: Phase, kept: usize, read: usize, reserve: usize) -> usize
-    ensures { result ≡ kept_from phase (max kept (read - reserve)) read }
-{
-    match phase {
-        Phase::Ended => read,
-        Phase::Open | Phase::Failed => kept.max(read.saturating_sub(reserve)),
-    }
-}
-
-/// Returns how many bytes the buffer of a stream has, by the length of the longest pattern.
-fn buffer_len(longest: usize) -> usize
-    ensures { result ≡ max 65536 (min 18446744073709551615 (8 * longest)) }
-{
-    longest.saturating_mul(BUFFER_FACTOR).max(LEAST_BUFFER)
-}
-
-/// Returns how many bytes of a stream may be kept back: one fewer than the longest pattern has where the first match found is
-/// given, and else, since a match that was found may still change, as many.
-fn most_kept(stops: bool, longest: usize) -> usize
-    ensures { result ≡ if stops then max 1 longest - 1 else longest }
-{
-    if stops { longest.max(1) - 1 } else { longest }
 }

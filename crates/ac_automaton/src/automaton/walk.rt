@@ -1,7 +1,7 @@
 //! The matches of a walk, one after another.
 ghost use Rattle.std.specs.Prelude.{◌≡◌, ◌+◌, ◌<◌, ◌≤◌, ℕ, IfSome, length};
 ghost use Rattle.std.specs.Iterator.{item_count};
-ghost use Rattle.ac_automaton.specs.Util.{AnswersUnless, input_of, find_refusal, next_match, repeats, Standard};
+ghost use Rattle.ac_automaton.specs.Util.{AnswersUnless, input_of, find_refusal, next_match, repeats, Standard, usize_max};
 ghost use Rattle.ac_automaton.specs.Finds.{HasSearched};
 ghost use Rattle.ac_automaton.specs.Iterators.{Finds, GoesOn, after, initial_walk, kept_place, walking_of};
 ghost use Rattle.ac_automaton.specs.Progress.{search_of, work_of};
@@ -36,6 +36,7 @@ pub struct FindIter<'a, 'h, A: Automaton> {
 
 impl<'a, 'h, A: Automaton> Model for FindIter<'a, 'h, A> {
     ghost use Rattle.std.specs.Prelude.{◌<◌, ◌≤◌, length};
+    ghost use Rattle.ac_automaton.specs.Util.{usize_max};
     ghost use Rattle.ac_automaton.specs.Iterators.{IsUnderWay, Walking, walking_of};
     ghost use Rattle.ac_automaton.specs.Progress.{work_of};
 
@@ -45,7 +46,7 @@ impl<'a, 'h, A: Automaton> Model for FindIter<'a, 'h, A> {
 
     ghost invariant = { λ s. record {
       inside : s.span.end ≤ length s.tape.bytes;
-      small : s.span.end < 18446744073709551615;
+      small : s.span.end < usize_max;
       under_way : IsUnderWay (walking_of s.finder s.tape.bytes s.span s.last s.from.value (work_of s.tape s.looks));
     } };
 }
@@ -55,7 +56,7 @@ impl<'a, 'h, A: Automaton> FindIter<'a, 'h, A> {
     #[inline]
     pub(super) fn new(automaton: &'a A, input: Input<'h>) -> Result<FindIter<'a, 'h, A>, MatchError>
         ensures { AnswersUnless (find_refusal (A.built automaton.now) (input_of input.entry))
-            (initial_walk A.LOOKS (A.built automaton.now) (A.filters automaton.now) (input_of input.entry)) result }
+            (initial_walk A.LOOKS (A.built automaton.now) (A.wants_prefilter automaton.now) (input_of input.entry)) result }
     {
         let finder = Finder::new(automaton, input.get_anchored(), input.get_earliest())?;
         let (tape, looks) = open(&input);
@@ -100,10 +101,10 @@ fn next_left<A: Automaton>(
     looks: &mut Looks,
 ) -> Option<Match>
     requires inside { span.end ≤ length tape.old.bytes }
-    requires small { span.end < 18446744073709551615 }
+    requires small { span.end < usize_max }
     requires legal { span.start ≤ span.end + 1 }
     requires unread { finder.old.picking.order ≡ Standard → tape.old.place ≤ span.start }
-    requires behind { IfSome last (λ e. e ≤ span.start) }
+    requires beyond { IfSome last (λ e. e ≤ span.start) }
     ensures next { result ≡ next_match finder.old.picking.order
         (search_of finder.old.built finder.old.anchored tape.old.bytes span.start span.end) last }
     ensures bytes { tape.new.bytes ≡ tape.old.bytes }
@@ -126,7 +127,7 @@ fn next_left<A: Automaton>(
 /// none.
 #[inline]
 fn after(span: Span, found: &Option<Match>) -> usize
-    requires small { span.end < 18446744073709551615 }
+    requires small { span.end < usize_max }
     ensures { result ≡ after span.end found.now }
 {
     match found {

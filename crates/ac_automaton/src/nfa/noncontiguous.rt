@@ -11,14 +11,15 @@ use ac_util::error::{BuildError, MatchError};
 use ac_util::looks::Looks;
 use ac_util::primitives::{PatternID, StateID};
 use ac_util::search::Anchored;
-use growth::TrieLists;
+use lists::TrieLists;
 use state::{State, Transition, TrieSlices, follow, listed_len, take_listed};
 use std::alloc::{AllocError, Allocator, Global};
 use std::marker::Model;
 use std::mem::size_of;
 
 mod builder;
-pub(crate) mod growth;
+mod growth;
+mod lists;
 mod readers;
 mod root;
 pub(crate) mod sorted;
@@ -156,7 +157,7 @@ impl<A: Allocator> Automaton for NFA<A> {
 
     ghost listed = { λ n s. listed_within n.order n.states s s };
 
-    ghost filters = { λ n. n.filters };
+    ghost wants_prefilter = { λ n. n.wants_prefilter };
 
     ghost one_or_two = { inr refl };
 

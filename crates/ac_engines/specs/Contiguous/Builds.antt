@@ -19,7 +19,7 @@ usual_contiguous_settings = record { engine = usual_engine_settings; dense_depth
 -- how many words are packed from an automaton
 abbrev pub words_from : ℕ → Bool → Built → ℕ
 words_from dense_depth byte_classes from =
-    packed_words from dense_depth (alphabet_len (classes_by byte_classes from.fold from.patterns))
+    packed_words from dense_depth (alphabet_len (classes_by byte_classes from.ignores_case from.patterns))
 
 -- the refusal where there are more than a state may have as its number, or None
 abbrev pub contiguous_refusal : ℕ → Bool → Built → Option BuildError
@@ -37,12 +37,12 @@ contiguous_refusal_by settings patterns =
 
 -- words with these classes and this dense depth were packed from an automaton, which was built to have a prefilter or
 -- not: they are to have one as that automaton, and there is no word too many
-pub record IsContiguousFrom (dense_depth : ℕ) (byte_classes : Bool) (from : Built) (filters : Bool)
+pub record IsContiguousFrom (dense_depth : ℕ) (byte_classes : Bool) (from : Built) (wants_prefilter : Bool)
     (c : ContiguousView) : Type 0 where
   pub built : c.built ≡ from
-  pub filters_is : c.filters ≡ filters
+  pub filters_is : c.wants_prefilter ≡ wants_prefilter
   pub dense_depth_is : c.dense_depth ≡ dense_depth
-  pub classes : c.classes ≡ classes_by byte_classes from.fold from.patterns
+  pub classes : c.classes ≡ classes_by byte_classes from.ignores_case from.patterns
   pub size : length c.words ≡ words_from dense_depth byte_classes from
 
 -- a build by these settings has succeeded

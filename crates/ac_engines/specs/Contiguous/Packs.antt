@@ -3,10 +3,10 @@ use Rattle.std.specs.Prelude.{◌≡◌, ℕ, ◌+◌, ◌≤◌, Bool, List, []
 use Rattle.ac_util.specs.declared.search.Anchored.{Anchored}
 use Rattle.ac_automaton.specs.Util.{alphabet_len, No, Node, Yes}
 use Rattle.ac_automaton.specs.declared.nfa.noncontiguous.state.TheConstants.{ANCHORED_START, START}
-use Rattle.ac_engines.specs.Contiguous.{spelling_at}
-use Rattle.ac_engines.specs.Contiguous.Plans.{HasPlaces, MayPack, PackPlan, has_matches, packed_of, places_of, size_at, total}
+use Rattle.ac_engines.specs.Contiguous.{packed_at}
+use Rattle.ac_engines.specs.Contiguous.Plans.{HasPlaces, HasWords, MayPack, PackPlan, has_matches, packed_of, places_of, size_at, total}
 use Rattle.ac_engines.specs.Contiguous.Sizes.{node_format}
-use Rattle.ac_engines.specs.Contiguous.Words.{BeginsWith, Spelling, spelled}
+use Rattle.ac_engines.specs.Contiguous.Words.{BeginsWith, PackedState, format_words}
 
 -- what states are packed by: a plan, and the place of each state of the trie
 pub record Packer : Type 0 where
@@ -24,14 +24,14 @@ module _ (f : Packer) (nodes : List Node) where
     pub places : HasPlaces f.plan nodes f.numbers
 
   -- what the state of a number spells
-  abbrev pub state_spelling : ℕ → Node → Spelling
-  state_spelling s u =
-      spelling_at (packed_of f.plan nodes f.numbers []) (places_of f.plan nodes f.numbers) (anchored_of s) u
+  abbrev pub packed_state : ℕ → Node → PackedState
+  packed_state s u =
+      packed_at (packed_of f.plan nodes f.numbers []) (places_of f.plan nodes f.numbers) (anchored_of s) u
 
   -- its words
   abbrev pub state_words : ℕ → Node → List ℕ
   state_words s u =
-      spelled (node_format f.plan.trie.built f.plan.dense_depth u) (alphabet_len f.plan.classes) (state_spelling s u)
+      format_words (node_format f.plan.trie.built f.plan.dense_depth u) (alphabet_len f.plan.classes) (packed_state s u)
 
   -- all states that have matches were pushed, or all others: each stands after those before it
   pub record HasPushedWords (front : Bool) (old new : List ℕ) : Type 0 where
@@ -40,12 +40,9 @@ module _ (f : Packer) (nodes : List Node) where
     pub long : length new ≡ length old + total (size_at f.plan nodes front) (length nodes)
     pub each : (s : ℕ) (u : Node) → START ≤ s → slice_get nodes s ≡ Some u → has_matches f.plan nodes u ≡ front
         → BeginsWith (drop (length old + total (size_at f.plan nodes front) s) new)
-        (node_format f.plan.trie.built f.plan.dense_depth u) (alphabet_len f.plan.classes) (state_spelling s u)
+        (node_format f.plan.trie.built f.plan.dense_depth u) (alphabet_len f.plan.classes) (packed_state s u)
 
--- the state is a start or stands after the starts
+-- the state has words, whose place is known
 pub record HasPlaceIn (f : Packer) (s : ℕ) : Type 0 where
-  pub nodes : List Node
-  pub ready : AreReady f nodes
-  pub node : Node
-  pub named : slice_get nodes s ≡ Some node
-  pub reached : START ≤ s
+  pub words : HasWords f.plan s
+  pub ready : AreReady f words.nodes

@@ -23,7 +23,7 @@ module _ (q : PackPlan) (nodes : List Node) where
   pub record MayPack : Type 0 where
     pub are_nodes : AreNodes q.trie nodes
     pub classes : AreClasses q.classes
-    pub apart : SetsApart q.trie.built.fold q.trie.built.patterns q.classes
+    pub apart : SetsApart q.trie.built.ignores_case q.trie.built.patterns q.classes
     pub few : length q.trie.built.patterns ≤ GREATEST + 1
     pub short : longest_len q.trie.built.patterns < 18446744073709551616
 
@@ -67,7 +67,7 @@ module _ (q : PackPlan) (nodes : List Node) where
   abbrev pub packed_of : List ℕ → List ℕ → ContiguousView
   packed_of numbers words = record {
     built = q.trie.built;
-    filters = q.trie.filters;
+    wants_prefilter = q.trie.wants_prefilter;
     dense_depth = q.dense_depth;
     classes = q.classes;
     words = words;

@@ -11,16 +11,16 @@ use Rattle.ac_engines.specs.declared.nfa.contiguous.state.Edge.{Edge}
 
 -- what the words of a state spell: its failure target, where it leads by a class without a transition, its transitions
 -- in ascending order of their classes, and its matches
-pub record Spelling : Type 0 where
+pub record PackedState : Type 0 where
   pub failure : ℕ
-  pub missing : ℕ
+  pub default_target : ℕ
   pub edges : List Edge
   pub matches : List ℕ
 
 -- where a class leads
 unfoldable pub target_by : ℕ → List Edge → ℕ → ℕ
-target_by missing [] class = missing
-target_by missing (e ∷ edges) class = if e.class == class then e.target else target_by missing edges class
+target_by default_target [] class = default_target
+target_by default_target (e ∷ edges) class = if e.class == class then e.target else target_by default_target edges class
 
 -- the target that a word names, if it isn't the number that no state has
 abbrev pub named : ℕ → Option ℕ
@@ -44,36 +44,36 @@ class_words (a ∷ b ∷ c ∷ d ∷ classes) = word_of a b c d ∷ class_words 
 
 -- no match has no word, a single one has its number with the top bit set, and several have their count and their
 -- numbers
-abbrev pub match_spelling : List ℕ → List ℕ
-match_spelling [] = []
-match_spelling (p ∷ []) = (one_match + p) ∷ []
-match_spelling (p ∷ q ∷ ps) = length (p ∷ q ∷ ps) ∷ p ∷ q ∷ ps
+abbrev pub match_list_words : List ℕ → List ℕ
+match_list_words [] = []
+match_list_words (p ∷ []) = (one_match + p) ∷ []
+match_list_words (p ∷ q ∷ ps) = length (p ∷ q ∷ ps) ∷ p ∷ q ∷ ps
 
 -- one transition, whose class stands beside the form
-abbrev pub one_spelling : ℕ → List Edge → List ℕ
-one_spelling failure [] = []
-one_spelling failure (e ∷ edges) = (one_form + 256 * e.class) ∷ failure ∷ e.target ∷ []
+abbrev pub one_words : ℕ → List Edge → List ℕ
+one_words failure [] = []
+one_words failure (e ∷ edges) = (one_form + 256 * e.class) ∷ failure ∷ e.target ∷ []
 
 -- the words of a state, where there are so many classes
-unfoldable pub spelled : Format → ℕ → Spelling → List ℕ
-spelled Dense classes s =
-    dense_form ∷ s.failure ∷ map (target_by s.missing s.edges) (range_with_len 0 classes) ++ match_spelling s.matches
-spelled One classes s = one_spelling s.failure s.edges
-spelled Sparse classes s =
+unfoldable pub format_words : Format → ℕ → PackedState → List ℕ
+format_words Dense classes s =
+    dense_form ∷ s.failure ∷ map (target_by s.default_target s.edges) (range_with_len 0 classes) ++ match_list_words s.matches
+format_words One classes s = one_words s.failure s.edges
+format_words Sparse classes s =
     length s.edges ∷ s.failure ∷ class_words (map (λ e. e.class) s.edges)
-    ++ map (λ e. e.target) s.edges ++ match_spelling s.matches
+    ++ map (λ e. e.target) s.edges ++ match_list_words s.matches
 
 -- a form can spell these transitions and matches: a form that isn't dense leads nowhere where there is no transition
-abbrev pub Fits : Format → Spelling → Type 0
+abbrev pub Fits : Format → PackedState → Type 0
 Fits Dense s = ⊤
-Fits One s = (length s.edges ≡ 1) × (s.matches ≡ []) × (s.missing ≡ no_target)
-Fits Sparse s = (length s.edges ≤ most_sparse) × (s.missing ≡ no_target)
+Fits One s = (length s.edges ≡ 1) × (s.matches ≡ []) × (s.default_target ≡ no_target)
+Fits Sparse s = (length s.edges ≤ most_sparse) × (s.default_target ≡ no_target)
 
 -- the words begin with those of a state: its classes are below their number and ascend, and its matches are fewer than
 -- the mark of a single one
-pub record BeginsWith (words : List ℕ) (format : Format) (classes : ℕ) (s : Spelling) : Type 0 where
+pub record BeginsWith (words : List ℕ) (format : Format) (classes : ℕ) (s : PackedState) : Type 0 where
   pub rest : List ℕ
-  pub words_are : words ≡ spelled format classes s ++ rest
+  pub words_are : words ≡ format_words format classes s ++ rest
   pub fits : Fits format s
   pub few : classes ≤ 256
   pub below : All (λ e. e.class < classes) s.edges
@@ -98,11 +98,11 @@ pub record HasTargets (old : List ℕ) (edges : List Edge) (now : List ℕ) : Ty
 
 -- the transitions that a state's words tell, in ascending order of their classes; a dense state says where each class
 -- leads
-abbrev pub spelled_transitions : Format → ℕ → Spelling → List Edge
-spelled_transitions Dense classes s =
-    map (λ class. record { class = class; target = target_by s.missing s.edges class }) (range_with_len 0 classes)
-spelled_transitions One classes s = s.edges
-spelled_transitions Sparse classes s = s.edges
+abbrev pub transitions_of_state : Format → ℕ → PackedState → List Edge
+transitions_of_state Dense classes s =
+    map (λ class. record { class = class; target = target_by s.default_target s.edges class }) (range_with_len 0 classes)
+transitions_of_state One classes s = s.edges
+transitions_of_state Sparse classes s = s.edges
 
 -- the class at a place of class words
 abbrev pub packed_class : List ℕ → ℕ → ℕ

@@ -29,7 +29,7 @@ rows_refusal start_kind classes states =
 -- the same of a DFA that is built from an automaton
 abbrev pub dfa_refusal : StartKind → Bool → Built → Option BuildError
 dfa_refusal start_kind byte_classes from =
-    rows_refusal start_kind (classes_by byte_classes from.fold from.patterns) (state_count from.kind (plain_of from))
+    rows_refusal start_kind (classes_by byte_classes from.ignores_case from.patterns) (state_count from.kind (plain_of from))
 
 -- why a build by these settings is refused within the limits of the list, if it is, but for want of memory: the
 -- numbers of the automaton's states are tested before those of the DFA's
@@ -40,11 +40,11 @@ dfa_refusal_by settings patterns =
 
 -- a DFA with these starts and classes has been built from an automaton, which was built to have a prefilter or not:
 -- it answers as that one does where it has the start, it is to have a prefilter as that one, and has no row too many
-pub record IsDfaFrom (start_kind : StartKind) (byte_classes : Bool) (from : Built) (filters : Bool) (d : DfaView)
+pub record IsDfaFrom (start_kind : StartKind) (byte_classes : Bool) (from : Built) (wants_prefilter : Bool) (d : DfaView)
     : Type 0 where
   pub built : d.built ≡ record from { start_kind = start_kind }
-  pub filters_is : d.filters ≡ filters
-  pub classes : d.classes ≡ classes_by byte_classes from.fold from.patterns
+  pub filters_is : d.wants_prefilter ≡ wants_prefilter
+  pub classes : d.classes ≡ classes_by byte_classes from.ignores_case from.patterns
   pub stride2 : d.stride2 ≡ stride2 d.classes
   pub rows : length d.entries ≡ table_rows start_kind (state_count from.kind (plain_of from)) * stride d.classes
 

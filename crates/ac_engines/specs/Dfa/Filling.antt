@@ -7,7 +7,7 @@ use Rattle.ac_engines.specs.Dfa.{anchored_shift, entry, number_of}
 
 -- what a DFA is filled from: what it is built from, the class of each byte, how many entries a row has, which node
 -- each state of the trie stands for, and the number of each state's first row
-pub record Sheet : Type 0 where
+pub record RowInput : Type 0 where
   pub built : Built
   pub classes : List ℕ
   pub stride : ℕ
@@ -21,7 +21,7 @@ first_row_in (v ∷ vs) [] w = 0
 first_row_in (None ∷ vs) (n ∷ ns) w = first_row_in vs ns w
 first_row_in (Some v ∷ vs) (n ∷ ns) w = if bytes_eq v w then n else first_row_in vs ns w
 
-module _ (p : Sheet) where
+module _ (p : RowInput) where
   -- where the row of a node begins
   abbrev pub row_at : Anchored → Node → ℕ
   row_at anchored u = number_of (first_row_in p.nodes p.numbers) (anchored_shift p.built.start_kind anchored p.stride) u
@@ -48,7 +48,7 @@ module _ (p : Sheet) where
     pub beside : SameBeside (row_at anchored (Some w)) (alphabet_len p.classes) old new
     pub own : (b : ℕ) → b < 256 → Contains bytes b
         → entry p.classes new (row_at anchored (Some w)) b
-        ≡ row_at anchored (Some (w ++ plain_byte p.built.fold b ∷ []))
+        ≡ row_at anchored (Some (w ++ plain_byte p.built.ignores_case b ∷ []))
     pub others : (b : ℕ) → b < 256 → (Contains bytes b → ⊥)
         → entry p.classes new (row_at anchored (Some w)) b ≡ entry p.classes old (row_at anchored (Some w)) b
 
@@ -88,8 +88,8 @@ pub record Filling : Type 0 where
   pub numbers : List ℕ
 
 -- the sheet of a DFA, where it is known which nodes the states of the trie stand for
-abbrev pub sheet_of : Filling → List Node → Sheet
-sheet_of f nodes = record {
+abbrev pub row_input : Filling → List Node → RowInput
+row_input f nodes = record {
   built = record f.trie.built { start_kind = f.start_kind };
   classes = f.classes;
   stride = f.stride;
@@ -104,8 +104,8 @@ module _ (f : Filling) (nodes : List Node) (size : ℕ) where
     pub are_nodes : AreNodes f.trie nodes
     pub below : (b : ℕ) → b < 256 → class_at f.classes b < alphabet_len f.classes
     pub room : alphabet_len f.classes ≤ f.stride
-    pub apart : SetsApart f.trie.built.fold f.trie.built.patterns f.classes
-    pub laid : AreLaid (sheet_of f nodes) size
+    pub apart : SetsApart f.trie.built.ignores_case f.trie.built.patterns f.classes
+    pub laid : AreLaid (row_input f nodes) size
     pub small : size ≤ GREATEST + f.stride
 
   -- a state stands for a string, which has rows in the table: it is the unanchored start, or none of the first four
@@ -119,15 +119,15 @@ module _ (f : Filling) (nodes : List Node) (size : ℕ) where
     pub long : length entries ≡ size
     pub dead : (k : ℕ) → k < f.stride → slice_index_or entries k 0 ≡ 0
     pub filled : (t : ℕ) (u : Node) → t < s → t ≢ 3 → slice_get nodes t ≡ Some u → (anchored : Anchored)
-        → start_refusal f.start_kind anchored ≡ None → IsFilled (sheet_of f nodes) anchored u entries
+        → start_refusal f.start_kind anchored ≡ None → IsFilled (row_input f nodes) anchored u entries
     pub blank : (t k : ℕ) → s ≤ t → t ≢ 3 → t < length nodes → slice_index_or f.numbers t 0 ≤ k
-        → k < slice_index_or f.numbers t 0 + width (sheet_of f nodes) → slice_index_or entries k 0 ≡ 0
+        → k < slice_index_or f.numbers t 0 + width (row_input f nodes) → slice_index_or entries k 0 ≡ 0
 
   -- the row of a state is as empty as that of the dead state, and if it is unanchored those of all states before are
   -- filled
   pub record MayFillRow (s : ℕ) (w : List ℕ) (anchored : Anchored) (entries : List ℕ) : Type 0 where
     pub row : HasRow s w
     pub blank : (k : ℕ) → k < f.stride
-        → slice_index_or entries (row_at (sheet_of f nodes) anchored (Some w) + k) 0 ≡ 0
+        → slice_index_or entries (row_at (row_input f nodes) anchored (Some w) + k) 0 ≡ 0
     pub earlier : anchored ≡ No → (t : ℕ) (u : Node) → t < s → t ≢ 3 → slice_get nodes t ≡ Some u
-        → IsFilled (sheet_of f nodes) No u entries
+        → IsFilled (row_input f nodes) No u entries

@@ -3,7 +3,7 @@ use Rattle.std.specs.Prelude.{◌≡◌, ◌⊎◌, ℕ, ◌+◌, ◌-◌, ◌*�
 use Rattle.ac_util.specs.declared.search.Anchored.{Anchored}
 use Rattle.ac_automaton.specs.Util.{Both, Built, No, Node, start_refusal, StartKind, Unanchored, Yes}
 use Rattle.ac_util.specs.declared.search.StartKind.TheVariants.{Anchored as AnchoredAlone}
-use Rattle.ac_automaton.specs.Prelude.{AreNodes, matches_of, Trie}
+use Rattle.ac_automaton.specs.Prelude.{matches_of}
 use Rattle.ac_engines.specs.Dfa.Filling.{AreLaid}
 use Rattle.ac_engines.specs.Dfa.{anchored_shift}
 
@@ -13,13 +13,6 @@ abbrev pub table_rows : StartKind → ℕ → ℕ
 table_rows Both states = 2 * states - 4
 table_rows Unanchored states = states
 table_rows AnchoredAlone states = states
-
--- a state of the trie stands for a node
-pub record HasNode (trie : Trie) (s : ℕ) : Type 0 where
-  pub nodes : List Node
-  pub are_nodes : AreNodes trie nodes
-  pub node : Node
-  pub named : slice_get nodes s ≡ Some node
 
 -- how many rows a string has
 abbrev pub rows_each : StartKind → ℕ
@@ -33,12 +26,14 @@ row_lists Both built u = matches_of built No u ∷ matches_of built Yes u ∷ []
 row_lists Unanchored built u = matches_of built No u ∷ []
 row_lists AnchoredAlone built u = matches_of built Yes u ∷ []
 
--- the lists of the first four rows: that of the dead node, that of no node, and those of the start, which for one
--- start are one and an empty one
+-- the lists of the rows that are kept for the start, which for one start are one and an empty one
+abbrev pub start_lists : StartKind → Built → List (List ℕ)
+start_lists Both built = row_lists Both built (Some [])
+start_lists start_kind built = row_lists start_kind built (Some []) ++ [] ∷ []
+
+-- the lists of the first four rows: that of the dead node, that of no node, and those of the start
 abbrev pub first_lists : StartKind → Built → List (List ℕ)
-first_lists Both built = [] ∷ [] ∷ row_lists Both built (Some [])
-first_lists Unanchored built = [] ∷ [] ∷ row_lists Unanchored built (Some []) ++ [] ∷ []
-first_lists AnchoredAlone built = [] ∷ [] ∷ row_lists AnchoredAlone built (Some []) ++ [] ∷ []
+first_lists start_kind built = [] ∷ [] ∷ start_lists start_kind built
 
 -- a node's rows are the first after those that have lists, and their lists were added
 pub record IsInFront (start_kind : StartKind) (built : Built) (u : Node) (row : ℕ) (lists : List (List ℕ)) (back : ℕ)

@@ -1,9 +1,10 @@
 //! Builds of a DFA.
-ghost use Rattle.std.specs.Prelude.{◌≡◌, ◌<◌, ◌≤◌, ◌+◌, ◌-◌, ◌*◌, ◌^◌, IfOk, List, length, MatchResult, None};
-ghost use Rattle.ac_automaton.specs.Util.{bytes_of, GREATEST, Node, StateIdOverflow};
+ghost use Rattle.std.specs.Prelude.{◌≡◌, ◌<◌, ◌≤◌, ◌+◌, ◌-◌, ◌*◌, ◌^◌, IfOk, List, length, MatchResult, None, Some};
+ghost use Rattle.ac_automaton.specs.Util.{bytes_of, GREATEST, Node, StateIdOverflow, state_count, stride};
+ghost use Rattle.ac_automaton.specs.Prelude.{AreNodes, plain_of};
 ghost use Rattle.ac_util.specs.declared.search.StartKind;
 ghost use Rattle.ac_automaton.specs.Builds.{IsRefusedExactly, RefusesBy, fits};
-ghost use Rattle.ac_engines.specs.Dfa.Builds.{IsDfaBuilt, IsDfaFrom, dfa_refusal, dfa_refusal_by, usual_dfa_settings};
+ghost use Rattle.ac_engines.specs.Dfa.Builds.{IsDfaBuilt, IsDfaFrom, dfa_refusal, dfa_refusal_by, rows_refusal, usual_dfa_settings};
 ghost use Rattle.ac_engines.specs.Dfa.Filling.{FilledUpTo, MayFill};
 ghost use Rattle.ac_engines.specs.Dfa.Layouts.{table_rows};
 ghost use Rattle.ac_engines.specs.Dfa.{start_number};
@@ -14,6 +15,7 @@ use super::{DEAD, DFA};
 use crate::classes::classes_for;
 use ac_automaton::automaton::Automaton;
 use ac_automaton::nfa::noncontiguous::{self, NFA};
+use ac_util::alphabet::ByteClasses;
 use ac_util::error::BuildError;
 use ac_util::primitives::StateID;
 use ac_util::search::{Anchored, MatchKind, StartKind};
@@ -90,7 +92,7 @@ impl Builder {
 
     /// Sets whether the case of ASCII letters is ignored. It counts unless set.
     pub fn ascii_case_insensitive(&mut self, yes: bool) -> &mut Builder
-        ensures value { result.now ≡ record self.old { engine = record self.old.engine { fold = yes } } }
+        ensures value { result.now ≡ record self.old { engine = record self.old.engine { ignores_case = yes } } }
         ensures same { result.ghost_name ≡ self.entry.ghost_name }
     {
         self.noncontiguous.ascii_case_insensitive(yes);
@@ -154,8 +156,7 @@ impl Builder {
         ensures { result ≡ fits (dfa_refusal self.now.start_kind self.now.byte_classes nfa.now.built) }
     {
         let classes = classes_for(nfa, self.byte_classes);
-        let rows = table_rows(self.start_kind, nfa.states_len()) as u64;
-        table_len(rows, classes.stride2()).is_ok()
+        len_for(nfa, self.start_kind, &classes).is_ok()
     }
 
     /// Builds an automaton that answers as another one, whose patterns it shares. Of the settings only the start kind
@@ -170,14 +171,13 @@ impl Builder {
         nfa: &NFA<A>,
     ) -> Result<DFA<A>, BuildError>
         ensures { MatchResult result
-            (λ dfa. IsDfaFrom self.now.start_kind self.now.byte_classes nfa.now.built nfa.now.filters dfa
+            (λ dfa. IsDfaFrom self.now.start_kind self.now.byte_classes nfa.now.built nfa.now.wants_prefilter dfa
             × (dfa_refusal self.now.start_kind self.now.byte_classes nfa.now.built ≡ None))
             (IsRefusedExactly (dfa_refusal self.now.start_kind self.now.byte_classes nfa.now.built)) }
     {
         let classes = classes_for(nfa, self.byte_classes);
+        let len = len_for(nfa, self.start_kind, &classes)?;
         let stride2 = classes.stride2();
-        let rows = table_rows(self.start_kind, nfa.states_len()) as u64;
-        let len = table_len(rows, stride2)?;
         let layout = Layout::of(alloc.clone()?, nfa, self.start_kind, stride2)?;
         let filler = Filler {
             nfa,
@@ -200,6 +200,25 @@ impl Builder {
             match_end: layout.match_end,
         })
     }
+}
+
+/// Returns how many entries the table of a DFA has that is built from an automaton with these starts and classes.
+///
+/// # Errors
+/// `StateIdOverflow` exactly where the last row would begin at a number that no state may have.
+fn len_for<A: Allocator>(
+    nfa: &NFA<A>,
+    start_kind: StartKind,
+    classes: &ByteClasses,
+) -> Result<u64, BuildError>
+    ensures len { let states = state_count nfa.now.built.kind (plain_of nfa.now.built) in MatchResult result
+        (λ len. (len ≡ table_rows start_kind states * stride classes.now)
+        × (rows_refusal start_kind classes.now states ≡ None))
+        (λ e. rows_refusal start_kind classes.now states ≡ Some e) }
+    ensures numbered { (nodes : List Node) × AreNodes nfa.now nodes }
+{
+    let rows = table_rows(start_kind, nfa.states_len()) as u64;
+    table_len(rows, classes.stride2())
 }
 
 /// Returns how many entries a DFA has with so many rows, each two to the power of `stride2` long.

@@ -1,9 +1,9 @@
 //! Filling the rows of a DFA.
 ghost use Rattle.std.specs.Prelude.{◌≡◌, ◌≢◌, ◌⊎◌, ◌&&◌, if◌then◌else◌, ℕ, ◌+◌, ◌<◌, ◌≤◌, List, [], Some, length, slice_index_or};
 ghost use Rattle.ac_automaton.specs.Util.{begins_with_pattern, GREATEST, is_leftmost, Node};
-ghost use Rattle.ac_automaton.specs.Prelude.{own_bytes, plain_of};
+ghost use Rattle.ac_automaton.specs.Prelude.{transition_bytes_of, plain_of};
 ghost use Rattle.ac_util.specs.declared.search.Anchored;
-ghost use Rattle.ac_engines.specs.Dfa.Filling.{FilledUpTo, HasFilled, HasRow, HasSet, MayFill, MayFillRow, row_at, sheet_of};
+ghost use Rattle.ac_engines.specs.Dfa.Filling.{FilledUpTo, HasFilled, HasRow, HasSet, MayFill, MayFillRow, row_at, row_input};
 ghost use Rattle.ac_engines.specs.Dfa.{anchored_shift};
 
 use ac_automaton::automaton::Automaton;
@@ -56,7 +56,7 @@ impl<'a, A: Allocator> Filler<'a, A> {
     fn number(&self, sid: StateID, anchored: Anchored) -> StateID
         requires { (nodes : List Node) × (size : ℕ) × (w : List ℕ) × HasRow self.now nodes size sid w }
         ensures { (nodes : List Node) (size : ℕ) (w : List ℕ) → HasRow self.now nodes size sid w
-            → result ≡ row_at (sheet_of self.now nodes) anchored (Some w) }
+            → result ≡ row_at (row_input self.now nodes) anchored (Some w) }
     {
         StateID::must(first_row(self.numbers, sid) + self.anchored_shift(anchored))
     }
@@ -65,7 +65,7 @@ impl<'a, A: Allocator> Filler<'a, A> {
     fn set_own(&self, table: &mut [StateID], sid: StateID, anchored: Anchored)
         requires { (nodes : List Node) × (w : List ℕ) × HasRow self.now nodes (length table.old) sid w }
         ensures { (nodes : List Node) (w : List ℕ) → HasRow self.now nodes (length table.old) sid w
-            → HasSet (sheet_of self.now nodes) anchored w (own_bytes (sheet_of self.now nodes).built (Some w))
+            → HasSet (row_input self.now nodes) anchored w (transition_bytes_of (row_input self.now nodes).built (Some w))
             table.old table.new }
     {
         let row = self.number(sid, anchored).as_usize();
@@ -80,21 +80,21 @@ impl<'a, A: Allocator> Filler<'a, A> {
     fn fill_start(&self, table: &mut [StateID])
         requires { (nodes : List Node) × MayFillRow self.now nodes (length table.old) 2 [] Anchored.No table.old }
         ensures { (nodes : List Node) → MayFillRow self.now nodes (length table.old) 2 [] Anchored.No table.old
-            → HasFilled (sheet_of self.now nodes) Anchored.No [] table.old table.new }
+            → HasFilled (row_input self.now nodes) Anchored.No [] table.old table.new }
     {
         let sid = StateID::must(START);
         let start = self.number(sid, Anchored::No);
         lead_all(
             table,
             start,
-            self.missing(start),
+            self.default_target(start),
             self.classes.alphabet_len(),
         );
         self.set_own(table, sid, Anchored::No);
     }
 
     /// Returns where a byte leads from the start that doesn't lead on.
-    fn missing(&self, start: StateID) -> StateID
+    fn default_target(&self, start: StateID) -> StateID
         ensures { result ≡ (if is_leftmost self.now.trie.built.kind
             && begins_with_pattern (plain_of self.now.trie.built) [] then 0 else start) }
     {
@@ -112,7 +112,7 @@ impl<'a, A: Allocator> Filler<'a, A> {
             × MayFillRow self.now nodes (length table.old) sid w Anchored.No table.old }
         ensures { (nodes : List Node) (w : List ℕ) → w ≢ []
             → MayFillRow self.now nodes (length table.old) sid w Anchored.No table.old
-            → HasFilled (sheet_of self.now nodes) Anchored.No w table.old table.new }
+            → HasFilled (row_input self.now nodes) Anchored.No w table.old table.new }
     {
         let from = first_row(self.numbers, self.nfa.fail(sid));
         let to = self.number(sid, Anchored::No).as_usize();
@@ -126,7 +126,7 @@ impl<'a, A: Allocator> Filler<'a, A> {
             × MayFillRow self.now nodes (length table.old) sid w anchored table.old }
         ensures { (nodes : List Node) (w : List ℕ)
             → MayFillRow self.now nodes (length table.old) sid w anchored table.old
-            → HasFilled (sheet_of self.now nodes) anchored w table.old table.new }
+            → HasFilled (row_input self.now nodes) anchored w table.old table.new }
     {
         match anchored {
             Anchored::Yes => self.set_own(table, sid, Anchored::Yes),

@@ -1,15 +1,17 @@
 //! Where the rows of a DFA stand.
 ghost use Rattle.std.specs.Prelude.{◌≡◌, ◌∷◌, [], ℕ, ◌+◌, ◌-◌, ◌*◌, ◌^◌, ◌≤◌, ◌<◌, IfOk, List, Some, length, slice_get};
-ghost use Rattle.ac_automaton.specs.Util.{AreBounds, GREATEST, Node, pieces, state_count};
+ghost use Rattle.ac_automaton.specs.Util.{GREATEST, Node, state_count};
 ghost use Rattle.ac_util.specs.declared.search.StartKind;
 ghost use Rattle.ac_automaton.specs.declared.nfa.noncontiguous.state.TheConstants.{FIRST_INNER, START};
 ghost use Rattle.ac_automaton.specs.Prelude.{AreNodes, plain_of};
-ghost use Rattle.ac_engines.specs.Dfa.Layouts.{HasNode, HasPlaced, IsLayout, first_lists, rows_each, table_rows};
+ghost use Rattle.ac_engines.specs.Dfa.Layouts.{HasPlaced, IsLayout, rows_each, table_rows};
+ghost use Rattle.ac_engines.specs.Nodes.{HasNode};
 
-use super::lists::MatchLists;
+use super::lists::{add_rows, first_lists};
 use ac_automaton::automaton::Automaton;
 use ac_automaton::nfa::noncontiguous::{FIRST_INNER, NFA, START};
-use ac_util::primitives::StateID;
+use ac_util::patterns::pieces::Pieces;
+use ac_util::primitives::{PatternID, StateID};
 use ac_util::search::StartKind;
 use std::alloc::{AllocError, Allocator};
 
@@ -18,7 +20,7 @@ use std::alloc::{AllocError, Allocator};
 pub(super) struct Layout<A: Allocator> {
     /// The number of the first row of each state of the trie.
     pub(super) numbers: Vec<StateID, A>,
-    pub(super) lists: MatchLists<A>,
+    pub(super) lists: Pieces<PatternID, A>,
     /// No state before this number has matches.
     pub(super) first_match: usize,
     /// Nor from this one on.
@@ -39,18 +41,17 @@ impl<A: Allocator + Clone> Layout<A> {
         requires narrow { stride2 ≤ 8 }
         requires small { (table_rows start_kind (state_count nfa.now.built.kind (plain_of nfa.now.built)) - 1)
             * 2 ^ stride2 ≤ GREATEST }
-        ensures bounds { IfOk result (λ layout.
-            AreBounds layout.lists.bounds.items (length layout.lists.listed.items)) }
-        ensures layout { IfOk result (λ layout. (nodes : List Node) → AreNodes nfa.now nodes
+        ensures { IfOk result (λ layout. (nodes : List Node) → AreNodes nfa.now nodes
             → IsLayout (record nfa.now.built { start_kind = start_kind }) (2 ^ stride2)
             (table_rows start_kind (state_count nfa.now.built.kind (plain_of nfa.now.built)) * 2 ^ stride2) nodes
-            layout.numbers.items (pieces layout.lists.listed.items layout.lists.bounds.items)
-            layout.first_match layout.match_end) }
+            layout.numbers.items layout.lists layout.first_match layout.match_end) }
     {
         let states = nfa.states_len();
         let mut numbers = first_numbers(alloc.clone()?, stride2)?;
+        let mut matches = Vec::new(alloc.clone()?);
         let mut rows = Rows {
-            lists: first_lists(alloc, nfa, start_kind)?,
+            lists: first_lists(alloc, &mut matches, nfa, start_kind)?,
+            matches,
             back: table_rows(start_kind, states),
         };
         for state in FIRST_INNER..states {
@@ -75,7 +76,9 @@ impl<A: Allocator + Clone> Layout<A> {
 /// lists, and from the back on those of the others.
 #[derive(Drop)]
 struct Rows<A: Allocator> {
-    lists: MatchLists<A>,
+    lists: Pieces<PatternID, A>,
+    /// A list that is filled anew for each row.
+    matches: Vec<PatternID, A>,
     back: usize,
 }
 
@@ -92,20 +95,17 @@ impl<A: Allocator> Rows<A> {
         start_kind: StartKind,
     ) -> Result<usize, AllocError>
         requires state { HasNode nfa.now sid }
-        requires bounds { AreBounds self.old.lists.bounds.items (length self.old.lists.listed.items) }
         requires room { rows_each start_kind ≤ self.old.back }
-        ensures bounds { IfOk result (λ _. AreBounds self.new.lists.bounds.items (length self.new.lists.listed.items)) }
-        ensures placed { (nodes : List Node) (u : Node) → AreNodes nfa.now nodes → slice_get nodes sid ≡ Some u
-            → IfOk result (λ row. HasPlaced start_kind nfa.now.built u row
-            (pieces self.old.lists.listed.items self.old.lists.bounds.items) self.old.back
-            (pieces self.new.lists.listed.items self.new.lists.bounds.items) self.new.back) }
+        ensures { (nodes : List Node) (u : Node) → AreNodes nfa.now nodes → slice_get nodes sid ≡ Some u
+            → IfOk result (λ row. HasPlaced start_kind nfa.now.built u row self.old.lists self.old.back
+            self.new.lists self.new.back) }
     {
         if !nfa.is_match(sid) {
             self.back -= rows_each(start_kind);
             return Ok(self.back);
         }
         let row = self.lists.len();
-        self.lists.add_rows(nfa, sid, start_kind)?;
+        add_rows(&mut self.lists, &mut self.matches, nfa, sid, start_kind)?;
         Ok(row)
     }
 }
@@ -125,31 +125,6 @@ fn first_numbers<A: Allocator>(alloc: A, stride2: u32) -> Result<Vec<StateID, A>
     numbers.push(state_id(2, stride2))?;
     numbers.push(state_id(3, stride2))?;
     Ok(numbers)
-}
-
-/// Returns the lists of the first four rows: that of the dead state, that of no state, and those of the starts.
-///
-/// # Errors
-/// `AllocError` where a request for memory is refused.
-fn first_lists<A: Allocator + Clone>(
-    alloc: A,
-    nfa: &NFA<A>,
-    start_kind: StartKind,
-) -> Result<MatchLists<A>, AllocError>
-    requires state { HasNode nfa.now START }
-    ensures bounds { IfOk result (λ lists. AreBounds lists.bounds.items (length lists.listed.items)) }
-    ensures lists { IfOk result (λ lists. pieces lists.listed.items lists.bounds.items
-        ≡ first_lists start_kind nfa.now.built) }
-{
-    let mut lists = MatchLists::new(alloc)?;
-    lists.add_none()?;
-    lists.add_none()?;
-    lists.add_rows(nfa, StateID::must(START), start_kind)?;
-    match start_kind {
-        StartKind::Both => {}
-        StartKind::Unanchored | StartKind::Anchored => lists.add_none()?,
-    }
-    Ok(lists)
 }
 
 /// Returns how many rows a state has.

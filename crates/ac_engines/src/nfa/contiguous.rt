@@ -22,11 +22,11 @@ use std::mem::size_of;
 use step::follow;
 
 mod builder;
-mod draft;
 mod format;
 mod pack;
 mod plan;
 mod state;
+mod state_fields;
 mod step;
 mod transitions;
 
@@ -57,11 +57,11 @@ impl<A: Allocator> Model for NFA<A> {
 
     ghost Value = { ContiguousView };
 
-    ghost view = { λ n. contiguous_of n.common n.dense_depth n.classes n.words.items n.start n.anchored_start
-        n.match_end };
+    ghost view = { λ n. contiguous_of n.common n.dense_depth n.classes n.words.items
+        (n.start, n.anchored_start, n.match_end) };
 
     ghost invariant = { λ n. (at : Places) × IsContiguous (contiguous_of n.common n.dense_depth n.classes n.words.items
-        n.start n.anchored_start n.match_end) at };
+        (n.start, n.anchored_start, n.match_end)) at };
 }
 
 impl<A: Allocator + Clone> Clone for NFA<A> {
@@ -74,12 +74,8 @@ impl<A: Allocator + Clone> Clone for NFA<A> {
     fn clone(&self) -> Result<NFA<A>, AllocError> {
         Ok(NFA {
             common: self.common.clone()?,
-            classes: self.classes,
-            dense_depth: self.dense_depth,
             words: self.words.clone()?,
-            start: self.start,
-            anchored_start: self.anchored_start,
-            match_end: self.match_end,
+            ..*self
         })
     }
 }
@@ -142,7 +138,7 @@ impl<A: Allocator> Automaton for NFA<A> {
 
     ghost listed = { λ n s. match_list_at n s };
 
-    ghost filters = { λ n. n.filters };
+    ghost wants_prefilter = { λ n. n.wants_prefilter };
 
     ghost one_or_two = { inr refl };
 

@@ -110,7 +110,7 @@ impl AhoCorasickBuilder {
 
     /// Sets whether the case of ASCII letters is ignored. It counts unless set.
     pub fn ascii_case_insensitive(&mut self, yes: bool) -> &mut AhoCorasickBuilder
-        ensures value { result.now ≡ record self.old { engine = record self.old.engine { fold = yes } } }
+        ensures value { result.now ≡ record self.old { engine = record self.old.engine { ignores_case = yes } } }
         ensures same { result.ghost_name ≡ self.entry.ghost_name }
     {
         self.noncontiguous.ascii_case_insensitive(yes);

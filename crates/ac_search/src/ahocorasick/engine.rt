@@ -30,7 +30,7 @@ impl<A: Allocator> Engine<A> {
     /// `AllocError` where a request for memory is refused.
     pub(super) fn share(&self) -> Result<Engine<A>, AllocError>
         ensures built { IfOk result (λ engine. built_of engine ≡ built_of self.now) }
-        ensures filters { IfOk result (λ engine. filters_of engine ≡ filters_of self.now) }
+        ensures wants_prefilter { IfOk result (λ engine. filters_of engine ≡ filters_of self.now) }
         ensures states { IfOk result (λ engine. states_of engine ≡ states_of self.now) }
         ensures kind { IfOk result (λ engine. name_of engine ≡ name_of self.now) }
     {

@@ -68,7 +68,7 @@ impl<A: Allocator> AhoCorasick<A> {
     pub fn find_iter<'a, 'h>(&'a self, input: Input<'h>) -> FindIter<'a, 'h, A>
         requires supported { find_refusal self.now.built (input_of input) ≡ None }
         ensures begun { result
-            ≡ initial_walk (looks_allowed self.now.kind) self.now.built self.now.filters (input_of input.entry) }
+            ≡ initial_walk (looks_allowed self.now.kind) self.now.built self.now.wants_prefilter (input_of input.entry) }
         ensures runs { YieldsInOrder GoesOn (λ w. w.rest) }
     {
         let Ok(matches) = self.try_find_iter(input) else {
@@ -105,7 +105,7 @@ impl<A: Allocator> AhoCorasick<A> {
         input: Input<'h>,
     ) -> Result<FindIter<'a, 'h, A>, MatchError>
         ensures begun { AnswersUnless (find_refusal self.now.built (input_of input.entry))
-            (initial_walk (looks_allowed self.now.kind) self.now.built self.now.filters (input_of input.entry)) result }
+            (initial_walk (looks_allowed self.now.kind) self.now.built self.now.wants_prefilter (input_of input.entry)) result }
         ensures runs { YieldsInOrder GoesOn (λ w. w.rest) }
     {
         check_start(self.start_kind, input.get_anchored())?;

@@ -17,7 +17,7 @@ use std::marker::Model;
 
 impl<A: Allocator> AhoCorasick<A> {
     /// Gives the next item of the listing of the input: all that occur in its span, each once, by their ends, then
-    /// their starts, then their patterns. `OverlappingState::get_match` tells it, and `None` at every call past the
+    /// their starts, then their patterns. `OverlappingState::get_match` returns it, and `None` at every call past the
     /// last item.
     ///
     /// The searcher has to support the input's anchoring, and its match kind to be `MatchKind::Standard`. The state
@@ -66,7 +66,7 @@ impl<A: Allocator> AhoCorasick<A> {
     ) -> FindOverlappingIter<'a, 'h, A>
         requires supported { overlapping_iter_refusal self.now.built (input_of input) ≡ None }
         ensures begun { result
-            ≡ initial_listing (looks_allowed self.now.kind) self.now.built self.now.filters (input_of input.entry) }
+            ≡ initial_listing (looks_allowed self.now.kind) self.now.built self.now.wants_prefilter (input_of input.entry) }
         ensures runs { YieldsInOrder ListsNext (λ l. l.rest) }
     {
         let Ok(items) = self.try_find_overlapping_iter(input) else {
@@ -111,7 +111,7 @@ impl<A: Allocator> AhoCorasick<A> {
         input: Input<'h>,
     ) -> Result<FindOverlappingIter<'a, 'h, A>, MatchError>
         ensures begun { AnswersUnless (overlapping_iter_refusal self.now.built (input_of input.entry))
-            (initial_listing (looks_allowed self.now.kind) self.now.built self.now.filters (input_of input.entry))
+            (initial_listing (looks_allowed self.now.kind) self.now.built self.now.wants_prefilter (input_of input.entry))
             result }
         ensures runs { YieldsInOrder ListsNext (λ l. l.rest) }
     {

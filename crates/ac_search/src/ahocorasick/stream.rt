@@ -22,7 +22,7 @@ impl<A: Allocator> AhoCorasick<A> {
     /// without, its end.
     ///
     /// A match is given once no byte to come can change it: under `MatchKind::Standard` as soon as it is found, under a
-    /// leftmost kind once the bytes after it have told, or the end. Nothing is read before the first match is asked for. The
+    /// leftmost kind once the bytes after it, or the end, settle it. Nothing is read before the first match is asked for. The
     /// allocator makes one buffer, which never grows. The searcher has to support unanchored searches, and no pattern may be
     /// empty. This ports `AhoCorasick::stream_find_iter`, which takes `MatchKind::Standard` alone.
     ///

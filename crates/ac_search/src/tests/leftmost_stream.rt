@@ -1,12 +1,10 @@
 //! Streams under the leftmost kinds: what is given, what is kept, and what is written where a reader fails.
-ghost use Rattle.std.specs.Prelude.{◌≡◌, IfOk};
-ghost use Rattle.ac_util.specs.Borrowed.{bytes_of};
-
+use super::devices::{ALWAYS, End, Few, Pieces, end_of, item_of};
 use super::engines::KINDS;
 use super::same;
-use super::stream::{ALWAYS, End, Few, Pieces, end_of, item_of};
+use super::stream::searcher_by;
+use crate::MatchKind;
 use crate::MatchKind::{LeftmostFirst, LeftmostLongest};
-use crate::{AhoCorasick, AhoCorasickBuilder, AhoCorasickKind, MatchKind};
 use std::test::Fail;
 
 const APPEND: &[&[u8]] = &[b"append", b"appendage", b"app"];
@@ -21,19 +19,6 @@ const APPENDIX: &[u8] = b"append the app to the appendage";
 
 /// Texts for three patterns.
 const TEXTS: [&[u8]; 3] = [b"1", b"2", b"3"];
-
-fn searcher_by(
-    rt: HostRuntime,
-    patterns: &[&[u8]],
-    match_kind: MatchKind,
-    engine: Option<AhoCorasickKind>,
-) -> Result<AhoCorasick, Fail>
-    ensures { IfOk result (λ searcher. searcher.built.patterns ≡ bytes_of patterns.now) }
-{
-    let mut builder = AhoCorasickBuilder::new();
-    builder.match_kind(match_kind).kind(engine);
-    Ok(builder.build(rt.alloc(), patterns)?)
-}
 
 /// Patterns, a match kind and a stream, after how many of its bytes the reader fails, the matches, and how many bytes are kept
 /// then.

@@ -129,27 +129,7 @@ pub(super) fn push_number(found: &Match, destination: &mut String) -> bool {
 }
 
 #[test]
-fn closures_exchange_whole_characters(rt: HostRuntime) -> Result<(), Fail> {
-    let searcher = searcher_of(rt, WORDS, LeftmostFirst)?;
-    let mut numbers = String::from_str(rt.alloc(), "pre")?;
-    searcher.try_replace_all_with(SENTENCE, &mut numbers, |found, _, destination| {
-        push_number(found, destination)
-    })?;
-    same(&rt, numbers.as_str(), "pre0 the 2 to the 0age");
-    let mut stopped = String::new(rt.alloc());
-    searcher.try_replace_all_with(SENTENCE, &mut stopped, |found, _, destination| {
-        push_number(found, destination) && found.pattern().as_usize() != 2
-    })?;
-    same(&rt, stopped.as_str(), "0 the 2 to the appendage");
-    let mut cleared = String::from_str(rt.alloc(), "keep")?;
-    searcher.try_replace_all_with(SENTENCE, &mut cleared, |_, _, destination| {
-        destination.clear();
-        true
-    })?;
-    same(&rt, cleared.as_str(), "age");
-    let mut nothing = String::new(rt.alloc());
-    searcher.try_replace_all_with(SENTENCE, &mut nothing, |_, _, _| false)?;
-    same(&rt, nothing.as_str(), " the app to the appendage");
+fn closures_exchange_no_cut_characters(rt: HostRuntime) -> Result<(), Fail> {
     let cut = searcher_of(rt, &[b"\xC3"], Standard)?;
     let mut kept = String::new(rt.alloc());
     cut.try_replace_all_with("é", &mut kept, |_, _, _| true)?;
@@ -161,15 +141,15 @@ fn closures_exchange_whole_characters(rt: HostRuntime) -> Result<(), Fail> {
 fn closures_exchange_bytes(rt: HostRuntime) -> Result<(), Fail> {
     let searcher = searcher_of(rt, WORDS, LeftmostFirst)?;
     let sentence = SENTENCE.as_bytes();
-    let mut told = Vec::new(rt.alloc());
-    searcher.try_replace_all_with_bytes(sentence, &mut told, |found, slice, destination| {
+    let mut text = Vec::new(rt.alloc());
+    searcher.try_replace_all_with_bytes(sentence, &mut text, |found, slice, destination| {
         destination.extend_from_slice(slice).is_ok()
             && destination.push(b'!').is_ok()
             && found.pattern().as_usize() != 2
     })?;
     same(
         &rt,
-        told.as_slice(),
+        text.as_slice(),
         b"append! the app! to the appendage".as_slice(),
     );
     let mut cleared = Vec::new(rt.alloc());
@@ -216,19 +196,19 @@ fn a_refused_replacement_changes_nothing(rt: HostRuntime) -> Result<(), Fail> {
     let bytes = searcher.try_replace_all_bytes(rt.alloc(), b"a", &[b"x"]);
     same(&rt, bytes.err(), Some(refused));
     let mut text = String::from_str(rt.alloc(), "pre")?;
-    let told = searcher.try_replace_all_with("a", &mut text, |_, _, destination| {
+    let answer = searcher.try_replace_all_with("a", &mut text, |_, _, destination| {
         destination.clear();
         true
     });
-    same(&rt, told, Err(refused));
+    same(&rt, answer, Err(refused));
     same(&rt, text.as_str(), "pre");
     let mut bytes = Vec::new(rt.alloc());
     bytes.extend_from_slice(b"pre")?;
-    let told = searcher.try_replace_all_with_bytes(b"a", &mut bytes, |_, _, destination| {
+    let answer = searcher.try_replace_all_with_bytes(b"a", &mut bytes, |_, _, destination| {
         destination.clear();
         true
     });
-    same(&rt, told, Err(refused));
+    same(&rt, answer, Err(refused));
     same(&rt, bytes.as_slice(), b"pre".as_slice());
     Ok(())
 }
@@ -238,11 +218,11 @@ fn lists_exchange_or_want_memory(rt: HostRuntime) -> Result<(), Fail> {
     let searcher = AhoCorasick::new(rt.alloc(), &[b"a"])?;
     match searcher.try_replace_all(rt.alloc(), "ab", &["xyz"]) {
         Ok(replaced) => same(&rt, replaced.as_str(), "xyzb"),
-        Err(told) => same(&rt, told, ReplaceError::Memory),
+        Err(e) => same(&rt, e, ReplaceError::Memory),
     }
     match searcher.try_replace_all_bytes(rt.alloc(), b"ab", &[b"xyz"]) {
         Ok(replaced) => same(&rt, replaced.as_slice(), b"xyzb".as_slice()),
-        Err(told) => same(&rt, told, ReplaceError::Memory),
+        Err(e) => same(&rt, e, ReplaceError::Memory),
     }
     if let Ok(replaced) = searcher.replace_all(rt.alloc(), "ab", &["xyz"]) {
         same(&rt, replaced.as_str(), "xyzb");
@@ -260,16 +240,16 @@ fn closures_exchange_or_want_memory(rt: HostRuntime) -> Result<(), Fail> {
     let mut text = String::new(rt.alloc());
     match searcher.try_replace_all_with("-ab", &mut text, |_, _, _| true) {
         Ok(()) => same(&rt, text.as_str(), "-b"),
-        Err(told) => {
-            same(&rt, told, ReplaceError::Memory);
+        Err(e) => {
+            same(&rt, e, ReplaceError::Memory);
             assert!(rt; "-b".starts_with(text.as_str()));
         }
     }
     let mut bytes = Vec::new(rt.alloc());
     match searcher.try_replace_all_with_bytes(b"-ab", &mut bytes, |_, _, _| true) {
         Ok(()) => same(&rt, bytes.as_slice(), b"-b".as_slice()),
-        Err(told) => {
-            same(&rt, told, ReplaceError::Memory);
+        Err(e) => {
+            same(&rt, e, ReplaceError::Memory);
             assert!(rt; b"-b".starts_with(bytes.as_slice()));
         }
     }

@@ -2,6 +2,7 @@
 ghost use Rattle.std.specs.Prelude.{◌≡◌, IfOk};
 ghost use Rattle.ac_util.specs.Borrowed.{bytes_of};
 
+use super::devices::{ALWAYS, End, Few, Pieces, end_of, item_of};
 use super::engines::KINDS;
 use super::same;
 use crate::MatchKind::{LeftmostFirst, Standard};
@@ -9,10 +10,8 @@ use crate::{
     AhoCorasick, AhoCorasickBuilder, AhoCorasickKind, MatchError, MatchKind, Sink, Source,
     StartKind, StreamError,
 };
-use ac_util::tally::Tally;
 use std::io;
 use std::io::ErrorKind;
-use std::marker::Model;
 use std::test::Fail;
 
 const FOX: &[&[u8]] = &[b"fox", b"brown", b"quick"];
@@ -21,149 +20,17 @@ const SLOTH: &[&[u8]] = &[b"sloth", b"grey", b"slow"];
 
 const SENTENCE: &[u8] = b"The quick brown fox.";
 
-/// How many calls of a reader are good that never fails.
-pub(super) const ALWAYS: usize = 1_000_000;
-
-/// Gives so many bytes a call at most, and fails once so many calls were made.
-#[derive(Drop)]
-pub(super) struct Pieces<'a> {
-    left: &'a [u8],
-    most: usize,
-    good: usize,
-    failed: Tally,
-    empties: Tally,
-}
-
-impl<'a> Model for Pieces<'a> {
-    ghost use Rattle.std.specs.Prelude.{None};
-    ghost use Rattle.ac_util.specs.Device.{Reading};
-
-    ghost Value = { Reading };
-
-    ghost view = { λ p. record { left = None; failed = p.failed.number; empties = p.empties.number } };
-}
-
-impl<'a> Pieces<'a> {
-    pub(super) fn new(bytes: &'a [u8], most: usize, good: usize) -> Pieces<'a> {
-        Pieces {
-            left: bytes,
-            most,
-            good,
-            failed: Tally::zero(),
-            empties: Tally::zero(),
-        }
-    }
-}
-
-impl<'a> Source for Pieces<'a> {
-    ghost use Rattle.std.specs.Prelude.{false};
-
-    ghost told = { λ p. p };
-
-    ghost empty_means_end = { false };
-
-    fn read_some(&mut self, into: &mut [u8]) -> io::Result<usize> {
-        if self.good == 0 {
-            self.failed = Tally::after(&self.failed);
-            return Err(io::Error::from(ErrorKind::BrokenPipe));
-        }
-        self.good -= 1;
-        let left = self.left;
-        let n = self.most.min(left.len()).min(into.len());
-        into[..n].copy_from_slice(&left[..n]);
-        if n == 0 && !into.is_empty() {
-            self.empties = Tally::after(&self.empties);
-        }
-        self.left = &left[n..];
-        Ok(n)
-    }
-}
-
-/// Takes so many bytes a call at most, and so many in all; then it fails, or takes none.
-#[derive(Drop)]
-pub(super) struct Few {
-    pub(super) text: Vec<u8>,
-    most: usize,
-    room: usize,
-    fails: bool,
-    failed: Tally,
-    idles: Tally,
-}
-
-impl Model for Few {
-    ghost use Rattle.std.specs.Prelude.{None};
-    ghost use Rattle.ac_util.specs.Device.{Writing};
-
-    ghost Value = { Writing };
-
-    ghost view = { λ w. record { written = None; failed = w.failed.number; idles = w.idles.number } };
-}
-
-impl Few {
-    pub(super) fn new(rt: HostRuntime, most: usize, room: usize, fails: bool) -> Few {
-        Few {
-            text: Vec::new(rt.alloc()),
-            most,
-            room,
-            fails,
-            failed: Tally::zero(),
-            idles: Tally::zero(),
-        }
-    }
-}
-
-impl Sink for Few {
-    ghost told = { λ w. w };
-
-    fn write_some(&mut self, piece: &[u8]) -> io::Result<usize> {
-        let n = self.most.min(self.room).min(piece.len());
-        if n == 0 && self.fails {
-            self.failed = Tally::after(&self.failed);
-            return Err(io::Error::from(ErrorKind::BrokenPipe));
-        }
-        if let Err(e) = self.text.extend_from_slice(&piece[..n]) {
-            self.failed = Tally::after(&self.failed);
-            return Err(e.into());
-        }
-        if n == 0 && !piece.is_empty() {
-            self.idles = Tally::after(&self.idles);
-        }
-        self.room -= n;
-        Ok(n)
-    }
-}
-
-/// How a replacement ended, without what an `io::Error` tells more.
-#[derive(Clone, Copy, PartialEq, Eq, Debug)]
-pub(super) enum End {
-    Whole,
-    Refused(MatchError),
-    Memory,
-    Io,
-    WriteZero,
-    TooLong,
-}
-
-pub(super) fn end_of(ended: Result<(), StreamError>) -> End {
-    match ended {
-        Ok(()) => End::Whole,
-        Err(StreamError::Match(refusal)) => End::Refused(refusal),
-        Err(StreamError::Memory) => End::Memory,
-        Err(StreamError::Io(_)) => End::Io,
-        Err(StreamError::WriteZero) => End::WriteZero,
-        Err(StreamError::TooLong) => End::TooLong,
-    }
-}
-
-fn searcher_by(
+/// Builds a searcher of a match kind with an engine.
+pub(super) fn searcher_by(
     rt: HostRuntime,
     patterns: &[&[u8]],
-    kind: Option<AhoCorasickKind>,
+    match_kind: MatchKind,
+    engine: Option<AhoCorasickKind>,
 ) -> Result<AhoCorasick, Fail>
     ensures { IfOk result (λ searcher. searcher.built.patterns ≡ bytes_of patterns.now) }
 {
     let mut builder = AhoCorasickBuilder::new();
-    builder.kind(kind);
+    builder.match_kind(match_kind).kind(engine);
     Ok(builder.build(rt.alloc(), patterns)?)
 }
 
@@ -190,7 +57,7 @@ const READS: &[Read] = &[
 #[test]
 fn reads_cut_a_stream_anywhere_and_fail_anywhere(rt: HostRuntime) -> Result<(), Fail> {
     for kind in KINDS {
-        let searcher = searcher_by(rt, FOX, kind)?;
+        let searcher = searcher_by(rt, FOX, Standard, kind)?;
         for (most, good, text, end) in READS {
             let mut reader = Pieces::new(SENTENCE, *most, *good);
             let mut writer = Few::new(rt, 1, ALWAYS, true);
@@ -267,7 +134,7 @@ fn closures_exchange_and_fail(rt: HostRuntime) -> Result<(), Fail> {
 #[test]
 fn iterators_give_matches_and_then_an_error(rt: HostRuntime) -> Result<(), Fail> {
     for kind in KINDS {
-        let searcher = searcher_by(rt, FOX, kind)?;
+        let searcher = searcher_by(rt, FOX, Standard, kind)?;
         let reader = Pieces::new(SENTENCE, 1, 12);
         let mut matches = searcher.try_stream_find_iter(rt.alloc(), reader)?;
         same(&rt, matches.buffer_len(), 65536);
@@ -278,17 +145,6 @@ fn iterators_give_matches_and_then_an_error(rt: HostRuntime) -> Result<(), Fail>
         same(&rt, item_of(matches.next()), None);
     }
     Ok(())
-}
-
-/// An item of an iterator: none, an error, or a match as its number, start and end.
-pub(super) fn item_of(
-    item: Option<Result<crate::Match, StreamError>>,
-) -> Option<Option<(usize, usize, usize)>> {
-    match item {
-        None => None,
-        Some(Err(_)) => Some(None),
-        Some(Ok(found)) => Some(Some((found.pattern().as_usize(), found.start(), found.end()))),
-    }
 }
 
 #[test]

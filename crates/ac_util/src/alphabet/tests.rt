@@ -15,10 +15,10 @@ fn have(classes: &ByteClasses, len: usize, stride: usize, stride2: u32) -> bool 
 fn counted(
     alloc: Global,
     patterns: &[&[u8]],
-    fold: bool,
+    ignores_case: bool,
 ) -> Result<(usize, usize, u32), BuildError> {
     let stored = Patterns::new(alloc, patterns)?;
-    let classes = ByteClasses::of(&stored, fold);
+    let classes = ByteClasses::of(&stored, ignores_case);
     Ok((classes.alphabet_len(), classes.stride(), classes.stride2()))
 }
 

@@ -11,11 +11,11 @@ ghost use Rattle.ac_util.specs.Listing.{all, IsBefore, item_at, place_after};
 ghost use Rattle.ac_util.specs.Node.{is_leftmost};
 ghost use Rattle.ac_util.specs.Occurrence.{Occurrence};
 ghost use Rattle.ac_util.specs.Pick.{IsPick, order_of, pick};
-ghost use Rattle.ac_util.specs.Replaced.{exchanged_from, is_char_boundary, replaced};
+ghost use Rattle.ac_util.specs.Replaced.{is_char_boundary, replaced};
 ghost use Rattle.ac_util.specs.Sameness.{AreOneLetter, IsSame, same_byte, same_string};
 ghost use Rattle.ac_util.specs.Search.{Occurs, Search, from, occurs, pattern_of};
 ghost use Rattle.ac_util.specs.declared.error.ReplaceError.{ReplaceError};
-ghost use Rattle.ac_util.specs.Replacement.{AlwaysWrites, AppendsAll, AppendsBeginning, Calls, OnlyAppends, Replacing, ReplacementSteps, WritesText, answer_of};
+ghost use Rattle.ac_util.specs.Replacement.{AppendsBeginning, Calls, ClosureExchanges, Replacing, ReplacementSteps, WritesText, answer_of};
 ghost use Rattle.ac_util.specs.Settled.{IsSettledAt, NoneOpen};
 ghost use Rattle.ac_util.specs.Stream.{stream_result};
 ghost use Rattle.ac_util.specs.Text.{cut, outward};
@@ -32,16 +32,16 @@ use std::alloc::AllocError;
 pub fn sameness_is_by_letter()
     ensures bytes { (a b : ℕ) → (same_byte false a b ≡ true) ↔ (a ≡ b) }
     ensures letters { (a b : ℕ) → (same_byte true a b ≡ true) ↔ ((a ≡ b) ⊎ AreOneLetter a b) }
-    ensures strings { (fold : Bool) (s t : List ℕ) → IsSame fold s t ↔ ((length s ≡ length t)
-        × ((k : ℕ) → k < length s → same_byte fold (slice_index s k) (slice_index t k) ≡ true)) }
+    ensures strings { (ignores_case : Bool) (s t : List ℕ) → IsSame ignores_case s t ↔ ((length s ≡ length t)
+        × ((k : ℕ) → k < length s → same_byte ignores_case (slice_index s k) (slice_index t k) ≡ true)) }
     ensures counted { (s t : List ℕ) → IsSame false s t ↔ (s ≡ t) }
 {}
 
 /// The computed tests answer yes exactly where their facts hold: of sameness, occurrence and character
 /// boundaries.
 pub fn tests_decide()
-    ensures strings { (fold : Bool) (s t : List ℕ)
-        → (same_string fold s t ≡ true) ↔ IsSame fold s t }
+    ensures strings { (ignores_case : Bool) (s t : List ℕ)
+        → (same_string ignores_case s t ≡ true) ↔ IsSame ignores_case s t }
     ensures occurrences { (q : Search) (m : Occurrence) → (occurs q m ≡ true) ↔ Occurs q m }
     ensures boundaries { (text : List ℕ) (i : ℕ)
         → (is_char_boundary text i ≡ true) ↔ IsCharBoundary text i }
@@ -76,6 +76,7 @@ pub fn only_the_span_counts()
 /// What a find, a walk or a listing gives lies in the input's span, and so in the haystack: it has the number
 /// of a pattern, and that pattern's length and bytes. Call this where a haystack is sliced at a match, or a
 /// list is indexed by its pattern.
+#[tactic(auto, using(crate::proofs::LawSets::matches_lie_inside))]
 pub fn matches_lie_inside()
     ensures find { (built : Built) (input : InputView) (m : Occurrence) → input.end ≤ length input.haystack
         → find_result built input ≡ Some m → LiesIn built input m }
@@ -93,6 +94,7 @@ pub fn matches_cut_no_character()
 {}
 
 /// The pick is the one answer that its relation allows; under Standard it is the first of the listing.
+#[tactic(auto, using(crate::proofs::LawSets::pick_comes_first))]
 pub fn pick_comes_first()
     ensures first { (kind : MatchKind) (q : Search) → IsPick kind q (pick kind q) }
     ensures only { (kind : MatchKind) (q : Search) (r : Option Occurrence) → IsPick kind q r
@@ -182,32 +184,10 @@ pub fn steps_replace()
 /// that where an append was refused. One that only appends, whatever it answers, leaves what was there at the
 /// beginning. Call this before a replacement by such a closure.
 pub fn closure_exchanges<D, F: FnMut(&Match, &[u8], &mut D) -> bool>(_closure: &F)
-    ensures whole { (haystack : List ℕ) (holds : D → List ℕ) (write : Occurrence → List ℕ → List ℕ)
-        (ms : List Occurrence) (s t : Replacing F D) → AlwaysWrites (Calls F.FnMut) holds write
-        → ReplacementSteps (AppendsAll {E = ReplaceError} holds) (Calls F.FnMut) answer_of haystack 0 ms s None t
-        → holds t.destination ≡ holds s.destination ++ exchanged_from haystack write 0 ms }
-    ensures begun { (haystack : List ℕ) (holds : D → List ℕ) (write : Occurrence → List ℕ → List ℕ)
-        (ms : List Occurrence) (s t : Replacing F D) (end : Option ReplaceError) → AlwaysWrites (Calls F.FnMut) holds write
-        → ReplacementSteps (AppendsAll holds) (Calls F.FnMut) answer_of haystack 0 ms s end t
-        → (rest : List ℕ) × (holds t.destination ++ rest ≡ holds s.destination ++ exchanged_from haystack write 0 ms) }
-    ensures kept { (haystack : List ℕ) (holds : D → List ℕ) (ms : List Occurrence) (s t : Replacing F D)
-        (end : Option ReplaceError) → OnlyAppends (Calls F.FnMut) holds
-        → ReplacementSteps (AppendsAll holds) (Calls F.FnMut) answer_of haystack 0 ms s end t
-        → (more : List ℕ) × (holds t.destination ≡ holds s.destination ++ more) }
+    ensures { ClosureExchanges ReplaceError (Calls F.FnMut) }
 {}
 
 /// The same as `closure_exchanges`, of a replacement in a text.
 pub fn text_closure_exchanges<D, F: FnMut(&Match, &str, &mut D) -> bool>(_closure: &F)
-    ensures whole { (text : List ℕ) (holds : D → List ℕ) (write : Occurrence → List ℕ → List ℕ)
-        (ms : List Occurrence) (s t : Replacing F D) → AlwaysWrites (Calls F.FnMut) holds write
-        → ReplacementSteps (AppendsAll {E = ReplaceError} holds) (Calls F.FnMut) answer_of text 0 ms s None t
-        → holds t.destination ≡ holds s.destination ++ exchanged_from text write 0 ms }
-    ensures begun { (text : List ℕ) (holds : D → List ℕ) (write : Occurrence → List ℕ → List ℕ)
-        (ms : List Occurrence) (s t : Replacing F D) (end : Option ReplaceError) → AlwaysWrites (Calls F.FnMut) holds write
-        → ReplacementSteps (AppendsAll holds) (Calls F.FnMut) answer_of text 0 ms s end t
-        → (rest : List ℕ) × (holds t.destination ++ rest ≡ holds s.destination ++ exchanged_from text write 0 ms) }
-    ensures kept { (text : List ℕ) (holds : D → List ℕ) (ms : List Occurrence) (s t : Replacing F D)
-        (end : Option ReplaceError) → OnlyAppends (Calls F.FnMut) holds
-        → ReplacementSteps (AppendsAll holds) (Calls F.FnMut) answer_of text 0 ms s end t
-        → (more : List ℕ) × (holds t.destination ≡ holds s.destination ++ more) }
+    ensures { ClosureExchanges ReplaceError (Calls F.FnMut) }
 {}

@@ -71,7 +71,7 @@ pub fn clones_take_no_memory()
     ensures numbers { (a : TooLarge) → ⟦<TooLarge as Clone>⟧.is_infallible a }
 {}
 
-/// What a search is asked, what it answers, and what a prefilter tells are equal where all of their parts are.
+/// What a search is asked, what it answers, and what a prefilter returns are equal where all of their parts are.
 pub fn values_compare_by_their_fields()
     ensures matches { (a b : Occurrence)
         → (⟦<Match as PartialEq>⟧.eq a b ≡ true) ↔ (a ≡ b) }
@@ -138,30 +138,31 @@ pub fn greatest_number_is_told()
 /// An automaton may step by the classes of its patterns' bytes, or by each byte as a class of its own. The last
 /// two say it of the classes as they are read from their list.
 pub fn classes_are_lawful()
-    ensures of_patterns { (fold : Bool) (kind : MatchKind) (patterns : List (List ℕ))
-        → IsLawful (class_of fold patterns) kind fold patterns }
-    ensures singletons { (fold : Bool) (kind : MatchKind) (patterns : List (List ℕ))
-        → IsLawful (λ b. b) kind fold patterns }
-    ensures of_patterns_read { (fold : Bool) (kind : MatchKind) (patterns : List (List ℕ))
-        → IsLawful (class_at (classes_of fold patterns)) kind fold patterns }
-    ensures singletons_read { (fold : Bool) (kind : MatchKind) (patterns : List (List ℕ))
-        → IsLawful (class_at singletons) kind fold patterns }
+    ensures of_patterns { (ignores_case : Bool) (kind : MatchKind) (patterns : List (List ℕ))
+        → IsLawful (class_of ignores_case patterns) kind ignores_case patterns }
+    ensures singletons { (ignores_case : Bool) (kind : MatchKind) (patterns : List (List ℕ))
+        → IsLawful (λ b. b) kind ignores_case patterns }
+    ensures of_patterns_read { (ignores_case : Bool) (kind : MatchKind) (patterns : List (List ℕ))
+        → IsLawful (class_at (classes_of ignores_case patterns)) kind ignores_case patterns }
+    ensures singletons_read { (ignores_case : Bool) (kind : MatchKind) (patterns : List (List ℕ))
+        → IsLawful (class_at singletons) kind ignores_case patterns }
 {}
 
 /// Each byte of a pattern has a class of its own, and only such a byte leads on from a node.
 pub fn classes_set_apart()
-    ensures of_patterns { (fold : Bool) (patterns : List (List ℕ))
-        → SetsApart fold patterns (classes_of fold patterns) }
-    ensures singletons { (fold : Bool) (patterns : List (List ℕ)) → SetsApart fold patterns singletons }
-    ensures nodes { (fold : Bool) (kind : MatchKind) (patterns : List (List ℕ)) (u : List ℕ) (b : ℕ)
-        → is_node kind (map (plain fold) patterns) (u ++ plain_byte fold b ∷ []) ≡ true
-        → is_in_patterns fold patterns b ≡ true }
+    ensures of_patterns { (ignores_case : Bool) (patterns : List (List ℕ))
+        → SetsApart ignores_case patterns (classes_of ignores_case patterns) }
+    ensures singletons { (ignores_case : Bool) (patterns : List (List ℕ)) → SetsApart ignores_case patterns singletons }
+    ensures nodes { (ignores_case : Bool) (kind : MatchKind) (patterns : List (List ℕ)) (u : List ℕ) (b : ℕ)
+        → is_node kind (map (plain ignores_case) patterns) (u ++ plain_byte ignores_case b ∷ []) ≡ true
+        → is_in_patterns ignores_case patterns b ≡ true }
 {}
 
 /// A stride has room for each class, and no lesser power of two has.
+#[tactic(auto, using(crate::proofs::LawSets::strides_have_room))]
 pub fn strides_have_room()
-    ensures of_patterns { (fold : Bool) (patterns : List (List ℕ))
-        → AreClasses (classes_of fold patterns) }
+    ensures of_patterns { (ignores_case : Bool) (patterns : List (List ℕ))
+        → AreClasses (classes_of ignores_case patterns) }
     ensures singletons { AreClasses singletons }
     ensures below { (classes : List ℕ) → AreClasses classes → (b : ℕ) → b < 256
         → class_at classes b < alphabet_len classes }

@@ -8,7 +8,7 @@ use std::alloc::{AllocError, Global};
 use std::test::Fail;
 
 /// A pattern number, a start and an end.
-type Told = (usize, usize, usize);
+type Triple = (usize, usize, usize);
 
 const NESTED: &[&[u8]] = &[b"b", b"abc", b"abcd"];
 
@@ -19,7 +19,7 @@ const SENTENCE: &[u8] = b"append the app to the appendage";
 /// Returns the search of a whole haystack.
 fn whole<'a>(
     patterns: &'a [&'a [u8]],
-    fold: bool,
+    ignores_case: bool,
     haystack: &'a [u8],
     anchored: Anchored,
 ) -> Query<'a>
@@ -29,47 +29,47 @@ fn whole<'a>(
         start: 0,
         end: haystack.len(),
     };
-    Query::new(patterns, fold, haystack, anchored, span)
+    Query::new(patterns, ignores_case, haystack, anchored, span)
 }
 
-/// Returns what a match tells.
-fn told(m: &Match) -> Told {
+/// Returns what a row says of a match.
+fn triple_of(m: &Match) -> Triple {
     (m.pattern().as_usize(), m.start(), m.end())
 }
 
-/// Returns whether the matches tell this.
-fn tell(matches: &[Match], wanted: &[Told]) -> bool {
-    matches.iter().map(told).eq(wanted.iter().copied())
+/// Returns whether the matches are these.
+fn are_equal(matches: &[Match], wanted: &[Triple]) -> bool {
+    matches.iter().map(triple_of).eq(wanted.iter().copied())
 }
 
-/// Returns what the first match of a search tells.
-fn found(kind: MatchKind, query: &Query) -> Option<Told> {
-    find(kind, query).map(|m| told(&m))
+/// Returns what a row says of the first match of a search.
+fn found(kind: MatchKind, query: &Query) -> Option<Triple> {
+    find(kind, query).map(|m| triple_of(&m))
 }
 
-/// Returns what the first match of `abc` in a span of `xabcx` tells.
-fn abc_in(start: usize, end: usize) -> Option<Told>
+/// Returns what a row says of the first match of `abc` in a span of `xabcx`.
+fn abc_in(start: usize, end: usize) -> Option<Triple>
     requires { end ≤ 5 }
 {
     let query = Query::new(&[b"abc"], false, b"xabcx", No, Span { start, end });
     found(LeftmostFirst, &query)
 }
 
-/// Returns whether a walk tells this.
+/// Returns whether a walk has these matches.
 fn walks_by(
     alloc: Global,
     kind: MatchKind,
     query: &Query,
-    wanted: &[Told],
+    wanted: &[Triple],
 ) -> Result<bool, AllocError> {
     let matches = walk(alloc, kind, query)?;
-    Ok(tell(&matches, wanted))
+    Ok(are_equal(&matches, wanted))
 }
 
-/// Returns whether a listing tells this.
-fn lists(alloc: Global, query: &Query, wanted: &[Told]) -> Result<bool, AllocError> {
+/// Returns whether a listing has these items.
+fn lists(alloc: Global, query: &Query, wanted: &[Triple]) -> Result<bool, AllocError> {
     let matches = listing(alloc, query)?;
-    Ok(tell(&matches, wanted))
+    Ok(are_equal(&matches, wanted))
 }
 
 /// Returns whether the haystack, with each match exchanged for the text of its pattern, is this.
@@ -120,12 +120,14 @@ fn settings_change_what_is_found(rt: HostRuntime) {
 fn walks(rt: HostRuntime) -> Result<(), Fail> {
     let alloc = rt.alloc();
     let query = whole(APPENDS, false, SENTENCE, No);
-    let ends = [(2, 0, 3), (2, 11, 14), (2, 22, 25)];
-    assert!(rt; walks_by(alloc, Standard, &query, &ends)?);
-    let firsts = [(0, 0, 6), (2, 11, 14), (0, 22, 28)];
-    assert!(rt; walks_by(alloc, LeftmostFirst, &query, &firsts)?);
-    let longest = [(0, 0, 6), (2, 11, 14), (1, 22, 31)];
-    assert!(rt; walks_by(alloc, LeftmostLongest, &query, &longest)?);
+    let rows = [
+        (Standard, [(2, 0, 3), (2, 11, 14), (2, 22, 25)]),
+        (LeftmostFirst, [(0, 0, 6), (2, 11, 14), (0, 22, 28)]),
+        (LeftmostLongest, [(0, 0, 6), (2, 11, 14), (1, 22, 31)]),
+    ];
+    for (kind, wanted) in rows {
+        assert!(rt; walks_by(alloc, kind, &query, &wanted)?);
+    }
     Ok(())
 }
 
@@ -133,8 +135,7 @@ fn walks(rt: HostRuntime) -> Result<(), Fail> {
 fn settings_change_a_walk(rt: HostRuntime) -> Result<(), Fail> {
     let alloc = rt.alloc();
     let empty = whole(&[b""], false, b"ab", No);
-    let wanted = [(0, 0, 0), (0, 1, 1), (0, 2, 2)];
-    assert!(rt; walks_by(alloc, Standard, &empty, &wanted)?);
+    assert!(rt; walks_by(alloc, Standard, &empty, &[(0, 0, 0), (0, 1, 1), (0, 2, 2)])?);
     let folded = whole(&[b"FOO", b"bAr", b"BaZ"], true, b"foo bar baz", No);
     let wanted = [(0, 0, 3), (1, 4, 7), (2, 8, 11)];
     assert!(rt; walks_by(alloc, Standard, &folded, &wanted)?);
@@ -147,15 +148,8 @@ fn settings_change_a_walk(rt: HostRuntime) -> Result<(), Fail> {
 #[test]
 fn listings(rt: HostRuntime) -> Result<(), Fail> {
     let alloc = rt.alloc();
-    let all = whole(APPENDS, false, SENTENCE, No);
-    let wanted = [
-        (2, 0, 3),
-        (0, 0, 6),
-        (2, 11, 14),
-        (2, 22, 25),
-        (0, 22, 28),
-        (1, 22, 31),
-    ];
+    let all = whole(APPENDS, false, b"appendage app", No);
+    let wanted = [(2, 0, 3), (0, 0, 6), (1, 0, 9), (2, 10, 13)];
     assert!(rt; lists(alloc, &all, &wanted)?);
     let anchored = whole(APPENDS, false, SENTENCE, Yes);
     assert!(rt; lists(alloc, &anchored, &[(2, 0, 3), (0, 0, 6)])?);

@@ -5,25 +5,29 @@ use std::test::Fail;
 fn prefilter_of(
     alloc: Global,
     patterns: &[&[u8]],
-    fold: bool,
+    ignores_case: bool,
 ) -> Result<Option<Prefilter>, BuildError> {
     let patterns = Patterns::new(alloc, patterns)?;
-    Prefilter::of(alloc, &patterns, fold)
+    Prefilter::of(alloc, &patterns, ignores_case)
 }
 
 /// Returns how many first bytes the prefilter of these patterns skips by, or None without a prefilter.
-fn count_of(alloc: Global, patterns: &[&[u8]], fold: bool) -> Result<Option<usize>, BuildError> {
-    match prefilter_of(alloc, patterns, fold)? {
+fn count_of(
+    alloc: Global,
+    patterns: &[&[u8]],
+    ignores_case: bool,
+) -> Result<Option<usize>, BuildError> {
+    match prefilter_of(alloc, patterns, ignores_case)? {
         Some(prefilter) => Ok(Some(prefilter.byte_count())),
         None => Ok(None),
     }
 }
 
-/// Returns what the prefilter of these patterns tells of a span; of a list without one nothing occurs anywhere.
-fn told(
+/// Returns what the prefilter of these patterns says of a span; of a list without one nothing occurs anywhere.
+fn candidate_of(
     alloc: Global,
     patterns: &[&[u8]],
-    fold: bool,
+    ignores_case: bool,
     haystack: &[u8],
     start: usize,
     end: usize,
@@ -31,7 +35,7 @@ fn told(
     if end > haystack.len() || start > end + 1 {
         return Ok(None);
     }
-    match prefilter_of(alloc, patterns, fold)? {
+    match prefilter_of(alloc, patterns, ignores_case)? {
         Some(prefilter) => Ok(Some(prefilter.find_in(haystack, Span { start, end }))),
         None => Ok(None),
     }
@@ -42,9 +46,9 @@ fn a_single_pattern_is_a_needle(rt: HostRuntime) -> Result<(), Fail> {
     let alloc = rt.alloc();
     assert_eq!(rt; count_of(alloc, &[b"foo"], false)?, Some(0));
     let answers = [
-        told(alloc, &[b"foo"], false, b"xxfoo", 0, 5)?,
-        told(alloc, &[b"foo"], false, b"xxfoo", 0, 4)?,
-        told(alloc, &[b"foo"], false, b"xxfoo", 3, 5)?,
+        candidate_of(alloc, &[b"foo"], false, b"xxfoo", 0, 5)?,
+        candidate_of(alloc, &[b"foo"], false, b"xxfoo", 0, 4)?,
+        candidate_of(alloc, &[b"foo"], false, b"xxfoo", 3, 5)?,
     ];
     let found = Candidate::Match(Match::must(0, 2..5));
     assert_eq!(rt;
@@ -66,9 +70,9 @@ fn patterns_begin_with_few_bytes(rt: HostRuntime) -> Result<(), Fail> {
     ];
     assert_eq!(rt; counts, [Some(2), Some(3), Some(1)]);
     let answers = [
-        told(alloc, &two, false, b"xxbar", 0, 5)?,
-        told(alloc, &two, false, b"xxxx", 0, 4)?,
-        told(alloc, &four, false, b"zbx", 0, 3)?,
+        candidate_of(alloc, &two, false, b"xxbar", 0, 5)?,
+        candidate_of(alloc, &two, false, b"xxxx", 0, 4)?,
+        candidate_of(alloc, &four, false, b"zbx", 0, 3)?,
     ];
     let wanted = [
         Some(Candidate::PossibleStart(2)),
@@ -84,8 +88,8 @@ fn nothing_occurs_in_a_span_that_starts_past_its_end(rt: HostRuntime) -> Result<
     let alloc = rt.alloc();
     let two: [&[u8]; 2] = [b"foo", b"bar"];
     let answers = [
-        told(alloc, &[b"foo"], false, b"xfoob", 4, 3)?,
-        told(alloc, &two, false, b"xfoob", 4, 3)?,
+        candidate_of(alloc, &[b"foo"], false, b"xfoob", 4, 3)?,
+        candidate_of(alloc, &two, false, b"xfoob", 4, 3)?,
     ];
     assert_eq!(rt; answers, [Some(Candidate::None), Some(Candidate::None)]);
     Ok(())
@@ -100,7 +104,7 @@ fn case_counts_or_does_not(rt: HostRuntime) -> Result<(), Fail> {
         count_of(alloc, &[b"1a", b"foo"], true)?,
     ];
     assert_eq!(rt; counts, [Some(2), None, Some(3)]);
-    let start = told(alloc, &[b"foo"], true, b"xFx", 0, 3)?;
+    let start = candidate_of(alloc, &[b"foo"], true, b"xFx", 0, 3)?;
     assert_eq!(rt; start, Some(Candidate::PossibleStart(1)));
     Ok(())
 }

@@ -1,10 +1,10 @@
 //! Streams over all lists of at most two short patterns, cut in every way, and the plain search beside them.
+use super::all_of;
 use super::small::{ENGINES, words};
 use ac_search::MatchKind::{LeftmostFirst, LeftmostLongest, Standard};
 use ac_search::plain::{Query, replace_walk, walk};
 use ac_search::{
-    AhoCorasick, AhoCorasickBuilder, Anchored, FromRead, Match, MatchKind, Span, StreamError,
-    Written,
+    AhoCorasick, AhoCorasickBuilder, Anchored, FromRead, Match, MatchKind, StreamError, Written,
 };
 use std::alloc::Global;
 use std::io;
@@ -67,11 +67,7 @@ fn wanted_for<'a>(
     let Some(texts) = TEXTS.get(..patterns.len()) else {
         return Err(Fail::new("no list is so long here"));
     };
-    let span = Span {
-        start: 0,
-        end: stream.len(),
-    };
-    let query = Query::new(patterns, false, stream, Anchored::No, span);
+    let query = Query::new(patterns, false, stream, Anchored::No, all_of(stream));
     Ok(Wanted {
         patterns,
         kind,
@@ -121,8 +117,8 @@ impl<'a> Wanted<'a> {
     fn settled_at(&self, place: usize) -> Option<usize> {
         if self.kind == Standard {
             let ended = self.walk.last().map_or(0, |m| m.end());
-            let behind = self.stream.len().saturating_sub(ended);
-            let held = longest_of(self.patterns).saturating_sub(1).min(behind);
+            let beyond = self.stream.len().saturating_sub(ended);
+            let held = longest_of(self.patterns).saturating_sub(1).min(beyond);
             let settled = self.stream.len().saturating_sub(held);
             return (place == settled).then_some(self.walk.len());
         }

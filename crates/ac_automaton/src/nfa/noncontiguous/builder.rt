@@ -4,7 +4,7 @@ ghost use Rattle.ac_util.specs.Borrowed.{bytes_of};
 ghost use Rattle.ac_automaton.specs.Builds.{IsEngineBuilt, RefusesBy, state_refusal, usual_engine_settings};
 
 use super::NFA;
-use super::growth::TrieLists;
+use super::lists::TrieLists;
 use super::root::root_of;
 use crate::automaton::Common;
 use ac_util::error::BuildError;
@@ -19,7 +19,7 @@ use std::marker::Model;
 #[derive(Debug, Drop)]
 pub struct Builder {
     kind: MatchKind,
-    fold: bool,
+    ignores_case: bool,
     prefilter: bool,
 }
 
@@ -28,9 +28,9 @@ impl Model for Builder {
 
     ghost Value = { EngineSettings };
 
-    ghost view = { λ b. record { kind = b.kind; fold = b.fold; prefilter = b.prefilter } };
+    ghost view = { λ b. record { kind = b.kind; ignores_case = b.ignores_case; prefilter = b.prefilter } };
 
-    ghost inverse = { λ v. record { kind = v.kind; fold = v.fold; prefilter = v.prefilter } };
+    ghost inverse = { λ v. record { kind = v.kind; ignores_case = v.ignores_case; prefilter = v.prefilter } };
 }
 
 impl Default for Builder {
@@ -49,7 +49,7 @@ impl Builder {
     {
         Builder {
             kind: MatchKind::Standard,
-            fold: false,
+            ignores_case: false,
             prefilter: true,
         }
     }
@@ -72,10 +72,10 @@ impl Builder {
 
     /// Sets whether the case of ASCII letters is ignored. It counts unless set.
     pub fn ascii_case_insensitive(&mut self, yes: bool) -> &mut Builder
-        ensures value { result.now ≡ record self.old { fold = yes } }
+        ensures value { result.now ≡ record self.old { ignores_case = yes } }
         ensures same { result.ghost_name ≡ self.entry.ghost_name }
     {
-        self.fold = yes;
+        self.ignores_case = yes;
         self
     }
 
@@ -117,9 +117,9 @@ impl Builder {
             (RefusesBy (state_refusal self.now (bytes_of patterns.now)) (bytes_of patterns.now)) }
     {
         let patterns = Patterns::new(alloc, patterns)?;
-        let lists = TrieLists::of(&patterns, self.kind, self.fold)?;
+        let lists = TrieLists::of(&patterns, self.kind, self.ignores_case)?;
         let root = root_of(patterns.allocator().clone()?, lists.slices())?;
-        let common = Common::new(patterns, self.kind, self.fold, self.prefilter)?;
+        let common = Common::new(patterns, self.kind, self.ignores_case, self.prefilter)?;
         Ok(NFA {
             common,
             lists,

@@ -11,8 +11,9 @@ ghost use Rattle.ac_automaton.specs.Util.{GREATEST, plain};
 ghost use Rattle.ac_automaton.specs.Builds.{IsRefused, too_many_states};
 ghost use Rattle.ac_automaton.specs.Growths.{Branches, EndsPatterns, HasRoot, HasChildIn, HasPushed, HasSorted, IsNotPushed, IsWhole, LinkIsDue, MayBranch, Waits, nodes_of, source_of, word};
 ghost use Rattle.ac_automaton.specs.Sorted.{IsOrder};
-ghost use Rattle.ac_automaton.specs.Tries.{AreStates, Links, Meaning, miss};
+ghost use Rattle.ac_automaton.specs.Tries.{AreStates, Links, TrieView, fallback};
 
+use super::lists::TrieLists;
 use super::sorted::SortedPatterns;
 use super::state::{
     ANCHORED_START, DEAD, FIRST_INNER, START, State, Transition, TrieSlices, follow,
@@ -37,54 +38,10 @@ struct QueuedState {
     fail: StateID,
 }
 
-/// The lists of an automaton: the numbers of the sorted patterns, the transitions of all states, and the
-/// states.
-#[derive(Clone, Drop)]
-pub(crate) struct TrieLists<A: Allocator> {
-    pub(crate) order: Vec<PatternID, A>,
-    pub(crate) transitions: Vec<Transition, A>,
-    pub(crate) states: Vec<State, A>,
-}
-
-impl<A: Allocator + Clone> TrieLists<A> {
-    /// Returns the lists of an automaton over these patterns.
-    ///
-    /// # Errors
-    /// `StateIdOverflow` where there are more nodes than state numbers, `Memory` where a request for memory is
-    /// refused.
-    pub(crate) fn of(
-        patterns: &Patterns<A>,
-        kind: MatchKind,
-        fold: bool,
-    ) -> Result<TrieLists<A>, BuildError>
-        ensures { MatchResult result
-            (λ lists. IsWhole patterns.now fold kind
-            lists.order.items lists.transitions.items lists.states.items)
-            (IsRefused (too_many_states kind (map (plain fold) patterns.now))) }
-    {
-        Growth::new(patterns, kind, fold)?.grow()
-    }
-}
-
-impl<A: Allocator> TrieLists<A> {
-    /// Returns what a search follows, without a root table.
-    pub(crate) fn slices(&self) -> TrieSlices<'_>
-        ensures states { result.states.now ≡ self.now.states.items }
-        ensures transitions { result.transitions.now ≡ self.now.transitions.items }
-        ensures root { result.root ≡ None }
-    {
-        TrieSlices {
-            states: &self.states,
-            transitions: &self.transitions,
-            root: None,
-        }
-    }
-}
-
 /// A trie that grows: the patterns, the transitions and states so far, and the queue of the states from
 /// `FIRST_INNER` on.
 #[derive(Drop)]
-struct Growth<'p, A: Allocator> {
+pub(super) struct Growth<'p, A: Allocator> {
     sorted: SortedPatterns<'p, A>,
     kind: MatchKind,
     transitions: Vec<Transition, A>,
@@ -97,16 +54,16 @@ impl<'p, A: Allocator + Clone> Growth<'p, A> {
     ///
     /// # Errors
     /// `AllocError` where a request for memory is refused.
-    fn new(
+    pub(super) fn new(
         patterns: &'p Patterns<A>,
         kind: MatchKind,
-        fold: bool,
+        ignores_case: bool,
     ) -> Result<Growth<'p, A>, AllocError>
-        ensures begun { IfOk result (HasRoot fold patterns.now) }
+        ensures begun { IfOk result (HasRoot ignores_case patterns.now) }
         ensures kind { IfOk result (λ growth. growth.kind ≡ kind) }
     {
         let alloc = patterns.allocator();
-        let sorted = SortedPatterns::of(alloc.clone()?, patterns, kind, fold)?;
+        let sorted = SortedPatterns::of(alloc.clone()?, patterns, kind, ignores_case)?;
         let mut states = Vec::new(alloc.clone()?);
         states.push(State::dead())?;
         states.push(State::dead())?;
@@ -124,13 +81,13 @@ impl<'p, A: Allocator + Clone> Growth<'p, A> {
     /// # Errors
     /// `StateIdOverflow` where there are more nodes than state numbers, `Memory` where a request for memory is
     /// refused.
-    fn grow(mut self) -> Result<TrieLists<A>, BuildError>
-        requires begun { (fold : Bool) × (texts : List (List ℕ)) × HasRoot fold texts self }
-        ensures { (fold : Bool) (texts : List (List ℕ)) → HasRoot fold texts self.entry
+    pub(super) fn grow(mut self) -> Result<TrieLists<A>, BuildError>
+        requires begun { (ignores_case : Bool) × (texts : List (List ℕ)) × HasRoot ignores_case texts self }
+        ensures { (ignores_case : Bool) (texts : List (List ℕ)) → HasRoot ignores_case texts self.entry
             → MatchResult result
-            (λ lists. IsWhole texts fold self.entry.kind
+            (λ lists. IsWhole texts ignores_case self.entry.kind
             lists.order.items lists.transitions.items lists.states.items)
-            (IsRefused (too_many_states self.entry.kind (map (plain fold) texts))) }
+            (IsRefused (too_many_states self.entry.kind (map (plain ignores_case) texts))) }
     {
         let start = self.start();
         let start = self.branch(start)?;
@@ -201,7 +158,7 @@ impl<'p, A: Allocator + Clone> Growth<'p, A> {
     fn push(&mut self, byte: u8, queued: QueuedState) -> Result<(), BuildError>
         requires few { FIRST_INNER + length self.old.queue.items ≤ GREATEST + 1 }
         ensures pushed { MatchResult result
-            (λ _. HasPushed self.old.sorted.fold byte queued self.old.transitions.items self.old.queue.items
+            (λ _. HasPushed self.old.sorted.ignores_case byte queued self.old.transitions.items self.old.queue.items
             self.new.transitions.items self.new.queue.items)
             (IsNotPushed self.old.queue.items) }
         ensures kept { source_of self.new ≡ source_of self.old }
@@ -265,7 +222,7 @@ impl<'p, A: Allocator> Growth<'p, A> {
         requires child { (patterns : List (List ℕ)) × HasChildIn patterns self.now queued.now place byte }
         ensures fails { (patterns : List (List ℕ)) → HasChildIn patterns self.now queued.now place byte
             → slice_get (nodes_of self.now.sorted.patterns self.now.queue.items) result
-            ≡ Some (miss self.now.kind patterns
+            ≡ Some (fallback self.now.kind patterns
             (Some (word self.now.sorted.patterns queued.now ++ byte ∷ []))) }
         ensures unanchored { result ≢ ANCHORED_START }
     {
@@ -286,8 +243,8 @@ impl<'p, A: Allocator> Growth<'p, A> {
     /// Returns the output link of a state with this failure target: the target where it has patterns, else the
     /// output link of the target. A target that isn't complete yet is the start's own, and leads nowhere.
     fn output_link(&self, fail: StateID) -> StateID
-        requires { (g : Meaning) × AreStates g self.now.states.items }
-        ensures { (g : Meaning) (u : List ℕ) → AreStates g self.now.states.items
+        requires { (g : TrieView) × AreStates g self.now.states.items }
+        ensures { (g : TrieView) (u : List ℕ) → AreStates g self.now.states.items
             → LinkIsDue g (length self.now.states.items) u fail
             → Links g (length self.now.states.items) (Some u) result }
     {

@@ -2,7 +2,7 @@
 ghost use Rattle.std.specs.Prelude.{◌≡◌, ◌≢◌, ℕ, ◌+◌, ◌<◌, ◌≤◌, List, ◌∷◌, Some, length, slice_get};
 ghost use Rattle.ac_automaton.specs.Util.{depth, failure, Node, state_count};
 ghost use Rattle.ac_automaton.specs.Automata.{plain_of};
-ghost use Rattle.ac_automaton.specs.Readers.{AreNodes, HasOwn, IsOwn, own_bytes};
+ghost use Rattle.ac_automaton.specs.Readers.{AreNodes, HasOwn, IsOwn, transition_bytes_of};
 
 use super::{ANCHORED_START, FIRST_INNER, NFA};
 use ac_util::patterns::Patterns;
@@ -34,7 +34,7 @@ impl<A: Allocator> NFA<A> {
     /// Returns the failure target of a state: where an unanchored search goes on by a byte that doesn't lead on.
     /// The number has to be that of a state after the two starts.
     ///
-    /// The target has a lesser number. The empty string is told as the start of unanchored searches.
+    /// The target has a lesser number. The empty string is given as the start of unanchored searches.
     #[inline]
     pub fn fail(&self, sid: StateID) -> StateID
         requires inner { FIRST_INNER ≤ sid }
@@ -54,7 +54,7 @@ impl<A: Allocator> NFA<A> {
     pub fn own_len(&self, sid: StateID) -> usize
         requires numbered { sid < state_count self.now.built.kind (plain_of self.now.built) }
         ensures value { (nodes : List Node) (u : Node) → AreNodes self.now nodes → slice_get nodes sid ≡ Some u
-            → result ≡ length (own_bytes self.now.built u) }
+            → result ≡ length (transition_bytes_of self.now.built u) }
         ensures places { (index : ℕ) → index < result → HasOwn self.now sid index }
     {
         let state = &self.states()[sid.as_usize()];
@@ -89,16 +89,16 @@ impl<A: Allocator> NFA<A> {
     /// Returns whether case is ignored.
     #[inline]
     pub fn fold(&self) -> bool
-        ensures { result ≡ self.now.built.fold }
+        ensures { result ≡ self.now.built.ignores_case }
     {
         self.common.fold()
     }
 
     /// Returns whether it was built to have a prefilter, where there is one for its patterns.
     #[inline]
-    pub fn filters(&self) -> bool
-        ensures { result ≡ self.now.filters }
+    pub fn wants_prefilter(&self) -> bool
+        ensures { result ≡ self.now.wants_prefilter }
     {
-        self.common.filters()
+        self.common.wants_prefilter()
     }
 }

@@ -2,7 +2,7 @@
 //! there, and most states fail to there.
 ghost use Rattle.std.specs.Prelude.{◌≡◌, IfOk, IfSome};
 ghost use Rattle.ac_util.specs.Node.{Node};
-ghost use Rattle.ac_automaton.specs.Tries.{HasState, IsRoot, Meaning};
+ghost use Rattle.ac_automaton.specs.Tries.{HasState, IsRoot, TrieView};
 ghost use Rattle.ac_automaton.specs.declared.nfa.noncontiguous.state.TheConstants.{START};
 
 use super::state::{START, TrieSlices, follow};
@@ -22,7 +22,7 @@ pub(crate) fn root_of<A: Allocator>(
     alloc: A,
     trie: TrieSlices<'_>,
 ) -> Result<Vec<StateID, A>, AllocError>
-    requires start { (g : Meaning) × (u : Node) × (g.transitions ≡ trie.transitions.now)
+    requires start { (g : TrieView) × (u : Node) × (g.transitions ≡ trie.transitions.now)
         × HasState g trie.states.now START u }
     requires rooted { IfSome trie.root (λ root. IsRoot trie.transitions.now trie.states.now root.now) }
     ensures { IfOk result (λ root. IsRoot trie.entry.transitions.now trie.entry.states.now root.items) }

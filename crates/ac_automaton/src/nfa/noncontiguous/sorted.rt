@@ -26,7 +26,7 @@ struct SortedPattern<'p> {
 #[derive(Drop)]
 pub(crate) struct SortedPatterns<'p, A: Allocator> {
     patterns: Vec<SortedPattern<'p>, A>,
-    fold: bool,
+    ignores_case: bool,
 }
 
 impl<'p, A: Allocator> Model for SortedPatterns<'p, A> {
@@ -36,7 +36,7 @@ impl<'p, A: Allocator> Model for SortedPatterns<'p, A> {
 
     ghost Value = { Sorted };
 
-    ghost view = { λ m. record { fold = m.fold; patterns = keyed m.fold m.patterns.items } };
+    ghost view = { λ m. record { ignores_case = m.ignores_case; patterns = keyed m.ignores_case m.patterns.items } };
 
     ghost invariant = { λ m. record {
       few : length m.patterns.items ≤ GREATEST + 1;
@@ -53,13 +53,16 @@ impl<'p, A: Allocator> SortedPatterns<'p, A> {
     fn sorted(
         alloc: A,
         patterns: &'p Patterns<A>,
-        fold: bool,
+        ignores_case: bool,
     ) -> Result<SortedPatterns<'p, A>, AllocError>
-        ensures { IfOk result (AreSorted Standard fold patterns.now) }
+        ensures { IfOk result (AreSorted Standard ignores_case patterns.now) }
     {
         let mut patterns = listed(alloc, patterns)?;
-        patterns.sort_unstable_by(|a, b| compare(a, b, fold));
-        Ok(SortedPatterns { patterns, fold })
+        patterns.sort_unstable_by(|a, b| compare(a, b, ignores_case));
+        Ok(SortedPatterns {
+            patterns,
+            ignores_case,
+        })
     }
 
     /// Keeps those of all patterns that take part under `LeftmostFirst`.
@@ -67,20 +70,20 @@ impl<'p, A: Allocator> SortedPatterns<'p, A> {
     /// # Errors
     /// `AllocError` where a request for memory is refused.
     fn participating(mut self, alloc: A) -> Result<SortedPatterns<'p, A>, AllocError>
-        ensures { IfOk result (λ sorted. (fold : Bool) (texts : List (List ℕ))
-            → AreSorted Standard fold texts self.entry → AreSorted LeftmostFirst fold texts sorted) }
+        ensures { IfOk result (λ sorted. (ignores_case : Bool) (texts : List (List ℕ))
+            → AreSorted Standard ignores_case texts self.entry → AreSorted LeftmostFirst ignores_case texts sorted) }
     {
-        let fold = self.fold;
-        keep_participants(&mut self.patterns, fold, alloc)?;
+        let ignores_case = self.ignores_case;
+        keep_participants(&mut self.patterns, ignores_case, alloc)?;
         Ok(self)
     }
 
     /// Returns whether their case is ignored.
     #[inline]
     pub(crate) fn fold(&self) -> bool
-        ensures { result ≡ self.now.fold }
+        ensures { result ≡ self.now.ignores_case }
     {
-        self.fold
+        self.ignores_case
     }
 
     /// Returns how many there are.
@@ -123,7 +126,7 @@ impl<'p, A: Allocator> SortedPatterns<'p, A> {
         ensures short { length (key_at self.now.patterns place) ≤ GREATEST }
     {
         let byte = self.patterns[place].bytes.get(depth)?;
-        Some(plain_byte(self.fold, *byte))
+        Some(plain_byte(self.ignores_case, *byte))
     }
 
     /// Returns where those end that have the same byte at a depth as the one at the start, or none there as it.
@@ -155,17 +158,17 @@ impl<'p, A: Allocator + Clone> SortedPatterns<'p, A> {
         alloc: A,
         patterns: &'p Patterns<A>,
         kind: MatchKind,
-        fold: bool,
+        ignores_case: bool,
     ) -> Result<SortedPatterns<'p, A>, AllocError>
-        ensures { IfOk result (AreSorted kind fold patterns.now) }
+        ensures { IfOk result (AreSorted kind ignores_case patterns.now) }
     {
         match kind {
             MatchKind::LeftmostFirst => {
-                let all = SortedPatterns::sorted(alloc.clone()?, patterns, fold)?;
+                let all = SortedPatterns::sorted(alloc.clone()?, patterns, ignores_case)?;
                 all.participating(alloc)
             }
             MatchKind::Standard | MatchKind::LeftmostLongest => {
-                SortedPatterns::sorted(alloc, patterns, fold)
+                SortedPatterns::sorted(alloc, patterns, ignores_case)
             }
         }
     }
@@ -195,10 +198,10 @@ fn listed<'p, A: Allocator>(
 }
 
 /// Compares two patterns by their plain bytes, and then by number.
-fn compare(a: &SortedPattern<'_>, b: &SortedPattern<'_>, fold: bool) -> Ordering
-    ensures { result ≡ compared fold a.now b.now }
+fn compare(a: &SortedPattern<'_>, b: &SortedPattern<'_>, ignores_case: bool) -> Ordering
+    ensures { result ≡ compared ignores_case a.now b.now }
 {
-    let plain = |x: &u8| plain_byte(fold, *x);
+    let plain = |x: &u8| plain_byte(ignores_case, *x);
     a.bytes
         .iter()
         .map(plain)
@@ -216,12 +219,12 @@ fn compare(a: &SortedPattern<'_>, b: &SortedPattern<'_>, fold: bool) -> Ordering
 /// `AllocError` where a request for memory is refused, and some patterns may then have been moved.
 fn keep_participants<'p, A: Allocator>(
     sorted: &mut Vec<SortedPattern<'p>, A>,
-    fold: bool,
+    ignores_case: bool,
     alloc: A,
 ) -> Result<(), AllocError>
     ensures kept { OnOk result ((patterns : List (List ℕ))
-        → IsOrder Standard patterns (keyed fold sorted.old.items)
-        → IsOrder LeftmostFirst patterns (keyed fold sorted.new.items)) }
+        → IsOrder Standard patterns (keyed ignores_case sorted.old.items)
+        → IsOrder LeftmostFirst patterns (keyed ignores_case sorted.new.items)) }
     ensures few { length sorted.new.items ≤ length sorted.old.items }
     ensures short { All (λ p. length p.bytes.now ≤ GREATEST) sorted.old.items
         → All (λ p. length p.bytes.now ≤ GREATEST) sorted.new.items }
@@ -232,7 +235,7 @@ fn keep_participants<'p, A: Allocator>(
     let mut kept = 0;
     for at in 0..sorted.len() {
         let pattern = sorted[at];
-        if !is_shadowed(&mut prefixes, &pattern, fold) {
+        if !is_shadowed(&mut prefixes, &pattern, ignores_case) {
             prefixes.push(pattern)?;
             sorted[kept] = pattern;
             kept += 1;
@@ -247,19 +250,19 @@ fn keep_participants<'p, A: Allocator>(
 fn is_shadowed<'p, A: Allocator>(
     prefixes: &mut Vec<SortedPattern<'p>, A>,
     pattern: &SortedPattern<'p>,
-    fold: bool,
+    ignores_case: bool,
 ) -> bool
     ensures left { prefixes.new.items ≡ take (length prefixes.new.items) prefixes.old.items }
-    ensures gone { AllWithin (λ p. is_prefix fold pattern.now p ≡ false)
+    ensures gone { AllWithin (λ p. is_prefix ignores_case pattern.now p ≡ false)
         prefixes.old.items (length prefixes.new.items) (length prefixes.old.items) }
     ensures shadowed { IsTrue result → (0 < length prefixes.new.items)
-        × HoldsAt (λ p. (is_prefix fold pattern.now p ≡ true) × (p.number < pattern.now.number))
+        × HoldsAt (λ p. (is_prefix ignores_case pattern.now p ≡ true) × (p.number < pattern.now.number))
         prefixes.new.items (length prefixes.new.items - 1) }
     ensures free { result ≡ false → 0 < length prefixes.new.items
         → HoldsAt (λ p. pattern.now.number ≤ p.number) prefixes.new.items (length prefixes.new.items - 1) }
 {
     let mut left = prefixes.len();
-    while left > 0 && !begins_with(pattern.bytes, prefixes[left - 1].bytes, fold) {
+    while left > 0 && !begins_with(pattern.bytes, prefixes[left - 1].bytes, ignores_case) {
         left -= 1;
     }
     prefixes.truncate(left);
@@ -267,14 +270,14 @@ fn is_shadowed<'p, A: Allocator>(
 }
 
 /// Returns whether the plain bytes of a pattern begin with those of another.
-fn begins_with(bytes: &[u8], prefix: &[u8], fold: bool) -> bool
-    ensures { result ≡ starts_with nat_eq (plain fold bytes.now) (plain fold prefix.now) }
+fn begins_with(bytes: &[u8], prefix: &[u8], ignores_case: bool) -> bool
+    ensures { result ≡ starts_with nat_eq (plain ignores_case bytes.now) (plain ignores_case prefix.now) }
 {
     if bytes.len() < prefix.len() {
         return false;
     }
     for at in 0..prefix.len() {
-        if plain_byte(fold, prefix[at]) != plain_byte(fold, bytes[at]) {
+        if plain_byte(ignores_case, prefix[at]) != plain_byte(ignores_case, bytes[at]) {
             return false;
         }
     }

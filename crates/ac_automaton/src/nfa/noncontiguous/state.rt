@@ -3,7 +3,7 @@ ghost use Rattle.std.specs.Prelude.{◌≡◌, ◌≢◌, ℕ, ◌+◌, ◌-◌,
 ghost use Rattle.std.specs.List.Sorted.{IsStrictlyIncreasing};
 ghost use Rattle.ac_automaton.specs.Util.{more_looks, Node, plain_byte, step};
 ghost use Rattle.ac_util.specs.Looks.{looks as looks_of_node};
-ghost use Rattle.ac_automaton.specs.Tries.{HasState, IsRoot, IsTarget, Meaning, TakesFrom, all_matches, transition_bytes, dead_state, transitions_of};
+ghost use Rattle.ac_automaton.specs.Tries.{HasState, IsRoot, IsTarget, TrieView, TakesFrom, all_matches, transition_bytes, dead_state, transitions_of};
 
 use crate::automaton::MatchRest;
 use ac_util::looks::Looks;
@@ -165,18 +165,18 @@ pub(crate) fn follow(
     byte: u8,
     looks: &mut Looks,
 ) -> StateID
-    requires state { (g : Meaning) × (u : Node) × (g.transitions ≡ trie.transitions.now)
+    requires state { (g : TrieView) × (u : Node) × (g.transitions ≡ trie.transitions.now)
         × HasState g trie.states.now from u }
     requires rooted { IfSome trie.root (λ root. IsRoot trie.transitions.now trie.states.now root.now) }
-    ensures steps { (g : Meaning) (u : Node) → g.transitions ≡ trie.entry.transitions.now
+    ensures steps { (g : TrieView) (u : Node) → g.transitions ≡ trie.entry.transitions.now
         → HasState g trie.entry.states.now from u
         → slice_get g.nodes result
-        ≡ Some (step g.kind g.patterns anchored u (plain_byte g.fold byte)) }
-    ensures looks { (g : Meaning) (u : Node) → g.transitions ≡ trie.entry.transitions.now
+        ≡ Some (step g.kind g.patterns anchored u (plain_byte g.ignores_case byte)) }
+    ensures looks { (g : TrieView) (u : Node) → g.transitions ≡ trie.entry.transitions.now
         → HasState g trie.entry.states.now from u
         → looks.new
-        ≡ more_looks (looks_of_node g.kind g.patterns anchored u (plain_byte g.fold byte)) looks.old }
-    ensures unanchored { (g : Meaning) (u : Node) → g.transitions ≡ trie.entry.transitions.now
+        ≡ more_looks (looks_of_node g.kind g.patterns anchored u (plain_byte g.ignores_case byte)) looks.old }
+    ensures unanchored { (g : TrieView) (u : Node) → g.transitions ≡ trie.entry.transitions.now
         → HasState g trie.entry.states.now from u → slice_get g.nodes ANCHORED_START ≡ Some (Some [])
         → result ≢ ANCHORED_START }
 {
@@ -205,8 +205,8 @@ pub(crate) fn follow(
 
 /// Returns how many patterns a state has, with those that it reaches by output links.
 pub(crate) fn listed_len(states: &[State], from: StateID) -> usize
-    requires state { (g : Meaning) × (u : Node) × HasState g states.now from u }
-    ensures { (g : Meaning) (u : Node) → HasState g states.now from u
+    requires state { (g : TrieView) × (u : Node) × HasState g states.now from u }
+    ensures { (g : TrieView) (u : Node) → HasState g states.now from u
         → result ≡ length (all_matches g u) }
 {
     let mut at = from.as_usize();
@@ -229,8 +229,8 @@ pub(crate) fn take_listed(
     order: &[PatternID],
     rest: MatchRest,
 ) -> Option<(PatternID, MatchRest)>
-    requires state { (g : Meaning) × (u : Node) × (g.order ≡ order.now) × HasState g states.now rest.state u }
-    ensures { (g : Meaning) (u : Node) → g.order ≡ order.now → HasState g states.now rest.state u
+    requires state { (g : TrieView) × (u : Node) × (g.order ≡ order.now) × HasState g states.now rest.state u }
+    ensures { (g : TrieView) (u : Node) → g.order ≡ order.now → HasState g states.now rest.state u
         → TakesFrom g states.now u rest.index result }
 {
     let mut at = rest.state;

@@ -89,7 +89,7 @@ impl Builder {
 
     /// Sets whether the case of ASCII letters is ignored. It counts unless set.
     pub fn ascii_case_insensitive(&mut self, yes: bool) -> &mut Builder
-        ensures value { result.now ≡ record self.old { engine = record self.old.engine { fold = yes } } }
+        ensures value { result.now ≡ record self.old { engine = record self.old.engine { ignores_case = yes } } }
         ensures same { result.ghost_name ≡ self.entry.ghost_name }
     {
         self.noncontiguous.ascii_case_insensitive(yes);
@@ -172,7 +172,7 @@ impl Builder {
         nfa: &noncontiguous::NFA<A>,
     ) -> Result<NFA<A>, BuildError>
         ensures { MatchResult result
-            (λ packed. IsContiguousFrom self.now.dense_depth self.now.byte_classes nfa.now.built nfa.now.filters packed
+            (λ packed. IsContiguousFrom self.now.dense_depth self.now.byte_classes nfa.now.built nfa.now.wants_prefilter packed
             × (contiguous_refusal self.now.dense_depth self.now.byte_classes nfa.now.built ≡ None))
             (IsRefusedExactly (contiguous_refusal self.now.dense_depth self.now.byte_classes nfa.now.built)) }
     {

@@ -3,18 +3,20 @@ ghost use Rattle.std.specs.Prelude.{◌≡◌, ℕ, ◌<◌, ◌≤◌, ◌++◌
 ghost use Rattle.ac_automaton.specs.Util.{alphabet_len, GREATEST, Node};
 ghost use Rattle.ac_engines.specs.Contiguous.{IsContiguous};
 ghost use Rattle.ac_engines.specs.Contiguous.Plans.{packed_of, places_of};
-ghost use Rattle.ac_engines.specs.Contiguous.Packs.{AreReady, HasPushedWords, HasPlaceIn, state_spelling, state_words};
+ghost use Rattle.ac_engines.specs.Contiguous.Packs.{AreReady, HasPushedWords, HasPlaceIn, packed_state, state_words};
 ghost use Rattle.ac_engines.specs.Contiguous.Sizes.{packed_words};
-ghost use Rattle.ac_engines.specs.Contiguous.Words.{spelled};
+ghost use Rattle.ac_engines.specs.Contiguous.Words.{format_words};
 ghost use Rattle.ac_engines.specs.declared.nfa.contiguous.format.Format;
 
-use super::draft::{Draft, push_state};
 use super::format::Format;
 use super::plan::Plan;
 use super::state::{Edge, FAIL};
-use ac_automaton::automaton::{Automaton, MatchRest};
+use super::state_fields::{StateFields, push_state};
+use crate::matches::list_matches;
+use ac_automaton::automaton::Automaton;
 use ac_automaton::nfa::noncontiguous::{DEAD, FIRST_INNER, START};
 use ac_util::primitives::{PatternID, StateID};
+use ac_util::search::Anchored;
 use std::alloc::{AllocError, Allocator};
 use std::marker::Model;
 
@@ -35,7 +37,7 @@ impl<'a, A: Allocator> Model for Packer<'a, A> {
 
 /// The words of the states that were packed, and lists that are filled anew for each state.
 #[derive(Drop)]
-struct Pages<A: Allocator> {
+struct Buffers<A: Allocator> {
     words: Vec<u32, A>,
     edges: Vec<Edge, A>,
     matches: Vec<PatternID, A>,
@@ -57,7 +59,7 @@ impl<'a, A: Allocator> Packer<'a, A> {
     fn list_edges(&self, edges: &mut Vec<Edge, A>, sid: StateID) -> Result<(), AllocError>
         requires state { HasPlaceIn self.now sid }
         ensures { (nodes : List Node) (u : Node) → AreReady self.now nodes → slice_get nodes sid ≡ Some u
-            → IfOk result (λ _. edges.new.items ≡ (state_spelling self.now nodes sid u).edges) }
+            → IfOk result (λ _. edges.new.items ≡ (packed_state self.now nodes sid u).edges) }
     {
         let plan = self.plan;
         let nfa = plan.nfa;
@@ -72,33 +74,11 @@ impl<'a, A: Allocator> Packer<'a, A> {
         Ok(())
     }
 
-    /// Puts the matches of a state into a list, and nothing else.
-    ///
-    /// # Errors
-    /// `AllocError` where a request for memory is refused.
-    fn list_matches(&self, matches: &mut Vec<PatternID, A>, sid: StateID) -> Result<(), AllocError>
-        requires state { HasPlaceIn self.now sid }
-        ensures { (nodes : List Node) (u : Node) → AreReady self.now nodes → slice_get nodes sid ≡ Some u
-            → IfOk result (λ _. matches.new.items ≡ (state_spelling self.now nodes sid u).matches) }
-    {
-        let plan = self.plan;
-        matches.clear();
-        let mut rest = MatchRest {
-            state: sid,
-            index: 0,
-        };
-        while let Some((pattern, after)) = plan.nfa.take_match(rest) {
-            matches.push(pattern)?;
-            rest = after;
-        }
-        Ok(())
-    }
-
-    /// Returns the place of a state's failure target. The starts have none, which is told as 0.
+    /// Returns the place of a state's failure target. The starts have none, which is given as 0.
     fn failure(&self, sid: StateID) -> u32
         requires state { HasPlaceIn self.now sid }
         ensures { (nodes : List Node) (u : Node) → AreReady self.now nodes → slice_get nodes sid ≡ Some u
-            → result ≡ (state_spelling self.now nodes sid u).failure }
+            → result ≡ (packed_state self.now nodes sid u).failure }
     {
         if sid.as_usize() < FIRST_INNER {
             return 0;
@@ -109,10 +89,10 @@ impl<'a, A: Allocator> Packer<'a, A> {
 
     /// Returns where a byte leads from a state that doesn't lead on: from the unanchored start back to it, unless
     /// under a leftmost kind an empty pattern has begun the match, and from the others nowhere.
-    fn missing(&self, sid: StateID) -> u32
+    fn default_target(&self, sid: StateID) -> u32
         requires state { HasPlaceIn self.now sid }
         ensures { (nodes : List Node) (u : Node) → AreReady self.now nodes → slice_get nodes sid ≡ Some u
-            → result ≡ (state_spelling self.now nodes sid u).missing }
+            → result ≡ (packed_state self.now nodes sid u).default_target }
     {
         let plan = self.plan;
         let nfa = plan.nfa;
@@ -130,25 +110,25 @@ impl<'a, A: Allocator> Packer<'a, A> {
     ///
     /// # Errors
     /// `AllocError` where a request for memory is refused.
-    fn push(&self, pages: &mut Pages<A>, sid: StateID) -> Result<(), AllocError>
+    fn push(&self, buffers: &mut Buffers<A>, sid: StateID) -> Result<(), AllocError>
         requires state { HasPlaceIn self.now sid }
         ensures { (nodes : List Node) (u : Node) → AreReady self.now nodes → slice_get nodes sid ≡ Some u
-            → IfOk result (λ _. pages.new.words.items ≡ pages.old.words.items ++ state_words self.now nodes sid u) }
+            → IfOk result (λ _. buffers.new.words.items ≡ buffers.old.words.items ++ state_words self.now nodes sid u) }
     {
-        self.list_edges(&mut pages.edges, sid)?;
-        self.list_matches(&mut pages.matches, sid)?;
-        let draft = Draft {
-            failure: self.failure(sid),
-            missing: self.missing(sid),
-            edges: &pages.edges,
-            matches: &pages.matches,
-        };
         let plan = self.plan;
+        self.list_edges(&mut buffers.edges, sid)?;
+        list_matches(plan.nfa, sid, Anchored::No, &mut buffers.matches)?;
+        let state_fields = StateFields {
+            failure: self.failure(sid),
+            default_target: self.default_target(sid),
+            edges: &buffers.edges,
+            matches: &buffers.matches,
+        };
         push_state(
-            &mut pages.words,
+            &mut buffers.words,
             plan.format(sid),
             plan.classes.alphabet_len(),
-            draft,
+            state_fields,
         )
     }
 
@@ -156,24 +136,24 @@ impl<'a, A: Allocator> Packer<'a, A> {
     ///
     /// # Errors
     /// `AllocError` where a request for memory is refused.
-    fn push_dead(&self, pages: &mut Pages<A>) -> Result<(), AllocError>
+    fn push_dead(&self, buffers: &mut Buffers<A>) -> Result<(), AllocError>
         requires few { alphabet_len self.now.plan.classes ≤ 256 }
-        ensures { IfOk result (λ _. pages.new.words.items ≡ pages.old.words.items
-            ++ spelled Format.Dense (alphabet_len self.now.plan.classes)
-            (record { failure = 0; missing = 0; edges = []; matches = [] })) }
+        ensures { IfOk result (λ _. buffers.new.words.items ≡ buffers.old.words.items
+            ++ format_words Format.Dense (alphabet_len self.now.plan.classes)
+            (record { failure = 0; default_target = 0; edges = []; matches = [] })) }
     {
-        let draft = Draft {
+        let state_fields = StateFields {
             failure: 0,
-            missing: DEAD as u32,
+            default_target: DEAD as u32,
             edges: &[],
             matches: &[],
         };
         let plan = self.plan;
         push_state(
-            &mut pages.words,
+            &mut buffers.words,
             Format::Dense,
             plan.classes.alphabet_len(),
-            draft,
+            state_fields,
         )
     }
 
@@ -181,16 +161,16 @@ impl<'a, A: Allocator> Packer<'a, A> {
     ///
     /// # Errors
     /// `AllocError` where a request for memory is refused.
-    fn push_where(&self, pages: &mut Pages<A>, front: bool) -> Result<(), AllocError>
+    fn push_where(&self, buffers: &mut Buffers<A>, front: bool) -> Result<(), AllocError>
         requires ready { (nodes : List Node) × AreReady self.now nodes }
         ensures { (nodes : List Node) → AreReady self.now nodes
-            → IfOk result (λ _. HasPushedWords self.now nodes front pages.old.words.items pages.new.words.items) }
+            → IfOk result (λ _. HasPushedWords self.now nodes front buffers.old.words.items buffers.new.words.items) }
     {
         let plan = self.plan;
         for state in START..plan.nfa.states_len() {
             let sid = StateID::must(state);
             if plan.is_match(sid) == front {
-                self.push(pages, sid)?;
+                self.push(buffers, sid)?;
             }
         }
         Ok(())
@@ -212,14 +192,14 @@ impl<'a, A: Allocator + Clone> Packer<'a, A> {
             → IsContiguous (packed_of self.now.plan nodes self.now.numbers words.items)
             (places_of self.now.plan nodes self.now.numbers)) }
     {
-        let mut pages = Pages {
+        let mut buffers = Buffers {
             words: Vec::with_capacity(alloc.clone()?, len)?,
             edges: Vec::new(alloc.clone()?),
             matches: Vec::new(alloc),
         };
-        self.push_dead(&mut pages)?;
-        self.push_where(&mut pages, true)?;
-        self.push_where(&mut pages, false)?;
-        Ok(pages.words)
+        self.push_dead(&mut buffers)?;
+        self.push_where(&mut buffers, true)?;
+        self.push_where(&mut buffers, false)?;
+        Ok(buffers.words)
     }
 }

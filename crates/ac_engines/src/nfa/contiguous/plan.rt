@@ -26,11 +26,7 @@ impl<'a, A: Allocator> Model for Plan<'a, A> {
 
     ghost Value = { PackPlan };
 
-    ghost view = { λ p. record {
-      trie = p.nfa.now;
-      classes = p.classes.now;
-      dense_depth = p.dense_depth;
-    } };
+    ghost view = { λ p. record { trie = p.nfa.now; classes = p.classes.now; dense_depth = p.dense_depth } };
 }
 
 /// How many words all states take, and up to which place those stand that have matches.
@@ -44,7 +40,7 @@ impl<'a, A: Allocator> Plan<'a, A> {
     /// Returns a plan.
     pub(super) fn new(nfa: &'a NFA<A>, classes: &'a ByteClasses, dense_depth: usize) -> Plan<'a, A>
         requires classes { AreClasses classes.now }
-        requires apart { SetsApart nfa.now.built.fold nfa.now.built.patterns classes.now }
+        requires apart { SetsApart nfa.now.built.ignores_case nfa.now.built.patterns classes.now }
         ensures value { result ≡ record { trie = nfa.now; classes = classes.now; dense_depth = dense_depth } }
         ensures may { (nodes : List Node) × MayPack result nodes }
     {

@@ -2,7 +2,7 @@
 ghost use Rattle.std.specs.Prelude.{◌≡◌, ◌≢◌, ℕ, ◌+◌, ◌<◌, ◌≤◌, ◌++◌, [], drop, length, slice_index};
 ghost use Rattle.ac_util.specs.Counts.{more_looks};
 ghost use Rattle.ac_engines.specs.declared.nfa.contiguous.format.Format.{Format};
-ghost use Rattle.ac_engines.specs.Contiguous.Words.{AreNamed, BeginsWith, Spelling, first_of, match_spelling, named, target_by, spelled_transitions, word_of};
+ghost use Rattle.ac_engines.specs.Contiguous.Words.{AreNamed, BeginsWith, PackedState, first_of, match_list_words, named, target_by, transitions_of_state, word_of};
 
 use super::format::{CLASSES_A_WORD, HEAD};
 use super::transitions::Transitions;
@@ -48,9 +48,9 @@ impl<'a> State<'a> {
     /// Returns the failure target.
     #[inline]
     pub(super) fn fail(self) -> u32
-        requires { (format : Format) × (classes : ℕ) × (s : Spelling)
+        requires { (format : Format) × (classes : ℕ) × (s : PackedState)
             × BeginsWith self.words.now format classes s }
-        ensures { (format : Format) (classes : ℕ) (s : Spelling) → BeginsWith self.entry.words.now format classes s
+        ensures { (format : Format) (classes : ℕ) (s : PackedState) → BeginsWith self.entry.words.now format classes s
             → result ≡ s.failure }
     {
         self.words[1]
@@ -61,11 +61,11 @@ impl<'a> State<'a> {
     /// A step reaches the transitions of a state by this alone.
     #[inline]
     pub(super) fn look(self, class: u8, looks: &mut Looks) -> Option<u32>
-        requires { (format : Format) × (classes : ℕ) × (s : Spelling)
+        requires { (format : Format) × (classes : ℕ) × (s : PackedState)
             × BeginsWith self.words.now format classes s × AreNamed s.edges × (class < classes) }
-        ensures target { (format : Format) (classes : ℕ) (s : Spelling)
+        ensures target { (format : Format) (classes : ℕ) (s : PackedState)
             → BeginsWith self.entry.words.now format classes s → AreNamed s.edges
-            → class < classes → result ≡ named (target_by s.missing s.edges class) }
+            → class < classes → result ≡ named (target_by s.default_target s.edges class) }
         ensures counted { looks.new ≡ more_looks 1 looks.old }
     {
         looks.look();
@@ -75,10 +75,10 @@ impl<'a> State<'a> {
     /// Returns where a class leads, if anywhere.
     #[inline]
     fn target(self, class: u8) -> Option<u32>
-        requires { (format : Format) × (classes : ℕ) × (s : Spelling)
+        requires { (format : Format) × (classes : ℕ) × (s : PackedState)
             × BeginsWith self.words.now format classes s × AreNamed s.edges × (class < classes) }
-        ensures { (format : Format) (classes : ℕ) (s : Spelling) → BeginsWith self.entry.words.now format classes s
-            → AreNamed s.edges → class < classes → result ≡ named (target_by s.missing s.edges class) }
+        ensures { (format : Format) (classes : ℕ) (s : PackedState) → BeginsWith self.entry.words.now format classes s
+            → AreNamed s.edges → class < classes → result ≡ named (target_by s.default_target s.edges class) }
     {
         let [form, only, _, _] = self.words[0].to_le_bytes();
         if form == DENSE {
@@ -98,9 +98,9 @@ impl<'a> State<'a> {
     /// Returns where a class leads from a state that has so many transitions, four classes in a word.
     #[inline]
     fn sparse_target(self, transitions: usize, class: u8) -> Option<u32>
-        requires { (classes : ℕ) × (s : Spelling) × BeginsWith self.words.now Format.Sparse classes s
+        requires { (classes : ℕ) × (s : PackedState) × BeginsWith self.words.now Format.Sparse classes s
             × (transitions ≡ length s.edges) }
-        ensures { (classes : ℕ) (s : Spelling) → BeginsWith self.entry.words.now Format.Sparse classes s
+        ensures { (classes : ℕ) (s : PackedState) → BeginsWith self.entry.words.now Format.Sparse classes s
             → AreNamed s.edges → transitions ≡ length s.edges → result ≡ named (target_by FAIL s.edges class) }
     {
         let (classes, targets) = self.words[HEAD..].split_at(transitions.div_ceil(CLASSES_A_WORD));
@@ -116,9 +116,9 @@ impl<'a> State<'a> {
     /// Returns an iterator over the state's own transitions in ascending order of their classes. A dense state has one
     /// for each class, to `FAIL` where it leads nowhere.
     pub(super) fn transitions(self, classes: usize) -> Transitions<'a>
-        requires { (format : Format) × (s : Spelling) × BeginsWith self.words.now format classes s }
-        ensures { (format : Format) (s : Spelling) → BeginsWith self.entry.words.now format classes s
-            → result ≡ spelled_transitions format classes s }
+        requires { (format : Format) × (s : PackedState) × BeginsWith self.words.now format classes s }
+        ensures { (format : Format) (s : PackedState) → BeginsWith self.entry.words.now format classes s
+            → result ≡ transitions_of_state format classes s }
     {
         let [form, only, _, _] = self.words[0].to_le_bytes();
         if form == DENSE {
@@ -147,9 +147,9 @@ impl<'a> State<'a> {
     /// Returns how many matches the state has. It has to have some.
     #[inline]
     pub(super) fn match_len(self, classes: usize) -> usize
-        requires { (format : Format) × (s : Spelling)
+        requires { (format : Format) × (s : PackedState)
             × BeginsWith self.words.now format classes s × (s.matches ≢ []) }
-        ensures { (format : Format) (s : Spelling) → BeginsWith self.entry.words.now format classes s
+        ensures { (format : Format) (s : PackedState) → BeginsWith self.entry.words.now format classes s
             → s.matches ≢ [] → result ≡ length s.matches }
     {
         let first = self.match_words(classes)[0];
@@ -163,9 +163,9 @@ impl<'a> State<'a> {
     /// Returns one of its matches.
     #[inline]
     pub(super) fn match_pattern(self, classes: usize, index: usize) -> u32
-        requires { (format : Format) × (s : Spelling)
+        requires { (format : Format) × (s : PackedState)
             × BeginsWith self.words.now format classes s × (index < length s.matches) }
-        ensures { (format : Format) (s : Spelling) → BeginsWith self.entry.words.now format classes s
+        ensures { (format : Format) (s : PackedState) → BeginsWith self.entry.words.now format classes s
             → index < length s.matches → result ≡ slice_index s.matches index }
     {
         let words = self.match_words(classes);
@@ -179,10 +179,10 @@ impl<'a> State<'a> {
     /// Returns the words from those of the state's matches on. It has to have some, so it is dense or sparse.
     #[inline]
     fn match_words(self, classes: usize) -> &'a [u32]
-        requires { (format : Format) × (s : Spelling)
+        requires { (format : Format) × (s : PackedState)
             × BeginsWith self.words.now format classes s × (s.matches ≢ []) }
-        ensures { (format : Format) (s : Spelling) (words : BeginsWith self.entry.words.now format classes s)
-            → s.matches ≢ [] → result.now ≡ match_spelling s.matches ++ words.rest }
+        ensures { (format : Format) (s : PackedState) (words : BeginsWith self.entry.words.now format classes s)
+            → s.matches ≢ [] → result.now ≡ match_list_words s.matches ++ words.rest }
     {
         let [form, _, _, _] = self.words[0].to_le_bytes();
         if form == DENSE {

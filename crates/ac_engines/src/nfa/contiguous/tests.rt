@@ -34,17 +34,17 @@ const SIZES: [Size; 7] = [
 
 #[test]
 fn words_have_their_number(rt: HostRuntime) -> Result<(), Fail> {
-    for (patterns, fold, kind, dense_depth, byte_classes, classes, words) in SIZES {
+    for (patterns, ignores_case, kind, dense_depth, byte_classes, classes, words) in SIZES {
         let mut builder = Builder::new();
         builder
-            .ascii_case_insensitive(fold)
+            .ascii_case_insensitive(ignores_case)
             .match_kind(kind)
             .dense_depth(dense_depth)
             .byte_classes(byte_classes);
         let nfa = builder.build(rt.alloc(), patterns)?;
-        let told = (nfa.classes.alphabet_len(), nfa.words.len());
+        let numbers = (nfa.classes.alphabet_len(), nfa.words.len());
         assert_eq!(rt;
-            told,
+            numbers,
             (classes, words),
             "{patterns:?} to depth {dense_depth}"
         );
@@ -56,10 +56,9 @@ fn words_have_their_number(rt: HostRuntime) -> Result<(), Fail> {
 /// since the patterns' own states have matches.
 #[test]
 fn a_state_of_many_transitions(rt: HostRuntime) -> Result<(), Fail> {
-    let mut text = Vec::new(rt.alloc());
-    for byte in 0x80..=0xFFu8 {
-        text.push(b'a')?;
-        text.push(byte)?;
+    let mut text = [b'a'; 256];
+    for index in 0..0x80u8 {
+        text[2 * index as usize + 1] = 0x80 + index;
     }
     // How many patterns there are, and of the state the number of its words, the first, and another one with its place.
     let rows = [(127, 161, 127, 33, 0x8181807F), (128, 133, 0xFF, 4, FAIL)];

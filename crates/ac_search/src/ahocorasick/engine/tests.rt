@@ -33,13 +33,13 @@ fn byte_count(searcher: &AhoCorasick) -> Option<usize> {
 /// Each engine has the prefilter of the patterns and their case, and none where the setting is off.
 #[test]
 fn engines_have_the_prefilter_that_was_set(rt: HostRuntime) -> Result<(), Fail> {
-    for (patterns, fold) in LISTS {
+    for (patterns, ignores_case) in LISTS {
         let stored = Patterns::new(rt.alloc(), patterns)?;
-        let own = Prefilter::of(rt.alloc(), &stored, fold)?;
+        let own = Prefilter::of(rt.alloc(), &stored, ignores_case)?;
         let wanted = own.as_ref().map(|p| p.byte_count());
         for kind in KINDS {
             let mut builder = AhoCorasickBuilder::new();
-            builder.kind(kind).ascii_case_insensitive(fold);
+            builder.kind(kind).ascii_case_insensitive(ignores_case);
             let usual = builder.build(rt.alloc(), patterns)?;
             assert_eq!(rt; byte_count(&usual), wanted, "{kind:?}");
             builder.prefilter(false);

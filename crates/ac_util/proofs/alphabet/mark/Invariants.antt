@@ -7,7 +7,7 @@ use Rattle.ac_util.proofs.alphabet.mark.Given as goal
 abbrev pub invariant-loop-byte : goal.invariant-loop-byte
 invariant-loop-byte l = record {
   whole : length l.marks ≡ 256;
-  marked : (b : ℕ) → get_or l.marks (plain_byte l.fold b) false
-      ≡ (get_or l.fn.marks (plain_byte l.fold b) false
-      || list_any (same_byte l.fold b) (take l.byte-index l.pattern));
+  marked : (b : ℕ) → get_or l.marks (plain_byte l.ignores_case b) false
+      ≡ (get_or l.fn.marks (plain_byte l.ignores_case b) false
+      || list_any (same_byte l.ignores_case b) (take l.byte-index l.pattern));
 }

@@ -8,7 +8,7 @@ use Rattle.ac_util.proofs.alphabet.marks_of.Goals as goal
 
 -- no byte is marked, and no pattern was read
 pub loop-number-init : goal.loop-number-init
-loop-number-init g c = record { whole = refl; marked = λ b. none_marked 256 (plain_byte c.args.fold b) }
+loop-number-init g c = record { whole = refl; marked = λ b. none_marked 256 (plain_byte c.args.ignores_case b) }
 
 -- the next pattern's bytes are marked too
 pub loop-number-preserved : goal.loop-number-preserved

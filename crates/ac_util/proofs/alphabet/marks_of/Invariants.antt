@@ -6,6 +6,6 @@ use Rattle.ac_util.proofs.alphabet.marks_of.Given as goal
 abbrev pub invariant-loop-number : goal.invariant-loop-number
 invariant-loop-number g l = record {
   whole : length l.marks ≡ 256;
-  marked : (b : ℕ) → get_or l.marks (plain_byte l.fold b) false
-      ≡ is_in_patterns l.fold (take l.number l.patterns) b;
+  marked : (b : ℕ) → get_or l.marks (plain_byte l.ignores_case b) false
+      ≡ is_in_patterns l.ignores_case (take l.number l.patterns) b;
 }

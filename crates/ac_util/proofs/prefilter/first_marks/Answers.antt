@@ -11,7 +11,7 @@ use Rattle.ac_util.proofs.prefilter.first_marks.Goals.{in-Some, in_default}
 
 -- no byte is marked, and no pattern was read
 pub loop-number-init : goal.loop-number-init
-loop-number-init g c = record { whole = refl; marked = λ b. none_marked 256 (plain_byte c.args.fold b) }
+loop-number-init g c = record { whole = refl; marked = λ b. none_marked 256 (plain_byte c.args.ignores_case b) }
 
 -- the next pattern's first byte is marked too
 pub loop-number-preserved : goal.loop-number-preserved

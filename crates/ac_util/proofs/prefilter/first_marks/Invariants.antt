@@ -7,6 +7,6 @@ use Rattle.ac_util.proofs.prefilter.first_marks.Given as goal
 abbrev pub invariant-loop-number : goal.invariant-loop-number
 invariant-loop-number g l = record {
   whole : length l.marks ≡ 256;
-  marked : (b : ℕ) → get_or l.marks (plain_byte l.fold b) false
-      ≡ list_any (begins_with l.fold b) (take l.number l.patterns);
+  marked : (b : ℕ) → get_or l.marks (plain_byte l.ignores_case b) false
+      ≡ list_any (begins_with l.ignores_case b) (take l.number l.patterns);
 }

@@ -2,6 +2,7 @@ use Rattle.std.proofs.Common.{◌-◌}
 use Rattle.std.specs.Prelude.{string_bytes}
 use Rattle.acs.proofs.Streaming.{IsPrintingStream}
 use Rattle.acs.proofs.output.print_stream.Given as goal
+use Rattle.ac_util.specs.Sizes.{usize_max}
 
 -- the lines of all matches so far are written
 abbrev pub invariant-loop-item : goal.invariant-loop-item
@@ -10,4 +11,4 @@ invariant-loop-item g l =
     (g.W.Sink.told l.fn.writer) (g.W.Sink.told l.writer) (string_bytes l.text) l.outcome
 
 abbrev pub decreases-loop-item : goal.decreases-loop-item
-decreases-loop-item g l = 18446744073709551615 - l.finder.given
+decreases-loop-item g l = usize_max - l.finder.given

@@ -82,31 +82,17 @@ const USAGE: &[&str] = &[
     "walk std DFA he|ushers|",
 ];
 
-/// How a run ends, its status, and the line that is told of a fault.
-pub(super) const ENDINGS: &[(Ending, u8, &str)] = &[
-    (Ok(Outcome::Found), 0, ""),
-    (Ok(Outcome::Nothing), 1, ""),
-    (
-        Err(Fault::Usage),
-        2,
-        "acs: usage: acs MODE KIND ENGINE WORD..",
-    ),
-    (Err(Fault::Memory), 2, "acs: out of memory"),
-    (Err(Fault::TooManyPatterns), 2, "acs: too many patterns"),
-    (Err(Fault::PatternTooLong), 2, "acs: pattern too long"),
-    (Err(Fault::TooManyStates), 2, "acs: too many states"),
-    (
-        Err(Fault::OverlappingKind),
-        2,
-        "acs: overlapping search needs std",
-    ),
-    (Err(Fault::StreamKind), 2, "acs: stream search needs std"),
-    (
-        Err(Fault::StreamEmpty),
-        2,
-        "acs: stream search refuses an empty pattern",
-    ),
-    (Err(Fault::Io), 2, "acs: input or output failed"),
-    (Err(Fault::WriteZero), 2, "acs: output took no byte"),
-    (Err(Fault::TooLong), 2, "acs: stream too long"),
+/// Each fault, and what its line says after the program's name.
+pub(super) const FAULTS: &[(Fault, &str)] = &[
+    (Fault::Usage, "usage: acs MODE KIND ENGINE WORD.."),
+    (Fault::Memory, "out of memory"),
+    (Fault::TooManyPatterns, "too many patterns"),
+    (Fault::PatternTooLong, "pattern too long"),
+    (Fault::TooManyStates, "too many states"),
+    (Fault::OverlappingKind, "overlapping search needs std"),
+    (Fault::StreamKind, "stream search needs std"),
+    (Fault::StreamEmpty, "stream search refuses an empty pattern"),
+    (Fault::Io, "input or output failed"),
+    (Fault::WriteZero, "output took no byte"),
+    (Fault::TooLong, "stream too long"),
 ];

@@ -2,9 +2,10 @@
 use Rattle.std.proofs.Common.{◌≡◌, ◌≤◌, drop, min}
 use Rattle.ac_util.specs.Sizes.{shortest_len}
 use Rattle.ac_automaton.proofs.automaton.lengths.shortest_of.Given as goal
+use Rattle.ac_automaton.specs.Util.{usize_max}
 
 abbrev pub invariant-loop-number : goal.invariant-loop-number
 invariant-loop-number g l = record {
-  fits : l.shortest ≤ 18446744073709551615;
+  fits : l.shortest ≤ usize_max;
   rest : min l.shortest (shortest_len (drop l.number l.patterns)) ≡ shortest_len l.patterns;
 }

@@ -2,7 +2,7 @@ use Rattle.std.proofs.Common.{◌≡◌, [], ap, sym, subst, ◌∙◌, inl, inr
 use Rattle.std.proofs.lemmas.Bool.{cases_lt, false≢true}
 use Rattle.ac_automaton.specs.Util.{input_of, search_in, Span}
 use Rattle.ac_util.specs.declared.search.Anchored.{Anchored}
-use Rattle.ac_automaton.specs.Prelude.{in_memory, place_by, Reached, Scan, scan_by}
+use Rattle.ac_automaton.specs.Prelude.{in_memory, place_by, Reached, Scan, scan_of}
 use Rattle.ac_automaton.proofs.ListLoop.{arrived}
 use Rattle.ac_automaton.proofs.Overlapping.{GoesOnFrom, by_state-served, gives-moved, goes_on-there, past_end-gives}
 use Rattle.ac_automaton.proofs.automaton.overlap.try_find_overlapping.Given.{Over}
@@ -15,9 +15,8 @@ returns-then-is_done g c = search (rules, by_state-served, past_end-gives)
 module _ (g : Over) (c : After-open-tape g) where
   abbrev s : Scan
   s =
-      let automaton = c.args.automaton.now in
-      scan_by (g.A.Automaton.stands automaton) (g.A.Automaton.listed automaton) (g.A.Automaton.built automaton)
-      g.A.Automaton.LOOKS (g.A.Automaton.filters automaton) (input_of c.args.input).anchored
+      scan_of g.A.Automaton.stands g.A.Automaton.listed g.A.Automaton.built g.A.Automaton.LOOKS g.A.Automaton.wants_prefilter
+      c.args.automaton.now (input_of c.args.input).anchored
 
   abbrev span : Span
   span = record { start = (input_of c.args.input).start; end = (input_of c.args.input).end }

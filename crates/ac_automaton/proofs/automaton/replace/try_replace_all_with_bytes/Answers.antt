@@ -1,10 +1,11 @@
-use Rattle.std.proofs.Common.{◌≡◌, ◌∙◌, ◌++◌, ℕ, [], List, ap, refl, sym, subst, length, of_calls, rules, arith}
+use Rattle.std.proofs.Common.{◌∙◌, ◌++◌, ℕ, [], List, ap, refl, sym, subst, length, of_calls, rules, arith}
 use Rattle.std.proofs.lemmas.Grind.{common_steps}
-use Rattle.ac_automaton.specs.Util.{input_of, exchanged, Occurrence, replace_refusal, StepsLead}
+use Rattle.ac_automaton.specs.Util.{input_of, exchanged, Occurrence}
 use Rattle.ac_util.proofs.Exchanges.{AreInOrder, exchanged-in_order}
 use Rattle.ac_automaton.proofs.Exchanging.{LeadsOn, leads-begin, leads-end, leads-end_refused, leads-out, leads-refused, leads-stop, leads-turn, slice_to_end, stops-by_memory, unrefused}
+use Rattle.ac_automaton.proofs.automaton.replace.try_replace_all_with_bytes.Given.{Over}
 use Rattle.ac_automaton.proofs.automaton.replace.try_replace_all_with_bytes.Goals as goal
-use Rattle.ac_automaton.proofs.automaton.replace.try_replace_all_with_bytes.Goals.{in-None, in-Some+in_ok-extend_from_slice+then-not-exchange}
+use Rattle.ac_automaton.proofs.automaton.replace.try_replace_all_with_bytes.Goals.{After-extend_from_slice-2, in-None, in-Some+in_ok-extend_from_slice+then-not-exchange}
 
 -- all matches are left
 pub loop-found-init : goal.loop-found-init
@@ -34,52 +35,39 @@ loop-found-preserved g c =
           c.if-not-exchange.false,
     )
 
+-- as far as the last match that was exchanged
+leads-there : (g : Over) (c : After-extend_from_slice-2 g) → LeadsOn g.F.FnMut (λ d. d.items) c.args.haystack.now
+    (exchanged (g.A.Automaton.built c.args.automaton.now) c.args.haystack.now) c.args.exchange c.args.destination.now c.match-next.place [] c.match-next.exchange c.match-next.destination
+leads-there g c =
+    elim c.match-next.branch [
+      | in-None w ↦ leads-out c.loop-found.invariant.4 w.in-None.ensures.steps.gives.0 w.place-is w.exchange-is
+          w.destination-is
+      | in-Some+in_ok-extend_from_slice+then-not-exchange w ↦ leads-out
+          (leads-stop w.in-Some.found c.next.new.self.rest c.loop-found.invariant.4 w.in-Some.ensures.steps.gives
+          w.start.result w.start-in-loop-found.result w.end-place.result w.start.ensures
+          w.start-in-loop-found.ensures w.end-place.ensures w.extend_from_slice.new.self
+          w.in_ok-extend_from_slice.ensures.items w.exchange.new.self w.exchange.new.arg4 w.exchange.result
+          (record { found = _; text = _; before = _; after = _; shows = (refl, refl, refl); called = w.exchange.ensures; leaves = refl })
+          w.if-not-exchange.true) refl w.place-is w.exchange-is w.destination-is
+    ]
+
 -- what follows the last match was refused
 pub returns-in_err-extend_from_slice-2 : goal.returns-in_err-extend_from_slice-2
 returns-in_err-extend_from_slice-2 g c =
-    let haystack = c.args.haystack.now in
-    let built = g.A.Automaton.built c.args.automaton.now in
-    let leads : LeadsOn g.F.FnMut (λ d. d.items) haystack (exchanged built haystack) c.args.exchange
-    c.args.destination.now c.match-next.place [] c.match-next.exchange c.match-next.destination =
-    elim c.match-next.branch [
-      | in-None w ↦ leads-out c.loop-found.invariant.4 w.in-None.ensures.steps.gives.0 w.place-is w.exchange-is
-          w.destination-is
-      | in-Some+in_ok-extend_from_slice+then-not-exchange w ↦ leads-out
-          (leads-stop w.in-Some.found c.next.new.self.rest c.loop-found.invariant.4 w.in-Some.ensures.steps.gives
-          w.start.result w.start-in-loop-found.result w.end-place.result w.start.ensures
-          w.start-in-loop-found.ensures w.end-place.ensures w.extend_from_slice.new.self
-          w.in_ok-extend_from_slice.ensures.items w.exchange.new.self w.exchange.new.arg4 w.exchange.result
-          (record { found = _; text = _; before = _; after = _; shows = (refl, refl, refl); called = w.exchange.ensures; leaves = refl })
-          w.if-not-exchange.true) refl w.place-is w.exchange-is w.destination-is
-    ] in
-    stops-by_memory (replace_refusal built)
-    (λ end. StepsLead g.F.FnMut (λ d. d.items) haystack (exchanged built haystack) c.args.exchange
-    c.args.destination.now end c.extend_from_slice-2.new.self)
-    (c.extend_from_slice-2.new.self ≡ c.args.destination.now)
-    c.from_residual-in_err-extend_from_slice-2.result c.from_residual-in_err-extend_from_slice-2.ensures.1
-    (unrefused built haystack (input_of c.new.result) c.new.ensures.value c.in_ok-matches.ensures.0)
-    (leads-end_refused c.extend_from_slice-2.new.self leads c.in_err-extend_from_slice-2.ensures.items)
+    let leads = leads-there g (goal.at.returns-in_err-extend_from_slice-2 g c).After-extend_from_slice-2 in
+    grind (
+      arith,
+      common_steps,
+      stops-by_memory,
+      unrefused (g.A.Automaton.built c.args.automaton.now) c.args.haystack.now (input_of c.new.result) c.new.ensures.value c.in_ok-matches.ensures.0,
+      leads-end_refused c.extend_from_slice-2.new.self leads c.in_err-extend_from_slice-2.ensures.items,
+    )
 
 -- what follows the last match was appended
 pub returns : goal.returns
-returns g c =
-    let haystack = c.args.haystack.now in
-    let built = g.A.Automaton.built c.args.automaton.now in
-    let leads : LeadsOn g.F.FnMut (λ d. d.items) haystack (exchanged built haystack) c.args.exchange
-    c.args.destination.now c.match-next.place [] c.match-next.exchange c.match-next.destination =
-    elim c.match-next.branch [
-      | in-None w ↦ leads-out c.loop-found.invariant.4 w.in-None.ensures.steps.gives.0 w.place-is w.exchange-is
-          w.destination-is
-      | in-Some+in_ok-extend_from_slice+then-not-exchange w ↦ leads-out
-          (leads-stop w.in-Some.found c.next.new.self.rest c.loop-found.invariant.4 w.in-Some.ensures.steps.gives
-          w.start.result w.start-in-loop-found.result w.end-place.result w.start.ensures
-          w.start-in-loop-found.ensures w.end-place.ensures w.extend_from_slice.new.self
-          w.in_ok-extend_from_slice.ensures.items w.exchange.new.self w.exchange.new.arg4 w.exchange.result
-          (record { found = _; text = _; before = _; after = _; shows = (refl, refl, refl); called = w.exchange.ensures; leaves = refl })
-          w.if-not-exchange.true) refl w.place-is w.exchange-is w.destination-is
-    ] in (
-      unrefused built haystack (input_of c.new.result) c.new.ensures.value c.in_ok-matches.ensures.0,
-      leads-end c.extend_from_slice-2.new.self leads (c.in_ok-extend_from_slice-2.ensures.items
-          ∙ ap (λ (rest : List ℕ). c.match-next.destination.items ++ rest)
-          (slice_to_end haystack c.match-next.place)),
-    )
+returns g c = (
+  unrefused (g.A.Automaton.built c.args.automaton.now) c.args.haystack.now _ c.new.ensures.value c.in_ok-matches.ensures.0,
+  leads-end c.extend_from_slice-2.new.self (leads-there g (goal.at.returns g c).After-extend_from_slice-2)
+      (c.in_ok-extend_from_slice-2.ensures.items
+      ∙ ap (λ (rest : List ℕ). c.match-next.destination.items ++ rest) (slice_to_end c.args.haystack.now c.match-next.place)),
+)

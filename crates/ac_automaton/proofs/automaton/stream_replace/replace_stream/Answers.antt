@@ -3,6 +3,8 @@ use Rattle.ac_automaton.specs.Streams.{FillsMore, MeetsEnd}
 use Rattle.ac_automaton.proofs.Places.{match-by, refused-by}
 use Rattle.ac_automaton.proofs.StreamExchanging.{begins, ends-there, fails-at-last, fails-exchanging, fails-reading, fills, goes-on, replaces}
 use Rattle.ac_automaton.proofs.StreamFilling.{settled-begun}
+use Rattle.ac_automaton.proofs.automaton.stream_replace.replace_stream.Given.{Over}
+use Rattle.ac_automaton.proofs.automaton.stream_replace.replace_stream.Goals.{After-exchange_read}
 use Rattle.ac_automaton.proofs.automaton.stream_replace.replace_stream.Goals as goal
 
 pub loop-finder-init : goal.loop-finder-init
@@ -18,18 +20,21 @@ returns-in_err-fill g c =
           inv.settled inv.near c.in_err-fill.field-0.0 c.in_err-fill.ensures,
     ))
 
+-- more was read
+filled : (g : Over) (c : After-exchange_read g) → FillsMore c.loop-finder.finder c.fill.new.self
+    (g.R.Source.told c.loop-finder.reader) (g.R.Source.told c.fill.new.reader)
+filled g c =
+    let told = g.R.Source.told in
+    subst (λ (more : Bool). MatchBool more
+    (FillsMore c.loop-finder.finder c.fill.new.self (told c.loop-finder.reader) (told c.fill.new.reader))
+    (MeetsEnd g.R.Source.empty_means_end c.loop-finder.finder c.fill.new.self (told c.loop-finder.reader)
+    (told c.fill.new.reader))) c.if-branch.true c.in_ok-fill.ensures
+
 pub loop-finder-preserved : goal.loop-finder-preserved
 loop-finder-preserved g c =
-    let told = g.R.Source.told in
     let inv = c.loop-finder.invariant in
-    let v = c.loop-finder.finder in
-    let filled : FillsMore v c.fill.new.self (told c.loop-finder.reader) (told c.fill.new.reader) =
-    subst (λ (more : Bool). MatchBool more
-    (FillsMore v c.fill.new.self (told c.loop-finder.reader) (told c.fill.new.reader))
-    (MeetsEnd g.R.Source.empty_means_end v c.fill.new.self (told c.loop-finder.reader) (told c.fill.new.reader)))
-    c.if-branch.true c.in_ok-fill.ensures in
     let done = c.in_ok-exchange_read.ensures.exchanged in
-    let on = fills g.W.Sink.told g.E.Exchange.calls g.R.Source.empty_means_end _ _ _ inv.on inv.within filled in
+    let on = fills g.W.Sink.told g.E.Exchange.calls g.R.Source.empty_means_end _ _ _ inv.on inv.within (filled g (goal.at.loop-finder-preserved g c).After-exchange_read) in
     record {
       accepted = λ m accepts. c.exchange_read.ensures.accepted m (inv.accepted m accepts);
       on = goes-on g.W.Sink.told g.E.Exchange.calls g.R.Source.empty_means_end _ _ _ on done;
@@ -40,15 +45,8 @@ loop-finder-preserved g c =
 
 pub returns-in_err-exchange_read : goal.returns-in_err-exchange_read
 returns-in_err-exchange_read g c =
-    let told = g.R.Source.told in
     let inv = c.loop-finder.invariant in
-    let v = c.loop-finder.finder in
-    let filled : FillsMore v c.fill.new.self (told c.loop-finder.reader) (told c.fill.new.reader) =
-    subst (λ (more : Bool). MatchBool more
-    (FillsMore v c.fill.new.self (told c.loop-finder.reader) (told c.fill.new.reader))
-    (MeetsEnd g.R.Source.empty_means_end v c.fill.new.self (told c.loop-finder.reader) (told c.fill.new.reader)))
-    c.if-branch.true c.in_ok-fill.ensures in
-    let on = fills g.W.Sink.told g.E.Exchange.calls g.R.Source.empty_means_end _ _ _ inv.on inv.within filled in
+    let on = fills g.W.Sink.told g.E.Exchange.calls g.R.Source.empty_means_end _ _ _ inv.on inv.within (filled g (goal.at.returns-in_err-exchange_read g c).After-exchange_read) in
     refused-by c.from_residual-in_err-exchange_read.result c.in_err-exchange_read.field-0.0 _ _
     c.from_residual-in_err-exchange_read.ensures.1
     (inr (

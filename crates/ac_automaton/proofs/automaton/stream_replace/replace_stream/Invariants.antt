@@ -1,5 +1,5 @@
 use Rattle.std.proofs.Common.{◌-◌, ◌≤◌, length}
-use Rattle.ac_automaton.specs.Util.{IsNear, Occurrence}
+use Rattle.ac_automaton.specs.Util.{IsNear, Occurrence, usize_max}
 use Rattle.ac_automaton.specs.Streams.{IsSettledIn}
 use Rattle.ac_automaton.proofs.StreamExchanging.{IsReplacing}
 use Rattle.ac_automaton.proofs.automaton.stream_replace.replace_stream.Given as goal
@@ -18,4 +18,4 @@ invariant-loop-finder g l =
     }
 
 abbrev pub decreases-loop-finder : goal.decreases-loop-finder
-decreases-loop-finder g l = 18446744073709551615 - length l.finder.bytes
+decreases-loop-finder g l = usize_max - length l.finder.bytes

@@ -5,7 +5,7 @@ use Rattle.ac_automaton.proofs.automaton.walk.next_left.Goals as goal
 
 -- a match that repeats lies in the span, so there is a place after it
 pub overflow_add-further : goal.overflow_add-further
-overflow_add-further g c = grind (arith, common_steps, repeated c.args.last c.find_left-first.ensures.found c.requires.behind (sym c.repeats.ensures ∙ c.if-not-repeats.false))
+overflow_add-further g c = grind (arith, common_steps, repeated c.args.last c.find_left-first.ensures.found c.requires.beyond (sym c.repeats.ensures ∙ c.if-not-repeats.false))
 
 pub find_left-requires-clause-legal : goal.find_left-requires-clause-legal
-find_left-requires-clause-legal g c = grind (arith, common_steps, repeated c.args.last c.find_left-first.ensures.found c.requires.behind (sym c.repeats.ensures ∙ c.if-not-repeats.false))
+find_left-requires-clause-legal g c = grind (arith, common_steps, repeated c.args.last c.find_left-first.ensures.found c.requires.beyond (sym c.repeats.ensures ∙ c.if-not-repeats.false))

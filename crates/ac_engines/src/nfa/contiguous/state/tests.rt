@@ -1,7 +1,7 @@
 //! States that are read from words written by hand.
 ghost use Rattle.std.specs.Prelude.{◌≢◌, []};
 ghost use Rattle.ac_engines.specs.declared.nfa.contiguous.format.Format.{Format};
-ghost use Rattle.ac_engines.specs.Contiguous.Words.{BeginsWith, Spelling};
+ghost use Rattle.ac_engines.specs.Contiguous.Words.{BeginsWith, PackedState};
 
 use super::*;
 use std::test::Fail;
@@ -22,7 +22,7 @@ const BARE: [u32; 3] = [0, 40, 0x80000000];
 
 /// Returns whether a state has a failure target of 40 and these transitions in this order.
 fn leads(words: &[u32], classes: usize, edges: &[(u8, u32)]) -> bool
-    requires { (format : Format) × (s : Spelling) × BeginsWith words.now format classes s }
+    requires { (format : Format) × (s : PackedState) × BeginsWith words.now format classes s }
 {
     let state = State::at(words, 0);
     let transitions = state
@@ -33,7 +33,7 @@ fn leads(words: &[u32], classes: usize, edges: &[(u8, u32)]) -> bool
 
 /// Returns whether a state has these matches in this order.
 fn lists(words: &[u32], classes: usize, matches: &[u32]) -> bool
-    requires { (format : Format) × (s : Spelling) × BeginsWith words.now format classes s × (s.matches ≢ []) }
+    requires { (format : Format) × (s : PackedState) × BeginsWith words.now format classes s × (s.matches ≢ []) }
 {
     let state = State::at(words, 0);
     if state.match_len(classes) != matches.len() {

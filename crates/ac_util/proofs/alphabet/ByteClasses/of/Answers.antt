@@ -23,4 +23,4 @@ pub returns : goal.returns
 returns g c = search (rules, classes_of-from_each)
 
 pub invariant_of-result : goal.invariant_of-result
-invariant_of-result g c = search (rules, classes_of-from_each, classes_of-AreClasses c.args.fold c.args.patterns.now)
+invariant_of-result g c = search (rules, classes_of-from_each, classes_of-AreClasses c.args.ignores_case c.args.patterns.now)

@@ -6,6 +6,6 @@ use Rattle.ac_util.proofs.alphabet.ByteClasses.of.Given as goal
 abbrev pub invariant-loop-byte : goal.invariant-loop-byte
 invariant-loop-byte g l = record {
   whole : length l.classes ≡ 256;
-  last : l.class ≡ class_of l.fold l.patterns l.byte;
-  each : (b : ℕ) → b < l.byte + 1 → get_or l.classes b 0 ≡ class_of l.fold l.patterns b;
+  last : l.class ≡ class_of l.ignores_case l.patterns l.byte;
+  each : (b : ℕ) → b < l.byte + 1 → get_or l.classes b 0 ≡ class_of l.ignores_case l.patterns b;
 }

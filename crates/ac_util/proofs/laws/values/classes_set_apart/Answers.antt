@@ -9,4 +9,4 @@ pub returns-clause-singletons : goal.returns-clause-singletons
 returns-clause-singletons c = singletons-set_apart
 
 pub returns-clause-nodes : goal.returns-clause-nodes
-returns-clause-nodes c = λ fold kind patterns u b node. stands-from_node fold patterns kind u b node
+returns-clause-nodes c = λ ignores_case kind patterns u b node. stands-from_node ignores_case patterns kind u b node

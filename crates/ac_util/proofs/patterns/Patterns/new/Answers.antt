@@ -1,8 +1,7 @@
-use Rattle.std.proofs.Common.{◌≡◌, ◌<◌, ◌++◌, ◌∷◌, [], List, ℕ, length, map, take, get_or, ap, sym, ◌∙◌, arith}
+use Rattle.std.proofs.Common.{◌<◌, ◌++◌, ◌∷◌, [], List, ℕ, length, map, take, ap, sym, ◌∙◌, get_or, arith}
 use Rattle.std.specs.Borrow.{Bor}
 use Rattle.std.proofs.lemmas.List.{length-map, get_or-map, take_more}
 use Rattle.std.proofs.lemmas.Grind.{common_steps}
-use Rattle.ac_util.proofs.PiecesLemmas.{one_more_piece}
 use Rattle.ac_util.proofs.LimitLemmas.{limits-from_refusal, not_refused}
 use Rattle.ac_util.proofs.patterns.Patterns.new.Goals as goal
 
@@ -14,20 +13,9 @@ loop-pattern-preserved g c =
     let none : Bor (List ℕ) = record { ref_ptr = (0, 0); now = [] } in
     let within : index < length all = simp length-map (omega arith) in
     let same = get_or-map (λ (p : Bor (List ℕ)). p.now) c.args.patterns.now index none [] (omega arith) in
-    let last : c.len.result ≡ length c.extend_from_slice.new.self.items =
-    omega (arith, c.len.ensures, c.extend_from_slice.new.self.ok) in
-    let more =
-    one_more_piece c.loop-pattern.bytes.items c.loop-pattern.bounds.items
-    (get_or c.args.patterns.now index none).now
-    c.extend_from_slice.new.self.items c.push-in-loop-pattern.new.self.items c.len.result
-    c.loop-pattern.invariant.bounds c.in_ok-extend_from_slice.ensures.items last c.in_ok-push-2.ensures.items in
-    record {
-      bounds = more.0;
-      copied =
-          more.1 ∙ ap (λ (ps : List (List ℕ)). ps ++ (get_or c.args.patterns.now index none).now ∷ [])
-          c.loop-pattern.invariant.copied
-          ∙ sym (take_more all index [] within ∙ ap (λ (p : List ℕ). take index all ++ p ∷ []) same);
-    }
+    c.in_ok-push.ensures
+    ∙ ap (λ (ps : List (List ℕ)). ps ++ (get_or c.args.patterns.now index none).now ∷ []) c.loop-pattern.invariant
+    ∙ sym (take_more all index [] within ∙ ap (λ (p : List ℕ). take index all ++ p ∷ []) same)
 
 -- all were copied, and no limit is passed
 pub invariant_of-result : goal.invariant_of-result

@@ -8,5 +8,5 @@ abbrev pub invariant-loop-byte : goal.invariant-loop-byte
 invariant-loop-byte l = record {
   whole : length l.bytes ≡ 3;
   few : l.count ≤ 3;
-  noted : take l.count l.bytes ≡ filter (is_marked l.fold l.marks) (range_with_len 0 l.byte);
+  noted : take l.count l.bytes ≡ filter (is_marked l.ignores_case l.marks) (range_with_len 0 l.byte);
 }

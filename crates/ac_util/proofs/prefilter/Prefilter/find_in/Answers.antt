@@ -10,7 +10,7 @@ returns-then-span-clause-tells g c = search (rules, tells-nothing)
 -- of what is told by first bytes
 pub returns-in-Bytes-clause-promises : goal.returns-in-Bytes-clause-promises
 returns-in-Bytes-clause-promises g c =
-    λ fold patterns ok. promised (skip_of c.args.self.now) fold patterns c.args.haystack.now c.args.span.start
+    λ ignores_case patterns ok. promised (skip_of c.args.self.now) ignores_case patterns c.args.haystack.now c.args.span.start
     c.args.span.end c.find_in.result
     (subst (λ p. Tells (skip_of p) c.args.haystack.now c.args.span.start c.args.span.end c.find_in.result)
     (sym c.in-Bytes.is) c.find_in.ensures) ok
@@ -18,7 +18,7 @@ returns-in-Bytes-clause-promises g c =
 -- of what is told by a needle
 pub returns-in-Needle-clause-promises : goal.returns-in-Needle-clause-promises
 returns-in-Needle-clause-promises g c =
-    λ fold patterns ok. promised (skip_of c.args.self.now) fold patterns c.args.haystack.now c.args.span.start
+    λ ignores_case patterns ok. promised (skip_of c.args.self.now) ignores_case patterns c.args.haystack.now c.args.span.start
     c.args.span.end c.find_in-in-Needle.result
     (subst (λ p. Tells (skip_of p) c.args.haystack.now c.args.span.start c.args.span.end c.find_in-in-Needle.result)
     (sym c.in-Needle.is) c.find_in-in-Needle.ensures) ok

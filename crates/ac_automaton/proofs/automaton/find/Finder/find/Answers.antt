@@ -2,7 +2,7 @@ use Rattle.std.proofs.Common.{◌≡◌, ℕ, List, refl, subst, sym, arith, Opt
 use Rattle.std.specs.Borrow.{Bor}
 use Rattle.std.proofs.lemmas.Grind.{common_steps}
 use Rattle.ac_automaton.specs.Util.{Counts, No, Prefilter, skip_of, Taped}
-use Rattle.ac_automaton.specs.Prelude.{Cursor, Finding, HasSearched, in_memory, picking_by, Scan, scan_by, ScansTo, ScanText, search_of, search_through, Skips, work_of}
+use Rattle.ac_automaton.specs.Prelude.{Cursor, Finding, HasSearched, in_memory, picking_by, Scan, scan_of, ScansTo, ScanText, search_of, search_through, Skips, work_of}
 use Rattle.ac_automaton.specs.Finds.{IsReady}
 use Rattle.ac_automaton.proofs.FindLoop.{picked-start, searched-nothing}
 use Rattle.ac_automaton.proofs.FindSkipping.{ready-passed, skip-some}
@@ -27,9 +27,8 @@ skip_on-requires-clause-alive g c =
 module _ (g : Over) (c : Joined-self g) where
   abbrev s : Scan
   s =
-      let f = c.self.inside in
-      scan_by (g.A.Automaton.stands f.automaton.now) (g.A.Automaton.listed f.automaton.now)
-      (g.A.Automaton.built f.automaton.now) g.A.Automaton.LOOKS (g.A.Automaton.filters f.automaton.now) f.anchored
+      scan_of g.A.Automaton.stands g.A.Automaton.listed g.A.Automaton.built g.A.Automaton.LOOKS g.A.Automaton.wants_prefilter
+      c.self.inside.automaton.now c.self.inside.anchored
 
   abbrev t : ScanText
   t = in_memory c.args.tape.now.bytes c.args.span
@@ -61,9 +60,9 @@ module _ (g : Over) (c : Joined-self g) where
   may : MayFind c.match-self.cursor c.match-self.tape c.match-self.looks
   may = elim c.match-self.branch [
     | in-Some+in-Bytes w ↦
-        let skips : (c.self.inside.anchored ≡ No) × Skips s.filters s.built (skip_of w.in-Some.prefilter.now) =
+        let skips : (c.self.inside.anchored ≡ No) × Skips s.wants_prefilter s.built (skip_of w.in-Some.prefilter.now) =
         subst (λ (o : Option (Bor (Prefilter g.row.A-Memory.Denot))). IfSome o (λ p. (c.self.inside.anchored ≡ No)
-        × Skips s.filters s.built (skip_of p.now))) w.in-Some.is c.self.invariant.skips in
+        × Skips s.wants_prefilter s.built (skip_of p.now))) w.in-Some.is c.self.invariant.skips in
         let within = c.requires.end_within in
         let ordered = c.if-span.false in
         let passed = w.skip_on.ensures.reads t refl
@@ -71,7 +70,7 @@ module _ (g : Over) (c : Joined-self g) where
         may-as w.cursor-is w.tape-is w.looks-is (record {
           same = w.skip_on.ensures.bytes;
           ready = ready-passed s c.self.inside.stops c.args.tape.now.bytes c.args.span skips.0
-              (skip-some s.filters s.built.fold s.built.patterns _ skips.1.built_so) c.self.invariant.leftmost passed;
+              (skip-some s.wants_prefilter s.built.ignores_case s.built.patterns _ skips.1.built_so) c.self.invariant.leftmost passed;
           scans = passed.scans;
         })
     | in_default-2 w ↦ may-as w.cursor-is w.tape-is w.looks-is starts

@@ -1,6 +1,6 @@
 use Rattle.std.proofs.Common.{◌≡◌, ap, sym, subst, ◌∙◌, List, ℕ, Option, Some, arith}
 use Rattle.std.proofs.lemmas.Grind.{common_steps}
-use Rattle.ac_automaton.specs.Prelude.{in_memory, IsListing, ListsNext, Overlapping, overlapping_by, Reached, Scan, scan_by, ScanText, work_of}
+use Rattle.ac_automaton.specs.Prelude.{in_memory, IsListing, ListsNext, Overlapping, overlapping_by, Reached, Scan, scan_of, work_of}
 use Rattle.ac_automaton.proofs.Overlapping.{lists-next, lists-past_end, listing-goes_on}
 use Rattle.ac_automaton.proofs.automaton.overlap_iter.FindOverlappingIter.advance.Given.{Over}
 use Rattle.ac_automaton.proofs.automaton.overlap_iter.FindOverlappingIter.advance.Goals.{After-self}
@@ -10,22 +10,17 @@ use Rattle.ac_automaton.proofs.automaton.overlap_iter.FindOverlappingIter.advanc
 module _ (g : Over) (c : After-self g) where
   abbrev s : Scan
   s =
-      let scanner = c.self.inside.scanner in
-      scan_by (g.A.Automaton.stands scanner.automaton.now) (g.A.Automaton.listed scanner.automaton.now)
-      (g.A.Automaton.built scanner.automaton.now) g.A.Automaton.LOOKS (g.A.Automaton.filters scanner.automaton.now)
-      scanner.anchored
-
-  abbrev t : ScanText
-  t = in_memory c.self.inside.tape.bytes c.self.inside.scanner.span
+      scan_of g.A.Automaton.stands g.A.Automaton.listed g.A.Automaton.built g.A.Automaton.LOOKS g.A.Automaton.wants_prefilter
+      c.self.inside.scanner.automaton.now c.self.inside.scanner.anchored
 
   abbrev seen : Option Reached → Overlapping
-  seen reached = overlapping_by s t reached (work_of c.self.inside.tape c.self.inside.looks)
+  seen reached = overlapping_by s (in_memory c.self.inside.tape.bytes c.self.inside.scanner.span) reached (work_of c.self.inside.tape c.self.inside.looks)
 
   -- it goes on from where it has come to
   way : {reached : Option Reached} → c.self.inside.reached ≡ reached
-      → IsListing s t reached (work_of c.self.inside.tape c.self.inside.looks)
+      → IsListing s (in_memory c.self.inside.tape.bytes c.self.inside.scanner.span) reached (work_of c.self.inside.tape c.self.inside.looks)
   way is =
-      subst (λ (r : Option Reached). IsListing s t r (work_of c.self.inside.tape c.self.inside.looks)) is
+      subst (λ (r : Option Reached). IsListing s (in_memory c.self.inside.tape.bytes c.self.inside.scanner.span) r (work_of c.self.inside.tape c.self.inside.looks)) is
       c.self.invariant.listing
 
 pub returns-in_err-reached : goal.returns-in_err-reached
@@ -53,7 +48,7 @@ returns g c =
     subst (λ (bs : List ℕ). ListsNext c.args.self.now next.result
     (overlapping_by (s g d) (in_memory bs inside.scanner.span) (Some next.new.reached)
     (work_of next.new.tape next.new.looks))) (sym next.ensures.bytes)
-    (subst (λ (w : Overlapping). ListsNext w next.result (overlapping_by (s g d) (t g d) (Some next.new.reached)
+    (subst (λ (w : Overlapping). ListsNext w next.result (overlapping_by (s g d) (in_memory inside.tape.bytes inside.scanner.span) (Some next.new.reached)
     (work_of next.new.tape next.new.looks)))
     (ap (seen g d) (sym c.in_ok-reached.was) ∙ c.self.view_is)
     (lists-next (s g d) inside.tape.bytes inside.scanner.span c.in_ok-reached.reached next.new.reached

@@ -1,7 +1,7 @@
 use Rattle.std.proofs.Common.{◌≡◌, ℕ, ◌≤◌, List, false, ap, refl, sym, subst, ◌∙◌, Option, Some, rules, arith}
 use Rattle.std.proofs.lemmas.Grind.{common_steps}
 use Rattle.ac_automaton.specs.Util.{input_of, No, Node, Span}
-use Rattle.ac_automaton.specs.Prelude.{given_by, in_memory, IsListing, Lists, nothing_done, Reached, Scan, scan_by, search_through}
+use Rattle.ac_automaton.specs.Prelude.{given_by, in_memory, IsListing, Lists, nothing_done, Reached, Scan, scan_of, search_through}
 use Rattle.ac_automaton.proofs.ListLoop.{arrived}
 use Rattle.ac_automaton.proofs.Overlapping.{goes_on-start, iterator-served, listing-starts}
 use Rattle.ac_automaton.proofs.automaton.overlap_iter.FindOverlappingIter.new.Given.{Over}
@@ -11,9 +11,8 @@ use Rattle.ac_automaton.proofs.automaton.overlap_iter.FindOverlappingIter.new.Go
 module _ (g : Over) (c : After-open-tape g) where
   abbrev s : Scan
   s =
-      let automaton = c.args.automaton.now in
-      scan_by (g.A.Automaton.stands automaton) (g.A.Automaton.listed automaton) (g.A.Automaton.built automaton)
-      g.A.Automaton.LOOKS (g.A.Automaton.filters automaton) c.get_anchored-anchored.result
+      scan_of g.A.Automaton.stands g.A.Automaton.listed g.A.Automaton.built g.A.Automaton.LOOKS g.A.Automaton.wants_prefilter
+      c.args.automaton.now c.get_anchored-anchored.result
 
   abbrev span : Span
   span = record { start = (input_of c.args.input).start; end = (input_of c.args.input).end }

@@ -1,7 +1,7 @@
 use Rattle.std.proofs.Common.{◌≡◌, false, refl, sym, ◌∙◌, rules, arith}
 use Rattle.std.proofs.lemmas.Grind.{common_steps}
 use Rattle.ac_util.proofs.SearchLoop.{SearchGoesOn}
-use Rattle.ac_automaton.specs.Prelude.{FitsIn, in_memory, IsAlive, node, Scan, scan_by, Scanner, ScanText}
+use Rattle.ac_automaton.specs.Prelude.{FitsIn, in_memory, IsAlive, node, Scan, scan_of, Scanner, ScanText}
 use Rattle.ac_automaton.proofs.FindAhead.{IsUnanswered, answer-there, decided-there, ends-there, picked-none, picked-some}
 use Rattle.ac_automaton.proofs.FindLoop.{goes_on-by, goes_on-none, order, searched}
 use Rattle.ac_automaton.proofs.ReadOn.{node-fits, scans-on}
@@ -11,8 +11,8 @@ use Rattle.ac_automaton.proofs.automaton.scan.Scanner.find_on.Goals as goal
 
 abbrev scan : (g : Over) → Scanner g.row.A.Denot g.row.A-Memory.Denot → Scan
 scan g self =
-    scan_by (g.A.Automaton.stands self.automaton.now) (g.A.Automaton.listed self.automaton.now)
-    (g.A.Automaton.built self.automaton.now) g.A.Automaton.LOOKS (g.A.Automaton.filters self.automaton.now) self.anchored
+    scan_of g.A.Automaton.stands g.A.Automaton.listed g.A.Automaton.built g.A.Automaton.LOOKS g.A.Automaton.wants_prefilter
+    self.automaton.now self.anchored
 
 -- the node where it begins fits into what was read
 fits : (g : Over) (c : Start g) → FitsIn c.args.self.now.anchored

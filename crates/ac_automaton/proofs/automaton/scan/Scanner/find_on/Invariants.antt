@@ -1,16 +1,14 @@
 use Rattle.std.proofs.Common.{◌≡◌, ◌-◌, ◌≤◌, IfSome}
 use Rattle.ac_automaton.specs.Util.{pick, Standard}
-use Rattle.ac_automaton.specs.Prelude.{in_memory, IsAt, Scan, scan_by, ScansTo, ScanText, Work, work_of}
+use Rattle.ac_automaton.specs.Prelude.{in_memory, IsAt, Scan, scan_of, ScansTo, ScanText, Work, work_of}
 use Rattle.ac_automaton.proofs.FindLoop.{order, up_to}
 use Rattle.ac_automaton.proofs.automaton.scan.Scanner.find_on.Given as goal
 
 -- the scan has come to the cursor, and what was picked so far is in hand: under Standard it ends there
 abbrev pub invariant-loop-state : goal.invariant-loop-state
 invariant-loop-state g l =
-    let A = g.A.Automaton in
-    let s : Scan =
-    scan_by (A.stands l.self.automaton.now) (A.listed l.self.automaton.now) (A.built l.self.automaton.now) A.LOOKS
-    (A.filters l.self.automaton.now) l.self.anchored in
+    let s : Scan = scan_of g.A.Automaton.stands g.A.Automaton.listed g.A.Automaton.built g.A.Automaton.LOOKS g.A.Automaton.wants_prefilter
+    l.self.automaton.now l.self.anchored in
     let t : ScanText = in_memory l.fn.tape.bytes l.self.span in record {
       bytes : l.tape.bytes ≡ l.fn.tape.bytes;
       unread : l.tape.place ≤ l.at;

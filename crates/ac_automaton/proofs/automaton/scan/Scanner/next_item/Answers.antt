@@ -1,7 +1,7 @@
 use Rattle.std.proofs.Common.{◌≡◌, ◌≢◌, ◌⊎◌, ◌<◌, ◌≤◌, [], ap, sym, subst, ◌∙◌, inl, inr, arith, Option, None, rules}
 use Rattle.std.proofs.lemmas.Bool.{false≢true}
 use Rattle.ac_automaton.specs.Util.{Counts, Occurrence, Taped}
-use Rattle.ac_automaton.specs.Prelude.{Cursor, due_in, given_in, HasMoved, in_memory, IsAlive, node, PassesNoMatch, Reached, Scan, scan_by, ScansTo, ScanText, search_through, work_of}
+use Rattle.ac_automaton.specs.Prelude.{Cursor, due_in, given_in, HasMoved, in_memory, IsAlive, node, PassesNoMatch, Reached, Scan, scan_of, ScansTo, ScanText, search_through, work_of}
 use Rattle.ac_automaton.specs.Overlaps.{HasGivenItem}
 use Rattle.ac_automaton.proofs.ListLoop.{HasComeOn, come-on, has-moved}
 use Rattle.ac_automaton.proofs.ReadOn.{scans-on}
@@ -14,9 +14,8 @@ use Rattle.ac_automaton.proofs.automaton.scan.Scanner.next_item.Goals as goal
 module _ (g : Over) (c : After-take_due g) where
   abbrev s : Scan
   s =
-      let automaton = c.args.self.now.automaton.now in
-      scan_by (g.A.Automaton.stands automaton) (g.A.Automaton.listed automaton) (g.A.Automaton.built automaton)
-      g.A.Automaton.LOOKS (g.A.Automaton.filters automaton) c.args.self.now.anchored
+      scan_of g.A.Automaton.stands g.A.Automaton.listed g.A.Automaton.built g.A.Automaton.LOOKS g.A.Automaton.wants_prefilter
+      c.args.self.now.automaton.now c.args.self.now.anchored
 
   abbrev t : ScanText
   t = in_memory c.args.tape.now.bytes c.args.self.now.span
@@ -75,26 +74,22 @@ read_ahead-ahead-requires-clause-alive g c = search (rules, alive, false≢true)
 module _ (g : Over) (c : After-new g) where
   abbrev scan : Scan
   scan =
-      let automaton = c.args.self.now.automaton.now in
-      scan_by (g.A.Automaton.stands automaton) (g.A.Automaton.listed automaton) (g.A.Automaton.built automaton)
-      g.A.Automaton.LOOKS (g.A.Automaton.filters automaton) c.args.self.now.anchored
-
-  abbrev text : ScanText
-  text = in_memory c.args.tape.now.bytes c.args.self.now.span
+      scan_of g.A.Automaton.stands g.A.Automaton.listed g.A.Automaton.built g.A.Automaton.LOOKS g.A.Automaton.wants_prefilter
+      c.args.self.now.automaton.now c.args.self.now.anchored
 
   -- what is known of where it has come to
   record Came (cursor : Cursor) (tape : Taped) (counts : Counts) : Type 0 where
     same : tape.bytes ≡ c.loop-found.tape.bytes
     moved : c.take_due.new.reached.at < cursor.at
     within : cursor.at ≤ c.args.self.now.span.end
-    passed : PassesNoMatch scan text c.take_due.new.reached.at (work_of c.loop-found.tape c.loop-found.looks) cursor
+    passed : PassesNoMatch scan (in_memory c.args.tape.now.bytes c.args.self.now.span) c.take_due.new.reached.at (work_of c.loop-found.tape c.loop-found.looks) cursor
         (work_of tape counts)
 
   came-as : {cursor joined : Cursor} {tape new_tape : Taped} {counts new_counts : Counts} → joined ≡ cursor
       → new_tape ≡ tape → new_counts ≡ counts → Came cursor tape counts → Came joined new_tape new_counts
   came-as {cursor} {joined} {tape} {new_tape} {counts} {new_counts} there taped counted came = search rules
 
-  came : IsAlive scan text (record { state = c.take_due.new.reached.state; at = c.take_due.new.reached.at })
+  came : IsAlive scan (in_memory c.args.tape.now.bytes c.args.self.now.span) (record { state = c.take_due.new.reached.state; at = c.take_due.new.reached.at })
       → Came c.match-prefilter.ahead c.match-prefilter.tape c.match-prefilter.looks
   came alive = elim c.match-prefilter.branch [
     | in-Some-prefilter w ↦
@@ -103,7 +98,7 @@ module _ (g : Over) (c : After-new g) where
           same = ahead.bytes;
           moved = ahead.moved;
           within = ahead.within;
-          passed = ahead.reads text (sym c.loop-found.invariant.bytes) alive;
+          passed = ahead.reads _ (sym c.loop-found.invariant.bytes) alive;
         })
     | in_default-prefilter w ↦
         let ahead = w.read_ahead-ahead.ensures in
@@ -111,7 +106,7 @@ module _ (g : Over) (c : After-new g) where
           same = ahead.bytes;
           moved = ahead.moved c.if-here-self.false;
           within = ahead.within;
-          passed = ahead.reads text (sym c.loop-found.invariant.bytes) alive;
+          passed = ahead.reads _ (sym c.loop-found.invariant.bytes) alive;
         })
   ]
 
@@ -120,12 +115,10 @@ pub loop-found-preserved : goal.loop-found-preserved
 loop-found-preserved g c =
     let d = (goal.at.loop-found-preserved g c).After-take_due in
     let inv = c.loop-found.invariant in
-    let bytes = c.args.tape.now.bytes in
-    let span = c.args.self.now.span in
     let stayed = stayed g d c.in_default.is in
     let came = came g c (alive g d c.in_default.is
     (λ u there dead. false≢true (sym c.if-is_dead.false ∙ (c.is_dead.ensures c.args.self.now.anchored u there).1 dead))) in
-    let on = come-on (s g d) bytes span c.requires.listed.standard c.requires.listed.inside (gave g d).leaves
+    let on = come-on (s g d) _ _ c.requires.listed.standard c.requires.listed.inside (gave g d).leaves
     (ap (due_in (s g d).listed (search_through (s g d) (t g d))) stayed.1 ∙ stayed.0) came.passed came.within came.moved
     (g.met.A.Automaton.lists c.args.self.now.automaton.now c.args.self.now.anchored c.match-prefilter.ahead.state _
     came.passed.is_at.there) in
@@ -134,7 +127,7 @@ loop-found-preserved g c =
     (work_of c.match-prefilter.tape c.match-prefilter.looks) in
     record {
       bytes = came.same ∙ inv.bytes;
-      on = subst (HasComeOn (s g d) bytes span c.args.reached.now) (sym c.new.ensures) (record {
+      on = subst (HasComeOn (s g d) c.args.tape.now.bytes c.args.self.now.span c.args.reached.now) (sym c.new.ensures) (record {
         leaves = on.leaves;
         as_many = on.as_many
             ∙ ap (given_in (s g d).listed (search_through (s g d) (t g d))) stayed.1 ∙ inv.on.as_many;

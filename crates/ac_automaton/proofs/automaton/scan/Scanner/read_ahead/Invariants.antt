@@ -1,15 +1,13 @@
 use Rattle.std.proofs.Common.{◌≡◌, ◌≤◌}
-use Rattle.ac_automaton.specs.Prelude.{IsAlive, Scan, scan_by, ScanText, work_of}
+use Rattle.ac_automaton.specs.Prelude.{IsAlive, Scan, scan_of, ScanText, work_of}
 use Rattle.ac_automaton.proofs.ReadAhead.{IsAlong}
 use Rattle.ac_automaton.proofs.automaton.scan.Scanner.read_ahead.Given as goal
 
 -- the scan has come on, by whichever text it has come
 abbrev pub invariant-loop-at : goal.invariant-loop-at
 invariant-loop-at g l =
-    let A = g.A.Automaton in
-    let s : Scan =
-    scan_by (A.stands l.self.automaton.now) (A.listed l.self.automaton.now) (A.built l.self.automaton.now) A.LOOKS
-    (A.filters l.self.automaton.now) l.self.anchored in record {
+    let s : Scan = scan_of g.A.Automaton.stands g.A.Automaton.listed g.A.Automaton.built g.A.Automaton.LOOKS g.A.Automaton.wants_prefilter
+    l.self.automaton.now l.self.anchored in record {
       bytes : l.tape.bytes ≡ l.fn.tape.bytes;
       unread : l.tape.place ≤ l.at;
       along : (t : ScanText) → t.bytes ≡ l.fn.tape.bytes → IsAlive s t l.fn.cursor

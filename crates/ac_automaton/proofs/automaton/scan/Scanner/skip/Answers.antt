@@ -2,7 +2,7 @@ use Rattle.std.proofs.Common.{◌≡◌, ◌≤◌, ℕ, List, length, ap, sym, 
 use Rattle.std.proofs.lemmas.Grind.{common_steps}
 use Rattle.memchr.specs.Find.{Nowhere, Passes}
 use Rattle.ac_util.specs.Prefilters.{is_one_of}
-use Rattle.ac_automaton.specs.Scans.{scan_by, IsAt, Scan, ScanText, StaysAtStart}
+use Rattle.ac_automaton.specs.Scans.{scan_of, IsAt, Scan, ScanText, StaysAtStart}
 use Rattle.ac_automaton.proofs.Skipping.{IsTold, stays, told-none}
 use Rattle.ac_automaton.proofs.automaton.scan.Scanner.skip.Given.{Over}
 use Rattle.ac_automaton.proofs.automaton.scan.Scanner.skip.Goals.{After-note, After-scan}
@@ -11,9 +11,8 @@ use Rattle.ac_automaton.proofs.automaton.scan.Scanner.skip.Goals as goal
 module _ (g : Over) (c : After-scan g) where
   abbrev scan : Scan
   scan =
-      let automaton = c.args.self.now.automaton.now in
-      scan_by (g.A.Automaton.stands automaton) (g.A.Automaton.listed automaton) (g.A.Automaton.built automaton)
-      g.A.Automaton.LOOKS (g.A.Automaton.filters automaton) c.args.self.now.anchored
+      scan_of g.A.Automaton.stands g.A.Automaton.listed g.A.Automaton.built g.A.Automaton.LOOKS g.A.Automaton.wants_prefilter
+      c.args.self.now.automaton.now c.args.self.now.anchored
 
   -- at its start it goes on over bytes with which no pattern begins
   stays-there : (to : ℕ) → to ≤ c.args.self.now.span.end

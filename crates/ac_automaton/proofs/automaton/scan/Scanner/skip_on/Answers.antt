@@ -2,7 +2,7 @@ use Rattle.std.proofs.Common.{◌≡◌, ◌<◌, ◌≤◌, ◌+◌, ℕ, lengt
 use Rattle.std.proofs.lemmas.Bool.{false≢true}
 use Rattle.std.proofs.lemmas.Grind.{common_steps}
 use Rattle.ac_util.specs.Counts.{Taped}
-use Rattle.ac_automaton.specs.Prelude.{IsAlive, PassesNoMatch, Scan, scan_by, ScanText, work_of}
+use Rattle.ac_automaton.specs.Prelude.{IsAlive, PassesNoMatch, Scan, scan_of, ScanText, work_of}
 use Rattle.ac_automaton.proofs.ReadAhead.{along-next, along-passed, along-passes, along-start}
 use Rattle.ac_automaton.proofs.Skipping.{alive-skipped, skipped-on, skipped-onward}
 use Rattle.ac_automaton.proofs.automaton.scan.Scanner.skip_on.Given.{Over}
@@ -38,9 +38,8 @@ read_byte-state-requires-clause-alive g c =
 module _ (g : Over) (c : After-read_byte-state g) where
   abbrev scan : Scan
   scan =
-      let automaton = c.args.self.now.automaton.now in
-      scan_by (g.A.Automaton.stands automaton) (g.A.Automaton.listed automaton) (g.A.Automaton.built automaton)
-      g.A.Automaton.LOOKS (g.A.Automaton.filters automaton) c.args.self.now.anchored
+      scan_of g.A.Automaton.stands g.A.Automaton.listed g.A.Automaton.built g.A.Automaton.LOOKS g.A.Automaton.wants_prefilter
+      c.args.self.now.automaton.now c.args.self.now.anchored
 
   read_on : (t : ScanText) → t.bytes ≡ c.args.tape.now.bytes → IsAlive scan t c.args.cursor
       → PassesNoMatch scan t c.loop-place.at (work_of c.loop-place.tape c.loop-place.looks)

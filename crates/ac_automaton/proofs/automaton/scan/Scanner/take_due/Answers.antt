@@ -1,6 +1,6 @@
 use Rattle.std.proofs.Common.{◌≡◌, ◌-◌, ℕ, true, ap, sym, subst, ◌∙◌, arith, Some}
 use Rattle.ac_util.specs.Occurrence.{Occurrence, occurrence}
-use Rattle.ac_automaton.specs.Prelude.{in_memory, is_due, Scan, scan_by}
+use Rattle.ac_automaton.specs.Prelude.{in_memory, is_due, Scan, scan_of}
 use Rattle.ac_automaton.specs.Overlaps.{HasGivenItem}
 use Rattle.ac_automaton.proofs.Due.{counts}
 use Rattle.ac_automaton.proofs.ListLoop.{due-short, gives-first}
@@ -12,9 +12,8 @@ use Rattle.ac_automaton.proofs.automaton.scan.Scanner.take_due.Goals as goal
 module _ (g : Over) (c : Else-not-is_due g) where
   abbrev s : Scan
   s =
-      let automaton = c.args.self.now.automaton.now in
-      scan_by (g.A.Automaton.stands automaton) (g.A.Automaton.listed automaton) (g.A.Automaton.built automaton)
-      g.A.Automaton.LOOKS (g.A.Automaton.filters automaton) c.args.self.now.anchored
+      scan_of g.A.Automaton.stands g.A.Automaton.listed g.A.Automaton.built g.A.Automaton.LOOKS g.A.Automaton.wants_prefilter
+      c.args.self.now.automaton.now c.args.self.now.anchored
 
   counted : counts s.built s.anchored (c.args.reached.now.at - c.args.self.now.span.start) c.in_ok-pattern.pattern ≡ true
   counted =

@@ -12,16 +12,16 @@ invariant_of-self-then-self-n g c =
     let buffer = c.self.inside.buffer in
     let at = c.self.inside.filled in
     let n = c.in-Ok.n in
-    let long : length c.read_behind.new.buffer ≡ buffer.len = c.read_behind.ensures.long ∙ c.deref_mut.ensures.len in
-    let whole = written-whole c.read_behind.new.buffer buffer.items buffer.len long in
+    let long : length c.read_after.new.buffer ≡ buffer.len = c.read_after.ensures.long ∙ c.deref_mut.ensures.len in
+    let whole = written-whole c.read_after.new.buffer buffer.items buffer.len long in
     let open' = ap (λ (v : Streaming). v.phase) c.self.view_is ∙ ap (λ (v : Streaming). v.phase) c.make_room.ensures.same
     ∙ c.requires.goes_on in
     let took = c.in-Ok.ensures.reads in
     streams-filled _ _ _ c.self.invariant open' _ (ap length whole ∙ long ∙ buffer.ok.0)
-    (ap (take at) whole ∙ c.read_behind.ensures.keeps ∙ ap (take at) c.deref_mut.ensures.value) n
-    (take n (drop at c.read_behind.new.buffer)) (ap (λ (b : List ℕ). take n (drop at b)) (sym whole))
+    (ap (take at) whole ∙ c.read_after.ensures.keeps ∙ ap (take at) c.deref_mut.ensures.value) n
+    (take n (drop at c.read_after.new.buffer)) (ap (λ (b : List ℕ). take n (drop at b)) (sym whole))
     (subst (λ (b : List ℕ). n ≤ length (drop at b)) (sym whole) took.within)
-    (let w = took.within in let d = length-drop at c.read_behind.new.buffer in omega (arith, c.if-self-n.true)) _
+    (let w = took.within in let d = length-drop at c.read_after.new.buffer in omega (arith, c.if-self-n.true)) _
     (c.with-self-inside.ensures
     ∙ ap (λ (w : List ℕ). c.self.inside.history.bytes ++ w)
     (ap (λ (k : ℕ). take k (drop at c.deref.result.now)) (let e : at + n - at ≡ n = omega arith in e)
@@ -36,9 +36,9 @@ returns-in-Ok g c =
     let buffer = c.self.inside.buffer in
     let at = c.self.inside.filled in
     let n = c.in-Ok.n in
-    let into = drop at c.read_behind.new.buffer in
-    let long : length c.read_behind.new.buffer ≡ buffer.len = c.read_behind.ensures.long ∙ c.deref_mut.ensures.len in
-    let whole = written-whole c.read_behind.new.buffer buffer.items buffer.len long in
+    let into = drop at c.read_after.new.buffer in
+    let long : length c.read_after.new.buffer ≡ buffer.len = c.read_after.ensures.long ∙ c.deref_mut.ensures.len in
+    let whole = written-whole c.read_after.new.buffer buffer.items buffer.len long in
     let more = take n into in
     let size = length-take-le n into took.within in
     let none : length more ≢ 0 = (λ e. absurd (omega (arith, c.in-Ok.n-test))) in
@@ -63,7 +63,7 @@ returns-in-Ok g c =
           (ap length whole ∙ long ∙ buffer.ok.0) _ more added;
       small = (let l = ap length added ∙ length-append c.self.inside.history.bytes more in
           let k = c.self.invariant.counted in let w = took.within in
-          let d = length-drop at c.read_behind.new.buffer in omega (arith, c.if-self-n.true));
+          let d = length-drop at c.read_after.new.buffer in omega (arith, c.if-self-n.true));
       given = ap (λ (k : ℕ). take k (stream_result (g.A.Automaton.built c.self.inside.automaton.now) c.with-self-inside.result.bytes))
           (sym (ap (λ (v : Streaming). v.given) e))
           ∙ ap (λ (w : List ℕ). take c.self.inside.given.number

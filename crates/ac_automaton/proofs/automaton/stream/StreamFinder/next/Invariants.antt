@@ -2,6 +2,7 @@ use Rattle.std.proofs.Common.{◌≡◌, ◌-◌, ◌++◌, ℕ, List, length}
 use Rattle.ac_util.specs.Device.{ReadsSome}
 use Rattle.ac_automaton.specs.Prelude.{KeepsGiven, Open}
 use Rattle.ac_automaton.proofs.automaton.stream.StreamFinder.next.Given as goal
+use Rattle.ac_automaton.specs.Util.{usize_max}
 
 -- so far some bytes were read, and no match was given
 abbrev pub invariant-loop-found : goal.invariant-loop-found
@@ -16,4 +17,4 @@ invariant-loop-found g l =
     }
 
 abbrev pub decreases-loop-found : goal.decreases-loop-found
-decreases-loop-found g l = 18446744073709551615 - length l.self.bytes
+decreases-loop-found g l = usize_max - length l.self.bytes

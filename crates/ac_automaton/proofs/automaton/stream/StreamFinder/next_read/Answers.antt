@@ -4,6 +4,7 @@ use Rattle.std.proofs.lemmas.Grind.{common_steps}
 use Rattle.ac_automaton.specs.Util.{No, Node, order_of}
 use Rattle.ac_util.proofs.SearchLoop.{SearchGoesOn}
 use Rattle.ac_automaton.specs.Prelude.{Ended, HasReadOn, Inside, IsAlive, IsAnswered, IsStreaming, ScanText, Streaming}
+use Rattle.ac_automaton.specs.Streams.{streaming_by}
 use Rattle.ac_automaton.proofs.FindAhead.{IsUnanswered}
 use Rattle.ac_automaton.proofs.StreamGiving.{gives-next, streams-anew}
 use Rattle.ac_automaton.proofs.StreamKeeping.{gives-settled, streams-on}
@@ -27,19 +28,13 @@ module _ (g : Over) (c : After-is_decided g) where
   abbrev listed : ℕ → List ℕ
   listed = g.A.Automaton.listed c.self.inside.automaton.now
 
-  abbrev filters : Bool
-  filters = g.A.Automaton.filters c.self.inside.automaton.now
+  abbrev wants_prefilter : Bool
+  wants_prefilter = g.A.Automaton.wants_prefilter c.self.inside.automaton.now
 
   abbrev seen : Streaming
-  seen = record {
-    built = g.A.Automaton.built c.self.inside.automaton.now;
-    bytes = c.self.inside.history.bytes;
-    given = c.self.inside.given.number;
-    front = c.self.inside.front;
-    kept = c.self.inside.kept;
-    phase = c.self.inside.phase;
-    buffer = length c.self.inside.buffer.items;
-  }
+  seen =
+      let s = c.self.inside in
+      streaming_by (g.A.Automaton.built s.automaton.now) s.history.bytes s.given.number s.front s.kept s.phase (length s.buffer.items)
 
   abbrev inside : Inside
   inside = record {
@@ -63,10 +58,10 @@ module _ (g : Over) (c : After-is_decided g) where
   module _ (i : Inside) (inv : IsStreaming stands i seen) (buffer : i.buffer ≡ c.open-tape.result.0.bytes)
       (on : HasReadOn stands i seen c.loop-scanner.state c.loop-scanner.at c.loop-scanner.picked) where
     abbrev t : ScanText
-    t = stream_text stands listed g.A.Automaton.LOOKS filters i seen inv
+    t = stream_text stands listed g.A.Automaton.LOOKS wants_prefilter i seen inv
 
     abbrev here : Node
-    here = node_here stands listed g.A.Automaton.LOOKS filters i seen inv (c.self.inside.front + c.loop-scanner.at)
+    here = node_here stands listed g.A.Automaton.LOOKS wants_prefilter i seen inv (c.self.inside.front + c.loop-scanner.at)
 
     bytes-there : t.bytes ≡ c.loop-scanner.tape.bytes
     bytes-there = buffer ∙ sym c.loop-scanner.invariant.bytes
@@ -79,10 +74,10 @@ module _ (g : Over) (c : After-is_decided g) where
       goes : SearchGoesOn seen.built.kind (order_of seen.built.kind i.stops) c.loop-scanner.picked
       goes = grind (arith, common_steps)
 
-      alive : IsAlive (stream_scan stands listed g.A.Automaton.LOOKS filters i seen inv) t
+      alive : IsAlive (stream_scan stands listed g.A.Automaton.LOOKS wants_prefilter i seen inv) t
           (record { state = c.loop-scanner.state; at = c.loop-scanner.at })
       alive =
-          may-read stands listed g.A.Automaton.LOOKS filters i seen inv c.loop-scanner.state c.loop-scanner.at
+          may-read stands listed g.A.Automaton.LOOKS wants_prefilter i seen inv c.loop-scanner.state c.loop-scanner.at
           c.loop-scanner.picked on unanswered.living
 
 pub read_ahead-ahead-requires-clause-alive : goal.read_ahead-ahead-requires-clause-alive
@@ -182,7 +177,7 @@ is_dead-dead-requires g c = search (rules, on-now g ((goal.at.is_dead-dead-requi
 module _ (g : Over) (c : After-is_decided g) where
   abbrev node_now : Node
   node_now =
-      node_here (stands g c) (listed g c) g.A.Automaton.LOOKS (filters g c) (inside g c) (seen g c) c.self.invariant
+      node_here (stands g c) (listed g c) g.A.Automaton.LOOKS (wants_prefilter g c) (inside g c) (seen g c) c.self.invariant
       (c.self.inside.front + c.loop-scanner.at)
 
   answered : c.is_decided.result ≡ true
@@ -211,7 +206,7 @@ module _ (g : Over) (c : After-is_decided g) where
 pub overflow_sub-self : goal.overflow_sub-self
 overflow_sub-self g c =
     let d = (goal.at.overflow_sub-self g c).After-is_decided in
-    let gives = gives-next (stands g d) (listed g d) g.A.Automaton.LOOKS (filters g d) (inside g d) (seen g d) c.self.invariant
+    let gives = gives-next (stands g d) (listed g d) g.A.Automaton.LOOKS (wants_prefilter g d) (inside g d) (seen g d) c.self.invariant
     _ _ _ (on-now g d) (answered g d c.loop-scanner-test.false) c.in-Some.found c.in-Some.ensures.0
     (cause g d c.is_dead-dead.result (c.is_dead-dead.ensures No) c.in-Some.ensures.1) _ _ _ _ refl refl refl refl in
     let after = gives.after in let ordered = gives.ordered in let front = c.self.invariant.in_buffer in
@@ -220,7 +215,7 @@ overflow_sub-self g c =
 pub invariant_of-self : goal.invariant_of-self
 invariant_of-self g c =
     let d = (goal.at.invariant_of-self g c).After-is_decided in
-    streams-anew (stands g d) (listed g d) g.A.Automaton.LOOKS (filters g d) (inside g d) (seen g d) c.self.invariant _ _ _
+    streams-anew (stands g d) (listed g d) g.A.Automaton.LOOKS (wants_prefilter g d) (inside g d) (seen g d) c.self.invariant _ _ _
     (on-now g d) (answered g d c.loop-scanner-test.false) c.in-Some.found c.in-Some.ensures.0
     (cause g d c.is_dead-dead.result (c.is_dead-dead.ensures No) c.in-Some.ensures.1) _ _ _ _
     (ap (λ (n : ℕ). n - c.self.inside.front) c.end.ensures) (c.of.ensures ∙ c.end-in-Some.ensures)
@@ -229,7 +224,7 @@ invariant_of-self g c =
 pub returns-in-Some : goal.returns-in-Some
 returns-in-Some g c =
     let d = (goal.at.returns-in-Some g c).After-is_decided in
-    rw (← c.self.view_is) (gives-next (stands g d) (listed g d) g.A.Automaton.LOOKS (filters g d) (inside g d) (seen g d)
+    rw (← c.self.view_is) (gives-next (stands g d) (listed g d) g.A.Automaton.LOOKS (wants_prefilter g d) (inside g d) (seen g d)
     c.self.invariant _ _ _ (on-now g d) (answered g d c.loop-scanner-test.false) c.in-Some.found c.in-Some.ensures.0
     (cause g d c.is_dead-dead.result (c.is_dead-dead.ensures No) c.in-Some.ensures.1) _ _ _ _
     (ap (λ (n : ℕ). n - c.self.inside.front) c.end.ensures) (c.of.ensures ∙ c.end-in-Some.ensures)
@@ -238,14 +233,14 @@ returns-in-Some g c =
 pub invariant_of-self-2 : goal.invariant_of-self-2
 invariant_of-self-2 g c =
     let d = (goal.at.invariant_of-self-2 g c).After-is_decided in
-    streams-on (stands g d) (listed g d) g.A.Automaton.LOOKS (filters g d) (inside g d) (seen g d) c.self.invariant _ _ _
+    streams-on (stands g d) (listed g d) g.A.Automaton.LOOKS (wants_prefilter g d) (inside g d) (seen g d) c.self.invariant _ _ _
     (on-now g d) (answered g d c.loop-scanner-test.false)
     (open-still g d c.is_dead-dead.result (c.is_dead-dead.ensures No) c.in-None.ensures) _ c.settled_from-self-inside.ensures
 
 pub returns : goal.returns
 returns g c =
     let d = (goal.at.returns g c).After-is_decided in
-    rw (← c.self.view_is) (gives-settled (stands g d) (listed g d) g.A.Automaton.LOOKS (filters g d) (inside g d) (seen g d)
+    rw (← c.self.view_is) (gives-settled (stands g d) (listed g d) g.A.Automaton.LOOKS (wants_prefilter g d) (inside g d) (seen g d)
     c.self.invariant _ _ _ (on-now g d) (answered g d c.loop-scanner-test.false)
     (open-still g d c.is_dead-dead.result (c.is_dead-dead.ensures No) c.in-None.ensures) _
     c.settled_from-self-inside.ensures)

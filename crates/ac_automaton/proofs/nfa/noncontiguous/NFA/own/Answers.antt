@@ -15,29 +15,18 @@ place g c =
 
 pub overflow_add-next : goal.overflow_add-next
 overflow_add-next g c =
-    omega (
-      arith,
-      (place g (goal.at.overflow_add-next g c).After-index-states-as_usize).listed,
-      ap (length {A = Transition}) c.transitions.ensures,
-      c.transitions.type_inv,
-    )
+    let at = place g (goal.at.overflow_add-next g c).After-index-states-as_usize in
+    omega (arith, at.listed, ap (length {A = Transition}) c.transitions.ensures, c.transitions.type_inv)
 
 pub offset_bounds-transitions-state : goal.offset_bounds-transitions-state
 offset_bounds-transitions-state g c =
-    omega (
-      arith,
-      (place g (goal.at.offset_bounds-transitions-state g c).After-index-states-as_usize).listed,
-      ap (length {A = Transition}) c.transitions.ensures,
-      c.transitions.type_inv,
-    )
+    let at = place g (goal.at.offset_bounds-transitions-state g c).After-index-states-as_usize in
+    omega (arith, at.listed, ap (length {A = Transition}) c.transitions.ensures, c.transitions.type_inv)
 
 pub bounds-transitions-state : goal.bounds-transitions-state
 bounds-transitions-state g c =
-    omega (
-      arith,
-      (place g (goal.at.bounds-transitions-state g c).After-index-states-as_usize).listed,
-      ap (length {A = Transition}) c.transitions.ensures,
-    )
+    let at = place g (goal.at.bounds-transitions-state g c).After-index-states-as_usize in
+    omega (arith, at.listed, ap (length {A = Transition}) c.transitions.ensures)
 
 pub returns : goal.returns
 returns g c = λ nodes w h named.

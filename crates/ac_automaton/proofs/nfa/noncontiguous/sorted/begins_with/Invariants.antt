@@ -7,6 +7,6 @@ use Rattle.ac_automaton.proofs.nfa.noncontiguous.sorted.begins_with.Given as goa
 abbrev pub invariant-loop-at : goal.invariant-loop-at
 invariant-loop-at l = record {
   long : length l.prefix ≤ length l.bytes;
-  rest : starts_with nat_eq (plain l.fold l.bytes) (plain l.fold l.prefix)
-      ≡ starts_with nat_eq (drop l.at (plain l.fold l.bytes)) (drop l.at (plain l.fold l.prefix));
+  rest : starts_with nat_eq (plain l.ignores_case l.bytes) (plain l.ignores_case l.prefix)
+      ≡ starts_with nat_eq (drop l.at (plain l.ignores_case l.bytes)) (drop l.at (plain l.ignores_case l.prefix));
 }

@@ -10,10 +10,10 @@ use Rattle.ac_automaton.proofs.nfa.noncontiguous.sorted.compare.Goals as goal
 pub returns : goal.returns
 returns c =
     let bytes = cmp_from_yields_List (λ x y. y ≡ x) _ nat_cmp _ c.cmp.ensures.ran
-    (YieldsList-from_map _ (plain_byte c.args.fold)
+    (YieldsList-from_map _ (plain_byte c.args.ignores_case)
     (YieldsList-from_slice c.args.a.now.bytes.now (cc)) c.map.ensures.closure
     (λ x r q k. search rules))
-    (λ it e. YieldsList-from_map _ (plain_byte c.args.fold) (YieldsList-from_slice c.args.b.now.bytes.now (cc))
+    (λ it e. YieldsList-from_map _ (plain_byte c.args.ignores_case) (YieldsList-from_slice c.args.b.now.bytes.now (cc))
     (ap map_callee e ∙ c.map-2.ensures.closure) (λ x r q k. search rules))
     (λ x y. refl) in
     c.then.ensures ∙ (λ i. ordering_then (bytes i) (c.cmp-2.ensures i))

@@ -7,7 +7,7 @@ use Rattle.ac_automaton.proofs.nfa.noncontiguous.sorted.is_shadowed.Given as goa
 abbrev pub invariant-loop-left : goal.invariant-loop-left
 invariant-loop-left g l = record {
   within : l.left ≤ length l.prefixes.items;
-  gone : AllWithin (λ p. is_prefix l.fold l.pattern p ≡ false) l.prefixes.items l.left
+  gone : AllWithin (λ p. is_prefix l.ignores_case l.pattern p ≡ false) l.prefixes.items l.left
       (length l.prefixes.items);
 }
 

@@ -17,14 +17,14 @@ loop-at-preserved g c =
     elim c.if-not-is_shadowed.branch [
       | then-not-is_shadowed+in_ok-push w ↦
           rw (w.sorted-is, w.prefixes-is, w.kept-is, w.in_ok-push.ensures.items)
-          (Keeps-keep c.args.fold all now c.loop-at.kept c.loop-at.at old new pattern keeps within
+          (Keeps-keep c.args.ignores_case all now c.loop-at.kept c.loop-at.at old new pattern keeps within
           c.index.ensures
           c.is_shadowed.ensures.left c.is_shadowed.ensures.gone (w.if-not-is_shadowed.ensures.free refl))
       | else-not-is_shadowed w ↦ rw (w.sorted-is, w.prefixes-is, w.kept-is)
-          (Keeps-skip c.args.fold all now c.loop-at.kept c.loop-at.at old new pattern keeps within
+          (Keeps-skip c.args.ignores_case all now c.loop-at.kept c.loop-at.at old new pattern keeps within
           c.index.ensures
           c.is_shadowed.ensures.left c.is_shadowed.ensures.gone (w.if-not-is_shadowed.ensures.shadowed refl))
     ]
 
 pub returns-clause-kept : goal.returns-clause-kept
-returns-clause-kept g c = grind (arith, common_steps, Keeps-end c.args.fold c.args.sorted.now.items c.loop-at.sorted.items c.truncate.new.self.items c.loop-at.kept c.loop-at.at c.loop-at.prefixes.items c.loop-at.invariant (omega (arith, c.len-at-end.ensures)) c.truncate.ensures.items)
+returns-clause-kept g c = grind (arith, common_steps, Keeps-end c.args.ignores_case c.args.sorted.now.items c.loop-at.sorted.items c.truncate.new.self.items c.loop-at.kept c.loop-at.at c.loop-at.prefixes.items c.loop-at.invariant (omega (arith, c.len-at-end.ensures)) c.truncate.ensures.items)

@@ -1,6 +1,6 @@
 use Rattle.std.proofs.Common.{◌≡◌, ℕ, arith, subst, sym, ◌∙◌, rules}
 use Rattle.std.proofs.lemmas.Grind.{common_steps}
-use Rattle.ac_automaton.specs.Prelude.{HasState, Meaning, Represents, RootTells, START}
+use Rattle.ac_automaton.specs.Prelude.{HasState, TrieView, Represents, RootTells, START}
 use Rattle.ac_automaton.specs.Util.{No, Node, Yes}
 use Rattle.ac_automaton.proofs.Follows.{Ended, represented, ends-root, ends-target, ends-anchored, ends-outer, goes-on, leads-inner}
 use Rattle.ac_automaton.proofs.nfa.noncontiguous.state.follow.Goals as goal
@@ -12,7 +12,7 @@ bounds-states-as_usize c =
     omega (arith, (c.loop-states.invariant r.0 r.1 r.2 r.3).state.there)
 
 -- what the state that was read tells, by any of the meanings
-known_by : (c : After-index-states-as_usize) (g : Meaning) (u : Node) (same : g.transitions ≡ c.args.trie.transitions.now)
+known_by : (c : After-index-states-as_usize) (g : TrieView) (u : Node) (same : g.transitions ≡ c.args.trie.transitions.now)
     (h : HasState g c.args.trie.states.now c.args.from u)
     → Represents g c.loop-states.at (c.loop-states.invariant g u same h).node c.index-states-as_usize.result
 known_by c g u same h =
@@ -40,7 +40,7 @@ look-requires-clause-ascending c =
     rw c.requires.state.2 at (known (goal.at.look-requires-clause-ascending c).After-index-states-as_usize).ascending
 
 -- the walk ends at the target of a transition
-at_target : (c : In-Some-look) (g : Meaning) (u : Node) → g.transitions ≡ c.args.trie.transitions.now
+at_target : (c : In-Some-look) (g : TrieView) (u : Node) → g.transitions ≡ c.args.trie.transitions.now
     → HasState g c.args.trie.states.now c.args.from u
     → Ended g c.args.anchored c.args.byte u c.args.looks.now c.look.new.looks c.in-Some-look.next
 at_target c g u same h =
@@ -65,7 +65,7 @@ returns-in-Some-look-clause-unanchored c = λ g u same h start.
     c.args.byte found.0 c.in-Some-look.next found.1 start
 
 -- or at the dead state, if it is anchored
-at_dead : (c : After-must) (g : Meaning) (u : Node) → g.transitions ≡ c.args.trie.transitions.now
+at_dead : (c : After-must) (g : TrieView) (u : Node) → g.transitions ≡ c.args.trie.transitions.now
     → HasState g c.args.trie.states.now c.args.from u
     → Ended g c.args.anchored c.args.byte u c.args.looks.now c.look.new.looks c.must.result
 at_dead c g u same h =
@@ -86,14 +86,11 @@ pub returns-then-matches-clause-looks : goal.returns-then-matches-clause-looks
 returns-then-matches-clause-looks c = λ g u same h. (at_dead c g u same h).looks
 
 -- or after one of the first four states
-at_outer : (c : Then-as_usize-lt-FIRST_INNER) (g : Meaning) (u : Node) → g.transitions ≡ c.args.trie.transitions.now
+at_outer : (c : Then-as_usize-lt-FIRST_INNER) (g : TrieView) (u : Node) → g.transitions ≡ c.args.trie.transitions.now
     → HasState g c.args.trie.states.now c.args.from u
     → Ended g c.args.anchored c.args.byte u c.args.looks.now c.look.new.looks c.index-states-as_usize.result.fail
 at_outer c g u same h =
-    let is_no : c.args.anchored ≡ No = elim c.match-matches-2.branch [
-      | in-Yes w ↦ absurd (cc)
-      | in_default-matches w ↦ w.in_default-matches.is
-    ] in
+    let is_no : c.args.anchored ≡ No = grind (arith, common_steps) in
     ends-outer g c.args.trie.states.now c.args.byte u c.args.looks.now c.args.trie.transitions.now same
     c.loop-states.looks c.look.new.looks c.in_default-look.ensures.counted
     c.loop-states.at c.index-states-as_usize.result (rw c.as_usize-in-loop-states.ensures.value at c.index-states-as_usize.is)
@@ -121,10 +118,7 @@ loop-states-smaller c = (known (goal.at.loop-states-smaller c).After-index-state
 -- else it goes on
 pub loop-states-preserved : goal.loop-states-preserved
 loop-states-preserved c = λ g u same h.
-    let is_no : c.args.anchored ≡ No = elim c.match-matches-2.branch [
-      | in-Yes w ↦ absurd (cc)
-      | in_default-matches w ↦ w.in_default-matches.is
-    ] in
+    let is_no : c.args.anchored ≡ No = grind (arith, common_steps) in
     goes-on g c.args.trie.states.now c.args.byte u c.args.looks.now c.args.trie.transitions.now same
     c.loop-states.looks c.look.new.looks c.in_default-look.ensures.counted
     c.loop-states.at c.index-states-as_usize.result (rw c.as_usize-in-loop-states.ensures.value at c.index-states-as_usize.is)
@@ -141,7 +135,7 @@ module _ (c : After-look_in_root) where
   is_no : c.args.anchored ≡ No
   is_no = grind (arith, common_steps)
 
-  at_root : (g : Meaning) (u : Node) → g.transitions ≡ c.args.trie.transitions.now
+  at_root : (g : TrieView) (u : Node) → g.transitions ≡ c.args.trie.transitions.now
       → HasState g c.args.trie.states.now c.args.from u
       → Ended g c.args.anchored c.args.byte u c.args.looks.now c.look_in_root.new.looks c.look_in_root.result
   at_root g u same h =

@@ -1,6 +1,6 @@
 use Rattle.std.proofs.Common.{◌+◌, ◌*◌, ◌≤◌}
 use Rattle.ac_util.specs.Node.{Node}
-use Rattle.ac_automaton.specs.Tries.{Meaning, HasState}
+use Rattle.ac_automaton.specs.Tries.{TrieView, HasState}
 use Rattle.ac_automaton.proofs.ListsOf.{Counting}
 use Rattle.ac_automaton.proofs.nfa.noncontiguous.state.listed_len.Given as goal
 
@@ -8,7 +8,7 @@ use Rattle.ac_automaton.proofs.nfa.noncontiguous.state.listed_len.Given as goal
 -- hold
 abbrev pub invariant-loop-at : goal.invariant-loop-at
 invariant-loop-at l = record {
-  counted : (g : Meaning) (u : Node) → HasState g l.states l.fn.from u → Counting g l.states u l.at l.count;
+  counted : (g : TrieView) (u : Node) → HasState g l.states l.fn.from u → Counting g l.states u l.at l.count;
   fits : l.count + l.at * 4294967296 ≤ l.fn.from * 4294967296;
 }
 

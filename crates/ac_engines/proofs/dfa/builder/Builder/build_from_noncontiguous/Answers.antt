@@ -1,5 +1,4 @@
 use Rattle.std.proofs.Common.{◌≡◌, ◌∙◌}
-use Rattle.ac_util.specs.Pieces.{pieces}
 use Rattle.ac_automaton.specs.Common.{common_of}
 use Rattle.ac_engines.specs.Dfa.Filling.{first_row_in}
 use Rattle.ac_engines.proofs.Assembled.{are-table, has-matches-among, may-fill, planned}
@@ -8,51 +7,42 @@ use Rattle.ac_engines.proofs.dfa.builder.Builder.build_from_noncontiguous.Goals 
 -- the rows that were laid out can be filled
 pub filled_table-requires : goal.filled_table-requires
 filled_table-requires g c =
-    let nodes = c.states_len.ensures.numbered in
-    let plan = planned c.args.nfa.now c.self.inside.start_kind c.self.inside.byte_classes c.classes_for-classes.result
-    c.stride2-stride2.result c.stride.result c.states_len.result c.table_rows-rows.result c.in_ok-len.len
-    c.classes_for-classes.ensures.value c.stride2-stride2.ensures.value c.stride.ensures c.states_len.ensures.value
-    c.table_rows-rows.ensures.value c.table_rows-rows.ensures.some c.in_ok-len.ensures.0 c.in_ok-len.ensures.1 in
-    let layout = c.in_ok-layout.layout in
+    let (nodes, are_nodes) = c.len_for.ensures.numbered in
+    let plan = planned c.args.nfa.now c.self.inside.start_kind c.self.inside.byte_classes _ _ _ _
+    c.classes_for-classes.ensures.value c.stride2-stride2.ensures.value c.stride.ensures c.in_ok-len.ensures.len.0 c.in_ok-len.ensures.len.1 in
     record {
       may = (
-        nodes.0,
-        rw (plan.width_is, c.deref.ensures.value, plan.len_is) (may-fill c.args.nfa.now
-            c.self.inside.start_kind c.classes_for-classes.result c.stride2-stride2.result layout.numbers.items nodes.0 _
-            (pieces layout.lists.listed.items layout.lists.bounds.items) layout.first_match layout.match_end plan.has
-            nodes.1 (c.in_ok-layout.ensures.layout nodes.0 nodes.1) plan.few),
+        nodes,
+        rw (plan.width_is, c.deref.ensures.value, plan.len_is) (may-fill c.args.nfa.now c.self.inside.start_kind _ _ _ nodes _ _ _ _
+            plan.has are_nodes (c.in_ok-layout.ensures nodes are_nodes) plan.few),
       );
     }
 
 -- the rows stand for the nodes
 pub invariant_of-result : goal.invariant_of-result
 invariant_of-result g c =
-    let nodes = c.states_len.ensures.numbered in
-    let plan = planned c.args.nfa.now c.self.inside.start_kind c.self.inside.byte_classes c.classes_for-classes.result
-    c.stride2-stride2.result c.stride.result c.states_len.result c.table_rows-rows.result c.in_ok-len.len
-    c.classes_for-classes.ensures.value c.stride2-stride2.ensures.value c.stride.ensures c.states_len.ensures.value
-    c.table_rows-rows.ensures.value c.table_rows-rows.ensures.some c.in_ok-len.ensures.0 c.in_ok-len.ensures.1 in
+    let nodes = c.len_for.ensures.numbered in
+    let plan = planned c.args.nfa.now c.self.inside.start_kind c.self.inside.byte_classes _ _ _ _
+    c.classes_for-classes.ensures.value c.stride2-stride2.ensures.value c.stride.ensures c.in_ok-len.ensures.len.0 c.in_ok-len.ensures.len.1 in
     let layout = c.in_ok-layout.layout in
-    let lists = pieces layout.lists.listed.items layout.lists.bounds.items in
-    let laid = c.in_ok-layout.ensures.layout nodes.0 nodes.1 in
+    let laid = c.in_ok-layout.ensures nodes.0 nodes.1 in
     let may = may-fill c.args.nfa.now c.self.inside.start_kind c.classes_for-classes.result c.stride2-stride2.result
-    layout.numbers.items nodes.0 _ lists layout.first_match layout.match_end plan.has nodes.1 laid plan.few in
+    layout.numbers.items nodes.0 _ layout.lists layout.first_match layout.match_end plan.has nodes.1 laid plan.few in
     let filled = rw (plan.width_is, c.deref.ensures.value, plan.len_is) at (c.in_ok-table.ensures.filled nodes.0) in
-    let common : c.in_ok-clone-2.field-0 ≡ common_of c.args.nfa.now.built c.args.nfa.now.filters =
+    let common : c.in_ok-clone-2.field-0 ≡ common_of c.args.nfa.now.built c.args.nfa.now.wants_prefilter =
     c.in_ok-clone-2.ensures.cases ∙ c.common.ensures in
     rw common (record {
       is_dfa = (
         first_row_in nodes.0 layout.numbers.items,
         are-table
             c.args.nfa.now c.self.inside.start_kind c.classes_for-classes.result c.stride2-stride2.result
-            layout.numbers.items nodes.0 _ may c.in_ok-table.table.items lists layout.first_match layout.match_end
+            layout.numbers.items nodes.0 _ may c.in_ok-table.table.items layout.lists layout.first_match layout.match_end
             (filled may) laid,
       );
       few = c.stride2-stride2.ensures.small;
-      bounds = c.in_ok-layout.ensures.bounds;
       start = c.start_of.ensures;
       anchored_start = c.start_of-2.ensures;
       among = has-matches-among c.args.nfa.now
           c.self.inside.start_kind c.classes_for-classes.result c.stride2-stride2.result layout.numbers.items nodes.0 _
-          may c.in_ok-table.table.items lists layout.first_match layout.match_end (filled may) laid;
+          may c.in_ok-table.table.items layout.lists layout.first_match layout.match_end (filled may) laid;
     })

@@ -28,5 +28,5 @@ returns g c = λ nodes m.
     let set = c.set_own.ensures nodes []
     (rw (c.lead_all.ensures.same_length, c.must-sid.ensures.value) m.row) in
     start-led f nodes size 2 [] m.row (stops f.trie.built.kind (plain_of f.trie.built) []) c.number-start.result
-    c.missing.result c.alphabet_len.result c.args.table.now c.lead_all.new.table c.set_own.new.table refl refl row
-    c.missing.ensures len c.lead_all.ensures.same_length (λ k from to. m.blank k to) c.lead_all.ensures.filled c.lead_all.ensures.beside set
+    c.default_target.result c.alphabet_len.result c.args.table.now c.lead_all.new.table c.set_own.new.table refl refl row
+    c.default_target.ensures len c.lead_all.ensures.same_length (λ k from to. m.blank k to) c.lead_all.ensures.filled c.lead_all.ensures.beside set

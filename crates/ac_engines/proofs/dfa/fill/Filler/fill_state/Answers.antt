@@ -1,79 +1,81 @@
-use Rattle.std.proofs.Common.{length, ap, sym, refl, ◌∙◌}
-use Rattle.ac_util.specs.declared.search.Anchored.TheVariants.{No, Yes}
-use Rattle.ac_engines.specs.Dfa.Filling.{Filling}
+use Rattle.std.proofs.Common.{◌≡◌, ℕ, ◌+◌, List, length, None, ap, sym, refl, ◌∙◌}
+use Rattle.ac_util.specs.declared.search.Anchored.{Anchored}
+use Rattle.ac_automaton.specs.Util.{Both, No, Node, start_refusal, StartKind, Unanchored, Yes}
+use Rattle.ac_util.specs.declared.search.StartKind.TheVariants.{Anchored as AnchoredAlone}
+use Rattle.ac_engines.specs.Prelude.{FilledUpTo, Filling, HasFilled, HasRow, MayFillRow, row_input}
 use Rattle.ac_engines.proofs.RowByRow.{both-filled, may-row, one-filled, only-anchored, only-unanchored, second-row}
 use Rattle.ac_engines.proofs.dfa.fill.Filler.fill_state.Goals as goal
 
+module _ (f : Filling) (sid : ℕ) (old : List ℕ) (kind : StartKind) (is : f.start_kind ≡ kind) where
+  -- the row of a state may be filled where there is its start
+  may : (anchored : Anchored) → start_refusal kind anchored ≡ None → (nodes : List Node) (w : List ℕ)
+      → HasRow f nodes (length old) sid w → FilledUpTo f nodes (length old) sid old
+      → MayFillRow f nodes (length old) sid w anchored old
+  may anchored supported nodes w row up = may-row f nodes (length old) sid w row anchored old (rw is supported) up
+
+  -- what was filled in a row, and in no other of the state
+  one : (anchored : Anchored) → start_refusal kind anchored ≡ None
+      → ((other : Anchored) → start_refusal f.start_kind other ≡ None → other ≡ anchored) → (new : List ℕ)
+      → ((nodes : List Node) (w : List ℕ) → MayFillRow f nodes (length old) sid w anchored old
+      → HasFilled (row_input f nodes) anchored w old new)
+      → (nodes : List Node) (w : List ℕ) → HasRow f nodes (length old) sid w → FilledUpTo f nodes (length old) sid old
+      → FilledUpTo f nodes (length old) (sid + 1) new
+  one anchored supported only new filled nodes w row up =
+      one-filled f nodes (length old) sid w row anchored old new only up (filled nodes w (may anchored supported nodes w row up))
+
+-- the row of unanchored searches is filled, and then the anchored one may be
+first : (f : Filling) (sid : ℕ) (old between : List ℕ) → f.start_kind ≡ Both
+    → ((nodes : List Node) (w : List ℕ) → MayFillRow f nodes (length old) sid w No old
+    → HasFilled (row_input f nodes) No w old between)
+    → (nodes : List Node) (w : List ℕ) → HasRow f nodes (length old) sid w → FilledUpTo f nodes (length old) sid old
+    → HasFilled (row_input f nodes) No w old between × MayFillRow f nodes (length between) sid w Yes between
+first f sid old between is filled nodes w row up =
+    let one = filled nodes w (may f sid old Both is No refl nodes w row up) in
+    let other = may f sid old Both is Yes refl nodes w row up in
+    (one, rw one.same_length (second-row f nodes (length old) sid w row old between is other one))
+
 pub fill_row-requires : goal.fill_row-requires
 fill_row-requires g c =
-    let kind = sym (ap (λ (f : Filling). f.start_kind) c.self.view_is) ∙ c.in-Unanchored.is in (
-      c.requires.0,
-      c.requires.1,
-      may-row c.args.self.now c.requires.0 (length c.args.table.now) c.args.sid c.requires.1
-          c.requires.2 No c.args.table.now (rw kind refl) c.requires.3,
-    )
+    let (nodes, w, row, up) = c.requires in
+    let kind = sym (ap (λ (f : Filling). f.start_kind) c.self.view_is) ∙ c.in-Unanchored.is in
+    (nodes, w, may c.args.self.now c.args.sid c.args.table.now Unanchored kind No refl nodes w row up)
 
 pub fill_row-requires-in-Anchored : goal.fill_row-requires-in-Anchored
 fill_row-requires-in-Anchored g c =
-    let kind = sym (ap (λ (f : Filling). f.start_kind) c.self.view_is) ∙ c.in-Anchored.is in (
-      c.requires.0,
-      c.requires.1,
-      may-row c.args.self.now c.requires.0 (length c.args.table.now) c.args.sid c.requires.1
-          c.requires.2 Yes c.args.table.now (rw kind refl) c.requires.3,
-    )
+    let (nodes, w, row, up) = c.requires in
+    let kind = sym (ap (λ (f : Filling). f.start_kind) c.self.view_is) ∙ c.in-Anchored.is in
+    (nodes, w, may c.args.self.now c.args.sid c.args.table.now AnchoredAlone kind Yes refl nodes w row up)
 
 pub fill_row-requires-in-Both : goal.fill_row-requires-in-Both
 fill_row-requires-in-Both g c =
-    let kind = sym (ap (λ (f : Filling). f.start_kind) c.self.view_is) ∙ c.in-Both.is in (
-      c.requires.0,
-      c.requires.1,
-      may-row c.args.self.now c.requires.0 (length c.args.table.now) c.args.sid c.requires.1
-          c.requires.2 No c.args.table.now (rw kind refl) c.requires.3,
-    )
+    let (nodes, w, row, up) = c.requires in
+    let kind = sym (ap (λ (f : Filling). f.start_kind) c.self.view_is) ∙ c.in-Both.is in
+    (nodes, w, may c.args.self.now c.args.sid c.args.table.now Both kind No refl nodes w row up)
 
 pub fill_row-requires-in-Both-2 : goal.fill_row-requires-in-Both-2
 fill_row-requires-in-Both-2 g c =
-    let f = c.args.self.now in
-    let size = length c.args.table.now in
-    let kind = sym (ap (λ (f : Filling). f.start_kind) c.self.view_is) ∙ c.in-Both.is in
-    let may = may-row f c.requires.0 size c.args.sid c.requires.1 c.requires.2 No c.args.table.now (rw kind refl)
-    c.requires.3 in
-    let first = c.fill_row-in-Both.ensures c.requires.0 c.requires.1 may in
-    let second = may-row f c.requires.0 size c.args.sid c.requires.1 c.requires.2 Yes c.args.table.now (rw kind refl)
-    c.requires.3 in (
-      c.requires.0,
-      c.requires.1,
-      rw first.same_length (second-row f c.requires.0 size c.args.sid c.requires.1
-          c.requires.2 c.args.table.now c.fill_row-in-Both.new.table kind second first),
+    let (nodes, w, row, up) = c.requires in
+    let kind = sym (ap (λ (f : Filling). f.start_kind) c.self.view_is) ∙ c.in-Both.is in (
+      nodes,
+      w,
+      (first c.args.self.now c.args.sid c.args.table.now _ kind c.fill_row-in-Both.ensures nodes w row up).1,
     )
 
 pub returns-in-Unanchored : goal.returns-in-Unanchored
-returns-in-Unanchored g c = λ nodes w row up.
-    let f = c.args.self.now in
-    let size = length c.args.table.now in
+returns-in-Unanchored g c =
     let kind = sym (ap (λ (f : Filling). f.start_kind) c.self.view_is) ∙ c.in-Unanchored.is in
-    let may = may-row f nodes size c.args.sid w row No c.args.table.now (rw kind refl) up in
-    one-filled f nodes size c.args.sid w row No c.args.table.now c.fill_row.new.table
-    (only-unanchored f.start_kind kind) up (c.fill_row.ensures nodes w may)
+    one c.args.self.now c.args.sid c.args.table.now Unanchored kind No refl
+    (only-unanchored c.args.self.now.start_kind kind) c.fill_row.new.table c.fill_row.ensures
 
 pub returns-in-Anchored : goal.returns-in-Anchored
-returns-in-Anchored g c = λ nodes w row up.
-    let f = c.args.self.now in
-    let size = length c.args.table.now in
+returns-in-Anchored g c =
     let kind = sym (ap (λ (f : Filling). f.start_kind) c.self.view_is) ∙ c.in-Anchored.is in
-    let may = may-row f nodes size c.args.sid w row Yes c.args.table.now (rw kind refl) up in
-    one-filled f nodes size c.args.sid w row Yes c.args.table.now c.fill_row-in-Anchored.new.table
-    (only-anchored f.start_kind kind) up (c.fill_row-in-Anchored.ensures nodes w may)
+    one c.args.self.now c.args.sid c.args.table.now AnchoredAlone kind Yes refl
+    (only-anchored c.args.self.now.start_kind kind) c.fill_row-in-Anchored.new.table c.fill_row-in-Anchored.ensures
 
 pub returns-in-Both : goal.returns-in-Both
 returns-in-Both g c = λ nodes w row up.
-    let f = c.args.self.now in
-    let size = length c.args.table.now in
     let kind = sym (ap (λ (f : Filling). f.start_kind) c.self.view_is) ∙ c.in-Both.is in
-    let may = may-row f nodes size c.args.sid w row No c.args.table.now (rw kind refl) up in
-    let first = c.fill_row-in-Both.ensures nodes w may in
-    let second = second-row f nodes size c.args.sid w row c.args.table.now c.fill_row-in-Both.new.table kind
-    (may-row f nodes size c.args.sid w row Yes c.args.table.now (rw kind refl) up) first in
-    both-filled f nodes size c.args.sid w row c.args.table.now c.fill_row-in-Both.new.table
-    c.fill_row-in-Both-2.new.table kind up first
-    (c.fill_row-in-Both-2.ensures nodes w (rw first.same_length second))
+    let rows = first c.args.self.now c.args.sid c.args.table.now _ kind c.fill_row-in-Both.ensures nodes w row up in
+    both-filled c.args.self.now nodes (length c.args.table.now) c.args.sid w row c.args.table.now
+    c.fill_row-in-Both.new.table c.fill_row-in-Both-2.new.table kind up rows.0 (c.fill_row-in-Both-2.ensures nodes w rows.1)

@@ -1,8 +1,8 @@
 use Rattle.std.proofs.Common.{ap, sym, subst, arith, length, ◌∙◌, ◌++◌, ◌∷◌, [], Some, take_all, rules}
 use Rattle.ac_automaton.specs.Util.{alphabet_len, class_at, plain_byte}
-use Rattle.ac_automaton.specs.Prelude.{AreNodes, IsOwn, own_bytes, Trie}
-use Rattle.ac_engines.specs.Dfa.Filling.{Filling, HasSet, sheet_of}
-use Rattle.ac_engines.proofs.Owning.{next-row, numbered-below, own-more, own_bytes-starts, row-room}
+use Rattle.ac_automaton.specs.Prelude.{AreNodes, IsOwn, transition_bytes_of, Trie}
+use Rattle.ac_engines.specs.Dfa.Filling.{Filling, HasSet, row_input}
+use Rattle.ac_engines.proofs.Owning.{next-row, numbered-below, own-more, transition_bytes_of-starts, row-room}
 use Rattle.ac_engines.proofs.dfa.fill.Filler.set_own.Goals as goal
 
 pub own-byte-requires-clause-numbered : goal.own-byte-requires-clause-numbered
@@ -18,7 +18,7 @@ number-requires-in-loop-index g c =
     (subst (λ (t : Trie). AreNodes t c.requires.0) (sym trie) h.may.are_nodes) h.named) in (
       c.requires.0,
       length c.args.table.now,
-      c.requires.1 ++ plain_byte c.args.self.now.trie.built.fold c.own-byte.result.0 ∷ [],
+      c.requires.1 ++ plain_byte c.args.self.now.trie.built.ignores_case c.own-byte.result.0 ∷ [],
       next-row c.args.self.now c.requires.0 (length c.args.table.now) c.args.sid c.requires.1 h c.loop-index.index
           c.own-byte.result.0 c.own-byte.result.1 own,
     )
@@ -47,7 +47,7 @@ loop-index-preserved g c = λ nodes w h.
     let next = next-row c.args.self.now nodes (length c.args.table.now) c.args.sid w h c.loop-index.index
     c.own-byte.result.0 c.own-byte.result.1 own in
     let number = c.number-in-loop-index.ensures nodes (length c.args.table.now)
-    (w ++ plain_byte c.args.self.now.trie.built.fold c.own-byte.result.0 ∷ []) next in
+    (w ++ plain_byte c.args.self.now.trie.built.ignores_case c.own-byte.result.0 ∷ []) next in
     rw (row, class) (own-more c.args.self.now nodes (length c.args.table.now) c.args.sid w h c.loop-index.index
     c.own-byte.result.0 c.own-byte.result.1 own c.args.anchored c.number-in-loop-index.result c.args.table.now
     c.loop-index.table c.loop-index.auto.table number (c.loop-index.invariant nodes w h))
@@ -57,8 +57,8 @@ pub returns : goal.returns
 returns g c = λ nodes w h.
     let trie = ap (λ (f : Filling). f.trie) c.self.view_is in
     let len = c.own_len-index-end.ensures.value nodes (Some w) (subst (λ (t : Trie). AreNodes t nodes) (sym trie) h.may.are_nodes) h.named
-    ∙ ap (λ (t : Trie). length (own_bytes t.built (Some w))) trie in
+    ∙ ap (λ (t : Trie). length (transition_bytes_of t.built (Some w))) trie in
     let end = c.loop-index-test.false in
-    rw (own_bytes-starts c.args.self.now.trie.built c.args.self.now.start_kind (Some w))
-    (subst (λ bytes. HasSet (sheet_of c.args.self.now nodes) c.args.anchored w bytes c.args.table.now c.loop-index.table)
-    (take_all c.loop-index.index (own_bytes c.args.self.now.trie.built (Some w)) (omega arith)) (c.loop-index.invariant nodes w h))
+    rw (transition_bytes_of-starts c.args.self.now.trie.built c.args.self.now.start_kind (Some w))
+    (subst (λ bytes. HasSet (row_input c.args.self.now nodes) c.args.anchored w bytes c.args.table.now c.loop-index.table)
+    (take_all c.loop-index.index (transition_bytes_of c.args.self.now.trie.built (Some w)) (omega arith)) (c.loop-index.invariant nodes w h))

@@ -9,12 +9,12 @@ match_len-requires g c =
     let r = c.requires.state in
     let b = begins c.args.self.now r.0 c.args.sid r.1.0 r.1.1 c.state.result.words.now c.alphabet_len.result c.state.ensures
     (c.alphabet_len.ensures.value ∙ ap (λ (p : ContiguousView). alphabet_len p.classes) c.self.view_is) in
-    (b.format, b.spelling, b.words, λ none. c.requires.matches (sym b.same ∙ none))
+    (b.format, b.as_packed, b.words, λ none. c.requires.matches (sym b.same ∙ none))
 
 pub returns : goal.returns
 returns g c =
     let r = c.requires.state in
     let b = begins c.args.self.now r.0 c.args.sid r.1.0 r.1.1 c.state.result.words.now c.alphabet_len.result c.state.ensures
     (c.alphabet_len.ensures.value ∙ ap (λ (p : ContiguousView). alphabet_len p.classes) c.self.view_is) in
-    c.match_len.ensures b.format b.spelling b.words (λ none. c.requires.matches (sym b.same ∙ none))
+    c.match_len.ensures b.format b.as_packed b.words (λ none. c.requires.matches (sym b.same ∙ none))
     ∙ ap (λ (ms : List ℕ). length ms) b.same

@@ -2,35 +2,38 @@ use Rattle.std.proofs.Common.{ap, sym, subst, ◌∙◌, ◌<◌, List, ℕ, len
 use Rattle.ac_util.specs.Classes.{alphabet_len}
 use Rattle.std.proofs.lemmas.Option.{slice_get-get_or}
 use Rattle.ac_engines.specs.Contiguous.{ContiguousView, match_list_at}
-use Rattle.ac_engines.proofs.PackedNumbers.{begins}
+use Rattle.ac_engines.proofs.PackedNumbers.{Begins, begins}
+use Rattle.ac_engines.proofs.nfa.contiguous.NFAAutomaton.match_pattern.Given.{Over}
 use Rattle.ac_engines.proofs.nfa.contiguous.NFAAutomaton.match_pattern.Goals as goal
 use Rattle.ac_engines.proofs.nfa.contiguous.NFAAutomaton.match_pattern.Goals.{After-alphabet_len}
 
+module _ (g : Over) (c : After-alphabet_len g) where
+  -- what the words of the state begin with
+  state : Begins c.args.self.now c.requires.state.0 c.args.sid c.state.result.words.now c.alphabet_len.result
+  state =
+      let r = c.requires.state in
+      begins c.args.self.now r.0 c.args.sid r.1.0 r.1.1 c.state.result.words.now c.alphabet_len.result c.state.ensures
+      (c.alphabet_len.ensures.value ∙ ap (λ (p : ContiguousView). alphabet_len p.classes) c.self.view_is)
+
+  -- there is a match at the index
+  within : c.args.index < length state.as_packed.matches
+  within = subst (λ (ms : List ℕ). c.args.index < length ms) (sym state.same) c.requires.within
+
 pub match_pattern-pattern-requires : goal.match_pattern-pattern-requires
-match_pattern-pattern-requires g c =
-    let r = c.requires.state in
-    let b = begins c.args.self.now r.0 c.args.sid r.1.0 r.1.1 c.state.result.words.now c.alphabet_len.result c.state.ensures
-    (c.alphabet_len.ensures.value ∙ ap (λ (p : ContiguousView). alphabet_len p.classes) c.self.view_is) in
-    (b.format, b.spelling, b.words, subst (λ (ms : List ℕ). c.args.index < length ms) (sym b.same) c.requires.within)
+match_pattern-pattern-requires g c = ((state g c).format, (state g c).as_packed, (state g c).words, within g c)
 
 pub must-requires : goal.must-requires
 must-requires g c =
-    let r = c.requires.state in
-    let b = begins c.args.self.now r.0 c.args.sid r.1.0 r.1.1 c.state.result.words.now c.alphabet_len.result c.state.ensures
-    (c.alphabet_len.ensures.value ∙ ap (λ (p : ContiguousView). alphabet_len p.classes) c.self.view_is) in
-    let is = c.match_pattern-pattern.ensures b.format b.spelling b.words
-    (subst (λ (ms : List ℕ). c.args.index < length ms) (sym b.same) c.requires.within) in
+    let b = state g c.before in
+    let is = c.match_pattern-pattern.ensures b.format b.as_packed b.words (within g c.before) in
     let at = ap (λ (ms : List ℕ). slice_index_or ms c.args.index 0) b.same in
     let small = b.numbered c.args.index c.requires.within in
     record { small = omega arith }
 
 pub returns : goal.returns
 returns g c =
-    let r = c.requires.state in
-    let b = begins c.args.self.now r.0 c.args.sid r.1.0 r.1.1 c.state.result.words.now c.alphabet_len.result c.state.ensures
-    (c.alphabet_len.ensures.value ∙ ap (λ (p : ContiguousView). alphabet_len p.classes) c.self.view_is) in
-    let is = c.match_pattern-pattern.ensures b.format b.spelling b.words
-    (subst (λ (ms : List ℕ). c.args.index < length ms) (sym b.same) c.requires.within) in
+    let b = state g c.before.before in
+    let is = c.match_pattern-pattern.ensures b.format b.as_packed b.words (within g c.before.before) in
     let at = ap (λ (ms : List ℕ). slice_index_or ms c.args.index 0) b.same in
     slice_get-get_or (match_list_at c.args.self.now c.args.sid) c.args.index 0 c.requires.within
     ∙ ap Some (sym at ∙ sym is ∙ sym c.must.ensures.value)

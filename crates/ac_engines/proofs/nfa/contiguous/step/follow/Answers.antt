@@ -4,10 +4,10 @@ use Rattle.ac_util.specs.declared.search.Anchored.{Anchored}
 use Rattle.ac_automaton.specs.Util.{alphabet_len, class_at, Counts, No, Node, Yes}
 use Rattle.ac_automaton.specs.Automata.{step_of}
 use Rattle.ac_util.proofs.ClassLists.{class_at-below}
-use Rattle.ac_engines.specs.Prelude.{BeginsWith, ContiguousView, FAIL, IsContiguousState, named, node_format, spelling_at, target_by}
+use Rattle.ac_engines.specs.Prelude.{BeginsWith, ContiguousView, FAIL, IsContiguousState, named, node_format, packed_at, target_by}
 use Rattle.ac_engines.proofs.Follow.{WalkHasEnded, WalkGoesOnward, onward-start, ends-anchored, ends-target, begins-at, goes-on, stands-small, stands-within}
 use Rattle.ac_engines.proofs.PackedSteps.{are-named, target_of}
-use Rattle.ac_engines.proofs.Spellings.{none-named, some-named}
+use Rattle.ac_engines.proofs.PackedWords.{none-named, some-named}
 use Rattle.ac_engines.proofs.nfa.contiguous.step.follow.Goals as goal
 use Rattle.ac_engines.proofs.nfa.contiguous.step.follow.Goals.{After-look}
 
@@ -33,7 +33,7 @@ look-requires c =
     let o = c.loop-next.invariant r.0 r.1 r.2 r.3 r.4 r.5 r.6 in (
       node_format r.0.built r.0.dense_depth o.node,
       alphabet_len r.0.classes,
-      spelling_at r.0 o.stands.at c.args.anchored o.node,
+      packed_at r.0 o.stands.at c.args.anchored o.node,
       begins-at r.0 c.args.anchored c.loop-next.at o.node o.stands c.args.words.now c.at-state.result.words.now r.3
           c.at-state.ensures,
       are-named r.0 o.stands.at o.stands.is_contiguous c.args.anchored o.node,
@@ -47,7 +47,7 @@ module _ (c : After-look) (p : ContiguousView) (b : ℕ) (u : Node) (same : p.wo
 
   -- the words that were read are those of the walk's state
   abbrev begins : BeginsWith c.at-state.result.words.now (node_format p.built p.dense_depth here.node) (alphabet_len p.classes)
-      (spelling_at p here.stands.at c.args.anchored here.node)
+      (packed_at p here.stands.at c.args.anchored here.node)
   begins =
       begins-at p c.args.anchored c.loop-next.at here.node here.stands c.args.words.now c.at-state.result.words.now same
       c.at-state.ensures
@@ -56,11 +56,11 @@ module _ (c : After-look) (p : ContiguousView) (b : ℕ) (u : Node) (same : p.wo
   target-is : c.look.result ≡ named (target_of p here.stands.at c.args.anchored here.node b)
   target-is =
       c.look.ensures.target (node_format p.built p.dense_depth here.node) (alphabet_len p.classes)
-      (spelling_at p here.stands.at c.args.anchored here.node) begins
+      (packed_at p here.stands.at c.args.anchored here.node) begins
       (are-named p here.stands.at here.stands.is_contiguous c.args.anchored here.node)
       (below p c.args.anchored c.args.from b c.args.class u h byte class)
-      ∙ ap (λ (class : ℕ). named (target_by (spelling_at p here.stands.at c.args.anchored here.node).missing
-      (spelling_at p here.stands.at c.args.anchored here.node).edges class)) class
+      ∙ ap (λ (class : ℕ). named (target_by (packed_at p here.stands.at c.args.anchored here.node).default_target
+      (packed_at p here.stands.at c.args.anchored here.node).edges class)) class
 
   -- at a target the walk ends
   at-target : (next : ℕ) → c.look.result ≡ Some next → WalkHasEnded p c.args.anchored b u c.args.looks.now c.look.new.looks next
@@ -120,7 +120,7 @@ fail-at-requires c =
     let o = here d r.0 r.1 r.2 r.3 r.4 r.5 r.6 in (
       node_format r.0.built r.0.dense_depth o.node,
       alphabet_len r.0.classes,
-      spelling_at r.0 o.stands.at c.args.anchored o.node,
+      packed_at r.0 o.stands.at c.args.anchored o.node,
       begins d r.0 r.1 r.2 r.3 r.4 r.5 r.6,
     )
 
@@ -146,7 +146,7 @@ loop-next-preserved c = λ p b u same byte class h.
     let none : c.look.result ≡ None = simp c.in_default.is in
     let is-no = not-yes c.args.anchored (λ is-yes. false≢true (c.if-is_anchored.ensures.1 is-yes)) in
     let failure =
-    c.fail-at.ensures (node_format p.built p.dense_depth o.node) (alphabet_len p.classes) (spelling_at p o.stands.at c.args.anchored o.node)
+    c.fail-at.ensures (node_format p.built p.dense_depth o.node) (alphabet_len p.classes) (packed_at p o.stands.at c.args.anchored o.node)
     (begins d p b u same byte class h) in
     goes-on p c.args.anchored b u c.args.looks.now c.loop-next.looks c.look.new.looks c.loop-next.at o c.look.ensures.counted
     c.fail-at.result byte (at-none d p b u same byte class h none) is-no failure

@@ -1,5 +1,5 @@
 use Rattle.std.proofs.Common.{◌≡◌, ℕ, List, [], ◌∷◌, ◌++◌, length, length-append, refl, ap, sym, ◌∙◌, subst, arith, Some, slice_get, rules}
-use Rattle.ac_automaton.specs.Prelude.{EndsPatterns, grown_meaning, HasBranched, HasChild, HasSorted, IsRefused, miss, nodes_of, Source, source_of, too_many_states, word}
+use Rattle.ac_automaton.specs.Prelude.{EndsPatterns, grown_view, HasBranched, HasChild, HasSorted, IsRefused, fallback, nodes_of, Source, source_of, too_many_states, word}
 use Rattle.ac_automaton.specs.Growths.{IsQueueReady}
 use Rattle.ac_automaton.proofs.Branched.{has-branched, link-due, still-meant, whole_state}
 use Rattle.ac_automaton.proofs.Branching.{IsBranching, IsBranchingFrom, IsRun, Site, branching-begins, child-deep, goes-on, has-child, string}
@@ -14,7 +14,7 @@ use Rattle.ac_automaton.proofs.nfa.noncontiguous.growth.Growth.branch.Goals.{Aft
 module _ (g : Over) (c : At-loop-place g) where
   abbrev Ready : List (List ℕ) → Source → Type 0
   Ready patterns from =
-      IsQueueReady from.kind from.sorted.fold patterns from.sorted.patterns from.states
+      IsQueueReady from.kind from.sorted.ignores_case patterns from.sorted.patterns from.states
       c.args.self.now.transitions.items c.args.self.now.queue.items c.args.queued
 
   abbrev Ends : Source → Type 0
@@ -26,7 +26,7 @@ module _ (g : Over) (c : At-loop-place g) where
   abbrev site : (patterns : List (List ℕ)) → Ready patterns now → Ends now → Site
   site patterns ready ends = record {
     kind = now.kind;
-    fold = now.sorted.fold;
+    ignores_case = now.sorted.ignores_case;
     patterns = patterns;
     sorted = now.sorted.patterns;
     states = now.states;
@@ -68,7 +68,7 @@ module _ (g : Over) (c : In-Some g) where
 
   -- so it is that of a child
   child : (patterns : List (List ℕ)) → Ready g at patterns (now g at)
-      → HasChild c.loop-place.self.kind c.loop-place.self.sorted.fold patterns c.loop-place.self.sorted.patterns
+      → HasChild c.loop-place.self.kind c.loop-place.self.sorted.ignores_case patterns c.loop-place.self.sorted.patterns
       c.loop-place.self.states.items c.loop-place.self.transitions.items c.loop-place.self.queue.items
       c.args.queued c.loop-place.place c.in-Some.byte
   child patterns ready =
@@ -106,7 +106,7 @@ module _ (g : Over) (c : After-child_fail-fail g) where
   fails : (patterns : List (List ℕ)) → Ready g (at g in-some) patterns (now g (at g in-some))
       → slice_get (nodes_of c.loop-place.self.sorted.patterns c.loop-place.self.queue.items)
       c.child_fail-fail.result
-      ≡ Some (miss c.loop-place.self.kind patterns
+      ≡ Some (fallback c.loop-place.self.kind patterns
       (Some (word c.loop-place.self.sorted.patterns c.args.queued ++ c.in-Some.byte ∷ [])))
   fails patterns ready = c.child_fail-fail.ensures.fails patterns (child g in-some patterns ready)
 
@@ -181,11 +181,11 @@ returns-clause-branched g c = λ patterns entry.
     let sorted : HasSorted (length c.args.self.now.transitions.items) unsorted transitions =
     rw (first, c.deref_mut.ensures.value) at c.sort_from.ensures in
     rw (first, last, written-whole transitions unsorted c.loop-place.self.transitions.len kept)
-    (subst (λ (from : Source). HasBranched from.kind from.sorted.fold patterns from.sorted.patterns from.states
+    (subst (λ (from : Source). HasBranched from.kind from.sorted.ignores_case patterns from.sorted.patterns from.states
     c.args.self.now.queue.items c.args.queued (whole_state state all sorted c.output_link.result) transitions
     queue)
     c.loop-place.invariant.kept
     (has-branched state all sorted
     (c.output_link.ensures
-    (grown_meaning state.kind state.fold patterns state.sorted transitions queue)
+    (grown_view state.kind state.ignores_case patterns state.sorted transitions queue)
     (string state) (still-meant state all sorted) (link-due state all sorted))))

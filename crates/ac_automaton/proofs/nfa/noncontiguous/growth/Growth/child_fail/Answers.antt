@@ -1,7 +1,7 @@
-use Rattle.std.proofs.Common.{◌≢◌, refl, sym, ◌∙◌, ap, Some, slice_get}
+use Rattle.std.proofs.Common.{◌≢◌, refl, sym, ◌∙◌, ap, Some, slice_get, rules}
 use Rattle.std.proofs.lemmas.Bool.{false≢true}
 use Rattle.ac_automaton.specs.Util.{No, Node, step}
-use Rattle.ac_automaton.specs.Prelude.{grown_meaning, miss, nodes_of, word}
+use Rattle.ac_automaton.specs.Prelude.{grown_view, fallback, nodes_of, word}
 use Rattle.ac_automaton.proofs.Places.{None-tested, Some-tested}
 use Rattle.ac_automaton.proofs.ChildFails.{fail-pattern, fail-start, fail-step, fail-state}
 use Rattle.ac_automaton.proofs.nfa.noncontiguous.growth.Growth.child_fail.Goals as goal
@@ -17,13 +17,7 @@ returns-then-is_none-clause-fails g c = λ patterns h.
 pub returns-then-queued-eq0-clause-fails : goal.returns-then-queued-eq0-clause-fails
 returns-then-queued-eq0-clause-fails g c = λ patterns h.
     fail-start h
-    (λ leftmost. elim c.else-is_leftmost.branch [
-      | else-is_leftmost-via-then-is_leftmost+else-is_none w ↦
-          λ none. Some-tested w.byte.result w.is_none.result w.is_none.ensures w.if-is_none.false
-          (w.byte.ensures.value ∙ none)
-      | else-is_leftmost-via-else-is_leftmost w ↦
-          absurd (false≢true (sym w.if-is_leftmost.false ∙ c.is_leftmost.ensures ∙ leftmost))
-    ])
+    (λ leftmost none. search (rules, Some-tested, false≢true))
     c.if-queued-eq0.true
 
 pub returns-clause-unanchored : goal.returns-clause-unanchored
@@ -31,28 +25,22 @@ returns-clause-unanchored g c =
     let patterns = c.requires.child.0 in
     let h = c.requires.child.1 in
     c.follow.ensures.unanchored
-    (grown_meaning c.args.self.now.kind c.args.self.now.sorted.fold patterns
+    (grown_view c.args.self.now.kind c.args.self.now.sorted.ignores_case patterns
     c.args.self.now.sorted.patterns c.args.self.now.transitions.items c.args.self.now.queue.items)
-    (miss c.args.self.now.kind patterns (Some (word c.args.self.now.sorted.patterns c.args.queued.now)))
+    (fallback c.args.self.now.kind patterns (Some (word c.args.self.now.sorted.patterns c.args.queued.now)))
     (sym c.deref-2.ensures.value) (rw c.deref.ensures.value (fail-state h c.if-queued-eq0.false)) refl
 
 pub returns-clause-fails : goal.returns-clause-fails
 returns-clause-fails g c = λ patterns h.
     let deep : c.args.queued.now.depth ≢ 0 = c.if-queued-eq0.false in
     c.follow.ensures.steps
-    (grown_meaning c.args.self.now.kind c.args.self.now.sorted.fold patterns
+    (grown_view c.args.self.now.kind c.args.self.now.sorted.ignores_case patterns
     c.args.self.now.sorted.patterns c.args.self.now.transitions.items c.args.self.now.queue.items) _
     (sym c.deref-2.ensures.value) (rw c.deref.ensures.value (fail-state h deep))
     ∙ ap (λ (v : Node). Some v)
     (ap (step c.args.self.now.kind patterns No
-    (miss c.args.self.now.kind patterns (Some (word c.args.self.now.sorted.patterns c.args.queued.now))))
+    (fallback c.args.self.now.kind patterns (Some (word c.args.self.now.sorted.patterns c.args.queued.now))))
     h.settled
     ∙ fail-step h
-    (λ leftmost. elim c.else-is_leftmost.branch [
-      | else-is_leftmost-via-then-is_leftmost+else-is_none w ↦
-          λ none. Some-tested w.byte.result w.is_none.result w.is_none.ensures w.if-is_none.false
-          (w.byte.ensures.value ∙ none)
-      | else-is_leftmost-via-else-is_leftmost w ↦
-          absurd (false≢true (sym w.if-is_leftmost.false ∙ c.is_leftmost.ensures ∙ leftmost))
-    ])
+    (λ leftmost none. search (rules, Some-tested, false≢true))
     deep)

@@ -12,15 +12,15 @@ use Rattle.ac_automaton.proofs.nfa.noncontiguous.growth.Growth.grow.Goals.{After
 -- with its first two states alone a trie may branch at the start
 module _ (g : Over) (c : After-start-start g) where
   start-may : (texts : List (List ℕ))
-      → IsOrder c.args.self.kind (map (plain c.args.self.sorted.fold) texts) c.args.self.sorted.patterns
-      → MayBranch (map (plain c.args.self.sorted.fold) texts) c.args.self c.start-start.result
+      → IsOrder c.args.self.kind (map (plain c.args.self.sorted.ignores_case) texts) c.args.self.sorted.patterns
+      → MayBranch (map (plain c.args.self.sorted.ignores_case) texts) c.args.self c.start-start.result
   start-may texts order =
       let sorted = c.args.self.sorted in
-      let patterns = map (plain sorted.fold) texts in
+      let patterns = map (plain sorted.ignores_case) texts in
       let begun = c.requires.begun.2 in
       rw (begun.two, begun.no_transitions, begun.no_queue)
-      (start-ready c.args.self.kind sorted.fold patterns sorted.patterns c.start-start.result order
-      (sorted-plain c.args.self.kind sorted.fold texts sorted.patterns order)
+      (start-ready c.args.self.kind sorted.ignores_case patterns sorted.patterns c.start-start.result order
+      (sorted-plain c.args.self.kind sorted.ignores_case texts sorted.patterns order)
       (c.start-start.ensures.waits patterns order)
       c.start-start.ensures.depth)
 
@@ -35,15 +35,15 @@ branch-self-requires g c =
     )
 
 pub returns-in_err-start : goal.returns-in_err-start
-returns-in_err-start g c = λ fold texts begun.
+returns-in_err-start g c = λ ignores_case texts begun.
     refused-by c.from_residual.result c.in_err-start.field-0.0 _
-    (IsRefused (too_many_states c.args.self.kind (map (plain fold) texts))) c.from_residual.ensures.1
+    (IsRefused (too_many_states c.args.self.kind (map (plain ignores_case) texts))) c.from_residual.ensures.1
     (subst (λ (f : Bool). IsRefused (too_many_states c.args.self.kind (map (plain f) texts))
     c.in_err-start.field-0.0)
     begun.sorts.fold_is
-    (c.in_err-start.ensures.branched (map (plain c.args.self.sorted.fold) texts)
+    (c.in_err-start.ensures.branched (map (plain c.args.self.sorted.ignores_case) texts)
     (start-may g (goal.at.returns-in_err-start g c).After-start-start texts
-    (begun-order fold texts c.args.self begun))))
+    (begun-order ignores_case texts c.args.self begun))))
 
 pub loop-at-init : goal.loop-at-init
 loop-at-init g c =
@@ -58,12 +58,12 @@ loop-at-init g c =
       going = subst (λ (from : Source). IsGoingFrom from.kind from.sorted c.push-2.new.self.items
           new.transitions.items new.queue.items 0) (sym kept) (λ texts order.
           let sorted = c.args.self.sorted in
-          let patterns = map (plain sorted.fold) texts in
+          let patterns = map (plain sorted.ignores_case) texts in
           rw (c.in_ok-push-2.ensures.items, c.in_ok-push.ensures.items, same)
-          (start-going c.args.self.kind sorted.fold patterns sorted.patterns c.args.self.states.items
+          (start-going c.args.self.kind sorted.ignores_case patterns sorted.patterns c.args.self.states.items
           c.args.self.queue.items c.start-start.result c.in_ok-start.start new.transitions.items new.queue.items
           begun.two begun.no_queue
-          order (sorted-plain c.args.self.kind sorted.fold texts sorted.patterns order)
+          order (sorted-plain c.args.self.kind sorted.ignores_case texts sorted.patterns order)
           c.start-start.ensures.depth
           (c.in_ok-start.ensures.branched patterns (start-may g s texts order))));
     }
@@ -71,8 +71,8 @@ loop-at-init g c =
 -- the patterns stay what they are
 module _ (g : Over) (c : At-loop-at g) where
   order-now : (texts : List (List ℕ))
-      → IsOrder c.args.self.kind (map (plain c.args.self.sorted.fold) texts) c.args.self.sorted.patterns
-      → IsOrder c.loop-at.self.kind (map (plain c.loop-at.self.sorted.fold) texts)
+      → IsOrder c.args.self.kind (map (plain c.args.self.sorted.ignores_case) texts) c.args.self.sorted.patterns
+      → IsOrder c.loop-at.self.kind (map (plain c.loop-at.self.sorted.ignores_case) texts)
       c.loop-at.self.sorted.patterns
   order-now texts order = grind (arith, common_steps)
 
@@ -82,11 +82,11 @@ module _ (g : Over) (c : After-index-queued g) where
   waits = search (rules, slice_get_read)
 
   may : (texts : List (List ℕ))
-      → IsOrder c.loop-at.self.kind (map (plain c.loop-at.self.sorted.fold) texts)
+      → IsOrder c.loop-at.self.kind (map (plain c.loop-at.self.sorted.ignores_case) texts)
       c.loop-at.self.sorted.patterns
-      → MayBranch (map (plain c.loop-at.self.sorted.fold) texts) c.loop-at.self c.index-queued.result.now
+      → MayBranch (map (plain c.loop-at.self.sorted.ignores_case) texts) c.loop-at.self c.index-queued.result.now
   may texts order =
-      going-ready c.loop-at.self.kind c.loop-at.self.sorted.fold (map (plain c.loop-at.self.sorted.fold) texts)
+      going-ready c.loop-at.self.kind c.loop-at.self.sorted.ignores_case (map (plain c.loop-at.self.sorted.ignores_case) texts)
       c.loop-at.self.sorted.patterns (c.loop-at.invariant.going texts order) waits
 
 pub branch-self-requires-in-loop-at : goal.branch-self-requires-in-loop-at
@@ -96,26 +96,26 @@ branch-self-requires-in-loop-at g c =
     let at = (goal.at.branch-self-requires-in-loop-at g c).At-loop-at in
     record {
       ready = (
-        map (plain c.loop-at.self.sorted.fold) begun.1,
+        map (plain c.loop-at.self.sorted.ignores_case) begun.1,
         may g s begun.1 (order-now g at begun.1 (begun-order begun.0 begun.1 c.args.self begun.2)),
       );
     }
 
 pub returns-in_err-state : goal.returns-in_err-state
-returns-in_err-state g c = λ fold texts begun.
+returns-in_err-state g c = λ ignores_case texts begun.
     let s = (goal.at.returns-in_err-state g c).After-index-queued in
     let at = (goal.at.returns-in_err-state g c).At-loop-at in
-    let same : c.loop-at.self.sorted.fold ≡ fold =
-    ap (λ (sorted : Sorted). sorted.fold) c.loop-at.invariant.sorted ∙ begun.sorts.fold_is in
+    let same : c.loop-at.self.sorted.ignores_case ≡ ignores_case =
+    ap (λ (sorted : Sorted). sorted.ignores_case) c.loop-at.invariant.sorted ∙ begun.sorts.fold_is in
     refused-by c.from_residual-in_err-state.result c.in_err-state.field-0.0 _
-    (IsRefused (too_many_states c.args.self.kind (map (plain fold) texts)))
+    (IsRefused (too_many_states c.args.self.kind (map (plain ignores_case) texts)))
     c.from_residual-in_err-state.ensures.1
-    (subst (λ (k : MatchKind). IsRefused (too_many_states k (map (plain fold) texts)) c.in_err-state.field-0.0)
+    (subst (λ (k : MatchKind). IsRefused (too_many_states k (map (plain ignores_case) texts)) c.in_err-state.field-0.0)
     c.loop-at.invariant.kind
     (subst (λ (f : Bool). IsRefused (too_many_states c.loop-at.self.kind (map (plain f) texts))
     c.in_err-state.field-0.0) same
-    (c.in_err-state.ensures.branched (map (plain c.loop-at.self.sorted.fold) texts)
-    (may g s texts (order-now g at texts (begun-order fold texts c.args.self begun))))))
+    (c.in_err-state.ensures.branched (map (plain c.loop-at.self.sorted.ignores_case) texts)
+    (may g s texts (order-now g at texts (begun-order ignores_case texts c.args.self begun))))))
 
 pub loop-at-smaller : goal.loop-at-smaller
 loop-at-smaller g c =
@@ -137,28 +137,28 @@ loop-at-preserved g c =
       going = subst (λ (from : Source). IsGoingFrom from.kind from.sorted c.push-in-loop-at.new.self.items
           new.transitions.items new.queue.items (c.loop-at.at + 1)) (sym kept) (λ texts order.
           let sorted = c.loop-at.self.sorted in
-          let patterns = map (plain sorted.fold) texts in
+          let patterns = map (plain sorted.ignores_case) texts in
           rw (c.in_ok-push-3.ensures.items, same)
-          (going-on c.loop-at.self.kind sorted.fold patterns sorted.patterns
+          (going-on c.loop-at.self.kind sorted.ignores_case patterns sorted.patterns
           (c.loop-at.invariant.going texts order) (waits g s)
           (c.in_ok-state.ensures.branched patterns (may g s texts order))));
     }
 
 -- where all of them are complete the trie is whole
 pub returns : goal.returns
-returns g c = λ fold texts begun.
+returns g c = λ ignores_case texts begun.
     let at = (goal.at.returns g c).At-loop-at in
-    let h = c.loop-at.invariant.going texts (order-now g at texts (begun-order fold texts c.args.self begun)) in
+    let h = c.loop-at.invariant.going texts (order-now g at texts (begun-order ignores_case texts c.args.self begun)) in
     let all : length c.loop-at.self.queue.items ≤ c.loop-at.at =
     (omega (arith, c.len.ensures, c.loop-at.self.queue.ok.0, c.loop-at-test.false)) in
-    let same : c.loop-at.self.sorted.fold ≡ fold =
-    ap (λ (sorted : Sorted). sorted.fold) c.loop-at.invariant.sorted ∙ begun.sorts.fold_is in
-    let whole : IsWhole texts c.loop-at.self.sorted.fold c.loop-at.self.kind
+    let same : c.loop-at.self.sorted.ignores_case ≡ ignores_case =
+    ap (λ (sorted : Sorted). sorted.ignores_case) c.loop-at.invariant.sorted ∙ begun.sorts.fold_is in
+    let whole : IsWhole texts c.loop-at.self.sorted.ignores_case c.loop-at.self.kind
     (numbers c.loop-at.self.sorted.patterns)
     c.loop-at.self.transitions.items c.loop-at.self.states.items =
     record { nodes = _; is_trie = whole-trie texts h all; few = whole-few texts h all } in
     rw c.in_ok-numbers.ensures
-    (subst (λ (k : MatchKind). IsWhole texts fold k (numbers c.loop-at.self.sorted.patterns)
+    (subst (λ (k : MatchKind). IsWhole texts ignores_case k (numbers c.loop-at.self.sorted.patterns)
     c.loop-at.self.transitions.items c.loop-at.self.states.items) c.loop-at.invariant.kind
     (subst (λ (f : Bool). IsWhole texts f c.loop-at.self.kind (numbers c.loop-at.self.sorted.patterns)
     c.loop-at.self.transitions.items c.loop-at.self.states.items) same whole))

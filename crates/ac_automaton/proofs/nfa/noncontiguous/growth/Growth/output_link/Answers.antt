@@ -1,7 +1,7 @@
 use Rattle.std.proofs.Common.{◌<◌, ◌≤◌, length, subst, sym, arith, Some, rules}
 use Rattle.ac_automaton.specs.Prelude.{Links, State}
 use Rattle.ac_automaton.proofs.Grown.{state-read}
-use Rattle.ac_automaton.proofs.Linking.{link-here, link-behind}
+use Rattle.ac_automaton.proofs.Linking.{link-here, link-beyond}
 use Rattle.ac_automaton.proofs.nfa.noncontiguous.growth.Growth.output_link.Goals as goal
 
 pub returns-then-target : goal.returns-then-target
@@ -14,5 +14,5 @@ returns-else-target g c = λ m u a due.
     let is = state-read c.args.self.now.states.items c.index-target.result.now c.as_usize-2.result c.args.fail
     c.as_usize-2.ensures.value there c.index-target.ensures in
     subst (λ (t : State). Links m (length c.args.self.now.states.items) (Some u) t.output_link) (sym is)
-    (link-behind m c.args.self.now.states.items u c.args.fail a due there
+    (link-beyond m c.args.self.now.states.items u c.args.fail a due there
     (subst (λ (t : State). t.patterns_end ≤ t.patterns) is c.if-target.false))

@@ -22,8 +22,8 @@ returns g c =
     let sorted = c.sort_unstable_by.new.self.items in
     record {
       fold_is = refl;
-      order = IsOrder-from_sorted c.args.fold c.args.patterns.now listed c.in_ok-patterns.ensures.listed sorted
+      order = IsOrder-from_sorted c.args.ignores_case c.args.patterns.now listed c.in_ok-patterns.ensures.listed sorted
           c.sort_unstable_by.ensures.permutation
-          (IsSortedBy-from_calls c.args.fold sorted c.sort_unstable_by.ensures.sorted
+          (IsSortedBy-from_calls c.args.ignores_case sorted c.sort_unstable_by.ensures.sorted
           (λ a r f called. search rules));
     }

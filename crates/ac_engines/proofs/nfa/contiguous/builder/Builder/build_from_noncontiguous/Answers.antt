@@ -27,14 +27,14 @@ invariant_of-result g c =
     let numbers = c.deref.ensures.value in
     let placed = starts-placed c.new-plan.result nodes.0 c.in_ok-numbers.numbers.items nodes.1
     (c.in_ok-numbers.ensures nodes.0 nodes.1) in
-    let common : c.in_ok-clone-2.field-0 ≡ common_of c.args.nfa.now.built c.args.nfa.now.filters =
+    let common : c.in_ok-clone-2.field-0 ≡ common_of c.args.nfa.now.built c.args.nfa.now.wants_prefilter =
     c.in_ok-clone-2.ensures.cases ∙ c.common.ensures in (
       places_of c.new-plan.result nodes.0 c.deref.result.now,
       subst (λ (p : ContiguousView). IsContiguous p (places_of c.new-plan.result nodes.0 c.deref.result.now))
           (sym (packed-same c.new-plan.result nodes.0 c.deref.result.now c.in_ok-words.words.items
           c.in_ok-clone-2.field-0 c.self.inside.dense_depth c.classes_for-classes.result c.index.result.now
           c.index-2.result.now c.sizes-sizes.result.match_end
-          (common ∙ ap (λ (q : PackPlan). common_of q.trie.built q.trie.filters) (sym plan))
+          (common ∙ ap (λ (q : PackPlan). common_of q.trie.built q.trie.wants_prefilter) (sym plan))
           nodes.1.are_nodes.is_trie.both
           (ap (λ (q : PackPlan). q.dense_depth) (sym plan)) (ap (λ (q : PackPlan). q.classes) (sym plan))
           (read-number c.in_ok-numbers.numbers.items c.deref.result.now START c.index.result.now

@@ -2,7 +2,7 @@ use Rattle.std.proofs.Common.{◌≡◌, ap, sym, subst, arith, ◌∙◌, ◌�
 use Rattle.ac_util.specs.Node.{failure}
 use Rattle.ac_automaton.specs.Prelude.{AreNodes, plain_of, Trie}
 use Rattle.ac_engines.specs.Prelude.{Packer, PackPlan}
-use Rattle.ac_engines.proofs.StateSpellings.{failure-spelled}
+use Rattle.ac_engines.proofs.PackedNodes.{failure-format_words}
 use Rattle.ac_engines.proofs.nfa.contiguous.pack.Packer.failure.Goals as goal
 
 -- after them it is the place of the target
@@ -12,6 +12,6 @@ returns g c = λ nodes u ready named.
     let at = c.as_usize.ensures.value in
     let inner = c.if-as_usize-lt-FIRST_INNER.false in
     c.number.ensures
-    ∙ failure-spelled c.args.self.now nodes ready c.args.sid c.fail.result u (omega arith) named c.fail.ensures.start
+    ∙ failure-format_words c.args.self.now nodes ready c.args.sid c.fail.result u (omega arith) named c.fail.ensures.start
     (λ x w there. subst (λ (t : Trie). slice_get nodes c.fail.result ≡ Some (failure t.built.kind (plain_of t.built) (x ∷ w)))
     trie (c.fail.ensures.target nodes x w (subst (λ (t : Trie). AreNodes t nodes) (sym trie) ready.may.are_nodes) there))

@@ -1,9 +1,10 @@
-use Rattle.std.proofs.Common.{◌≡◌, ◌++◌, sym, subst, ◌∙◌, List, map, Some, IfOk, slice_get, rules, arith}
+use Rattle.std.proofs.Common.{◌≡◌, ◌++◌, sym, subst, ◌∙◌, [], ap, List, map, Some, IfOk, slice_get, arith}
 use Rattle.std.specs.List.Sorted.{IsStrictlyIncreasing}
 use Rattle.std.proofs.lemmas.Grind.{common_steps}
-use Rattle.ac_automaton.specs.Util.{alphabet_len, Node}
-use Rattle.ac_engines.specs.Prelude.{AreReady, Edge, node_format, state_spelling}
-use Rattle.ac_engines.proofs.StateSpellings.{spelled-by_parts, state-spells}
+use Rattle.ac_automaton.specs.Util.{alphabet_len, No, Node}
+use Rattle.ac_automaton.specs.Prelude.{AreNodes, matches_of, Trie}
+use Rattle.ac_engines.specs.Prelude.{anchored_of, AreReady, Edge, MayPack, node_format, packed_of, Packer, PackPlan, places_of, packed_state}
+use Rattle.ac_engines.proofs.PackedNodes.{matches-format_words, format_words-by_parts, state-spells}
 use Rattle.ac_engines.proofs.nfa.contiguous.pack.Packer.push.Given.{Over}
 use Rattle.ac_engines.proofs.nfa.contiguous.pack.Packer.push.Goals.{After-alphabet_len}
 use Rattle.ac_engines.proofs.nfa.contiguous.pack.Packer.push.Goals as goal
@@ -11,52 +12,62 @@ use Rattle.ac_engines.proofs.nfa.contiguous.pack.Packer.push.Goals as goal
 module _ (g : Over) (c : After-alphabet_len g) (nodes : List Node) (u : Node) (ready : AreReady c.args.self.now nodes)
     (named : slice_get nodes c.args.sid ≡ Some u) where
   -- the transitions, the matches, the form and the number of classes
-  edges : c.deref.result.now ≡ (state_spelling c.args.self.now nodes c.args.sid u).edges
+  edges : c.deref.result.now ≡ (packed_state c.args.self.now nodes c.args.sid u).edges
   edges = c.deref.ensures.value ∙ c.in_ok-list_edges.ensures nodes u ready named
 
-  matches : c.deref-2.result.now ≡ (state_spelling c.args.self.now nodes c.args.sid u).matches
-  matches = c.deref-2.ensures.value ∙ c.in_ok-list_matches.ensures nodes u ready named
+  matches : c.deref-2.result.now ≡ (packed_state c.args.self.now nodes c.args.sid u).matches
+  matches =
+      let trie = ap (λ (p : PackPlan). p.trie) c.plan.view_is ∙ ap (λ (f : Packer). f.plan.trie) c.self.view_is in
+      let f = c.args.self.now in
+      subst (λ (t : Trie). c.deref-2.result.now ≡ matches_of t.built No u) trie
+      (c.deref-2.ensures.value
+      ∙ c.in_ok-list_matches.ensures nodes u (subst (λ (t : Trie). AreNodes t nodes) (sym trie) ready.may.are_nodes) named)
+      ∙ sym (matches-format_words (packed_of f.plan nodes f.numbers []) (places_of f.plan nodes f.numbers) (anchored_of c.args.sid) u)
 
   form : c.format.result ≡ node_format c.args.self.now.plan.trie.built c.args.self.now.plan.dense_depth u
-  form = search rules
+  form =
+      let plan = ap (λ (f : Packer). f.plan) c.self.view_is in
+      subst (λ (p : PackPlan). c.format.result ≡ node_format p.trie.built p.dense_depth u) plan
+      (c.format.ensures nodes u (subst (λ (p : PackPlan). MayPack p nodes) (sym plan) ready.may) named)
 
   classes : c.alphabet_len.result ≡ alphabet_len c.args.self.now.plan.classes
   classes = grind (arith, common_steps)
 
 pub push_state-requires-clause-fits : goal.push_state-requires-clause-fits
 push_state-requires-clause-fits g c =
-    let at = c.requires.state in
-    let spells = state-spells c.args.self.now at.nodes at.ready c.args.sid at.node at.reached at.named in
+    let at = c.requires.state.words in
+    let spells = state-spells c.args.self.now at.nodes c.requires.state.ready c.args.sid at.node at.reached at.named in
     rw (
-      form g c at.nodes at.node at.ready at.named,
-      edges g c at.nodes at.node at.ready at.named,
-      matches g c at.nodes at.node at.ready at.named,
-      c.failure.ensures at.nodes at.node at.ready at.named,
-      c.missing.ensures at.nodes at.node at.ready at.named,
+      form g c at.nodes at.node c.requires.state.ready at.named,
+      edges g c at.nodes at.node c.requires.state.ready at.named,
+      matches g c at.nodes at.node c.requires.state.ready at.named,
+      c.failure.ensures at.nodes at.node c.requires.state.ready at.named,
+      c.default_target.ensures at.nodes at.node c.requires.state.ready at.named,
     ) spells.fits
 
 pub push_state-requires-clause-ascending : goal.push_state-requires-clause-ascending
 push_state-requires-clause-ascending g c =
-    let at = c.requires.state in
-    let spells = state-spells c.args.self.now at.nodes at.ready c.args.sid at.node at.reached at.named in
-    subst (λ (es : List Edge). IsStrictlyIncreasing (map (λ (e : Edge). e.class) es)) (sym (edges g c at.nodes at.node at.ready at.named)) spells.ascending
+    let at = c.requires.state.words in
+    let spells = state-spells c.args.self.now at.nodes c.requires.state.ready c.args.sid at.node at.reached at.named in
+    subst (λ (es : List Edge). IsStrictlyIncreasing (map (λ (e : Edge). e.class) es))
+    (sym (edges g c at.nodes at.node c.requires.state.ready at.named)) spells.ascending
 
 pub push_state-requires-clause-within : goal.push_state-requires-clause-within
 push_state-requires-clause-within g c =
-    let at = c.requires.state in
-    let spells = state-spells c.args.self.now at.nodes at.ready c.args.sid at.node at.reached at.named in
-    rw (classes g c at.nodes at.node at.ready at.named, edges g c at.nodes at.node at.ready at.named) spells.below
+    let at = c.requires.state.words in
+    let spells = state-spells c.args.self.now at.nodes c.requires.state.ready c.args.sid at.node at.reached at.named in
+    rw (classes g c at.nodes at.node c.requires.state.ready at.named, edges g c at.nodes at.node c.requires.state.ready at.named) spells.below
 
 pub push_state-requires-clause-few_matches : goal.push_state-requires-clause-few_matches
 push_state-requires-clause-few_matches g c =
-    let at = c.requires.state in
-    let spells = state-spells c.args.self.now at.nodes at.ready c.args.sid at.node at.reached at.named in
-    rw (matches g c at.nodes at.node at.ready at.named) spells.few_matches
+    let at = c.requires.state.words in
+    let spells = state-spells c.args.self.now at.nodes c.requires.state.ready c.args.sid at.node at.reached at.named in
+    rw (matches g c at.nodes at.node c.requires.state.ready at.named) spells.few_matches
 
 pub returns : goal.returns
 returns g c = λ nodes u ready named.
-    subst (λ ws. IfOk c.push_state.result (λ _. c.push_state.new.words.items ≡ c.args.pages.now.words.items ++ ws))
-    (spelled-by_parts _ _ _ _ _ _ (form g c.before nodes u ready named) (classes g c.before nodes u ready named)
-    (c.failure.ensures nodes u ready named) (c.missing.ensures nodes u ready named)
+    subst (λ ws. IfOk c.push_state.result (λ _. c.push_state.new.words.items ≡ c.args.buffers.now.words.items ++ ws))
+    (format_words-by_parts _ _ _ _ _ _ (form g c.before nodes u ready named) (classes g c.before nodes u ready named)
+    (c.failure.ensures nodes u ready named) (c.default_target.ensures nodes u ready named)
     (edges g c.before nodes u ready named) (matches g c.before nodes u ready named))
     c.push_state.ensures

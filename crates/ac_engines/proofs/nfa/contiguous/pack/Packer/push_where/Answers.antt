@@ -10,7 +10,7 @@ use Rattle.ac_engines.proofs.nfa.contiguous.pack.Packer.push_where.Goals as goal
 
 -- nothing is pushed at first
 pub loop-state-init : goal.loop-state-init
-loop-state-init g c = λ nodes ready. pushed-none c.args.self.now nodes c.args.front c.args.pages.now.words.items
+loop-state-init g c = λ nodes ready. pushed-none c.args.self.now nodes c.args.front c.args.buffers.now.words.items
 
 -- each state has words
 pub is_match-requires : goal.is_match-requires
@@ -25,11 +25,14 @@ push-requires g c =
     c.loop-state-test.true in
     record {
       state = record {
-        nodes = nodes;
+        words = record {
+          nodes = nodes;
+          may = ready.may;
+          node = own.node;
+          named = rw c.must-sid.ensures.value own.named;
+          reached = omega (arith, c.loop-state.auto.state, c.must-sid.ensures.value);
+        };
         ready = ready;
-        node = own.node;
-        named = rw c.must-sid.ensures.value own.named;
-        reached = omega (arith, c.loop-state.auto.state, c.must-sid.ensures.value);
       };
     }
 
@@ -37,7 +40,7 @@ push-requires g c =
 pub loop-state-preserved : goal.loop-state-preserved
 loop-state-preserved g c = λ nodes ready.
     let f = c.args.self.now in
-    let old = c.args.pages.now.words.items in
+    let old = c.args.buffers.now.words.items in
     let plan = ap (λ (f : Packer). f.plan) c.self.view_is in
     let own = named-below f.plan nodes ready.may _ _ c.loop-state.state (c.plan.view_is ∙ plan)
     c.states_len-state-end.ensures.value c.loop-state-test.true in
@@ -46,14 +49,14 @@ loop-state-preserved g c = λ nodes ready.
     ∙ ap (λ (q : PackPlan). has_matches q nodes own.node) plan in
     elim c.if-is_match-front.branch [
       | then-is_match-front+in_ok-push w ↦
-          rw w.pages-is (pushed-next f nodes ready c.args.front c.loop-state.state own.node c.loop-state.auto.state
-          own.named old c.loop-state.pages.words.items (c.loop-state.invariant nodes ready) _
+          rw w.buffers-is (pushed-next f nodes ready c.args.front c.loop-state.state own.node c.loop-state.auto.state
+          own.named old c.loop-state.buffers.words.items (c.loop-state.invariant nodes ready) _
           (sym matched ∙ (booleans_Decides c.is_match.result c.args.front).0 w.if-is_match-front.true)
-          (subst (λ n. w.push.new.pages.words.items ≡ c.loop-state.pages.words.items ++ state_words f nodes n own.node)
+          (subst (λ n. w.push.new.buffers.words.items ≡ c.loop-state.buffers.words.items ++ state_words f nodes n own.node)
           c.must-sid.ensures.value (w.in_ok-push.ensures nodes own.node ready named)))
       | else-is_match-front w ↦
-          rw w.pages-is (passed-over f nodes ready c.args.front c.loop-state.state own.node c.loop-state.auto.state
-          own.named old c.loop-state.pages.words.items (c.loop-state.invariant nodes ready)
+          rw w.buffers-is (passed-over f nodes ready c.args.front c.loop-state.state own.node c.loop-state.auto.state
+          own.named old c.loop-state.buffers.words.items (c.loop-state.invariant nodes ready)
           (λ input. false≢true (sym w.if-is_match-front.false
           ∙ (booleans_Decides c.is_match.result c.args.front).1 (matched ∙ input))))
     ]
@@ -66,6 +69,6 @@ returns g c = λ nodes ready.
     c.states_len-state-end.ensures.value in
     let all : c.loop-state.state ≡ length nodes =
     omega (arith, states, c.loop-state-test.false, c.loop-state.auto.state-end, ready.may.are_nodes.numbered.count) in
-    pushed-all f nodes c.args.front c.args.pages.now.words.items c.loop-state.pages.words.items
-    (subst (λ n. HasPushedUpTo f nodes c.args.front n c.args.pages.now.words.items c.loop-state.pages.words.items) all
+    pushed-all f nodes c.args.front c.args.buffers.now.words.items c.loop-state.buffers.words.items
+    (subst (λ n. HasPushedUpTo f nodes c.args.front n c.args.buffers.now.words.items c.loop-state.buffers.words.items) all
     (c.loop-state.invariant nodes ready))

@@ -1,6 +1,6 @@
 use Rattle.std.proofs.Common.{◌≡◌, ◌≤◌, length, refl, ap, sym, subst, ◌∙◌, arith}
 use Rattle.ac_util.specs.Node.{depth}
-use Rattle.ac_automaton.specs.Prelude.{AreNodes, own_bytes, Trie}
+use Rattle.ac_automaton.specs.Prelude.{AreNodes, transition_bytes_of, Trie}
 use Rattle.ac_engines.specs.Prelude.{format_of, node_format, PackPlan}
 use Rattle.ac_engines.proofs.InnerStates.{inner-long}
 use Rattle.ac_engines.proofs.nfa.contiguous.plan.Plan.format.Goals as goal
@@ -16,8 +16,8 @@ returns g c nodes u may named =
     let long = inner-long q.trie nodes c.args.sid u may.are_nodes inner named in
     let deep = c.depth.ensures nodes u are named in
     let own = c.own_len.ensures.value nodes u are named
-    ∙ ap (λ (t : Trie). length (own_bytes t.built u)) trie in
+    ∙ ap (λ (t : Trie). length (transition_bytes_of t.built u)) trie in
     let matches = c.match_len.ensures.value nodes u may named in
-    let inner_is : format_of (depth u) q.dense_depth (length (own_bytes q.trie.built u)) _
+    let inner_is : format_of (depth u) q.dense_depth (length (transition_bytes_of q.trie.built u)) _
     ≡ node_format q.trie.built q.dense_depth u = rw long.node refl in
     c.format_of.ensures ∙ (λ i. format_of (deep i) (dense i) (own i) (matches i)) ∙ inner_is

@@ -1,8 +1,8 @@
 use Rattle.std.proofs.Common.{length, ap, sym, subst, ◌∙◌, arith}
 use Rattle.ac_util.specs.Classes.{alphabet_len}
-use Rattle.ac_automaton.specs.Prelude.{AreNodes, own_bytes, Trie}
+use Rattle.ac_automaton.specs.Prelude.{AreNodes, transition_bytes_of, Trie}
 use Rattle.ac_engines.specs.Prelude.{PackPlan, words_of_state}
-use Rattle.ac_engines.proofs.MatchCounts.{own_bytes-few}
+use Rattle.ac_engines.proofs.MatchCounts.{transition_bytes_of-few}
 use Rattle.ac_engines.proofs.WordCounts.{node_words-most}
 use Rattle.ac_engines.proofs.nfa.contiguous.plan.Plan.words.Goals as goal
 
@@ -12,7 +12,7 @@ state_words-requires-clause-transitions g c =
     let has = c.requires.state in
     let trie = ap (λ (p : PackPlan). p.trie) c.self.view_is in
     let are = subst (λ (t : Trie). AreNodes t has.nodes) (sym trie) has.may.are_nodes in
-    omega (arith, c.own_len.ensures.value has.nodes has.node are has.named, own_bytes-few c.self.inside.nfa.now.built has.node)
+    omega (arith, c.own_len.ensures.value has.nodes has.node are has.named, transition_bytes_of-few c.self.inside.nfa.now.built has.node)
 
 -- what its words are counted from is what the node has
 pub returns-clause-value : goal.returns-clause-value
@@ -22,7 +22,7 @@ returns-clause-value g c nodes u may named =
     let format = c.format.ensures nodes u may named in
     let classes = c.alphabet_len.ensures.value ∙ ap (λ (p : PackPlan). alphabet_len p.classes) c.self.view_is in
     let own = c.own_len.ensures.value nodes u are named
-    ∙ ap (λ (t : Trie). length (own_bytes t.built u)) trie in
+    ∙ ap (λ (t : Trie). length (transition_bytes_of t.built u)) trie in
     let matches = c.match_len.ensures.value nodes u may named in
     c.state_words.ensures ∙ (λ i. words_of_state (format i) (classes i) (own i) (matches i))
 

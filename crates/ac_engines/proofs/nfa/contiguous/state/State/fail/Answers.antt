@@ -1,4 +1,4 @@
-use Rattle.ac_engines.proofs.Spellings.{has-failure}
+use Rattle.ac_engines.proofs.PackedWords.{has-failure}
 use Rattle.ac_engines.proofs.nfa.contiguous.state.State.fail.Goals as goal
 
 -- the failure target is the second word

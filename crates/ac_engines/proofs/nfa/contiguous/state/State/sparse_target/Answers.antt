@@ -2,7 +2,7 @@ use Rattle.std.proofs.Common.{refl, ◌+◌, ◌*◌, List, ℕ, Some, ap, sym, 
 use Rattle.std.proofs.lemmas.List.{get_or_append_left, length-append}
 use Rattle.ac_engines.specs.Prelude.{FAIL, target_by}
 use Rattle.ac_engines.proofs.ClassWords.{none-left, target-named, place-found, place-missed, place-within, targets_of}
-use Rattle.ac_engines.proofs.Spellings.{named-none, named-some, splits-at}
+use Rattle.ac_engines.proofs.PackedWords.{named-none, named-some, splits-at}
 use Rattle.ac_engines.proofs.nfa.contiguous.state.State.sparse_target.Goals as goal
 
 -- two words stand before the class words

@@ -1,7 +1,7 @@
 use Rattle.std.proofs.Common.{◌∙◌, List, ℕ, Some, ap, sym, arith, slice_index_or}
 use Rattle.std.proofs.lemmas.Grind.{common_steps}
 use Rattle.ac_engines.specs.Contiguous.Words.{named, target_by}
-use Rattle.ac_engines.proofs.Spellings.{has-failure, named-none, named-some, leads-at, leads-one, is-dense, is-one, is-sparse}
+use Rattle.ac_engines.proofs.PackedWords.{has-failure, named-none, named-some, leads-at, leads-one, is-dense, is-one, is-sparse}
 use Rattle.ac_engines.proofs.nfa.contiguous.state.State.target.Goals as goal
 
 pub bounds-self-0 : goal.bounds-self-0
@@ -45,7 +45,7 @@ returns-then-form-2 c = λ format classes s h are low.
     let sparse = is-sparse c.args.self.words.now classes s format h (λ dense. c.if-form.false (low_byte ∙ dense))
     (λ one. c.if-form-2.true (low_byte ∙ one)) in
     c.sparse_target.ensures classes s sparse.begins are (low_byte ∙ sparse.counts)
-    ∙ ap (λ (missing : ℕ). named (target_by missing s.edges c.args.class)) (sym sparse.begins.fits.1)
+    ∙ ap (λ (default_target : ℕ). named (target_by default_target s.edges c.args.class)) (sym sparse.begins.fits.1)
 
 -- one transition has one target
 pub bounds-self-2 : goal.bounds-self-2
@@ -68,4 +68,4 @@ returns-else-only-class c = λ format classes s h are low.
     let low_byte = ap (λ (ns : List ℕ). slice_index_or ns 0 0) c.to_le_bytes.ensures in
     let next_byte = ap (λ (ns : List ℕ). slice_index_or ns 1 0) c.to_le_bytes.ensures in
     let one = is-one c.args.self.words.now classes s format h (sym low_byte ∙ c.if-form-2.false) in
-    (leads-one c.args.self.words.now classes s c.args.class one).miss (λ same. c.if-only-class.false (next_byte ∙ same))
+    (leads-one c.args.self.words.now classes s c.args.class one).fallback (λ same. c.if-only-class.false (next_byte ∙ same))

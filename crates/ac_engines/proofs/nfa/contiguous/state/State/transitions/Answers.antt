@@ -1,48 +1,48 @@
 use Rattle.std.proofs.Common.{◌≡◌, ◌+◌, ◌-◌, ◌∙◌, List, ℕ, length, take, drop, refl, ap, sym, arith, slice_index_or}
 use Rattle.std.proofs.lemmas.List.{length-map}
 use Rattle.std.proofs.lemmas.Grind.{common_steps}
-use Rattle.ac_engines.proofs.Spellings.{dense-lists, has-failure, is-one, is-sparse, leads-one, splits-at}
+use Rattle.ac_engines.proofs.PackedWords.{dense-lists, has-failure, is-one, is-sparse, leads-one, low-byte, splits-at}
 use Rattle.ac_engines.proofs.Transitions.{dense-transitions, one-transition, sparse-targets, sparse-transitions}
 use Rattle.ac_engines.proofs.nfa.contiguous.state.State.transitions.Goals as goal
 
+-- a state has two words at least
 pub bounds-self-0 : goal.bounds-self-0
 bounds-self-0 c = grind (arith, common_steps, has-failure c.args.self.words.now c.args.classes (c.requires).1 (c.requires).0 (c.requires).2)
+
+pub slice_bounds-split_at-count : goal.slice_bounds-split_at-count
+slice_bounds-split_at-count c =
+    grind (arith, common_steps, has-failure c.args.self.words.now c.args.classes (c.requires).1 (c.requires).0 (c.requires).2)
+
+pub slice_bounds-split_at-start : goal.slice_bounds-split_at-start
+slice_bounds-split_at-start c =
+    grind (arith, common_steps, has-failure c.args.self.words.now c.args.classes (c.requires).1 (c.requires).0 (c.requires).2)
 
 -- the targets of a dense state are there
 pub slice_bounds-result-end : goal.slice_bounds-result-end
 slice_bounds-result-end c =
     let r = c.requires in
-    let low_byte = ap (λ (ns : List ℕ). slice_index_or ns 0 0) c.to_le_bytes.ensures in
-    (dense-lists c.args.self.words.now c.args.classes r.1 r.0 r.2 (sym low_byte ∙ c.if-form.true)).within
+    (dense-lists c.args.self.words.now c.args.classes r.1 r.0 r.2 (low-byte _ _ 255 c.to_le_bytes.ensures c.if-form.true)).within
 
 -- a dense state has a target for each class
 pub returns-then-form : goal.returns-then-form
 returns-then-form c = λ format s h.
-    let low_byte = ap (λ (ns : List ℕ). slice_index_or ns 0 0) c.to_le_bytes.ensures in
     let count : 2 + c.args.classes - 2 ≡ c.args.classes = omega arith in
-    dense-transitions c.args.self.words.now c.args.classes s _ format h (sym low_byte ∙ c.if-form.true)
+    dense-transitions c.args.self.words.now c.args.classes s _ format h (low-byte _ _ 255 c.to_le_bytes.ensures c.if-form.true)
     (ap (λ (n : ℕ). take n (drop 2 c.args.self.words.now)) count)
 
 pub slice_bounds-result-end-then-form-2 : goal.slice_bounds-result-end-then-form-2
 slice_bounds-result-end-then-form-2 c =
     let r = c.requires in
-    let low_byte = ap (λ (ns : List ℕ). slice_index_or ns 0 0) c.to_le_bytes.ensures in
-    let one = is-one c.args.self.words.now c.args.classes r.1 r.0 r.2 (sym low_byte ∙ c.if-form-2.true) in
+    let one = is-one c.args.self.words.now c.args.classes r.1 r.0 r.2 (low-byte _ _ 254 c.to_le_bytes.ensures c.if-form-2.true) in
     let long = (leads-one c.args.self.words.now c.args.classes r.1 0 one).within in
     omega (arith, long)
 
 -- one transition has one target, and its class stands beside the form
 pub returns-then-form-2 : goal.returns-then-form-2
 returns-then-form-2 c = λ format s h.
-    let low_byte = ap (λ (ns : List ℕ). slice_index_or ns 0 0) c.to_le_bytes.ensures in
     let next_byte = ap (λ (ns : List ℕ). slice_index_or ns 1 0) c.to_le_bytes.ensures in
-    one-transition c.args.self.words.now c.args.classes s _ format _ h (sym low_byte ∙ c.if-form-2.true) next_byte refl
-
-pub slice_bounds-split_at-count : goal.slice_bounds-split_at-count
-slice_bounds-split_at-count c = grind (arith, common_steps, has-failure c.args.self.words.now c.args.classes (c.requires).1 (c.requires).0 (c.requires).2)
-
-pub slice_bounds-split_at-start : goal.slice_bounds-split_at-start
-slice_bounds-split_at-start c = grind (arith, common_steps, has-failure c.args.self.words.now c.args.classes (c.requires).1 (c.requires).0 (c.requires).2)
+    one-transition c.args.self.words.now c.args.classes s _ format _ h
+    (low-byte _ _ 254 c.to_le_bytes.ensures c.if-form-2.true) next_byte refl
 
 -- a sparse state has its class words and its targets
 pub split_at-requires : goal.split_at-requires

@@ -1,7 +1,0 @@
-use Rattle.std.proofs.Common.{take}
-use Rattle.ac_engines.specs.Contiguous.Words.{HasTargets}
-use Rattle.ac_engines.proofs.nfa.contiguous.draft.set_targets.Given as goal
-
--- the targets so far are set
-abbrev pub invariant-loop-edge : goal.invariant-loop-edge
-invariant-loop-edge l = HasTargets l.fn.targets (take l.edge-index l.edges) l.targets

@@ -1,0 +1,7 @@
+use Rattle.std.proofs.Common.{take}
+use Rattle.ac_engines.specs.Contiguous.Words.{HasTargets}
+use Rattle.ac_engines.proofs.nfa.contiguous.state_fields.set_targets.Given as goal
+
+-- the targets so far are set
+abbrev pub invariant-loop-edge : goal.invariant-loop-edge
+invariant-loop-edge l = HasTargets l.fn.targets (take l.edge-index l.edges) l.targets

@@ -1,0 +1,150 @@
+//! A reader and a writer that do little at once, and fail.
+use super::Triple;
+use crate::{MatchError, Sink, Source, StreamError};
+use ac_util::tally::Tally;
+use std::io;
+use std::io::ErrorKind;
+use std::marker::Model;
+
+/// How many calls of a reader are good that never fails.
+pub(super) const ALWAYS: usize = 1_000_000;
+
+/// Gives so many bytes a call at most, and fails once so many calls were made.
+#[derive(Drop)]
+pub(super) struct Pieces<'a> {
+    pub(super) left: &'a [u8],
+    most: usize,
+    good: usize,
+    failed: Tally,
+    empties: Tally,
+}
+
+impl<'a> Model for Pieces<'a> {
+    ghost use Rattle.std.specs.Prelude.{None};
+    ghost use Rattle.ac_util.specs.Device.{Reading};
+
+    ghost Value = { Reading };
+
+    ghost view = { λ p. record { left = None; failed = p.failed.number; empties = p.empties.number } };
+}
+
+impl<'a> Pieces<'a> {
+    pub(super) fn new(bytes: &'a [u8], most: usize, good: usize) -> Pieces<'a> {
+        Pieces {
+            left: bytes,
+            most,
+            good,
+            failed: Tally::zero(),
+            empties: Tally::zero(),
+        }
+    }
+}
+
+impl<'a> Source for Pieces<'a> {
+    ghost use Rattle.std.specs.Prelude.{false};
+
+    ghost told = { λ p. p };
+
+    ghost empty_means_end = { false };
+
+    fn read_some(&mut self, into: &mut [u8]) -> io::Result<usize> {
+        if self.good == 0 {
+            self.failed = Tally::after(&self.failed);
+            return Err(io::Error::from(ErrorKind::BrokenPipe));
+        }
+        self.good -= 1;
+        let left = self.left;
+        let n = self.most.min(left.len()).min(into.len());
+        into[..n].copy_from_slice(&left[..n]);
+        if n == 0 && !into.is_empty() {
+            self.empties = Tally::after(&self.empties);
+        }
+        self.left = &left[n..];
+        Ok(n)
+    }
+}
+
+/// Takes so many bytes a call at most, and so many in all; then it fails, or takes none.
+#[derive(Drop)]
+pub(super) struct Few {
+    pub(super) text: Vec<u8>,
+    most: usize,
+    room: usize,
+    fails: bool,
+    failed: Tally,
+    idles: Tally,
+}
+
+impl Model for Few {
+    ghost use Rattle.std.specs.Prelude.{None};
+    ghost use Rattle.ac_util.specs.Device.{Writing};
+
+    ghost Value = { Writing };
+
+    ghost view = { λ w. record { written = None; failed = w.failed.number; idles = w.idles.number } };
+}
+
+impl Few {
+    pub(super) fn new(rt: HostRuntime, most: usize, room: usize, fails: bool) -> Few {
+        Few {
+            text: Vec::new(rt.alloc()),
+            most,
+            room,
+            fails,
+            failed: Tally::zero(),
+            idles: Tally::zero(),
+        }
+    }
+}
+
+impl Sink for Few {
+    ghost told = { λ w. w };
+
+    fn write_some(&mut self, piece: &[u8]) -> io::Result<usize> {
+        let n = self.most.min(self.room).min(piece.len());
+        if n == 0 && self.fails {
+            self.failed = Tally::after(&self.failed);
+            return Err(io::Error::from(ErrorKind::BrokenPipe));
+        }
+        if let Err(e) = self.text.extend_from_slice(&piece[..n]) {
+            self.failed = Tally::after(&self.failed);
+            return Err(e.into());
+        }
+        if n == 0 && !piece.is_empty() {
+            self.idles = Tally::after(&self.idles);
+        }
+        self.room -= n;
+        Ok(n)
+    }
+}
+
+/// How a replacement ended, without the details of an `io::Error`.
+#[derive(Clone, Copy, PartialEq, Eq, Debug)]
+pub(super) enum End {
+    Whole,
+    Refused(MatchError),
+    Memory,
+    Io,
+    WriteZero,
+    TooLong,
+}
+
+pub(super) fn end_of(ended: Result<(), StreamError>) -> End {
+    match ended {
+        Ok(()) => End::Whole,
+        Err(StreamError::Match(refusal)) => End::Refused(refusal),
+        Err(StreamError::Memory) => End::Memory,
+        Err(StreamError::Io(_)) => End::Io,
+        Err(StreamError::WriteZero) => End::WriteZero,
+        Err(StreamError::TooLong) => End::TooLong,
+    }
+}
+
+/// An item of an iterator: none, an error, or a match as its number, start and end.
+pub(super) fn item_of(item: Option<Result<crate::Match, StreamError>>) -> Option<Option<Triple>> {
+    match item {
+        None => None,
+        Some(Err(_)) => Some(None),
+        Some(Ok(found)) => Some(Some((found.pattern().as_usize(), found.start(), found.end()))),
+    }
+}

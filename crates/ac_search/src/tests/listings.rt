@@ -1,0 +1,154 @@
+//! Each engine lists all occurrences as rows say.
+ghost use Rattle.std.specs.Prelude.{◌≡◌, IfOk, None};
+ghost use Rattle.ac_search.specs.Built.{overlapping_refusal, search_in};
+ghost use Rattle.ac_search.specs.Listing.{all};
+ghost use Rattle.ac_search.specs.InputView.{whole_input};
+
+use super::engines::{SENTENCE, WORDS, builder_of, engines};
+use super::{Triple, same, same_by, triple_of, triples_of};
+use crate::MatchKind::Standard;
+use crate::StartKind::{Both, Unanchored};
+use crate::{AhoCorasick, Anchored, Input, Match, OverlappingState, StartKind};
+use std::alloc::{AllocError, Global};
+use std::test::Fail;
+
+/// Patterns, a haystack, and the listing.
+type Listing = (&'static [&'static [u8]], &'static [u8], &'static [Triple]);
+
+const LISTINGS: &[Listing] = &[
+    (
+        &[b"he", b"she", b"his", b"hers"],
+        b"ushers",
+        &[(1, 1, 4), (0, 2, 4), (3, 2, 6)],
+    ),
+    (
+        &[b"append", b"appendage", b"app"],
+        b"append the app to the appendage",
+        &[
+            (2, 0, 3),
+            (0, 0, 6),
+            (2, 11, 14),
+            (2, 22, 25),
+            (0, 22, 28),
+            (1, 22, 31),
+        ],
+    ),
+    (&[b"", b"a"], b"a", &[(0, 0, 0), (1, 0, 1), (0, 1, 1)]),
+    (
+        &[b"ab", b"ab"],
+        b"abab",
+        &[(0, 0, 2), (1, 0, 2), (0, 2, 4), (1, 2, 4)],
+    ),
+    (&[b"aba"], b"ababa", &[(0, 0, 3), (0, 2, 5)]),
+    (&[b"abc"], b"xyz", &[]),
+];
+
+/// Returns the listing of a searcher as a row says it.
+fn listing_of(
+    alloc: Global,
+    searcher: &AhoCorasick,
+    input: Input<'_>,
+) -> Result<Vec<Triple>, Fail> {
+    Ok(triples_of(alloc, searcher.try_find_overlapping_iter(input)?)?)
+}
+
+/// The listing of `aaaa` from 1 to 4 by one letter a, two and three.
+const WITHIN_LETTERS: [Triple; 6] = [
+    (0, 1, 2),
+    (1, 1, 3),
+    (0, 2, 3),
+    (2, 1, 4),
+    (1, 2, 4),
+    (0, 3, 4),
+];
+
+#[test]
+fn each_engine_lists_alike(rt: HostRuntime) -> Result<(), Fail> {
+    for engine in &engines(rt.alloc())? {
+        for start_kind in [Unanchored, Both] {
+            let builder = builder_of(engine, Standard, start_kind);
+            for &(patterns, haystack, wanted) in LISTINGS {
+                let searcher = builder.build(rt.alloc(), patterns)?;
+                let listed = listing_of(rt.alloc(), &searcher, Input::new(haystack))?;
+                same_by(&rt, listed.as_slice(), wanted, &builder);
+            }
+            let searcher = builder.build(rt.alloc(), &[b"a", b"aa", b"aaa"])?;
+            let listed = listing_of(rt.alloc(), &searcher, Input::new(b"aaaa").range(1..4))?;
+            same_by(&rt, listed.as_slice(), WITHIN_LETTERS.as_slice(), &builder);
+        }
+    }
+    Ok(())
+}
+
+#[test]
+fn each_engine_lists_alike_from_its_start(rt: HostRuntime) -> Result<(), Fail> {
+    let input = Input::new(SENTENCE).anchored(Anchored::Yes);
+    for engine in &engines(rt.alloc())? {
+        for start_kind in [StartKind::Anchored, Both] {
+            let searcher = builder_of(engine, Standard, start_kind).build(rt.alloc(), WORDS)?;
+            let mut state = OverlappingState::start();
+            searcher.try_find_overlapping(input, &mut state)?;
+            same(
+                &rt,
+                state.get_match().map(|m| triple_of(&m)),
+                Some((2, 0, 3)),
+            );
+            searcher.try_find_overlapping(input, &mut state)?;
+            same(
+                &rt,
+                state.get_match().map(|m| triple_of(&m)),
+                Some((0, 0, 6)),
+            );
+            searcher.try_find_overlapping(input, &mut state)?;
+            same_by(&rt, state.get_match(), None, &start_kind);
+            let searcher = builder_of(engine, Standard, start_kind).build(
+                rt.alloc(),
+                &[b"b", b"abc"],
+            )?;
+            let input = Input::new(b"abc").anchored(Anchored::Yes);
+            let mut state = OverlappingState::start();
+            searcher.try_find_overlapping(input, &mut state)?;
+            same(
+                &rt,
+                state.get_match().map(|m| triple_of(&m)),
+                Some((1, 0, 3)),
+            );
+            searcher.try_find_overlapping(input, &mut state)?;
+            same_by(&rt, state.get_match(), None, &start_kind);
+        }
+    }
+    Ok(())
+}
+
+/// Returns all occurrences in a haystack, one call after another.
+fn all_by_state(
+    alloc: Global,
+    searcher: &AhoCorasick,
+    haystack: &[u8],
+) -> Result<Vec<Match>, AllocError>
+    requires { overlapping_refusal searcher.now.built (whole_input haystack.now) ≡ None }
+    ensures { IfOk result (λ found. found.items
+        ≡ all (search_in searcher.now.built (whole_input haystack.now))) }
+{
+    let mut state = OverlappingState::start();
+    let mut found = Vec::new(alloc);
+    loop {
+        searcher.find_overlapping(Input::new(haystack), &mut state);
+        let Some(m) = state.get_match() else {
+            return Ok(found);
+        };
+        found.push(m)?;
+    }
+}
+
+#[test]
+fn all_occurrences_are_listed(rt: HostRuntime) -> Result<(), Fail> {
+    let searcher = AhoCorasick::new(rt.alloc(), &[b"he", b"she", b"his", b"hers"])?;
+    let found = all_by_state(rt.alloc(), &searcher, b"ushers")?;
+    let listed: Vec<Triple> = found.iter().map(triple_of).collect(rt.alloc())?;
+    let wanted = [(1, 1, 4), (0, 2, 4), (3, 2, 6)];
+    same(&rt, listed.as_slice(), wanted.as_slice());
+    let items = searcher.find_overlapping_iter(Input::new(b"ushers"));
+    same(&rt, items.count(), 3);
+    Ok(())
+}

@@ -1,0 +1,110 @@
+//! A reader and a writer of bytes in memory.
+ghost use Rattle.std.specs.Prelude.{◌≡◌, true, [], Some, IfErr, IfOk, length};
+ghost use Rattle.std.specs.IoError.{error_kind};
+ghost use Rattle.std.specs.declared.io.ErrorKind.TheVariants.{OutOfMemory};
+ghost use Rattle.ac_util.specs.Device.{GivesAll, Reads, Writes};
+
+use super::misses::Misses;
+use super::{Sink, Source};
+use std::alloc::Allocator;
+use std::io;
+use std::io::Read;
+use std::marker::Model;
+
+/// Reads a slice of bytes. It never fails.
+#[derive(Drop)]
+pub struct Bytes<'a> {
+    left: &'a [u8],
+    misses: Misses,
+}
+
+impl<'a> Model for Bytes<'a> {
+    ghost use Rattle.std.specs.Prelude.{Some};
+    ghost use Rattle.ac_util.specs.Device.{Reading};
+
+    ghost Value = { Reading };
+
+    ghost view = { λ b. record { left = Some b.left.now; failed = b.misses.failed.number; empties = b.misses.idles.number } };
+}
+
+impl<'a> Bytes<'a> {
+    /// Returns a reader of these bytes.
+    pub fn new(bytes: &'a [u8]) -> Bytes<'a>
+        ensures { result ≡ record { left = Some bytes.now; failed = 0; empties = 0 } }
+    {
+        Bytes {
+            left: bytes,
+            misses: Misses::none(),
+        }
+    }
+}
+
+impl<'a> Source for Bytes<'a> {
+    ghost told = { λ b. b };
+
+    ghost empty_means_end = { true };
+
+    // Never fails, and gives all bytes that are left, or as many as fit.
+    fn read_some(&mut self, into: &mut [u8]) -> io::Result<usize>
+        ensures reads { Reads true self.old self.new result into.new }
+        ensures full { GivesAll self.old.left result into.old }
+    {
+        let n = self.left.read(into)?;
+        self.misses.note(n, into.len());
+        Ok(n)
+    }
+}
+
+/// A writer that keeps all that is written to it in memory.
+#[derive(Drop)]
+pub struct Written<A: Allocator> {
+    bytes: Vec<u8, A>,
+    misses: Misses,
+}
+
+impl<A: Allocator> Model for Written<A> {
+    ghost use Rattle.std.specs.Prelude.{Some};
+    ghost use Rattle.ac_util.specs.Device.{Writing};
+
+    ghost Value = { Writing };
+
+    ghost view = { λ w. record { written = Some w.bytes.items; failed = w.misses.failed.number; idles = w.misses.idles.number } };
+}
+
+impl<A: Allocator> Written<A> {
+    /// Returns a writer that holds nothing yet. It takes no memory.
+    pub fn new(alloc: A) -> Written<A>
+        ensures { result ≡ record { written = Some []; failed = 0; idles = 0 } }
+    {
+        Written {
+            bytes: Vec::new(alloc),
+            misses: Misses::none(),
+        }
+    }
+
+    /// Returns what was written so far.
+    pub fn bytes(&self) -> &[u8]
+        ensures { self.now.written ≡ Some result.now }
+    {
+        self.bytes.as_slice()
+    }
+}
+
+impl<A: Allocator> Sink for Written<A> {
+    ghost told = { λ w. w };
+
+    // Fails only where a request for memory is refused, and else takes all.
+    fn write_some(&mut self, piece: &[u8]) -> io::Result<usize>
+        ensures writes { Writes self.old self.new result piece.now }
+        ensures whole { IfOk result (λ n. n ≡ length piece.now) }
+        ensures refused { IfErr result (λ e. error_kind e ≡ OutOfMemory) }
+    {
+        match self.bytes.extend_from_slice(piece) {
+            Ok(()) => Ok(piece.len()),
+            Err(e) => {
+                self.misses.fail();
+                Err(e.into())
+            }
+        }
+    }
+}
