@@ -197,7 +197,7 @@ module _ (site : Site) where
     pub child-deep : site.queued.depth + 1 ≤ length (key_at site.sorted place)
     child-deep = search (rules, front, pushed, starts_with-length)
 
-    -- what the child's failure target is told by
+    -- what the child's failure target is given by
     pub has-child : HasChild site.kind site.ignores_case site.patterns site.sorted site.states transitions queue
         site.queued place b
     has-child = record {

@@ -43,8 +43,7 @@ module _ (site : Site) {place end b : ℕ} {transitions : List Transition} {queu
       let depth : q.depth - 1 ≡ site.queued.depth =
       (omega (arith, word-length waits, ap length w, pushed site h run)) in
       let same_string : take (q.depth - 1) (word site.sorted q) ≡ string site =
-      ap (λ (n : ℕ). take n (word site.sorted q)) (depth ∙ sym (long site h run))
-      ∙ ap (take (length (string site))) w
+      ap (λ (n : ℕ). take n (word site.sorted q)) (depth ∙ sym (long site h run)) ∙ ap (take (length (string site))) w
       ∙ take-append_seam (string site) (b ∷ []) in
       same-parent parent.parent parent.early (parent.named ∙ ap (λ (v : List ℕ). Some (Some v)) same_string)
     where
@@ -105,8 +104,7 @@ module _ (site : Site) {place end b : ℕ} {transitions : List Transition} {queu
       let front_long =
       starts_with-length (key_at site.sorted place) (string site ++ b ∷ []) (front site h run) in
       let named =
-      slice_get_within (nodes_of site.sorted queue) fail
-      (fallback site.kind site.patterns (Some (string site ++ b ∷ []))) fails in
+      slice_get_within (nodes_of site.sorted queue) fail (fallback site.kind site.patterns (Some (string site ++ b ∷ []))) fails in
       let count = length-map queue (λ (q : QueuedState). Some (word site.sorted q)) in
       record {
         deep = omega (arith, pushed site h run);
@@ -122,8 +120,7 @@ module _ (site : Site) {place end b : ℕ} {transitions : List Transition} {queu
 
   -- no two states in the queue have one string
   still-apart : (j k : ℕ) (q r : QueuedState) → slice_get (queue ++ child ∷ []) j ≡ Some q
-      → slice_get (queue ++ child ∷ []) k ≡ Some r
-      → word site.sorted q ≡ word site.sorted r → j ≡ k
+      → slice_get (queue ++ child ∷ []) k ≡ Some r → word site.sorted q ≡ word site.sorted r → j ≡ k
   still-apart j k q r e f w = search (rules, child-word, fresh, get-added_cases)
 
   -- the string of its parent is that of the state
@@ -140,8 +137,7 @@ module _ (site : Site) {place end b : ℕ} {transitions : List Transition} {queu
 
   -- the trie is grown with it
   still-grown : fail ≢ ANCHORED_START → FIRST_INNER + length queue < GREATEST + 1
-      → IsGrown site.kind site.patterns site.sorted (length site.states + 1)
-      (transitions ++ more_transitions) (queue ++ child ∷ [])
+      → IsGrown site.kind site.patterns site.sorted (length site.states + 1) (transitions ++ more_transitions) (queue ++ child ∷ [])
   still-grown unanchored few = record {
     counted = (let added = leading-length site.ignores_case b (FIRST_INNER + length queue) in
         omega (arith, h.grown.counted, added, length-append {A = Transition}, length_push queue child));
@@ -150,10 +146,8 @@ module _ (site : Site) {place end b : ℕ} {transitions : List Transition} {queu
       | inl old ↦
           Waits-more (h.grown.waits k q old) (child ∷ [])
       | inr new ↦
-          subst (λ (r : QueuedState). Waits site.kind site.patterns site.sorted (queue ++ child ∷ [])
-          (FIRST_INNER + k) r) new.1
-          (subst (λ (n : ℕ). Waits site.kind site.patterns site.sorted (queue ++ child ∷ [])
-          (FIRST_INNER + n) child)
+          subst (λ (r : QueuedState). Waits site.kind site.patterns site.sorted (queue ++ child ∷ []) (FIRST_INNER + k) r) new.1
+          (subst (λ (n : ℕ). Waits site.kind site.patterns site.sorted (queue ++ child ∷ []) (FIRST_INNER + n) child)
           (sym new.0) (child-waits unanchored))
     ];
     apart = still-apart;
@@ -170,8 +164,7 @@ module _ (site : Site) {place end b : ℕ} {transitions : List Transition} {queu
         early = omega arith;
         named = subst (λ (r : QueuedState). slice_get (nodes_of site.sorted (queue ++ child ∷ []))
             (length site.states)
-            ≡ Some (Some (take (r.depth - 1) (word site.sorted r)))) new.1
-            (nodes-more site.sorted queue (child ∷ []) (length site.states) _
+            ≡ Some (Some (take (r.depth - 1) (word site.sorted r)))) new.1 (nodes-more site.sorted queue (child ∷ []) (length site.states) _
             (h.node ∙ ap (λ (v : List ℕ). Some (Some v)) (sym parent-string)));
       }
     ];
@@ -203,8 +196,7 @@ module _ (site : Site) {place end b : ℕ} {transitions : List Transition} {queu
       low = h.low;
       high = run.some;
       byte = run.byte
-          ∙ ap (λ (y : ℕ). Some y)
-          (sym (leading-plain site.ignores_case b (FIRST_INNER + length queue) settled t new).0);
+          ∙ ap (λ (y : ℕ). Some y) (sym (leading-plain site.ignores_case b (FIRST_INNER + length queue) settled t new).0);
     }
   ]
 
@@ -217,8 +209,7 @@ module _ (site : Site) {place end b : ℕ} {transitions : List Transition} {queu
 
   -- each pattern up to the end of the run has a transition by its byte
   step-covered : (k c x : ℕ) → site.patterns_end ≤ k → k < end → next_byte site k ≡ Some c
-      → plain_byte site.ignores_case x ≡ c
-      → HasTransition x (h.added ++ more_transitions)
+      → plain_byte site.ignores_case x ≡ c → HasTransition x (h.added ++ more_transitions)
   step-covered k c x l m e is = elim (cases_lt k place) [
     | inl before ↦
         let r = h.covered k c x l before e is in
@@ -241,8 +232,7 @@ module _ (site : Site) {place end b : ℕ} {transitions : List Transition} {queu
   step-apart : IsOrdered (λ s t. s.byte ≢ t.byte) (h.added ++ more_transitions)
   step-apart =
       IsOrdered-append (λ (s t : Transition). s.byte ≢ t.byte) h.added more_transitions h.apart
-      (leading-apart site.ignores_case b (FIRST_INNER + length queue))
-      (λ s t old new e.
+      (leading-apart site.ignores_case b (FIRST_INNER + length queue)) (λ s t old new e.
       let r = h.by_patterns s old in
       let less =
       h.smaller run.more r.at (omega (arith, site.ends.later, r.low)) r.high in
@@ -264,10 +254,8 @@ module _ (site : Site) {place end b : ℕ} {transitions : List Transition} {queu
   branching-goes_on unanchored few = record {
     grown = still-grown unanchored few;
     meant =
-        AreStates-more
-        (grown_view site.kind site.ignores_case site.patterns site.sorted site.transitions queue)
-        site.transitions [] (sym (append-nil site.transitions))
-        (nodes_of site.sorted (queue ++ child ∷ []))
+        AreStates-more (grown_view site.kind site.ignores_case site.patterns site.sorted site.transitions queue)
+        site.transitions [] (sym (append-nil site.transitions)) (nodes_of site.sorted (queue ++ child ∷ []))
         (nodes-more site.sorted queue (child ∷ [])) site.states
         (let m = length-map queue (λ (q : QueuedState). Some (word site.sorted q)) in
         let n = length-map (queue ++ child ∷ []) (λ (q : QueuedState). Some (word site.sorted q)) in

@@ -82,7 +82,7 @@ module _ {F D : Type 0}
       → LeadsOn closures holds haystack all first old place ms f d
   leads-skip {place} {was} {ms} {f} {d} leads is = grind (arith, common_steps)
 
-  -- no match is left, told by other names
+  -- no match is left, said with other names
   pub leads-out : {place to : ℕ} {was : List Occurrence} {f h : F} {d e : D}
       → LeadsOn closures holds haystack all first old place was f d → was ≡ [] → to ≡ place → h ≡ f → e ≡ d
       → LeadsOn closures holds haystack all first old to [] h e

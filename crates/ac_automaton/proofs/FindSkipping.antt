@@ -1,4 +1,4 @@
--- A find that skips: it picks what its prefilter tells, or has passed over no match where it reads on.
+-- A find that skips: it picks what its prefilter says, or has passed over no match where it reads on.
 use Rattle.std.proofs.Common.{◌≡◌, ◌⊎◌, ℕ, ◌+◌, ◌<◌, ◌≤◌, Bool, true, false, List, refl, ap, sym, inl, inr, arith, Option, Some, None, IfSome, rules}
 use Rattle.std.specs.List.{list_any}
 use Rattle.std.proofs.lemmas.Bool.{cases_lt}
@@ -29,7 +29,7 @@ picks-none kind q nothing = by (pick kind q) refl
     by None e = refl
     by (Some m) e = absurd (nothing m (pick-Occurs kind q m e))
 
--- of a needle no start alone is told
+-- of a needle no start alone is returned
 pub told-none : (needle bytes : List ℕ) (low high : ℕ) (candidate : Candidate)
     → (candidate ≡ Nothing) ⊎ ((place : ℕ) × (candidate ≡ PossibleStart place))
     → SkipTells (Needle needle) bytes low high candidate → candidate ≡ Nothing
@@ -51,9 +51,9 @@ module _ (s : Scan) (bytes : List ℕ) (span : Span) {skip : Skip} (by : SkipsBy
   calls : new_counts.calls ≡ counts.calls + 1
   calls = ap (λ (c : Counts). c.calls) counted
 
-  tells : (r : Option Occurrence) → IfSome r (HasReadMatch span.start before after)
-  tells None = tt
-  tells (Some m) = grind (arith, common_steps)
+  says : (r : Option Occurrence) → IfSome r (HasReadMatch span.start before after)
+  says None = tt
+  says (Some m) = grind (arith, common_steps)
 
   stops-at : (kind : MatchKind) (r : Option Occurrence) → r ≡ pick kind searched
       → IfSome r (ReadsTo span.start before after)
@@ -70,7 +70,7 @@ module _ (s : Scan) (bytes : List ℕ) (span : Span) {skip : Skip} (by : SkipsBy
       → span.start < span.end → place ≤ span.start
       → HasSearched (picking_by s stops) searched r before after
   searched-told stops r answer some_bytes unread =
-      grind (arith, common_steps, tells r, stops-at (order_of s.built.kind stops) r (unanchored (order_of s.built.kind stops) answer))
+      grind (arith, common_steps, says r, stops-at (order_of s.built.kind stops) r (unanchored (order_of s.built.kind stops) answer))
 
 -- a find whose automaton has reached no match since it began picks what the node finds
 module _ (s : Scan) (stops : Bool) (bytes : List ℕ) (span : Span) (free : s.anchored ≡ No)

@@ -105,7 +105,7 @@ module _ (g : TrieView) (states : List State) (b : ℕ) (u : Node) (old : Counts
   looks-leads No v on = looks-transition_target g.kind g.patterns v (plain_byte g.ignores_case b) on
   looks-leads Yes v on = refl
 
-  -- at the start an unanchored walk ends with one look where a root table tells
+  -- at the start an unanchored walk ends with one look where a root table says
   pub ends-root : (transitions : List Transition) → g.transitions ≡ transitions → (now new : Counts)
       → new ≡ more_looks 1 now → (s next : ℕ) (anchored : Anchored) → anchored ≡ No → s ≡ START
       → RootTells transitions states b next

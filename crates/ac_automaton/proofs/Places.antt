@@ -108,7 +108,7 @@ IsOrdered-places R (x ∷ xs) h = (
   IsOrdered-places R xs (λ j k y z l e f. h (suc j) (suc k) y z (omega arith) e f),
 )
 
--- what the test `is_none` tells
+-- what the test `is_none` says
 pub None-tested : {X : Type 0} (r : Option X) (t : Bool) → is_some r ≡ not t → t ≡ true → r ≡ None
 None-tested None t e is = refl
 None-tested (Some x) t e is = absurd (false≢true (sym (e ∙ ap not is)))

@@ -35,7 +35,7 @@ number-at : (sorted : List Keyed) (k : ℕ) → k < length sorted
     → slice_get (numbers sorted) k ≡ Some (pattern_at sorted k).number
 number-at sorted k within = search (rules, slice_get-get_or, slice_get-map)
 
--- what the rank of a byte tells of it
+-- what the rank of a byte says of it
 rank-None : (r : Option ℕ) → rank r ≤ 0 → r ≡ None
 rank-None None l = refl
 rank-None (Some b) l = absurd (omega arith)

@@ -1,4 +1,4 @@
--- What the readers of a trie tell of a state that they have read.
+-- What the readers of a trie say of a state that they have read.
 use Rattle.std.proofs.Common.{◌≡◌, ◌≢◌, ℕ, ◌+◌, ◌-◌, ◌<◌, ◌≤◌, Bool, true, List, length, length-drop, drop, filter, get_or, refl, ◌∙◌, subst, arith, Some, None, slice_get, slice_range, Contains, ◌↔◌, rules}
 use Rattle.std.specs.List.{range_with_len}
 use Rattle.std.specs.List.Sorted.{IsStrictlyIncreasing}

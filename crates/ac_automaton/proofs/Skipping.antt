@@ -45,13 +45,13 @@ module _ (built : Built) (some : list_any is_empty built.patterns ≡ false) whe
       → step_of built No (Some []) b ≡ Some []
   step-stays b none = search (rules, any_passes, begins-from_plain, false≢true, no_empty, step-nil)
 
--- what is told of the first bytes: from the place on asked none stands before the place told
+-- what is known of the first bytes: from the place on asked none stands before the place returned
 pub record IsTold (first : List ℕ) (bytes : List ℕ) (low high place : ℕ) : Type 0 where
   pub onward : low ≤ place
   pub within : place < high
   pub none : Nowhere (Passes (is_one_of first) bytes) low place
 
--- or, where no place is told, none stands anywhere
+-- or, where no place is returned, none stands anywhere
 pub told-none : (first bytes : List ℕ) (low high : ℕ) (candidate : Candidate)
     → (candidate ≡ Nothing) ⊎ ((m : Occurrence) × (candidate ≡ Found m))
     → Tells (FirstOf first) bytes low high candidate → Nowhere (Passes (is_one_of first) bytes) low high

@@ -215,7 +215,7 @@ module _ {E D : Type 0} (told : D → Writing)
     pub reads : ReadsAll ends begun reader v.bytes
     pub replaced : HasReplaced told calls v first s
 
-  -- steps told by what the search was built from
+  -- steps given by what the search was built from
   steps-by : (v : Streaming) (given place : ℕ) (end : Option StreamError) (t : Replacing E D) → v.built ≡ built
       → Steps told calls (take place v.bytes) 0 (take given (matches_so_far v)) first end t
       → Steps told calls (take place v.bytes) 0 (take given (stream_result built v.bytes)) first end t

@@ -66,7 +66,7 @@ module _ (stands : ℕ → Node → Type 0) (built : Built) (allowed : stream_re
     back = inl (omega arith);
   }
 
-  -- told by numbers that are so
+  -- given by numbers that are so
   pub streams-begin : (stops : Bool) (reserve' begun' given : ℕ) (bytes : List ℕ) → stops ≡ not (is_leftmost built.kind)
       → reserve' ≡ most_kept built → begun' ≡ 0 → given ≡ 0 → bytes ≡ []
       → IsStreaming stands (record {

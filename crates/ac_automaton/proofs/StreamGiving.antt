@@ -289,7 +289,7 @@ module _ (stands : ℕ → Node → Type 0) (listed : ℕ → List ℕ) (most : 
           back = inl (omega arith);
         }
 
-    -- told by where the match ends, and by how many were given then
+    -- given by where the match ends, and by how many were given then
     module _ (at' begun kept given : ℕ) (again : at' ≡ m.end - v.front) (begins : begun ≡ m.end) (is_kept : kept ≡ m.end)
         (one_more : given ≡ v.given + 1) where
       pub streams-anew : IsStreaming stands (record i { state = i.start; at = at'; picked = None; begun = begun })

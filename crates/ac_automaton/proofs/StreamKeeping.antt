@@ -133,7 +133,7 @@ module _ (stands : ℕ → Node → Type 0) (listed : ℕ → List ℕ) (most : 
                 back = inr (refl, all);
               }
 
-      -- told by the place from which on bytes are kept then
+      -- given by the place from which on bytes are kept then
       module _ (kept : ℕ) (is : kept ≡ kept_now) where
         kept-so : IsKept v.phase kept
         kept-so = subst (IsKept v.phase) (sym is) is-kept

@@ -46,7 +46,7 @@ module _ (trie : Trie) (s : ℕ) (u : Node) (h : IsTrieState trie s u) where
   start-number = search (rules, cases_lt, deep, shallow)
 
   module _ (t : State) (is : t ≡ get_or trie.states s t) where
-    -- what the state that was read tells of the node
+    -- what the state that was read says of the node
     read : Represents meaning s u t
     read = represented meaning trie.states s u t has-state is
 
@@ -62,7 +62,7 @@ module _ (trie : Trie) (s : ℕ) (u : Node) (h : IsTrieState trie s u) where
         ↔ (listed_within trie.order trie.states s s ≢ [])
     listed-linked none = search (rules, listed-matches, none-linked, not_nil-length, read)
 
--- how the state's list is gone through, told of the numbers that stand for nodes
+-- how the state's list is gone through, said of the numbers that stand for nodes
 module _ (trie : Trie) where
   -- the list of each state
   abbrev listed : ℕ → List ℕ

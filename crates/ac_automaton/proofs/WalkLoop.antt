@@ -101,9 +101,9 @@ under_way-found {walking = walking} {r = Some m} way found =
       beyond = omega arith;
       place = λ standard. (found.stops standard).place;
       calls = λ standard. omega (arith, (found.stops standard).calls);
-      covered = λ same _ _. found.tells.reads same;
+      covered = λ same _ _. found.says.reads same;
       told = λ none some.
-          omega (arith, way.covered (omega arith) some (omega arith), found.tells.reads (omega arith));
+          omega (arith, way.covered (omega arith) some (omega arith), found.says.reads (omega arith));
     })
 
 -- a walk gives its first match, or has none: then a walk past the end of its span has none either

@@ -1,4 +1,4 @@
--- What is seen of a find that is ready to be made.
+-- What is seen of a find with its start state and prefilter looked up.
 use Rattle.std.specs.Prelude.{ℕ, Bool}
 use Rattle.ac_util.specs.declared.search.Anchored.{Anchored}
 use Rattle.ac_automaton.specs.Util.{Built, MatchKind, order_of}

@@ -36,7 +36,7 @@ IsDecided kind order q found place =
 pub record HasSearched (picking : Picking) (q : Search) (found : Option Occurrence) (work new_work : Work) : Type 0 where
   pub answer : found ≡ pick picking.order q
   pub read : HasRead (most_looks q.anchored picking.most) (may_skip picking.wants_prefilter q) q.low q.high work new_work
-  pub tells : IfSome found (HasReadMatch q.low work new_work)
+  pub says : IfSome found (HasReadMatch q.low work new_work)
   pub stops : picking.order ≡ Standard → IfSome found (ReadsTo q.low work new_work)
   pub dead : StopsAtDead picking.kind q new_work.place
   pub decided : new_work.counts.calls ≡ work.counts.calls

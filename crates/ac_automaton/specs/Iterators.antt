@@ -72,7 +72,7 @@ Finds walking new_work =
 
 -- what a walk has counted since it was made: for each byte read it has looked at states at least once and at
 -- most `most` times on the whole, or where it is anchored exactly once; under Standard it has read each byte of
--- the span at most once and called the prefilter at most so often; where it may not skip it has called no
+-- the span at most once and called the prefilter at most as often; where it may not skip it has called no
 -- prefilter; and unless it called one, or some pattern is empty, it has read each byte as far as the end of its
 -- last match
 pub record IsPaid (walking : Walking) : Type 0 where

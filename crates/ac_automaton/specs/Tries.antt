@@ -112,7 +112,7 @@ module _ (g : TrieView) where
     pub useful : link ≢ DEAD → all_matches linked ≢ []
 
   -- the state with this number stands for the node: its transitions are the node's own, in ascending order of
-  -- their bytes, its failure target is where an unanchored search goes on by any other byte, told by the start of
+  -- their bytes, its failure target is where an unanchored search goes on by any other byte, given by the start of
   -- unanchored searches where that is the empty string, and its patterns are the node's. The first four states
   -- stand for the dead node and the start
   pub record Represents (s : ℕ) (v : Node) (t : State) : Type 0 where

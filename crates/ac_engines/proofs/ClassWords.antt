@@ -57,7 +57,7 @@ picks-one true a default_target = hit (a ∷ []) 0 default_target (omega arith) 
 picks-one false a default_target = fallback (a ∷ []) default_target
 
 module _ (class : ℕ) where
-  -- what the first class word of transitions tells of where a class leads: its four classes are those of the first
+  -- what the first class word of transitions says of where a class leads: its four classes are those of the first
   -- transitions, and the words after it are those of the other transitions
   pub record ReadsWord (es : List Edge) (word : ℕ) (words : List ℕ) : Type 0 where
     pub a : ℕ
@@ -86,24 +86,24 @@ module _ (class : ℕ) where
     picks = picks;
   }
 
-  pub tells : (es : List Edge) (word : ℕ) (words : List ℕ) → All (λ e. e.class < 256) es
+  pub says : (es : List Edge) (word : ℕ) (words : List ℕ) → All (λ e. e.class < 256) es
       → class_words (edge_classes es) ≡ word ∷ words → ReadsWord es word words
   unfolding class_words target_by
-  tells [] word words small are = absurd (let none = ap (λ (ns : List ℕ). length ns) are in omega (arith, none))
-  tells (a ∷ []) word words small are =
+  says [] word words small are = absurd (let none = ap (λ (ns : List ℕ). length ns) are in omega (arith, none))
+  says (a ∷ []) word words small are =
       let first = small 0 a (omega arith) in
       reads (a ∷ []) a.class a.class a.class a.class word words (first, first, first, first) are
       (picks-one (a.class == class) a.target FAIL)
-  tells (a ∷ b ∷ []) word words small are =
+  says (a ∷ b ∷ []) word words small are =
       let second = small 1 a (omega arith) in
       reads (a ∷ b ∷ []) a.class b.class b.class b.class word words (small 0 a (omega arith), second, second, second) are
       (picks-two (a.class == class) (b.class == class) a.target b.target FAIL)
-  tells (a ∷ b ∷ c ∷ []) word words small are =
+  says (a ∷ b ∷ c ∷ []) word words small are =
       let third = small 2 a (omega arith) in
       reads (a ∷ b ∷ c ∷ []) a.class b.class c.class c.class word words
       (small 0 a (omega arith), small 1 a (omega arith), third, third) are
       (picks-three (a.class == class) (b.class == class) (c.class == class) a.target b.target c.target FAIL)
-  tells (a ∷ b ∷ c ∷ d ∷ es) word words small are =
+  says (a ∷ b ∷ c ∷ d ∷ es) word words small are =
       reads (a ∷ b ∷ c ∷ d ∷ es) a.class b.class c.class d.class word words
       (small 0 a (omega arith), small 1 a (omega arith), small 2 a (omega arith), small 3 a (omega arith)) are
       (picks-four (a.class == class) (b.class == class) (c.class == class) (d.class == class)
@@ -125,12 +125,12 @@ module _ (class : ℕ) where
       let four : 4 * suc index ≡ suc (suc (suc (suc (4 * index)))) = omega arith in
       rw four (drop-class_words es index)
 
-  -- each class word tells of the transitions that it stands for and of those after
-  pub tells-at : (es : List Edge) (index : ℕ) → All (λ e. e.class < 256) es
+  -- each class word says of the transitions that it stands for and of those after
+  pub says-at : (es : List Edge) (index : ℕ) → All (λ e. e.class < 256) es
       → index < length (class_words (edge_classes es))
       → ReadsWord (drop (4 * index) es) (slice_index_or (class_words (edge_classes es)) index 0)
       (drop (suc index) (class_words (edge_classes es)))
-  tells-at es index small within = grind (arith, common_steps, drop-class_words, drop-cons, tells)
+  says-at es index small within = grind (arith, common_steps, drop-class_words, drop-cons, says)
 
 -- the targets of transitions that lead to states are none that no state has
 pub target-named : (es : List Edge) (at : ℕ) → AreNamed es → at < length (targets_of es)
@@ -166,7 +166,7 @@ module _ (es : List Edge) (front : List ℕ) (is : front ≡ class_words (edge_c
     picks-at : Picks (targets_of (drop (4 * index) es)) place (target_by FAIL (drop (4 * index) es) class)
         (target_by FAIL (drop 4 (drop (4 * index) es)) class)
     picks-at =
-        let t = tells-at class es index small (subst (λ (ns : List ℕ). index < length ns) is within) in
+        let t = says-at class es index small (subst (λ (ns : List ℕ). index < length ns) is within) in
         let place_is = seen t.a t.b t.c t.d t.small.0 t.small.1 t.small.2 t.small.3
         (ap (λ (ns : List ℕ). slice_index_or ns index 0) is ∙ t.word_is) in
         subst (λ (n : ℕ). Picks (targets_of (drop (4 * index) es)) n (target_by FAIL (drop (4 * index) es) class)

@@ -4,7 +4,7 @@ use Rattle.std.proofs.lemmas.List.{get_or_append_left, length-append}
 use Rattle.std.proofs.lemmas.Grind.{common_steps}
 use Rattle.ac_engines.specs.Prelude.{match_list_words, ONE_MATCH}
 
--- what the first word of some matches tells: it is the only one of them, or their number
+-- what the first word of some matches says: it is the only one of them, or their number
 pub record ReadsMatches (matches words : List ℕ) : Type 0 where
   pub some : 0 < length words
   pub one : ONE_MATCH ≤ slice_index_or words 0 0 → length matches ≡ 1

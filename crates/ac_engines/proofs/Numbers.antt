@@ -1,4 +1,4 @@
--- What the number of a state tells of the node that it stands for.
+-- What the number of a state says of the node that it stands for.
 use Rattle.std.proofs.Common.{◌≡◌, ℕ, ◌+◌, ◌<◌, ◌≤◌, Bool, true, false, List, [], ◌∷◌, ◌++◌, drop, refl, arith, length, slice_index_or, Some, None, rules}
 use Rattle.std.proofs.lemmas.Nat.{pow_pos}
 use Rattle.std.proofs.lemmas.Grind.{common_steps}

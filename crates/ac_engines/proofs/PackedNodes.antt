@@ -243,7 +243,7 @@ state-spells f nodes h s None reached named =
 state-spells f nodes h s (Some w) reached named =
     search (rules, alphabet_len-few, edges-ascend, edges-below, edges-format_words, matches-below, matches-small, matches-format_words, string-fits)
 
--- the words of a state are told by the parts of what it spells
+-- the words of a state are given by the parts of what it spells
 pub format_words-by_parts : (format new_format : Format) (classes new_classes : ℕ) (s t : PackedState) → format ≡ new_format
     → classes ≡ new_classes → s.failure ≡ t.failure → s.default_target ≡ t.default_target → s.edges ≡ t.edges
     → s.matches ≡ t.matches → format_words format classes s ≡ format_words new_format new_classes t

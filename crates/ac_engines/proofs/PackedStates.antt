@@ -207,7 +207,7 @@ module _ (f : Packer) (nodes : List Node) (ready : AreReady f nodes) where
     format_words-matches Yes [] = refl
     format_words-matches anchored (x ∷ w) = refl
 
-    -- what the number of a string tells, and what its state lists
+    -- what the number of a string says, and what its state lists
     record ListsMatches (anchored : Anchored) (w : List ℕ) : Type 0 where
       matched : (number_at (places f nodes ready words) anchored (Some w) < front_end f.plan nodes)
           ↔ (matches_of f.plan.trie.built No (Some w) ≢ [])
@@ -244,9 +244,9 @@ module _ (f : Packer) (nodes : List Node) (ready : AreReady f nodes) where
       late : FAIL < number_at (places f nodes ready words) anchored (Some w)
       listed : ListsMatches anchored w
 
-    tells : (anchored : Anchored) (w : List ℕ) → IsNode f.plan.trie.built.kind (plain_of f.plan.trie.built) (Some w)
+    says : (anchored : Anchored) (w : List ℕ) → IsNode f.plan.trie.built.kind (plain_of f.plan.trie.built) (Some w)
         → StandsWithin anchored w
-    tells anchored w node =
+    says anchored w node =
         let at = has-place f nodes ready words anchored w node in
         let there = state-begins at.state (Some w) at.reached at.named in
         let number = at.number in
@@ -283,10 +283,10 @@ module _ (f : Packer) (nodes : List Node) (ready : AreReady f nodes) where
       start = place-start f.plan.trie nodes ready.may.are_nodes f.numbers ready.places.count;
       anchored_start = refl;
       states = node-begins;
-      within = λ anchored w node. (tells anchored w node).within;
-      after = λ anchored w node. (tells anchored w node).late;
+      within = λ anchored w node. (says anchored w node).within;
+      after = λ anchored w node. (says anchored w node).late;
       longer = no-start;
       ended = let long = dead-long in omega arith;
-      matched = λ anchored w node. (tells anchored w node).listed.matched;
-      lists = λ anchored w node. (tells anchored w node).listed.lists;
+      matched = λ anchored w node. (says anchored w node).listed.matched;
+      lists = λ anchored w node. (says anchored w node).listed.lists;
     }

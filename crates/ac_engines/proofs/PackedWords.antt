@@ -161,16 +161,16 @@ module _ (words : List ℕ) (classes : ℕ) (s : PackedState) where
   form-sparse h = grind (arith, common_steps, sparse-words h)
 
   pub is-dense : (format : Format) → BeginsWith words format classes s → form ≡ 255 → BeginsWith words Dense classes s
-  is-dense Dense h tells = h
-  is-dense One h tells = let one = form-one h in absurd (omega (arith, one, tells))
-  is-dense Sparse h tells = let sparse = form-sparse h in absurd (omega (arith, sparse.0, sparse.1, tells))
+  is-dense Dense h says = h
+  is-dense One h says = let one = form-one h in absurd (omega (arith, one, says))
+  is-dense Sparse h says = let sparse = form-sparse h in absurd (omega (arith, sparse.0, sparse.1, says))
 
   pub is-one : (format : Format) → BeginsWith words format classes s → form ≡ 254 → BeginsWith words One classes s
-  is-one Dense h tells = let dense = form-dense h in absurd (omega (arith, dense, tells))
-  is-one One h tells = h
-  is-one Sparse h tells = let sparse = form-sparse h in absurd (omega (arith, sparse.0, sparse.1, tells))
+  is-one Dense h says = let dense = form-dense h in absurd (omega (arith, dense, says))
+  is-one One h says = h
+  is-one Sparse h says = let sparse = form-sparse h in absurd (omega (arith, sparse.0, sparse.1, says))
 
-  -- what is told of a sparse state: its low byte is the number of its transitions
+  -- what is known of a sparse state: its low byte is the number of its transitions
   pub record IsSparse : Type 0 where
     pub begins : BeginsWith words Sparse classes s
     pub counts : form ≡ length s.edges
@@ -191,18 +191,18 @@ module _ (words : List ℕ) (classes : ℕ) (s : PackedState) where
 
   pub dense-lists : (format : Format) (h : BeginsWith words format classes s) → form ≡ 255
       → ListsFrom (2 + classes) h.rest
-  dense-lists Dense h tells =
+  dense-lists Dense h says =
       let many = length-map-range_with_len (target_by s.default_target s.edges) 0 classes in
       lists-from (2 + classes) (DENSE ∷ s.failure ∷ map (target_by s.default_target s.edges) (range_with_len 0 classes)) h.rest
       (dense-words h) (omega (arith, many))
-  dense-lists One h tells = let one = form-one h in absurd (omega (arith, one, tells))
-  dense-lists Sparse h tells = let sparse = form-sparse h in absurd (omega (arith, sparse.0, sparse.1, tells))
+  dense-lists One h says = let one = form-one h in absurd (omega (arith, one, says))
+  dense-lists Sparse h says = let sparse = form-sparse h in absurd (omega (arith, sparse.0, sparse.1, says))
 
   pub sparse-lists : (format : Format) (h : BeginsWith words format classes s) (low count : ℕ) → low ≡ form
       → low ≢ 255 → s.matches ≢ [] → count ≡ div_ceil low 4 → ListsFrom (2 + count + low) h.rest
-  sparse-lists Dense h low count is tells some counts = absurd (tells (is ∙ form-dense h))
-  sparse-lists One h low count is tells some counts = absurd (some h.fits.1)
-  sparse-lists Sparse h low count is tells some counts =
+  sparse-lists Dense h low count is says some counts = absurd (says (is ∙ form-dense h))
+  sparse-lists One h low count is says some counts = absurd (some h.fits.1)
+  sparse-lists Sparse h low count is says some counts =
       let transitions = is ∙ (form-sparse h).0 in
       let same = counted s.edges low transitions in
       let targets = length-map s.edges (λ e. e.target) in

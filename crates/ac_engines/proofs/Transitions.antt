@@ -93,19 +93,19 @@ module _ (words : List ℕ) (classes : ℕ) (s : PackedState) (targets : List �
   pub dense-transitions : (format : Format) → BeginsWith words format classes s → form words classes s ≡ 255
       → targets ≡ take classes (drop 2 words)
       → edges_from (class_of_place None) 0 targets ≡ transitions_of_state format classes s
-  dense-transitions Dense h tells are =
+  dense-transitions Dense h says are =
       grind (arith, common_steps, dense-words words classes s h, edges-of-all (target_by s.default_target s.edges) 0 classes, length-map-range_with_len)
-  dense-transitions One h tells are = let one = form-one words classes s h in absurd (omega (arith, one, tells))
-  dense-transitions Sparse h tells are = grind (arith, common_steps, form-sparse words classes s h)
+  dense-transitions One h says are = let one = form-one words classes s h in absurd (omega (arith, one, says))
+  dense-transitions Sparse h says are = grind (arith, common_steps, form-sparse words classes s h)
 
   -- a state with one transition has one target, and its class stands beside the form
   pub one-transition : (format : Format) (class : ℕ) → BeginsWith words format classes s → form words classes s ≡ 254
       → class ≡ slice_index_or words 0 0 / 256 % 256 → targets ≡ take 1 (drop 2 words)
       → edges_from (class_of_place None) class targets ≡ transitions_of_state format classes s
   unfolding edges_from
-  one-transition Dense class h tells is are =
-      let dense = form-dense words classes s h in absurd (omega (arith, dense, tells))
-  one-transition One class h tells is are =
+  one-transition Dense class h says is are =
+      let dense = form-dense words classes s h in absurd (omega (arith, dense, says))
+  one-transition One class h says is are =
       let one = one-words words classes s h in
       let first = ap (λ (ns : List ℕ). slice_index_or ns 0 0) one.words_are in
       let below = subst (λ (es : List Edge). All (λ e. e.class < classes) es) one.only h.below 0 one.edge (omega arith) in
@@ -114,8 +114,8 @@ module _ (words : List ℕ) (classes : ℕ) (s : PackedState) (targets : List �
       let front : targets ≡ one.edge.target ∷ [] =
       are ∙ ap (λ (ns : List ℕ). take 1 (drop 2 ns)) one.words_are in
       rw (front, same) (sym one.only)
-  one-transition Sparse class h tells is are =
-      let sparse = form-sparse words classes s h in absurd (omega (arith, sparse.0, sparse.1, tells))
+  one-transition Sparse class h says is are =
+      let sparse = form-sparse words classes s h in absurd (omega (arith, sparse.0, sparse.1, says))
 
   -- after the class words of a sparse state stand the targets of its transitions
   pub sparse-targets : (transitions count : ℕ) → BeginsWith words Sparse classes s → transitions ≡ length s.edges

@@ -12,8 +12,8 @@ use crate::ahocorasick::{AhoCorasick, AhoCorasickKind};
 use ac_engines::nfa::contiguous::Format;
 pub use ac_util::laws::{
     classes_are_lawful, classes_set_apart, clones_are_equal, clones_take_no_memory,
-    closure_exchanges, defaults_are_told, earliest_is_standard, equal_values_hash_equally,
-    errors_compare_by_their_fields, greatest_number_is_told, listing_goes_on, listing_is_exact,
+    closure_exchanges, defaults_are_stated, earliest_is_standard, equal_values_hash_equally,
+    errors_compare_by_their_fields, greatest_number_is_stated, listing_goes_on, listing_is_exact,
     matches_cut_no_character, matches_lie_inside, numbers_compare_as_numbers, only_the_span_counts,
     pick_comes_first, sameness_is_by_letter, settled_stays, steps_replace, stream_goes_on,
     strides_have_room, tests_decide, text_closure_exchanges, values_compare_by_their_fields,

@@ -51,28 +51,23 @@ module _ (kind : MatchKind) (patterns : List (List ℕ)) where
     first : IsFirst kind (standing_at patterns j k) (standing_at patterns n s)
 
   better_front : (anchored : Anchored) (w : List ℕ) (b n : ℕ) → own (w ++ b ∷ []) ≡ []
-      → Prefixes patterns (w ++ b ∷ []) n
-      → (j : ℕ) × (k : ℕ) × Better anchored w n 0 j k
+      → Prefixes patterns (w ++ b ∷ []) n → (j : ℕ) × (k : ℕ) × Better anchored w n 0 j k
   better_front anchored w b n none f = search (rules, Stands-from_Prefixes, kept_front)
 
   better_free : (w : List ℕ) (b n s : ℕ) → matches kind patterns No (Some (w ++ b ∷ [])) ≡ []
-      → Stands patterns No (w ++ b ∷ []) n s
-      → (j : ℕ) × (k : ℕ) × Better No w n s j k
+      → Stands patterns No (w ++ b ∷ []) n s → (j : ℕ) × (k : ℕ) × Better No w n s j k
   better_free [] b n zero none h =
       better_front No [] b n (append_nil_left _ _ (sym (matches-cons kind patterns b []) ∙ none)) h.prefixes
   better_free [] b n (suc zero) none h = grind (arith, common_steps)
   better_free [] b n (suc (suc s)) none h = absurd (let i = h.within in omega arith)
   better_free (x ∷ w) b n zero none h =
-      better_front No (x ∷ w) b n
-      (append_nil_left _ _ (sym (matches-cons kind patterns x (w ++ b ∷ [])) ∙ none)) h.prefixes
+      better_front No (x ∷ w) b n (append_nil_left _ _ (sym (matches-cons kind patterns x (w ++ b ∷ [])) ∙ none)) h.prefixes
   better_free (x ∷ w) b n (suc s) none h =
-      beyond (stops kind patterns (x ∷ w ++ b ∷ [])) refl
-      (sym (matches-cons kind patterns x (w ++ b ∷ [])) ∙ none)
+      beyond (stops kind patterns (x ∷ w ++ b ∷ [])) refl (sym (matches-cons kind patterns x (w ++ b ∷ [])) ∙ none)
       (λ e. better_free w b n s e (Stands-from_behind patterns x (w ++ b ∷ []) n s h))
     where
       beyond : (t : Bool) → stops kind patterns (x ∷ w ++ b ∷ []) ≡ t
-          → own (x ∷ w ++ b ∷ []) ++ cond (stops kind patterns (x ∷ w ++ b ∷ [])) []
-          (matches kind patterns No (Some (w ++ b ∷ []))) ≡ []
+          → own (x ∷ w ++ b ∷ []) ++ cond (stops kind patterns (x ∷ w ++ b ∷ [])) [] (matches kind patterns No (Some (w ++ b ∷ []))) ≡ []
           → (matches kind patterns No (Some (w ++ b ∷ [])) ≡ [] → (j : ℕ) × (k : ℕ) × Better No w n s j k)
           → (j : ℕ) × (k : ℕ) × Better No (x ∷ w) n (suc s) j k
       beyond true stop none later =
@@ -90,8 +85,7 @@ module _ (kind : MatchKind) (patterns : List (List ℕ)) where
       beyond false stop none later =
           let no_own = append_nil_left (own (x ∷ w ++ b ∷ [])) _ none in
           let r =
-          later (sym (cond-false (stops kind patterns (x ∷ w ++ b ∷ [])) []
-          (matches kind patterns No (Some (w ++ b ∷ []))) stop)
+          later (sym (cond-false (stops kind patterns (x ∷ w ++ b ∷ [])) [] (matches kind patterns No (Some (w ++ b ∷ []))) stop)
           ∙ sym (ap (λ (ns : List ℕ). ns ++ cond (stops kind patterns (x ∷ w ++ b ∷ [])) []
           (matches kind patterns No (Some (w ++ b ∷ [])))) no_own) ∙ none) in (
             r.0,
@@ -203,8 +197,7 @@ module _ (kind : MatchKind) (patterns : List (List ℕ)) where
       no_front : (n : ℕ) → Prefixes patterns (x ∷ v) n → (l : Bool) → is_leftmost kind ≡ l → Counts (x ∷ v) n 0
           → ⊥
       no_front n f true leftmost counts =
-          false≢true (sym goes_on
-          ∙ (ap (λ (l : Bool). l && begins_with_pattern patterns (x ∷ v)) leftmost
+          false≢true (sym goes_on ∙ (ap (λ (l : Bool). l && begins_with_pattern patterns (x ∷ v)) leftmost
           ∙ begins-from_Prefixes patterns (x ∷ v) n f))
       no_front n f false leftmost (inl e) = false≢true (sym leftmost ∙ e)
       no_front n f false leftmost (inr ends) =
@@ -222,37 +215,31 @@ module _ (kind : MatchKind) (patterns : List (List ℕ)) where
           → IsFirst kind (standing_at patterns i (suc k)) (standing_at patterns n s)
       first n zero stands counts = absurd (no_front n stands.prefixes (is_leftmost kind) refl counts)
       first n (suc s) stands counts =
-          first-one_on kind patterns i k n s
-          (head.first n s (Stands-from_behind patterns x v n s stands) (counts_behind n s counts))
+          first-one_on kind patterns i k n s (head.first n s (Stands-from_behind patterns x v n s stands) (counts_behind n s counts))
 
   head_free : (v : List ℕ) (i : ℕ) (rest : List ℕ) → matches kind patterns No (Some v) ≡ i ∷ rest
       → (k : ℕ) × IsHead No v i k
   head_free [] i rest e = (0, head_own No [] i rest (sym (matches-nil kind patterns) ∙ e))
   head_free (x ∷ v) i rest e =
-      by_own (own (x ∷ v)) refl (stops kind patterns (x ∷ v)) refl (sym (matches-cons kind patterns x v) ∙ e)
-      (λ f. head_free v i rest f)
+      by_own (own (x ∷ v)) refl (stops kind patterns (x ∷ v)) refl (sym (matches-cons kind patterns x v) ∙ e) (λ f. head_free v i rest f)
     where
       by_own : (ns : List ℕ) → own (x ∷ v) ≡ ns → (t : Bool) → stops kind patterns (x ∷ v) ≡ t
           → own (x ∷ v) ++ cond (stops kind patterns (x ∷ v)) [] (matches kind patterns No (Some v)) ≡ i ∷ rest
-          → (matches kind patterns No (Some v) ≡ i ∷ rest → (k : ℕ) × IsHead No v i k) → (k : ℕ)
-          × IsHead No (x ∷ v) i k
+          → (matches kind patterns No (Some v) ≡ i ∷ rest → (k : ℕ) × IsHead No v i k) → (k : ℕ) × IsHead No (x ∷ v) i k
       by_own (n ∷ ns) is t stop h later =
           let listed : n ∷ ns ++ cond (stops kind patterns (x ∷ v)) [] (matches kind patterns No (Some v))
           ≡ i ∷ rest =
-          sym (ap (λ (ms : List ℕ). ms ++ cond (stops kind patterns (x ∷ v)) []
-          (matches kind patterns No (Some v))) is) ∙ h in
+          sym (ap (λ (ms : List ℕ). ms ++ cond (stops kind patterns (x ∷ v)) [] (matches kind patterns No (Some v))) is) ∙ h in
           let same : n ≡ i = cc in
           (0, head_own No (x ∷ v) i ns (is ∙ ap (λ (m : ℕ). m ∷ ns) same))
       by_own [] is true stop h later =
           let listed : [] ≡ i ∷ rest =
-          sym (ap (λ (ms : List ℕ). ms ++ cond (stops kind patterns (x ∷ v)) []
-          (matches kind patterns No (Some v))) is
+          sym (ap (λ (ms : List ℕ). ms ++ cond (stops kind patterns (x ∷ v)) [] (matches kind patterns No (Some v))) is
           ∙ cond-true (stops kind patterns (x ∷ v)) [] (matches kind patterns No (Some v)) stop) ∙ h in
           absurd (cc)
       by_own [] is false stop h later =
           let listed : matches kind patterns No (Some v) ≡ i ∷ rest =
-          sym (ap (λ (ms : List ℕ). ms ++ cond (stops kind patterns (x ∷ v)) []
-          (matches kind patterns No (Some v))) is
+          sym (ap (λ (ms : List ℕ). ms ++ cond (stops kind patterns (x ∷ v)) [] (matches kind patterns No (Some v))) is
           ∙ cond-false (stops kind patterns (x ∷ v)) [] (matches kind patterns No (Some v)) stop) ∙ h in
           let r = later listed in
           (suc r.0, head_behind x v i r.0 is stop r.1)
@@ -265,14 +252,12 @@ module _ (kind : MatchKind) (patterns : List (List ℕ)) where
 
   -- under a leftmost kind it is the pick
   pub pick-becomes : (anchored : Anchored) (v : List ℕ) (i k : ℕ) → is_leftmost kind ≡ true
-      → IsHead anchored v i k
-      → IsPickIn kind patterns anchored v (Some (standing_at patterns i k))
+      → IsHead anchored v i k → IsPickIn kind patterns anchored v (Some (standing_at patterns i k))
   pick-becomes anchored v i k leftmost h = grind (arith, common_steps)
 
   -- where nothing stood before it is what Standard picks
   pub first-becomes : (anchored : Anchored) (w : List ℕ) (b i k : ℕ)
-      → ((n s : ℕ) → ¬ Stands patterns anchored w n s)
-      → IsHead anchored (w ++ b ∷ []) i k
+      → ((n s : ℕ) → ¬ Stands patterns anchored w n s) → IsHead anchored (w ++ b ∷ []) i k
       → IsPickIn Standard patterns anchored (w ++ b ∷ []) (Some (standing_at patterns i k))
   first-becomes anchored w b i k none h = grind (arith, common_steps)
 

@@ -35,6 +35,7 @@ pub mod Living
 pub mod Longer
 pub mod GoesOn
 mod SearchRows
+mod SpanRows
 mod TextRows
 mod NodeRows
 pub mod PlainFind

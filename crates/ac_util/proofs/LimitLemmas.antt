@@ -25,7 +25,7 @@ too_long-here number [] i within long = absurd (omega arith)
 too_long-here number (p ∷ ps) zero within long = grind (arith, common_steps)
 too_long-here number (p ∷ ps) (suc i) within long = too_long-here number ps i (omega arith) long
 
--- where none is told to be too long, none is
+-- where none is said to be too long, none is
 all_short : (number : ℕ) (ps : List (List ℕ)) → too_long_from number ps ≡ None
     → All (λ p. length p ≤ GREATEST) ps
 all_short number [] none = All-nil (λ p. length p ≤ GREATEST)

@@ -9,7 +9,7 @@ use Rattle.ac_util.proofs.Standing.{Stands, standing_at, IsPickIn, first-at_one_
 use Rattle.ac_util.proofs.Advance.{IsHead, head, pick-stays, pick-becomes, first-becomes, start-stays, start-becomes}
 use Rattle.ac_util.proofs.Spans.{inward, text_longer, pick-from_text, pick-in_text, pick-out_again, nothing-past_end}
 
--- a head of the text, told from the haystack's front, ends where the span does
+-- a head of the text, counted from the haystack's front, ends where the span does
 ending-head : (kind : MatchKind) (q : Search) (i k : ℕ) → q.low ≤ q.high → q.high ≤ length q.haystack
     → IsHead kind (plain_patterns q) q.anchored (text q) i k
     → outward q.low (standing_at (plain_patterns q) i k) ≡ ending q i

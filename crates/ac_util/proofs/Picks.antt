@@ -46,7 +46,7 @@ unfolding pick
 pick-IsPick kind q =
     picked kind q (all q) (best kind (all q)) (all-has q) (all-only q) (best-first kind (all q))
 
--- an occurrence is told by its number and its two places
+-- an occurrence is identified by its number and its two places
 pub same_occurrence : (a b : Occurrence) → a.pattern ≡ b.pattern → a.start ≡ b.start → a.end ≡ b.end → a ≡ b
 same_occurrence a b n s e = λ i. occurrence (n i) (s i) (e i)
 

@@ -1,4 +1,4 @@
--- What a prefilter tells of a span, and what that promises of a search of the span.
+-- What a prefilter says of a span, and what that promises of a search of the span.
 use Rattle.std.proofs.Common.{◌≡◌, ℕ, ◌+◌, ◌-◌, ◌<◌, ◌≤◌, Bool, true, false, List, [], ◌∷◌, length, get_or, Option, Some, None, option_map, inl, inr, refl, ap, sym, ◌∙◌, subst, arith, length-take, length-drop, get_or-take, get_or-drop, slice_range, rules}
 use Rattle.std.proofs.lemmas.Bool.{eq-eqb, cases_lt, false≢true}
 use Rattle.std.proofs.lemmas.Grind.{common_steps}
@@ -145,7 +145,7 @@ module _ (needle : List ℕ) (hay : List ℕ) (low high : ℕ) where
       (length (slice_range hay low high) + 1) (high + 1) r (omega arith)
       (λ k l. occurs_from_range k ordered within) (λ k l. range_from_occurs k ordered within) h))
 
--- what a skip tells is promised of each search that may skip so
+-- what a skip says is promised of each search that may skip so
 pub promised : (skip : Skip) (ignores_case : Bool) (patterns : List (List ℕ)) (hay : List ℕ) (low high : ℕ)
     (candidate : Candidate) → Tells skip hay low high candidate → IsSkipFor skip ignores_case patterns
     → Promises (search_over ignores_case patterns hay low high) candidate
@@ -153,7 +153,7 @@ promised (FirstOf bytes) ignores_case patterns hay low high candidate (place, fi
     grind (arith, common_steps, bytes_promise bytes ignores_case patterns hay low high begin place first)
 promised (Needle needle) ignores_case patterns hay low high candidate is (counts, single) = search (rules, needle_promise)
 
--- where a span starts past its end a skip tells of nothing
-pub tells-nothing : (skip : Skip) (hay : List ℕ) (low high : ℕ) → high < low → Tells skip hay low high Nothing
-tells-nothing (FirstOf bytes) hay low high past = (None, (λ k from below. absurd (omega arith)), refl)
-tells-nothing (Needle needle) hay low high past = search (rules, none-past_end)
+-- where a span starts past its end a skip says nothing
+pub says-nothing : (skip : Skip) (hay : List ℕ) (low high : ℕ) → high < low → Tells skip hay low high Nothing
+says-nothing (FirstOf bytes) hay low high past = (None, (λ k from below. absurd (omega arith)), refl)
+says-nothing (Needle needle) hay low high past = search (rules, none-past_end)

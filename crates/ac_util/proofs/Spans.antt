@@ -21,11 +21,11 @@ slice_range-cut : (h : List ℕ) (low high s e : ℕ) → s ≤ e → low + e �
     → slice_range (slice_range h low high) s e ≡ slice_range h (low + s) (low + e)
 slice_range-cut h low high s e ordered within = search (rules, drop-drop, take_drop_take)
 
--- an occurrence told from the span's low end
+-- an occurrence counted from the span's low end
 abbrev pub inward : ℕ → Occurrence → Occurrence
 inward low o = occurrence o.pattern (o.start - low) (o.end - low)
 
--- the order of preference doesn't depend on where places are told from
+-- the order of preference doesn't depend on where places are counted from
 pub first-outward : (kind : MatchKind) (low : ℕ) (a b : Occurrence) → IsFirst kind a b
     → IsFirst kind (outward low a) (outward low b)
 first-outward Standard low a b f = grind (arith, common_steps)
@@ -125,13 +125,13 @@ module _ (q : Search) (order : q.low ≤ q.high) (inside : q.high ≤ length q.h
           let b = x.from_low in
           same_occurrence (outward q.low (inward q.low o)) o refl (omega arith) (omega arith)
 
-  -- told from the low end and back, an occurrence is the same
+  -- counted from the low end and back, an occurrence is the same
   back_out : (kind : MatchKind) (r : Option Occurrence) → IsPick kind q r
       → option_map (outward q.low) (option_map (inward q.low) r) ≡ r
   back_out kind None h = refl
   back_out kind (Some m) h = grind (arith, common_steps)
 
-  -- the pick of the search, told from the span's low end, is the pick in the text
+  -- the pick of the search, counted from the span's low end, is the pick in the text
   pub pick-in_text : (kind : MatchKind)
       → IsPickIn kind (plain_patterns q) q.anchored (text q) (option_map (inward q.low) (pick kind q))
   pick-in_text kind = in_text kind (pick kind q) (pick-IsPick kind q)

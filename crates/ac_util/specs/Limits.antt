@@ -16,7 +16,7 @@ too_long_from number (p ∷ ps) =
     if nat_lt GREATEST (length p) then Some (PatternTooLong number (length p))
     else too_long_from (number + 1) ps
 
--- why a list of patterns is refused, if it is: too many are told before one that is too long
+-- why a list of patterns is refused, if it is: too many are reported before one that is too long
 abbrev pub limit_refusal : List (List ℕ) → Option BuildError
 limit_refusal patterns =
     if nat_lt (GREATEST + 1) (length patterns) then Some (PatternIdOverflow GREATEST (length patterns - 1))

@@ -9,7 +9,7 @@ use Rattle.ac_util.specs.declared.search.Anchored.{Anchored}
 use Rattle.ac_util.specs.declared.search.Anchored.TheVariants.{No, Yes}
 use Rattle.ac_util.specs.Search.{pattern_of}
 
--- a node is told by the string that leads to it; None is the dead node, from which nothing is found any more
+-- a node is identified by the string that leads to it; None is the dead node, from which nothing is found any more
 abbrev pub Node : Type 0
 Node = Option (List ℕ)
 

@@ -1,4 +1,4 @@
--- How a search may skip ahead to where a match can start, and what it is told of what it skips.
+-- How a search may skip ahead to where a match can start, and what is known of what it skips.
 use Rattle.std.specs.Prelude.{◌≡◌, ℕ, ◌≤◌, Bool, false, ◌&&◌, nat_le, not, ◌==◌, true, List, [], ◌∷◌, length, filter, slice_index_or, Option, None, Some, if◌then◌else◌}
 use Rattle.std.specs.List.{list_any, range_with_len}
 use Rattle.std.specs.Option.{is_some}
@@ -107,17 +107,17 @@ abbrev pub search_over : Bool → List (List ℕ) → List ℕ → ℕ → ℕ �
 search_over ignores_case patterns haystack low high =
     record { patterns = patterns; ignores_case = ignores_case; haystack = haystack; anchored = No; low = low; high = high }
 
--- what is told of a span in which a match may start here at first, or nowhere
+-- what is known of a span in which a match may start here at first, or nowhere
 abbrev pub start_candidate : Option ℕ → Candidate
 start_candidate None = Nothing
 start_candidate (Some place) = PossibleStart place
 
--- what is told of a span in which this match is picked, or none
+-- what is known of a span in which this match is picked, or none
 abbrev pub match_candidate : Option Occurrence → Candidate
 match_candidate None = Nothing
 match_candidate (Some m) = Found m
 
--- what a skip tells of a span: the first place of it that holds one of the bytes; or the match that a search for
+-- what a skip says of a span: the first place of it that holds one of the bytes; or the match that a search for
 -- the needle alone picks
 abbrev pub Tells : Skip → List ℕ → ℕ → ℕ → Candidate → Type 0
 Tells (FirstOf bytes) haystack low high candidate =

@@ -12,7 +12,7 @@ pub use answers::{
 };
 pub use values::{
     classes_are_lawful, classes_set_apart, clones_are_equal, clones_take_no_memory,
-    defaults_are_told, equal_values_hash_equally, errors_compare_by_their_fields,
-    greatest_number_is_told, numbers_compare_as_numbers, strides_have_room,
+    defaults_are_stated, equal_values_hash_equally, errors_compare_by_their_fields,
+    greatest_number_is_stated, numbers_compare_as_numbers, strides_have_room,
     values_compare_by_their_fields, values_hash_by_their_fields,
 };

@@ -141,7 +141,7 @@ impl<'h> Tape<'h> {
         requires onward { self.now.place ≤ at }
         requires ordered { at ≤ end }
         requires within { end ≤ length self.now.bytes }
-        ensures tells { Tells (skip_of prefilter.now) self.now.bytes at end result }
+        ensures says { Tells (skip_of prefilter.now) self.now.bytes at end result }
         ensures promises { (ignores_case : Bool) (patterns : List (List ℕ)) → IsSkipFor (skip_of prefilter.now) ignores_case patterns
             → Promises (search_over ignores_case patterns self.now.bytes at end) result }
         ensures counted { looks.new ≡ one_more_call looks.old }

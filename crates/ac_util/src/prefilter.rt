@@ -247,7 +247,7 @@ impl<A: Allocator> Prefilter<A> {
     #[inline]
     pub fn find_in(&self, haystack: &[u8], span: Span) -> Candidate
         requires legal { IsLegal haystack.now span.start span.end }
-        ensures tells { Tells (skip_of self.now) haystack.now span.start span.end result }
+        ensures says { Tells (skip_of self.now) haystack.now span.start span.end result }
         ensures promises { (ignores_case : Bool) (patterns : List (List ℕ)) → IsSkipFor (skip_of self.now) ignores_case patterns
             → Promises (search_over ignores_case patterns haystack.now span.start span.end) result }
     {

@@ -19,12 +19,12 @@ length-firsts (first ∷ []) = refl
 length-firsts (first ∷ second ∷ words) = let later = length-firsts words in omega arith
 
 module _ (words : List (Bor (List ℕ))) where
-  -- too many pairs are told as such
+  -- too many pairs are reported as such
   pub limit_refusal-many : GREATEST + 1 < length words / 2 → limit_refusal (firsts (bytes_of words))
       ≡ Some (PatternIdOverflow GREATEST (length (firsts (bytes_of words)) - 1))
   limit_refusal-many many = search (rules, cond-true, length-firsts, lt-ltb)
 
-  -- of fewer it is told whether one is too long
+  -- of fewer it is reported whether one is too long
   pub limit_refusal-few : length words / 2 ≤ GREATEST + 1
       → limit_refusal (firsts (bytes_of words)) ≡ too_long_from 0 (firsts (bytes_of words))
   limit_refusal-few few = search (rules, cond-false, le-ltb, length-firsts)

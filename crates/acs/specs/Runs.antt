@@ -47,11 +47,11 @@ HasAnswered ends words reader new_reader writer new_writer answered =
     (HasRun ends request (words_after words) reader new_reader writer new_writer)
     (HasFailed ends request (words_after words) reader new_reader writer new_writer))
 
--- what is told of a fault: its line with a line end
+-- what is reported of a fault: its line with a line end
 abbrev pub message_of : Fault → List ℕ
 message_of fault = line_of fault ++ codes "\n"
 
--- what is told of a fault was written, or a beginning of it where a write failed or took nothing; where there is no fault
+-- what is reported of a fault was written, or a beginning of it where a write failed or took nothing; where there is no fault
 -- nothing was written
 abbrev pub HasTold : Result Outcome Fault → Writing → Writing → Type 0
 HasTold (Ok outcome) old new = new ≡ old

@@ -61,7 +61,7 @@ impl<'a, A: Automaton> Scanner<'a, A> {
         }
     }
 
-    /// Takes the next match that is due where the automaton stands, or returns None where there is none.
+    /// Takes the next match of the current state, or returns None where there is none.
     #[inline]
     fn take_due(&self, reached: &mut Reached) -> Option<Match>
         requires listed { (bytes : List ℕ) × IsListed (⟦<A as Scans>⟧.scan self.now.automaton.now self.now.anchored)

@@ -40,7 +40,7 @@ contiguous_refusal_by settings patterns =
 pub record IsContiguousFrom (dense_depth : ℕ) (byte_classes : Bool) (from : Built) (wants_prefilter : Bool)
     (c : ContiguousView) : Type 0 where
   pub built : c.built ≡ from
-  pub filters_is : c.wants_prefilter ≡ wants_prefilter
+  pub wants_prefilter_is : c.wants_prefilter ≡ wants_prefilter
   pub dense_depth_is : c.dense_depth ≡ dense_depth
   pub classes : c.classes ≡ classes_by byte_classes from.ignores_case from.patterns
   pub size : length c.words ≡ words_from dense_depth byte_classes from

@@ -43,7 +43,7 @@ dfa_refusal_by settings patterns =
 pub record IsDfaFrom (start_kind : StartKind) (byte_classes : Bool) (from : Built) (wants_prefilter : Bool) (d : DfaView)
     : Type 0 where
   pub built : d.built ≡ record from { start_kind = start_kind }
-  pub filters_is : d.wants_prefilter ≡ wants_prefilter
+  pub wants_prefilter_is : d.wants_prefilter ≡ wants_prefilter
   pub classes : d.classes ≡ classes_by byte_classes from.ignores_case from.patterns
   pub stride2 : d.stride2 ≡ stride2 d.classes
   pub rows : length d.entries ≡ table_rows start_kind (state_count from.kind (plain_of from)) * stride d.classes

@@ -75,8 +75,8 @@ impl<'a, A: Allocator> Filler<'a, A> {
         }
     }
 
-    /// Fills the row of the start in unanchored searches. By a byte that doesn't lead on it leads to itself, or to the
-    /// dead state where under a leftmost kind an empty pattern has begun the match.
+    /// Fills the row of the start in unanchored searches. Bytes without a transition stay at the start, or lead to
+    /// the dead state where under a leftmost kind an empty pattern has begun the match.
     fn fill_start(&self, table: &mut [StateID])
         requires { (nodes : List Node) × MayFillRow self.now nodes (length table.old) 2 [] Anchored.No table.old }
         ensures { (nodes : List Node) → MayFillRow self.now nodes (length table.old) 2 [] Anchored.No table.old

@@ -121,7 +121,7 @@ pub fn equal_values_hash_equally()
 {}
 
 /// By default a number is 0, the match kind is `Standard`, and unanchored searches alone are served.
-pub fn defaults_are_told()
+pub fn defaults_are_stated()
     ensures patterns { (n : ℕ) → ⟦<PatternID as Default>⟧.is_default n → n ≡ 0 }
     ensures states { (n : ℕ) → ⟦<StateID as Default>⟧.is_default n → n ≡ 0 }
     ensures plain { (n : ℕ) → ⟦<SmallIndex as Default>⟧.is_default n → n ≡ 0 }
@@ -131,7 +131,7 @@ pub fn defaults_are_told()
 {}
 
 /// The greatest number of a pattern or a state is 2,147,483,646.
-pub fn greatest_number_is_told()
+pub fn greatest_number_is_stated()
     ensures { GREATEST ≡ 2147483646 }
 {}
 

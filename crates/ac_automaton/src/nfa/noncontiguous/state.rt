@@ -82,7 +82,7 @@ impl State {
     }
 }
 
-/// Up to how many transitions are looked through one by one, which is faster for few.
+/// Lists up to this length are searched linearly.
 const FEW: usize = 8;
 
 /// Returns the target of the transition by a byte, if there is one.

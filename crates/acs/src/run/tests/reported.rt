@@ -1,4 +1,4 @@
-//! What is told of a run beside its lines, and by its status.
+//! What a run reports beside its lines, and by its status.
 use super::devices::Narrow;
 use super::{INPUT, LINES, WORDS};
 use crate::run::{run_and_report, run_on_arguments};
@@ -6,7 +6,7 @@ use ac_search::{Bytes, IntoWrite, Written};
 use std::alloc::{AllocError, Global};
 use std::test::Fail;
 
-/// Words, what is written, what is told, and the exit status, over one input.
+/// Words, what is written, what is reported, and the exit status, over one input.
 const TOLD: &[(&[&str], &[u8], &[u8], u8)] = &[
     (WORDS, LINES, b"", 0),
     (&["walk", "std", "auto", "absent"], b"", b"", 1),

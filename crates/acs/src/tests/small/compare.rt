@@ -14,7 +14,7 @@ fn is_moved(found: &Match, from: &Match, by: usize) -> bool {
         && found.end() == from.end().saturating_add(by)
 }
 
-/// Returns whether the walk of an input is this one, told from the beginning of its span, and its find the first match
+/// Returns whether the walk of an input is this one, counted from the beginning of its span, and its find the first match
 /// of it.
 fn walks(searcher: &AhoCorasick, input: Input<'_>, wanted: &[Match]) -> Result<bool, Fail> {
     let by = input.start();

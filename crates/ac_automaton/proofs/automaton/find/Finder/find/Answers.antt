@@ -84,7 +84,7 @@ find_on-requires-clause-unread g c = search (rules, may g (goal.at.find_on-requi
 pub find_on-requires-clause-ready : goal.find_on-requires-clause-ready
 find_on-requires-clause-ready g c = search (rules, may g ((goal.at.find_on-requires-clause-ready g c).Joined-self))
 
--- what the find has done is told of the finder as it is seen
+-- what the find has done, said of the finder as it is seen
 pub returns-clause-searched : goal.returns-clause-searched
 returns-clause-searched g c =
     let j = (goal.at.returns-clause-searched g c).Joined-self in

@@ -12,6 +12,6 @@ returns-in-Match g c =
     c.scan.ensures.counted c.args.stops (Some c.in-Match.found) (promise (order_of built.kind c.args.stops))
     c.requires.some_bytes c.requires.unread
 
--- no start alone is told
+-- no start alone is returned
 pub returns-in-None : goal.returns-in-None
 returns-in-None g c = search (rules, picks-none, searched-told, told-none)

@@ -184,12 +184,12 @@ module _ (g : Over) (c : After-is_decided g) where
       → IsAnswered c.self.inside.stops c.self.inside.filled c.loop-scanner.at node_now c.loop-scanner.picked
   answered decided = (c.is_decided.ensures _ (on-now g c).is_at.there).0 decided
 
-  module _ (dead : Bool) (tells : (u : Node) → stands g c c.loop-scanner.state u → (dead ≡ true) ↔ (u ≡ None)) where
+  module _ (dead : Bool) (says : (u : Node) → stands g c c.loop-scanner.state u → (dead ≡ true) ↔ (u ≡ None)) where
     -- why a match that is picked is settled, and why none is, by the node
     cause : (c.self.inside.stops ≡ true) ⊎ ((dead ≡ true) ⊎ (c.self.inside.phase ≡ Ended))
         → (c.self.inside.stops ≡ true) ⊎ ((node_now ≡ None) ⊎ (c.self.inside.phase ≡ Ended))
     cause (inl first) = inl first
-    cause (inr (inl gone)) = inr (inl ((tells _ (on-now g c).is_at.there).0 gone))
+    cause (inr (inl gone)) = inr (inl ((says _ (on-now g c).is_at.there).0 gone))
     cause (inr (inr ended)) = inr (inr ended)
 
     open-still : (c.loop-scanner.picked ≡ None)
@@ -199,7 +199,7 @@ module _ (g : Over) (c : After-is_decided g) where
     open-still (inl none) = inl none
     open-still (inr still) = inr (
       still.0,
-      (λ gone. false≢true (sym still.1 ∙ (tells _ (on-now g c).is_at.there).1 gone)),
+      (λ gone. false≢true (sym still.1 ∙ (says _ (on-now g c).is_at.there).1 gone)),
       still.2,
     )
 

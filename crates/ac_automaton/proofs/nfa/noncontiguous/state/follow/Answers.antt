@@ -11,7 +11,7 @@ bounds-states-as_usize c =
     let r = c.requires.state in
     omega (arith, (c.loop-states.invariant r.0 r.1 r.2 r.3).state.there)
 
--- what the state that was read tells, by any of the meanings
+-- what the state that was read says, by any of the meanings
 known_by : (c : After-index-states-as_usize) (g : TrieView) (u : Node) (same : g.transitions ≡ c.args.trie.transitions.now)
     (h : HasState g c.args.trie.states.now c.args.from u)
     → Represents g c.loop-states.at (c.loop-states.invariant g u same h).node c.index-states-as_usize.result
@@ -20,7 +20,7 @@ known_by c g u same h =
     represented g c.args.trie.states.now c.loop-states.at o.node c.index-states-as_usize.result o.state
     (rw c.as_usize-in-loop-states.ensures.value at c.index-states-as_usize.is)
 
--- what the state that was read tells, by one of the meanings that there are
+-- what the state that was read says, by one of the meanings that there are
 abbrev known_node : After-index-states-as_usize → Node
 known_node c = let r = c.requires.state in (c.loop-states.invariant r.0 r.1 r.2 r.3).node
 

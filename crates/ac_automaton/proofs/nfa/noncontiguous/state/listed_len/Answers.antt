@@ -6,7 +6,7 @@ use Rattle.ac_automaton.proofs.ListsOf.{counting-on, counting-end}
 use Rattle.ac_automaton.proofs.nfa.noncontiguous.state.listed_len.Goals as goal
 use Rattle.ac_automaton.proofs.nfa.noncontiguous.state.listed_len.Goals.{After-index-states-at}
 
--- what the state that was read tells, by one of the meanings that there are
+-- what the state that was read says, by one of the meanings that there are
 abbrev known_node : After-index-states-at → Node
 known_node c = let r = c.requires.state in (c.loop-at.invariant.counted r.0 r.1 r.2).node
 

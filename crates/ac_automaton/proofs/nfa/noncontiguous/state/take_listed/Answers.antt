@@ -11,7 +11,7 @@ bounds-states-as_usize c =
     let r = c.requires.state in
     omega (arith, (c.loop-left.invariant r.0 r.1 r.2 r.3).state.there)
 
--- what the state that was read tells, by one of the meanings that there are
+-- what the state that was read says, by one of the meanings that there are
 abbrev known_node : After-index-states-as_usize → Node
 known_node c = let r = c.requires.state in (c.loop-left.invariant r.0 r.1 r.2 r.3).node
 

@@ -5,12 +5,12 @@ use Rattle.ac_engines.specs.Contiguous.{ContiguousView}
 use Rattle.ac_engines.proofs.PackedNumbers.{start-number}
 use Rattle.ac_engines.proofs.nfa.contiguous.NFAAutomaton.is_start.Goals as goal
 
--- what a comparison of state numbers tells
+-- what a comparison of state numbers says
 equal-from : (a b : ℕ) (t : Bool) → t ≡ ((a == b) && true) → t ≡ true → a ≡ b
 equal-from a b t is true-is = grind (arith, common_steps)
 
-equal-tells : (a b : ℕ) (t : Bool) → t ≡ ((a == b) && true) → a ≡ b → t ≡ true
-equal-tells a b t is same = is ∙ ap (λ (t : Bool). t && true) (eq-eqb a b same)
+equal-says : (a b : ℕ) (t : Bool) → t ≡ ((a == b) && true) → a ≡ b → t ≡ true
+equal-says a b t is same = is ∙ ap (λ (t : Bool). t && true) (eq-eqb a b same)
 
 pub returns-then-eq : goal.returns-then-eq
 returns-then-eq g c = λ anchored u h.
@@ -29,10 +29,10 @@ returns-else-eq g c = λ anchored u h.
           c.eq-else-eq.ensures is-true ∙ other)),
       λ empty. elim (number.1 empty) [
         | inl first ↦
-            let equal = equal-tells c.args.sid c.self.inside.start c.eq.result c.eq.ensures (first ∙ sym start) in
+            let equal = equal-says c.args.sid c.self.inside.start c.eq.result c.eq.ensures (first ∙ sym start) in
             let unequal = c.if-eq.false in
             absurd cc
-        | inr second ↦ equal-tells c.args.sid c.self.inside.anchored_start c.eq-else-eq.result c.eq-else-eq.ensures
+        | inr second ↦ equal-says c.args.sid c.self.inside.anchored_start c.eq-else-eq.result c.eq-else-eq.ensures
             (second ∙ sym other)
       ],
     )

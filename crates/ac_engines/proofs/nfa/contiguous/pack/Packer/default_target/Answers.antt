@@ -13,6 +13,6 @@ returns-then-as_usize-ne-START g c = search (rules, default_target-fails)
 pub returns-then-min_pattern_len-eq0 : goal.returns-then-min_pattern_len-eq0
 returns-then-min_pattern_len-eq0 g c = search (rules, default_target-dead, default_target-unanchored)
 
--- else it leads to itself
+-- else the start is stayed at
 pub returns-else-is_leftmost : goal.returns-else-is_leftmost
 returns-else-is_leftmost g c = search (rules, cases_lt, else-is_leftmost-via-else-is_leftmost, else-is_leftmost-via-then-is_leftmost+else-min_pattern_len-eq0, default_target-start, default_target-unanchored)
