@@ -1,4 +1,5 @@
 ghost use Rattle.std.specs.Prelude.{◌≡◌, None, length};
+ghost use Rattle.std.specs.Iterator.{IsFinite};
 ghost use Rattle.ac_search.specs.Built.{find_refusal, walk_result};
 ghost use Rattle.ac_search.specs.InputView.{whole_input};
 ghost use Rattle.ac_search.specs.Texts.{AreTexts};
@@ -49,13 +50,13 @@ fn triple_of(m: &Match) -> Triple {
 /// Returns what a row says of each match of an iterator.
 fn triples_of<I: Iterator<Item = Match>>(
     alloc: Global,
-    mut matches: I,
-) -> Result<Vec<Triple>, AllocError> {
+    matches: I,
+) -> Result<Vec<Triple>, AllocError>
+    requires can { I.can_next matches }
+    requires finite { IsFinite (I.remaining matches) }
+{
     let mut triples = Vec::new(alloc);
-    for _ in 0..u64::MAX {
-        let Some(found) = matches.next() else {
-            break;
-        };
+    for found in matches {
         triples.push(triple_of(&found))?;
     }
     Ok(triples)
