@@ -16,6 +16,7 @@ pub record Streaming : Type 0 where
   pub phase : Phase
   pub buffer : ℕ
 
+-- one with these parts, in this order
 abbrev pub streaming_by : Built → List ℕ → ℕ → ℕ → ℕ → Phase → ℕ → Streaming
 streaming_by built bytes given front kept phase buffer =
     record { built = built; bytes = bytes; given = given; front = front; kept = kept; phase = phase; buffer = buffer }

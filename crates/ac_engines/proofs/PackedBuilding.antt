@@ -13,7 +13,7 @@ pub packed-same : (q : PackPlan) (nodes : List Node) (numbers words : List ℕ) 
     → q.trie.built.start_kind ≡ Both → dense_depth ≡ q.dense_depth → classes ≡ q.classes
     → start ≡ slice_index_or numbers START 0 → anchored_start ≡ slice_index_or numbers ANCHORED_START 0
     → match_end ≡ front_end q nodes
-    → contiguous_of common dense_depth classes words (start, anchored_start, match_end) ≡ packed_of q nodes numbers words
+    → contiguous_of common dense_depth classes words start anchored_start match_end ≡ packed_of q nodes numbers words
 packed-same q nodes numbers words common dense_depth classes start anchored_start match_end are both depth class starts anchored_starts ends =
     grind (arith, common_steps)
 

@@ -27,16 +27,16 @@ pub record ContiguousView : Type 0 where
   pub match_end : ℕ
 
 -- the contiguous NFA of an engine that has this, with the numbers of the starts and the one after the match states
-abbrev pub contiguous_of : CommonView → ℕ → List ℕ → List ℕ → ℕ × ℕ × ℕ → ContiguousView
-contiguous_of common dense_depth classes words numbers = record {
+abbrev pub contiguous_of : CommonView → ℕ → List ℕ → List ℕ → ℕ → ℕ → ℕ → ContiguousView
+contiguous_of common dense_depth classes words start anchored_start match_end = record {
   built = built_as common Both;
   wants_prefilter = common.wants_prefilter;
   dense_depth = dense_depth;
   classes = classes;
   words = words;
-  start = numbers.0;
-  anchored_start = numbers.1;
-  match_end = numbers.2;
+  start = start;
+  anchored_start = anchored_start;
+  match_end = match_end;
 }
 
 -- where states begin: that of each string, and the anchored start

@@ -6,14 +6,14 @@ use Rattle.ac_util.specs.declared.device.WriteError.{WriteError}
 use Rattle.ac_util.specs.declared.device.WriteError.TheVariants.{Io, WriteZero}
 use Rattle.ac_util.specs.Sizes.{usize_max}
 
--- the bytes that a reader has left, if it tells them; how many of its calls failed; and how many reads into a
+-- the bytes that a reader has left, if it reports them; how many of its calls failed; and how many reads into a
 -- slice that isn't empty gave no byte
 pub record Reading : Type 0 where
   pub left : Option (List ℕ)
   pub failed : ℕ
   pub empties : ℕ
 
--- the bytes that were written, if the writer tells them; how many of its calls failed; and how many writes of a
+-- the bytes that were written, if the writer reports them; how many of its calls failed; and how many writes of a
 -- piece that isn't empty took no byte
 pub record Writing : Type 0 where
   pub written : Option (List ℕ)

@@ -100,8 +100,9 @@ OnlyAppends {F} {D} calls holds =
     (m : Occurrence) (slice : List ℕ) (s : Replacing F D) (r : Bool) (t : Replacing F D) → calls m slice s r t
     → (more : List ℕ) × (holds t.destination ≡ holds s.destination ++ more)
 
--- what the steps leave behind what was there, where the calls of a closure are these: where each appends what `write` gives and
--- goes on, the haystack with each match exchanged for that, or a beginning of it after a failure; where each only appends, more
+-- what the steps add after what the destination held, where the calls of a closure are these. Where each call appends what
+-- `write` gives and goes on: the haystack with each match exchanged for that, or a beginning of it after a failure. Where each
+-- call only appends: something
 pub record ClosureExchanges (E : Type 0) {F D : Type 0}
     (calls : Occurrence → List ℕ → Replacing F D → Bool → Replacing F D → Type 0) : Type 0 where
   pub whole : (haystack : List ℕ) (holds : D → List ℕ) (write : Occurrence → List ℕ → List ℕ) (ms : List Occurrence)

@@ -57,11 +57,11 @@ impl<A: Allocator> Model for NFA<A> {
 
     ghost Value = { ContiguousView };
 
-    ghost view = { λ n. contiguous_of n.common n.dense_depth n.classes n.words.items
-        (n.start, n.anchored_start, n.match_end) };
+    ghost view = { λ n. contiguous_of n.common n.dense_depth n.classes n.words.items n.start n.anchored_start
+        n.match_end };
 
     ghost invariant = { λ n. (at : Places) × IsContiguous (contiguous_of n.common n.dense_depth n.classes n.words.items
-        (n.start, n.anchored_start, n.match_end)) at };
+        n.start n.anchored_start n.match_end) at };
 }
 
 impl<A: Allocator + Clone> Clone for NFA<A> {
