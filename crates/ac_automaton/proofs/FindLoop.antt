@@ -77,9 +77,9 @@ module _ (s : Scan) (stops : Bool) (bytes : List ℕ) (span : Span) where
   module _ {state at : ℕ} {work new_work : Work} (is_at : IsAt s (in_memory bytes span) state at)
       (scans : ScansTo s (in_memory bytes span) span.start work at new_work) where
     -- each byte of what was picked was read
-    picked-told : (r : Option Occurrence) → r ≡ pick order (up_to at) → IfSome r (HasReadMatch span.start work new_work)
-    picked-told None e = tt
-    picked-told (Some m) e = search (rules, pick-in_span)
+    picked-read : (r : Option Occurrence) → r ≡ pick order (up_to at) → IfSome r (HasReadMatch span.start work new_work)
+    picked-read None e = tt
+    picked-read (Some m) e = search (rules, pick-in_span)
 
     -- and none past the place
     ends-here : (r : Option Occurrence) → IfSome r (λ m. m.end ≡ at) → IfSome r (ReadsTo span.start work new_work)
@@ -90,7 +90,7 @@ module _ (s : Scan) (stops : Bool) (bytes : List ℕ) (span : Span) where
         → (order ≡ Standard → IfSome r (λ m. m.end ≡ at))
         → (new_work.counts.calls ≡ work.counts.calls → IsDecided s.built.kind order q r new_work.place)
         → HasSearched (picking_by s stops) q r work new_work
-    searched r answer up picked ends decided = search (rules, ends-here, picked-told, read-scanned)
+    searched r answer up picked ends decided = search (rules, ends-here, picked-read, read-scanned)
 
   -- one more byte is read, after r was picked
   module _ (at : ℕ) (r : Option Occurrence) (ordered : span.start ≤ at) (room : at < length bytes)

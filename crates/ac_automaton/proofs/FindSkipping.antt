@@ -5,7 +5,7 @@ use Rattle.std.proofs.lemmas.Bool.{cases_lt}
 use Rattle.std.proofs.lemmas.Grind.{common_steps}
 use Rattle.ac_automaton.specs.Util.{Candidate, Counts, is_empty, is_leftmost, MatchKind, No, Occurrence, Occurs, one_more_call, order_of, pick, PossibleStart, Search, search_over, Skip, skip_for, Span}
 use Rattle.ac_util.specs.declared.prefilter.Candidate.TheVariants.{None as Nothing}
-use Rattle.ac_util.specs.Prefilters.{Tells as SkipTells}
+use Rattle.ac_util.specs.Prefilters.{IsCandidateFor}
 use Rattle.ac_util.specs.Prefilters.Skip.{Needle}
 use Rattle.ac_util.proofs.SearchLoop.{SearchGoesOn}
 use Rattle.ac_util.proofs.Walks.{pick-Occurs}
@@ -30,11 +30,11 @@ picks-none kind q nothing = by (pick kind q) refl
     by (Some m) e = absurd (nothing m (pick-Occurs kind q m e))
 
 -- of a needle no start alone is returned
-pub told-none : (needle bytes : List ℕ) (low high : ℕ) (candidate : Candidate)
+pub nothing-none : (needle bytes : List ℕ) (low high : ℕ) (candidate : Candidate)
     → (candidate ≡ Nothing) ⊎ ((place : ℕ) × (candidate ≡ PossibleStart place))
-    → SkipTells (Needle needle) bytes low high candidate → candidate ≡ Nothing
-told-none needle bytes low high candidate (inl is) told = is
-told-none needle bytes low high candidate (inr is) told = grind (arith, common_steps)
+    → IsCandidateFor (Needle needle) bytes low high candidate → candidate ≡ Nothing
+nothing-none needle bytes low high candidate (inl is) told = is
+nothing-none needle bytes low high candidate (inr is) told = grind (arith, common_steps)
 
 -- a find that has called its prefilter alone, and answers the pick, has read nothing
 module _ (s : Scan) (bytes : List ℕ) (span : Span) {skip : Skip} (by : SkipsByNeedle s skip) (place : ℕ)
@@ -65,11 +65,11 @@ module _ (s : Scan) (bytes : List ℕ) (span : Span) {skip : Skip} (by : SkipsBy
       → pick kind (search_over s.built.ignores_case s.built.patterns bytes span.start span.end) ≡ r → r ≡ pick kind searched
   unanchored kind is = cc
 
-  pub searched-told : (stops : Bool) (r : Option Occurrence)
+  pub searched-none : (stops : Bool) (r : Option Occurrence)
       → pick (order_of s.built.kind stops) (search_over s.built.ignores_case s.built.patterns bytes span.start span.end) ≡ r
       → span.start < span.end → place ≤ span.start
       → HasSearched (picking_by s stops) searched r before after
-  searched-told stops r answer some_bytes unread =
+  searched-none stops r answer some_bytes unread =
       grind (arith, common_steps, says r, stops-at (order_of s.built.kind stops) r (unanchored (order_of s.built.kind stops) answer))
 
 -- a find whose automaton has reached no match since it began picks what the node finds

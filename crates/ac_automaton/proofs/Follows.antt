@@ -6,7 +6,7 @@ use Rattle.std.proofs.lemmas.Grind.{common_steps}
 use Rattle.ac_util.specs.declared.search.Anchored.{Anchored}
 use Rattle.ac_automaton.specs.Util.{Counts, looks, more_looks, No, Node, plain_byte, step, Yes}
 use Rattle.ac_util.proofs.Lists.{Contains-from_IsIn, IsIn-map}
-use Rattle.ac_automaton.specs.Prelude.{ANCHORED_START, DEAD, FIRST_INNER, HasState, TrieView, transition_target, Represents, RootTells, START, State, Transition, transition_bytes, transitions_of}
+use Rattle.ac_automaton.specs.Prelude.{ANCHORED_START, DEAD, FIRST_INNER, HasState, TrieView, transition_target, Represents, IsRootEntry, START, State, Transition, transition_bytes, transitions_of}
 use Rattle.ac_automaton.proofs.Places.{IsIn-place, get-same}
 use Rattle.ac_automaton.proofs.Steps.{step-transition_target, step-on, looks-transition_target, looks-short, looks-on}
 
@@ -108,7 +108,7 @@ module _ (g : TrieView) (states : List State) (b : ℕ) (u : Node) (old : Counts
   -- at the start an unanchored walk ends with one look where a root table says
   pub ends-root : (transitions : List Transition) → g.transitions ≡ transitions → (now new : Counts)
       → new ≡ more_looks 1 now → (s next : ℕ) (anchored : Anchored) → anchored ≡ No → s ≡ START
-      → RootTells transitions states b next
+      → IsRootEntry transitions states b next
       → Onward g states anchored b u old now s → Ended g anchored b u old new next
   ends-root transitions same now new more s next Yes is_no at_start told o = absurd (cc)
   ends-root transitions same now new more s next No is_no at_start told o =

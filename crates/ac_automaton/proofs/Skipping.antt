@@ -4,7 +4,7 @@ use Rattle.std.proofs.Common.{rules, ◌≡◌, ℕ, zero, suc, ◌+◌, ◌-◌
 use Rattle.std.specs.List.{list_any, starts_with}
 use Rattle.std.proofs.lemmas.Bool.{or_right, false≢true, false_from_ne_true, cases_lt}
 use Rattle.ac_util.specs.declared.search.Anchored.{Anchored}
-use Rattle.ac_automaton.specs.Util.{begins_with, begins_with_pattern, BeginWith, Built, Candidate, Counts, FirstOf, is_empty, is_one_of, IsSkipFor, No, Node, Occurrence, pattern_of, plain, plain_byte, Skip, Tells}
+use Rattle.ac_automaton.specs.Util.{begins_with, begins_with_pattern, BeginWith, Built, Candidate, Counts, FirstOf, is_empty, is_one_of, IsSkipFor, No, Node, Occurrence, pattern_of, plain, plain_byte, Skip, IsCandidateFor}
 use Rattle.memchr.specs.Find.{Nowhere, Passes}
 use Rattle.ac_util.specs.declared.prefilter.Candidate.TheVariants.{None as Nothing, Match as Found}
 use Rattle.ac_util.proofs.Found.{matches-nil}
@@ -46,18 +46,18 @@ module _ (built : Built) (some : list_any is_empty built.patterns ≡ false) whe
   step-stays b none = search (rules, any_passes, begins-from_plain, false≢true, no_empty, step-nil)
 
 -- what is known of the first bytes: from the place on asked none stands before the place returned
-pub record IsTold (first : List ℕ) (bytes : List ℕ) (low high place : ℕ) : Type 0 where
+pub record IsSkippedTo (first : List ℕ) (bytes : List ℕ) (low high place : ℕ) : Type 0 where
   pub onward : low ≤ place
   pub within : place < high
   pub none : Nowhere (Passes (is_one_of first) bytes) low place
 
 -- or, where no place is returned, none stands anywhere
-pub told-none : (first bytes : List ℕ) (low high : ℕ) (candidate : Candidate)
+pub nothing-none : (first bytes : List ℕ) (low high : ℕ) (candidate : Candidate)
     → (candidate ≡ Nothing) ⊎ ((m : Occurrence) × (candidate ≡ Found m))
-    → Tells (FirstOf first) bytes low high candidate → Nowhere (Passes (is_one_of first) bytes) low high
-told-none first bytes low high candidate is (None, h, e) = h
-told-none first bytes low high candidate (inl is) (Some p, h, e) = absurd (cc)
-told-none first bytes low high candidate (inr is) (Some p, h, e) = let other = is.1 in absurd (cc)
+    → IsCandidateFor (FirstOf first) bytes low high candidate → Nowhere (Passes (is_one_of first) bytes) low high
+nothing-none first bytes low high candidate is (None, h, e) = h
+nothing-none first bytes low high candidate (inl is) (Some p, h, e) = absurd (cc)
+nothing-none first bytes low high candidate (inr is) (Some p, h, e) = let other = is.1 in absurd (cc)
 
 -- a scan skips onward
 pub skipped-onward : (s : Scan) (t : ScanText) {from to : ℕ} {counts new_counts : Counts}

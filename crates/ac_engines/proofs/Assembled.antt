@@ -51,7 +51,7 @@ pub record IsPlanned (trie : Trie) (start_kind : StartKind) (classes : List ℕ)
   pub few : table_rows start_kind (state_count trie.built.kind (plain_of trie.built)) * 2 ^ exponent ≤ GREATEST + 2 ^ exponent
   pub allowed : rows_refusal start_kind classes (state_count trie.built.kind (plain_of trie.built)) ≡ None
 
--- the steps of a build tell this
+-- what follows from the steps of a build
 pub planned : (trie : Trie) (start_kind : StartKind) (byte_classes : Bool) (classes : List ℕ) (exponent width len : ℕ)
     → classes ≡ classes_by byte_classes trie.built.ignores_case trie.built.patterns → exponent ≡ stride2 classes
     → width ≡ stride classes

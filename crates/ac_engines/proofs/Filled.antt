@@ -10,7 +10,7 @@ use Rattle.ac_util.proofs.Lists.{Contains-from_IsIn, IsIn-filter, IsIn-from_Cont
 use Rattle.ac_automaton.specs.Prelude.{leads_on, transition_bytes_of, plain_of, step_of}
 use Rattle.ac_engines.specs.Prelude.{EndsDead, entry, HasSet, IsFilled, row_at, SameBeside, RowInput}
 
--- the bytes that lead on are those that the test tells
+-- the bytes that lead on are those that pass the test
 pub transition_bytes_of-has : (built : Built) (u : Node) (b : ℕ) → b < 256 → leads_on built u b ≡ true → Contains (transition_bytes_of built u) b
 unfolding transition_bytes_of
 transition_bytes_of-has built u b byte leads =

@@ -147,7 +147,7 @@ module _ (words : List ℕ) (classes : ℕ) (s : PackedState) where
   has-failure One h = has-failure-words _ _ (one-words h).words_are
   has-failure Sparse h = has-failure-words _ _ (sparse-words h)
 
-  -- the low byte of the first word tells the form
+  -- the low byte of the first word says which form a state has
   abbrev pub form : ℕ
   form = slice_index_or words 0 0 % 256
 

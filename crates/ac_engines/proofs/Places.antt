@@ -12,7 +12,7 @@ passed : (v w : List ℕ) (n m : ℕ) (t : Bool) → bytes_eq v w ≡ t → v �
 passed v w n m true e other = absurd (other ((bytes_eq-Decides v w).0 e))
 passed v w n m false e other = rw e refl
 
--- the first state that stands for a string tells its number
+-- the first state that stands for a string has its number
 pub place-at : (nodes : List Node) (numbers : List ℕ) (w : List ℕ) (s : ℕ) → length numbers ≡ length nodes
     → slice_get nodes s ≡ Some (Some w) → ((t : ℕ) → t < s → slice_get nodes t ≢ Some (Some w))
     → first_row_in nodes numbers w ≡ slice_index_or numbers s 0

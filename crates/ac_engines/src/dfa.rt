@@ -95,7 +95,7 @@ impl<A: Allocator + Clone> Clone for DFA<A> {
 
 impl<A: Allocator + Clone> DFA<A> {
     /// Builds an automaton with the usual settings: `MatchKind::Standard`, case counts, unanchored searches alone,
-    /// bytes that need not be told apart share a class, and a prefilter where there is one.
+    /// bytes that need not be distinguished share a class, and a prefilter where there is one.
     ///
     /// # Errors
     /// As `Builder::build`.

@@ -21,10 +21,10 @@ built_of (Noncontiguous nfa) = nfa.value.built
 built_of (Contiguous nfa) = nfa.value.built
 built_of (Dfa dfa) = dfa.value.built
 
-abbrev pub filters_of : {Z : Type 0} → Engine Z → Bool
-filters_of (Noncontiguous nfa) = nfa.value.wants_prefilter
-filters_of (Contiguous nfa) = nfa.value.wants_prefilter
-filters_of (Dfa dfa) = dfa.value.wants_prefilter
+abbrev pub wants_prefilter_of : {Z : Type 0} → Engine Z → Bool
+wants_prefilter_of (Noncontiguous nfa) = nfa.value.wants_prefilter
+wants_prefilter_of (Contiguous nfa) = nfa.value.wants_prefilter
+wants_prefilter_of (Dfa dfa) = dfa.value.wants_prefilter
 
 abbrev pub name_of : {Z : Type 0} → Engine Z → AhoCorasickKind
 name_of (Noncontiguous nfa) = NoncontiguousNFA
@@ -40,7 +40,7 @@ states_of (Dfa dfa) = OfDfa dfa.value
 abbrev pub searcher_of : {Z : Type 0} → Engine Z → StartKind → Searcher
 searcher_of engine start_kind = record {
   built = record (built_of engine) { start_kind = start_kind };
-  wants_prefilter = filters_of engine;
+  wants_prefilter = wants_prefilter_of engine;
   kind = name_of engine;
   states = states_of engine;
 }
@@ -56,7 +56,7 @@ pub record IsMadeFrom {Z : Type 0} (from : Trie) (settings : Settings) (engine :
   pub built : record (built_of engine) { start_kind = settings.start_kind }
       ≡ record from.built { start_kind = settings.start_kind }
   pub supports : Supports engine settings.start_kind
-  pub wants_prefilter : filters_of engine ≡ from.wants_prefilter
+  pub wants_prefilter : wants_prefilter_of engine ≡ from.wants_prefilter
   pub laid_out : AreLaidOut settings from.built (states_of engine)
   pub name : name_of engine ≡ kind
 

@@ -16,7 +16,7 @@ pub record Searcher : Type 0 where
   pub states : States
 
 -- the settings of a searcher: what every engine is built by, which searches it supports, the engine where one is named,
--- the length below which states of a contiguous NFA are dense, and whether bytes that need not be told apart share a class
+-- the length below which states of a contiguous NFA are dense, and whether bytes that need not be distinguished share a class
 pub record Settings : Type 0 where
   pub engine : EngineSettings
   pub start_kind : StartKind

@@ -181,7 +181,7 @@ fn matches_of_texts_cut_no_character(rt: HostRuntime) -> Result<(), Fail> {
 }
 
 #[test]
-fn a_new_searcher_tells_its_settings(rt: HostRuntime) -> Result<(), Fail> {
+fn a_new_searcher_reports_its_settings(rt: HostRuntime) -> Result<(), Fail> {
     let searcher = AhoCorasick::new(rt.alloc(), &[b"he", b"she", b"hers"])?;
     same(&rt, searcher.kind(), AhoCorasickKind::DFA);
     same(&rt, searcher.start_kind(), Unanchored);

@@ -3,7 +3,7 @@ use Rattle.std.proofs.Common.{◌≡◌, ℕ, ◌+◌, ◌-◌, ◌<◌, ◌≤�
 use Rattle.std.proofs.lemmas.Bool.{eq-eqb, cases_lt, false≢true}
 use Rattle.std.proofs.lemmas.Grind.{common_steps}
 use Rattle.memchr.specs.Find.{IsFirst, IsFirstByte, FindsNeedle, OccursAt, Passes}
-use Rattle.ac_util.specs.Prelude.{begins_with, BeginWith, Candidate, FirstOf, is_empty, is_one_of, IsPick, IsSkipFor, LeftmostFirst, LeftmostLongest, match_candidate, MatchKind, Occurrence, occurrence, Occurs, pick, plain_byte, Promises, Search, search_over, Skip, Standard, start_candidate, Tells}
+use Rattle.ac_util.specs.Prelude.{begins_with, BeginWith, Candidate, FirstOf, is_empty, is_one_of, IsPick, IsSkipFor, LeftmostFirst, LeftmostLongest, match_candidate, MatchKind, Occurrence, occurrence, Occurs, pick, plain_byte, Promises, Search, search_over, Skip, Standard, start_candidate, IsCandidateFor}
 use Rattle.ac_util.specs.declared.prefilter.Candidate.TheVariants.{None as Nothing}
 use Rattle.ac_util.specs.Pick as Order
 use Rattle.ac_util.specs.Prefilters.Skip.{Needle}
@@ -147,13 +147,13 @@ module _ (needle : List ℕ) (hay : List ℕ) (low high : ℕ) where
 
 -- what a skip says is promised of each search that may skip so
 pub promised : (skip : Skip) (ignores_case : Bool) (patterns : List (List ℕ)) (hay : List ℕ) (low high : ℕ)
-    (candidate : Candidate) → Tells skip hay low high candidate → IsSkipFor skip ignores_case patterns
+    (candidate : Candidate) → IsCandidateFor skip hay low high candidate → IsSkipFor skip ignores_case patterns
     → Promises (search_over ignores_case patterns hay low high) candidate
 promised (FirstOf bytes) ignores_case patterns hay low high candidate (place, first, is) begin =
     grind (arith, common_steps, bytes_promise bytes ignores_case patterns hay low high begin place first)
 promised (Needle needle) ignores_case patterns hay low high candidate is (counts, single) = search (rules, needle_promise)
 
 -- where a span starts past its end a skip says nothing
-pub says-nothing : (skip : Skip) (hay : List ℕ) (low high : ℕ) → high < low → Tells skip hay low high Nothing
+pub says-nothing : (skip : Skip) (hay : List ℕ) (low high : ℕ) → high < low → IsCandidateFor skip hay low high Nothing
 says-nothing (FirstOf bytes) hay low high past = (None, (λ k from below. absurd (omega arith)), refl)
 says-nothing (Needle needle) hay low high past = search (rules, none-past_end)

@@ -1,4 +1,4 @@
--- Classes of bytes that an automaton need not tell apart.
+-- Classes of bytes that an automaton need not distinguish.
 use Rattle.std.specs.Prelude.{◌≡◌, ℕ, zero, suc, ◌+◌, ◌^◌, ◌<◌, ◌≤◌, Bool, true, ◌||◌, nat_le, List, length, map, find, slice_index, None, Some, unwrap_or, if◌then◌else◌, ⊤}
 use Rattle.std.specs.List.{range_with_len, list_any}
 use Rattle.ac_util.specs.declared.search.MatchKind.{MatchKind}

@@ -119,11 +119,11 @@ match_candidate (Some m) = Found m
 
 -- what a skip says of a span: the first place of it that holds one of the bytes; or the match that a search for
 -- the needle alone picks
-abbrev pub Tells : Skip → List ℕ → ℕ → ℕ → Candidate → Type 0
-Tells (FirstOf bytes) haystack low high candidate =
+abbrev pub IsCandidateFor : Skip → List ℕ → ℕ → ℕ → Candidate → Type 0
+IsCandidateFor (FirstOf bytes) haystack low high candidate =
     (place : Option ℕ) × IsFirst (Passes (is_one_of bytes) haystack) low high place
     × (candidate ≡ start_candidate place)
-Tells (Needle needle) haystack low high candidate =
+IsCandidateFor (Needle needle) haystack low high candidate =
     candidate ≡ match_candidate (pick Standard (search_over false (needle ∷ []) haystack low high))
 
 -- what a candidate says of a span: nothing occurs in it; the match is what is picked, by any kind; or nothing

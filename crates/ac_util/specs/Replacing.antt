@@ -28,7 +28,7 @@ MakesSteps refusal steps unchanged result =
     MatchResult result (λ done. (refusal ≡ None) × steps None)
     (λ e. MatchReplaceError e (λ m. (refusal ≡ Some m) × unchanged) ((refusal ≡ None) × steps (Some Memory)))
 
--- the steps that exchange these matches by a closure lead a destination from `old` to `new`. `holds` tells the bytes
+-- the steps that exchange these matches by a closure lead a destination from `old` to `new`. `holds` gives the bytes
 -- in it
 abbrev pub StepsLead : {F D : Type 0}
     → Mut F (Bor Occurrence × (Bor (List ℕ) × (MutBor D × Unit {0}))) (Bool × (MutBor D × Unit {0}))

@@ -1,4 +1,4 @@
-//! Classes of bytes that an automaton need not tell apart, so that its rows of transitions are short.
+//! Classes of bytes that an automaton need not distinguish, so that its rows of transitions are short.
 ghost use Rattle.std.specs.Prelude.{◌≡◌, ℕ, ◌<◌, ◌≤◌, ◌||◌, slice_index_or, false};
 ghost use Rattle.std.specs.List.{list_any};
 ghost use Rattle.ac_util.specs.Classes.{alphabet_len, class_at, classes_of, singletons, is_in_patterns, stride, stride2};

@@ -2,7 +2,7 @@
 ghost use Rattle.std.specs.Prelude.{◌≡◌, ℕ, ◌+◌, ◌<◌, ◌≤◌, Bool, List, length, slice_index};
 ghost use Rattle.ac_util.specs.Counts.{no_counts, one_more_call, one_more_read, more_looks};
 ghost use Rattle.ac_util.specs.Inputs.{input_of};
-ghost use Rattle.ac_util.specs.Prefilters.{IsSkipFor, Promises, Tells, search_over, skip_of};
+ghost use Rattle.ac_util.specs.Prefilters.{IsSkipFor, Promises, IsCandidateFor, search_over, skip_of};
 
 use crate::prefilter::{Candidate, Prefilter};
 use crate::search::{Input, Span};
@@ -141,7 +141,7 @@ impl<'h> Tape<'h> {
         requires onward { self.now.place ≤ at }
         requires ordered { at ≤ end }
         requires within { end ≤ length self.now.bytes }
-        ensures says { Tells (skip_of prefilter.now) self.now.bytes at end result }
+        ensures says { IsCandidateFor (skip_of prefilter.now) self.now.bytes at end result }
         ensures promises { (ignores_case : Bool) (patterns : List (List ℕ)) → IsSkipFor (skip_of prefilter.now) ignores_case patterns
             → Promises (search_over ignores_case patterns self.now.bytes at end) result }
         ensures counted { looks.new ≡ one_more_call looks.old }

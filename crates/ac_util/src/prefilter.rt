@@ -7,7 +7,7 @@ ghost use Rattle.memchr.specs.Find.{IsFirstByte};
 ghost use Rattle.ac_util.specs.declared.error.BuildError.TheVariants.{Memory};
 ghost use Rattle.ac_util.specs.InputView.{IsLegal};
 ghost use Rattle.ac_util.specs.Node.{is_empty};
-ghost use Rattle.ac_util.specs.Prefilters.{IsSkipFor, Promises, Skip, Tells, begins_with, byte_count, first_bytes_of, is_one_of, marked, search_over, skip_for, skip_of};
+ghost use Rattle.ac_util.specs.Prefilters.{IsSkipFor, Promises, Skip, IsCandidateFor, begins_with, byte_count, first_bytes_of, is_one_of, marked, search_over, skip_for, skip_of};
 ghost use Rattle.ac_util.specs.Prefilters.Skip.{FirstOf};
 ghost use Rattle.ac_util.specs.Sameness.{plain_byte};
 
@@ -104,7 +104,7 @@ impl<A: Allocator> Needle<A> {
     fn find_in(&self, haystack: &[u8], span: Span) -> Candidate
         requires ordered { span.start ≤ span.end }
         requires within { span.end ≤ length haystack.now }
-        ensures { Tells (Skip.Needle self.now) haystack.now span.start span.end result }
+        ensures { IsCandidateFor (Skip.Needle self.now) haystack.now span.start span.end result }
     {
         let Some(skipped) = memmem::find(&haystack[span.start..span.end], &self.bytes) else {
             return Candidate::None;
@@ -169,7 +169,7 @@ impl FirstBytes {
     fn find_in(&self, haystack: &[u8], span: Span) -> Candidate
         requires ordered { span.start ≤ span.end }
         requires within { span.end ≤ length haystack.now }
-        ensures { Tells (FirstOf (first_bytes_of self.now)) haystack.now span.start span.end result }
+        ensures { IsCandidateFor (FirstOf (first_bytes_of self.now)) haystack.now span.start span.end result }
     {
         match self.find(&haystack[span.start..span.end]) {
             Some(skipped) => Candidate::PossibleStart(span.start + skipped),
@@ -247,7 +247,7 @@ impl<A: Allocator> Prefilter<A> {
     #[inline]
     pub fn find_in(&self, haystack: &[u8], span: Span) -> Candidate
         requires legal { IsLegal haystack.now span.start span.end }
-        ensures says { Tells (skip_of self.now) haystack.now span.start span.end result }
+        ensures says { IsCandidateFor (skip_of self.now) haystack.now span.start span.end result }
         ensures promises { (ignores_case : Bool) (patterns : List (List ℕ)) → IsSkipFor (skip_of self.now) ignores_case patterns
             → Promises (search_over ignores_case patterns haystack.now span.start span.end) result }
     {

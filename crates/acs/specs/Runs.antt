@@ -53,9 +53,9 @@ message_of fault = line_of fault ++ codes "\n"
 
 -- what is reported of a fault was written, or a beginning of it where a write failed or took nothing; where there is no fault
 -- nothing was written
-abbrev pub HasTold : Result Outcome Fault → Writing → Writing → Type 0
-HasTold (Ok outcome) old new = new ≡ old
-HasTold (Err fault) old new =
+abbrev pub HasReported : Result Outcome Fault → Writing → Writing → Type 0
+HasReported (Ok outcome) old new = new ≡ old
+HasReported (Err fault) old new =
     WritesAll old new (message_of fault) ⊎ ((cause : Fault) × FailsToWrite old new (message_of fault) cause)
 
 -- the run has answered the words, a fault was told, and this is the exit status
@@ -63,5 +63,5 @@ abbrev pub HasEnded : Bool → List (List ℕ) → Reading → Reading → Writi
 HasEnded ends words reader new_reader writer new_writer errors new_errors status =
     (outcome : Result Outcome Fault)
     × HasAnswered ends words reader new_reader writer new_writer outcome
-    × HasTold outcome errors new_errors
+    × HasReported outcome errors new_errors
     × (status ≡ status_of outcome)

@@ -9,7 +9,7 @@ ghost use Rattle.acs.specs.declared.fault.Fault.TheVariants.{Memory};
 ghost use Rattle.acs.specs.Lines.{status_of};
 ghost use Rattle.acs.specs.Faults.{IsRefusal};
 ghost use Rattle.acs.specs.Requests.{settings_of, words_among};
-ghost use Rattle.acs.specs.Runs.{HasAnswered, HasEnded, HasFailed, HasRun, HasTold};
+ghost use Rattle.acs.specs.Runs.{HasAnswered, HasEnded, HasFailed, HasRun, HasReported};
 
 use crate::fault::Fault;
 use crate::modes::{find, overlap, replace, replace_stream, stream, walk};
@@ -68,7 +68,7 @@ pub fn run<A: Allocator + Clone, R: Source, W: Sink>(
     search(alloc, request, &words[3..], reader, writer)
 }
 
-/// Runs on the words among the arguments: all but the first, which is the program's name, each as it was given. Tells a
+/// Runs on the words among the arguments: all but the first, which is the program's name, each as it was given. Reports a
 /// fault and returns the exit status, as `run_and_report` does.
 ///
 /// # Errors
@@ -114,7 +114,7 @@ pub fn run_and_report<A: Allocator + Clone, R: Source, W: Sink, E: Sink>(
 
 /// Writes the line of a fault, if there is one. A failure to write this line is ignored.
 pub fn report<E: Sink>(outcome: &Result<Outcome, Fault>, errors: &mut E)
-    ensures { HasTold outcome.now (E.told errors.old) (E.told errors.new) }
+    ensures { HasReported outcome.now (E.told errors.old) (E.told errors.new) }
 {
     if let Err(fault) = outcome {
         let _written = write_line(errors, fault.line());

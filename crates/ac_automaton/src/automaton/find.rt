@@ -280,7 +280,7 @@ impl<'a, A: Automaton> Scanner<'a, A> {
         let span = self.span;
         match tape.scan(prefilter, span.start, span.end, looks) {
             Candidate::Match(found) => {
-                credit.note(found.start().saturating_sub(span.start));
+                credit.record_skip(found.start().saturating_sub(span.start));
                 Some(found)
             }
             Candidate::None | Candidate::PossibleStart(_) => None,

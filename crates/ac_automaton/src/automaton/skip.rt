@@ -47,7 +47,7 @@ impl Credit {
 
     /// Notes that a call has skipped so many bytes.
     #[inline]
-    pub(super) fn note(&mut self, skipped: usize) {
+    pub(super) fn record_skip(&mut self, skipped: usize) {
         let left = self.bytes.saturating_sub(CALL_WORTH);
         self.bytes = left.saturating_add(skipped).min(MOST_CREDIT);
     }
@@ -121,7 +121,7 @@ impl<'a, A: Automaton> Scanner<'a, A> {
         }
         match tape.scan(prefilter, cursor.at, self.span.end, looks) {
             Candidate::PossibleStart(place) => {
-                credit.note(place - cursor.at);
+                credit.record_skip(place - cursor.at);
                 Some(place)
             }
             Candidate::None | Candidate::Match(_) => None,

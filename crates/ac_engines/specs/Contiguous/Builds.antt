@@ -7,7 +7,7 @@ use Rattle.ac_engines.specs.Contiguous.{ContiguousView}
 use Rattle.ac_engines.specs.Contiguous.Sizes.{packed_words}
 
 -- what every engine is built by, the length below which the states of strings are dense, and whether bytes that need
--- not be told apart share a class
+-- not be distinguished share a class
 pub record ContiguousSettings : Type 0 where
   pub engine : EngineSettings
   pub dense_depth : ℕ

@@ -6,7 +6,7 @@ use Rattle.ac_engines.specs.Classes.{classes_by}
 use Rattle.ac_engines.specs.Dfa.{DfaView}
 use Rattle.ac_engines.specs.Dfa.Layouts.{table_rows}
 
--- what every engine is built by, which starts there are, and whether bytes that need not be told apart share a class
+-- what every engine is built by, which starts there are, and whether bytes that need not be distinguished share a class
 pub record DfaSettings : Type 0 where
   pub engine : EngineSettings
   pub start_kind : StartKind

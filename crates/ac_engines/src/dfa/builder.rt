@@ -60,7 +60,7 @@ impl Default for Builder {
 
 impl Builder {
     /// Returns a builder with the usual settings: `MatchKind::Standard`, case counts, unanchored searches alone,
-    /// bytes that need not be told apart share a class, and a prefilter where there is one.
+    /// bytes that need not be distinguished share a class, and a prefilter where there is one.
     pub fn new() -> Builder
         ensures { result ≡ usual_dfa_settings }
     {
@@ -110,7 +110,7 @@ impl Builder {
         self
     }
 
-    /// Sets whether bytes that need not be told apart share a class, so that rows are shorter. They do unless set.
+    /// Sets whether bytes that need not be distinguished share a class, so that rows are shorter. They do unless set.
     ///
     /// It changes no answer.
     pub fn byte_classes(&mut self, yes: bool) -> &mut Builder

@@ -82,7 +82,7 @@ impl<A: Allocator + Clone> Clone for NFA<A> {
 
 impl<A: Allocator + Clone> NFA<A> {
     /// Builds an automaton with the usual settings: `MatchKind::Standard`, case counts, the states of no byte and of one
-    /// byte are dense, bytes that need not be told apart share a class, and a prefilter where there is one.
+    /// byte are dense, bytes that need not be distinguished share a class, and a prefilter where there is one.
     ///
     /// # Errors
     /// As `Builder::build`.

@@ -67,7 +67,7 @@ impl Default for AhoCorasickBuilder {
 impl AhoCorasickBuilder {
     /// Returns a builder with the usual settings: `MatchKind::Standard`, unanchored searches alone, case
     /// counts, the engine is chosen, a contiguous NFA's states of fewer than two bytes are dense, bytes that need
-    /// not be told apart share a class, and there is a prefilter where the patterns have one.
+    /// not be distinguished share a class, and there is a prefilter where the patterns have one.
     pub fn new() -> AhoCorasickBuilder
         ensures { result ≡ usual_settings }
     {
@@ -140,7 +140,7 @@ impl AhoCorasickBuilder {
         self
     }
 
-    /// Sets whether bytes that need not be told apart share a class, so that a DFA or a contiguous NFA takes
+    /// Sets whether bytes that need not be distinguished share a class, so that a DFA or a contiguous NFA takes
     /// less memory. They do unless set.
     ///
     /// It changes no answer of a search. Where no engine was named, an engine may be too large without classes, and then

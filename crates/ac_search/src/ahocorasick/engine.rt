@@ -1,7 +1,7 @@
 //! The engines of a searcher and their iterators.
 ghost use Rattle.std.specs.Prelude.{◌≡◌, IfOk};
 ghost use Rattle.ac_automaton.specs.Prelude.{common_of, GivesRead, GoesOn, kept_len, ListsNext, StreamsOn};
-ghost use Rattle.ac_search.specs.Engines.{built_of, filters_of, listing_in, name_of, states_of, streaming_in, walking_in};
+ghost use Rattle.ac_search.specs.Engines.{built_of, wants_prefilter_of, listing_in, name_of, states_of, streaming_in, walking_in};
 
 use super::choice::AhoCorasickKind;
 use ac_automaton::automaton::{self, Automaton, Common};
@@ -30,7 +30,7 @@ impl<A: Allocator> Engine<A> {
     /// `AllocError` where a request for memory is refused.
     pub(super) fn share(&self) -> Result<Engine<A>, AllocError>
         ensures built { IfOk result (λ engine. built_of engine ≡ built_of self.now) }
-        ensures wants_prefilter { IfOk result (λ engine. filters_of engine ≡ filters_of self.now) }
+        ensures wants_prefilter { IfOk result (λ engine. wants_prefilter_of engine ≡ wants_prefilter_of self.now) }
         ensures states { IfOk result (λ engine. states_of engine ≡ states_of self.now) }
         ensures kind { IfOk result (λ engine. name_of engine ≡ name_of self.now) }
     {
@@ -54,7 +54,7 @@ impl<A: Allocator> Engine<A> {
 
     /// Returns what the engine has whatever its states are.
     pub(super) fn common(&self) -> &Common<A>
-        ensures { result.now ≡ common_of (built_of self.now) (filters_of self.now) }
+        ensures { result.now ≡ common_of (built_of self.now) (wants_prefilter_of self.now) }
     {
         match self {
             Engine::Noncontiguous(nfa) => nfa.as_ref().common(),

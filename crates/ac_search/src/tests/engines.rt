@@ -118,7 +118,7 @@ fn each_engine_ignores_case_alike(rt: HostRuntime) -> Result<(), Fail> {
 
 /// The byte `a` before each byte from 80 on, and these patterns one after the other.
 #[test]
-fn each_engine_tells_many_bytes_apart(rt: HostRuntime) -> Result<(), Fail> {
+fn each_engine_distinguishes_many_bytes(rt: HostRuntime) -> Result<(), Fail> {
     let mut haystack = Vec::new(rt.alloc());
     for byte in 0x80..=0xFFu8 {
         haystack.push(b'a')?;
@@ -247,7 +247,7 @@ fn each_engine_keeps_to_the_span(rt: HostRuntime) -> Result<(), Fail> {
 }
 
 #[test]
-fn each_engine_tells_the_lengths_of_no_patterns(rt: HostRuntime) -> Result<(), Fail> {
+fn each_engine_reports_the_lengths_of_no_patterns(rt: HostRuntime) -> Result<(), Fail> {
     for engine in &engines(rt.alloc())? {
         let builder = builder_of(engine, Standard, Unanchored);
         let searcher = builder.build(rt.alloc(), &[])?;

@@ -54,7 +54,7 @@ impl<R: Read + Drop> Source for FromRead<R> {
         match self.inner.read(into) {
             Ok(n) => {
                 self.known = Snapshot::of(&self.inner);
-                self.misses.note(n, into.len());
+                self.misses.record(n, into.len());
                 Ok(n)
             }
             Err(e) => {
@@ -108,7 +108,7 @@ impl<W: Write + Drop> Sink for IntoWrite<W> {
         match self.inner.write(piece) {
             Ok(n) => {
                 self.known = Snapshot::of(&self.inner);
-                self.misses.note(n, piece.len());
+                self.misses.record(n, piece.len());
                 Ok(n)
             }
             Err(e) => {

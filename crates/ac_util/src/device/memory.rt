@@ -50,7 +50,7 @@ impl<'a> Source for Bytes<'a> {
         ensures full { GivesAll self.old.left result into.old }
     {
         let n = self.left.read(into)?;
-        self.misses.note(n, into.len());
+        self.misses.record(n, into.len());
         Ok(n)
     }
 }

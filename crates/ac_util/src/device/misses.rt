@@ -32,7 +32,7 @@ impl Misses {
     }
 
     /// Counts a call that moved so many bytes where there was room for so many.
-    pub(super) fn note(&mut self, moved: usize, room: usize)
+    pub(super) fn record(&mut self, moved: usize, room: usize)
         ensures failed { self.new.failed.number ≡ self.old.failed.number }
         ensures idles { self.new.idles.number ≡ self.old.idles.number + idle moved room }
     {

@@ -1,4 +1,5 @@
 use super::Patterns;
+use super::pieces::Pieces;
 use crate::error::BuildError;
 use std::alloc::{AllocError, Allocator};
 use std::test::Fail;
@@ -37,6 +38,21 @@ fn patterns_are_stored(rt: HostRuntime) -> Result<(), Fail> {
         let lent = Patterns::new(&alloc, patterns)?;
         assert!(rt; are(&lent, patterns), "{name}");
     }
+    Ok(())
+}
+
+#[test]
+fn pieces_and_their_copy_are_stored_in_order(rt: HostRuntime) -> Result<(), Fail> {
+    let mut pieces: Pieces<usize, _> = Pieces::new(rt.alloc())?;
+    pieces.push(&[7, 9])?;
+    pieces.push(&[])?;
+    pieces.push(&[8])?;
+    let copy = pieces.clone()?;
+    assert_eq!(rt; pieces.len(), 3);
+    assert_eq!(rt; copy.len(), 3);
+    assert!(rt; copy.get(0) == [7, 9].as_slice());
+    assert!(rt; copy.get(1).is_empty());
+    assert!(rt; copy.get(2) == [8].as_slice());
     Ok(())
 }
 

@@ -57,7 +57,7 @@ impl Default for Builder {
 
 impl Builder {
     /// Returns a builder with the usual settings: `MatchKind::Standard`, case counts, the states of no byte and of one
-    /// byte are dense, bytes that need not be told apart share a class, and a prefilter where there is one.
+    /// byte are dense, bytes that need not be distinguished share a class, and a prefilter where there is one.
     pub fn new() -> Builder
         ensures { result ≡ usual_contiguous_settings }
     {
@@ -109,7 +109,7 @@ impl Builder {
         self
     }
 
-    /// Sets whether bytes that need not be told apart share a class, so that dense states are smaller. They do unless
+    /// Sets whether bytes that need not be distinguished share a class, so that dense states are smaller. They do unless
     /// set.
     ///
     /// It changes no answer.

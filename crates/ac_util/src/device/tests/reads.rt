@@ -32,7 +32,7 @@ impl<'a> Read for Drops<'a> {
     }
 }
 
-/// Tells its bytes, gives those up to a pause, then none, and then the others.
+/// Reports its bytes: gives those up to a pause, then none, and then the others.
 #[derive(Drop)]
 struct Pauses<'a> {
     bytes: Bytes<'a>,

@@ -28,7 +28,7 @@ fn run_on(alloc: Global, words: &[&str], left: &[u8]) -> (Result<Outcome, Fault>
 }
 
 #[test]
-fn a_failed_read_is_told(rt: HostRuntime) -> Result<(), Fail> {
+fn a_failed_read_is_reported(rt: HostRuntime) -> Result<(), Fail> {
     for &(words, _) in WRITTEN {
         for k in 0..INPUT.len() + 1 {
             let (answer, writer) = run_on(rt.alloc(), words, &INPUT[..k]);

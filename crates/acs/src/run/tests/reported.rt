@@ -33,7 +33,7 @@ const TOLD: &[(&[&str], &[u8], &[u8], u8)] = &[
 ];
 
 #[test]
-fn faults_are_told_beside_the_lines(rt: HostRuntime) -> Result<(), Fail> {
+fn faults_are_reported_beside_the_lines(rt: HostRuntime) -> Result<(), Fail> {
     for &(words, wanted, line, number) in TOLD {
         let mut reader = Bytes::new(INPUT);
         let mut writer = Written::new(rt.alloc());
@@ -90,7 +90,7 @@ fn words_are_taken_as_they_are_given(rt: HostRuntime) -> Result<(), Fail> {
 
 /// A line of a fault that can't be written changes nothing else.
 #[test]
-fn a_fault_that_cannot_be_told_has_its_status(rt: HostRuntime) -> Result<(), Fail> {
+fn a_fault_that_cannot_be_reported_has_its_status(rt: HostRuntime) -> Result<(), Fail> {
     let mut held = Vec::new(rt.alloc());
     let mut errors = IntoWrite::new(Narrow {
         held: &mut held,

@@ -7,7 +7,7 @@ use ac_search::{Bytes, FromRead, IntoWrite};
 use std::test::Fail;
 
 #[test]
-fn a_failed_write_is_told(rt: HostRuntime) -> Result<(), Fail> {
+fn a_failed_write_is_reported(rt: HostRuntime) -> Result<(), Fail> {
     for &(words, wanted) in WRITTEN.iter().chain(STREAMED) {
         for room in 0..wanted.len() {
             for (fails, fault) in [(true, Fault::Io), (false, Fault::WriteZero)] {

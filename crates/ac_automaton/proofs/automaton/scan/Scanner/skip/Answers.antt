@@ -3,9 +3,9 @@ use Rattle.std.proofs.lemmas.Grind.{common_steps}
 use Rattle.memchr.specs.Find.{Nowhere, Passes}
 use Rattle.ac_util.specs.Prefilters.{is_one_of}
 use Rattle.ac_automaton.specs.Scans.{scan_of, IsAt, Scan, ScanText, StaysAtStart}
-use Rattle.ac_automaton.proofs.Skipping.{IsTold, stays, told-none}
+use Rattle.ac_automaton.proofs.Skipping.{IsSkippedTo, stays, nothing-none}
 use Rattle.ac_automaton.proofs.automaton.scan.Scanner.skip.Given.{Over}
-use Rattle.ac_automaton.proofs.automaton.scan.Scanner.skip.Goals.{After-note, After-scan}
+use Rattle.ac_automaton.proofs.automaton.scan.Scanner.skip.Goals.{After-record_skip, After-scan}
 use Rattle.ac_automaton.proofs.automaton.scan.Scanner.skip.Goals as goal
 
 module _ (g : Over) (c : After-scan g) where
@@ -26,7 +26,7 @@ module _ (g : Over) (c : After-scan g) where
       ((c.is_start.ensures c.args.self.now.anchored _ is_at.there).0 c.if-not-is_start.false)
 
 -- the prefilter has led to a place
-led : (g : Over) (c : After-note g) → IsTold c.requires.skips.bytes c.args.tape.now.bytes c.args.cursor.at
+led : (g : Over) (c : After-record_skip g) → IsSkippedTo c.requires.skips.bytes c.args.tape.now.bytes c.args.cursor.at
     c.args.self.now.span.end c.in-PossibleStart.place
 led g c = grind (arith, common_steps)
 
@@ -39,4 +39,4 @@ returns-in-PossibleStart-clause-skipped g c =
     inr (led.onward, stays-there g s c.in-PossibleStart.place (omega arith) led.none t same is_at, c.scan.ensures.counted)
 
 pub returns-in-None : goal.returns-in-None
-returns-in-None g c = search (rules, stays-there, told-none)
+returns-in-None g c = search (rules, stays-there, nothing-none)

@@ -1,10 +1,10 @@
 use Rattle.std.proofs.Common.{◌≡◌, ℕ, ◌<◌, length, slice_index}
-use Rattle.ac_automaton.specs.Tries.{RootTells}
+use Rattle.ac_automaton.specs.Tries.{IsRootEntry}
 use Rattle.ac_automaton.proofs.nfa.noncontiguous.root.root_of.Given as goal
 
 -- the bytes below this one have their entries
 abbrev pub invariant-loop-byte : goal.invariant-loop-byte
 invariant-loop-byte g l = record {
   whole : length l.root.items ≡ l.byte;
-  told : (b : ℕ) → b < l.byte → RootTells l.trie.transitions.now l.trie.states.now b (slice_index l.root.items b);
+  told : (b : ℕ) → b < l.byte → IsRootEntry l.trie.transitions.now l.trie.states.now b (slice_index l.root.items b);
 }

@@ -1,4 +1,4 @@
--- Each pattern is kept or passed over, as the stack tells.
+-- Each pattern is kept or passed over, as the stack says.
 use Rattle.std.proofs.Common.{◌<◌, length, refl, arith}
 use Rattle.std.proofs.lemmas.Grind.{common_steps}
 use Rattle.ac_automaton.proofs.Keeping.{Keeps-skip, Keeps-keep, Keeps-end}

@@ -1,6 +1,6 @@
 use Rattle.std.proofs.Common.{◌≡◌, ℕ, arith, subst, sym, ◌∙◌, rules}
 use Rattle.std.proofs.lemmas.Grind.{common_steps}
-use Rattle.ac_automaton.specs.Prelude.{HasState, TrieView, Represents, RootTells, START}
+use Rattle.ac_automaton.specs.Prelude.{HasState, TrieView, Represents, IsRootEntry, START}
 use Rattle.ac_automaton.specs.Util.{No, Node, Yes}
 use Rattle.ac_automaton.proofs.Follows.{Ended, represented, ends-root, ends-target, ends-anchored, ends-outer, goes-on, leads-inner}
 use Rattle.ac_automaton.proofs.nfa.noncontiguous.state.follow.Goals as goal
@@ -129,7 +129,7 @@ module _ (c : After-look_in_root) where
   at_start : c.loop-states.at ≡ START
   at_start = sym c.as_usize.ensures.value ∙ c.if-as_usize-eq-START.true
 
-  told : RootTells c.args.trie.transitions.now c.args.trie.states.now c.args.byte c.look_in_root.result
+  told : IsRootEntry c.args.trie.transitions.now c.args.trie.states.now c.args.byte c.look_in_root.result
   told = grind (arith, common_steps)
 
   is_no : c.args.anchored ≡ No

@@ -8,7 +8,7 @@ use Rattle.ac_engines.proofs.dfa.fill.Filler.set_own.Goals as goal
 pub own-byte-requires-clause-numbered : goal.own-byte-requires-clause-numbered
 own-byte-requires-clause-numbered g c = search (rules, numbered-below)
 
--- an own transition, as the reader tells it
+-- an own transition, as the reader says it
 pub number-requires-in-loop-index : goal.number-requires-in-loop-index
 number-requires-in-loop-index g c =
     let h = c.requires.2 in

@@ -5,7 +5,7 @@ use Rattle.ac_engines.specs.Prelude.{Packer, PackPlan, packed_state}
 use Rattle.ac_engines.proofs.PackedNodes.{edges-count, edges-next, own-numbered, string-of}
 use Rattle.ac_engines.proofs.nfa.contiguous.pack.Packer.list_edges.Goals as goal
 
--- an own transition, as the reader tells it
+-- an own transition, as the reader says it
 pub number-requires : goal.number-requires
 number-requires g c =
     let f = c.args.self.now in
