@@ -4,8 +4,8 @@ use crate::Anchored::{No, Yes};
 use crate::MatchKind::{LeftmostFirst, LeftmostLongest, Standard};
 use crate::nfa::{contiguous, noncontiguous};
 use crate::{
-    Automaton, Finder, Input, Match, MatchError, MatchKind, OverlappingState, PatternID, Span,
-    StartKind, dfa, find_core, open,
+    Automaton, BuildError, Finder, Input, Match, MatchError, MatchKind, OverlappingState,
+    PatternID, Span, StartKind, dfa, find_core, open,
 };
 use std::alloc::Global;
 use std::test::Fail;
@@ -185,18 +185,55 @@ const WALKS: [Walk; 3] = [
     (LeftmostLongest, &[(0, 0, 6), (2, 11, 14), (1, 22, 31)]),
 ];
 
+/// Returns the trie of patterns, by a match kind.
+fn trie_of(
+    alloc: Global,
+    kind: MatchKind,
+    ignores_case: bool,
+    patterns: &[&[u8]],
+) -> Result<noncontiguous::NFA, BuildError> {
+    let mut builder = noncontiguous::Builder::new();
+    builder
+        .match_kind(kind)
+        .ascii_case_insensitive(ignores_case);
+    builder.build(alloc, patterns)
+}
+
+/// Returns the contiguous NFA of a trie, whose kind and case count, and not the builder's.
+fn packed_of(alloc: Global, trie: &noncontiguous::NFA) -> Result<contiguous::NFA, BuildError> {
+    let mut builder = contiguous::Builder::new();
+    builder
+        .match_kind(LeftmostLongest)
+        .ascii_case_insensitive(false);
+    builder.build_from_noncontiguous(alloc, trie)
+}
+
+/// Returns the DFA of a trie, whose kind and case count, and not the builder's.
+fn table_of(alloc: Global, trie: &noncontiguous::NFA) -> Result<dfa::DFA, BuildError> {
+    let mut builder = dfa::Builder::new();
+    builder
+        .match_kind(LeftmostLongest)
+        .ascii_case_insensitive(false);
+    builder.build_from_noncontiguous(alloc, trie)
+}
+
+/// Compares the walk of an automaton's clone over the words with what is wanted.
+fn compare_clone<A: Automaton + Clone>(
+    alloc: Global,
+    automaton: &A,
+    wanted: &[Triple],
+) -> Result<(), Fail> {
+    compare_walk(alloc, &automaton.clone()?, wanted)
+}
+
 #[test]
 fn clones_walk_alone(rt: HostRuntime) -> Result<(), Fail> {
     let alloc = rt.alloc();
-    let words: [&[u8]; 3] = [b"append", b"appendage", b"app"];
     for (kind, wanted) in WALKS {
-        let mut builder = noncontiguous::Builder::new();
-        let trie = builder.match_kind(kind).build(alloc, &words)?;
-        compare_walk(alloc, &trie.clone()?, wanted)?;
-        let packed = contiguous::Builder::new().build_from_noncontiguous(alloc, &trie)?;
-        compare_walk(alloc, &packed.clone()?, wanted)?;
-        let table = dfa::Builder::new().build_from_noncontiguous(alloc, &trie)?;
-        compare_walk(alloc, &table.clone()?, wanted)?;
+        let trie = trie_of(alloc, kind, false, &[b"append", b"appendage", b"app"])?;
+        compare_clone(alloc, &trie, wanted)?;
+        compare_clone(alloc, &packed_of(alloc, &trie)?, wanted)?;
+        compare_clone(alloc, &table_of(alloc, &trie)?, wanted)?;
     }
     Ok(())
 }
@@ -227,50 +264,19 @@ fn a_table_has_both_starts(rt: HostRuntime) -> Result<(), Fail> {
     Ok(())
 }
 
+/// Returns an automaton's match kind, and what it finds in `abcd`.
+fn kind_and_find<A: Automaton>(automaton: &A) -> Result<(MatchKind, Option<Triple>), MatchError> {
+    let found = automaton.try_find(Input::new(b"abcd"))?;
+    Ok((automaton.match_kind(), found.map(|m| triple_of(&m))))
+}
+
 /// The match kind and the case are those of the trie, whatever the builder of the engine says.
 #[test]
 fn a_trie_gives_its_kind_and_case(rt: HostRuntime) -> Result<(), Fail> {
-    let mut builder = noncontiguous::Builder::new();
-    builder
-        .match_kind(LeftmostFirst)
-        .ascii_case_insensitive(true);
-    let trie = builder.clone().build(rt.alloc(), &[b"b", b"ABC", b"abcd"])?;
-    let mut builder = contiguous::Builder::new();
-    builder
-        .match_kind(LeftmostLongest)
-        .ascii_case_insensitive(false);
-    let packed = builder.clone().build_from_noncontiguous(rt.alloc(), &trie)?;
-    let found = packed.try_find(Input::new(b"abcd"))?.map(|m| triple_of(&m));
-    same(
-        &rt,
-        (packed.match_kind(), found),
-        (LeftmostFirst, Some((1, 0, 3))),
-    );
-    let mut builder = dfa::Builder::new();
-    builder
-        .match_kind(LeftmostLongest)
-        .ascii_case_insensitive(false);
-    let table = builder.clone().build_from_noncontiguous(rt.alloc(), &trie)?;
-    let found = table.try_find(Input::new(b"abcd"))?.map(|m| triple_of(&m));
-    same(
-        &rt,
-        (table.match_kind(), found),
-        (LeftmostFirst, Some((1, 0, 3))),
-    );
-    Ok(())
-}
-
-/// A builder's own kind does not count.
-#[test]
-fn a_table_takes_its_kind_from_the_trie(rt: HostRuntime) -> Result<(), Fail> {
-    let mut builder = noncontiguous::Builder::new();
-    builder.match_kind(LeftmostFirst);
-    let trie = builder.build(rt.alloc(), &[b"b", b"abc", b"abcd"])?;
-    let mut builder = dfa::Builder::new();
-    builder.match_kind(LeftmostLongest);
-    let table = builder.build_from_noncontiguous(rt.alloc(), &trie)?;
-    same(&rt, table.match_kind(), LeftmostFirst);
-    let found = table.try_find(Input::new(b"abcd"))?.map(|m| triple_of(&m));
-    same(&rt, found, Some((1, 0, 3)));
+    let alloc = rt.alloc();
+    let trie = trie_of(alloc, LeftmostFirst, true, &[b"b", b"ABC", b"abcd"])?;
+    let wanted = (LeftmostFirst, Some((1, 0, 3)));
+    same(&rt, kind_and_find(&packed_of(alloc, &trie)?)?, wanted);
+    same(&rt, kind_and_find(&table_of(alloc, &trie)?)?, wanted);
     Ok(())
 }
