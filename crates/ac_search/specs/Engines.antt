@@ -1,6 +1,7 @@
 -- What the engine of a searcher, its iterators and its searches over streams are seen as.
-use Rattle.std.specs.Prelude.{◌≡◌, ◌⊎◌, Bool}
-use Rattle.ac_automaton.specs.Util.{Both, Built, StartKind}
+use Rattle.std.specs.Prelude.{◌≡◌, ◌⊎◌, Bool, MatchResult, None, Result}
+use Rattle.ac_automaton.specs.Util.{Both, BuildError, Built, StartKind}
+use Rattle.ac_automaton.specs.Builds.{IsRefused}
 use Rattle.ac_automaton.specs.Prelude.{Overlapping, Streaming, Trie, Walking}
 use Rattle.ac_search.specs.declared.ahocorasick.choice.AhoCorasickKind.{AhoCorasickKind}
 use Rattle.ac_search.specs.declared.ahocorasick.choice.AhoCorasickKind.TheVariants.{ContiguousNFA, DFA, NoncontiguousNFA}
@@ -12,7 +13,7 @@ use Rattle.ac_search.specs.declared.ahocorasick.engine.EngineFindOverlappingIter
 use Rattle.ac_search.specs.declared.ahocorasick.engine.EngineFindOverlappingIter.TheVariants.{Contiguous as ListedByContiguous, Dfa as ListedByDfa, Noncontiguous as ListedByNoncontiguous}
 use Rattle.ac_search.specs.declared.ahocorasick.engine.EngineStreamFinder.{EngineStreamFinder}
 use Rattle.ac_search.specs.declared.ahocorasick.engine.EngineStreamFinder.TheVariants.{Contiguous as StreamedByContiguous, Dfa as StreamedByDfa, Noncontiguous as StreamedByNoncontiguous}
-use Rattle.ac_search.specs.Searchers.{AreLaidOut, Searcher, Settings}
+use Rattle.ac_search.specs.Searchers.{AreLaidOut, Searcher, Settings, size_refusal}
 use Rattle.ac_search.specs.States.{States, Contiguous as OfContiguous, Dfa as OfDfa, Noncontiguous as OfTrie}
 
 -- what an engine was built from, whether to have a prefilter, its name and its states
@@ -59,6 +60,12 @@ pub record IsMadeFrom {Z : Type 0} (from : Trie) (settings : Settings) (engine :
   pub wants_prefilter : wants_prefilter_of engine ≡ from.wants_prefilter
   pub laid_out : AreLaidOut settings from.built (states_of engine)
   pub name : name_of engine ≡ kind
+
+-- what the build of an engine of this name from an automaton answers: the engine, which isn't too large; or it is refused
+abbrev pub IsMadeOrRefused : {Z : Type 0} → Trie → Settings → AhoCorasickKind → Result (Engine Z) BuildError → Type 0
+IsMadeOrRefused from settings kind result =
+    MatchResult result (λ engine. IsMadeFrom from settings engine kind × (size_refusal kind settings from.built ≡ None))
+    (IsRefused (size_refusal kind settings from.built))
 
 abbrev pub walking_in : {Z : Type 0} → EngineFindIter Z → Walking
 walking_in (ByNoncontiguous matches) = matches

@@ -2,9 +2,10 @@
 ghost use Rattle.std.specs.Prelude.{◌≡◌, MatchResult, None};
 ghost use Rattle.ac_util.specs.declared.search.StartKind;
 ghost use Rattle.ac_util.specs.Borrowed.{bytes_of};
-ghost use Rattle.ac_automaton.specs.Builds.{IsRefused, RefusesBy};
-ghost use Rattle.ac_search.specs.Engines.{IsMadeFrom};
-ghost use Rattle.ac_search.specs.Searchers.{IsBuilt, engine_chosen_from, engine_refusal, size_refusal, usual_settings};
+ghost use Rattle.ac_automaton.specs.Builds.{RefusesBy};
+ghost use Rattle.ac_search.specs.Engines.{IsMadeOrRefused};
+ghost use Rattle.ac_search.specs.declared.ahocorasick.choice.AhoCorasickKind.TheVariants.{ContiguousNFA, DFA};
+ghost use Rattle.ac_search.specs.Searchers.{IsBuilt, engine_chosen_from, engine_refusal, usual_settings};
 
 use super::AhoCorasick;
 use super::choice::{AhoCorasickKind, choose_kind};
@@ -213,22 +214,44 @@ impl AhoCorasickBuilder {
         nfa: noncontiguous::NFA<A>,
     ) -> Result<Engine<A>, BuildError>
         requires both { nfa.built.start_kind ≡ StartKind.Both }
-        ensures { MatchResult result
-            (λ engine. IsMadeFrom nfa self.now engine kind × (size_refusal kind self.now nfa.built ≡ None))
-            (IsRefused (size_refusal kind self.now nfa.built)) }
+        ensures { IsMadeOrRefused nfa self.now kind result }
     {
-        let alloc = nfa.allocator().clone()?;
         match kind {
-            AhoCorasickKind::NoncontiguousNFA => Ok(Engine::Noncontiguous(Rc::new(alloc, nfa)?)),
-            AhoCorasickKind::ContiguousNFA => {
-                let engine = self.contiguous().build_from_noncontiguous(alloc, &nfa)?;
-                Ok(Engine::Contiguous(Rc::new(nfa.allocator().clone()?, engine)?))
+            AhoCorasickKind::NoncontiguousNFA => {
+                let alloc = nfa.allocator().clone()?;
+                Ok(Engine::Noncontiguous(Rc::new(alloc, nfa)?))
             }
-            AhoCorasickKind::DFA => {
-                let engine = self.dfa().build_from_noncontiguous(alloc, &nfa)?;
-                Ok(Engine::Dfa(Rc::new(nfa.allocator().clone()?, engine)?))
-            }
+            AhoCorasickKind::ContiguousNFA => self.contiguous_over(&nfa),
+            AhoCorasickKind::DFA => self.dfa_over(&nfa),
         }
+    }
+
+    /// Returns the contiguous NFA that is built from an automaton.
+    fn contiguous_over<A: Allocator + Clone>(
+        &self,
+        nfa: &noncontiguous::NFA<A>,
+    ) -> Result<Engine<A>, BuildError>
+        requires both { nfa.now.built.start_kind ≡ StartKind.Both }
+        ensures { IsMadeOrRefused nfa.now self.now ContiguousNFA result }
+    {
+        let alloc = nfa.allocator();
+        let engine = self
+            .contiguous()
+            .build_from_noncontiguous(alloc.clone()?, nfa)?;
+        Ok(Engine::Contiguous(Rc::new(alloc.clone()?, engine)?))
+    }
+
+    /// Returns the DFA that is built from an automaton.
+    fn dfa_over<A: Allocator + Clone>(
+        &self,
+        nfa: &noncontiguous::NFA<A>,
+    ) -> Result<Engine<A>, BuildError>
+        requires both { nfa.now.built.start_kind ≡ StartKind.Both }
+        ensures { IsMadeOrRefused nfa.now self.now DFA result }
+    {
+        let alloc = nfa.allocator();
+        let engine = self.dfa().build_from_noncontiguous(alloc.clone()?, nfa)?;
+        Ok(Engine::Dfa(Rc::new(alloc.clone()?, engine)?))
     }
 
     /// Returns the builder of a contiguous NFA with this dense depth and these classes.
