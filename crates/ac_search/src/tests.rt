@@ -140,7 +140,7 @@ fn first_slice<'t>(searcher: &AhoCorasick, haystack: &'t [u8]) -> Option<&'t [u8
 fn a_new_searcher_finds(rt: HostRuntime) -> Result<(), Fail> {
     let searcher = AhoCorasick::new(rt.alloc(), &[b"apple", b"maple", b"Snapple"])?;
     let haystack = b"Nobody likes maple in their apple flavored Snapple.";
-    let found = searcher.find(Input::new(haystack)).map(|m| triple_of(&m));
+    let found = searcher.find(Input::new(haystack)).as_ref().map(triple_of);
     same(&rt, found, Some((1, 13, 18)));
     assert!(rt; searcher.is_match(Input::new(haystack)));
     assert!(rt; !searcher.is_match(Input::new(b"Nobody")));
@@ -259,7 +259,7 @@ fn a_build_succeeds_or_wants_memory(rt: HostRuntime) -> Result<(), Fail> {
             }
         };
         let found = searcher.try_find(Input::new(b"ushers"))?;
-        same_by(&rt, found.map(|m| triple_of(&m)), Some((1, 1, 4)), &kind);
+        same_by(&rt, found.as_ref().map(triple_of), Some((1, 1, 4)), &kind);
     }
     Ok(())
 }

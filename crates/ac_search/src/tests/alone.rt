@@ -51,7 +51,7 @@ fn compare_queries<A: Automaton>(automaton: &A) -> Result<(), Fail> {
 /// Compares what an automaton over the pronouns finds in `ushers`.
 fn compare_searches<A: Automaton>(alloc: Global, automaton: &A) -> Result<(), Fail> {
     let input = Input::new(b"ushers");
-    if automaton.try_find(input)?.map(|m| triple_of(&m)) != Some((1, 1, 4)) {
+    if automaton.try_find(input)?.as_ref().map(triple_of) != Some((1, 1, 4)) {
         return Err(Fail::new("another find"));
     }
     if walk_of(alloc, automaton, input)?.as_slice() != [(1, 1, 4)].as_slice() {
@@ -61,7 +61,7 @@ fn compare_searches<A: Automaton>(alloc: Global, automaton: &A) -> Result<(), Fa
     if listed.as_slice() != LISTED.as_slice() {
         return Err(Fail::new("another listing"));
     }
-    if third_of(automaton, input)?.map(|m| triple_of(&m)) != Some((3, 2, 6)) {
+    if third_of(automaton, input)?.as_ref().map(triple_of) != Some((3, 2, 6)) {
         return Err(Fail::new("another third item"));
     }
     Ok(())
@@ -73,17 +73,17 @@ fn compare_cores<A: Automaton>(automaton: &A) -> Result<(), Fail> {
     let mut finder = Finder::new(automaton, No, false)?;
     let (mut tape, mut looks) = open(&input);
     let found = find_core(automaton, No, false, 0, 6, &mut tape, &mut looks);
-    if found.map(|m| triple_of(&m)) != Some((1, 1, 4)) {
+    if found.as_ref().map(triple_of) != Some((1, 1, 4)) {
         return Err(Fail::new("another find by one call"));
     }
     let (mut tape, mut looks) = open(&input);
     let found = finder.find(Span { start: 0, end: 6 }, &mut tape, &mut looks);
-    if found.map(|m| triple_of(&m)) != Some((1, 1, 4)) {
+    if found.as_ref().map(triple_of) != Some((1, 1, 4)) {
         return Err(Fail::new("another find"));
     }
     let (mut tape, mut looks) = open(&input);
     let found = finder.find(Span { start: 2, end: 6 }, &mut tape, &mut looks);
-    if found.map(|m| triple_of(&m)) != Some((0, 2, 4)) {
+    if found.as_ref().map(triple_of) != Some((0, 2, 4)) {
         return Err(Fail::new("another find from two on"));
     }
     Ok(())
@@ -257,7 +257,7 @@ fn a_table_has_both_starts(rt: HostRuntime) -> Result<(), Fail> {
     let mut builder = dfa::Builder::new();
     builder.start_kind(StartKind::Both);
     let table = builder.build(rt.alloc(), &[b"abc", b"bd"])?;
-    let found = table.try_find(Input::new(b"abd"))?.map(|m| triple_of(&m));
+    let found = table.try_find(Input::new(b"abd"))?.as_ref().map(triple_of);
     same(&rt, found, Some((1, 1, 3)));
     let found = table.try_find(Input::new(b"abd").anchored(Yes))?;
     same(&rt, found, None);
@@ -267,7 +267,7 @@ fn a_table_has_both_starts(rt: HostRuntime) -> Result<(), Fail> {
 /// Returns an automaton's match kind, and what it finds in `abcd`.
 fn kind_and_find<A: Automaton>(automaton: &A) -> Result<(MatchKind, Option<Triple>), MatchError> {
     let found = automaton.try_find(Input::new(b"abcd"))?;
-    Ok((automaton.match_kind(), found.map(|m| triple_of(&m))))
+    Ok((automaton.match_kind(), found.as_ref().map(triple_of)))
 }
 
 /// The match kind and the case are those of the trie, whatever the builder of the engine says.

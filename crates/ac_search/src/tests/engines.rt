@@ -81,7 +81,7 @@ pub(super) fn builder_of(
 /// Returns the find of a searcher that supports the input.
 fn find_of(searcher: &AhoCorasick, input: Input<'_>) -> Result<Option<Triple>, MatchError> {
     searcher.try_find(input)?;
-    Ok(searcher.find(input).map(|m| triple_of(&m)))
+    Ok(searcher.find(input).as_ref().map(triple_of))
 }
 
 #[test]

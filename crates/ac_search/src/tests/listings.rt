@@ -90,13 +90,13 @@ fn each_engine_lists_alike_from_its_start(rt: HostRuntime) -> Result<(), Fail> {
             searcher.try_find_overlapping(input, &mut state)?;
             same(
                 &rt,
-                state.get_match().map(|m| triple_of(&m)),
+                state.get_match().as_ref().map(triple_of),
                 Some((2, 0, 3)),
             );
             searcher.try_find_overlapping(input, &mut state)?;
             same(
                 &rt,
-                state.get_match().map(|m| triple_of(&m)),
+                state.get_match().as_ref().map(triple_of),
                 Some((0, 0, 6)),
             );
             searcher.try_find_overlapping(input, &mut state)?;
@@ -110,7 +110,7 @@ fn each_engine_lists_alike_from_its_start(rt: HostRuntime) -> Result<(), Fail> {
             searcher.try_find_overlapping(input, &mut state)?;
             same(
                 &rt,
-                state.get_match().map(|m| triple_of(&m)),
+                state.get_match().as_ref().map(triple_of),
                 Some((1, 0, 3)),
             );
             searcher.try_find_overlapping(input, &mut state)?;

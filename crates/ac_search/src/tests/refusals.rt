@@ -1,5 +1,6 @@
 //! Each engine refuses as rows say.
 use super::engines::{PREFIXES, builder_of, engines};
+use super::replace::drop_text;
 use super::{same, same_by};
 use crate::MatchKind::{LeftmostFirst, LeftmostLongest, Standard};
 use crate::StartKind::{Both, Unanchored};
@@ -98,7 +99,7 @@ fn each_engine_refuses_alike(rt: HostRuntime) -> Result<(), Fail> {
         let searcher = builder.build(rt.alloc(), &[b"a"])?;
         let mut kept = String::from_str(rt.alloc(), "pre")?;
         let refused = ReplaceError::Match(MatchError::InvalidInputUnanchored);
-        let answer = searcher.try_replace_all_with("a", &mut kept, |_, _, _| true);
+        let answer = searcher.try_replace_all_with("a", &mut kept, drop_text);
         same(&rt, answer, Err(refused));
         same(&rt, kept.as_str(), "pre");
     }

@@ -120,6 +120,16 @@ fn lists_exchange_whole_characters(rt: HostRuntime) -> Result<(), Fail> {
     Ok(())
 }
 
+/// Appends nothing, so that a match is dropped.
+pub(super) fn drop_text(_: &Match, _: &str, _: &mut String) -> bool {
+    true
+}
+
+/// Does the same in bytes.
+fn drop_bytes(_: &Match, _: &[u8], _: &mut Vec<u8>) -> bool {
+    true
+}
+
 /// Appends the number of a pattern.
 pub(super) fn push_number(found: &Match, destination: &mut String) -> bool {
     match NUMBERS.get(found.pattern().as_usize()) {
@@ -132,7 +142,7 @@ pub(super) fn push_number(found: &Match, destination: &mut String) -> bool {
 fn closures_exchange_no_cut_characters(rt: HostRuntime) -> Result<(), Fail> {
     let cut = searcher_of(rt, &[b"\xC3"], Standard)?;
     let mut kept = String::new(rt.alloc());
-    cut.try_replace_all_with("é", &mut kept, |_, _, _| true)?;
+    cut.try_replace_all_with("é", &mut kept, drop_text)?;
     same(&rt, kept.as_str(), "é");
     Ok(())
 }
@@ -238,7 +248,7 @@ fn lists_exchange_or_want_memory(rt: HostRuntime) -> Result<(), Fail> {
 fn closures_exchange_or_want_memory(rt: HostRuntime) -> Result<(), Fail> {
     let searcher = AhoCorasick::new(rt.alloc(), &[b"a"])?;
     let mut text = String::new(rt.alloc());
-    match searcher.try_replace_all_with("-ab", &mut text, |_, _, _| true) {
+    match searcher.try_replace_all_with("-ab", &mut text, drop_text) {
         Ok(()) => same(&rt, text.as_str(), "-b"),
         Err(e) => {
             same(&rt, e, ReplaceError::Memory);
@@ -246,7 +256,7 @@ fn closures_exchange_or_want_memory(rt: HostRuntime) -> Result<(), Fail> {
         }
     }
     let mut bytes = Vec::new(rt.alloc());
-    match searcher.try_replace_all_with_bytes(b"-ab", &mut bytes, |_, _, _| true) {
+    match searcher.try_replace_all_with_bytes(b"-ab", &mut bytes, drop_bytes) {
         Ok(()) => same(&rt, bytes.as_slice(), b"-b".as_slice()),
         Err(e) => {
             same(&rt, e, ReplaceError::Memory);
@@ -256,13 +266,13 @@ fn closures_exchange_or_want_memory(rt: HostRuntime) -> Result<(), Fail> {
     text.clear();
     bytes.clear();
     if searcher
-        .replace_all_with("-ab", &mut text, |_, _, _| true)
+        .replace_all_with("-ab", &mut text, drop_text)
         .is_ok()
     {
         same(&rt, text.as_str(), "-b");
     }
     if searcher
-        .replace_all_with_bytes(b"-ab", &mut bytes, |_, _, _| true)
+        .replace_all_with_bytes(b"-ab", &mut bytes, drop_bytes)
         .is_ok()
     {
         same(&rt, bytes.as_slice(), b"-b".as_slice());

@@ -132,7 +132,7 @@ fn answers_of(alloc: Global, searcher: &AhoCorasick, input: Input<'_>) -> Result
     }
     Ok(Answers {
         walk,
-        find: searcher.find(input).map(|m| triple_of(&m)),
+        find: searcher.find(input).as_ref().map(triple_of),
         is_match: searcher.is_match(input),
     })
 }
