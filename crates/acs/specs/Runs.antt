@@ -58,7 +58,7 @@ HasReported (Ok outcome) old new = new ≡ old
 HasReported (Err fault) old new =
     WritesAll old new (message_of fault) ⊎ ((cause : Fault) × FailsToWrite old new (message_of fault) cause)
 
--- the run has answered the words, a fault was told, and this is the exit status
+-- the run has answered the words, a fault was reported, and this is the exit status
 abbrev pub HasEnded : Bool → List (List ℕ) → Reading → Reading → Writing → Writing → Writing → Writing → ℕ → Type 0
 HasEnded ends words reader new_reader writer new_writer errors new_errors status =
     (outcome : Result Outcome Fault)

@@ -7,7 +7,7 @@ use std::alloc::{AllocError, Global};
 use std::test::Fail;
 
 /// Words, what is written, what is reported, and the exit status, over one input.
-const TOLD: &[(&[&str], &[u8], &[u8], u8)] = &[
+const REPORTED: &[(&[&str], &[u8], &[u8], u8)] = &[
     (WORDS, LINES, b"", 0),
     (&["walk", "std", "auto", "absent"], b"", b"", 1),
     (
@@ -34,7 +34,7 @@ const TOLD: &[(&[&str], &[u8], &[u8], u8)] = &[
 
 #[test]
 fn faults_are_reported_beside_the_lines(rt: HostRuntime) -> Result<(), Fail> {
-    for &(words, wanted, line, number) in TOLD {
+    for &(words, wanted, line, number) in REPORTED {
         let mut reader = Bytes::new(INPUT);
         let mut writer = Written::new(rt.alloc());
         let mut errors = Written::new(rt.alloc());
