@@ -5,3 +5,5 @@ mod classes;
 pub mod dfa;
 mod matches;
 pub mod nfa;
+#[cfg(test)]
+mod tests;

@@ -17,7 +17,6 @@ use std::fmt::Debug;
 use std::process::Abort;
 use std::test::Fail;
 
-mod alone;
 mod choice;
 mod devices;
 mod engines;
@@ -25,7 +24,6 @@ mod leftmost_stream;
 mod listings;
 mod refusals;
 mod replace;
-mod states;
 mod stream;
 mod walks;
 
@@ -180,20 +178,36 @@ fn matches_of_texts_cut_no_character(rt: HostRuntime) -> Result<(), Fail> {
     Ok(())
 }
 
+/// Returns which engine serves, the match kind and the start kind.
+fn kinds_of(searcher: &AhoCorasick) -> (AhoCorasickKind, MatchKind, StartKind) {
+    (
+        searcher.kind(),
+        searcher.match_kind(),
+        searcher.start_kind(),
+    )
+}
+
+/// Returns the shortest length of a pattern, the longest, and how many patterns there are.
+fn lengths_of(searcher: &AhoCorasick) -> (usize, usize, usize) {
+    (
+        searcher.min_pattern_len(),
+        searcher.max_pattern_len(),
+        searcher.patterns_len(),
+    )
+}
+
 #[test]
 fn a_new_searcher_reports_its_settings(rt: HostRuntime) -> Result<(), Fail> {
     let searcher = AhoCorasick::new(rt.alloc(), &[b"he", b"she", b"hers"])?;
-    same(&rt, searcher.kind(), AhoCorasickKind::DFA);
-    same(&rt, searcher.start_kind(), Unanchored);
-    same(&rt, searcher.match_kind(), Standard);
-    same(&rt, searcher.min_pattern_len(), 2);
-    same(&rt, searcher.max_pattern_len(), 4);
-    same(&rt, searcher.patterns_len(), 3);
+    same(
+        &rt,
+        kinds_of(&searcher),
+        (AhoCorasickKind::DFA, Standard, Unanchored),
+    );
+    same(&rt, lengths_of(&searcher), (2, 4, 3));
     assert!(rt; searcher.memory_usage() > 0);
     let empty = AhoCorasick::new(rt.alloc(), &[])?;
-    same(&rt, empty.min_pattern_len(), usize::MAX);
-    same(&rt, empty.max_pattern_len(), 0);
-    same(&rt, empty.patterns_len(), 0);
+    same(&rt, lengths_of(&empty), (usize::MAX, 0, 0));
     same(&rt, empty.try_find(Input::new(b"ushers"))?, None);
     Ok(())
 }
@@ -205,18 +219,15 @@ fn each_setting_counts(rt: HostRuntime) -> Result<(), Fail> {
     let usual = builder.build(rt.alloc(), &patterns)?;
     let walked = walk_of(rt.alloc(), &usual, Input::new(b"appendage APP"))?;
     same(&rt, walked.as_slice(), [(2, 0, 3)].as_slice());
-    builder.match_kind(LeftmostFirst);
-    let first = builder.build(rt.alloc(), &patterns)?;
-    same(&rt, first.match_kind(), LeftmostFirst);
-    let walked = walk_of(rt.alloc(), &first, Input::new(b"appendage APP"))?;
-    same(&rt, walked.as_slice(), [(0, 0, 6)].as_slice());
-    builder.ascii_case_insensitive(true);
-    builder.kind(Some(AhoCorasickKind::NoncontiguousNFA));
-    builder.start_kind(Both);
+    builder
+        .match_kind(LeftmostFirst)
+        .ascii_case_insensitive(true);
+    builder
+        .kind(Some(AhoCorasickKind::NoncontiguousNFA))
+        .start_kind(Both);
     let all = builder.build(rt.alloc(), &patterns)?;
-    same(&rt, all.match_kind(), LeftmostFirst);
-    same(&rt, all.start_kind(), Both);
-    same(&rt, all.kind(), AhoCorasickKind::NoncontiguousNFA);
+    let kinds = (AhoCorasickKind::NoncontiguousNFA, LeftmostFirst, Both);
+    same(&rt, kinds_of(&all), kinds);
     let walked = walk_of(rt.alloc(), &all, Input::new(b"appendage APP"))?;
     same(&rt, walked.as_slice(), [(0, 0, 6), (2, 10, 13)].as_slice());
     Ok(())
@@ -232,15 +243,12 @@ fn a_clone_answers_equally(rt: HostRuntime) -> Result<(), Fail> {
     builder.ascii_case_insensitive(false);
     let searcher = settings.build(rt.alloc(), &[b"he", b"she", b"hers"])?;
     let clone = searcher.clone()?;
-    let walked = walk_of(rt.alloc(), &searcher, Input::new(b"usHERS he"))?;
-    let wanted = [(1, 1, 4), (0, 7, 9)];
-    same(&rt, walked.as_slice(), wanted.as_slice());
     drop(searcher);
     let walked = walk_of(rt.alloc(), &clone, Input::new(b"usHERS he"))?;
+    let wanted = [(1, 1, 4), (0, 7, 9)];
     same(&rt, walked.as_slice(), wanted.as_slice());
-    same(&rt, clone.kind(), AhoCorasickKind::ContiguousNFA);
-    same(&rt, clone.match_kind(), LeftmostLongest);
-    same(&rt, clone.start_kind(), Both);
+    let kinds = (AhoCorasickKind::ContiguousNFA, LeftmostLongest, Both);
+    same(&rt, kinds_of(&clone), kinds);
     same(&rt, clone.patterns_len(), 3);
     Ok(())
 }

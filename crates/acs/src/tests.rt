@@ -1,4 +1,5 @@
-//! What holds of searchers for every engine and setting, by runs: over small lists and streams, and past large sizes.
+//! What holds of searchers for every engine and setting, by runs over small lists and streams, and past
+//! large sizes.
 ghost use Rattle.std.specs.Prelude.{◌≡◌, length};
 
 mod large;
@@ -6,6 +7,18 @@ mod small;
 mod streams;
 
 use ac_search::Span;
+use std::fmt::Debug;
+use std::process::Abort;
+
+/// Ends the test where what was found is not what was wanted, and says what it was found by.
+pub(crate) fn same_by<T: PartialEq + Debug + Drop, B: Debug>(
+    rt: &impl Abort,
+    found: T,
+    wanted: T,
+    by: &B,
+) {
+    assert_eq!(rt; found, wanted, "{by:?}");
+}
 
 /// Returns the span of a whole haystack.
 fn all_of(haystack: &[u8]) -> Span

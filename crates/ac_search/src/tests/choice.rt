@@ -1,9 +1,8 @@
 //! Which engine is chosen.
 use super::{same, same_by};
 use crate::AhoCorasickKind::{ContiguousNFA, DFA, NoncontiguousNFA};
-use crate::MatchKind::Standard;
 use crate::StartKind::{Both, Unanchored};
-use crate::{AhoCorasick, AhoCorasickBuilder, AhoCorasickKind, StartKind, choose_kind};
+use crate::{AhoCorasickBuilder, AhoCorasickKind, StartKind, choose_kind};
 use std::test::Fail;
 
 /// A number of patterns, a start kind, the engine that is named, and the one that serves.
@@ -23,20 +22,14 @@ const CHOICES: [Choice; 9] = [
 
 #[test]
 fn an_engine_is_chosen(rt: HostRuntime) -> Result<(), Fail> {
-    let searcher = AhoCorasick::new(rt.alloc(), &[b"foo", b"bar", b"quux", b"baz"])?;
-    same(&rt, searcher.kind(), DFA);
-    same(&rt, searcher.start_kind(), Unanchored);
-    same(&rt, searcher.match_kind(), Standard);
-    same(&rt, searcher.min_pattern_len(), 3);
-    same(&rt, searcher.max_pattern_len(), 4);
     for (count, start_kind, named, wanted) in CHOICES {
         let patterns: Vec<&[u8]> = (0..count).map(|_| b"ab".as_slice()).collect(rt.alloc())?;
         let mut builder = AhoCorasickBuilder::new();
         builder.start_kind(start_kind).kind(named);
         let searcher = builder.build(rt.alloc(), &patterns)?;
-        same_by(&rt, searcher.kind(), wanted, &(count, start_kind, named));
+        let chosen = (searcher.kind(), searcher.patterns_len());
+        same_by(&rt, chosen, (wanted, count), &(start_kind, named));
         same(&rt, searcher.clone()?.kind(), wanted);
-        same(&rt, searcher.patterns_len(), count);
     }
     Ok(())
 }

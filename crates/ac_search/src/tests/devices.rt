@@ -1,10 +1,14 @@
 //! A reader and a writer that do little at once, and fail.
-use super::Triple;
-use crate::{MatchError, Sink, Source, StreamError};
+ghost use Rattle.std.specs.Prelude.{◌≡◌, length};
+
+use super::{Triple, same};
+use crate::{AhoCorasick, MatchError, Sink, Source, StreamError, StreamFindIter};
 use ac_util::tally::Tally;
+use std::alloc::Global;
 use std::io;
 use std::io::ErrorKind;
 use std::marker::Model;
+use std::process::Abort;
 
 /// How many calls of a reader are good that never fails.
 pub(super) const ALWAYS: usize = 1_000_000;
@@ -147,4 +151,29 @@ pub(super) fn item_of(item: Option<Result<crate::Match, StreamError>>) -> Option
         Some(Err(_)) => Some(None),
         Some(Ok(found)) => Some(Some((found.pattern().as_usize(), found.start(), found.end()))),
     }
+}
+
+/// Compares the next items of an iterator with what is wanted.
+pub(super) fn compare_items(
+    rt: &impl Abort,
+    matches: &mut StreamFindIter<'_, Pieces<'_>>,
+    wanted: &[Option<Option<Triple>>],
+) {
+    for item in wanted {
+        same(rt, item_of(matches.next()), *item);
+    }
+}
+
+/// Replaces a stream, and returns how that ends and what was written.
+pub(super) fn exchanged_by(
+    alloc: Global,
+    searcher: &AhoCorasick,
+    mut reader: Pieces<'_>,
+    mut writer: Few,
+    texts: &[&[u8]],
+) -> (End, Vec<u8>)
+    requires { length texts.now ≡ length searcher.now.built.patterns }
+{
+    let ended = searcher.try_stream_replace_all(alloc, &mut reader, &mut writer, texts);
+    (end_of(ended), writer.text)
 }

@@ -1,5 +1,9 @@
-use super::replace::{IN_BYTES, IN_TEXT, push_number};
-use super::{Triple, same, same_by, triple_of, walk_of};
+use super::replace::{
+    IN_BYTES, IN_TEXT, SENTENCE as SENTENCE_TEXT, clear_bytes, clear_text, marked_up_to,
+    numbered_up_to,
+};
+use super::walks::LIKES;
+use super::{Triple, lengths_of, same, same_by, triple_of, walk_of};
 use crate::AhoCorasickKind::{ContiguousNFA, DFA, NoncontiguousNFA};
 use crate::MatchKind::{LeftmostFirst, LeftmostLongest, Standard};
 use crate::StartKind::{Both, Unanchored};
@@ -8,6 +12,7 @@ use crate::{
     OverlappingState, ReplaceError, StartKind,
 };
 use std::alloc::{AllocError, Global};
+use std::process::Abort;
 use std::test::Fail;
 
 /// How a searcher is served: the engine, or None to let it choose, the dense depth, whether bytes share classes, and
@@ -84,33 +89,45 @@ fn find_of(searcher: &AhoCorasick, input: Input<'_>) -> Result<Option<Triple>, M
     Ok(searcher.find(input).as_ref().map(triple_of))
 }
 
+/// Whether case is ignored, patterns, a haystack, and its walk.
+type CaseRow = (
+    bool,
+    &'static [&'static [u8]],
+    &'static [u8],
+    &'static [Triple],
+);
+
+const FOO: &[&[u8]] = &[b"FOO", b"bAr", b"BaZ"];
+
+const CASES: [CaseRow; 5] = [
+    (false, FOO, b"foo bar baz", &[]),
+    (
+        true,
+        FOO,
+        b"foo bar baz",
+        &[(0, 0, 3), (1, 4, 7), (2, 8, 11)],
+    ),
+    (
+        true,
+        &[b"apple", b"maple", b"snapple"],
+        LIKES,
+        &[(1, 13, 18), (0, 28, 33), (2, 43, 50)],
+    ),
+    (true, &[b"ab", b"AB"], b"aB", &[(0, 0, 2)]),
+    (true, &[b"["], b"{", &[]),
+];
+
 #[test]
 fn each_engine_ignores_case_alike(rt: HostRuntime) -> Result<(), Fail> {
-    let patterns: [&[u8]; 3] = [b"FOO", b"bAr", b"BaZ"];
-    let wanted = [(0, 0, 3), (1, 4, 7), (2, 8, 11)];
     for engine in &engines(rt.alloc())? {
         for &kind in EACH {
-            let mut builder = builder_of(engine, kind, Unanchored);
-            let counts = builder.build(rt.alloc(), &patterns)?;
-            same(
-                &rt,
-                walk_of(rt.alloc(), &counts, Input::new(b"foo bar baz"))?.len(),
-                0,
-            );
-            builder.ascii_case_insensitive(true);
-            let ignores = builder.build(rt.alloc(), &patterns)?;
-            let walked = walk_of(rt.alloc(), &ignores, Input::new(b"foo bar baz"))?;
-            same_by(&rt, walked.as_slice(), wanted.as_slice(), &kind);
-            let fruit = builder.build(rt.alloc(), &[b"apple", b"maple", b"snapple"])?;
-            let input = Input::new(b"Nobody likes maple in their apple flavored Snapple.");
-            let walked = walk_of(rt.alloc(), &fruit, input)?;
-            let wanted = [(1, 13, 18), (0, 28, 33), (2, 43, 50)];
-            same_by(&rt, walked.as_slice(), wanted.as_slice(), &kind);
-            let letters = builder.build(rt.alloc(), &[b"ab", b"AB"])?;
-            let found = find_of(&letters, Input::new(b"aB"))?;
-            same_by(&rt, found, Some((0, 0, 2)), &kind);
-            let bracket = builder.build(rt.alloc(), &[b"["])?;
-            same_by(&rt, find_of(&bracket, Input::new(b"{"))?, None, &kind);
+            for (ignores_case, patterns, haystack, wanted) in CASES {
+                let mut builder = builder_of(engine, kind, Unanchored);
+                builder.ascii_case_insensitive(ignores_case);
+                let searcher = builder.build(rt.alloc(), patterns)?;
+                let walked = walk_of(rt.alloc(), &searcher, Input::new(haystack))?;
+                same_by(&rt, walked.as_slice(), wanted, &builder);
+            }
         }
     }
     Ok(())
@@ -124,21 +141,25 @@ fn each_engine_distinguishes_many_bytes(rt: HostRuntime) -> Result<(), Fail> {
         haystack.push(b'a')?;
         haystack.push(byte)?;
     }
-    let patterns: Vec<&[u8]> = haystack.chunks(2).collect(rt.alloc())?;
     for engine in &engines(rt.alloc())? {
         for count in [127, 128] {
             let builder = builder_of(engine, Standard, Unanchored);
-            let patterns: Vec<&[u8]> = patterns.iter().copied().take(count).collect(rt.alloc())?;
+            let patterns: Vec<&[u8]> = haystack.chunks(2).take(count).collect(rt.alloc())?;
             let searcher = builder.build(rt.alloc(), &patterns)?;
             let walked = walk_of(rt.alloc(), &searcher, Input::new(&haystack))?;
             same(&rt, walked.len(), count);
-            for (number, found) in walked.iter().enumerate() {
-                let start = number.saturating_mul(2);
-                same(&rt, *found, (number, start, start.saturating_add(2)));
-            }
+            compare_pairs(&rt, &walked);
         }
     }
     Ok(())
+}
+
+/// Compares matches of which each is as many pairs of bytes from the front as its pattern's number says.
+fn compare_pairs(rt: &impl Abort, walked: &[Triple]) {
+    for (number, found) in walked.iter().enumerate() {
+        let start = number.saturating_mul(2);
+        same(rt, *found, (number, start, start.saturating_add(2)));
+    }
 }
 
 #[test]
@@ -156,7 +177,7 @@ fn each_engine_finds_from_where_its_span_begins(rt: HostRuntime) -> Result<(), F
 }
 
 #[test]
-fn each_engine_exchanges_alike(rt: HostRuntime) -> Result<(), Fail> {
+fn each_engine_exchanges_bytes_alike(rt: HostRuntime) -> Result<(), Fail> {
     for engine in &engines(rt.alloc())? {
         for &(patterns, kind, texts, haystack, wanted) in IN_BYTES {
             let builder = builder_of(engine, kind, Both);
@@ -165,6 +186,13 @@ fn each_engine_exchanges_alike(rt: HostRuntime) -> Result<(), Fail> {
             let replaced = searcher.try_replace_all_bytes(rt.alloc(), haystack, texts)?;
             same_by(&rt, replaced.as_slice(), wanted, &builder);
         }
+    }
+    Ok(())
+}
+
+#[test]
+fn each_engine_exchanges_text_alike(rt: HostRuntime) -> Result<(), Fail> {
+    for engine in &engines(rt.alloc())? {
         for &(patterns, kind, texts, haystack, wanted) in IN_TEXT {
             let builder = builder_of(engine, kind, Unanchored);
             let searcher = builder.build(rt.alloc(), patterns)?;
@@ -176,37 +204,53 @@ fn each_engine_exchanges_alike(rt: HostRuntime) -> Result<(), Fail> {
     Ok(())
 }
 
+/// The pattern after whose first match no more is exchanged, and what is made of the sentence in text and in bytes.
+const CALLS: [(usize, &'static str, &'static [u8]); 3] = [
+    (
+        0,
+        "pre0 the app to the appendage",
+        b"append! the app to the appendage",
+    ),
+    (
+        2,
+        "pre0 the 2 to the appendage",
+        b"append! the app! to the appendage",
+    ),
+    (
+        3,
+        "pre0 the 2 to the 0age",
+        b"append! the app! to the append!age",
+    ),
+];
+
 #[test]
 fn each_engine_calls_closures_alike(rt: HostRuntime) -> Result<(), Fail> {
-    let sentence = "append the app to the appendage";
     for engine in &engines(rt.alloc())? {
         let builder = builder_of(engine, LeftmostFirst, Unanchored);
         let searcher = builder.build(rt.alloc(), WORDS)?;
-        let mut text = String::from_str(rt.alloc(), "pre")?;
-        searcher.try_replace_all_with(sentence, &mut text, |found, _, destination| {
-            push_number(found, destination)
-        })?;
-        same(&rt, text.as_str(), "pre0 the 2 to the 0age");
-        let mut text = String::new(rt.alloc());
-        searcher.try_replace_all_with(sentence, &mut text, |found, _, destination| {
-            push_number(found, destination) && found.pattern().as_usize() != 2
-        })?;
-        same(&rt, text.as_str(), "0 the 2 to the appendage");
+        for (last, text, bytes) in CALLS {
+            let numbered = numbered_up_to(rt.alloc(), &searcher, last)?;
+            same_by(&rt, numbered.as_str(), text, &builder);
+            let marked = marked_up_to(rt.alloc(), &searcher, last)?;
+            same_by(&rt, marked.as_slice(), bytes, &builder);
+        }
+    }
+    Ok(())
+}
+
+/// What a closure takes away isn't put back.
+#[test]
+fn each_engine_lets_closures_clear(rt: HostRuntime) -> Result<(), Fail> {
+    for engine in &engines(rt.alloc())? {
+        let builder = builder_of(engine, LeftmostFirst, Unanchored);
+        let searcher = builder.build(rt.alloc(), WORDS)?;
         let mut text = String::from_str(rt.alloc(), "keep")?;
-        searcher.try_replace_all_with(sentence, &mut text, |_, _, destination| {
-            destination.clear();
-            true
-        })?;
-        same(&rt, text.as_str(), "age");
-        let mut text = String::new(rt.alloc());
-        searcher.try_replace_all_with(sentence, &mut text, |_, _, _| false)?;
-        same(&rt, text.as_str(), " the app to the appendage");
-        let mut text = Vec::new(rt.alloc());
-        searcher.try_replace_all_with_bytes(SENTENCE, &mut text, |found, _, destination| {
-            destination.push(b'-').is_ok() && found.pattern().as_usize() != 2
-        })?;
-        let wanted = b"- the - to the appendage".as_slice();
-        same(&rt, text.as_slice(), wanted);
+        searcher.try_replace_all_with(SENTENCE_TEXT, &mut text, clear_text)?;
+        same_by(&rt, text.as_str(), "age", &builder);
+        let mut bytes = Vec::new(rt.alloc());
+        bytes.extend_from_slice(b"keep")?;
+        searcher.try_replace_all_with_bytes(SENTENCE, &mut bytes, clear_bytes)?;
+        same_by(&rt, bytes.as_slice(), b"age", &builder);
     }
     Ok(())
 }
@@ -251,9 +295,7 @@ fn each_engine_reports_the_lengths_of_no_patterns(rt: HostRuntime) -> Result<(),
     for engine in &engines(rt.alloc())? {
         let builder = builder_of(engine, Standard, Unanchored);
         let searcher = builder.build(rt.alloc(), &[])?;
-        same(&rt, searcher.min_pattern_len(), usize::MAX);
-        same(&rt, searcher.max_pattern_len(), 0);
-        same(&rt, searcher.patterns_len(), 0);
+        same(&rt, lengths_of(&searcher), (usize::MAX, 0, 0));
     }
     Ok(())
 }

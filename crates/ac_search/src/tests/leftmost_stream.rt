@@ -1,5 +1,5 @@
 //! Streams under the leftmost kinds: what is given, what is kept, and what is written where a reader fails.
-use super::devices::{ALWAYS, End, Few, Pieces, end_of, item_of};
+use super::devices::{ALWAYS, End, Few, Pieces, compare_items, exchanged_by};
 use super::engines::KINDS;
 use super::same;
 use super::stream::searcher_by;
@@ -84,13 +84,12 @@ fn matches_are_given_once_no_byte_changes_them(rt: HostRuntime) -> Result<(), Fa
             let reader = Pieces::new(stream, 1, *good);
             let mut matches = searcher.try_stream_find_iter(rt.alloc(), reader)?;
             for m in *wanted {
-                same(&rt, item_of(matches.next()), Some(Some(*m)));
+                compare_items(&rt, &mut matches, &[Some(Some(*m))]);
             }
             if *good != ALWAYS {
-                same(&rt, item_of(matches.next()), Some(None));
+                compare_items(&rt, &mut matches, &[Some(None)]);
             }
-            same(&rt, item_of(matches.next()), None);
-            same(&rt, item_of(matches.next()), None);
+            compare_items(&rt, &mut matches, &[None, None]);
             same(&rt, matches.kept_len(), *kept);
         }
     }
@@ -115,20 +114,11 @@ fn what_is_settled_is_written(rt: HostRuntime) -> Result<(), Fail> {
     for engine in KINDS {
         for (kind, stream, good, wanted) in WRITTEN {
             let searcher = searcher_by(rt, NESTED, *kind, engine)?;
-            let mut reader = Pieces::new(stream, 1, *good);
-            let mut writer = Few::new(rt, 1, ALWAYS, true);
-            let ended = searcher.try_stream_replace_all(
-                rt.alloc(),
-                &mut reader,
-                &mut writer,
-                &TEXTS,
-            );
-            same(
-                &rt,
-                end_of(ended),
-                if *good == ALWAYS { End::Whole } else { End::Io },
-            );
-            same(&rt, writer.text.as_slice(), *wanted);
+            let reader = Pieces::new(stream, 1, *good);
+            let writer = Few::new(rt, 1, ALWAYS, true);
+            let end = if *good == ALWAYS { End::Whole } else { End::Io };
+            let (ended, written) = exchanged_by(rt.alloc(), &searcher, reader, writer, &TEXTS);
+            same(&rt, (ended, written.as_slice()), (end, *wanted));
         }
     }
     Ok(())

@@ -8,7 +8,7 @@ use super::engines::{SENTENCE, WORDS, builder_of, engines};
 use super::{Triple, same, same_by, triple_of, triples_of};
 use crate::MatchKind::Standard;
 use crate::StartKind::{Both, Unanchored};
-use crate::{AhoCorasick, Anchored, Input, Match, OverlappingState, StartKind};
+use crate::{AhoCorasick, Anchored, Input, Match, MatchError, OverlappingState, StartKind};
 use std::alloc::{AllocError, Global};
 use std::test::Fail;
 
@@ -80,41 +80,39 @@ fn each_engine_lists_alike(rt: HostRuntime) -> Result<(), Fail> {
     Ok(())
 }
 
+/// Returns what three calls of a search by a state give.
+fn three_items(
+    searcher: &AhoCorasick,
+    input: Input<'_>,
+) -> Result<[Option<Triple>; 3], MatchError> {
+    let mut state = OverlappingState::start();
+    searcher.try_find_overlapping(input, &mut state)?;
+    let first = state.get_match().as_ref().map(triple_of);
+    searcher.try_find_overlapping(input, &mut state)?;
+    let second = state.get_match().as_ref().map(triple_of);
+    searcher.try_find_overlapping(input, &mut state)?;
+    let third = state.get_match().as_ref().map(triple_of);
+    Ok([first, second, third])
+}
+
+/// Patterns, a haystack, and what three calls of an anchored search by a state give.
+type Items = (&'static [&'static [u8]], &'static [u8], [Option<Triple>; 3]);
+
+const ANCHORED_LISTINGS: &[Items] = &[
+    (WORDS, SENTENCE, [Some((2, 0, 3)), Some((0, 0, 6)), None]),
+    (&[b"b", b"abc"], b"abc", [Some((1, 0, 3)), None, None]),
+];
+
 #[test]
 fn each_engine_lists_alike_from_its_start(rt: HostRuntime) -> Result<(), Fail> {
-    let input = Input::new(SENTENCE).anchored(Anchored::Yes);
     for engine in &engines(rt.alloc())? {
         for start_kind in [StartKind::Anchored, Both] {
-            let searcher = builder_of(engine, Standard, start_kind).build(rt.alloc(), WORDS)?;
-            let mut state = OverlappingState::start();
-            searcher.try_find_overlapping(input, &mut state)?;
-            same(
-                &rt,
-                state.get_match().as_ref().map(triple_of),
-                Some((2, 0, 3)),
-            );
-            searcher.try_find_overlapping(input, &mut state)?;
-            same(
-                &rt,
-                state.get_match().as_ref().map(triple_of),
-                Some((0, 0, 6)),
-            );
-            searcher.try_find_overlapping(input, &mut state)?;
-            same_by(&rt, state.get_match(), None, &start_kind);
-            let searcher = builder_of(engine, Standard, start_kind).build(
-                rt.alloc(),
-                &[b"b", b"abc"],
-            )?;
-            let input = Input::new(b"abc").anchored(Anchored::Yes);
-            let mut state = OverlappingState::start();
-            searcher.try_find_overlapping(input, &mut state)?;
-            same(
-                &rt,
-                state.get_match().as_ref().map(triple_of),
-                Some((1, 0, 3)),
-            );
-            searcher.try_find_overlapping(input, &mut state)?;
-            same_by(&rt, state.get_match(), None, &start_kind);
+            let builder = builder_of(engine, Standard, start_kind);
+            for &(patterns, haystack, wanted) in ANCHORED_LISTINGS {
+                let searcher = builder.build(rt.alloc(), patterns)?;
+                let input = Input::new(haystack).anchored(Anchored::Yes);
+                same_by(&rt, three_items(&searcher, input)?, wanted, &builder);
+            }
         }
     }
     Ok(())
@@ -145,9 +143,8 @@ fn all_by_state(
 fn all_occurrences_are_listed(rt: HostRuntime) -> Result<(), Fail> {
     let searcher = AhoCorasick::new(rt.alloc(), &[b"he", b"she", b"his", b"hers"])?;
     let found = all_by_state(rt.alloc(), &searcher, b"ushers")?;
-    let listed: Vec<Triple> = found.iter().map(triple_of).collect(rt.alloc())?;
-    let wanted = [(1, 1, 4), (0, 2, 4), (3, 2, 6)];
-    same(&rt, listed.as_slice(), wanted.as_slice());
+    let listed = triples_of(rt.alloc(), found.into_iter())?;
+    same(&rt, listed.as_slice(), LISTINGS[0].2);
     let items = searcher.find_overlapping_iter(Input::new(b"ushers"));
     same(&rt, items.count(), 3);
     Ok(())

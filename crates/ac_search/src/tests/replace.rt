@@ -8,12 +8,12 @@ use crate::laws::{closure_exchanges, text_closure_exchanges};
 use crate::{
     AhoCorasick, AhoCorasickBuilder, Match, MatchError, MatchKind, ReplaceError, StartKind,
 };
-use std::alloc::AllocError;
+use std::alloc::{AllocError, Global};
 use std::test::Fail;
 
 const WORDS: &[&[u8]] = &[b"append", b"appendage", b"app"];
 
-const SENTENCE: &str = "append the app to the appendage";
+pub(super) const SENTENCE: &str = "append the app to the appendage";
 
 const NUMBERS: &[&str] = &["0", "1", "2"];
 
@@ -130,12 +130,53 @@ fn drop_bytes(_: &Match, _: &[u8], _: &mut Vec<u8>) -> bool {
     true
 }
 
+/// Takes away all that was appended, and what was there before.
+pub(super) fn clear_text(_: &Match, _: &str, destination: &mut String) -> bool {
+    destination.clear();
+    true
+}
+
+/// Does the same in bytes.
+pub(super) fn clear_bytes(_: &Match, _: &[u8], destination: &mut Vec<u8>) -> bool {
+    destination.clear();
+    true
+}
+
 /// Appends the number of a pattern.
-pub(super) fn push_number(found: &Match, destination: &mut String) -> bool {
+fn push_number(found: &Match, destination: &mut String) -> bool {
     match NUMBERS.get(found.pattern().as_usize()) {
         Some(number) => destination.push_str(number).is_ok(),
         None => false,
     }
+}
+
+/// Returns the sentence after `pre`, with each match exchanged for the number of its pattern, up to one of this pattern.
+pub(super) fn numbered_up_to(
+    alloc: Global,
+    searcher: &AhoCorasick,
+    last: usize,
+) -> Result<String, Fail> {
+    let mut text = String::from_str(alloc, "pre")?;
+    searcher.try_replace_all_with(SENTENCE, &mut text, |found, _, destination| {
+        push_number(found, destination) && found.pattern().as_usize() != last
+    })?;
+    Ok(text)
+}
+
+/// Returns the bytes of the sentence with a mark after each match, up to one of this pattern.
+pub(super) fn marked_up_to(
+    alloc: Global,
+    searcher: &AhoCorasick,
+    last: usize,
+) -> Result<Vec<u8>, Fail> {
+    let mut bytes = Vec::new(alloc);
+    let sentence = SENTENCE.as_bytes();
+    searcher.try_replace_all_with_bytes(sentence, &mut bytes, |found, slice, destination| {
+        destination.extend_from_slice(slice).is_ok()
+            && destination.push(b'!').is_ok()
+            && found.pattern().as_usize() != last
+    })?;
+    Ok(bytes)
 }
 
 #[test]
@@ -144,38 +185,6 @@ fn closures_exchange_no_cut_characters(rt: HostRuntime) -> Result<(), Fail> {
     let mut kept = String::new(rt.alloc());
     cut.try_replace_all_with("é", &mut kept, drop_text)?;
     same(&rt, kept.as_str(), "é");
-    Ok(())
-}
-
-#[test]
-fn closures_exchange_bytes(rt: HostRuntime) -> Result<(), Fail> {
-    let searcher = searcher_of(rt, WORDS, LeftmostFirst)?;
-    let sentence = SENTENCE.as_bytes();
-    let mut text = Vec::new(rt.alloc());
-    searcher.try_replace_all_with_bytes(sentence, &mut text, |found, slice, destination| {
-        destination.extend_from_slice(slice).is_ok()
-            && destination.push(b'!').is_ok()
-            && found.pattern().as_usize() != 2
-    })?;
-    same(
-        &rt,
-        text.as_slice(),
-        b"append! the app! to the appendage".as_slice(),
-    );
-    let mut cleared = Vec::new(rt.alloc());
-    cleared.extend_from_slice(b"keep")?;
-    searcher.try_replace_all_with_bytes(sentence, &mut cleared, |_, _, destination| {
-        destination.clear();
-        true
-    })?;
-    same(&rt, cleared.as_slice(), b"age".as_slice());
-    let mut nothing = Vec::new(rt.alloc());
-    searcher.try_replace_all_with_bytes(sentence, &mut nothing, |_, _, _| false)?;
-    same(
-        &rt,
-        nothing.as_slice(),
-        b" the app to the appendage".as_slice(),
-    );
     Ok(())
 }
 
@@ -206,18 +215,12 @@ fn a_refused_replacement_changes_nothing(rt: HostRuntime) -> Result<(), Fail> {
     let bytes = searcher.try_replace_all_bytes(rt.alloc(), b"a", &[b"x"]);
     same(&rt, bytes.err(), Some(refused));
     let mut text = String::from_str(rt.alloc(), "pre")?;
-    let answer = searcher.try_replace_all_with("a", &mut text, |_, _, destination| {
-        destination.clear();
-        true
-    });
+    let answer = searcher.try_replace_all_with("a", &mut text, clear_text);
     same(&rt, answer, Err(refused));
     same(&rt, text.as_str(), "pre");
     let mut bytes = Vec::new(rt.alloc());
     bytes.extend_from_slice(b"pre")?;
-    let answer = searcher.try_replace_all_with_bytes(b"a", &mut bytes, |_, _, destination| {
-        destination.clear();
-        true
-    });
+    let answer = searcher.try_replace_all_with_bytes(b"a", &mut bytes, clear_bytes);
     same(&rt, answer, Err(refused));
     same(&rt, bytes.as_slice(), b"pre".as_slice());
     Ok(())

@@ -2,7 +2,7 @@
 ghost use Rattle.std.specs.Prelude.{◌≡◌, IfOk};
 ghost use Rattle.ac_util.specs.Borrowed.{bytes_of};
 
-use super::devices::{ALWAYS, End, Few, Pieces, end_of, item_of};
+use super::devices::{ALWAYS, End, Few, Pieces, compare_items, end_of, exchanged_by};
 use super::engines::KINDS;
 use super::same;
 use crate::MatchKind::{LeftmostFirst, Standard};
@@ -10,6 +10,7 @@ use crate::{
     AhoCorasick, AhoCorasickBuilder, AhoCorasickKind, MatchError, MatchKind, Sink, Source,
     StartKind, StreamError,
 };
+use std::alloc::{AllocError, Global};
 use std::io;
 use std::io::ErrorKind;
 use std::test::Fail;
@@ -59,16 +60,10 @@ fn reads_cut_a_stream_anywhere_and_fail_anywhere(rt: HostRuntime) -> Result<(), 
     for kind in KINDS {
         let searcher = searcher_by(rt, FOX, Standard, kind)?;
         for (most, good, text, end) in READS {
-            let mut reader = Pieces::new(SENTENCE, *most, *good);
-            let mut writer = Few::new(rt, 1, ALWAYS, true);
-            let ended = searcher.try_stream_replace_all(
-                rt.alloc(),
-                &mut reader,
-                &mut writer,
-                SLOTH,
-            );
-            same(&rt, end_of(ended), *end);
-            same(&rt, writer.text.as_slice(), *text);
+            let reader = Pieces::new(SENTENCE, *most, *good);
+            let writer = Few::new(rt, 1, ALWAYS, true);
+            let (ended, written) = exchanged_by(rt.alloc(), &searcher, reader, writer, SLOTH);
+            same(&rt, (ended, written.as_slice()), (*end, *text));
         }
     }
     Ok(())
@@ -91,11 +86,10 @@ const WRITES: &[Written] = &[
 fn writes_fail_or_take_nothing_anywhere(rt: HostRuntime) -> Result<(), Fail> {
     let searcher = AhoCorasick::new(rt.alloc(), FOX)?;
     for (most, room, fails, text, end) in WRITES {
-        let mut reader = Pieces::new(SENTENCE, 1, ALWAYS);
-        let mut writer = Few::new(rt, *most, *room, *fails);
-        let ended = searcher.try_stream_replace_all(rt.alloc(), &mut reader, &mut writer, SLOTH);
-        same(&rt, end_of(ended), *end);
-        same(&rt, writer.text.as_slice(), *text);
+        let reader = Pieces::new(SENTENCE, 1, ALWAYS);
+        let writer = Few::new(rt, *most, *room, *fails);
+        let (ended, written) = exchanged_by(rt.alloc(), &searcher, reader, writer, SLOTH);
+        same(&rt, (ended, written.as_slice()), (*end, *text));
     }
     Ok(())
 }
@@ -138,60 +132,54 @@ fn iterators_give_matches_and_then_an_error(rt: HostRuntime) -> Result<(), Fail>
         let reader = Pieces::new(SENTENCE, 1, 12);
         let mut matches = searcher.try_stream_find_iter(rt.alloc(), reader)?;
         same(&rt, matches.buffer_len(), 65536);
-        same(&rt, item_of(matches.next()), Some(Some((2, 4, 9))));
-        same(&rt, item_of(matches.next()), Some(None));
+        compare_items(&rt, &mut matches, &[Some(Some((2, 4, 9))), Some(None)]);
         same(&rt, matches.kept_len(), 3);
-        same(&rt, item_of(matches.next()), None);
-        same(&rt, item_of(matches.next()), None);
+        compare_items(&rt, &mut matches, &[None, None]);
     }
     Ok(())
 }
 
-#[test]
-fn a_match_spans_two_buffers(rt: HostRuntime) -> Result<(), Fail> {
-    let searcher = AhoCorasick::new(rt.alloc(), &[b"abc"])?;
-    let mut stream = Vec::new(rt.alloc());
-    stream.resize(65535, b'x')?;
-    stream.extend_from_slice(b"abc")?;
-    for most in [1, 7, 65535, 65536, 65537] {
-        let reader = Pieces::new(&stream, most, ALWAYS);
-        let mut matches = searcher.try_stream_find_iter(rt.alloc(), reader)?;
-        same(&rt, item_of(matches.next()), Some(Some((0, 65535, 65538))));
-        same(&rt, item_of(matches.next()), None);
-    }
-    Ok(())
+/// Returns a stream of other bytes, and after so many of them a text twice.
+fn stream_with(alloc: Global, before: usize, text: &[u8]) -> Result<Vec<u8>, AllocError> {
+    let mut stream = Vec::new(alloc);
+    stream.resize(before, b'x')?;
+    stream.extend_from_slice(text)?;
+    stream.extend_from_slice(text)?;
+    Ok(stream)
 }
 
-/// How long a pattern is, and how many bytes a buffer for it has.
-const BUFFERS: [(usize, usize); 4] = [
-    (3, 65_536),
-    (8_192, 65_536),
-    (8_193, 65_544),
-    (70_000, 560_000),
+/// How long a pattern is, how many bytes a buffer for it has, and how many bytes stand before its first match in a stream.
+const BUFFERS: [(usize, usize, usize); 5] = [
+    (3, 65_536, 65_535),
+    (3, 65_536, 100_000),
+    (8_192, 65_536, 100_000),
+    (8_193, 65_544, 100_000),
+    (70_000, 560_000, 100_000),
 ];
 
-/// How many bytes stand before the first of two matches in a stream.
-const BEFORE: usize = 100_000;
+/// Returns a pattern of this length.
+fn pattern_of(alloc: Global, len: usize) -> Result<Vec<u8>, AllocError> {
+    let mut pattern = Vec::new(alloc);
+    pattern.resize(len.saturating_sub(1), b'a')?;
+    pattern.push(b'b')?;
+    Ok(pattern)
+}
 
+/// A match may span two buffers.
 #[test]
 fn long_patterns_have_long_buffers(rt: HostRuntime) -> Result<(), Fail> {
-    for (len, buffer) in BUFFERS {
-        let mut pattern = Vec::new(rt.alloc());
-        pattern.resize(len.saturating_sub(1), b'a')?;
-        pattern.push(b'b')?;
+    for (len, buffer, before) in BUFFERS {
+        let pattern = pattern_of(rt.alloc(), len)?;
         let searcher = AhoCorasick::new(rt.alloc(), &[pattern.as_slice()])?;
-        let mut stream = Vec::new(rt.alloc());
-        stream.resize(BEFORE, b'x')?;
-        stream.extend_from_slice(&pattern)?;
-        stream.extend_from_slice(&pattern)?;
-        let (first, second) = (BEFORE.saturating_add(len), stream.len());
-        for most in [1, 65_537, ALWAYS] {
+        let stream = stream_with(rt.alloc(), before, &pattern)?;
+        let between = before.saturating_add(len);
+        let first = Some(Some((0, before, between)));
+        let second = Some(Some((0, between, stream.len())));
+        for most in [1, 7, 65_535, 65_536, 65_537, ALWAYS] {
             let reader = Pieces::new(&stream, most, ALWAYS);
             let mut matches = searcher.try_stream_find_iter(rt.alloc(), reader)?;
             same(&rt, matches.buffer_len(), buffer);
-            same(&rt, item_of(matches.next()), Some(Some((0, BEFORE, first))));
-            same(&rt, item_of(matches.next()), Some(Some((0, first, second))));
-            same(&rt, item_of(matches.next()), None);
+            compare_items(&rt, &mut matches, &[first, second, None]);
         }
     }
     Ok(())
@@ -250,10 +238,13 @@ fn a_refused_stream_is_not_read(rt: HostRuntime) -> Result<(), Fail> {
 #[test]
 fn a_stream_without_patterns_is_copied(rt: HostRuntime) -> Result<(), Fail> {
     let searcher = AhoCorasick::new(rt.alloc(), &[])?;
-    let mut reader = Pieces::new(b"abc", 1, ALWAYS);
-    let mut writer = Few::new(rt, 1, ALWAYS, true);
-    let ended = searcher.try_stream_replace_all(rt.alloc(), &mut reader, &mut writer, &[]);
-    same(&rt, end_of(ended), End::Whole);
-    same(&rt, writer.text.as_slice(), b"abc".as_slice());
+    let reader = Pieces::new(b"abc", 1, ALWAYS);
+    let writer = Few::new(rt, 1, ALWAYS, true);
+    let (ended, written) = exchanged_by(rt.alloc(), &searcher, reader, writer, &[]);
+    same(
+        &rt,
+        (ended, written.as_slice()),
+        (End::Whole, b"abc".as_slice()),
+    );
     Ok(())
 }

@@ -26,7 +26,7 @@ type Row = (
 
 const FRUIT: &[&[u8]] = &[b"apple", b"maple", b"Snapple"];
 
-const LIKES: &[u8] = b"Nobody likes maple in their apple flavored Snapple.";
+pub(super) const LIKES: &[u8] = b"Nobody likes maple in their apple flavored Snapple.";
 
 /// A long pattern that fails at its last byte.
 const FAILS_LATE: &[&[u8]] = &[b"a", b"abcdefghi", b"hz", b"abcdefgh"];

@@ -1,6 +1,8 @@
 use super::{Outcome, run, status};
+use crate::fault::Fault;
+use crate::tests::same_by;
 use ac_search::{Bytes, Written};
-use rows::{FAULTS, RUNS};
+use rows::{Ending, FAULTS, RUNS};
 use std::alloc::{AllocError, Global};
 use std::process::Abort;
 use std::test::Fail;
@@ -70,22 +72,38 @@ fn lines_of(alloc: Global, text: &str) -> Result<Vec<u8>, AllocError> {
     bytes.collect(alloc)
 }
 
+/// Runs over an input, and returns how the run ends and what was written.
+fn run_over(alloc: Global, words: &[&str], input: &[u8]) -> (Ending, Written<Global>) {
+    let mut writer = Written::new(alloc);
+    let ending = run(alloc, words, &mut Bytes::new(input), &mut writer);
+    (ending, writer)
+}
+
+/// Compares how a run of a row ends, and what it writes, with what the row says.
+fn compare_row(
+    rt: &impl Abort,
+    alloc: Global,
+    row: &&str,
+    engine: &str,
+    ending: Ending,
+) -> Result<(), Fail> {
+    let fields = pieces(rt, alloc, row, b'|')?;
+    let [words, input, wanted] = fields.as_slice() else {
+        return Err(Fail::new("a row has three fields"));
+    };
+    let words = with_engine(alloc, &pieces(rt, alloc, words, b' ')?, engine)?;
+    let (ended, writer) = run_over(alloc, &words, &lines_of(alloc, input)?);
+    same_by(rt, ended, ending, row);
+    same_by(rt, writer.bytes(), lines_of(alloc, wanted)?.as_slice(), row);
+    Ok(())
+}
+
 #[test]
 fn lines_are_written(rt: HostRuntime) -> Result<(), Fail> {
     for &(ending, runs) in RUNS {
         for row in runs {
-            let fields = pieces(&rt, rt.alloc(), row, b'|')?;
-            assert!(rt; fields.len() == 3, "{row}");
-            let words = pieces(&rt, rt.alloc(), fields[0], b' ')?;
-            let input = lines_of(rt.alloc(), fields[1])?;
-            let wanted = lines_of(rt.alloc(), fields[2])?;
             for engine in ["noncontiguous", "contiguous", "dfa", "auto"] {
-                let words = with_engine(rt.alloc(), &words, engine)?;
-                let mut reader = Bytes::new(input.as_slice());
-                let mut writer = Written::new(rt.alloc());
-                let answer = run(rt.alloc(), &words, &mut reader, &mut writer);
-                assert_eq!(rt; answer, ending, "{row}");
-                assert_eq!(rt; writer.bytes(), wanted.as_slice(), "{row}");
+                compare_row(&rt, rt.alloc(), row, engine, ending)?;
             }
         }
     }
@@ -97,11 +115,7 @@ fn endings_have_a_status_and_a_line(rt: HostRuntime) {
     assert_eq!(rt; status(&Ok(Outcome::Found)), 0);
     assert_eq!(rt; status(&Ok(Outcome::Nothing)), 1);
     for (fault, line) in FAULTS {
-        assert_eq!(rt; status(&Err(*fault)), 2, "{fault:?}");
-        assert_eq!(rt;
-            fault.line().strip_prefix("acs: "),
-            Some(*line),
-            "{fault:?}"
-        );
+        same_by(&rt, status(&Err(*fault)), 2, fault);
+        same_by(&rt, fault.line().strip_prefix("acs: "), Some(*line), fault);
     }
 }

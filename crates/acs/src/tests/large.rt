@@ -1,8 +1,13 @@
 //! Searchers past sizes at which a body might answer otherwise, or report want of memory that wasn't refused.
+ghost use Rattle.std.specs.Iterator.{IsFinite};
+
+use super::same_by;
+use ac_search::MatchKind::{LeftmostFirst, LeftmostLongest, Standard};
 use ac_search::{
-    AhoCorasick, AhoCorasickBuilder, AhoCorasickKind, Anchored, Input, MatchKind, StartKind,
+    AhoCorasick, AhoCorasickBuilder, AhoCorasickKind, Anchored, Input, Match, MatchKind, StartKind,
 };
 use std::alloc::{AllocError, Global};
+use std::process::Abort;
 use std::test::Fail;
 
 /// How many words there are, each of which has states of its own: more than 10,000, and than 100,000 states.
@@ -17,13 +22,6 @@ const ENGINES: [Option<AhoCorasickKind>; 4] = [
     Some(AhoCorasickKind::NoncontiguousNFA),
     Some(AhoCorasickKind::ContiguousNFA),
     Some(AhoCorasickKind::DFA),
-];
-
-/// The match kinds.
-const MATCH_KINDS: [MatchKind; 3] = [
-    MatchKind::Standard,
-    MatchKind::LeftmostFirst,
-    MatchKind::LeftmostLongest,
 ];
 
 /// The start kinds, with an anchoring that each supports.
@@ -85,7 +83,7 @@ fn many_states(rt: HostRuntime) -> Result<(), Fail> {
     let last = words.last().map_or("", |word| word.as_str());
     let haystack = many(rt.alloc(), b'x', last)?;
     assert!(rt; LONG <= haystack.len());
-    for kind in MATCH_KINDS {
+    for kind in [Standard, LeftmostFirst, LeftmostLongest] {
         for engine in ENGINES {
             for (start_kind, anchored) in STARTS {
                 let builder = builder_by(kind, engine, start_kind);
@@ -99,27 +97,47 @@ fn many_states(rt: HostRuntime) -> Result<(), Fail> {
     Ok(())
 }
 
-/// Each engine over more than a million matches, listed and exchanged, by each kind and with each start.
+/// Returns how many items an iterator gives.
+fn len_of<I: Iterator<Item = Match>>(items: I) -> usize
+    requires can { I.can_next items }
+    requires finite { IsFinite (I.remaining items) }
+{
+    let mut len = 0usize;
+    for _ in items {
+        len = len.saturating_add(1);
+    }
+    len
+}
+
+/// Compares how many matches a walk has, each of which is a byte, and how long all is with each exchanged for two bytes.
+fn compare_many(
+    rt: &impl Abort,
+    alloc: Global,
+    searcher: &AhoCorasick,
+    input: Input<'_>,
+) -> Result<(), Fail> {
+    let len = len_of(searcher.try_find_iter(input)?);
+    same_by(rt, len, LONG, &searcher.kind());
+    if input.get_anchored().is_anchored() {
+        return Ok(());
+    }
+    assert!(rt; searcher.patterns_len() == 1);
+    let replaced = searcher.try_replace_all_bytes(alloc, input.haystack(), &[b"bc"])?;
+    same_by(rt, replaced.len(), 2 * LONG, &searcher.kind());
+    Ok(())
+}
+
+/// Each engine over more than a million matches, exchanged too, by each kind and with each start.
 #[test]
 fn many_matches(rt: HostRuntime) -> Result<(), Fail> {
     let haystack = many(rt.alloc(), b'a', "")?;
-    for kind in MATCH_KINDS {
+    for kind in [Standard, LeftmostFirst, LeftmostLongest] {
         for engine in ENGINES {
             for (start_kind, anchored) in STARTS {
                 let builder = builder_by(kind, engine, start_kind);
                 let searcher = builder.build(rt.alloc(), &[b"a"])?;
                 let input = Input::new(&haystack).anchored(anchored);
-                let mut count = 0usize;
-                for _ in searcher.try_find_iter(input)? {
-                    count = count.saturating_add(1);
-                }
-                assert_eq!(rt; count, LONG, "{builder:?}");
-                if anchored.is_anchored() {
-                    continue;
-                }
-                assert!(rt; searcher.patterns_len() == 1);
-                let replaced = searcher.try_replace_all_bytes(rt.alloc(), &haystack, &[b"bc"])?;
-                assert_eq!(rt; replaced.len(), 2 * LONG, "{builder:?}");
+                compare_many(&rt, rt.alloc(), &searcher, input)?;
             }
         }
     }
@@ -131,13 +149,10 @@ fn many_matches(rt: HostRuntime) -> Result<(), Fail> {
 fn many_items(rt: HostRuntime) -> Result<(), Fail> {
     let haystack = many(rt.alloc(), b'a', "")?;
     for engine in ENGINES {
-        let builder = builder_by(MatchKind::Standard, engine, StartKind::Both);
+        let builder = builder_by(Standard, engine, StartKind::Both);
         let searcher = builder.build(rt.alloc(), &[b"a", b"aa"])?;
-        let mut count = 0usize;
-        for _ in searcher.try_find_overlapping_iter(Input::new(&haystack))? {
-            count = count.saturating_add(1);
-        }
-        assert_eq!(rt; count, 2 * LONG - 1, "{builder:?}");
+        let items = searcher.try_find_overlapping_iter(Input::new(&haystack))?;
+        same_by(&rt, len_of(items), 2 * LONG - 1, &engine);
     }
     Ok(())
 }

@@ -1,6 +1,6 @@
 //! Runs over a large input and many words.
-use crate::run::{Outcome, run};
-use ac_search::{Bytes, Written};
+use super::run_over;
+use crate::run::Outcome;
 use std::alloc::{AllocError, Global};
 use std::test::Fail;
 
@@ -27,11 +27,7 @@ fn words_of<'w>(
     more: &'w [String],
 ) -> Result<Vec<&'w str>, AllocError> {
     let mut words = Vec::new(alloc);
-    words.push(mode)?;
-    words.push(kind)?;
-    words.push(engine)?;
-    words.push("a")?;
-    words.push("b")?;
+    words.extend_from_slice(&[mode, kind, engine, "a", "b"])?;
     for word in more {
         words.push(word.as_str())?;
     }
@@ -48,11 +44,9 @@ fn run_large(rt: HostRuntime, mode: &str, input: &[u8], wanted: &[u8]) -> Result
                 continue;
             }
             let words = words_of(rt.alloc(), mode, kind, engine, &more)?;
-            let mut reader = Bytes::new(input);
-            let mut writer = Written::new(rt.alloc());
-            let answer = run(rt.alloc(), &words, &mut reader, &mut writer);
-            if answer != Ok(Outcome::Found) || writer.bytes() != wanted {
-                return Err(Fail::new(format_args!("{mode} {kind} {engine}: {answer:?}")));
+            let (ending, writer) = run_over(rt.alloc(), &words, input);
+            if ending != Ok(Outcome::Found) || writer.bytes() != wanted {
+                return Err(Fail::new(format_args!("{mode} {kind} {engine}: {ending:?}")));
             }
         }
     }

@@ -1,8 +1,10 @@
 //! Readers that fail or pause, and modes that are refused before a read.
 use super::devices::{Drops, Pauses};
+use super::rows::Ending;
 use super::{INPUT, LINES, STREAMED, WORDS, WRITTEN};
 use crate::fault::Fault;
 use crate::run::{Outcome, run, status};
+use crate::tests::same_by;
 use ac_search::{FromRead, Written};
 use std::alloc::Global;
 use std::test::Fail;
@@ -19,21 +21,34 @@ const SO_FAR: &[(&[u8], &[u8])] = &[
     (LINES, b"-+x-"),
 ];
 
-/// Runs on a reader that gives these bytes and then fails, and returns the answer and what was written.
-fn run_on(alloc: Global, words: &[&str], left: &[u8]) -> (Result<Outcome, Fault>, Written<Global>) {
+/// Runs on a reader that gives these bytes and then fails, and returns how the run ends and what was written.
+fn run_on(alloc: Global, words: &[&str], left: &[u8]) -> (Ending, Written<Global>) {
     let mut reader = FromRead::new(Drops { left, fails: true });
     let mut writer = Written::new(alloc);
-    let answer = run(alloc, words, &mut reader, &mut writer);
-    (answer, writer)
+    let ending = run(alloc, words, &mut reader, &mut writer);
+    (ending, writer)
+}
+
+/// Runs on a reader that pauses after so many bytes, and returns the same; what wasn't read is left.
+fn run_paused(
+    alloc: Global,
+    words: &[&str],
+    left: &mut Vec<u8>,
+    until: usize,
+) -> (Ending, Written<Global>) {
+    let mut reader = FromRead::new(Pauses { left, until });
+    let mut writer = Written::new(alloc);
+    let ending = run(alloc, words, &mut reader, &mut writer);
+    (ending, writer)
 }
 
 #[test]
 fn a_failed_read_is_reported(rt: HostRuntime) -> Result<(), Fail> {
     for &(words, _) in WRITTEN {
         for k in 0..INPUT.len() + 1 {
-            let (answer, writer) = run_on(rt.alloc(), words, &INPUT[..k]);
-            assert_eq!(rt; answer, Err(Fault::Io), "beyond {k} bytes");
-            assert!(rt; writer.bytes().is_empty(), "beyond {k} bytes");
+            let (ending, writer) = run_on(rt.alloc(), words, &INPUT[..k]);
+            same_by(&rt, ending, Err(Fault::Io), &k);
+            same_by(&rt, writer.bytes(), b"", &k);
         }
     }
     Ok(())
@@ -44,9 +59,9 @@ fn a_failed_read_is_reported(rt: HostRuntime) -> Result<(), Fail> {
 fn a_failed_read_leaves_what_is_settled(rt: HostRuntime) -> Result<(), Fail> {
     for (k, &(lines, replaced)) in SO_FAR.iter().enumerate() {
         for (&(words, _), so_far) in STREAMED.iter().zip([lines, replaced]) {
-            let (answer, writer) = run_on(rt.alloc(), words, &INPUT[..k]);
-            assert_eq!(rt; answer, Err(Fault::Io), "beyond {k} bytes");
-            assert_eq!(rt; writer.bytes(), so_far, "beyond {k} bytes");
+            let (ending, writer) = run_on(rt.alloc(), words, &INPUT[..k]);
+            same_by(&rt, ending, Err(Fault::Io), &k);
+            same_by(&rt, writer.bytes(), so_far, &k);
         }
     }
     Ok(())
@@ -58,9 +73,9 @@ fn a_failed_read_holds_back_what_may_match(rt: HostRuntime) -> Result<(), Fail> 
     let words = [
         "sreplace", "std", "auto", "fox", "sloth", "brown", "grey", "quick", "slow",
     ];
-    let (answer, writer) = run_on(rt.alloc(), &words, b"The quick br");
-    assert_eq!(rt; answer, Err(Fault::Io));
-    assert_eq!(rt; writer.bytes(), b"The slow".as_slice());
+    let (ending, writer) = run_on(rt.alloc(), &words, b"The quick br");
+    same_by(&rt, ending, Err(Fault::Io), &words);
+    same_by(&rt, writer.bytes(), b"The slow", &words);
     Ok(())
 }
 
@@ -68,16 +83,10 @@ fn a_failed_read_holds_back_what_may_match(rt: HostRuntime) -> Result<(), Fail> 
 fn a_read_of_nothing_is_the_end(rt: HostRuntime) -> Result<(), Fail> {
     let mut left = Vec::new(rt.alloc());
     left.extend_from_slice(INPUT)?;
-    let mut reader = FromRead::new(Pauses {
-        left: &mut left,
-        until: 3,
-    });
-    let mut writer = Written::new(rt.alloc());
-    let answer = run(rt.alloc(), WORDS, &mut reader, &mut writer);
-    drop(reader);
-    assert_eq!(rt; answer, Ok(Outcome::Found));
-    assert_eq!(rt; writer.bytes(), b"0 0 2\n1 2 3\n".as_slice());
-    assert_eq!(rt; left.as_slice(), b"xab".as_slice());
+    let (ending, writer) = run_paused(rt.alloc(), WORDS, &mut left, 3);
+    same_by(&rt, ending, Ok(Outcome::Found), &WORDS);
+    same_by(&rt, writer.bytes(), b"0 0 2\n1 2 3\n", &WORDS);
+    same_by(&rt, left.as_slice(), b"xab", &WORDS);
     Ok(())
 }
 
@@ -96,17 +105,11 @@ fn a_refused_mode_reads_and_writes_nothing(rt: HostRuntime) -> Result<(), Fail> 
     for &(words, fault) in REFUSED {
         let mut left = Vec::new(rt.alloc());
         left.extend_from_slice(INPUT)?;
-        let mut reader = FromRead::new(Pauses {
-            left: &mut left,
-            until: usize::MAX,
-        });
-        let mut writer = Written::new(rt.alloc());
-        let answer = run(rt.alloc(), words, &mut reader, &mut writer);
-        drop(reader);
-        assert_eq!(rt; answer, Err(fault), "{words:?}");
-        assert_eq!(rt; status(&answer), 2, "{words:?}");
-        assert!(rt; writer.bytes().is_empty(), "{words:?}");
-        assert_eq!(rt; left.as_slice(), INPUT, "{words:?}");
+        let (ending, writer) = run_paused(rt.alloc(), words, &mut left, usize::MAX);
+        same_by(&rt, status(&ending), 2, &words);
+        same_by(&rt, ending, Err(fault), &words);
+        same_by(&rt, writer.bytes(), b"", &words);
+        same_by(&rt, left.as_slice(), INPUT, &words);
     }
     Ok(())
 }

@@ -2,6 +2,7 @@
 use super::devices::Narrow;
 use super::{INPUT, LINES, WORDS};
 use crate::run::{run_and_report, run_on_arguments};
+use crate::tests::same_by;
 use ac_search::{Bytes, IntoWrite, Written};
 use std::alloc::{AllocError, Global};
 use std::test::Fail;
@@ -39,9 +40,9 @@ fn faults_are_reported_beside_the_lines(rt: HostRuntime) -> Result<(), Fail> {
         let mut writer = Written::new(rt.alloc());
         let mut errors = Written::new(rt.alloc());
         let status = run_and_report(rt.alloc(), words, &mut reader, &mut writer, &mut errors);
-        assert_eq!(rt; status, number);
-        assert_eq!(rt; writer.bytes(), wanted);
-        assert_eq!(rt; errors.bytes(), line);
+        same_by(&rt, status, number, &words);
+        same_by(&rt, writer.bytes(), wanted, &words);
+        same_by(&rt, errors.bytes(), line, &words);
     }
     Ok(())
 }
@@ -81,9 +82,9 @@ fn words_are_taken_as_they_are_given(rt: HostRuntime) -> Result<(), Fail> {
         let mut writer = Written::new(rt.alloc());
         let mut errors = Written::new(rt.alloc());
         let status = run_on_arguments(rt.alloc(), arguments, &mut reader, &mut writer, &mut errors);
-        assert_eq!(rt; status, Ok(number));
-        assert_eq!(rt; writer.bytes(), wanted);
-        assert_eq!(rt; errors.bytes(), line);
+        same_by(&rt, status, Ok(number), &words);
+        same_by(&rt, writer.bytes(), wanted, &words);
+        same_by(&rt, errors.bytes(), line, &words);
     }
     Ok(())
 }
@@ -102,8 +103,8 @@ fn a_fault_that_cannot_be_reported_has_its_status(rt: HostRuntime) -> Result<(),
     let words = ["walk", "best", "auto", "ab"];
     let status = run_and_report(rt.alloc(), &words, &mut reader, &mut writer, &mut errors);
     drop(errors);
-    assert_eq!(rt; status, 2);
-    assert!(rt; writer.bytes().is_empty());
-    assert_eq!(rt; held.as_slice(), b"acs: ".as_slice());
+    same_by(&rt, status, 2, &words);
+    same_by(&rt, writer.bytes(), b"", &words);
+    same_by(&rt, held.as_slice(), b"acs: ", &words);
     Ok(())
 }

@@ -1,10 +1,23 @@
 //! Writers that fail or take little.
 use super::devices::{Drops, Narrow};
+use super::rows::Ending;
 use super::{INPUT, STREAMED, WRITTEN};
 use crate::fault::Fault;
 use crate::run::{Outcome, run};
-use ac_search::{Bytes, FromRead, IntoWrite};
+use crate::tests::same_by;
+use ac_search::{Bytes, FromRead, IntoWrite, Source};
+use std::alloc::Global;
 use std::test::Fail;
+
+/// Runs into a writer that takes one byte a call.
+fn run_into<R: Source>(
+    alloc: Global,
+    words: &[&str],
+    reader: &mut R,
+    narrow: Narrow<'_>,
+) -> Ending {
+    run(alloc, words, reader, &mut IntoWrite::new(narrow))
+}
 
 #[test]
 fn a_failed_write_is_reported(rt: HostRuntime) -> Result<(), Fail> {
@@ -12,16 +25,14 @@ fn a_failed_write_is_reported(rt: HostRuntime) -> Result<(), Fail> {
         for room in 0..wanted.len() {
             for (fails, fault) in [(true, Fault::Io), (false, Fault::WriteZero)] {
                 let mut held = Vec::new(rt.alloc());
-                let mut reader = Bytes::new(INPUT);
-                let mut writer = IntoWrite::new(Narrow {
+                let narrow = Narrow {
                     held: &mut held,
                     room,
                     fails,
-                });
-                let answer = run(rt.alloc(), words, &mut reader, &mut writer);
-                drop(writer);
-                assert_eq!(rt; answer, Err(fault), "beyond {room} bytes");
-                assert_eq!(rt; held.as_slice(), &wanted[..room], "beyond {room} bytes");
+                };
+                let ending = run_into(rt.alloc(), words, &mut Bytes::new(INPUT), narrow);
+                same_by(&rt, ending, Err(fault), &room);
+                same_by(&rt, held.as_slice(), &wanted[..room], &room);
             }
         }
     }
@@ -36,15 +47,14 @@ fn short_reads_and_writes_change_nothing(rt: HostRuntime) -> Result<(), Fail> {
             left: INPUT,
             fails: false,
         });
-        let mut writer = IntoWrite::new(Narrow {
+        let narrow = Narrow {
             held: &mut held,
             room: wanted.len(),
             fails: true,
-        });
-        let answer = run(rt.alloc(), words, &mut reader, &mut writer);
-        drop(writer);
-        assert_eq!(rt; answer, Ok(Outcome::Found));
-        assert_eq!(rt; held.as_slice(), wanted);
+        };
+        let ending = run_into(rt.alloc(), words, &mut reader, narrow);
+        same_by(&rt, ending, Ok(Outcome::Found), &words);
+        same_by(&rt, held.as_slice(), wanted, &words);
     }
     Ok(())
 }
@@ -53,16 +63,15 @@ fn short_reads_and_writes_change_nothing(rt: HostRuntime) -> Result<(), Fail> {
 #[test]
 fn an_empty_text_is_written_by_no_call(rt: HostRuntime) -> Result<(), Fail> {
     let mut held = Vec::new(rt.alloc());
-    let mut reader = Bytes::new(b"abab".as_slice());
-    let mut writer = IntoWrite::new(Narrow {
+    let narrow = Narrow {
         held: &mut held,
         room: 0,
         fails: true,
-    });
+    };
+    let mut reader = Bytes::new(b"abab".as_slice());
     let words = ["replace", "std", "noncontiguous", "ab", ""];
-    let answer = run(rt.alloc(), &words, &mut reader, &mut writer);
-    drop(writer);
-    assert_eq!(rt; answer, Ok(Outcome::Found));
+    let ending = run_into(rt.alloc(), &words, &mut reader, narrow);
+    same_by(&rt, ending, Ok(Outcome::Found), &words);
     assert!(rt; held.is_empty());
     Ok(())
 }

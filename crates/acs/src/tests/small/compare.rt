@@ -1,4 +1,6 @@
 //! Comparing what a searcher answers with what the plain search does.
+ghost use Rattle.std.specs.Iterator.{IsFinite};
+
 use super::TEXTS;
 use super::haystacks::Part;
 use super::plain::{List, Plain, Wanted};
@@ -14,35 +16,43 @@ fn is_moved(found: &Match, from: &Match, by: usize) -> bool {
         && found.end() == from.end().saturating_add(by)
 }
 
+/// Returns whether the items are these further on, and no others.
+fn are_moved<I: Iterator<Item = Match>>(items: I, wanted: &[Match], by: usize) -> bool
+    requires can { I.can_next items }
+    requires finite { IsFinite (I.remaining items) }
+{
+    let mut left = wanted.iter();
+    for found in items {
+        match left.next() {
+            Some(next) if is_moved(&found, next, by) => {}
+            _ => return false,
+        }
+    }
+    left.next().is_none()
+}
+
+/// Returns whether the find of an input is the first of these, counted from the beginning of its span.
+fn finds(searcher: &AhoCorasick, input: Input<'_>, wanted: &[Match]) -> Result<bool, Fail> {
+    Ok(match (searcher.try_find(input)?, wanted.first()) {
+        (Some(found), Some(first)) => is_moved(&found, first, input.start()),
+        (None, None) => true,
+        _ => false,
+    })
+}
+
 /// Returns whether the walk of an input is this one, counted from the beginning of its span, and its find the first match
 /// of it.
 fn walks(searcher: &AhoCorasick, input: Input<'_>, wanted: &[Match]) -> Result<bool, Fail> {
-    let by = input.start();
-    let same = match (searcher.try_find(input)?, wanted.first()) {
-        (Some(found), Some(first)) => is_moved(&found, first, by),
-        (None, None) => true,
-        _ => false,
-    };
-    let mut left = wanted.iter();
-    for found in searcher.try_find_iter(input)? {
-        match left.next() {
-            Some(next) if is_moved(&found, next, by) => {}
-            _ => return Ok(false),
-        }
-    }
-    Ok(same && left.next().is_none())
+    Ok(
+        finds(searcher, input, wanted)?
+            && are_moved(searcher.try_find_iter(input)?, wanted, input.start()),
+    )
 }
 
 /// Returns whether the iterator over the listing of an input gives these items.
 fn lists(searcher: &AhoCorasick, input: Input<'_>, wanted: &[Match]) -> Result<bool, Fail> {
-    let mut left = wanted.iter();
-    for found in searcher.try_find_overlapping_iter(input)? {
-        match left.next() {
-            Some(next) if is_moved(&found, next, input.start()) => {}
-            _ => return Ok(false),
-        }
-    }
-    Ok(left.next().is_none())
+    let items = searcher.try_find_overlapping_iter(input)?;
+    Ok(are_moved(items, wanted, input.start()))
 }
 
 /// Returns whether an overlapping search by a state gives these items, and then none, and none again.

@@ -1,4 +1,5 @@
 //! The words over two letters, the haystacks among them, and the spans of these.
+use super::super::same_by;
 use std::alloc::{AllocError, Global};
 use std::test::Fail;
 
@@ -74,11 +75,16 @@ pub(super) fn haystacks_over(alloc: Global, letters: [u8; 2]) -> Result<Haystack
 #[test]
 fn words_are_all_there(rt: HostRuntime) -> Result<(), Fail> {
     let shortest: [&[u8]; 7] = [b"", b"a", b"b", b"aa", b"ba", b"ab", b"bb"];
-    let found = words(rt.alloc(), *b"ab", 7)?;
-    assert!(rt; found.len() == 7);
-    for (word, wanted) in found.iter().zip(shortest) {
-        assert!(rt; word.as_slice() == wanted);
+    for (number, wanted) in shortest.iter().enumerate() {
+        same_by(
+            &rt,
+            word(rt.alloc(), *b"ab", number)?.as_slice(),
+            *wanted,
+            &number,
+        );
     }
-    assert!(rt; haystacks_over(rt.alloc(), *b"ab")?.parts.len() == 3584);
+    let haystacks = haystacks_over(rt.alloc(), *b"ab")?;
+    same_by(&rt, haystacks.words.len(), HAYSTACKS, &"words");
+    same_by(&rt, haystacks.parts.len(), 3584, &"parts");
     Ok(())
 }

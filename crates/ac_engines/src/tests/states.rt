@@ -2,15 +2,18 @@
 ghost use Rattle.std.specs.Prelude.{IfOk};
 ghost use Rattle.ac_automaton.specs.Automata.{IsState};
 
-use super::alone::PRONOUNS;
-use super::same;
-use crate::Anchored::{No, Yes};
+use super::{PRONOUNS, same};
+use crate::dfa;
+use crate::nfa::contiguous;
 use crate::nfa::contiguous::{Format, check_words, format_of, state_words};
-use crate::nfa::noncontiguous::FIRST_INNER;
-use crate::nfa::{contiguous, noncontiguous};
-use crate::{
-    Anchored, Automaton, BuildError, Looks, MatchError, PatternID, StartKind, StateID, dfa,
-};
+use ac_automaton::automaton::Automaton;
+use ac_automaton::nfa::noncontiguous;
+use ac_automaton::nfa::noncontiguous::FIRST_INNER;
+use ac_util::error::{BuildError, MatchError};
+use ac_util::looks::Looks;
+use ac_util::primitives::{PatternID, StateID};
+use ac_util::search::Anchored::{No, Yes};
+use ac_util::search::{Anchored, StartKind};
 use std::test::Fail;
 
 /// Returns the state in which an automaton stands after three bytes.
@@ -57,10 +60,10 @@ fn each_engine_has_the_same_states(rt: HostRuntime) -> Result<(), Fail> {
     compare_states(&noncontiguous::NFA::new(rt.alloc(), &PRONOUNS)?)?;
     compare_states(&contiguous::NFA::new(rt.alloc(), &PRONOUNS)?)?;
     let mut builder = dfa::Builder::new();
-    let table = builder
+    let dfa = builder
         .start_kind(StartKind::Both)
         .build(rt.alloc(), &PRONOUNS)?;
-    compare_states(&table)
+    compare_states(&dfa)
 }
 
 /// Both patterns begin at the start, and what is after one byte fails to it.

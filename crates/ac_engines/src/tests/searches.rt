@@ -1,17 +1,17 @@
-//! The engines by themselves, without a searcher.
-use super::{Triple, same, triple_of, triples_of};
-use crate::Anchored::{No, Yes};
-use crate::MatchKind::{LeftmostFirst, LeftmostLongest, Standard};
-use crate::nfa::{contiguous, noncontiguous};
-use crate::{
-    Automaton, BuildError, Finder, Input, Match, MatchError, MatchKind, OverlappingState,
-    PatternID, Span, StartKind, dfa, find_core, open,
-};
+//! What the engines find.
+use super::{PRONOUNS, Triple, same, triple_of, triples_of};
+use crate::dfa;
+use crate::nfa::contiguous;
+use ac_automaton::automaton::{Automaton, Finder, OverlappingState, find_core};
+use ac_automaton::nfa::noncontiguous;
+use ac_util::error::{BuildError, MatchError};
+use ac_util::looks::open;
+use ac_util::primitives::PatternID;
+use ac_util::search::Anchored::{No, Yes};
+use ac_util::search::MatchKind::{LeftmostFirst, LeftmostLongest, Standard};
+use ac_util::search::{Input, Match, MatchKind, Span, StartKind};
 use std::alloc::Global;
 use std::test::Fail;
-
-/// The patterns of most tests.
-pub(super) const PRONOUNS: [&[u8]; 4] = [b"he", b"she", b"his", b"hers"];
 
 /// What an automaton over the pronouns lists in `ushers`.
 const LISTED: [Triple; 3] = [(1, 1, 4), (0, 2, 4), (3, 2, 6)];
@@ -135,7 +135,7 @@ fn compare<A: Automaton>(alloc: Global, automaton: &A) -> Result<(), Fail> {
 }
 
 #[test]
-fn tries_answer_alone(rt: HostRuntime) -> Result<(), Fail> {
+fn noncontiguous_nfas_answer(rt: HostRuntime) -> Result<(), Fail> {
     let mut builder = noncontiguous::Builder::new();
     builder.dense_depth(7).prefilter(false);
     compare(rt.alloc(), &builder.build(rt.alloc(), &PRONOUNS)?)?;
@@ -146,7 +146,7 @@ fn tries_answer_alone(rt: HostRuntime) -> Result<(), Fail> {
 }
 
 #[test]
-fn packed_words_answer_alone(rt: HostRuntime) -> Result<(), Fail> {
+fn contiguous_nfas_answer(rt: HostRuntime) -> Result<(), Fail> {
     let mut builder = contiguous::Builder::new();
     builder.dense_depth(0).byte_classes(false).prefilter(false);
     compare(rt.alloc(), &builder.build(rt.alloc(), &PRONOUNS)?)?;
@@ -157,7 +157,7 @@ fn packed_words_answer_alone(rt: HostRuntime) -> Result<(), Fail> {
 }
 
 #[test]
-fn tables_answer_alone(rt: HostRuntime) -> Result<(), Fail> {
+fn dfas_answer(rt: HostRuntime) -> Result<(), Fail> {
     let mut builder = dfa::Builder::new();
     builder
         .start_kind(StartKind::Both)
@@ -200,7 +200,10 @@ fn trie_of(
 }
 
 /// Returns the contiguous NFA of a trie, whose kind and case count, and not the builder's.
-fn packed_of(alloc: Global, trie: &noncontiguous::NFA) -> Result<contiguous::NFA, BuildError> {
+fn contiguous_over(
+    alloc: Global,
+    trie: &noncontiguous::NFA,
+) -> Result<contiguous::NFA, BuildError> {
     let mut builder = contiguous::Builder::new();
     builder
         .match_kind(LeftmostLongest)
@@ -209,7 +212,7 @@ fn packed_of(alloc: Global, trie: &noncontiguous::NFA) -> Result<contiguous::NFA
 }
 
 /// Returns the DFA of a trie, whose kind and case count, and not the builder's.
-fn table_of(alloc: Global, trie: &noncontiguous::NFA) -> Result<dfa::DFA, BuildError> {
+fn dfa_over(alloc: Global, trie: &noncontiguous::NFA) -> Result<dfa::DFA, BuildError> {
     let mut builder = dfa::Builder::new();
     builder
         .match_kind(LeftmostLongest)
@@ -227,39 +230,39 @@ fn compare_clone<A: Automaton + Clone>(
 }
 
 #[test]
-fn clones_walk_alone(rt: HostRuntime) -> Result<(), Fail> {
+fn clones_walk(rt: HostRuntime) -> Result<(), Fail> {
     let alloc = rt.alloc();
     for (kind, wanted) in WALKS {
         let trie = trie_of(alloc, kind, false, &[b"append", b"appendage", b"app"])?;
         compare_clone(alloc, &trie, wanted)?;
-        compare_clone(alloc, &packed_of(alloc, &trie)?, wanted)?;
-        compare_clone(alloc, &table_of(alloc, &trie)?, wanted)?;
+        compare_clone(alloc, &contiguous_over(alloc, &trie)?, wanted)?;
+        compare_clone(alloc, &dfa_over(alloc, &trie)?, wanted)?;
     }
     Ok(())
 }
 
-/// A table without the start that is asked for refuses, even where the span starts past its end.
+/// A DFA without the start that is asked for refuses, even where the span starts past its end.
 #[test]
-fn a_table_refuses_before_it_looks_at_the_span(rt: HostRuntime) -> Result<(), Fail> {
-    let table = dfa::DFA::new(rt.alloc(), &[b"abc"])?;
+fn a_dfa_refuses_before_it_looks_at_the_span(rt: HostRuntime) -> Result<(), Fail> {
+    let dfa = dfa::DFA::new(rt.alloc(), &[b"abc"])?;
     let input = Input::new(b"abc").range(4..3).anchored(Yes);
     same(
         &rt,
-        table.try_find(input),
+        dfa.try_find(input),
         Err(MatchError::InvalidInputAnchored),
     );
-    same(&rt, table.try_find(input.anchored(No)), Ok(None));
+    same(&rt, dfa.try_find(input.anchored(No)), Ok(None));
     Ok(())
 }
 
 #[test]
-fn a_table_has_both_starts(rt: HostRuntime) -> Result<(), Fail> {
+fn a_dfa_has_both_starts(rt: HostRuntime) -> Result<(), Fail> {
     let mut builder = dfa::Builder::new();
     builder.start_kind(StartKind::Both);
-    let table = builder.build(rt.alloc(), &[b"abc", b"bd"])?;
-    let found = table.try_find(Input::new(b"abd"))?.as_ref().map(triple_of);
+    let dfa = builder.build(rt.alloc(), &[b"abc", b"bd"])?;
+    let found = dfa.try_find(Input::new(b"abd"))?.as_ref().map(triple_of);
     same(&rt, found, Some((1, 1, 3)));
-    let found = table.try_find(Input::new(b"abd").anchored(Yes))?;
+    let found = dfa.try_find(Input::new(b"abd").anchored(Yes))?;
     same(&rt, found, None);
     Ok(())
 }
@@ -276,7 +279,7 @@ fn a_trie_gives_its_kind_and_case(rt: HostRuntime) -> Result<(), Fail> {
     let alloc = rt.alloc();
     let trie = trie_of(alloc, LeftmostFirst, true, &[b"b", b"ABC", b"abcd"])?;
     let wanted = (LeftmostFirst, Some((1, 0, 3)));
-    same(&rt, kind_and_find(&packed_of(alloc, &trie)?)?, wanted);
-    same(&rt, kind_and_find(&table_of(alloc, &trie)?)?, wanted);
+    same(&rt, kind_and_find(&contiguous_over(alloc, &trie)?)?, wanted);
+    same(&rt, kind_and_find(&dfa_over(alloc, &trie)?)?, wanted);
     Ok(())
 }
