@@ -149,8 +149,8 @@ module _ (g : TrieView) where
     pub there : s < length states
     pub named : slice_get g.nodes s ≡ Some u
 
--- where a search that is at its start goes on by a byte, as the entry of a root table says it; it is never the start
--- of anchored searches
+-- the entry of a root table for a byte: the state that an unanchored search at its start takes by it, which is never the
+-- start of anchored searches
 pub record IsRootEntry (transitions : List Transition) (states : List State) (b next : ℕ) : Type 0 where
   pub leads : (g : TrieView) (v : Node) → g.transitions ≡ transitions → HasState g states START v
       → slice_get g.nodes next ≡ Some (step g.kind g.patterns No v (plain_byte g.ignores_case b))
@@ -160,7 +160,7 @@ pub record IsRootEntry (transitions : List Transition) (states : List State) (b 
 -- a root table has an entry for each byte
 pub record IsRoot (transitions : List Transition) (states : List State) (root : List ℕ) : Type 0 where
   pub whole : length root ≡ 256
-  pub told : (b : ℕ) → b < 256 → IsRootEntry transitions states b (slice_index root b)
+  pub entries : (b : ℕ) → b < 256 → IsRootEntry transitions states b (slice_index root b)
 
 -- r is one of a node's matches, that after so many, and where the matches after it stand in the list of a state;
 -- or None where there are no more

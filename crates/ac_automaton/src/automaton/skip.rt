@@ -45,7 +45,7 @@ impl Credit {
         self.bytes >= CALL_WORTH
     }
 
-    /// Notes that a call has skipped so many bytes.
+    /// Charges for a call, and credits the bytes that it skipped.
     #[inline]
     pub(super) fn record_skip(&mut self, skipped: usize) {
         let left = self.bytes.saturating_sub(CALL_WORTH);

@@ -15,8 +15,8 @@ loop-byte-preserved g c =
     } in
     record {
       whole = search rules;
-      told = subst (λ root. (b : ℕ) → b < c.loop-byte.byte + 1
+      entries = subst (λ root. (b : ℕ) → b < c.loop-byte.byte + 1
           → IsRootEntry transitions states b (slice_index root b)) (sym c.in_ok-push.ensures.items)
           (entries-push transitions states c.loop-byte.root.items c.loop-byte.byte c.follow-next.result
-          c.loop-byte.invariant.whole c.loop-byte.invariant.told says);
+          c.loop-byte.invariant.whole c.loop-byte.invariant.entries says);
     }

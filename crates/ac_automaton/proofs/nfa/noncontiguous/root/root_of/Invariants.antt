@@ -6,5 +6,5 @@ use Rattle.ac_automaton.proofs.nfa.noncontiguous.root.root_of.Given as goal
 abbrev pub invariant-loop-byte : goal.invariant-loop-byte
 invariant-loop-byte g l = record {
   whole : length l.root.items ≡ l.byte;
-  told : (b : ℕ) → b < l.byte → IsRootEntry l.trie.transitions.now l.trie.states.now b (slice_index l.root.items b);
+  entries : (b : ℕ) → b < l.byte → IsRootEntry l.trie.transitions.now l.trie.states.now b (slice_index l.root.items b);
 }

@@ -129,8 +129,8 @@ module _ (c : After-look_in_root) where
   at_start : c.loop-states.at ≡ START
   at_start = sym c.as_usize.ensures.value ∙ c.if-as_usize-eq-START.true
 
-  told : IsRootEntry c.args.trie.transitions.now c.args.trie.states.now c.args.byte c.look_in_root.result
-  told = grind (arith, common_steps)
+  entry : IsRootEntry c.args.trie.transitions.now c.args.trie.states.now c.args.byte c.look_in_root.result
+  entry = grind (arith, common_steps)
 
   is_no : c.args.anchored ≡ No
   is_no = grind (arith, common_steps)
@@ -141,7 +141,7 @@ module _ (c : After-look_in_root) where
   at_root g u same h =
       ends-root g c.args.trie.states.now c.args.byte u c.args.looks.now c.args.trie.transitions.now same
       c.loop-states.looks c.look_in_root.new.looks c.look_in_root.ensures.counted c.loop-states.at c.look_in_root.result
-      c.args.anchored is_no at_start told (c.loop-states.invariant g u same h)
+      c.args.anchored is_no at_start entry (c.loop-states.invariant g u same h)
 
 pub returns-in-loop-states-clause-steps : goal.returns-in-loop-states-clause-steps
 returns-in-loop-states-clause-steps c = search (rules, at_root)
@@ -154,5 +154,5 @@ pub returns-in-loop-states-clause-unanchored : goal.returns-in-loop-states-claus
 returns-in-loop-states-clause-unanchored c = λ g u same h start.
     let d = (goal.at.returns-in-loop-states-clause-unanchored c).After-look_in_root in
     let o = c.loop-states.invariant g u same h in
-    (told d).inner g o.node same
+    (entry d).inner g o.node same
     (subst (λ (n : ℕ). HasState g c.args.trie.states.now n o.node) (at_start d) o.state) start
