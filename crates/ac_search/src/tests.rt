@@ -8,10 +8,9 @@ use crate::MatchKind::{LeftmostFirst, LeftmostLongest, Standard};
 use crate::StartKind::{Both, Unanchored};
 use crate::laws::{answers_cut_no_character, answers_lie_inside};
 use crate::{
-    AhoCorasick, AhoCorasickBuilder, AhoCorasickKind, Anchored, BuildError, Input, Match,
-    MatchError, MatchKind, StartKind,
+    AhoCorasick, AhoCorasickBuilder, AhoCorasickKind, Anchored, Input, Match, MatchError,
+    MatchKind, StartKind,
 };
-use engines::KINDS;
 use std::alloc::{AllocError, Global};
 use std::fmt::Debug;
 use std::process::Abort;
@@ -250,24 +249,5 @@ fn a_clone_answers_equally(rt: HostRuntime) -> Result<(), Fail> {
     let kinds = (AhoCorasickKind::ContiguousNFA, LeftmostLongest, Both);
     same(&rt, kinds_of(&clone), kinds);
     same(&rt, clone.patterns_len(), 3);
-    Ok(())
-}
-
-/// A builder whose build wanted memory builds again.
-#[test]
-fn a_build_succeeds_or_wants_memory(rt: HostRuntime) -> Result<(), Fail> {
-    for kind in KINDS {
-        let mut builder = AhoCorasickBuilder::new();
-        builder.kind(kind);
-        let searcher = match builder.build(rt.alloc(), &[b"he", b"she"]) {
-            Ok(searcher) => searcher,
-            Err(refused) => {
-                same_by(&rt, refused, BuildError::Memory, &kind);
-                builder.build(rt.alloc(), &[b"he", b"she"])?
-            }
-        };
-        let found = searcher.try_find(Input::new(b"ushers"))?;
-        same_by(&rt, found.as_ref().map(triple_of), Some((1, 1, 4)), &kind);
-    }
     Ok(())
 }

@@ -77,7 +77,7 @@ pub(crate) fn overlap<A: Allocator + Clone, R: Source, W: Sink>(
 ///
 /// # Errors
 /// As `find`, and `TooLong` where more bytes come than a `usize` counts; but before each read the lines of all matches so far
-/// were written that no byte to come can change. `StreamEmpty` where some pattern is empty: then nothing was read.
+/// that are settled were written. `StreamEmpty` where some pattern is empty: then nothing was read.
 pub(crate) fn stream<A: Allocator + Clone, R: Source, W: Sink>(
     alloc: A,
     searcher: &AhoCorasick<A>,

@@ -142,7 +142,7 @@ fn print_read<A: Allocator + Clone, B: Allocator, Z: Allocator, W: Sink>(
 }
 
 /// Writes a line for each match of a stream of which nothing was read yet. Before each read the lines of all matches so far
-/// were written that no byte to come can change.
+/// that are settled were written.
 ///
 /// # Errors
 /// `Io` where a read fails and `TooLong` where more bytes come than a `usize` counts: these lines were written then. Those of

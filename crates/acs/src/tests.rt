@@ -2,7 +2,9 @@
 //! large sizes.
 ghost use Rattle.std.specs.Prelude.{◌≡◌, length};
 
+mod edges;
 mod large;
+mod refused;
 mod small;
 mod streams;
 

@@ -21,9 +21,9 @@ use std::snapshot::Snapshot;
 
 /// A search over a stream, whose reader is handed to each call. `StreamFindIter` is one with a reader of its own.
 ///
-/// The matches are those of the walk over all bytes that the readers gave, however they cut them. A match is given as soon as no
-/// byte to come can change it. Under a leftmost kind some bytes after it may have been read by then: these are searched again,
-/// at most as many for each match as the longest pattern has.
+/// The matches are those of the walk over all bytes that the readers gave, however they cut them. A match is settled,
+/// and given, once no byte to come can change it; under a leftmost kind it may take one byte more to see that. Some bytes after
+/// the match may have been read by then: these are searched again, at most as many for each match as the longest pattern has.
 ///
 /// What was read stands in one buffer, which is made at first and never grows: it is read into as far as it has room, and the
 /// bytes that a match to come may need are moved to its front only when it is full. Contracts see all bytes that were read, and
@@ -156,7 +156,7 @@ impl<'a, A: Automaton, Z: Allocator> StreamFinder<'a, A, Z> {
     }
 
     /// Returns the next match of the bytes that were read, without reading more of them. `None` says that all their matches
-    /// were given that no byte to come can change.
+    /// that are settled were given.
     pub fn next_read(&mut self) -> Option<Match>
         ensures { GivesRead self.old result self.new }
     {
@@ -253,8 +253,8 @@ impl<'a, A: Automaton, Z: Allocator> StreamFinder<'a, A, Z> {
     /// and so it does after the end once all matches were given; the reader isn't asked again.
     ///
     /// # Errors
-    /// `Io` where a read failed, and `TooLong` where more bytes came than a `usize` counts. All matches of the bytes read before
-    /// were given then that no byte to come could change.
+    /// `Io` where a read failed, and `TooLong` where more bytes came than a `usize` counts. All matches of the bytes read
+    /// before that are settled were given then.
     pub fn next<R: Source>(&mut self, reader: &mut R) -> Option<Result<Match, StreamError>>
         ensures { StreamsOn R.empty_means_end self.old result self.new (R.told reader.old) (R.told reader.new) }
     {

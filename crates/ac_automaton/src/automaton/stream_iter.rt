@@ -16,7 +16,7 @@ use std::marker::Model;
 ///
 /// The matches are those of the walk over all bytes of the reader, however it cuts them; offsets count from 0 over the whole
 /// stream. Its first error is its last item: after an error, as after the end, it keeps giving `None`, and the reader isn't
-/// asked again. Before each read all matches of the bytes read so far were given that no byte to come can change.
+/// asked again. Before each read all matches of the bytes read so far that are settled were given.
 #[derive(Drop)]
 pub struct StreamFindIter<'a, A: Automaton, R: Source + Drop, Z: Allocator> {
     finder: StreamFinder<'a, A, Z>,
@@ -64,7 +64,7 @@ impl<'a, A: Automaton, R: Source + Drop, Z: Allocator> StreamFindIter<'a, A, R, 
     }
 
     /// Returns the next match of the bytes that were read, without reading more of them. `None` says that all their matches
-    /// were given that no byte to come can change.
+    /// that are settled were given.
     pub fn next_read(&mut self) -> Option<Match>
         ensures { ReadsItem self.old result self.new }
     {

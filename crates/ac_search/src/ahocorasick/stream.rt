@@ -21,8 +21,8 @@ impl<A: Allocator> AhoCorasick<A> {
     /// however it cuts them. Offsets count bytes from 0 over the whole stream, and a match goes from its start up to, but
     /// without, its end.
     ///
-    /// A match is given once no byte to come can change it: under `MatchKind::Standard` as soon as it is found, under a
-    /// leftmost kind once the bytes after it, or the end, settle it. Nothing is read before the first match is asked for. The
+    /// A match is settled, and given, once no byte to come can change it: under `MatchKind::Standard` when it is found, under a
+    /// leftmost kind by the bytes after it, at the latest by one byte more than it takes, or by the end. Nothing is read before the first match is asked for. The
     /// allocator makes one buffer, which never grows. The searcher has to support unanchored searches, and no pattern may be
     /// empty. This ports `AhoCorasick::stream_find_iter`, which takes `MatchKind::Standard` alone.
     ///
@@ -207,7 +207,7 @@ impl<'a, A: Allocator, Z: Allocator> StreamFinder<'a, A, Z> {
     ///
     /// # Errors
     /// `Io` where a read failed, and `TooLong` where more bytes came than a `usize` counts. All matches of the bytes read
-    /// before were given then that no byte to come could change.
+    /// before that are settled were given then.
     pub fn next<R: Source>(&mut self, reader: &mut R) -> Option<Result<Match, StreamError>>
         ensures { StreamsOn R.empty_means_end self.old result self.new (R.told reader.old) (R.told reader.new) }
     {
@@ -215,7 +215,7 @@ impl<'a, A: Allocator, Z: Allocator> StreamFinder<'a, A, Z> {
     }
 
     /// Returns the next match of the bytes that were read, without reading more of them. `None` says that all their matches
-    /// were given that no byte to come can change.
+    /// that are settled were given.
     pub fn next_read(&mut self) -> Option<Match>
         ensures { GivesRead self.old result self.new }
     {

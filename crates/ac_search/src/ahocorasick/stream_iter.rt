@@ -15,7 +15,7 @@ use std::marker::Model;
 /// The matches are those of the walk over all bytes of the reader, however it cuts them; offsets count bytes from 0 over the
 /// whole stream. An item is `Io` where a read failed, and `TooLong` where more bytes came than a `usize` counts. The first
 /// error is the last item: after an error, as after the end, it keeps giving `None`, and the reader isn't asked again.
-/// Before each read all matches of the bytes read so far were given that no byte to come can change.
+/// Before each read all matches of the bytes read so far that are settled were given.
 #[derive(Drop)]
 pub struct StreamFindIter<'a, R: Source + Drop, A: Allocator = Global, Z: Allocator = Global> {
     pub(super) finder: StreamFinder<'a, A, Z>,
@@ -32,7 +32,7 @@ impl<'a, R: Source + Drop, A: Allocator, Z: Allocator> Model for StreamFindIter<
 
 impl<'a, R: Source + Drop, A: Allocator, Z: Allocator> StreamFindIter<'a, R, A, Z> {
     /// Returns the next match of the bytes that were read, without reading more of them. `None` says that all their matches
-    /// were given that no byte to come can change.
+    /// that are settled were given.
     pub fn next_read(&mut self) -> Option<Match>
         ensures { ReadsItem self.old result self.new }
     {

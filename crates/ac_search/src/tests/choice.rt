@@ -1,4 +1,5 @@
 //! Which engine is chosen.
+use super::engines::EACH;
 use super::{same, same_by};
 use crate::AhoCorasickKind::{ContiguousNFA, DFA, NoncontiguousNFA};
 use crate::StartKind::{Both, Unanchored};
@@ -24,12 +25,14 @@ const CHOICES: [Choice; 9] = [
 fn an_engine_is_chosen(rt: HostRuntime) -> Result<(), Fail> {
     for (count, start_kind, named, wanted) in CHOICES {
         let patterns: Vec<&[u8]> = (0..count).map(|_| b"ab".as_slice()).collect(rt.alloc())?;
-        let mut builder = AhoCorasickBuilder::new();
-        builder.start_kind(start_kind).kind(named);
-        let searcher = builder.build(rt.alloc(), &patterns)?;
-        let chosen = (searcher.kind(), searcher.patterns_len());
-        same_by(&rt, chosen, (wanted, count), &(start_kind, named));
-        same(&rt, searcher.clone()?.kind(), wanted);
+        for &kind in EACH {
+            let mut builder = AhoCorasickBuilder::new();
+            builder.start_kind(start_kind).kind(named).match_kind(kind);
+            let searcher = builder.build(rt.alloc(), &patterns)?;
+            let chosen = (searcher.kind(), searcher.patterns_len());
+            same_by(&rt, chosen, (wanted, count), &(start_kind, named));
+            same(&rt, searcher.clone()?.kind(), wanted);
+        }
     }
     Ok(())
 }

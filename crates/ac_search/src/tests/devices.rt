@@ -13,6 +13,12 @@ use std::process::Abort;
 /// How many calls of a reader are good that never fails.
 pub(super) const ALWAYS: usize = 1_000_000;
 
+/// The kind of the errors by which a reader fails here.
+pub(super) const READ: ErrorKind = ErrorKind::BrokenPipe;
+
+/// The kind of those of a writer.
+pub(super) const WRITE: ErrorKind = ErrorKind::PermissionDenied;
+
 /// Gives so many bytes a call at most, and fails once so many calls were made.
 #[derive(Drop)]
 pub(super) struct Pieces<'a> {
@@ -54,7 +60,7 @@ impl<'a> Source for Pieces<'a> {
     fn read_some(&mut self, into: &mut [u8]) -> io::Result<usize> {
         if self.good == 0 {
             self.failed = Tally::after(&self.failed);
-            return Err(io::Error::from(ErrorKind::BrokenPipe));
+            return Err(io::Error::from(READ));
         }
         self.good -= 1;
         let left = self.left;
@@ -108,7 +114,7 @@ impl Sink for Few {
         let n = self.most.min(self.room).min(piece.len());
         if n == 0 && self.fails {
             self.failed = Tally::after(&self.failed);
-            return Err(io::Error::from(ErrorKind::BrokenPipe));
+            return Err(io::Error::from(WRITE));
         }
         if let Err(e) = self.text.extend_from_slice(&piece[..n]) {
             self.failed = Tally::after(&self.failed);
@@ -122,13 +128,13 @@ impl Sink for Few {
     }
 }
 
-/// How a replacement ended, without the details of an `io::Error`.
+/// How a replacement ended: of an `io::Error`, its kind.
 #[derive(Clone, Copy, PartialEq, Eq, Debug)]
 pub(super) enum End {
     Whole,
     Refused(MatchError),
     Memory,
-    Io,
+    Io(ErrorKind),
     WriteZero,
     TooLong,
 }
@@ -138,7 +144,7 @@ pub(super) fn end_of(ended: Result<(), StreamError>) -> End {
         Ok(()) => End::Whole,
         Err(StreamError::Match(refusal)) => End::Refused(refusal),
         Err(StreamError::Memory) => End::Memory,
-        Err(StreamError::Io(_)) => End::Io,
+        Err(StreamError::Io(e)) => End::Io(e.kind()),
         Err(StreamError::WriteZero) => End::WriteZero,
         Err(StreamError::TooLong) => End::TooLong,
     }

@@ -41,11 +41,14 @@ const CLASSES_AND_PREFILTERS: [(bool, bool); 4] = [
     (false, false),
 ];
 
-/// Returns each engine with each dense depth up to 6, with classes and without, and with a prefilter and without.
+/// The dense depths up to 6, one that a byte doesn't count, and the greatest.
+const DENSE_DEPTHS: [usize; 9] = [0, 1, 2, 3, 4, 5, 6, 300, usize::MAX];
+
+/// Returns each engine with each dense depth, with classes and without, and with a prefilter and without.
 pub(super) fn engines(alloc: Global) -> Result<Vec<Engine>, AllocError> {
     let mut engines = Vec::new(alloc);
     for kind in KINDS {
-        for dense_depth in 0..7 {
+        for dense_depth in DENSE_DEPTHS {
             for (byte_classes, prefilter) in CLASSES_AND_PREFILTERS {
                 engines.push(Engine {
                     kind,
@@ -143,12 +146,14 @@ fn each_engine_distinguishes_many_bytes(rt: HostRuntime) -> Result<(), Fail> {
     }
     for engine in &engines(rt.alloc())? {
         for count in [127, 128] {
-            let builder = builder_of(engine, Standard, Unanchored);
             let patterns: Vec<&[u8]> = haystack.chunks(2).take(count).collect(rt.alloc())?;
-            let searcher = builder.build(rt.alloc(), &patterns)?;
-            let walked = walk_of(rt.alloc(), &searcher, Input::new(&haystack))?;
-            same(&rt, walked.len(), count);
-            compare_pairs(&rt, &walked);
+            for &kind in EACH {
+                let builder = builder_of(engine, kind, Unanchored);
+                let searcher = builder.build(rt.alloc(), &patterns)?;
+                let walked = walk_of(rt.alloc(), &searcher, Input::new(&haystack))?;
+                same(&rt, walked.len(), count);
+                compare_pairs(&rt, &walked);
+            }
         }
     }
     Ok(())
@@ -293,9 +298,11 @@ fn each_engine_keeps_to_the_span(rt: HostRuntime) -> Result<(), Fail> {
 #[test]
 fn each_engine_reports_the_lengths_of_no_patterns(rt: HostRuntime) -> Result<(), Fail> {
     for engine in &engines(rt.alloc())? {
-        let builder = builder_of(engine, Standard, Unanchored);
-        let searcher = builder.build(rt.alloc(), &[])?;
-        same(&rt, lengths_of(&searcher), (usize::MAX, 0, 0));
+        for &kind in EACH {
+            let builder = builder_of(engine, kind, Unanchored);
+            let searcher = builder.build(rt.alloc(), &[])?;
+            same(&rt, lengths_of(&searcher), (usize::MAX, 0, 0));
+        }
     }
     Ok(())
 }

@@ -1,5 +1,5 @@
 //! Streams under the leftmost kinds: what is given, what is kept, and what is written where a reader fails.
-use super::devices::{ALWAYS, End, Few, Pieces, compare_items, exchanged_by};
+use super::devices::{ALWAYS, End, Few, Pieces, READ, compare_items, exchanged_by};
 use super::engines::KINDS;
 use super::same;
 use super::stream::searcher_by;
@@ -116,7 +116,11 @@ fn what_is_settled_is_written(rt: HostRuntime) -> Result<(), Fail> {
             let searcher = searcher_by(rt, NESTED, *kind, engine)?;
             let reader = Pieces::new(stream, 1, *good);
             let writer = Few::new(rt, 1, ALWAYS, true);
-            let end = if *good == ALWAYS { End::Whole } else { End::Io };
+            let end = if *good == ALWAYS {
+                End::Whole
+            } else {
+                End::Io(READ)
+            };
             let (ended, written) = exchanged_by(rt.alloc(), &searcher, reader, writer, &TEXTS);
             same(&rt, (ended, written.as_slice()), (end, *wanted));
         }

@@ -125,11 +125,6 @@ pub(super) fn drop_text(_: &Match, _: &str, _: &mut String) -> bool {
     true
 }
 
-/// Does the same in bytes.
-fn drop_bytes(_: &Match, _: &[u8], _: &mut Vec<u8>) -> bool {
-    true
-}
-
 /// Takes away all that was appended, and what was there before.
 pub(super) fn clear_text(_: &Match, _: &str, destination: &mut String) -> bool {
     destination.clear();
@@ -223,62 +218,5 @@ fn a_refused_replacement_changes_nothing(rt: HostRuntime) -> Result<(), Fail> {
     let answer = searcher.try_replace_all_with_bytes(b"a", &mut bytes, clear_bytes);
     same(&rt, answer, Err(refused));
     same(&rt, bytes.as_slice(), b"pre".as_slice());
-    Ok(())
-}
-
-#[test]
-fn lists_exchange_or_want_memory(rt: HostRuntime) -> Result<(), Fail> {
-    let searcher = AhoCorasick::new(rt.alloc(), &[b"a"])?;
-    match searcher.try_replace_all(rt.alloc(), "ab", &["xyz"]) {
-        Ok(replaced) => same(&rt, replaced.as_str(), "xyzb"),
-        Err(e) => same(&rt, e, ReplaceError::Memory),
-    }
-    match searcher.try_replace_all_bytes(rt.alloc(), b"ab", &[b"xyz"]) {
-        Ok(replaced) => same(&rt, replaced.as_slice(), b"xyzb".as_slice()),
-        Err(e) => same(&rt, e, ReplaceError::Memory),
-    }
-    if let Ok(replaced) = searcher.replace_all(rt.alloc(), "ab", &["xyz"]) {
-        same(&rt, replaced.as_str(), "xyzb");
-    }
-    if let Ok(replaced) = searcher.replace_all_bytes(rt.alloc(), b"ab", &[b"xyz"]) {
-        same(&rt, replaced.as_slice(), b"xyzb".as_slice());
-    }
-    Ok(())
-}
-
-/// Where an append wants memory, the destination is as the steps before left it.
-#[test]
-fn closures_exchange_or_want_memory(rt: HostRuntime) -> Result<(), Fail> {
-    let searcher = AhoCorasick::new(rt.alloc(), &[b"a"])?;
-    let mut text = String::new(rt.alloc());
-    match searcher.try_replace_all_with("-ab", &mut text, drop_text) {
-        Ok(()) => same(&rt, text.as_str(), "-b"),
-        Err(e) => {
-            same(&rt, e, ReplaceError::Memory);
-            assert!(rt; "-b".starts_with(text.as_str()));
-        }
-    }
-    let mut bytes = Vec::new(rt.alloc());
-    match searcher.try_replace_all_with_bytes(b"-ab", &mut bytes, drop_bytes) {
-        Ok(()) => same(&rt, bytes.as_slice(), b"-b".as_slice()),
-        Err(e) => {
-            same(&rt, e, ReplaceError::Memory);
-            assert!(rt; b"-b".starts_with(bytes.as_slice()));
-        }
-    }
-    text.clear();
-    bytes.clear();
-    if searcher
-        .replace_all_with("-ab", &mut text, drop_text)
-        .is_ok()
-    {
-        same(&rt, text.as_str(), "-b");
-    }
-    if searcher
-        .replace_all_with_bytes(b"-ab", &mut bytes, drop_bytes)
-        .is_ok()
-    {
-        same(&rt, bytes.as_slice(), b"-b".as_slice());
-    }
     Ok(())
 }

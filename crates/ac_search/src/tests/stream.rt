@@ -2,13 +2,13 @@
 ghost use Rattle.std.specs.Prelude.{◌≡◌, IfOk};
 ghost use Rattle.ac_util.specs.Borrowed.{bytes_of};
 
-use super::devices::{ALWAYS, End, Few, Pieces, compare_items, end_of, exchanged_by};
-use super::engines::KINDS;
+use super::devices::{ALWAYS, End, Few, Pieces, READ, WRITE, compare_items, end_of, exchanged_by};
+use super::engines::{EACH, KINDS};
 use super::same;
 use crate::MatchKind::{LeftmostFirst, Standard};
 use crate::{
-    AhoCorasick, AhoCorasickBuilder, AhoCorasickKind, MatchError, MatchKind, Sink, Source,
-    StartKind, StreamError,
+    AhoCorasick, AhoCorasickBuilder, AhoCorasickKind, FromRead, MatchError, MatchKind, Sink,
+    StartKind,
 };
 use std::alloc::{AllocError, Global};
 use std::io;
@@ -44,15 +44,15 @@ const READS: &[Read] = &[
     (3, ALWAYS, b"The slow grey sloth.", End::Whole),
     (7, ALWAYS, b"The slow grey sloth.", End::Whole),
     (65536, ALWAYS, b"The slow grey sloth.", End::Whole),
-    (1, 4, b"", End::Io),
-    (1, 5, b"T", End::Io),
-    (1, 9, b"The slow", End::Io),
-    (1, 14, b"The slow ", End::Io),
-    (1, 15, b"The slow grey", End::Io),
-    (1, 19, b"The slow grey sloth", End::Io),
-    (1, 20, b"The slow grey sloth", End::Io),
-    (12, 1, b"The slow", End::Io),
-    (1, 0, b"", End::Io),
+    (1, 4, b"", End::Io(READ)),
+    (1, 5, b"T", End::Io(READ)),
+    (1, 9, b"The slow", End::Io(READ)),
+    (1, 14, b"The slow ", End::Io(READ)),
+    (1, 15, b"The slow grey", End::Io(READ)),
+    (1, 19, b"The slow grey sloth", End::Io(READ)),
+    (1, 20, b"The slow grey sloth", End::Io(READ)),
+    (12, 1, b"The slow", End::Io(READ)),
+    (1, 0, b"", End::Io(READ)),
 ];
 
 #[test]
@@ -75,11 +75,11 @@ type Written = (usize, usize, bool, &'static [u8], End);
 const WRITES: &[Written] = &[
     (1, ALWAYS, true, b"The slow grey sloth.", End::Whole),
     (7, ALWAYS, true, b"The slow grey sloth.", End::Whole),
-    (1, 10, true, b"The slow g", End::Io),
-    (3, 3, true, b"The", End::Io),
+    (1, 10, true, b"The slow g", End::Io(WRITE)),
+    (3, 3, true, b"The", End::Io(WRITE)),
     (1, 5, false, b"The s", End::WriteZero),
     (1, 0, false, b"", End::WriteZero),
-    (1, 19, true, b"The slow grey sloth", End::Io),
+    (1, 19, true, b"The slow grey sloth", End::Io(WRITE)),
 ];
 
 #[test]
@@ -99,7 +99,7 @@ fn closures_exchange_and_fail(rt: HostRuntime) -> Result<(), Fail> {
     let numbers: [&[u8]; 3] = [b"0", b"1", b"2"];
     for (failing, text, end) in [
         (3, b"The 2 1 0.".as_slice(), End::Whole),
-        (1, b"The 2 1".as_slice(), End::Io),
+        (1, b"The 2 1".as_slice(), End::Io(ErrorKind::Other)),
     ] {
         let searcher = AhoCorasick::new(rt.alloc(), FOX)?;
         let mut reader = Pieces::new(SENTENCE, 1, ALWAYS);
@@ -170,16 +170,18 @@ fn pattern_of(alloc: Global, len: usize) -> Result<Vec<u8>, AllocError> {
 fn long_patterns_have_long_buffers(rt: HostRuntime) -> Result<(), Fail> {
     for (len, buffer, before) in BUFFERS {
         let pattern = pattern_of(rt.alloc(), len)?;
-        let searcher = AhoCorasick::new(rt.alloc(), &[pattern.as_slice()])?;
         let stream = stream_with(rt.alloc(), before, &pattern)?;
         let between = before.saturating_add(len);
         let first = Some(Some((0, before, between)));
         let second = Some(Some((0, between, stream.len())));
-        for most in [1, 7, 65_535, 65_536, 65_537, ALWAYS] {
-            let reader = Pieces::new(&stream, most, ALWAYS);
-            let mut matches = searcher.try_stream_find_iter(rt.alloc(), reader)?;
-            same(&rt, matches.buffer_len(), buffer);
-            compare_items(&rt, &mut matches, &[first, second, None]);
+        for &kind in EACH {
+            let searcher = searcher_by(rt, &[pattern.as_slice()], kind, None)?;
+            for most in [1, 7, 65_535, 65_536, 65_537, ALWAYS] {
+                let reader = Pieces::new(&stream, most, ALWAYS);
+                let mut matches = searcher.try_stream_find_iter(rt.alloc(), reader)?;
+                same(&rt, matches.buffer_len(), buffer);
+                compare_items(&rt, &mut matches, &[first, second, None]);
+            }
         }
     }
     Ok(())
@@ -226,25 +228,26 @@ fn a_refused_stream_is_not_read(rt: HostRuntime) -> Result<(), Fail> {
         );
         same(&rt, end_of(ended), End::Refused(*refusal));
         same(&rt, reader.left.len(), SENTENCE.len());
-        let matches = searcher.try_stream_find_iter(rt.alloc(), reader);
-        match matches {
-            Ok(_) => same(&rt, true, false),
-            Err(e) => same(&rt, end_of(Err(e)), End::Refused(*refusal)),
-        }
+        let mut left = SENTENCE;
+        let matches = searcher.try_stream_find_iter(rt.alloc(), FromRead::new(&mut left));
+        let ended = end_of(matches.map(|_| ()));
+        same(&rt, (ended, left), (End::Refused(*refusal), SENTENCE));
     }
     Ok(())
 }
 
 #[test]
 fn a_stream_without_patterns_is_copied(rt: HostRuntime) -> Result<(), Fail> {
-    let searcher = AhoCorasick::new(rt.alloc(), &[])?;
-    let reader = Pieces::new(b"abc", 1, ALWAYS);
-    let writer = Few::new(rt, 1, ALWAYS, true);
-    let (ended, written) = exchanged_by(rt.alloc(), &searcher, reader, writer, &[]);
-    same(
-        &rt,
-        (ended, written.as_slice()),
-        (End::Whole, b"abc".as_slice()),
-    );
+    for &kind in EACH {
+        let searcher = searcher_by(rt, &[], kind, None)?;
+        let reader = Pieces::new(b"abc", 1, ALWAYS);
+        let writer = Few::new(rt, 1, ALWAYS, true);
+        let (ended, written) = exchanged_by(rt.alloc(), &searcher, reader, writer, &[]);
+        same(
+            &rt,
+            (ended, written.as_slice()),
+            (End::Whole, b"abc".as_slice()),
+        );
+    }
     Ok(())
 }

@@ -8,6 +8,7 @@ use reads::Drops;
 use std::alloc::Global;
 use std::io;
 use std::io::{ErrorKind, Read, Write};
+use std::process::Abort;
 use std::test::Fail;
 use writes::Narrow;
 
@@ -16,8 +17,10 @@ type Outcome = Result<usize, ErrorKind>;
 
 const BROKEN: Outcome = Err(ErrorKind::BrokenPipe);
 
+const INTERRUPTED: Outcome = Err(ErrorKind::Interrupted);
+
 /// What the calls of a `Logs` are to answer.
-const ANSWERS: &[Outcome] = &[Ok(2), BROKEN, Ok(1), Ok(0), Ok(2)];
+const ANSWERS: &[Outcome] = &[Ok(7), BROKEN, Ok(1), INTERRUPTED, Ok(0), Ok(8)];
 
 /// Answers as it was set to, and keeps how many bytes each call was about; a flush is `usize::MAX`.
 #[derive(Drop)]
@@ -70,28 +73,50 @@ fn write<S: Sink>(sink: &mut S, piece: &[u8]) -> Outcome {
     sink.write_some(piece).map_err(|e| e.kind())
 }
 
-#[test]
-fn each_call_is_one_call(rt: HostRuntime) -> Result<(), Fail> {
-    let mut reads = Vec::new(rt.alloc());
+/// How many bytes a large read or write is about: more than nine million.
+const LARGE: usize = 9 << 20;
+
+/// Compares calls that are about so many bytes with the answers of a `Logs`, by a reader and by a writer.
+fn compare_calls(rt: &impl Abort, alloc: Global, bytes: &mut [u8]) {
+    let (mut reads, mut writes) = (Vec::new(alloc), Vec::new(alloc));
     let mut source = FromRead::new(Logs {
         calls: &mut reads,
         answers: ANSWERS,
     });
     for answer in ANSWERS {
-        assert_eq!(rt; read(&mut source, &mut [b'-'; 3]), *answer);
+        assert_eq!(rt; read(&mut source, bytes), *answer);
     }
     drop(source);
-    assert_eq!(rt; reads.as_slice(), [3; 5].as_slice());
-    let mut writes = Vec::new(rt.alloc());
+    assert_eq!(rt; reads.as_slice(), [bytes.len(); 6].as_slice());
     let mut sink = IntoWrite::new(Logs {
         calls: &mut writes,
         answers: ANSWERS,
     });
     for answer in ANSWERS {
-        assert_eq!(rt; write(&mut sink, b"abc"), *answer);
+        assert_eq!(rt; write(&mut sink, bytes), *answer);
     }
     drop(sink);
-    assert_eq!(rt; writes.as_slice(), [3; 5].as_slice());
+    assert_eq!(rt; writes.as_slice(), [bytes.len(); 6].as_slice());
+}
+
+#[test]
+fn each_call_is_one_call(rt: HostRuntime) -> Result<(), Fail> {
+    compare_calls(&rt, rt.alloc(), &mut [b'-'; 8]);
+    let mut bytes = Vec::new(rt.alloc());
+    bytes.resize(LARGE, b'-')?;
+    compare_calls(&rt, rt.alloc(), &mut bytes);
+    Ok(())
+}
+
+#[test]
+fn large_pieces_are_written_whole(rt: HostRuntime) -> Result<(), Fail> {
+    let mut bytes = Vec::new(rt.alloc());
+    bytes.resize(LARGE, b'-')?;
+    let mut sink = Written::new(rt.alloc());
+    for _ in 0..5 {
+        assert_eq!(rt; write(&mut sink, &bytes), Ok(LARGE));
+    }
+    assert_eq!(rt; sink.bytes().len(), 5 * LARGE);
     Ok(())
 }
 

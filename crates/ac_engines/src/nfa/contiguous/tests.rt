@@ -3,12 +3,15 @@ use super::Builder;
 use super::state::FAIL;
 use ac_automaton::automaton::Automaton;
 use ac_util::looks::Looks;
-use ac_util::search::MatchKind::{LeftmostFirst, Standard};
+use ac_util::search::MatchKind::{LeftmostFirst, LeftmostLongest, Standard};
 use ac_util::search::{Anchored, MatchKind};
 use std::test::Fail;
 
 /// Three patterns, two of which begin alike.
 const THREE: &[&[u8]] = &[b"b", b"abc", b"abcd"];
+
+/// A pattern that stands in the list twice.
+const TWICE: &[&[u8]] = &[b"ab", b"ab"];
 
 /// Patterns and whether case is ignored, a match kind, a dense depth and whether bytes share classes, with how many
 /// classes and how many words there are.
@@ -22,9 +25,19 @@ type Size = (
     usize,
 );
 
-const SIZES: [Size; 7] = [
+const SIZES: [Size; 17] = [
     (&[], false, Standard, 2, true, 1, 9),
+    (THREE, false, Standard, 0, true, 6, 43),
+    (THREE, false, Standard, 1, true, 6, 43),
     (THREE, false, Standard, 2, true, 6, 54),
+    (THREE, false, Standard, 3, true, 6, 58),
+    (THREE, false, Standard, 4, true, 6, 62),
+    (THREE, false, Standard, 5, true, 6, 68),
+    (THREE, false, Standard, 6, true, 6, 68),
+    (THREE, false, Standard, usize::MAX, true, 6, 68),
+    (TWICE, false, Standard, 2, true, 4, 29),
+    (TWICE, false, LeftmostLongest, 2, true, 4, 29),
+    (TWICE, false, LeftmostFirst, 2, true, 4, 27),
     (THREE, false, LeftmostFirst, 2, true, 6, 49),
     (&[b"abcd"], false, Standard, 2, true, 6, 41),
     (&[b"ab"], true, Standard, 2, true, 7, 39),

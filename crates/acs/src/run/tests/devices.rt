@@ -65,3 +65,31 @@ impl<'a> Write for Narrow<'a> {
         Ok(())
     }
 }
+
+/// Gives so many bytes, or takes all, and keeps how many bytes the largest call was about.
+#[derive(Drop)]
+pub(super) struct Counts<'a> {
+    pub(super) left: &'a mut usize,
+    pub(super) most: &'a mut usize,
+}
+
+impl<'a> Read for Counts<'a> {
+    fn read(&mut self, into: &mut [u8]) -> io::Result<usize> {
+        *self.most = into.len().max(*self.most);
+        let n = into.len().min(*self.left);
+        into[..n].fill(b'a');
+        *self.left -= n;
+        Ok(n)
+    }
+}
+
+impl<'a> Write for Counts<'a> {
+    fn write(&mut self, piece: &[u8]) -> io::Result<usize> {
+        *self.most = piece.len().max(*self.most);
+        Ok(piece.len())
+    }
+
+    fn flush(&mut self) -> io::Result<()> {
+        Ok(())
+    }
+}

@@ -1,0 +1,180 @@
+//! Builds of engines and of searchers, and clones of them.
+use super::{Call, SENTENCE, Trial, WORDS};
+use ac_search::AhoCorasickKind::{ContiguousNFA, DFA, NoncontiguousNFA};
+use ac_search::MatchKind::{LeftmostFirst, LeftmostLongest, Standard};
+use ac_search::nfa::{contiguous, noncontiguous};
+use ac_search::{
+    AhoCorasick, AhoCorasickBuilder, AhoCorasickKind, Automaton, BuildError, Input, Match,
+    MatchKind, StartKind, dfa,
+};
+use std::alloc::{Allocator, Global};
+use std::test::Fail;
+
+/// Each match kind, and the pattern and the end of the find at the front of the sentence.
+pub(super) const KINDS: [(MatchKind, usize, usize); 3] = [
+    (Standard, 2, 3),
+    (LeftmostFirst, 0, 6),
+    (LeftmostLongest, 0, 6),
+];
+
+/// The engines, and that one is chosen.
+const ENGINES: [Option<AhoCorasickKind>; 4] = [
+    None,
+    Some(NoncontiguousNFA),
+    Some(ContiguousNFA),
+    Some(DFA),
+];
+
+/// The start kinds by which an unanchored search is supported.
+pub(super) const STARTS: [StartKind; 2] = [StartKind::Unanchored, StartKind::Both];
+
+/// Returns the value that was built, or none where memory was refused.
+fn unless_memory<T: Drop>(built: Result<T, BuildError>) -> Result<Option<T>, Fail> {
+    match built {
+        Ok(value) => Ok(Some(value)),
+        Err(BuildError::Memory) => Ok(None),
+        Err(_) => Err(Fail::new("another refusal of a build")),
+    }
+}
+
+/// Tests that a find in the sentence answers what it has to.
+fn finds(found: Option<Match>, wanted: (usize, usize)) -> Result<(), Fail> {
+    match found {
+        Some(m) if (m.pattern().as_usize(), m.end()) == wanted && m.start() == 0 => Ok(()),
+        _ => Err(Fail::new("another find")),
+    }
+}
+
+/// Tests that an automaton finds what it has to, and returns whether a clone had room, which finds the same.
+fn clone_has_room<E: Automaton + Clone>(engine: &E, wanted: (usize, usize)) -> Result<bool, Fail> {
+    let input = Input::of_text(SENTENCE);
+    finds(engine.try_find(input)?, wanted)?;
+    let Ok(clone) = engine.clone() else {
+        finds(engine.try_find(input)?, wanted)?;
+        return Ok(false);
+    };
+    finds(clone.try_find(input)?, wanted)?;
+    Ok(true)
+}
+
+/// The build of an engine by itself, and its clone.
+#[derive(Drop)]
+struct EngineBuild {
+    engine: AhoCorasickKind,
+    kind: MatchKind,
+    wanted: (usize, usize),
+}
+
+/// Builds a noncontiguous NFA, and clones it.
+fn has_room_as_noncontiguous<A: Allocator + Clone>(
+    alloc: A,
+    build: &EngineBuild,
+) -> Result<bool, Fail> {
+    let mut builder = noncontiguous::Builder::new();
+    builder.match_kind(build.kind);
+    match unless_memory(builder.build(alloc, &WORDS))? {
+        Some(nfa) => clone_has_room(&nfa, build.wanted),
+        None => Ok(false),
+    }
+}
+
+/// Builds a contiguous NFA, and clones it.
+fn has_room_as_contiguous<A: Allocator + Clone>(
+    alloc: A,
+    build: &EngineBuild,
+) -> Result<bool, Fail> {
+    let mut builder = contiguous::Builder::new();
+    builder.match_kind(build.kind);
+    match unless_memory(builder.build(alloc, &WORDS))? {
+        Some(nfa) => clone_has_room(&nfa, build.wanted),
+        None => Ok(false),
+    }
+}
+
+/// Builds a DFA for both starts, and clones it.
+fn has_room_as_dfa<A: Allocator + Clone>(alloc: A, build: &EngineBuild) -> Result<bool, Fail> {
+    let mut builder = dfa::Builder::new();
+    builder.match_kind(build.kind).start_kind(StartKind::Both);
+    match unless_memory(builder.build(alloc, &WORDS))? {
+        Some(dfa) => clone_has_room(&dfa, build.wanted),
+        None => Ok(false),
+    }
+}
+
+impl Call for EngineBuild {
+    fn has_room<A: Allocator + Clone>(&self, alloc: A) -> Result<bool, Fail> {
+        match self.engine {
+            NoncontiguousNFA => has_room_as_noncontiguous(alloc, self),
+            ContiguousNFA => has_room_as_contiguous(alloc, self),
+            DFA => has_room_as_dfa(alloc, self),
+        }
+    }
+}
+
+/// The build of a searcher, and its clone.
+#[derive(Drop)]
+pub(super) struct SearcherBuild {
+    pub(super) engine: Option<AhoCorasickKind>,
+    pub(super) kind: MatchKind,
+    pub(super) start_kind: StartKind,
+}
+
+impl SearcherBuild {
+    /// Builds the searcher.
+    pub(super) fn build<A: Allocator + Clone>(
+        &self,
+        alloc: A,
+    ) -> Result<Option<AhoCorasick<A>>, Fail> {
+        let mut builder = AhoCorasickBuilder::new();
+        builder.match_kind(self.kind).kind(self.engine);
+        builder.start_kind(self.start_kind);
+        unless_memory(builder.build(alloc, &WORDS))
+    }
+}
+
+/// A searcher's build, with what it finds.
+#[derive(Drop)]
+pub(super) struct SearcherTrial {
+    pub(super) build: SearcherBuild,
+    pub(super) wanted: (usize, usize),
+}
+
+impl Call for SearcherTrial {
+    fn has_room<A: Allocator + Clone>(&self, alloc: A) -> Result<bool, Fail> {
+        let Some(searcher) = self.build.build(alloc)? else {
+            return Ok(false);
+        };
+        let input = Input::of_text(SENTENCE);
+        finds(searcher.try_find(input)?, self.wanted)?;
+        finds(searcher.clone()?.try_find(input)?, self.wanted)?;
+        Ok(true)
+    }
+}
+
+/// Tries each build.
+pub(super) fn try_each<T: Trial>(alloc: Global, trial: &mut T) -> Result<(), Fail> {
+    for (kind, pattern, end) in KINDS {
+        let wanted = (pattern, end);
+        for engine in [NoncontiguousNFA, ContiguousNFA, DFA] {
+            trial.tries(
+                alloc,
+                &EngineBuild {
+                    engine,
+                    kind,
+                    wanted,
+                },
+            )?;
+        }
+        for engine in ENGINES {
+            for start_kind in STARTS {
+                let build = SearcherBuild {
+                    engine,
+                    kind,
+                    start_kind,
+                };
+                trial.tries(alloc, &SearcherTrial { build, wanted })?;
+            }
+        }
+    }
+    Ok(())
+}

@@ -1,0 +1,201 @@
+//! Calls in heaps of rising size, which refuse each request that they have no room for.
+use super::builds::{KINDS, STARTS, SearcherBuild, SearcherTrial};
+use super::{Call, SENTENCE, Trial, WORDS, try_each};
+use crate::tests::same_by;
+use ac_search::AhoCorasickKind::{ContiguousNFA, DFA, NoncontiguousNFA};
+use ac_search::MatchKind::Standard;
+use ac_search::nfa::{contiguous, noncontiguous};
+use ac_search::{AhoCorasick, AhoCorasickKind, Input, MatchKind, StartKind, dfa};
+use linked_list_allocator::LocalHeap;
+use std::alloc::{AllocError, Global};
+use std::test::Fail;
+
+/// What a heap gives out is a multiple of so many bytes.
+const STEP: usize = 16;
+
+/// The next heap is greater by a part like this, or by a step.
+const PART: usize = 64;
+
+/// Up to how many heaps are tried: the last one has some megabytes.
+const HEAPS: usize = 700;
+
+/// Returns the size of the first of greater and greater heaps in which a call has room. It gives all memory back in each.
+fn least_room<C: Call>(alloc: Global, call: &C) -> Result<usize, Fail> {
+    let mut size = STEP;
+    for _ in 0..HEAPS {
+        let heap = LocalHeap::new(alloc, size)?;
+        let has_room = call.has_room(&heap)?;
+        if heap.used() != 0 {
+            return Err(Fail::new("memory is kept"));
+        }
+        if has_room {
+            return Ok(size);
+        }
+        size = size.saturating_add(STEP.max(size / PART));
+    }
+    Err(Fail::new("no heap has room"))
+}
+
+/// Tries a call in heaps.
+#[derive(Drop)]
+struct Heaps;
+
+impl Trial for Heaps {
+    fn tries<C: Call>(&mut self, alloc: Global, call: &C) -> Result<(), Fail> {
+        if least_room(alloc, call)? == STEP {
+            return Err(Fail::new("other memory is taken"));
+        }
+        Ok(())
+    }
+}
+
+/// A call wants memory up to the size at which it has room, and gives all back.
+#[test]
+fn each_call_has_room_in_some_heap(rt: HostRuntime) -> Result<(), Fail> {
+    try_each(rt.alloc(), &mut Heaps)
+}
+
+/// A heap in which each searcher over the words has room.
+const AMPLE: usize = 1 << 16;
+
+/// How many bytes a searcher takes at most beside what it says that it takes: counts of those that share its parts, blocks
+/// that are rounded up, and lists with room for more.
+const BESIDE: usize = 1024;
+
+/// Takes all that is left of a heap.
+fn filled<'h>(
+    alloc: Global,
+    heap: &'h LocalHeap,
+) -> Result<Vec<Vec<u8, &'h LocalHeap>>, AllocError> {
+    let mut pieces = Vec::new(alloc);
+    for _ in 0..AMPLE / STEP {
+        if let Ok(piece) = Vec::with_capacity(heap, STEP) {
+            pieces.push(piece)?;
+        }
+    }
+    Ok(pieces)
+}
+
+/// Tests that a searcher and its clone find the same where there is no memory left, and take none.
+fn searches_take_nothing(
+    alloc: Global,
+    heap: &LocalHeap,
+    searcher: &AhoCorasick<&LocalHeap>,
+) -> Result<(), Fail> {
+    let used = heap.used();
+    let input = Input::of_text(SENTENCE);
+    let wanted = (
+        searcher.try_find(input)?,
+        searcher.try_find_iter(input)?.last(),
+    );
+    let pieces = filled(alloc, heap)?;
+    let clone = searcher.clone()?;
+    let found = (clone.try_find(input)?, clone.try_find_iter(input)?.last());
+    drop(pieces);
+    if found != wanted || heap.used() != used {
+        return Err(Fail::new("a clone or a search takes memory"));
+    }
+    Ok(())
+}
+
+/// Returns which engine serves, and how many bytes the searcher takes and says that it takes.
+fn sizes_of(alloc: Global, build: &SearcherBuild) -> Result<(AhoCorasickKind, usize, usize), Fail> {
+    let heap = LocalHeap::new(alloc, AMPLE)?;
+    let Some(searcher) = build.build(&heap)? else {
+        return Err(Fail::new("no room"));
+    };
+    let (used, usage) = (heap.used(), searcher.memory_usage());
+    if used < usage || used > usage.saturating_add(BESIDE) {
+        return Err(Fail::new(format_args!("{used} bytes for {usage}")));
+    }
+    searches_take_nothing(alloc, &heap, &searcher)?;
+    Ok((searcher.kind(), used, usage))
+}
+
+/// Returns which engine serves, how many bytes the searcher takes, and how many its build and its finds need.
+fn needs_of(
+    alloc: Global,
+    engine: Option<AhoCorasickKind>,
+    (kind, pattern, end): (MatchKind, usize, usize),
+    start_kind: StartKind,
+) -> Result<(AhoCorasickKind, usize, usize), Fail> {
+    let build = SearcherBuild {
+        engine,
+        kind,
+        start_kind,
+    };
+    let (chosen, used, _) = sizes_of(alloc, &build)?;
+    let wanted = (pattern, end);
+    Ok((
+        chosen,
+        used,
+        least_room(alloc, &SearcherTrial { build, wanted })?,
+    ))
+}
+
+/// A searcher takes what its engine takes, and nothing for the engines that it doesn't choose, while it is built neither.
+#[test]
+fn a_searcher_takes_one_engine(rt: HostRuntime) -> Result<(), Fail> {
+    for row in KINDS {
+        for start_kind in STARTS {
+            let chosen = needs_of(rt.alloc(), None, row, start_kind)?;
+            let named = needs_of(rt.alloc(), Some(chosen.0), row, start_kind)?;
+            same_by(&rt, chosen, named, &(row, start_kind));
+        }
+    }
+    Ok(())
+}
+
+/// The engine, the start kind and the bytes that the searcher says that it takes under Standard, by the rules of
+/// `docs/PERFORMANCE.md`: 13 states, 12 classes of bytes and so a stride of 16, 84 words, 3 matches, and 42 bytes for the
+/// patterns.
+const USAGES: [(AhoCorasickKind, StartKind, usize); 4] = [
+    (DFA, StartKind::Unanchored, 13 * 16 * 4 + 3 * 4 + 3 * 8 + 42),
+    (DFA, StartKind::Both, 22 * 16 * 4 + 6 * 4 + 6 * 8 + 42),
+    (ContiguousNFA, StartKind::Unanchored, 84 * 4 + 42),
+    (
+        NoncontiguousNFA,
+        StartKind::Unanchored,
+        13 * 28 + 9 * 8 + 3 * 4 + 1024 + 42,
+    ),
+];
+
+/// How many bytes more it says: where lists begin and end.
+const BOUNDS: usize = 64;
+
+#[test]
+fn engines_take_what_their_layout_needs(rt: HostRuntime) -> Result<(), Fail> {
+    for (engine, start_kind, wanted) in USAGES {
+        let build = SearcherBuild {
+            engine: Some(engine),
+            kind: Standard,
+            start_kind,
+        };
+        let (_, _, usage) = sizes_of(rt.alloc(), &build)?;
+        let more = usage.saturating_sub(wanted);
+        if usage < wanted || more > BOUNDS {
+            return Err(Fail::new(format_args!("{engine:?}, {start_kind:?}: {usage}")));
+        }
+    }
+    Ok(())
+}
+
+/// An engine that is built from an automaton takes memory of the allocator that the build is handed, and none of the automaton's.
+#[test]
+fn an_engine_takes_memory_of_its_own(rt: HostRuntime) -> Result<(), Fail> {
+    let first = LocalHeap::new(rt.alloc(), AMPLE)?;
+    let second = LocalHeap::new(rt.alloc(), AMPLE)?;
+    let nfa = noncontiguous::NFA::new(&first, &WORDS)?;
+    let used = first.used();
+    let dfa = dfa::Builder::new().build_from_noncontiguous(&second, &nfa)?;
+    same_by(&rt, first.used(), used, &"a DFA");
+    assert!(rt; second.used() >= 13 * 16 * 4);
+    drop(dfa);
+    same_by(&rt, second.used(), 0, &"no engine");
+    let contiguous = contiguous::Builder::new().build_from_noncontiguous(&second, &nfa)?;
+    same_by(&rt, first.used(), used, &"a contiguous NFA");
+    assert!(rt; second.used() >= 84 * 4);
+    drop(contiguous);
+    same_by(&rt, second.used(), 0, &"no engine");
+    Ok(())
+}
