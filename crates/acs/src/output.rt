@@ -1,5 +1,5 @@
 //! Lines for matches, written in large pieces, and replaced texts.
-ghost use Rattle.std.specs.Prelude.{◌≡◌, ◌++◌, ◌∷◌, [], List, codes, MatchResult, OnOk, option_to_list, string_bytes};
+ghost use Rattle.std.specs.Prelude.{◌≡◌, ◌++◌, ◌∷◌, [], List, codes, MatchResult, OnOk, option_to_list};
 ghost use Rattle.std.specs.Iterator.{IsFinite};
 ghost use Rattle.ac_util.specs.Device.{Writing, WritesAll};
 ghost use Rattle.ac_util.specs.Occurrence.{Occurrence};
@@ -13,6 +13,7 @@ ghost use Rattle.acs.specs.Printed.{FailsToPrintStream, GivesRest, HasPrintedRea
 use crate::fault::Fault;
 use crate::run::Outcome;
 use ac_search::{Match, Sink, Source, StreamFinder};
+use itoa::Buffer;
 use std::alloc::{AllocError, Allocator};
 
 /// From how many bytes on the lines are written.
@@ -22,11 +23,17 @@ const FULL: usize = 65536;
 ///
 /// # Errors
 /// `AllocError` where a request for memory is refused.
-fn add_line<A: Allocator + Clone>(text: &mut String<A>, m: &Match) -> Result<(), AllocError>
-    ensures { OnOk result (string_bytes text.new ≡ string_bytes text.old ++ line m.now) }
+fn add_line<A: Allocator + Clone>(text: &mut Vec<u8, A>, m: &Match) -> Result<(), AllocError>
+    ensures { OnOk result (text.new.items ≡ text.old.items ++ line m.now) }
 {
-    let (pattern, start, end) = (m.pattern().as_usize(), m.start(), m.end());
-    write!(text, "{pattern} {start} {end}\n")
+    let mut digits = Buffer::new();
+    text.extend_from_slice(digits.format(m.pattern().as_usize()).as_bytes())?;
+    text.push(b' ')?;
+    text.extend_from_slice(digits.format(m.start()).as_bytes())?;
+    text.push(b' ')?;
+    text.extend_from_slice(digits.format(m.end()).as_bytes())?;
+    text.push(b'\n')?;
+    Ok(())
 }
 
 /// Writes all of the bytes.
@@ -60,19 +67,19 @@ pub(crate) fn write_line<W: Sink>(writer: &mut W, line: &str) -> Result<(), Faul
 /// # Errors
 /// As `print_all`.
 fn print_line<A: Allocator + Clone, W: Sink>(
-    text: &mut String<A>,
+    text: &mut Vec<u8, A>,
     m: &Match,
     writer: &mut W,
 ) -> Result<(), Fault>
     ensures { (all later : List Occurrence) → (old : Writing) → (outcome : Outcome)
-        → IsPrinting all (m.now ∷ later) old (W.told writer.old) (string_bytes text.old) outcome
+        → IsPrinting all (m.now ∷ later) old (W.told writer.old) text.old.items outcome
         → MatchResult result
-        (λ _. IsPrinting all later old (W.told writer.new) (string_bytes text.new) Found)
+        (λ _. IsPrinting all later old (W.told writer.new) text.new.items Found)
         (FailsToPrint old (W.told writer.new) (lines all)) }
 {
     add_line(text, m)?;
     if text.len() >= FULL {
-        write_all(writer, text.as_bytes())?;
+        write_all(writer, text)?;
         text.clear();
     }
     Ok(())
@@ -109,13 +116,13 @@ pub(crate) fn print_all<A: Allocator + Clone, I: Iterator<Item = Match> + Drop, 
         × (outcome ≡ outcome_of (rest matches)))
         (FailsToPrint (W.told writer.old) (W.told writer.new) (lines (rest matches))) }
 {
-    let mut text = String::new(alloc);
+    let mut text = Vec::new(alloc);
     let mut outcome = Outcome::Nothing;
     for m in matches {
         outcome = Outcome::Found;
         print_line(&mut text, &m, writer)?;
     }
-    print_end(text.as_bytes(), writer)?;
+    print_end(&text, writer)?;
     Ok(outcome)
 }
 
@@ -124,19 +131,19 @@ pub(crate) fn print_all<A: Allocator + Clone, I: Iterator<Item = Match> + Drop, 
 /// # Errors
 /// As `print_all`, of the matches of what was read.
 fn print_read<A: Allocator + Clone, B: Allocator, Z: Allocator, W: Sink>(
-    text: &mut String<A>,
+    text: &mut Vec<u8, A>,
     finder: &mut StreamFinder<'_, B, Z>,
     writer: &mut W,
 ) -> Result<(), Fault>
-    ensures { (old : Writing) → PrintsSoFar finder.old old (W.told writer.old) (string_bytes text.old) Found
+    ensures { (old : Writing) → PrintsSoFar finder.old old (W.told writer.old) text.old.items Found
         → MatchResult result
-        (λ _. HasPrintedRead finder.old finder.new old (W.told writer.new) (string_bytes text.new) Found)
+        (λ _. HasPrintedRead finder.old finder.new old (W.told writer.new) text.new.items Found)
         (FailsToPrint old (W.told writer.new) (lines (matches_so_far finder.old))) }
 {
     while let Some(m) = finder.next_read() {
         print_line(text, &m, writer)?;
     }
-    write_all(writer, text.as_bytes())?;
+    write_all(writer, text)?;
     text.clear();
     Ok(())
 }
@@ -160,7 +167,7 @@ pub(crate) fn print_stream<A: Allocator + Clone, B: Allocator, Z: Allocator, R: 
         (FailsToPrintStream R.empty_means_end finder.old.built (R.told reader.old) (R.told reader.new)
         (W.told writer.old) (W.told writer.new)) }
 {
-    let mut text = String::new(alloc);
+    let mut text = Vec::new(alloc);
     let mut outcome = Outcome::Nothing;
     while let Some(item) = finder.next(reader) {
         let m = item?;
@@ -188,9 +195,9 @@ pub(crate) fn print_found<A: Allocator + Clone, W: Sink>(
     let Some(m) = found else {
         return Ok(Outcome::Nothing);
     };
-    let mut text = String::new(alloc);
+    let mut text = Vec::new(alloc);
     add_line(&mut text, &m)?;
-    print_text(text.as_bytes(), writer)
+    print_text(&text, writer)
 }
 
 /// Writes a text that is whole. No byte of an empty one is written, but it counts as written.

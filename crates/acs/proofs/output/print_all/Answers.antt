@@ -39,10 +39,10 @@ returns-in_err-print_end g c rest gives =
     (FailsToPrint (told c.args.writer.now) (told c.print_end.new.writer) (lines (rest c.args.matches)))
     c.from_residual-in_err-print_end.ensures.1
     (c.in_err-print_end.ensures (rest c.args.matches) (told c.args.writer.now) c.loop-m.outcome
-    (rw c.as_bytes.ensures.value (rw (gives _ _ _ c.in-None.ensures.steps).0 at (c.loop-m.invariant.printing rest gives))))
+    (rw c.deref.ensures.value (rw (gives _ _ _ c.in-None.ensures.steps).0 at (c.loop-m.invariant.printing rest gives))))
 
 -- no match is left, and the last text is written
 pub returns : goal.returns
 returns g c rest gives =
     c.in_ok-print_end.ensures (rest c.args.matches) (g.W.Sink.told c.args.writer.now) c.loop-m.outcome
-    (rw c.as_bytes.ensures.value (rw (gives _ _ _ c.in-None.ensures.steps).0 at (c.loop-m.invariant.printing rest gives)))
+    (rw c.deref.ensures.value (rw (gives _ _ _ c.in-None.ensures.steps).0 at (c.loop-m.invariant.printing rest gives)))

@@ -1,4 +1,4 @@
-use Rattle.std.specs.Prelude.{List, string_bytes}
+use Rattle.std.specs.Prelude.{List}
 use Rattle.ac_util.specs.Occurrence.{Occurrence}
 use Rattle.acs.specs.Printed.{GivesRest, IsPrinting}
 use Rattle.acs.proofs.output.print_all.Given as goal
@@ -11,5 +11,5 @@ invariant-loop-m g l =
       can_next : (goal.iterator-loop-m g).can_next l.m-iterator;
       is_finite : (goal.iterator-loop-m g).is_finite l.m-iterator;
       printing : (rest : _ → List Occurrence) → GivesRest (goal.iterator-loop-m g).next_gives rest
-          → IsPrinting (rest l.fn.matches) (rest l.m-iterator) (told l.fn.writer) (told l.writer) (string_bytes l.text) l.outcome;
+          → IsPrinting (rest l.fn.matches) (rest l.m-iterator) (told l.fn.writer) (told l.writer) l.text.items l.outcome;
     }

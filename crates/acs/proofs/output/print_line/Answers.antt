@@ -1,5 +1,4 @@
 use Rattle.std.proofs.Common.{◌≡◌, ℕ, List, ◌++◌, ◌∷◌, ◌∙◌, refl, subst, rules, arith}
-use Rattle.std.specs.Prelude.{string_bytes}
 use Rattle.std.proofs.lemmas.Grind.{common_steps}
 use Rattle.acs.specs.declared.fault.Fault.TheVariants.{Memory}
 use Rattle.acs.specs.declared.run.Outcome.TheVariants.{Found}
@@ -15,7 +14,7 @@ returns-in_err-add_line g c all later old outcome printing =
     let told = g.W.Sink.told in
     refused-by c.from_residual.result Memory _ (FailsToPrint old (told c.args.writer.now) (lines all))
     c.from_residual.ensures.1
-    (printing-wants all (c.args.m.now ∷ later) old (told c.args.writer.now) (string_bytes c.args.text.now)
+    (printing-wants all (c.args.m.now ∷ later) old (told c.args.writer.now) c.args.text.now.items
     outcome printing c.args.m.now later refl)
 
 -- the lines so far could not be written
@@ -23,14 +22,14 @@ pub returns-in_err-write_all : goal.returns-in_err-write_all
 returns-in_err-write_all g c all later old outcome printing =
     let told = g.W.Sink.told in
     let added =
-    printing-adds all (c.args.m.now ∷ later) old (told c.args.writer.now) (string_bytes c.args.text.now)
+    printing-adds all (c.args.m.now ∷ later) old (told c.args.writer.now) c.args.text.now.items
     outcome printing c.args.m.now later refl in
-    let text : c.as_bytes.result.now ≡ string_bytes c.args.text.now ++ line c.args.m.now =
-    c.as_bytes.ensures.value ∙ c.in_ok-add_line.ensures in
+    let text : c.deref.result.now ≡ c.args.text.now.items ++ line c.args.m.now =
+    c.deref.ensures.value ∙ c.in_ok-add_line.ensures in
     refused-by c.from_residual-in_err-write_all.result c.in_err-write_all.field-0.0 _
     (FailsToPrint old (told c.write_all.new.writer) (lines all))
     c.from_residual-in_err-write_all.ensures.1
-    (printing-fails all later old (told c.args.writer.now) (string_bytes c.args.text.now ++ line c.args.m.now)
+    (printing-fails all later old (told c.args.writer.now) (c.args.text.now.items ++ line c.args.m.now)
     Found added (told c.write_all.new.writer) c.in_err-write_all.field-0.0
     (subst (λ (bytes : List ℕ). FailsToWrite (told c.args.writer.now)
     (told c.write_all.new.writer) bytes c.in_err-write_all.field-0.0) text c.in_err-write_all.ensures))
@@ -41,7 +40,7 @@ returns-in_ok-write_all g c all later old outcome printing =
     grind (
       arith,
       common_steps,
-      printing-adds all (c.args.m.now ∷ later) old ((g.W.Sink.told) c.args.writer.now) (string_bytes c.args.text.now) outcome printing c.args.m.now
+      printing-adds all (c.args.m.now ∷ later) old ((g.W.Sink.told) c.args.writer.now) c.args.text.now.items outcome printing c.args.m.now
           later refl,
       printing-writes,
     )

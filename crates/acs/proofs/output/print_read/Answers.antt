@@ -1,5 +1,4 @@
 use Rattle.std.proofs.Common.{◌∙◌, ◌+◌, ℕ, List, ap, arith, drop, subst, sym, rules}
-use Rattle.std.specs.Prelude.{string_bytes}
 use Rattle.ac_automaton.specs.Streams.{GivesMatch, Streaming, matches_so_far}
 use Rattle.acs.specs.declared.run.Outcome.TheVariants.{Found}
 use Rattle.acs.specs.Lines.{lines}
@@ -56,9 +55,9 @@ returns-in_err-write_all g c old h =
     (subst (λ (u : Streaming). FailsToPrint old (told c.write_all.new.writer) (lines (matches_so_far u)) fault)
     c.loop-m.invariant.same
     (printing-fails (matches_so_far v) (drop v.given (matches_so_far v)) old (told c.loop-m.writer)
-    (string_bytes c.loop-m.text) Found (c.loop-m.invariant.printing old h) (told c.write_all.new.writer) fault
+    c.loop-m.text.items Found (c.loop-m.invariant.printing old h) (told c.write_all.new.writer) fault
     (subst (λ (bytes : List ℕ). FailsToWrite (told c.loop-m.writer) (told c.write_all.new.writer) bytes fault)
-    c.as_bytes.ensures.value c.in_err-write_all.ensures)))
+    c.deref.ensures.value c.in_err-write_all.ensures)))
 
 -- no match is left that needs no read, and the text is written
 pub returns : goal.returns

@@ -1,5 +1,4 @@
 use Rattle.std.proofs.Common.{◌≡◌, ◌-◌, ◌≤◌, length}
-use Rattle.std.specs.Prelude.{string_bytes}
 use Rattle.ac_util.specs.Device.{Writing}
 use Rattle.ac_automaton.specs.Streams.{matches_so_far}
 use Rattle.acs.specs.declared.run.Outcome.TheVariants.{Found}
@@ -13,8 +12,8 @@ invariant-loop-m g l =
     record {
       same : l.finder ≡ record l.fn.finder { given = l.finder.given; kept = l.finder.kept };
       onward : l.fn.finder.given ≤ l.finder.given;
-      printing : (old : Writing) → PrintsSoFar l.fn.finder old (told l.fn.writer) (string_bytes l.fn.text) Found
-          → PrintsSoFar l.finder old (told l.writer) (string_bytes l.text) Found;
+      printing : (old : Writing) → PrintsSoFar l.fn.finder old (told l.fn.writer) l.fn.text.items Found
+          → PrintsSoFar l.finder old (told l.writer) l.text.items Found;
     }
 
 abbrev pub decreases-loop-m : goal.decreases-loop-m

@@ -1,5 +1,4 @@
 use Rattle.std.proofs.Common.{◌-◌}
-use Rattle.std.specs.Prelude.{string_bytes}
 use Rattle.acs.proofs.Streaming.{IsPrintingStream}
 use Rattle.acs.proofs.output.print_stream.Given as goal
 use Rattle.ac_util.specs.Sizes.{usize_max}
@@ -8,7 +7,7 @@ use Rattle.ac_util.specs.Sizes.{usize_max}
 abbrev pub invariant-loop-item : goal.invariant-loop-item
 invariant-loop-item g l =
     IsPrintingStream g.R.Source.empty_means_end l.fn.finder.built l.finder (g.R.Source.told l.fn.reader) (g.R.Source.told l.reader)
-    (g.W.Sink.told l.fn.writer) (g.W.Sink.told l.writer) (string_bytes l.text) l.outcome
+    (g.W.Sink.told l.fn.writer) (g.W.Sink.told l.writer) l.text.items l.outcome
 
 abbrev pub decreases-loop-item : goal.decreases-loop-item
 decreases-loop-item g l = usize_max - l.finder.given
