@@ -45,8 +45,14 @@ fn finds(found: Option<Match>, wanted: (usize, usize)) -> Result<(), Fail> {
     }
 }
 
-/// Tests that an automaton finds what it has to, and returns whether a clone had room, which finds the same.
-fn clone_has_room<E: Automaton + Clone>(engine: &E, wanted: (usize, usize)) -> Result<bool, Fail> {
+/// Returns whether an automaton and a clone of it had room: each that had finds what it has to.
+fn has_room_by<E: Automaton + Clone>(
+    built: Result<E, BuildError>,
+    wanted: (usize, usize),
+) -> Result<bool, Fail> {
+    let Some(engine) = unless_memory(built)? else {
+        return Ok(false);
+    };
     let input = Input::of_text(SENTENCE);
     finds(engine.try_find(input)?, wanted)?;
     let Ok(clone) = engine.clone() else {
@@ -65,48 +71,36 @@ struct EngineBuild {
     wanted: (usize, usize),
 }
 
-/// Builds a noncontiguous NFA, and clones it.
-fn has_room_as_noncontiguous<A: Allocator + Clone>(
-    alloc: A,
-    build: &EngineBuild,
-) -> Result<bool, Fail> {
-    let mut builder = noncontiguous::Builder::new();
-    builder.match_kind(build.kind);
-    match unless_memory(builder.build(alloc, &WORDS))? {
-        Some(nfa) => clone_has_room(&nfa, build.wanted),
-        None => Ok(false),
+impl EngineBuild {
+    /// Builds a noncontiguous NFA.
+    fn noncontiguous<A: Allocator + Clone>(
+        &self,
+        alloc: A,
+    ) -> Result<noncontiguous::NFA<A>, BuildError> {
+        let mut builder = noncontiguous::Builder::new();
+        builder.match_kind(self.kind).build(alloc, &WORDS)
     }
-}
 
-/// Builds a contiguous NFA, and clones it.
-fn has_room_as_contiguous<A: Allocator + Clone>(
-    alloc: A,
-    build: &EngineBuild,
-) -> Result<bool, Fail> {
-    let mut builder = contiguous::Builder::new();
-    builder.match_kind(build.kind);
-    match unless_memory(builder.build(alloc, &WORDS))? {
-        Some(nfa) => clone_has_room(&nfa, build.wanted),
-        None => Ok(false),
+    /// Builds a contiguous NFA.
+    fn contiguous<A: Allocator + Clone>(&self, alloc: A) -> Result<contiguous::NFA<A>, BuildError> {
+        let mut builder = contiguous::Builder::new();
+        builder.match_kind(self.kind).build(alloc, &WORDS)
     }
-}
 
-/// Builds a DFA for both starts, and clones it.
-fn has_room_as_dfa<A: Allocator + Clone>(alloc: A, build: &EngineBuild) -> Result<bool, Fail> {
-    let mut builder = dfa::Builder::new();
-    builder.match_kind(build.kind).start_kind(StartKind::Both);
-    match unless_memory(builder.build(alloc, &WORDS))? {
-        Some(dfa) => clone_has_room(&dfa, build.wanted),
-        None => Ok(false),
+    /// Builds a DFA for both starts.
+    fn dfa<A: Allocator + Clone>(&self, alloc: A) -> Result<dfa::DFA<A>, BuildError> {
+        let mut builder = dfa::Builder::new();
+        builder.match_kind(self.kind).start_kind(StartKind::Both);
+        builder.build(alloc, &WORDS)
     }
 }
 
 impl Call for EngineBuild {
     fn has_room<A: Allocator + Clone>(&self, alloc: A) -> Result<bool, Fail> {
         match self.engine {
-            NoncontiguousNFA => has_room_as_noncontiguous(alloc, self),
-            ContiguousNFA => has_room_as_contiguous(alloc, self),
-            DFA => has_room_as_dfa(alloc, self),
+            NoncontiguousNFA => has_room_by(self.noncontiguous(alloc), self.wanted),
+            ContiguousNFA => has_room_by(self.contiguous(alloc), self.wanted),
+            DFA => has_room_by(self.dfa(alloc), self.wanted),
         }
     }
 }

@@ -4,7 +4,7 @@ ghost use Rattle.ac_search.specs.Built.{replace_refusal};
 
 use super::{Call, SENTENCE, Trial, WORDS};
 use ac_search::MatchKind::LeftmostFirst;
-use ac_search::{AhoCorasick, AhoCorasickBuilder, ReplaceError};
+use ac_search::{AhoCorasick, AhoCorasickBuilder, Match, ReplaceError};
 use std::alloc::{Allocator, Global};
 use std::test::Fail;
 
@@ -113,64 +113,50 @@ fn has_removed(had_room: bool, calls: usize, left: &[u8]) -> Result<bool, Fail> 
     }
 }
 
-/// Removes the words by a closure that counts its calls, in text.
-fn removes_in_text(searcher: &AhoCorasick, alloc: Global) -> Result<bool, Fail> {
-    let Ok(mut destination) = String::from_str(alloc, BEFORE) else {
+/// Counts a call of a closure, which appends nothing.
+fn counted(calls: &mut usize) -> bool {
+    *calls = calls.saturating_add(1);
+    true
+}
+
+/// Removes the words by a closure, in text: by the form that refuses what a searcher doesn't support, or by the other.
+fn removes_in_text(searcher: &AhoCorasick, alloc: Global, tries: bool) -> Result<bool, Fail>
+    requires { replace_refusal searcher.now.built ≡ None }
+{
+    let Ok(mut text) = String::from_str(alloc, BEFORE) else {
         return Ok(false);
     };
-    let mut calls = 0usize;
-    let answer = searcher.try_replace_all_with(SENTENCE, &mut destination, |_, _, _| {
-        calls = calls.saturating_add(1);
-        true
-    });
-    let had_room = unless_memory(answer)?.is_some();
-    has_removed(had_room, calls, destination.as_bytes())
+    let mut calls = 0;
+    let exchange = |_: &Match, _: &str, _: &mut String| counted(&mut calls);
+    let had_room = if tries {
+        unless_memory(searcher.try_replace_all_with(SENTENCE, &mut text, exchange))?.is_some()
+    } else {
+        searcher
+            .replace_all_with(SENTENCE, &mut text, exchange)
+            .is_ok()
+    };
+    has_removed(had_room, calls, text.as_bytes())
 }
 
 /// The same in bytes.
-fn removes_in_bytes(searcher: &AhoCorasick, alloc: Global) -> Result<bool, Fail> {
-    let Ok(mut destination) = Vec::from_slice(alloc, BEFORE.as_bytes()) else {
-        return Ok(false);
-    };
-    let mut calls = 0usize;
-    let sentence = SENTENCE.as_bytes();
-    let answer = searcher.try_replace_all_with_bytes(sentence, &mut destination, |_, _, _| {
-        calls = calls.saturating_add(1);
-        true
-    });
-    let had_room = unless_memory(answer)?.is_some();
-    has_removed(had_room, calls, destination.as_slice())
-}
-
-/// Removes the words in text by the form that refuses nothing but memory.
-fn removes_in_text_unrefused(searcher: &AhoCorasick, alloc: Global) -> Result<bool, Fail>
+fn removes_in_bytes(searcher: &AhoCorasick, alloc: Global, tries: bool) -> Result<bool, Fail>
     requires { replace_refusal searcher.now.built ≡ None }
 {
-    let Ok(mut destination) = String::from_str(alloc, BEFORE) else {
+    let Ok(mut bytes) = Vec::from_slice(alloc, BEFORE.as_bytes()) else {
         return Ok(false);
     };
-    let mut calls = 0usize;
-    let answer = searcher.replace_all_with(SENTENCE, &mut destination, |_, _, _| {
-        calls = calls.saturating_add(1);
-        true
-    });
-    has_removed(answer.is_ok(), calls, destination.as_bytes())
-}
-
-/// The same in bytes.
-fn removes_in_bytes_unrefused(searcher: &AhoCorasick, alloc: Global) -> Result<bool, Fail>
-    requires { replace_refusal searcher.now.built ≡ None }
-{
-    let Ok(mut destination) = Vec::from_slice(alloc, BEFORE.as_bytes()) else {
-        return Ok(false);
+    let (sentence, mut calls) = (SENTENCE.as_bytes(), 0);
+    let exchange = |_: &Match, _: &[u8], _: &mut Vec<u8>| counted(&mut calls);
+    let had_room = if tries {
+        unless_memory(searcher.try_replace_all_with_bytes(
+            sentence, &mut bytes, exchange,
+        ))?.is_some()
+    } else {
+        searcher
+            .replace_all_with_bytes(sentence, &mut bytes, exchange)
+            .is_ok()
     };
-    let mut calls = 0usize;
-    let sentence = SENTENCE.as_bytes();
-    let answer = searcher.replace_all_with_bytes(sentence, &mut destination, |_, _, _| {
-        calls = calls.saturating_add(1);
-        true
-    });
-    has_removed(answer.is_ok(), calls, destination.as_slice())
+    has_removed(had_room, calls, &bytes)
 }
 
 impl Call for ByClosure {
@@ -181,10 +167,10 @@ impl Call for ByClosure {
             return Ok(false);
         };
         match self.form {
-            Form::TryText => removes_in_text(&searcher, self.alloc),
-            Form::TryBytes => removes_in_bytes(&searcher, self.alloc),
-            Form::Text => removes_in_text_unrefused(&searcher, self.alloc),
-            Form::Bytes => removes_in_bytes_unrefused(&searcher, self.alloc),
+            Form::TryText => removes_in_text(&searcher, self.alloc, true),
+            Form::TryBytes => removes_in_bytes(&searcher, self.alloc, true),
+            Form::Text => removes_in_text(&searcher, self.alloc, false),
+            Form::Bytes => removes_in_bytes(&searcher, self.alloc, false),
         }
     }
 }
