@@ -1,5 +1,5 @@
 -- A find that skips: it picks what its prefilter says, or has passed over no match where it reads on.
-use Rattle.std.proofs.Common.{◌≡◌, ◌⊎◌, ℕ, ◌+◌, ◌<◌, ◌≤◌, Bool, true, false, List, refl, ap, sym, inl, inr, arith, Option, Some, None, IfSome, rules}
+use Rattle.std.proofs.Common.{◌≡◌, ◌⊎◌, ℕ, ◌+◌, ◌<◌, ◌≤◌, Bool, true, false, List, [], length, refl, ap, sym, inl, inr, arith, Option, Some, None, IfSome, rules}
 use Rattle.std.specs.List.{list_any}
 use Rattle.std.proofs.lemmas.Bool.{cases_lt}
 use Rattle.std.proofs.lemmas.Grind.{common_steps}
@@ -13,7 +13,7 @@ use Rattle.ac_automaton.specs.Prelude.{Cursor, found_at, HasSearched, in_memory,
 use Rattle.ac_automaton.specs.Finds.{IsReady}
 use Rattle.ac_automaton.proofs.FindAhead.{found-nothing, picked-ahead, picked-there}
 use Rattle.ac_automaton.proofs.FindLoop.{goes_on-by, order, picked-start, up_to}
-use Rattle.ac_automaton.proofs.ReadOn.{node-start}
+use Rattle.ac_automaton.proofs.ReadOn.{at-start, node-start}
 use Rattle.ac_automaton.proofs.Skipping.{none-there}
 
 -- a search that skips has no empty pattern
@@ -71,6 +71,14 @@ module _ (s : Scan) (bytes : List ℕ) (span : Span) {skip : Skip} (by : SkipsBy
       → HasSearched (picking_by s stops) searched r before after
   searched-none stops r answer some_bytes unread =
       grind (arith, common_steps, says r, stops-at (order_of s.built.kind stops) r (unanchored (order_of s.built.kind stops) answer))
+
+-- at the start of the span a find may read on: what the start state finds is picked
+pub ready-start : (s : Scan) (stops : Bool) (bytes : List ℕ) (span : Span) {state : ℕ} → s.stands state (Some [])
+    → span.start ≤ length bytes → IsReady s (in_memory bytes span) stops (record { state = state; at = span.start })
+ready-start s stops bytes span there inside = record {
+  is_at = at-start s (in_memory bytes span) span.start there refl inside;
+  picked = sym (picked-start s stops bytes span inside);
+}
 
 -- a find whose automaton has reached no match since it began picks what the node finds
 module _ (s : Scan) (stops : Bool) (bytes : List ℕ) (span : Span) (free : s.anchored ≡ No)

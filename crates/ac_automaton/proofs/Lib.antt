@@ -9,6 +9,7 @@ pub mod FindAhead
 pub mod FindLoop
 pub mod FindSkipping
 pub mod Follows
+pub mod Gathering
 pub mod Grown
 pub mod Heads
 pub mod Keeping

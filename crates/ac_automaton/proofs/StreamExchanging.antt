@@ -1,12 +1,13 @@
--- The replacement of a stream: what was written so far and one piece more, one exchange more, and where it fails.
-use Rattle.std.proofs.Common.{◌≡◌, ℕ, zero, suc, ◌+◌, ◌-◌, ◌<◌, ◌≤◌, Bool, List, [], ◌∷◌, ◌++◌, length, length-append, take, drop, inl, inr, refl, ap, sym, subst, ◌∙◌, arith, Option, Some, None, Result, Ok, Err, slice_get, slice_range, rules}
-use Rattle.std.proofs.Math.Seq.{take-add, take-append-add}
+-- The replacement of a stream: what was passed on so far and one piece more, one exchange more, and where it fails.
+use Rattle.std.proofs.Common.{◌≡◌, ℕ, zero, suc, ◌+◌, ◌-◌, ◌<◌, ◌≤◌, Bool, List, [], ◌∷◌, ◌++◌, length, take, drop, inl, inr, refl, ap, sym, subst, ◌∙◌, arith, Option, Some, None, Result, Ok, Err, MatchResult, OnOk, slice_get, slice_range, rules}
+use Rattle.std.proofs.Math.Seq.{take-add}
 use Rattle.std.proofs.lemmas.List.{append-nil, append_assoc, drop-drop, drop-take, drop_all, take-append-le, take-take, take_all}
 use Rattle.std.proofs.lemmas.Grind.{common_steps}
-use Rattle.ac_automaton.specs.Util.{Built, IsNear, IsSettledBy, Occurrence, Reading, ReadsAll, ReadsSome, Replacing, stream_result, StreamError, Turn, WritesPiece, Writing}
+use Rattle.ac_automaton.specs.Util.{Built, IsNear, IsSettledBy, Occurrence, Reading, ReadsAll, ReadsSome, Replacing, stream_result, StreamError, Turn}
 use Rattle.ac_util.proofs.Devices.{fails-on, reads-on, reads-out}
 use Rattle.ac_util.proofs.Spans.{take_drop_take}
-use Rattle.ac_automaton.specs.Prelude.{answer_of_exchange, Ended, FailsBy, FailsToExchange, FailsToFill, FillsMore, GivesMatch, HasExchanged, HasReplaced, initial_stream, IsSettledIn, matches_so_far, MeetsEnd, Open, ReplacesBy, StartFrom, Steps, Streaming}
+use Rattle.ac_automaton.specs.Prelude.{answer_of_exchange, Ended, error_in, FailsBy, FailsToExchange, FailsToFill, FillsMore, GivesMatch, HasExchanged, HasGivenSettled, HasReplaced, initial_stream, IsSettledIn, matches_so_far, MeetsEnd, Open, Passing, PassesPiece, ReplacesBy, StartFrom, Steps, Streaming}
+use Rattle.ac_automaton.proofs.Gathering.{piece-flushed, piece-join, piece-none}
 use Rattle.ac_automaton.proofs.Places.{take-next}
 
 -- a part of a list and then the next are a part
@@ -41,29 +42,19 @@ cut-at [] k x at = absurd (cc)
 cut-at (y ∷ xs) zero x at = let same : y ≡ x = cc in (xs, ap (λ (z : _). z ∷ xs) (sym same))
 cut-at (y ∷ xs) (suc k) x at = let rest = cut-at xs k x at in (rest.0, ap (λ (zs : _). y ∷ zs) rest.1)
 
-module _ {E D : Type 0} (told : D → Writing)
+module _ {E D : Type 0} (passing : Passing E D)
     (calls : Occurrence → List ℕ → Replacing E D → Result (Unit {0}) StreamError → Replacing E D → Type 0) where
-  -- nothing was written
-  pub piece-none : (s : Replacing E D) → WritesPiece told [] s None s
-  piece-none s = grind (arith, common_steps)
-
-  -- one piece was written, and then another, or some of it
-  pub piece-join : (xs ys : List ℕ) (s t u : Replacing E D) (end : Option StreamError)
-      → WritesPiece told xs s None t → WritesPiece told ys t end u → WritesPiece told (xs ++ ys) s end u
-  piece-join xs ys s t u None first second = grind (arith, common_steps)
-  piece-join xs ys s t u (Some e) first second = grind (arith, common_steps, length-append xs ((second.1.2).some.part), take-append-add)
-
-  module _ (v : Streaming) (first s : Replacing E D) (done : HasReplaced told calls v first s) where
-    -- what is settled was written
+  module _ (v : Streaming) (first s : Replacing E D) (done : HasReplaced passing calls v first s) where
+    -- what is settled was passed on
     pub replaced-settled : (place : ℕ) (t : Replacing E D) → v.kept ≤ place
-        → WritesPiece told (slice_range v.bytes v.kept place) s None t
-        → HasReplaced told calls (record v { kept = place }) first t
+        → PassesPiece passing (slice_range v.bytes v.kept place) s None t
+        → HasReplaced passing calls (record v { kept = place }) first t
     replaced-settled place t onward writes = record { steps = on }
       where
         on : (haystack : List ℕ) → take place haystack ≡ take place v.bytes → (ms : List Occurrence)
             → StartFrom place ms → (end : Option StreamError) (u : Replacing E D)
-            → Steps told calls haystack place ms t end u
-            → Steps told calls haystack 0 (take v.given (matches_so_far v) ++ ms) first end u
+            → Steps passing calls haystack place ms t end u
+            → Steps passing calls haystack 0 (take v.given (matches_so_far v) ++ ms) first end u
         on haystack same ms starts end u steps =
             done.steps haystack (take-same haystack v.bytes place v.kept same onward) ms (earlier ms starts) end u
             (from ms starts steps)
@@ -72,19 +63,19 @@ module _ {E D : Type 0} (told : D → Writing)
             earlier [] starts = tt
             earlier (m ∷ ms) starts = omega arith
 
-            written : WritesPiece told (slice_range haystack v.kept place) s None t
-            written = subst (λ (w : List ℕ). WritesPiece told w s None t)
+            written : PassesPiece passing (slice_range haystack v.kept place) s None t
+            written = subst (λ (w : List ℕ). PassesPiece passing w s None t)
                 (sym (part-same haystack v.bytes place v.kept place same onward (omega arith))) writes
 
-            from : (ms : List Occurrence) → StartFrom place ms → Steps told calls haystack place ms t end u
-                → Steps told calls haystack v.kept ms s end u
+            from : (ms : List Occurrence) → StartFrom place ms → Steps passing calls haystack place ms t end u
+                → Steps passing calls haystack v.kept ms s end u
             from [] starts rest =
-                subst (λ (w : List ℕ). WritesPiece told w s end u) (part-rest haystack v.kept place onward)
-                (piece-join (slice_range haystack v.kept place) (drop place haystack) s t u end written rest)
+                subst (λ (w : List ℕ). PassesPiece passing w s end u) (part-rest haystack v.kept place onward)
+                (piece-join passing (slice_range haystack v.kept place) (drop place haystack) s t u end written rest)
             from (m ∷ ms) starts (inl gap) = inl (
               gap.0,
-              subst (λ (w : List ℕ). WritesPiece told w s end u) (part-join haystack v.kept place m.start onward starts)
-                  (piece-join (slice_range haystack v.kept place) (slice_range haystack place m.start) s t u end written
+              subst (λ (w : List ℕ). PassesPiece passing w s end u) (part-join haystack v.kept place m.start onward starts)
+                  (piece-join passing (slice_range haystack v.kept place) (slice_range haystack place m.start) s t u end written
                   gap.1),
             )
             from (m ∷ ms) starts (inr turn) =
@@ -94,19 +85,19 @@ module _ {E D : Type 0} (told : D → Writing)
                   turn.1,
                   record {
                     at_match = here.at_match;
-                    gap = subst (λ (w : List ℕ). WritesPiece told w s None here.at_match)
+                    gap = subst (λ (w : List ℕ). PassesPiece passing w s None here.at_match)
                         (part-join haystack v.kept place m.start onward starts)
-                        (piece-join (slice_range haystack v.kept place) (slice_range haystack place m.start) s t
+                        (piece-join passing (slice_range haystack v.kept place) (slice_range haystack place m.start) s t
                         here.at_match None written here.gap);
                     call = here.call;
                   },
                   turn.3,
                 )
 
-    -- all that is settled was exchanged, and the bytes after the last match could not be written
+    -- all that is settled was exchanged, and the bytes after the last match could not be passed on
     pub settled-fails : (place : ℕ) (e : StreamError) (t : Replacing E D) → v.kept ≤ place
-        → WritesPiece told (slice_range v.bytes v.kept place) s (Some e) t
-        → Steps told calls (take place v.bytes) 0 (take v.given (matches_so_far v)) first (Some e) t
+        → PassesPiece passing (slice_range v.bytes v.kept place) s (Some e) t
+        → Steps passing calls (take place v.bytes) 0 (take v.given (matches_so_far v)) first (Some e) t
     settled-fails place e t onward writes =
         grind (arith, common_steps, append-nil (take v.given (matches_so_far v)), drop-take v.kept (place - v.kept) v.bytes)
 
@@ -129,31 +120,31 @@ module _ {E D : Type 0} (told : D → Writing)
       kept-alike : take v.kept (take place v.bytes) ≡ take v.kept v.bytes
       kept-alike = grind (arith, common_steps)
 
-      -- the bytes before it were written, and it was exchanged
-      module _ (at_match : Replacing E D) (gap : WritesPiece told (slice_range v.bytes v.kept m.start) s None at_match) where
+      -- the bytes before it were passed on, and it was exchanged
+      module _ (at_match : Replacing E D) (gap : PassesPiece passing (slice_range v.bytes v.kept m.start) s None at_match) where
         -- so in each haystack that begins alike its turn was made
         turn : (haystack : List ℕ) → take m.end haystack ≡ take m.end v.bytes → (r : Result (Unit {0}) StreamError)
             (t : Replacing E D) → calls m (slice_range v.bytes m.start m.end) at_match r t
-            → Turn (WritesPiece told) calls answer_of_exchange haystack v.kept m s r t
+            → Turn (PassesPiece passing) calls answer_of_exchange haystack v.kept m s r t
         turn haystack same r t call = record {
           at_match = at_match;
-          gap = subst (λ (w : List ℕ). WritesPiece told w s None at_match)
+          gap = subst (λ (w : List ℕ). PassesPiece passing w s None at_match)
               (sym (part-same haystack v.bytes m.end v.kept m.start same gives.after gives.ordered)) gap;
           call = subst (λ (w : List ℕ). calls m w at_match r t)
               (sym (part-same haystack v.bytes m.end m.start m.end same gives.ordered (omega arith))) call;
         }
 
         pub replaced-match : (t : Replacing E D) → calls m (slice_range v.bytes m.start m.end) at_match (Ok tt) t
-            → HasReplaced told calls new first t
+            → HasReplaced passing calls new first t
         replaced-match t call =
-            subst (λ (w : Streaming). HasReplaced told calls w first t) (sym gives.same) (record { steps = on })
+            subst (λ (w : Streaming). HasReplaced passing calls w first t) (sym gives.same) (record { steps = on })
           where
             on : (haystack : List ℕ) → take m.end haystack ≡ take m.end v.bytes → (ms : List Occurrence)
                 → StartFrom m.end ms → (end : Option StreamError) (u : Replacing E D)
-                → Steps told calls haystack m.end ms t end u
-                → Steps told calls haystack 0 (take (v.given + 1) (matches_so_far v) ++ ms) first end u
+                → Steps passing calls haystack m.end ms t end u
+                → Steps passing calls haystack 0 (take (v.given + 1) (matches_so_far v) ++ ms) first end u
             on haystack same ms starts end u steps =
-                subst (λ (ns : List Occurrence). Steps told calls haystack 0 ns first end u)
+                subst (λ (ns : List Occurrence). Steps passing calls haystack 0 ns first end u)
                 (sym (append_assoc (take v.given (matches_so_far v)) (m ∷ []) ms)
                 ∙ ap (λ (ns : List Occurrence). ns ++ ms) (sym (take-next (matches_so_far v) v.given m gives.next)))
                 (done.steps haystack
@@ -164,61 +155,94 @@ module _ {E D : Type 0} (told : D → Writing)
         -- or it could not be exchanged
         pub exchange-fails : (e : StreamError) (t : Replacing E D)
             → calls m (slice_range v.bytes m.start m.end) at_match (Err e) t
-            → Steps told calls (take gives.settled.place v.bytes) 0 (take gives.settled.given (matches_so_far v)) first (Some e) t
+            → Steps passing calls (take gives.settled.place v.bytes) 0 (take gives.settled.given (matches_so_far v)) first (Some e) t
         exchange-fails e t call =
-            subst (λ (ns : List Occurrence). Steps told calls (take place v.bytes) 0 ns first (Some e) t) cut.1
+            subst (λ (ns : List Occurrence). Steps passing calls (take place v.bytes) 0 ns first (Some e) t) cut.1
             (done.steps (take place v.bytes) kept-alike (m ∷ cut.0) gives.after (Some e) t
             (inr (Err e, t, turn (take place v.bytes) alike (Err e) t call, (refl, refl))))
 
-      -- or the bytes before it could not be written
+      -- or the bytes before it could not be passed on
       pub gap-fails : (e : StreamError) (t : Replacing E D)
-          → WritesPiece told (slice_range v.bytes v.kept m.start) s (Some e) t
-          → Steps told calls (take gives.settled.place v.bytes) 0 (take gives.settled.given (matches_so_far v)) first (Some e) t
+          → PassesPiece passing (slice_range v.bytes v.kept m.start) s (Some e) t
+          → Steps passing calls (take gives.settled.place v.bytes) 0 (take gives.settled.given (matches_so_far v)) first (Some e) t
       gap-fails e t gap =
-          subst (λ (ns : List Occurrence). Steps told calls (take place v.bytes) 0 ns first (Some e) t) cut.1
+          subst (λ (ns : List Occurrence). Steps passing calls (take place v.bytes) 0 ns first (Some e) t) cut.1
           (done.steps (take place v.bytes) kept-alike (m ∷ cut.0) gives.after (Some e) t
           (inl (
             (λ none. absurd (cc)),
-            subst (λ (w : List ℕ). WritesPiece told w s (Some e) t)
+            subst (λ (w : List ℕ). PassesPiece passing w s (Some e) t)
                 (sym (part-same (take place v.bytes) v.bytes m.end v.kept m.start alike gives.after gives.ordered)) gap,
           )))
 
-module _ {E D : Type 0} (told : D → Writing)
+module _ {E D : Type 0} (passing : Passing E D)
     (calls : Occurrence → List ℕ → Replacing E D → Result (Unit {0}) StreamError → Replacing E D → Type 0) where
   -- more bytes have come
-  pub replaced-filled : (v new : Streaming) (first s : Replacing E D) → HasReplaced told calls v first s
+  pub replaced-filled : (v new : Streaming) (first s : Replacing E D) → HasReplaced passing calls v first s
       → new.kept ≡ v.kept → new.given ≡ v.given → take v.kept new.bytes ≡ take v.kept v.bytes
-      → take v.given (matches_so_far new) ≡ take v.given (matches_so_far v) → HasReplaced told calls new first s
+      → take v.given (matches_so_far new) ≡ take v.given (matches_so_far v) → HasReplaced passing calls new first s
   replaced-filled v new first s done kept given same stay = grind (arith, common_steps)
 
   -- the matches given were exchanged: these are the steps as far as bytes are kept no more
-  pub replaced-all : (v : Streaming) (first s : Replacing E D) (place : ℕ) → HasReplaced told calls v first s → v.kept ≡ place
-      → Steps told calls (take place v.bytes) 0 (take v.given (matches_so_far v)) first None s
+  pub replaced-all : (v : Streaming) (first s : Replacing E D) (place : ℕ) → HasReplaced passing calls v first s → v.kept ≡ place
+      → Steps passing calls (take place v.bytes) 0 (take v.given (matches_so_far v)) first None s
   replaced-all v first s place done kept =
-      grind (arith, common_steps, append-nil (take v.given (matches_so_far v)), drop_all, piece-none told calls s)
+      grind (arith, common_steps, append-nil (take v.given (matches_so_far v)), drop_all, piece-none passing s)
+
+  -- all matches of what was read that are settled were exchanged
+  module _ (old v new : Streaming) (start s : Replacing E D) (same : v ≡ record old { given = v.given; kept = v.kept })
+      (replaced : (first : Replacing E D) → HasReplaced passing calls old first start → HasReplaced passing calls v first s)
+      (all : HasGivenSettled v new) where
+    -- the bytes after the last one were passed on, and nothing is held back
+    last-passed : (t : Replacing E D) → PassesPiece passing (slice_range v.bytes v.kept new.kept) s None t
+        → passing.held t.closure ≡ [] → HasExchanged passing calls old new start t
+    last-passed t passes clear = search (rules, replaced-settled)
+
+    -- or that has failed
+    pub last-fails : (e : StreamError) (t : Replacing E D)
+        → PassesPiece passing (slice_range v.bytes v.kept new.kept) s (Some e) t
+        → FailsToExchange passing calls old start e t
+    last-fails e t fails first done =
+        subst (λ (w : Streaming). (given place : ℕ) × IsSettledIn w.phase w.built w.bytes given place
+        × Steps passing calls (take place w.bytes) 0 (take given (matches_so_far w)) first (Some e) t) same (
+          v.given,
+          new.kept,
+          all.settled,
+          settled-fails passing calls v first s (replaced first done) new.kept e t all.onward fails,
+        )
+
+    -- they were passed on, and then what is held back was written, or that has failed
+    pub last-flushed : (t u : Replacing E D) (r : Result (Unit {0}) StreamError)
+        → PassesPiece passing (slice_range v.bytes v.kept new.kept) s None t → PassesPiece passing [] t (error_in r) u
+        → OnOk r (passing.held u.closure ≡ [])
+        → MatchResult r (λ _. HasExchanged passing calls old new start u) (λ e. FailsToExchange passing calls old start e u)
+    last-flushed t u (Ok done) passes flushed clear =
+        last-passed u (piece-flushed passing (slice_range v.bytes v.kept new.kept) s t u None passes flushed) clear
+    last-flushed t u (Err e) passes flushed clear =
+        last-fails e u (piece-flushed passing (slice_range v.bytes v.kept new.kept) s t u (Some e) passes flushed)
 
 -- the replacement of a stream from its beginning on
-module _ {E D : Type 0} (told : D → Writing)
+module _ {E D : Type 0} (passing : Passing E D)
     (calls : Occurrence → List ℕ → Replacing E D → Result (Unit {0}) StreamError → Replacing E D → Type 0)
     (ends : Bool) (built : Built) (begun : Reading) (first : Replacing E D) where
-  -- what was read was searched so far as it was before the last read, and what was found exchanged
+  -- what was read was searched so far as it was before the last read, and what was found exchanged; nothing is held back
   pub record IsReplacing (reader : Reading) (v : Streaming) (s : Replacing E D) : Type 0 where
     pub built_is : v.built ≡ built
     pub goes_on : v.phase ≡ Open
     pub reads : ReadsSome begun reader v.bytes
-    pub replaced : HasReplaced told calls v first s
+    pub clear : passing.held s.closure ≡ []
+    pub replaced : HasReplaced passing calls v first s
 
   -- the same once the end was met
   pub record IsEnding (reader : Reading) (v : Streaming) (s : Replacing E D) : Type 0 where
     pub built_is : v.built ≡ built
     pub ended : v.phase ≡ Ended
     pub reads : ReadsAll ends begun reader v.bytes
-    pub replaced : HasReplaced told calls v first s
+    pub replaced : HasReplaced passing calls v first s
 
   -- steps given by what the search was built from
   steps-by : (v : Streaming) (given place : ℕ) (end : Option StreamError) (t : Replacing E D) → v.built ≡ built
-      → Steps told calls (take place v.bytes) 0 (take given (matches_so_far v)) first end t
-      → Steps told calls (take place v.bytes) 0 (take given (stream_result built v.bytes)) first end t
+      → Steps passing calls (take place v.bytes) 0 (take given (matches_so_far v)) first end t
+      → Steps passing calls (take place v.bytes) 0 (take given (stream_result built v.bytes)) first end t
   steps-by v given place end t is steps = grind (arith, common_steps)
 
   -- how far a stream is settled that goes on, and one whose end was met
@@ -231,8 +255,8 @@ module _ {E D : Type 0} (told : D → Writing)
       → (given ≡ length (stream_result built v.bytes)) × (place ≡ length v.bytes)
   settled-ended v given place is ended h = grind (arith, common_steps)
 
-  pub begins : (v : Streaming) → v ≡ initial_stream built → IsReplacing begun v first
-  begins v is = grind (arith, common_steps)
+  pub begins : (v : Streaming) → v ≡ initial_stream built → passing.held first.closure ≡ [] → IsReplacing begun v first
+  begins v is clear = grind (arith, common_steps)
 
   module _ {reader new_reader : Reading} {v new : Streaming} {s : Replacing E D} (on : IsReplacing reader v s)
       (within : v.kept ≤ length v.bytes) where
@@ -246,7 +270,7 @@ module _ {E D : Type 0} (told : D → Writing)
 
     -- or a read has failed
     pub fails-reading : IsSettledIn v.phase v.built v.bytes v.given v.kept → IsNear v.built v.bytes v.kept → (e : StreamError)
-        → FailsToFill v new reader new_reader e → FailsBy told calls ends built begun new_reader first e s
+        → FailsToFill v new reader new_reader e → FailsBy passing calls ends built begun new_reader first e s
     fails-reading settled near e fails = (
       v.bytes,
       inl (record {
@@ -255,19 +279,20 @@ module _ {E D : Type 0} (told : D → Writing)
         reads = fails-on new_reader 0 (length v.bytes) v.bytes (omega arith) on.reads e fails.reads;
         settled = settled-open v v.given v.kept on.built_is on.goes_on settled;
         near = subst (λ (b : Built). IsNear b v.bytes v.kept) on.built_is near;
-        steps = steps-by v v.given v.kept None s on.built_is (replaced-all told calls v first s v.kept on.replaced refl);
+        clear = on.clear;
+        steps = steps-by v v.given v.kept None s on.built_is (replaced-all passing calls v first s v.kept on.replaced refl);
       }),
     )
 
   module _ {reader : Reading} {v : Streaming} {s : Replacing E D} where
     -- what was found in what was read was exchanged
-    pub goes-on : {new : Streaming} {t : Replacing E D} → IsReplacing reader v s → HasExchanged told calls v new s t
+    pub goes-on : {new : Streaming} {t : Replacing E D} → IsReplacing reader v s → HasExchanged passing calls v new s t
         → IsReplacing reader new t
     goes-on on done = grind (arith, common_steps)
 
     -- or that has failed
-    pub fails-exchanging : IsReplacing reader v s → (e : StreamError) (t : Replacing E D) → FailsToExchange told calls v s e t
-        → FailsBy told calls ends built begun reader first e t
+    pub fails-exchanging : IsReplacing reader v s → (e : StreamError) (t : Replacing E D) → FailsToExchange passing calls v s e t
+        → FailsBy passing calls ends built begun reader first e t
     fails-exchanging on e t fails =
         let made = fails first on.replaced in (
           v.bytes,
@@ -280,13 +305,13 @@ module _ {E D : Type 0} (told : D → Writing)
         )
 
     -- at the end all was written
-    pub replaces : {new : Streaming} {t : Replacing E D} → IsEnding reader v s → HasExchanged told calls v new s t
-        → ReplacesBy told calls ends built begun reader first t
+    pub replaces : {new : Streaming} {t : Replacing E D} → IsEnding reader v s → HasExchanged passing calls v new s t
+        → ReplacesBy passing calls ends built begun reader first t
     replaces {new} {t} on done = search (rules, replaced-all, settled-ended, steps-by, take_all)
 
     -- or that has failed
-    pub fails-at-last : IsEnding reader v s → (e : StreamError) (t : Replacing E D) → FailsToExchange told calls v s e t
-        → FailsBy told calls ends built begun reader first e t
+    pub fails-at-last : IsEnding reader v s → (e : StreamError) (t : Replacing E D) → FailsToExchange passing calls v s e t
+        → FailsBy passing calls ends built begun reader first e t
     fails-at-last on e t fails =
         let made = fails first on.replaced in (
           v.bytes,

@@ -1,5 +1,5 @@
 -- The steps of a stream's replacement by a closure, without what wraps it.
-use Rattle.std.proofs.Common.{◌≡◌, ℕ, Bool, List, [], ◌∷◌, take, drop, inl, inr, ap, subst, arith, Option, Some, None, Result, Ok, Err, MatchResult, slice_range, rules}
+use Rattle.std.proofs.Common.{◌≡◌, ℕ, Bool, List, [], ◌∷◌, take, drop, inl, inr, refl, ap, subst, arith, Option, Some, None, Result, Ok, Err, MatchResult, slice_range, rules}
 use Rattle.std.specs.Borrow.{Bor, MutBor}
 use Rattle.std.specs.Fn.{Mut}
 use Rattle.std.specs.declared.io.Error.{Error}
@@ -7,15 +7,15 @@ use Rattle.std.proofs.lemmas.List.{take_all}
 use Rattle.std.proofs.lemmas.Grind.{common_steps}
 use Rattle.ac_automaton.specs.Util.{AnswersStream, answer_of_result, Built, Calls, FailsToReplaceWith, IsSettledBy, LeftmostFirst, LeftmostLongest, MatchAnswer, MatchError, MatchKind, Occurrence, Reading, ReplacementSteps, ReplacesStreamWith, Replacing, settled, Standard, StepsAreSettled, stream_result, StreamError, WritesPiece, Writing}
 use Rattle.ac_util.specs.declared.error.StreamError.TheVariants.{Io}
-use Rattle.ac_automaton.specs.Prelude.{answer_of_exchange, ByClosure, CallsBy, FailsBy, ReplacesBy, Steps}
+use Rattle.ac_automaton.proofs.Gathering.{piece-written}
+use Rattle.ac_automaton.specs.Prelude.{answer_of_exchange, ByClosure, CallsBy, FailsBy, Passing, PassesPiece, ReplacesBy, Steps}
 
--- a replacement answers what one does by which it is made
+-- a replacement that isn't refused answers what one does by which it is made
 pub answers-by : (refusal : Option MatchError) (unchanged : Type 0) {whole whole' : Type 0} {fails fails' : StreamError → Type 0}
-    → (whole → whole') → ((e : StreamError) → fails e → fails' e) → (r : Result (Unit {0}) StreamError)
-    → AnswersStream refusal unchanged whole fails r → AnswersStream refusal unchanged whole' fails' r
-answers-by refusal unchanged replaces fails (Ok done) h = (h.0, replaces h.1)
-answers-by refusal unchanged replaces fails (Err e) (inl refused) = inl refused
-answers-by refusal unchanged replaces fails (Err e) (inr h) = inr (h.0, fails e h.1)
+    → refusal ≡ None → (whole → whole') → ((e : StreamError) → fails e → fails' e) → (r : Result (Unit {0}) StreamError)
+    → MatchResult r (λ _. whole) fails → AnswersStream refusal unchanged whole' fails' r
+answers-by refusal unchanged allowed replaces fails (Ok done) h = (allowed, replaces h)
+answers-by refusal unchanged allowed replaces fails (Err e) h = inr (allowed, fails e h)
 
 -- a closure and its writer, without what wraps the closure
 abbrev bare : {F D : Type 0} → Replacing (ByClosure F) D → Replacing F D
@@ -29,14 +29,22 @@ module _ {F D : Type 0} (told : D → Writing)
       → Replacing (ByClosure F) D → Type 0
   wrapped m slice s r t = CallsBy closures m slice s.closure.closure s.destination r t.closure.closure t.destination
 
+  -- nothing is held back before it
+  abbrev through : Passing (ByClosure F) D
+  through = record { told = told; held = λ e. []; without = λ e. e }
+
+  -- so a piece that is passed on is written
   bare-piece : (bytes : List ℕ) (s t : Replacing (ByClosure F) D) (end : Option StreamError)
-      → WritesPiece told bytes s end t → WritesPiece told bytes (bare s) end (bare t)
-  bare-piece bytes s t None writes = (ap (λ (c : ByClosure F). c.closure) writes.0, writes.1)
-  bare-piece bytes s t (Some e) writes = (ap (λ (c : ByClosure F). c.closure) writes.0, writes.1)
+      → PassesPiece through bytes s end t → WritesPiece told bytes (bare s) end (bare t)
+  bare-piece bytes s t None passes = (
+    ap (λ (c : ByClosure F). c.closure) passes.0,
+    piece-written through bytes s t refl refl passes,
+  )
+  bare-piece bytes s t (Some e) passes = (ap (λ (c : ByClosure F). c.closure) passes.0, passes.1)
 
   -- its steps are those of the closure
   bare-steps : (haystack : List ℕ) (place : ℕ) (ms : List Occurrence) (s t : Replacing (ByClosure F) D)
-      (end : Option StreamError) → Steps told wrapped haystack place ms s end t
+      (end : Option StreamError) → Steps through wrapped haystack place ms s end t
       → ReplacementSteps (WritesPiece told) (Calls closures) answer_of_result haystack place ms (bare s) end (bare t)
   bare-steps haystack place [] s t end steps = bare-piece (drop place haystack) s t end steps
   bare-steps haystack place (m ∷ ms) s t end (inl gap) = grind (arith, common_steps)
@@ -44,7 +52,7 @@ module _ {F D : Type 0} (told : D → Writing)
       by (λ further. bare-steps haystack m.end ms turn.1 t end further) turn.2.call.0 turn.2.call.1 turn.2.call.2
     where
       Further : Type 0
-      Further = Steps told wrapped haystack m.end ms turn.1 end t
+      Further = Steps through wrapped haystack m.end ms turn.1 end t
 
       gap : WritesPiece told (slice_range haystack place m.start) (bare s) None (bare turn.2.at_match)
       gap = bare-piece (slice_range haystack place m.start) s turn.2.at_match None turn.2.gap
@@ -61,12 +69,12 @@ module _ {F D : Type 0} (told : D → Writing)
             bare turn.1,
             record { at_match = bare turn.2.at_match; gap = gap; call = call },
             on (subst (λ (r : Result (Unit {0}) StreamError). MatchAnswer (answer_of_exchange r) Further
-                (WritesPiece told (drop m.end haystack) turn.1 end t) (λ failure. (end ≡ Some failure) × (t ≡ turn.1))) is
+                (PassesPiece through (drop m.end haystack) turn.1 end t) (λ failure. (end ≡ Some failure) × (t ≡ turn.1))) is
                 turn.3),
           )
       by on (Err e) call is =
           let ended = subst (λ (r : Result (Unit {0}) StreamError). MatchAnswer (answer_of_exchange r) Further
-          (WritesPiece told (drop m.end haystack) turn.1 end t) (λ failure. (end ≡ Some failure) × (t ≡ turn.1))) is
+          (PassesPiece through (drop m.end haystack) turn.1 end t) (λ failure. (end ≡ Some failure) × (t ≡ turn.1))) is
           turn.3 in
           inr (
             Err e,
@@ -80,11 +88,11 @@ module _ {F D : Type 0} (told : D → Writing)
     abbrev first : Replacing (ByClosure F) D
     first = record { closure = record { closure = closure }; destination = old }
 
-    pub replaces-with : ReplacesBy told wrapped ends built reader new_reader first t
+    pub replaces-with : ReplacesBy through wrapped ends built reader new_reader first t
         → ReplacesStreamWith told closures built closure old ends reader new_reader t.destination
     replaces-with done = search (rules, bare-steps)
 
-    pub fails-with : (e : StreamError) → FailsBy told wrapped ends built reader new_reader first e t
+    pub fails-with : (e : StreamError) → FailsBy through wrapped ends built reader new_reader first e t
         → FailsToReplaceWith told closures built closure old ends reader new_reader t.destination e
     fails-with e (bytes, inl fails) = (bytes, inl (fails.reads, by built.kind fails.settled))
       where

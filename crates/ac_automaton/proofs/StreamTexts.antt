@@ -3,11 +3,12 @@ use Rattle.std.proofs.Common.{◌≡◌, ◌≢◌, ℕ, suc, ◌-◌, ◌≤◌
 use Rattle.std.proofs.Math.Seq.{take-append_seam}
 use Rattle.std.proofs.lemmas.List.{drop-take, drop_all, take-append-drop, take_all}
 use Rattle.std.proofs.lemmas.Grind.{common_steps}
-use Rattle.ac_automaton.specs.Util.{Built, FailsToReplace, kept_back_len, IsSettledAt, IsSettledBy, last_end, LeftmostFirst, LeftmostLongest, MatchAnswer, MatchKind, Occurrence, Reading, replaced, replaced_from, ReplacesStream, Replacing, settled, Standard, stream_result, StreamError, without_last, WritesPiece, Writing}
+use Rattle.ac_automaton.specs.Util.{Built, error_of, FailsToReplace, kept_back_len, IsSettledAt, IsSettledBy, last_end, LeftmostFirst, LeftmostLongest, MatchAnswer, MatchKind, Occurrence, Reading, replaced, replaced_from, ReplacesStream, Replacing, settled, Standard, stream_result, StreamError, without_last, WriteError, WritesUntilFailure, Writing}
 use Rattle.ac_util.proofs.Exchanges.{AreInOrder, exchanged-in_order}
 use Rattle.ac_util.proofs.PiecesLemmas.{slice_range-append}
-use Rattle.ac_automaton.specs.Prelude.{answer_of_exchange, error_in, FailsBy, ReplacesBy, StartFrom, Steps, WritesTexts}
-use Rattle.ac_automaton.proofs.StreamExchanging.{part-join, piece-join}
+use Rattle.ac_automaton.specs.Prelude.{answer_of_exchange, error_in, FailsBy, Passing, PassesPiece, PassesText, ReplacesBy, StartFrom, Steps}
+use Rattle.ac_automaton.proofs.Gathering.{piece-begun, piece-failed, piece-join, piece-written}
+use Rattle.ac_automaton.proofs.StreamExchanging.{part-join}
 
 -- matches in order, of which the first ones end by a place and the others start no earlier: the haystack as far as there, with
 -- the first ones exchanged, and then the rest of it with the others
@@ -86,146 +87,159 @@ some-apart built bytes given place h = record {
     by [] all = tt
     by (m ∷ ms) all = all 0 m (omega arith)
 
-module _ {F D : Type 0} (told : D → Writing) where
-  -- a piece of which not all was written, and more
-  piece-begun : (xs ys : List ℕ) (s t : Replacing F D) (e : StreamError) → WritesPiece told xs s (Some e) t
-      → WritesPiece told (xs ++ ys) s (Some e) t
-  piece-begun xs ys s t e writes = grind (arith, common_steps)
+-- an exchange by texts, which stay as they are
+module _ {E D : Type 0} (passing : Passing E D) (texts : E → List (List ℕ))
+    (alike : (d e : E) → passing.without d ≡ passing.without e → texts d ≡ texts e) where
+  abbrev exchanges : Occurrence → List ℕ → Replacing E D → Result (Unit {0}) StreamError → Replacing E D → Type 0
+  exchanges m slice s r t = PassesText passing (texts s.closure) m s r t
 
-  module _ (texts : F → List (List ℕ)) where
-    abbrev exchanges : Occurrence → List ℕ → Replacing F D → Result (Unit {0}) StreamError → Replacing F D → Type 0
-    exchanges m slice s r t = WritesTexts told (texts s.closure) m s r t
+  -- a piece leaves the texts as they are
+  piece-texts : (bytes : List ℕ) (s t : Replacing E D) (end : Option StreamError) → PassesPiece passing bytes s end t
+      → texts t.closure ≡ texts s.closure
+  piece-texts bytes s t None passes = alike t.closure s.closure passes.0
+  piece-texts bytes s t (Some e) passes = alike t.closure s.closure passes.0
 
-    -- a piece leaves the texts as they are
-    piece-texts : (bytes : List ℕ) (s t : Replacing F D) (end : Option StreamError) → WritesPiece told bytes s end t
-        → texts t.closure ≡ texts s.closure
-    piece-texts bytes s t None writes = ap texts writes.0
-    piece-texts bytes s t (Some e) writes = ap texts writes.0
+  -- the steps write the replaced text, or a beginning of it
+  text-steps : (haystack : List ℕ) (place : ℕ) (ms : List Occurrence) (s t : Replacing E D) (end : Option StreamError)
+      (list : List (List ℕ)) → texts s.closure ≡ list → Steps passing exchanges haystack place ms s end t
+      → PassesPiece passing (replaced_from haystack list place ms) s end t
+  text-steps haystack place [] s t end list same steps = steps
+  text-steps haystack place (m ∷ ms) s t None list same (inl gap) = absurd (gap.0 refl)
+  text-steps haystack place (m ∷ ms) s t (Some e) list same (inl gap) =
+      piece-begun passing (slice_range haystack place m.start ++ slice_index_or list m.pattern [])
+      (replaced_from haystack list m.end ms) s t e
+      (piece-begun passing (slice_range haystack place m.start) (slice_index_or list m.pattern []) s t e gap.1)
+  text-steps haystack place (m ∷ ms) s t end list same (inr turn) =
+      by (λ further. text-steps haystack m.end ms turn.1 t end list same-after further) turn.0 turn.2.call turn.3
+    where
+      at : Replacing E D
+      at = turn.2.at_match
 
-    -- the steps write the replaced text, or a beginning of it
-    text-steps : (haystack : List ℕ) (place : ℕ) (ms : List Occurrence) (s t : Replacing F D) (end : Option StreamError)
-        (list : List (List ℕ)) → texts s.closure ≡ list → Steps told exchanges haystack place ms s end t
-        → WritesPiece told (replaced_from haystack list place ms) s end t
-    text-steps haystack place [] s t end list same steps = steps
-    text-steps haystack place (m ∷ ms) s t end list same (inl gap) = grind (arith, common_steps)
-    text-steps haystack place (m ∷ ms) s t end list same (inr turn) =
-        by (λ further. text-steps haystack m.end ms turn.1 t end list same-after further) turn.0 turn.2.call turn.3
-      where
-        at : Replacing F D
-        at = turn.2.at_match
+      same-there : texts at.closure ≡ list
+      same-there = piece-texts (slice_range haystack place m.start) s at None turn.2.gap ∙ same
 
-        same-there : texts at.closure ≡ list
-        same-there = piece-texts (slice_range haystack place m.start) s at None turn.2.gap ∙ same
+      text : List ℕ
+      text = slice_index_or list m.pattern []
 
-        text : List ℕ
-        text = slice_index_or list m.pattern []
+      same-after : texts turn.1.closure ≡ list
+      same-after = piece-texts (slice_index_or (texts at.closure) m.pattern []) at turn.1 (error_in turn.0) turn.2.call
+          ∙ same-there
 
-        same-after : texts turn.1.closure ≡ list
-        same-after = piece-texts (slice_index_or (texts at.closure) m.pattern []) at turn.1 (error_in turn.0) turn.2.call
-            ∙ same-there
+      by : (Steps passing exchanges haystack m.end ms turn.1 end t
+          → PassesPiece passing (replaced_from haystack list m.end ms) turn.1 end t)
+          → (r : Result (Unit {0}) StreamError) → PassesText passing (texts at.closure) m at r turn.1
+          → MatchAnswer (answer_of_exchange r) (Steps passing exchanges haystack m.end ms turn.1 end t)
+          (PassesPiece passing (drop m.end haystack) turn.1 end t) (λ failure. (end ≡ Some failure) × (t ≡ turn.1))
+          → PassesPiece passing (replaced_from haystack list place (m ∷ ms)) s end t
+      by on (Ok done) call answered =
+          piece-join passing (slice_range haystack place m.start ++ text) (replaced_from haystack list m.end ms) s turn.1 t
+          end
+          (piece-join passing (slice_range haystack place m.start) text s at turn.1 None turn.2.gap
+          (subst (λ (l : List (List ℕ)). PassesText passing l m at (Ok done) turn.1) same-there call))
+          (on answered)
+      by on (Err e) call answered =
+          subst (λ (f : Option StreamError). PassesPiece passing (replaced_from haystack list place (m ∷ ms)) s f t)
+          (sym answered.0)
+          (subst (λ (x : Replacing E D). PassesPiece passing (replaced_from haystack list place (m ∷ ms)) s (Some e) x)
+          (sym answered.1)
+          (piece-begun passing (slice_range haystack place m.start ++ text) (replaced_from haystack list m.end ms) s turn.1 e
+          (piece-join passing (slice_range haystack place m.start) text s at turn.1 (Some e) turn.2.gap
+          (subst (λ (l : List (List ℕ)). PassesText passing l m at (Err e) turn.1) same-there call))))
 
-        by : (Steps told exchanges haystack m.end ms turn.1 end t
-            → WritesPiece told (replaced_from haystack list m.end ms) turn.1 end t)
-            → (r : Result (Unit {0}) StreamError) → WritesTexts told (texts at.closure) m at r turn.1
-            → MatchAnswer (answer_of_exchange r) (Steps told exchanges haystack m.end ms turn.1 end t)
-            (WritesPiece told (drop m.end haystack) turn.1 end t) (λ failure. (end ≡ Some failure) × (t ≡ turn.1))
-            → WritesPiece told (replaced_from haystack list place (m ∷ ms)) s end t
-        by on (Ok done) call answered =
-            piece-join told exchanges (slice_range haystack place m.start ++ text) (replaced_from haystack list m.end ms) s turn.1 t
-            end
-            (piece-join told exchanges (slice_range haystack place m.start) text s at turn.1 None turn.2.gap
-            (subst (λ (l : List (List ℕ)). WritesTexts told l m at (Ok done) turn.1) same-there call))
-            (on answered)
-        by on (Err e) call answered =
-            subst (λ (f : Option StreamError). WritesPiece told (replaced_from haystack list place (m ∷ ms)) s f t)
-            (sym answered.0)
-            (subst (λ (x : Replacing F D). WritesPiece told (replaced_from haystack list place (m ∷ ms)) s (Some e) x)
-            (sym answered.1)
-            (piece-begun (slice_range haystack place m.start ++ text) (replaced_from haystack list m.end ms) s turn.1 e
-            (piece-join told exchanges (slice_range haystack place m.start) text s at turn.1 (Some e) turn.2.gap
-            (subst (λ (l : List (List ℕ)). WritesTexts told l m at (Err e) turn.1) same-there call))))
+  module _ (ends : Bool) (built : Built) (reader new_reader : Reading) (list : List (List ℕ)) (s t : Replacing E D)
+      (same : texts s.closure ≡ list) (begins : passing.held s.closure ≡ []) where
+    abbrev old : Writing
+    old = passing.told s.destination
 
-    module _ (ends : Bool) (built : Built) (reader new_reader : Reading) (list : List (List ℕ)) (s t : Replacing F D)
-        (same : texts s.closure ≡ list) where
-      old : Writing
-      old = told s.destination
+    abbrev new : Writing
+    new = passing.told t.destination
 
-      abbrev whole-of : List ℕ → List ℕ
-      whole-of bytes = replaced bytes list (stream_result built bytes)
+    abbrev whole-of : List ℕ → List ℕ
+    whole-of bytes = replaced bytes list (stream_result built bytes)
 
-      -- what is settled, and then the rest
-      cut-of : (bytes : List ℕ) (given place : ℕ) → AreApart built bytes given place
-          → whole-of bytes
-          ≡ replaced (take place bytes) list (take given (stream_result built bytes))
-          ++ replaced_from bytes list place (drop given (stream_result built bytes))
-      cut-of bytes given place apart =
-          ap (replaced bytes list) (sym (take-append-drop given (stream_result built bytes)))
-          ∙ replaced-cut bytes list (length built.patterns) 0 place (take given (stream_result built bytes))
-          (drop given (stream_result built bytes))
-          (order-within (length bytes) (length built.patterns) 0 place (take given (stream_result built bytes))
-          (order-front (length bytes) (length built.patterns) 0 (take given (stream_result built bytes))
-          (drop given (stream_result built bytes))
-          (subst (AreInOrder (length bytes) (length built.patterns) 0) (sym (take-append-drop given (stream_result built bytes)))
-          (exchanged-in_order built bytes (length built.patterns) refl))) (omega arith) apart.last) apart.starts apart.within
+    -- what is settled, and then the rest
+    cut-of : (bytes : List ℕ) (given place : ℕ) → AreApart built bytes given place
+        → whole-of bytes
+        ≡ replaced (take place bytes) list (take given (stream_result built bytes))
+        ++ replaced_from bytes list place (drop given (stream_result built bytes))
+    cut-of bytes given place apart =
+        ap (replaced bytes list) (sym (take-append-drop given (stream_result built bytes)))
+        ∙ replaced-cut bytes list (length built.patterns) 0 place (take given (stream_result built bytes))
+        (drop given (stream_result built bytes))
+        (order-within (length bytes) (length built.patterns) 0 place (take given (stream_result built bytes))
+        (order-front (length bytes) (length built.patterns) 0 (take given (stream_result built bytes))
+        (drop given (stream_result built bytes))
+        (subst (AreInOrder (length bytes) (length built.patterns) 0) (sym (take-append-drop given (stream_result built bytes)))
+        (exchanged-in_order built bytes (length built.patterns) refl))) (omega arith) apart.last) apart.starts apart.within
 
-      pub replaces-by : ReplacesBy told exchanges ends built reader new_reader s t
-          → ReplacesStream built list (told s.destination) (told t.destination) ends reader new_reader
-      replaces-by (bytes, reads, steps) =
-          grind (arith, common_steps, text-steps (take (length bytes) bytes) 0 (stream_result built bytes) s t None list same steps)
+    pub replaces-by : ReplacesBy passing exchanges ends built reader new_reader s t
+        → ReplacesStream built list (passing.told s.destination) (passing.told t.destination) ends reader new_reader
+    replaces-by (bytes, reads, clear, steps) = (
+      bytes,
+      reads,
+      piece-written passing (whole-of bytes) s t begins clear
+          (subst (λ (w : List ℕ). PassesPiece passing (replaced w list (stream_result built bytes)) s None t)
+          (take_all (length bytes) bytes (omega arith))
+          (text-steps (take (length bytes) bytes) 0 (stream_result built bytes) s t None list same steps)),
+    )
 
-      last-inside : (bytes : List ℕ) → last_end (stream_result built bytes) ≤ length bytes
-      last-inside bytes =
-          order-last (length bytes) (length built.patterns) 0 (stream_result built bytes)
-          (exchanged-in_order built bytes (length built.patterns) refl)
+    last-inside : (bytes : List ℕ) → last_end (stream_result built bytes) ≤ length bytes
+    last-inside bytes =
+        order-last (length bytes) (length built.patterns) 0 (stream_result built bytes)
+        (exchanged-in_order built bytes (length built.patterns) refl)
 
-      -- the replaced text of what is settled under Standard is that of all without the bytes held back
-      settled-text : (bytes : List ℕ)
-          → replaced (take (settled built bytes) bytes) list (stream_result built bytes)
-          ≡ without_last (kept_back_len built bytes) (whole-of bytes)
-      settled-text bytes =
-          let last = last-inside bytes in
-          let many = length (stream_result built bytes) in
-          let apart = all-apart built bytes many (settled built bytes) refl (omega arith) (omega arith) in
-          let whole = take_all many (stream_result built bytes) (omega arith) in
-          let cut : whole-of bytes
-          ≡ replaced (take (settled built bytes) bytes) list (stream_result built bytes) ++ drop (settled built bytes) bytes =
-          cut-of bytes many (settled built bytes) apart
-          ∙ ap (λ (ms : List Occurrence). replaced (take (settled built bytes) bytes) list ms
-          ++ replaced_from bytes list (settled built bytes) (drop many (stream_result built bytes))) whole
-          ∙ ap (λ (ms : List Occurrence). replaced (take (settled built bytes) bytes) list (stream_result built bytes)
-          ++ replaced_from bytes list (settled built bytes) ms) (drop_all many (stream_result built bytes) (omega arith)) in
-          let written = replaced (take (settled built bytes) bytes) list (stream_result built bytes) in
-          let size = ap length cut ∙ length-append written (drop (settled built bytes) bytes) in
-          let left = length-drop (settled built bytes) bytes in
-          sym (ap (λ (n : ℕ). take n (whole-of bytes))
-          (let n : length (whole-of bytes) - kept_back_len built bytes ≡ length written = omega arith in n)
-          ∙ ap (take (length written)) cut
-          ∙ take-append_seam written (drop (settled built bytes) bytes))
+    -- the replaced text of what is settled under Standard is that of all without the bytes held back
+    settled-text : (bytes : List ℕ)
+        → replaced (take (settled built bytes) bytes) list (stream_result built bytes)
+        ≡ without_last (kept_back_len built bytes) (whole-of bytes)
+    settled-text bytes =
+        let last = last-inside bytes in
+        let many = length (stream_result built bytes) in
+        let apart = all-apart built bytes many (settled built bytes) refl (omega arith) (omega arith) in
+        let whole = take_all many (stream_result built bytes) (omega arith) in
+        let cut : whole-of bytes
+        ≡ replaced (take (settled built bytes) bytes) list (stream_result built bytes) ++ drop (settled built bytes) bytes =
+        cut-of bytes many (settled built bytes) apart
+        ∙ ap (λ (ms : List Occurrence). replaced (take (settled built bytes) bytes) list ms
+        ++ replaced_from bytes list (settled built bytes) (drop many (stream_result built bytes))) whole
+        ∙ ap (λ (ms : List Occurrence). replaced (take (settled built bytes) bytes) list (stream_result built bytes)
+        ++ replaced_from bytes list (settled built bytes) ms) (drop_all many (stream_result built bytes) (omega arith)) in
+        let written = replaced (take (settled built bytes) bytes) list (stream_result built bytes) in
+        let size = ap length cut ∙ length-append written (drop (settled built bytes) bytes) in
+        let left = length-drop (settled built bytes) bytes in
+        sym (ap (λ (n : ℕ). take n (whole-of bytes))
+        (let n : length (whole-of bytes) - kept_back_len built bytes ≡ length written = omega arith in n)
+        ∙ ap (take (length written)) cut
+        ∙ take-append_seam written (drop (settled built bytes) bytes))
 
-      -- a beginning of the replaced text as far as a place is one of all of it
-      begun-text : (bytes : List ℕ) (given place : ℕ) (e : StreamError) → AreApart built bytes given place
-          → Steps told exchanges (take place bytes) 0 (take given (stream_result built bytes)) s (Some e) t
-          → WritesPiece told (whole-of bytes) s (Some e) t
-      begun-text bytes given place e apart steps =
-          subst (λ (w : List ℕ). WritesPiece told w s (Some e) t) (sym (cut-of bytes given place apart))
-          (piece-begun (replaced (take place bytes) list (take given (stream_result built bytes)))
-          (replaced_from bytes list place (drop given (stream_result built bytes))) s t e
-          (text-steps (take place bytes) 0 (take given (stream_result built bytes)) s t (Some e) list same steps))
+    -- a beginning of the replaced text as far as a place is one of all of it
+    begun-text : (bytes : List ℕ) (given place : ℕ) (e : StreamError) → AreApart built bytes given place
+        → Steps passing exchanges (take place bytes) 0 (take given (stream_result built bytes)) s (Some e) t
+        → (failure : WriteError) × (e ≡ error_of failure) × WritesUntilFailure old new (whole-of bytes) failure
+    begun-text bytes given place e apart steps =
+        piece-failed passing (whole-of bytes) s t e begins
+        (subst (λ (w : List ℕ). PassesPiece passing w s (Some e) t) (sym (cut-of bytes given place apart))
+        (piece-begun passing (replaced (take place bytes) list (take given (stream_result built bytes)))
+        (replaced_from bytes list place (drop given (stream_result built bytes))) s t e
+        (text-steps (take place bytes) 0 (take given (stream_result built bytes)) s t (Some e) list same steps)))
 
-      apart-by : (bytes : List ℕ) (given place : ℕ) (kind : MatchKind) → IsSettledBy kind built bytes given place
-          → AreApart built bytes given place
-      apart-by bytes given place Standard all = grind (arith, common_steps, all-apart, last-inside)
-      apart-by bytes given place LeftmostFirst some = some-apart built bytes given place some
-      apart-by bytes given place LeftmostLongest some = some-apart built bytes given place some
+    apart-by : (bytes : List ℕ) (given place : ℕ) (kind : MatchKind) → IsSettledBy kind built bytes given place
+        → AreApart built bytes given place
+    apart-by bytes given place Standard all = grind (arith, common_steps, all-apart, last-inside)
+    apart-by bytes given place LeftmostFirst some = some-apart built bytes given place some
+    apart-by bytes given place LeftmostLongest some = some-apart built bytes given place some
 
-      pub fails-by : (e : StreamError) → FailsBy told exchanges ends built reader new_reader s e t
-          → FailsToReplace built list (told s.destination) (told t.destination) ends reader new_reader e
-      fails-by e (bytes, inl fails) =
-          grind (
-            arith,
-            common_steps,
-            text-steps (take fails.place bytes) 0 (take fails.given (stream_result built bytes)) s t None list same fails.steps,
-            settled-text,
-          )
-      fails-by e (bytes, inr (given, place, inl (some, is), steps)) = search (rules, apart-by, begun-text)
-      fails-by e (bytes, inr (given, place, inr (all, many, is), steps)) = search (rules, all-apart, begun-text, last-inside)
+    pub fails-by : (e : StreamError) → FailsBy passing exchanges ends built reader new_reader s e t
+        → FailsToReplace built list (passing.told s.destination) (passing.told t.destination) ends reader new_reader e
+    fails-by e (bytes, inl fails) =
+        grind (
+          arith,
+          common_steps,
+          piece-written passing (replaced (take fails.place bytes) list (take fails.given (stream_result built bytes))) s t begins
+              fails.clear
+              (text-steps (take fails.place bytes) 0 (take fails.given (stream_result built bytes)) s t None list same
+              fails.steps),
+          settled-text,
+        )
+    fails-by e (bytes, inr (given, place, inl (some, is), steps)) = search (rules, apart-by, begun-text)
+    fails-by e (bytes, inr (given, place, inr (all, many, is), steps)) = search (rules, all-apart, begun-text, last-inside)

@@ -3,8 +3,9 @@ use Rattle.std.specs.Prelude.{◌≡◌, ◌⊎◌, ℕ, ◌≤◌, Bool, List, 
 use Rattle.std.specs.Borrow.{Bor, MutBor}
 use Rattle.std.specs.Fn.{Mut}
 use Rattle.std.specs.declared.io.Error.{Error}
-use Rattle.ac_automaton.specs.Util.{Answer, Built, Calls, Fails, FailsToRead, Continues, IsNear, IsSettled, IsSettledBy, Occurrence, Reading, ReadsAll, ReplacementSteps, Replacing, stream_result, StreamError, WritesPiece, Writing}
+use Rattle.ac_automaton.specs.Util.{Answer, Built, Calls, Fails, FailsToRead, Continues, IsNear, IsSettled, IsSettledBy, Occurrence, Reading, ReadsAll, ReplacementSteps, Replacing, stream_result, StreamError}
 use Rattle.ac_util.specs.declared.error.StreamError.TheVariants.{Io}
+use Rattle.ac_automaton.specs.Gathering.{Passing, PassesPiece}
 use Rattle.ac_automaton.specs.Streams.{IsSettledIn, Streaming, matches_so_far}
 
 -- the error in an answer, if there is one
@@ -17,10 +18,10 @@ abbrev pub answer_of_exchange : Result (Unit {0}) StreamError → Answer StreamE
 answer_of_exchange (Ok done) = Continues
 answer_of_exchange (Err e) = Fails e
 
--- the text of the match's pattern was written, or a beginning of it
-abbrev pub WritesTexts : {F D : Type 0} → (D → Writing) → List (List ℕ) → Occurrence → Replacing F D
-    → Result (Unit {0}) StreamError → Replacing F D → Type 0
-WritesTexts told texts m s r t = WritesPiece told (slice_index_or texts m.pattern []) s (error_in r) t
+-- the text of the match's pattern was passed on, or that has failed
+abbrev pub PassesText : {E D : Type 0} → Passing E D → List (List ℕ) → Occurrence → Replacing E D
+    → Result (Unit {0}) StreamError → Replacing E D → Type 0
+PassesText passing texts m s r t = PassesPiece passing (slice_index_or texts m.pattern []) s (error_in r) t
 
 -- a closure was called with a match and its slice, and its error is the answer's
 abbrev pub CallsBy : {F D : Type 0}
@@ -37,13 +38,13 @@ abbrev pub StartFrom : ℕ → List Occurrence → Type 0
 StartFrom place [] = ⊤
 StartFrom place (m ∷ ms) = place ≤ m.start
 
-module _ {E D : Type 0} (told : D → Writing)
+module _ {E D : Type 0} (passing : Passing E D)
     (calls : Occurrence → List ℕ → Replacing E D → Result (Unit {0}) StreamError → Replacing E D → Type 0) where
   -- the steps that exchange these matches of a haystack, from a place on
   abbrev pub Steps : List ℕ → ℕ → List Occurrence → Replacing E D → Option StreamError → Replacing E D → Type 0
-  Steps haystack place ms s end t = ReplacementSteps (WritesPiece told) calls answer_of_exchange haystack place ms s end t
+  Steps haystack place ms s end t = ReplacementSteps (PassesPiece passing) calls answer_of_exchange haystack place ms s end t
 
-  -- the matches given so far were exchanged, and what isn't kept any more was written: in any haystack that begins as
+  -- the matches given so far were exchanged, and what isn't kept any more was passed on: in any haystack that begins as
   -- the stream does, steps from there on are the last of steps from the start
   pub record HasReplaced (v : Streaming) (first s : Replacing E D) : Type 0 where
     pub steps : (haystack : List ℕ) → take v.kept haystack ≡ take v.kept v.bytes
@@ -51,13 +52,14 @@ module _ {E D : Type 0} (told : D → Writing)
         → Steps haystack v.kept ms s end t
         → Steps haystack 0 (take v.given (matches_so_far v) ++ ms) first end t
 
-  -- all matches of what was read that are settled were exchanged, and all that is settled was written: whatever was done
-  -- before
+  -- all matches of what was read that are settled were exchanged, and all that is settled was written, so that nothing is held
+  -- back: whatever was done before
   pub record HasExchanged (old new : Streaming) (s t : Replacing E D) : Type 0 where
     pub settled : IsSettledIn new.phase new.built new.bytes new.given new.kept
     pub near : IsNear new.built new.bytes new.kept
     pub within : new.kept ≤ length new.bytes
     pub same : new ≡ record old { given = new.given; kept = new.kept }
+    pub clear : passing.held t.closure ≡ []
     pub replaced : (first : Replacing E D) → HasReplaced old first s → HasReplaced new first t
 
   -- a write, or an exchange, has failed: the steps were made up to it
@@ -67,13 +69,14 @@ module _ {E D : Type 0} (told : D → Writing)
       → (given place : ℕ) × IsSettledIn old.phase old.built old.bytes given place
       × Steps (take place old.bytes) 0 (take given (matches_so_far old)) first (Some e) t
 
-  -- the stream was read to its end, and all of its steps were made
+  -- the stream was read to its end, all of its steps were made, and nothing is held back
   abbrev pub ReplacesBy : Bool → Built → Reading → Reading → Replacing E D → Replacing E D → Type 0
   ReplacesBy ends built reader new_reader s t =
-      (bytes : List ℕ) × ReadsAll ends reader new_reader bytes
+      (bytes : List ℕ) × ReadsAll ends reader new_reader bytes × (passing.held t.closure ≡ [])
       × Steps (take (length bytes) bytes) 0 (stream_result built bytes) s None t
 
-  -- a read has failed, or brought more than usize counts: the steps were made as far as the stream was settled
+  -- a read has failed, or brought more than usize counts: the steps were made as far as the stream was settled, and nothing is
+  -- held back
   pub record FailsAtRead (built : Built) (reader new_reader : Reading) (s : Replacing E D) (e : StreamError)
       (t : Replacing E D) (bytes : List ℕ) : Type 0 where
     pub given : ℕ
@@ -81,6 +84,7 @@ module _ {E D : Type 0} (told : D → Writing)
     pub reads : FailsToRead 0 reader new_reader bytes e
     pub settled : IsSettledBy built.kind built bytes given place
     pub near : IsNear built bytes place
+    pub clear : passing.held t.closure ≡ []
     pub steps : Steps (take place bytes) 0 (take given (stream_result built bytes)) s None t
 
   -- that; or a write, or an exchange, has failed: no step was made after that

@@ -4,6 +4,7 @@ pub mod Common
 pub mod Exchanges
 pub mod Finders
 pub mod Finds
+pub mod Gathering
 pub mod Growths
 pub mod Iterators
 pub mod Overlaps

@@ -2,9 +2,10 @@
 pub use Rattle.ac_automaton.specs.Automata.{IsState, Lists, looks_of, matches_of, plain_of, step_of}
 pub use Rattle.ac_automaton.specs.Builds.{engine_built_by, EngineSettings, IsAllowed, IsEngineBuilt, IsRefused, IsRefusedExactly, refusal_or, RefusesBy, state_refusal, too_many_states, usual_engine_settings}
 pub use Rattle.ac_automaton.specs.Common.{built_as, common_of, CommonView}
-pub use Rattle.ac_automaton.specs.Exchanges.{answer_of_exchange, CallsBy, error_in, FailsBy, FailsToExchange, HasExchanged, HasReplaced, ReplacesBy, StartFrom, Steps, WritesTexts}
+pub use Rattle.ac_automaton.specs.Exchanges.{answer_of_exchange, CallsBy, error_in, FailsBy, FailsToExchange, HasExchanged, HasReplaced, ReplacesBy, PassesText, StartFrom, Steps}
 pub use Rattle.ac_automaton.specs.Finders.{Finding, Picking}
 pub use Rattle.ac_automaton.specs.Finds.{FitsIn, found_at, HasSearched, IsAnswered, IsDecided, picking_by, place_of, ReadsTo, HasReadMatch}
+pub use Rattle.ac_automaton.specs.Gathering.{Gathers, Passing, PassesPiece}
 pub use Rattle.ac_automaton.specs.Growths.{EndsPatterns, first_states, grown_view, HasRoot, HasBranched, HasChild, HasSorted, IsGrown, IsNext, IsNotPushed, IsRangeOf, IsWhole, leading, LinkIsDue, MayBranch, nodes_of, Source, source_of, Waits, word}
 pub use Rattle.ac_automaton.specs.Iterators.{after, initial_walk, Finds, GoesOn, HasFound, IsUnderWay, kept_place, last_after, Walking, walking_of}
 pub use Rattle.ac_automaton.specs.Overlaps.{due_in, given_by, given_in, HasListed, HasMoved, is_due, IsListed, IsListing, IsPlaced, initial_listing, ListsNext, Overlapping, overlapping_by, overlapping_of, place_by, rest_in, Takes}

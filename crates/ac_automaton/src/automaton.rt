@@ -12,14 +12,14 @@ ghost use Rattle.ac_automaton.specs.Streams.{initial_stream};
 use ac_util::device::{Sink, Source};
 use ac_util::error::{MatchError, ReplaceError, StreamError};
 use ac_util::looks::Looks;
-use ac_util::prefilter::Prefilter;
-use ac_util::primitives::{PatternID, StateID};
+use ac_util::primitives::PatternID;
 use ac_util::search::{Anchored, Input, Match, MatchKind};
 use std::alloc::Allocator;
 use std::io;
 
 mod common;
 mod find;
+mod gathered;
 mod lengths;
 mod listing;
 mod overlap;
@@ -33,6 +33,8 @@ mod stream_replace;
 mod stream_settled;
 mod walk;
 
+pub use ac_util::prefilter::{Candidate, Prefilter};
+pub use ac_util::primitives::StateID;
 pub use common::Common;
 pub use find::{Finder, find_core};
 pub use listing::MatchRest;
@@ -429,8 +431,8 @@ pub trait Automaton {
 
     /// Writes what a reader gives, with each match of the walk over it exchanged for the text of its pattern. It reads as it
     /// goes and writes as it goes: before each read all of the replaced text was written but for the bytes that a match to
-    /// come may still need, no more than the longest pattern has. The writer isn't flushed. This ports
-    /// `Automaton::try_stream_replace_all`.
+    /// come may still need, no more than the longest pattern has. Between two reads it gathers what it writes. The writer isn't
+    /// flushed. This ports `Automaton::try_stream_replace_all`.
     ///
     /// There have to be as many texts as patterns.
     ///

@@ -15,6 +15,7 @@ use ac_util::patterns::pieces::Pieces;
 use ac_util::primitives::{PatternID, StateID};
 use ac_util::search::{Anchored, StartKind};
 use std::alloc::{AllocError, Allocator, Global};
+use std::fmt;
 use std::marker::Model;
 use std::mem::size_of;
 use std::ops::Range;
@@ -74,6 +75,14 @@ impl<A: Allocator> Model for DFA<A> {
       among : HasMatchesAmong (dfa_of d.common d.start_kind d.classes d.stride2 d.table.items d.lists)
           d.first_match d.match_end;
     } };
+}
+
+/// Shown as `DFA { match_kind: Standard, patterns: 3 }`.
+impl<A: Allocator> fmt::Debug for DFA<A> {
+    fn fmt<W: fmt::Write>(&self, f: &mut fmt::Formatter<W>) -> fmt::Result {
+        let (kind, patterns) = (self.match_kind(), self.patterns_len());
+        write!(f, "DFA {{ match_kind: {kind:?}, patterns: {patterns} }}")
+    }
 }
 
 impl<A: Allocator + Clone> Clone for DFA<A> {

@@ -12,6 +12,7 @@ use ac_util::error::{BuildError, MatchError};
 use ac_util::search::{Anchored, Input, Match, MatchKind, StartKind};
 use engine::Engine;
 use std::alloc::{AllocError, Allocator, Global};
+use std::fmt;
 use std::marker::Model;
 
 mod builder;
@@ -54,6 +55,17 @@ impl<A: Allocator> Model for AhoCorasick<A> {
     ghost view = { λ s. searcher_of s.engine s.start_kind };
 
     ghost invariant = { λ s. Supports s.engine s.start_kind };
+}
+
+/// Shown as `AhoCorasick { kind: DFA, match_kind: Standard, patterns: 3 }`.
+impl<A: Allocator> fmt::Debug for AhoCorasick<A> {
+    fn fmt<W: fmt::Write>(&self, f: &mut fmt::Formatter<W>) -> fmt::Result {
+        let (engine, kind, patterns) = (self.kind(), self.match_kind(), self.patterns_len());
+        write!(
+            f,
+            "AhoCorasick {{ kind: {engine:?}, match_kind: {kind:?}, patterns: {patterns} }}"
+        )
+    }
 }
 
 impl<A: Allocator> Clone for AhoCorasick<A> {

@@ -9,18 +9,20 @@ use crate::StartKind::{Both, Unanchored};
 use crate::laws::{answers_cut_no_character, answers_lie_inside};
 use crate::{
     AhoCorasick, AhoCorasickBuilder, AhoCorasickKind, Anchored, Input, Match, MatchError,
-    MatchKind, StartKind,
+    MatchKind, OverlappingState, StartKind,
 };
 use std::alloc::{AllocError, Global};
 use std::fmt::Debug;
 use std::process::Abort;
 use std::test::Fail;
 
+mod callers;
 mod choice;
 mod devices;
 mod engines;
 mod leftmost_stream;
 mod listings;
+mod readme;
 mod refusals;
 mod replace;
 mod stream;
@@ -249,5 +251,33 @@ fn a_clone_answers_equally(rt: HostRuntime) -> Result<(), Fail> {
     let kinds = (AhoCorasickKind::ContiguousNFA, LeftmostLongest, Both);
     same(&rt, kinds_of(&clone), kinds);
     same(&rt, clone.patterns_len(), 3);
+    Ok(())
+}
+
+#[test]
+fn a_searcher_is_shown(rt: HostRuntime) -> Result<(), Fail> {
+    let alloc = rt.alloc();
+    let searcher = AhoCorasick::new(alloc, &[b"a", b"b"])?;
+    let shown = format!(in alloc; "{searcher:?}")?;
+    let wanted = "AhoCorasick { kind: DFA, match_kind: Standard, patterns: 2 }";
+    same(&rt, shown.as_str(), wanted);
+    Ok(())
+}
+
+#[test]
+fn a_state_is_cloned(rt: HostRuntime) -> Result<(), Fail> {
+    let searcher = AhoCorasick::new(rt.alloc(), &[b"a", b"aa"])?;
+    let input = Input::new(b"aa");
+    let mut state = OverlappingState::start();
+    searcher.try_find_overlapping(input, &mut state)?;
+    let mut clone = state.clone();
+    searcher.try_find_overlapping(input, &mut state)?;
+    searcher.try_find_overlapping(input, &mut clone)?;
+    let found = [state.get_match(), clone.get_match()];
+    same(
+        &rt,
+        found,
+        [Some(Match::must(1, 0..2)), Some(Match::must(1, 0..2))],
+    );
     Ok(())
 }

@@ -7,13 +7,16 @@ use crate::primitives::PatternID;
 use crate::search::MatchKind;
 use std::alloc::{AllocError, AllocFailed};
 use std::io;
+use thiserror::Error;
 
 /// Why no automaton was built. The limits are tested in the order of the cases that follow `Memory`.
-#[derive(Clone, Copy, PartialEq, Eq, Debug)]
+#[derive(Clone, Copy, PartialEq, Eq, Debug, Error)]
 pub enum BuildError {
     /// A request for memory was refused.
+    #[error("a request for memory was refused")]
     Memory,
     /// There are more patterns than `PatternID::LIMIT`.
+    #[error("a pattern would have the number {requested}, and the greatest is {max}")]
     PatternIdOverflow {
         /// The greatest number of a pattern.
         max: u64,
@@ -21,6 +24,7 @@ pub enum BuildError {
         requested: u64,
     },
     /// A pattern is longer than `PatternID::MAX` bytes.
+    #[error("the pattern with the number {} is too long: it has {len} bytes", .pattern.as_usize())]
     PatternTooLong {
         /// The number of the first such pattern.
         pattern: PatternID,
@@ -28,6 +32,7 @@ pub enum BuildError {
         len: usize,
     },
     /// An automaton would need more states than it has numbers for.
+    #[error("a state would have the number {requested}, and the greatest is {max}")]
     StateIdOverflow {
         /// The greatest number of a state.
         max: u64,
@@ -55,33 +60,40 @@ impl<T: Drop> From<AllocFailed<T>> for BuildError {
 /// Why a search is refused: the settings of its searcher, or the anchoring of its input, rule it out.
 ///
 /// The haystack decides nothing: a refused call has read nothing, written nothing and changed nothing.
-#[derive(Clone, Copy, PartialEq, Eq, Debug)]
+#[derive(Clone, Copy, PartialEq, Eq, Debug, Error)]
 pub enum MatchError {
     /// The input is anchored, and the searcher serves no anchored search or the call has no anchored form.
+    #[error("no anchored search is served")]
     InvalidInputAnchored,
     /// The search is unanchored, and the searcher serves anchored searches alone.
+    #[error("no unanchored search is served")]
     InvalidInputUnanchored,
     /// The search is overlapping, which needs `MatchKind::Standard`.
+    #[error("no overlapping search is served by the match kind {got:?}")]
     UnsupportedOverlapping {
         /// The match kind of the searcher.
         got: MatchKind,
     },
     /// The search is that of a stream, by a match kind that has none. Each has one here, so no call answers it; upstream's
     /// streams need `MatchKind::Standard`.
+    #[error("no search of a stream is served by the match kind {got:?}")]
     UnsupportedStream {
         /// The match kind of the searcher.
         got: MatchKind,
     },
     /// The search is that of a stream, and some pattern is empty.
+    #[error("no search of a stream is served where a pattern is empty")]
     UnsupportedEmpty,
 }
 
 /// Why a replacement gave no whole text.
-#[derive(Clone, Copy, PartialEq, Eq, Debug)]
+#[derive(Clone, Copy, PartialEq, Eq, Debug, Error)]
 pub enum ReplaceError {
     /// It is refused: nothing was appended, and no closure called.
+    #[error("{0}")]
     Match(MatchError),
     /// A request for memory was refused. The destination has what was appended before.
+    #[error("a request for memory was refused")]
     Memory,
 }
 
@@ -108,17 +120,22 @@ impl From<AllocError> for ReplaceError {
 }
 
 /// Why a stream was not searched, or not replaced, to its end.
-#[derive(Debug, Drop)]
+#[derive(Debug, Drop, Error)]
 pub enum StreamError {
     /// It is refused: nothing was read or written, and no closure called.
+    #[error("{0}")]
     Match(MatchError),
     /// A request for the buffer's memory was refused: nothing was read or written, and no closure called.
+    #[error("a request for memory was refused")]
     Memory,
     /// A read or a write failed, or a call of the closure did.
+    #[error("{0}")]
     Io(io::Error),
     /// A write took no byte of a piece that isn't empty.
+    #[error("a write took no byte")]
     WriteZero,
     /// More bytes came than a `usize` counts.
+    #[error("more bytes came than can be counted")]
     TooLong,
 }
 
@@ -155,5 +172,41 @@ impl From<WriteError> for StreamError {
             WriteError::Io(e) => StreamError::Io(e),
             WriteError::WriteZero => StreamError::WriteZero,
         }
+    }
+}
+
+#[cfg(test)]
+mod tests {
+    use super::*;
+    use std::error::Error;
+    use std::fmt::Display;
+    use std::test::Fail;
+
+    /// Returns what a person is shown of an error.
+    fn shown<E: Error + Display>(alloc: std::alloc::Global, error: &E) -> Result<String, Fail> {
+        Ok(format!(in alloc; "{}", *error)?)
+    }
+
+    #[test]
+    fn errors_are_shown(rt: HostRuntime) -> Result<(), Fail> {
+        let alloc = rt.alloc();
+        let memory = "a request for memory was refused";
+        assert_eq!(rt; shown(alloc, &BuildError::Memory)?.as_str(), memory);
+        assert_eq!(rt; shown(alloc, &ReplaceError::Memory)?.as_str(), memory);
+        assert_eq!(rt; shown(alloc, &StreamError::Memory)?.as_str(), memory);
+        let long = BuildError::PatternTooLong {
+            pattern: PatternID::must(3),
+            len: 2147483647,
+        };
+        let text = "the pattern with the number 3 is too long: it has 2147483647 bytes";
+        assert_eq!(rt; shown(alloc, &long)?.as_str(), text);
+        let kind = MatchError::UnsupportedOverlapping {
+            got: MatchKind::LeftmostFirst,
+        };
+        let text = "no overlapping search is served by the match kind LeftmostFirst";
+        assert_eq!(rt; shown(alloc, &kind)?.as_str(), text);
+        assert_eq!(rt; shown(alloc, &ReplaceError::Match(kind))?.as_str(), text);
+        assert_eq!(rt; shown(alloc, &StreamError::Match(kind))?.as_str(), text);
+        Ok(())
     }
 }

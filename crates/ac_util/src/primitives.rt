@@ -1,8 +1,9 @@
 //! The numbers of patterns and states.
 //!
 //! They stop well below what 32 bits hold, so that sums of two of them never wrap.
-ghost use Rattle.std.specs.Prelude.{◌≡◌, ◌<◌, ◌≤◌, IfOk, IfErr};
+ghost use Rattle.std.specs.Prelude.{◌≡◌, ◌+◌, ◌<◌, ◌≤◌, IfOk, IfErr};
 
+use std::fmt;
 use std::marker::{Model, PhantomData};
 
 /// The greatest number that a pattern or a state may have.
@@ -30,7 +31,7 @@ pub struct OfState;
 /// A number up to and with `GREATEST`, seen by contracts as that number.
 ///
 /// Its kind keeps the number of a pattern from being taken for that of a state.
-#[derive(Clone, Copy, PartialEq, Eq, PartialOrd, Ord, Hash, Default, Debug)]
+#[derive(Clone, Copy, PartialEq, Eq, PartialOrd, Ord, Hash, Default)]
 pub struct SmallIndex<K = Plain> {
     number: u32,
     kind: PhantomData<K>,
@@ -53,6 +54,27 @@ impl<K> Model for SmallIndex<K> {
     ghost invariant = { λ i. i.number ≤ GREATEST };
 
     ghost inverse = { λ n. record { number = n; kind = record {} } };
+}
+
+/// Written as `SmallIndex(3)`.
+impl fmt::Debug for SmallIndex {
+    fn fmt<W: fmt::Write>(&self, f: &mut fmt::Formatter<W>) -> fmt::Result {
+        write!(f, "SmallIndex({})", self.number)
+    }
+}
+
+/// Written as `PatternID(3)`.
+impl fmt::Debug for PatternID {
+    fn fmt<W: fmt::Write>(&self, f: &mut fmt::Formatter<W>) -> fmt::Result {
+        write!(f, "PatternID({})", self.number)
+    }
+}
+
+/// Written as `StateID(3)`.
+impl fmt::Debug for StateID {
+    fn fmt<W: fmt::Write>(&self, f: &mut fmt::Formatter<W>) -> fmt::Result {
+        write!(f, "StateID({})", self.number)
+    }
 }
 
 // Contracts don't see the value of a constant of a generic `impl`, so each kind has constants of its own.
@@ -112,6 +134,27 @@ impl<K> SmallIndex<K> {
         ensures small { result ≤ GREATEST }
     {
         self.number as usize
+    }
+
+    /// Returns the number.
+    pub fn as_u32(&self) -> u32
+        ensures { result ≡ self.now }
+    {
+        self.number
+    }
+
+    /// Returns the number.
+    pub fn as_u64(&self) -> u64
+        ensures { result ≡ self.now }
+    {
+        u64::from(self.number)
+    }
+
+    /// Returns the number after this one, which is no index where this is the greatest.
+    pub fn one_more(&self) -> usize
+        ensures { result ≡ self.now + 1 }
+    {
+        (self.number + 1) as usize
     }
 }
 

@@ -1,12 +1,14 @@
 //! What a search is asked, and what it answers.
-ghost use Rattle.std.specs.Prelude.{◌≡◌, ◌+◌, ◌-◌, ◌≤◌, ◌↔◌, IsTrue};
+ghost use Rattle.std.specs.Prelude.{◌≡◌, ◌+◌, ◌-◌, ◌<◌, ◌≤◌, ◌↔◌, IsTrue};
 ghost use Rattle.ac_util.specs.Node.{is_leftmost};
 ghost use Rattle.ac_util.specs.Occurrence.{occurrence};
+ghost use Rattle.ac_util.specs.Sizes.{usize_max};
 
 mod input;
 
 use crate::primitives::{GREATEST, PatternID};
 pub use input::Input;
+use std::fmt;
 use std::marker::Model;
 use std::ops::Range;
 
@@ -56,7 +58,7 @@ pub enum Anchored {
 }
 
 /// A part of a haystack: the bytes from `start` up to, and without, `end`.
-#[derive(Clone, Copy, PartialEq, Eq, Hash, Debug)]
+#[derive(Clone, Copy, PartialEq, Eq, Hash)]
 pub struct Span {
     /// The place of the first byte, from 0.
     pub start: usize,
@@ -85,6 +87,43 @@ impl Span {
         ensures { result ≡ self.now.end - self.now.start }
     {
         self.end.saturating_sub(self.start)
+    }
+
+    /// Returns whether an offset lies in the span or is its end. A span without bytes has no offsets.
+    pub fn contains(&self, offset: usize) -> bool
+        ensures { IsTrue result ↔ ((self.now.start < self.now.end) × (self.now.start ≤ offset) × (offset ≤ self.now.end)) }
+    {
+        !self.is_empty() && self.start <= offset && offset <= self.end
+    }
+
+    /// Returns the span that starts and ends so many bytes later. Neither place may pass what a `usize` counts.
+    pub fn offset(&self, offset: usize) -> Span
+        requires start { self.now.start + offset ≤ usize_max }
+        requires end { self.now.end + offset ≤ usize_max }
+        ensures { result ≡ record { start = self.now.start + offset; end = self.now.end + offset } }
+    {
+        Span {
+            start: self.start + offset,
+            end: self.end + offset,
+        }
+    }
+}
+
+/// A span is written as a range: `1..4`.
+impl fmt::Debug for Span {
+    fn fmt<W: fmt::Write>(&self, f: &mut fmt::Formatter<W>) -> fmt::Result {
+        write!(f, "{}..{}", self.start, self.end)
+    }
+}
+
+impl From<Range<usize>> for Span {
+    ghost use Rattle.std.specs.Prelude.{◌≡◌};
+
+    ghost from_gives = { λ range span. span ≡ record { start = range.start; end = range.end } };
+
+    fn from(range: Range<usize>) -> Span {
+        let Range { start, end } = range;
+        Span { start, end }
     }
 }
 
@@ -175,6 +214,17 @@ impl Match {
         ensures { self.now.start + result ≡ self.now.end }
     {
         self.span.len()
+    }
+
+    /// Returns the match of the same pattern so many bytes later. Its end may not pass what a `usize` counts.
+    pub fn offset(&self, offset: usize) -> Match
+        requires end { self.now.end + offset ≤ usize_max }
+        ensures { result ≡ occurrence self.now.pattern (self.now.start + offset) (self.now.end + offset) }
+    {
+        Match {
+            pattern: self.pattern,
+            span: self.span.offset(offset),
+        }
     }
 
     /// Returns whether the match has no bytes, as that of an empty pattern.

@@ -1,9 +1,10 @@
 //! Lines for matches, written in large pieces, and replaced texts.
-ghost use Rattle.std.specs.Prelude.{◌≡◌, ◌++◌, ◌∷◌, [], List, codes, MatchResult, OnOk, option_to_list};
+ghost use Rattle.std.specs.Prelude.{◌≡◌, ◌≤◌, ◌+◌, ◌++◌, ◌∷◌, [], List, codes, decimal, drop, length, MatchResult, OnOk, option_to_list};
 ghost use Rattle.std.specs.Iterator.{IsFinite};
 ghost use Rattle.ac_util.specs.Device.{Writing, WritesAll};
 ghost use Rattle.ac_util.specs.Occurrence.{Occurrence};
 ghost use Rattle.ac_automaton.specs.Streams.{matches_so_far, initial_stream};
+ghost use Rattle.acs.specs.declared.output.TheConstants.{NUMBER};
 ghost use Rattle.acs.specs.declared.run.Outcome.{Outcome};
 ghost use Rattle.acs.specs.declared.run.Outcome.TheVariants.{Found};
 ghost use Rattle.acs.specs.Lines.{line, lines, outcome_of};
@@ -13,11 +14,29 @@ ghost use Rattle.acs.specs.Printed.{FailsToPrintStream, GivesRest, HasPrintedRea
 use crate::fault::Fault;
 use crate::run::Outcome;
 use ac_search::{Match, Sink, Source, StreamFinder};
-use itoa::Buffer;
+use itoa::write_digits;
 use std::alloc::{AllocError, Allocator};
 
 /// From how many bytes on the lines are written.
 const FULL: usize = 65536;
+
+/// How many bytes the longest number takes, which has 20 digits, with a byte after it.
+const NUMBER: usize = 21;
+
+/// How many bytes a line has at most: three numbers, each with a byte after it.
+const LINE: usize = 3 * NUMBER;
+
+/// Writes a number and a byte after it so that they end at `end`, and returns where they start.
+///
+/// There have to be `NUMBER` bytes before `end`.
+fn write_number(line: &mut [u8], end: usize, number: usize, after: u8) -> usize
+    requires { (NUMBER ≤ end) × (end ≤ length line.old) }
+    ensures start { (result ≤ end) × (end ≤ result + NUMBER) }
+    ensures written { drop result line.new ≡ decimal number ++ after ∷ drop end line.old }
+{
+    line[end - 1] = after;
+    write_digits(number as u64, line, end - 1)
+}
 
 /// Adds the line of a match to a text.
 ///
@@ -26,14 +45,11 @@ const FULL: usize = 65536;
 fn add_line<A: Allocator + Clone>(text: &mut Vec<u8, A>, m: &Match) -> Result<(), AllocError>
     ensures { OnOk result (text.new.items ≡ text.old.items ++ line m.now) }
 {
-    let mut digits = Buffer::new();
-    text.extend_from_slice(digits.format(m.pattern().as_usize()).as_bytes())?;
-    text.push(b' ')?;
-    text.extend_from_slice(digits.format(m.start()).as_bytes())?;
-    text.push(b' ')?;
-    text.extend_from_slice(digits.format(m.end()).as_bytes())?;
-    text.push(b'\n')?;
-    Ok(())
+    let mut line = [0; LINE];
+    let end = write_number(&mut line, LINE, m.end(), b'\n');
+    let start = write_number(&mut line, end, m.start(), b' ');
+    let pattern = write_number(&mut line, start, m.pattern().as_usize(), b' ');
+    text.extend_from_slice(&line[pattern..])
 }
 
 /// Writes all of the bytes.

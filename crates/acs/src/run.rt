@@ -34,7 +34,9 @@ pub enum Outcome {
 /// The words are tested first, then the searcher is built, then it is tested that it allows the mode. Only then the input
 /// is read, up to the first read that gives no byte. The modes `stream` and `sreplace` write while they read: before each
 /// read the lines of all matches so far were written that are settled, or the replaced text but for the bytes that a match to
-/// come may still need. A match is settled once no byte to come can change it, which may take one byte more to see. In the other modes nothing is written before all was read.
+/// come may still need. A match is settled once it is seen that no byte to come can change it: under
+/// `MatchKind::Standard` when it is found, under a leftmost kind at most one byte later. In the other modes nothing is
+/// written before all was read.
 ///
 /// # Errors
 /// - `Usage` exactly where the words ask for nothing that there is, or the last pattern of the modes `replace` and `sreplace`

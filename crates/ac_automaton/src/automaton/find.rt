@@ -25,8 +25,8 @@ use std::marker::Model;
 /// from the dead node on, where nothing more is found: there an anchored search stands once it has left all
 /// patterns, and a leftmost one once its match can't change. Under `MatchKind::Standard` or with `earliest` no
 /// byte past the end of the match is read, so the next find can go on with the same tape. An unanchored search
-/// skips by the automaton's prefilter as long as that pays: it calls it at most once for each byte of the span,
-/// and the answer is the same without.
+/// skips by the automaton's prefilter where that pays: it calls it at most once for each byte of the span, and
+/// the answer is the same without.
 #[inline]
 pub fn find_core<A: Automaton>(
     automaton: &A,
@@ -90,7 +90,7 @@ pub struct Finder<'a, A: Automaton> {
     start: StateID,
     /// None in an anchored search, which skips nothing.
     prefilter: Option<&'a Prefilter<A::Memory>>,
-    /// Kept from find to find, so that no prefilter is called for long where it skips little.
+    /// Kept from find to find, so that no prefilter is called often where it skips little.
     credit: Credit,
 }
 
@@ -161,10 +161,41 @@ impl<'a, A: Automaton> Finder<'a, A> {
     }
 
     /// Returns the pick of a span of a tape's haystack, as `find_core` does, with the same conditions and the same
-    /// bounds on what is read and counted. It calls the prefilter as long as that has paid, in this find and in those
-    /// made before by this finder.
+    /// bounds on what is read and counted. It calls the prefilter where that has paid, in this find and in those made
+    /// before by this finder; else it reads on for a while and tries it again.
     #[inline]
     pub fn find(&mut self, span: Span, tape: &mut Tape<'_>, looks: &mut Looks) -> Option<Match>
+        requires end_within { span.end ≤ length tape.old.bytes }
+        requires start_within { span.start ≤ span.end + 1 }
+        requires unread { tape.old.place ≤ span.start }
+        ensures searched { HasSearched self.old.picking
+            (search_of self.old.built self.old.anchored tape.old.bytes span.start span.end) result
+            (work_of tape.old looks.old) (work_of tape.new looks.new) }
+        ensures bytes { tape.new.bytes ≡ tape.old.bytes }
+        ensures same { self.new ≡ self.old }
+    {
+        if self.prefilter.is_some() {
+            return self.find_skipping(span, tape, looks);
+        }
+        if span.start > span.end {
+            return None;
+        }
+        let stops = self.stops;
+        let scanner = Scanner {
+            automaton: self.automaton,
+            anchored: self.anchored,
+            span,
+        };
+        let start = Cursor {
+            state: self.start,
+            at: span.start,
+        };
+        scanner.find_on(stops, start, tape, looks)
+    }
+
+    /// Returns what `find` does. It isn't part of `find`, which so stays short where there is no prefilter.
+    #[inline(never)]
+    fn find_skipping(&mut self, span: Span, tape: &mut Tape<'_>, looks: &mut Looks) -> Option<Match>
         requires end_within { span.end ≤ length tape.old.bytes }
         requires start_within { span.start ≤ span.end + 1 }
         requires unread { tape.old.place ≤ span.start }
@@ -188,12 +219,15 @@ impl<'a, A: Automaton> Finder<'a, A> {
             at: span.start,
         };
         let cursor = match self.prefilter {
-            Some(prefilter) if span.start < span.end && self.credit.is_left() => match prefilter {
+            Some(prefilter) if span.start < span.end => match prefilter {
                 Prefilter::Bytes(_) => {
                     scanner.skip_on(prefilter, start, &mut self.credit, tape, looks)
                 }
-                Prefilter::Needle(_) => {
+                Prefilter::Needle(_) if self.credit.is_left() => {
                     return scanner.find_needle(prefilter, stops, &mut self.credit, tape, looks);
+                }
+                Prefilter::Needle(_) => {
+                    return scanner.find_without_needle(stops, start, &mut self.credit, tape, looks);
                 }
             },
             _ => start,
@@ -244,6 +278,40 @@ impl<'a, A: Automaton> Scanner<'a, A> {
             }
         }
         last
+    }
+
+    /// Returns the pick of the span, as `find_on` does, and records how many bytes that took: after enough of them the
+    /// prefilter may be called again.
+    #[inline(never)]
+    fn find_without_needle(
+        &self,
+        stops: bool,
+        cursor: Cursor,
+        credit: &mut Credit,
+        tape: &mut Tape<'_>,
+        looks: &mut Looks,
+    ) -> Option<Match>
+        requires leftmost { stops ≡ false
+            → is_leftmost (⟦<A as Scans>⟧.scan self.now.automaton.now self.now.anchored).built.kind ≡ true }
+        requires within { cursor.at ≤ self.now.span.end }
+        requires inside { self.now.span.end ≤ length tape.old.bytes }
+        requires unread { tape.old.place ≤ cursor.at }
+        requires ready { IsReady (⟦<A as Scans>⟧.scan self.now.automaton.now self.now.anchored)
+            (in_memory tape.old.bytes self.now.span) stops cursor }
+        ensures bytes { tape.new.bytes ≡ tape.old.bytes }
+        ensures found { (begun : Work) → ScansTo (⟦<A as Scans>⟧.scan self.now.automaton.now self.now.anchored)
+            (in_memory tape.old.bytes self.now.span) self.now.span.start begun cursor.at (work_of tape.old looks.old)
+            → HasSearched (picking_by (⟦<A as Scans>⟧.scan self.now.automaton.now self.now.anchored) stops)
+            (search_through (⟦<A as Scans>⟧.scan self.now.automaton.now self.now.anchored) (in_memory tape.old.bytes self.now.span))
+            result begun (work_of tape.new looks.new) }
+    {
+        let found = self.find_on(stops, cursor, tape, looks);
+        let end = match &found {
+            Some(found) => found.end(),
+            None => self.span.end,
+        };
+        credit.record_rest(end.saturating_sub(self.span.start));
+        found
     }
 
     /// Returns whether the last match found is the answer: nothing is left to read, nothing more is found, or the

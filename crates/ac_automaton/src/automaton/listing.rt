@@ -86,7 +86,7 @@ impl<'a, A: Automaton> Scanner<'a, A> {
     }
 
     /// Returns the next item of the listing of the span, and moves on past it. It skips by the prefilter, where one is
-    /// given, as long as the credit allows.
+    /// given and that pays.
     #[inline]
     pub(super) fn next_item(
         &self,
@@ -117,10 +117,8 @@ impl<'a, A: Automaton> Scanner<'a, A> {
                 return None;
             }
             let ahead = match prefilter {
-                Some(prefilter) if credit.is_left() => {
-                    self.skip_on(prefilter, here, credit, tape, looks)
-                }
-                _ => self.read_ahead(here, tape, looks),
+                Some(prefilter) => self.skip_on(prefilter, here, credit, tape, looks),
+                None => self.read_ahead(here, tape, looks),
             };
             *reached = Reached::new(ahead.state, ahead.at);
         }

@@ -27,7 +27,7 @@ pub struct FindOverlappingIter<'a, 'h, A: Automaton> {
     prefilter: Option<&'a Prefilter<A::Memory>>,
     /// None where the span starts past its end.
     reached: Option<Reached>,
-    /// Kept from item to item, so that a listing gives up a prefilter that skips too little.
+    /// Kept from item to item, so that a listing seldom calls a prefilter that skips too little.
     credit: Credit,
     tape: Tape<'h>,
     looks: Looks,

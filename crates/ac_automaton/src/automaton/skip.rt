@@ -11,6 +11,7 @@ use super::Automaton;
 use super::scan::{Cursor, Scanner, Scans};
 use ac_util::looks::{Looks, Tape};
 use ac_util::prefilter::{Candidate, Prefilter};
+use ac_util::search::Span;
 
 /// How many bytes a call of a prefilter has to skip to be worth its time.
 const CALL_WORTH: usize = 16;
@@ -21,13 +22,26 @@ const CREDIT_AT_FIRST: usize = 16 * CALL_WORTH;
 /// The most credit that calls which skipped much can earn.
 const MOST_CREDIT: usize = 64 * CALL_WORTH;
 
-/// Whether it still pays to call a prefilter: calls that skip little cost more than they save.
+/// How many bytes are read without the prefilter, once no credit is left, before it is tried again.
+const FIRST_REST: usize = 4096;
+
+/// How many these are at most. After each try in vain they are twice as many.
+const MOST_REST: usize = 256 * FIRST_REST;
+
+/// The credit for trying it again.
+const CREDIT_AFTER_REST: usize = 4 * CALL_WORTH;
+
+/// Whether it pays to call a prefilter: calls that skip little cost more than they save.
 ///
-/// Each call uses up credit, and each byte that it skips earns some. Without credit a search calls no prefilter any
-/// more. No answer depends on it.
+/// Each call uses up credit, and each byte that it skips earns some. Without credit a search reads on without the
+/// prefilter for a while, and then tries it again. No answer depends on it.
 #[derive(Clone, Copy)]
 pub(super) struct Credit {
     bytes: usize,
+    /// How many bytes are still to be read without the prefilter once no credit is left.
+    rest: usize,
+    /// How many these will be the next time.
+    next_rest: usize,
 }
 
 impl Credit {
@@ -36,10 +50,12 @@ impl Credit {
     pub(super) fn new() -> Credit {
         Credit {
             bytes: CREDIT_AT_FIRST,
+            rest: FIRST_REST,
+            next_rest: 2 * FIRST_REST,
         }
     }
 
-    /// Returns whether a call may still be made.
+    /// Returns whether a call may be made.
     #[inline]
     pub(super) fn is_left(&self) -> bool {
         self.bytes >= CALL_WORTH
@@ -49,7 +65,40 @@ impl Credit {
     #[inline]
     pub(super) fn record_skip(&mut self, skipped: usize) {
         let left = self.bytes.saturating_sub(CALL_WORTH);
-        self.bytes = left.saturating_add(skipped).min(MOST_CREDIT);
+        self.bytes = left.saturating_add(skipped);
+        if self.bytes > MOST_CREDIT {
+            self.bytes = MOST_CREDIT;
+            self.rest = FIRST_REST;
+            self.next_rest = 2 * FIRST_REST;
+        }
+    }
+
+    /// Charges for a byte that is read where no call can be made, since that takes longer here than by `read_ahead`.
+    #[inline]
+    fn record_byte(&mut self) {
+        self.bytes = self.bytes.saturating_sub(1);
+    }
+
+    /// Returns up to where a search reads without the prefilter: by a byte at least, and no further than the end.
+    #[inline]
+    fn rest_end(&self, at: usize, end: usize) -> usize
+        requires before_end { at < end }
+        ensures onward { at < result }
+        ensures within { result ≤ end }
+    {
+        at.saturating_add(self.rest.max(1)).min(end)
+    }
+
+    /// Records bytes that were read without the prefilter: after enough of them it may be called again.
+    #[inline]
+    pub(super) fn record_rest(&mut self, read: usize) {
+        if read < self.rest {
+            self.rest -= read;
+        } else {
+            self.bytes = CREDIT_AFTER_REST;
+            self.rest = self.next_rest;
+            self.next_rest = self.next_rest.saturating_mul(2).min(MOST_REST);
+        }
     }
 }
 
@@ -57,10 +106,106 @@ impl<'a, A: Automaton> Scanner<'a, A> {
     ghost use Rattle.ac_automaton.specs.Scans.{HasSkipped, IsAt, MayRead, ReadsOn, ScanText, led_to};
     ghost use Rattle.ac_automaton.specs.Skipping.{SkipsByBytes};
 
-    /// Reads on by a byte at least, and skips ahead where the automaton is at its start, up to a state that has matches
-    /// or is dead, or up to the end of the span, or as long as it pays. Returns how far it has come.
+    /// Reads on by a byte at least, up to a state that has matches or is dead, or up to the end of the span. It skips
+    /// ahead where the automaton is at its start and that pays. Returns how far it has come.
     #[inline(never)]
     pub(super) fn skip_on(
+        &self,
+        prefilter: &Prefilter<A::Memory>,
+        cursor: Cursor,
+        credit: &mut Credit,
+        tape: &mut Tape<'_>,
+        looks: &mut Looks,
+    ) -> Cursor
+        requires skips { SkipsByBytes (⟦<A as Scans>⟧.scan self.now.automaton.now self.now.anchored) (skip_of prefilter.now) }
+        requires alive { MayRead (⟦<A as Scans>⟧.scan self.now.automaton.now self.now.anchored) tape.old.bytes cursor }
+        requires before_end { cursor.at < self.now.span.end }
+        requires inside { self.now.span.end ≤ length tape.old.bytes }
+        requires unread { tape.old.place ≤ cursor.at }
+        ensures bytes { tape.new.bytes ≡ tape.old.bytes }
+        ensures moved { cursor.at < result.at }
+        ensures within { result.at ≤ self.now.span.end }
+        ensures reads { ReadsOn (⟦<A as Scans>⟧.scan self.now.automaton.now self.now.anchored) tape.old.bytes cursor
+            (work_of tape.old looks.old) result (work_of tape.new looks.new) }
+    {
+        let end = self.span.end;
+        let (mut state, mut at) = (cursor.state, cursor.at);
+        loop {
+            let ahead = self.read_next(prefilter, Cursor { state, at }, credit, tape, looks);
+            (state, at) = (ahead.state, ahead.at);
+            if at >= end || self.automaton.is_match_or_dead(state) {
+                return ahead;
+            }
+        }
+    }
+
+    /// Reads on without the prefilter: as far as the credit has it rest, or up to a state that has matches or is dead,
+    /// or up to the end of the span. Returns how far it has come.
+    #[inline]
+    fn read_rest(
+        &self,
+        cursor: Cursor,
+        credit: &mut Credit,
+        tape: &mut Tape<'_>,
+        looks: &mut Looks,
+    ) -> Cursor
+        requires alive { MayRead (⟦<A as Scans>⟧.scan self.now.automaton.now self.now.anchored) tape.old.bytes cursor }
+        requires before_end { cursor.at < self.now.span.end }
+        requires inside { self.now.span.end ≤ length tape.old.bytes }
+        requires unread { tape.old.place ≤ cursor.at }
+        ensures bytes { tape.new.bytes ≡ tape.old.bytes }
+        ensures moved { cursor.at < result.at }
+        ensures within { result.at ≤ self.now.span.end }
+        ensures reads { ReadsOn (⟦<A as Scans>⟧.scan self.now.automaton.now self.now.anchored) tape.old.bytes cursor
+            (work_of tape.old looks.old) result (work_of tape.new looks.new) }
+    {
+        let scanner = Scanner {
+            automaton: self.automaton,
+            anchored: self.anchored,
+            span: Span {
+                start: self.span.start,
+                end: credit.rest_end(cursor.at, self.span.end),
+            },
+        };
+        let from = cursor.at;
+        let ahead = scanner.read_ahead(cursor, tape, looks);
+        let read = ahead.at - from;
+        credit.record_rest(read);
+        ahead
+    }
+
+    /// Reads on by a byte at least: skipping ahead where there is credit, and else without the prefilter. Returns how far
+    /// it has come.
+    #[inline]
+    fn read_next(
+        &self,
+        prefilter: &Prefilter<A::Memory>,
+        cursor: Cursor,
+        credit: &mut Credit,
+        tape: &mut Tape<'_>,
+        looks: &mut Looks,
+    ) -> Cursor
+        requires skips { SkipsByBytes (⟦<A as Scans>⟧.scan self.now.automaton.now self.now.anchored) (skip_of prefilter.now) }
+        requires alive { MayRead (⟦<A as Scans>⟧.scan self.now.automaton.now self.now.anchored) tape.old.bytes cursor }
+        requires before_end { cursor.at < self.now.span.end }
+        requires inside { self.now.span.end ≤ length tape.old.bytes }
+        requires unread { tape.old.place ≤ cursor.at }
+        ensures bytes { tape.new.bytes ≡ tape.old.bytes }
+        ensures moved { cursor.at < result.at }
+        ensures within { result.at ≤ self.now.span.end }
+        ensures reads { ReadsOn (⟦<A as Scans>⟧.scan self.now.automaton.now self.now.anchored) tape.old.bytes cursor
+            (work_of tape.old looks.old) result (work_of tape.new looks.new) }
+    {
+        if !credit.is_left() {
+            return self.read_rest(cursor, credit, tape, looks);
+        }
+        self.skip_ahead(prefilter, cursor, credit, tape, looks)
+    }
+
+    /// Reads on by a byte at least, and skips ahead where the automaton is at its start, up to a state that has matches
+    /// or is dead, or up to the end of the span, or as long as there is credit. Returns how far it has come.
+    #[inline]
+    fn skip_ahead(
         &self,
         prefilter: &Prefilter<A::Memory>,
         cursor: Cursor,
@@ -117,6 +262,7 @@ impl<'a, A: Automaton> Scanner<'a, A> {
             looks.old looks.new }
     {
         if !self.automaton.is_start(cursor.state) {
+            credit.record_byte();
             return Some(cursor.at);
         }
         match tape.scan(prefilter, cursor.at, self.span.end, looks) {

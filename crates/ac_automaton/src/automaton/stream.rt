@@ -22,8 +22,9 @@ use std::snapshot::Snapshot;
 /// A search over a stream, whose reader is handed to each call. `StreamFindIter` is one with a reader of its own.
 ///
 /// The matches are those of the walk over all bytes that the readers gave, however they cut them. A match is settled,
-/// and given, once no byte to come can change it; under a leftmost kind it may take one byte more to see that. Some bytes after
-/// the match may have been read by then: these are searched again, at most as many for each match as the longest pattern has.
+/// and given, once it is seen that no byte to come can change it: under `MatchKind::Standard` when it is found, under a
+/// leftmost kind at most one byte later than that is so. Some bytes after the match may have been read by then: these are
+/// searched again, at most as many for each match as the longest pattern has.
 ///
 /// What was read stands in one buffer, which is made at first and never grows: it is read into as far as it has room, and the
 /// bytes that a match to come may need are moved to its front only when it is full. Contracts see all bytes that were read, and
@@ -157,6 +158,8 @@ impl<'a, A: Automaton, Z: Allocator> StreamFinder<'a, A, Z> {
 
     /// Returns the next match of the bytes that were read, without reading more of them. `None` says that all their matches
     /// that are settled were given.
+    // Its loop is slower where it becomes a part of its caller's.
+    #[inline(never)]
     pub fn next_read(&mut self) -> Option<Match>
         ensures { GivesRead self.old result self.new }
     {

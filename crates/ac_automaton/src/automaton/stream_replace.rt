@@ -1,14 +1,17 @@
 //! Replacement in a stream: its bytes are written as they were read, with each match exchanged by a list or by a closure.
-ghost use Rattle.std.specs.Prelude.{◌≡◌, ◌⊎◌, ℕ, ◌<◌, List, MatchResult, None, Result, length};
+ghost use Rattle.std.specs.Prelude.{◌≡◌, ℕ, ◌<◌, List, [], MatchResult, None, OnOk, Result, length, ⊤};
 ghost use Rattle.ac_automaton.specs.Util.{AnswersStream, bytes_of, FailsToReplace, FailsToReplaceWith, IsStreamRefused, Occurrence, ReplacesStream, ReplacesStreamWith, Replacing, stream_refusal, StreamError};
-ghost use Rattle.ac_automaton.specs.Exchanges.{CallsBy, FailsBy, FailsToExchange, HasExchanged, ReplacesBy, WritesTexts};
+ghost use Rattle.ac_automaton.specs.Exchanges.{CallsBy, error_in, FailsBy, FailsToExchange, HasExchanged, PassesText, ReplacesBy};
+ghost use Rattle.ac_automaton.specs.Gathering.{by_texts, Passing, PassesPiece};
+ghost use Rattle.ac_automaton.specs.Streams.{initial_stream};
 
 use super::Automaton;
+use super::gathered::Gathered;
 use super::stream::StreamFinder;
 use ac_util::device::{Sink, Source, write_all};
 use ac_util::error::StreamError;
 use ac_util::search::Match;
-use std::alloc::Allocator;
+use std::alloc::{AllocError, Allocator};
 use std::io;
 
 /// Does what `Automaton::try_stream_replace_all` does.
@@ -26,8 +29,9 @@ pub(super) fn try_stream_replace_all<A: Automaton, Z: Allocator, R: Source, W: S
         (FailsToReplace (A.built automaton.now) (bytes_of texts.now) (W.told writer.old) (W.told writer.new)
         R.empty_means_end (R.told reader.old) (R.told reader.new)) result }
 {
-    let mut exchange = ByTexts { texts };
-    replace_stream(automaton, alloc, reader, writer, &mut exchange)
+    let mut finder = StreamFinder::new(automaton, &alloc)?;
+    let mut exchange = ByTexts::new(&alloc, texts)?;
+    replace_stream(&mut finder, reader, writer, &mut exchange)
 }
 
 /// Does what `Automaton::try_stream_replace_all_with` does.
@@ -51,17 +55,30 @@ where
         (FailsToReplaceWith W.told F.FnMut (A.built automaton.now) closure writer.old R.empty_means_end
         (R.told reader.old) (R.told reader.new) writer.new) result }
 {
+    let mut finder = StreamFinder::new(automaton, alloc)?;
     let mut exchange = ByClosure { closure };
-    replace_stream(automaton, alloc, reader, writer, &mut exchange)
+    replace_stream(&mut finder, reader, writer, &mut exchange)
 }
 
-/// What writes in place of a match.
+/// What the bytes of a stream go through on their way to a writer, and what writes in place of a match.
 pub(super) trait Exchange<W: Sink> {
     // Whether it may be called with a match.
     ghost accepts: { Self → Occurrence → Type 0 };
 
+    // What the writer was told, what it holds back, and what it is without that.
+    ghost passing: { Passing Self W };
+
     // A call with a match and its slice may answer so, and leave it and the writer so.
     ghost calls: { Occurrence → List ℕ → Replacing Self W → Result (Unit {0}) StreamError → Replacing Self W → Type 0 };
+
+    /// Passes on bytes that stand in no match.
+    ///
+    /// # Errors
+    /// As `write_all`.
+    fn pass(&mut self, bytes: &[u8], writer: &mut W) -> Result<(), StreamError>
+        ensures passes { PassesPiece passing bytes.now (record { closure = self.old; destination = writer.old })
+            (error_in result) (record { closure = self.new; destination = writer.new }) }
+        ensures still { (m : Occurrence) → accepts self.old m → accepts self.new m };
 
     /// Writes in place of a match.
     ///
@@ -72,18 +89,49 @@ pub(super) trait Exchange<W: Sink> {
         ensures calls { calls found.now slice.now (record { closure = self.old; destination = writer.old }) result
             (record { closure = self.new; destination = writer.new }) }
         ensures still { (m : Occurrence) → accepts self.old m → accepts self.new m };
+
+    /// Writes what is held back.
+    ///
+    /// # Errors
+    /// As `write_all`.
+    fn write_held(&mut self, writer: &mut W) -> Result<(), StreamError>
+        ensures passes { PassesPiece passing [] (record { closure = self.old; destination = writer.old }) (error_in result)
+            (record { closure = self.new; destination = writer.new }) }
+        ensures clear { OnOk result (passing.held self.new ≡ []) }
+        ensures still { (m : Occurrence) → accepts self.old m → accepts self.new m };
 }
 
-/// Writes the text of a match's pattern.
+/// Writes the text of a match's pattern. Texts and bytes between them are gathered.
 #[derive(Drop)]
-pub(super) struct ByTexts<'t> {
+pub(super) struct ByTexts<'t, Z: Allocator> {
     pub(super) texts: &'t [&'t [u8]],
+    pub(super) gathered: Gathered<Z>,
 }
 
-impl<'t, W: Sink> Exchange<W> for ByTexts<'t> {
+impl<'t, Z: Allocator> ByTexts<'t, Z> {
+    /// Returns an exchange by these texts that holds nothing back.
+    ///
+    /// # Errors
+    /// Where the memory for what is held back is refused.
+    fn new(alloc: Z, texts: &'t [&'t [u8]]) -> Result<ByTexts<'t, Z>, AllocError>
+        ensures { MatchResult result (λ exchange. exchange ≡ record { texts = texts.entry; gathered = [] }) (λ _. ⊤) }
+    {
+        let gathered = Gathered::new(alloc)?;
+        Ok(ByTexts { texts, gathered })
+    }
+}
+
+impl<'t, W: Sink, Z: Allocator> Exchange<W> for ByTexts<'t, Z> {
     ghost accepts = { λ e m. m.pattern < length e.texts.now };
 
-    ghost calls = { λ m slice s r t. WritesTexts W.told (bytes_of s.closure.texts.now) m s r t };
+    ghost passing = { by_texts W.told };
+
+    ghost calls = { λ m slice s r t. PassesText (by_texts W.told) (bytes_of s.closure.texts.now) m s r t };
+
+    fn pass(&mut self, bytes: &[u8], writer: &mut W) -> Result<(), StreamError> {
+        self.gathered.write(writer, bytes)?;
+        Ok(())
+    }
 
     fn exchange(
         &mut self,
@@ -91,12 +139,18 @@ impl<'t, W: Sink> Exchange<W> for ByTexts<'t> {
         _slice: &[u8],
         writer: &mut W,
     ) -> Result<(), StreamError> {
-        write_all(writer, self.texts[found.pattern().as_usize()])?;
+        let text = self.texts[found.pattern().as_usize()];
+        self.gathered.write(writer, text)?;
+        Ok(())
+    }
+
+    fn write_held(&mut self, writer: &mut W) -> Result<(), StreamError> {
+        self.gathered.write_held(writer)?;
         Ok(())
     }
 }
 
-/// Calls a closure.
+/// Calls a closure. Nothing is held back.
 #[derive(Drop)]
 pub(super) struct ByClosure<F> {
     pub(super) closure: F,
@@ -105,7 +159,14 @@ pub(super) struct ByClosure<F> {
 impl<W: Sink, F: FnMut(&Match, &[u8], &mut W) -> io::Result<()>> Exchange<W> for ByClosure<F> {
     ghost accepts = { λ e m. F.IsAlwaysCallable e.closure };
 
+    ghost passing = { record { told = W.told; held = λ e. []; without = λ e. e } };
+
     ghost calls = { λ m slice s r t. CallsBy F.FnMut m slice s.closure.closure s.destination r t.closure.closure t.destination };
+
+    fn pass(&mut self, bytes: &[u8], writer: &mut W) -> Result<(), StreamError> {
+        write_all(writer, bytes)?;
+        Ok(())
+    }
 
     fn exchange(&mut self, found: &Match, slice: &[u8], writer: &mut W) -> Result<(), StreamError> {
         match (self.closure)(found, slice, writer) {
@@ -113,10 +174,14 @@ impl<W: Sink, F: FnMut(&Match, &[u8], &mut W) -> io::Result<()>> Exchange<W> for
             Err(e) => Err(StreamError::Io(e)),
         }
     }
+
+    fn write_held(&mut self, _writer: &mut W) -> Result<(), StreamError> {
+        Ok(())
+    }
 }
 
 /// Exchanges all matches of what was read that are still to be given, and writes the bytes between them as far as they are
-/// settled.
+/// settled. Nothing is held back then.
 ///
 /// # Errors
 /// `Io` where a write failed, `WriteZero` where one took no byte, and those of an exchange.
@@ -128,18 +193,18 @@ fn exchange_read<A: Automaton, Z: Allocator, W: Sink, E: Exchange<W>>(
     requires accepted { (m : Occurrence) → m.pattern < length finder.old.built.patterns → E.accepts exchange.old m }
     ensures accepted { (m : Occurrence) → E.accepts exchange.old m → E.accepts exchange.new m }
     ensures exchanged { MatchResult result
-        (λ _. HasExchanged W.told E.calls finder.old finder.new (record { closure = exchange.old; destination = writer.old })
+        (λ _. HasExchanged E.passing E.calls finder.old finder.new (record { closure = exchange.old; destination = writer.old })
         (record { closure = exchange.new; destination = writer.new }))
-        (λ e. FailsToExchange W.told E.calls finder.old (record { closure = exchange.old; destination = writer.old }) e
+        (λ e. FailsToExchange E.passing E.calls finder.old (record { closure = exchange.old; destination = writer.old }) e
         (record { closure = exchange.new; destination = writer.new })) }
 {
     loop {
         let from = finder.kept();
         let Some(found) = finder.next_read() else {
-            write_all(writer, finder.bytes(from, finder.kept()))?;
-            return Ok(());
+            exchange.pass(finder.bytes(from, finder.kept()), writer)?;
+            return exchange.write_held(writer);
         };
-        write_all(writer, finder.bytes(from, found.start()))?;
+        exchange.pass(finder.bytes(from, found.start()), writer)?;
         exchange.exchange(&found, finder.bytes(found.start(), found.end()), writer)?;
     }
 }
@@ -149,25 +214,25 @@ fn exchange_read<A: Automaton, Z: Allocator, W: Sink, E: Exchange<W>>(
 /// # Errors
 /// As `Automaton::try_stream_replace_all`.
 fn replace_stream<A: Automaton, Z: Allocator, R: Source, W: Sink, E: Exchange<W>>(
-    automaton: &A,
-    alloc: Z,
+    finder: &mut StreamFinder<'_, A, Z>,
     reader: &mut R,
     writer: &mut W,
     exchange: &mut E,
 ) -> Result<(), StreamError>
-    requires accepted { (m : Occurrence) → m.pattern < length (A.built automaton.now).patterns
-        → E.accepts exchange.old m }
-    ensures { AnswersStream (stream_refusal (A.built automaton.now)) ((reader.new ≡ reader.old) × (writer.new ≡ writer.old))
-        (ReplacesBy W.told E.calls R.empty_means_end (A.built automaton.now) (R.told reader.old) (R.told reader.new)
+    requires allowed { stream_refusal finder.old.built ≡ None }
+    requires begins { finder.old ≡ initial_stream finder.old.built }
+    requires clear { E.passing.held exchange.old ≡ [] }
+    requires accepted { (m : Occurrence) → m.pattern < length finder.old.built.patterns → E.accepts exchange.old m }
+    ensures { MatchResult result
+        (λ _. ReplacesBy E.passing E.calls R.empty_means_end finder.old.built (R.told reader.old) (R.told reader.new)
         (record { closure = exchange.old; destination = writer.old })
         (record { closure = exchange.new; destination = writer.new }))
-        (λ e. FailsBy W.told E.calls R.empty_means_end (A.built automaton.now) (R.told reader.old) (R.told reader.new)
+        (λ e. FailsBy E.passing E.calls R.empty_means_end finder.old.built (R.told reader.old) (R.told reader.new)
         (record { closure = exchange.old; destination = writer.old }) e
-        (record { closure = exchange.new; destination = writer.new })) result }
+        (record { closure = exchange.new; destination = writer.new })) }
 {
-    let mut finder = StreamFinder::new(automaton, alloc)?;
     while finder.fill(reader)? {
-        exchange_read(&mut finder, writer, exchange)?;
+        exchange_read(finder, writer, exchange)?;
     }
-    exchange_read(&mut finder, writer, exchange)
+    exchange_read(finder, writer, exchange)
 }

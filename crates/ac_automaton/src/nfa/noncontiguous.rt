@@ -14,6 +14,7 @@ use ac_util::search::Anchored;
 use lists::TrieLists;
 use state::{State, Transition, TrieSlices, follow, listed_len, take_listed};
 use std::alloc::{AllocError, Allocator, Global};
+use std::fmt;
 use std::marker::Model;
 use std::mem::size_of;
 
@@ -55,6 +56,14 @@ impl<A: Allocator> Model for NFA<A> {
           (trie_of n.common n.lists.order.items n.lists.transitions.items n.lists.states.items) nodes;
       rooted : IsRoot n.lists.transitions.items n.lists.states.items n.root.items;
     } };
+}
+
+/// Shown as `NFA { match_kind: Standard, patterns: 3 }`.
+impl<A: Allocator> fmt::Debug for NFA<A> {
+    fn fmt<W: fmt::Write>(&self, f: &mut fmt::Formatter<W>) -> fmt::Result {
+        let (kind, patterns) = (self.match_kind(), self.patterns_len());
+        write!(f, "NFA {{ match_kind: {kind:?}, patterns: {patterns} }}")
+    }
 }
 
 impl<A: Allocator + Clone> Clone for NFA<A> {

@@ -17,6 +17,7 @@ use ac_util::primitives::{PatternID, StateID};
 use ac_util::search::Anchored;
 use state::State;
 use std::alloc::{AllocError, Allocator, Global};
+use std::fmt;
 use std::marker::Model;
 use std::mem::size_of;
 use step::follow;
@@ -62,6 +63,14 @@ impl<A: Allocator> Model for NFA<A> {
 
     ghost invariant = { λ n. (at : Places) × IsContiguous (contiguous_of n.common n.dense_depth n.classes n.words.items
         n.start n.anchored_start n.match_end) at };
+}
+
+/// Shown as `NFA { match_kind: Standard, patterns: 3 }`.
+impl<A: Allocator> fmt::Debug for NFA<A> {
+    fn fmt<W: fmt::Write>(&self, f: &mut fmt::Formatter<W>) -> fmt::Result {
+        let (kind, patterns) = (self.match_kind(), self.patterns_len());
+        write!(f, "NFA {{ match_kind: {kind:?}, patterns: {patterns} }}")
+    }
 }
 
 impl<A: Allocator + Clone> Clone for NFA<A> {

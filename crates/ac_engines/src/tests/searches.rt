@@ -4,7 +4,8 @@ use crate::dfa;
 use crate::nfa::contiguous;
 use ac_automaton::automaton::{Automaton, Finder, OverlappingState, find_core};
 use ac_automaton::nfa::noncontiguous;
-use ac_util::error::{BuildError, MatchError};
+use ac_util::device::FromRead;
+use ac_util::error::{BuildError, MatchError, StreamError};
 use ac_util::looks::open;
 use ac_util::primitives::PatternID;
 use ac_util::search::Anchored::{No, Yes};
@@ -253,6 +254,52 @@ fn a_dfa_refuses_before_it_looks_at_the_span(rt: HostRuntime) -> Result<(), Fail
     );
     same(&rt, dfa.try_find(input.anchored(No)), Ok(None));
     Ok(())
+}
+
+#[test]
+fn engines_are_shown(rt: HostRuntime) -> Result<(), Fail> {
+    let alloc = rt.alloc();
+    let trie = noncontiguous::NFA::new(alloc, &[b"a", b"b"])?;
+    let shown = format!(in alloc; "{trie:?} {:?}", contiguous_over(alloc, &trie)?)?;
+    let wanted = "NFA { match_kind: Standard, patterns: 2 }";
+    assert_eq!(rt;
+        shown.as_str(),
+        format!(in alloc; "{wanted} {wanted}")?.as_str()
+    );
+    let shown = format!(in alloc; "{:?}", dfa_over(alloc, &trie)?)?;
+    assert_eq!(rt; shown.as_str(), "DFA { match_kind: Standard, patterns: 2 }");
+    Ok(())
+}
+
+/// A stream that is refused.
+const STREAM: &[u8] = b"abc";
+
+/// Tests that an automaton refuses a stream for this, and leaves the reader that it was lent as it was.
+fn compare_refusal<A: Automaton>(
+    alloc: Global,
+    automaton: &A,
+    refusal: MatchError,
+) -> Result<(), Fail> {
+    let mut left = STREAM;
+    let matches = automaton.try_stream_find_iter(alloc, FromRead::new(&mut left));
+    match matches.map(|_| ()) {
+        Err(StreamError::Match(e)) if e == refusal && left == STREAM => Ok(()),
+        answer => Err(Fail::new(format_args!("{answer:?}, {left:?}"))),
+    }
+}
+
+#[test]
+fn a_refused_stream_is_not_read(rt: HostRuntime) -> Result<(), Fail> {
+    let alloc = rt.alloc();
+    let trie = noncontiguous::NFA::new(alloc, &[b"a", b""])?;
+    let refusal = MatchError::UnsupportedEmpty;
+    compare_refusal(alloc, &trie, refusal)?;
+    compare_refusal(alloc, &contiguous_over(alloc, &trie)?, refusal)?;
+    compare_refusal(alloc, &dfa_over(alloc, &trie)?, refusal)?;
+    let mut builder = dfa::Builder::new();
+    builder.start_kind(StartKind::Anchored);
+    let refusal = MatchError::InvalidInputUnanchored;
+    compare_refusal(alloc, &builder.build(alloc, &[b"a"])?, refusal)
 }
 
 #[test]

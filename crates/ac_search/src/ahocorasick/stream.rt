@@ -21,10 +21,11 @@ impl<A: Allocator> AhoCorasick<A> {
     /// however it cuts them. Offsets count bytes from 0 over the whole stream, and a match goes from its start up to, but
     /// without, its end.
     ///
-    /// A match is settled, and given, once no byte to come can change it: under `MatchKind::Standard` when it is found, under a
-    /// leftmost kind by the bytes after it, at the latest by one byte more than it takes, or by the end. Nothing is read before the first match is asked for. The
-    /// allocator makes one buffer, which never grows. The searcher has to support unanchored searches, and no pattern may be
-    /// empty. This ports `AhoCorasick::stream_find_iter`, which takes `MatchKind::Standard` alone.
+    /// A match is settled, and given, once it is seen that no byte to come can change it: under `MatchKind::Standard` when
+    /// it is found, under a leftmost kind by the bytes after it, at the latest one byte later than that is so, or by the
+    /// end. Nothing is read before the first match is asked for. The allocator makes one buffer, which never grows. The
+    /// searcher has to support unanchored searches, and no pattern may be empty. This ports
+    /// `AhoCorasick::stream_find_iter`, which takes `MatchKind::Standard` alone.
     ///
     /// ```
     /// // a searcher over "append", "appendage" and "app", by `MatchKind::Standard`
@@ -68,9 +69,9 @@ impl<A: Allocator> AhoCorasick<A> {
     /// Writes what a reader gives, with each match of `find_iter` over all its bytes exchanged for the text of its pattern.
     ///
     /// It reads as it goes and writes as it goes: before each read all of the replaced text was written but for the bytes
-    /// that a match to come may still need, no more than the longest pattern has. The allocator makes one buffer, which never
-    /// grows; no other memory is taken. The writer isn't flushed. There have to be as many texts as patterns.
-    /// This ports `AhoCorasick::try_stream_replace_all`.
+    /// that a match to come may still need, no more than the longest pattern has. The allocator makes two buffers, which never
+    /// grow, one for what is read and one of 65,536 bytes for what is written; no other memory is taken. The writer isn't
+    /// flushed. There have to be as many texts as patterns. This ports `AhoCorasick::try_stream_replace_all`.
     ///
     /// ```
     /// // a searcher over "fox", "brown" and "quick"
@@ -114,7 +115,8 @@ impl<A: Allocator> AhoCorasick<A> {
 
     /// Does the same as `try_stream_replace_all` with a call of the closure at each match: it is handed the match, with
     /// offsets over the whole stream, the slice that matched, and the writer, to which it writes what it exchanges the match
-    /// for. This ports `AhoCorasick::try_stream_replace_all_with`.
+    /// for. What stands before a match was written when the closure is called, so there is one buffer alone. This ports
+    /// `AhoCorasick::try_stream_replace_all_with`.
     ///
     /// The closure may be called at each match and writer.
     ///

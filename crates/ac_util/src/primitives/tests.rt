@@ -2,6 +2,7 @@ use super::{PatternID, Plain, SmallIndex, StateID, TooLarge};
 use std::cmp::Ordering;
 use std::cmp::Ordering::{Equal, Greater, Less};
 use std::hash::{DefaultHasher, Hash, Hasher};
+use std::test::Fail;
 
 /// Returns what a hasher makes of a value.
 fn hash_of<T: Hash>(value: &T) -> u64 {
@@ -42,6 +43,24 @@ fn numbers_end_at_the_greatest(rt: HostRuntime) {
     ];
     assert_eq!(rt; made, wanted);
     assert_eq!(rt; PatternID::must(2147483646).as_usize(), 2147483646);
+}
+
+#[test]
+fn numbers_are_given_in_each_size(rt: HostRuntime) -> Result<(), Fail> {
+    let greatest = PatternID::must(2147483646);
+    assert_eq!(rt;
+        (greatest.as_u32(), greatest.as_u64()),
+        (2147483646, 2147483646)
+    );
+    assert_eq!(rt;
+        (greatest.one_more(), StateID::must(0).one_more()),
+        (2147483647, 1)
+    );
+    let shown = format!(in rt.alloc(); "{:?} {:?}", PatternID::must(3), StateID::must(4))?;
+    assert_eq!(rt; shown.as_str(), "PatternID(3) StateID(4)");
+    let shown = format!(in rt.alloc(); "{:?}", SmallIndex::<Plain>::must(5))?;
+    assert_eq!(rt; shown.as_str(), "SmallIndex(5)");
+    Ok(())
 }
 
 #[test]

@@ -13,7 +13,7 @@ use std::ops::Range;
 /// ```
 /// let input = Input::new(b"foobar").range(3..6).anchored(Anchored::Yes);
 /// ```
-#[derive(Clone, Copy)]
+#[derive(Clone, Copy, Debug)]
 pub struct Input<'h> {
     haystack: &'h [u8],
     start: usize,

@@ -4,7 +4,8 @@ ghost use Rattle.std.specs.Iterator.{IsFinite};
 use super::same_by;
 use ac_search::MatchKind::{LeftmostFirst, LeftmostLongest, Standard};
 use ac_search::{
-    AhoCorasick, AhoCorasickBuilder, AhoCorasickKind, Anchored, Input, Match, MatchKind, StartKind,
+    AhoCorasick, AhoCorasickBuilder, AhoCorasickKind, Anchored, Bytes, Input, Match, MatchKind,
+    Sink, StartKind, Written,
 };
 use std::alloc::{AllocError, Global};
 use std::process::Abort;
@@ -109,7 +110,48 @@ fn len_of<I: Iterator<Item = Match>>(items: I) -> usize
     len
 }
 
+/// What each match is exchanged for.
+const TEXT: &str = "bc";
+
+/// Returns a text in which a closure exchanged each match.
+fn exchanged_text(alloc: Global, searcher: &AhoCorasick, haystack: &str) -> Result<String, Fail> {
+    let mut text = String::new(alloc);
+    searcher.try_replace_all_with(haystack, &mut text, |_, _, destination| {
+        destination.push_str(TEXT).is_ok()
+    })?;
+    Ok(text)
+}
+
+/// Returns bytes in which a closure exchanged each match.
+fn exchanged_bytes(
+    alloc: Global,
+    searcher: &AhoCorasick,
+    haystack: &[u8],
+) -> Result<Vec<u8>, Fail> {
+    let mut bytes = Vec::new(alloc);
+    searcher.try_replace_all_with_bytes(haystack, &mut bytes, |_, _, destination| {
+        destination.extend_from_slice(TEXT.as_bytes()).is_ok()
+    })?;
+    Ok(bytes)
+}
+
+/// Returns what is written of a stream in which a closure exchanged each match.
+fn exchanged_stream(
+    alloc: Global,
+    searcher: &AhoCorasick,
+    stream: &[u8],
+) -> Result<Written<Global>, Fail> {
+    let (mut reader, mut writer) = (Bytes::new(stream), Written::new(alloc));
+    let exchange = |_: &Match, _: &[u8], writer: &mut Written<Global>| {
+        writer.write_some(TEXT.as_bytes())?;
+        Ok(())
+    };
+    searcher.try_stream_replace_all_with(alloc, &mut reader, &mut writer, exchange)?;
+    Ok(writer)
+}
+
 /// Compares how many matches a walk has, each of which is a byte, and how long all is with each exchanged for two bytes.
+/// What closures exchange is the same, in text, in bytes and in a stream.
 fn compare_many(
     rt: &impl Abort,
     alloc: Global,
@@ -122,8 +164,15 @@ fn compare_many(
         return Ok(());
     }
     assert!(rt; searcher.patterns_len() == 1);
-    let replaced = searcher.try_replace_all_bytes(alloc, input.haystack(), &[b"bc"])?;
+    let haystack = input.haystack();
+    let replaced = searcher.try_replace_all_bytes(alloc, haystack, &[TEXT.as_bytes()])?;
     same_by(rt, replaced.len(), 2 * LONG, &searcher.kind());
+    let text = exchanged_text(alloc, searcher, str::from_utf8(haystack)?)?;
+    assert!(rt; text.as_bytes() == replaced.as_slice());
+    let bytes = exchanged_bytes(alloc, searcher, haystack)?;
+    assert!(rt; bytes.as_slice() == replaced.as_slice());
+    let writer = exchanged_stream(alloc, searcher, haystack)?;
+    assert!(rt; writer.bytes() == replaced.as_slice());
     Ok(())
 }
 

@@ -2,7 +2,8 @@
 //!
 //! In heaps of rising size each call is refused at each size up to the one that it wants (`heaps`). Over the usual memory
 //! each request is refused once: `scripts/check_refused` runs `requests` once for each request that it makes.
-use std::alloc::{Allocator, Global};
+use std::alloc::{AllocError, Allocator, Global};
+use std::fmt::Debug;
 use std::test::Fail;
 
 mod builds;
@@ -18,11 +19,28 @@ const WORDS: [&[u8]; 3] = [b"append", b"appendage", b"app"];
 /// A text in which they stand.
 const SENTENCE: &str = "append the app to the appendage";
 
-/// A call that takes its memory from an allocator that it is handed.
+/// A call that is tried with more or less memory.
 trait Call {
-    /// Makes the call, and returns whether it had the memory that it wants. If so it answered what it has to. If not it
-    /// reported want of memory, and what stands as it was without memory does so.
+    /// Makes the call with memory from `alloc`, and returns whether it had room. If not, it reported want of memory.
+    ///
+    /// # Errors
+    /// Where it had room and answered something else than it has to; and where it had none and reported another
+    /// cause, or something else stands then than has to.
     fn has_room<A: Allocator + Clone>(&self, alloc: A) -> Result<bool, Fail>;
+}
+
+/// Returns the value of a call, or none where it was refused for want of memory.
+///
+/// # Errors
+/// Where it was refused for another cause.
+fn unless_memory<T: Drop, E: From<AllocError> + PartialEq + Debug + Drop>(
+    answer: Result<T, E>,
+) -> Result<Option<T>, Fail> {
+    match answer {
+        Ok(value) => Ok(Some(value)),
+        Err(e) if e == E::from(AllocError) => Ok(None),
+        Err(e) => Err(Fail::new(format_args!("{e:?}"))),
+    }
 }
 
 /// What is done with each call.

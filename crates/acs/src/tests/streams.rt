@@ -1,10 +1,13 @@
 //! Streams over all lists of at most two short patterns, cut in every way, and the plain search beside them.
+ghost use Rattle.std.specs.Prelude.{◌≡◌, length};
+
 use super::all_of;
 use super::small::{ENGINES, words};
 use ac_search::MatchKind::{LeftmostFirst, LeftmostLongest, Standard};
 use ac_search::plain::{Query, replace_walk, walk};
 use ac_search::{
-    AhoCorasick, AhoCorasickBuilder, Anchored, FromRead, Match, MatchKind, StreamError, Written,
+    AhoCorasick, AhoCorasickBuilder, Anchored, FromRead, Match, MatchKind, Sink, StreamError,
+    Written,
 };
 use std::alloc::Global;
 use std::io;
@@ -27,6 +30,17 @@ struct Cut<'a> {
     /// Bit by bit, the lowest first: whether a read ends after the next byte.
     cuts: u32,
     fails: bool,
+}
+
+impl<'a> Cut<'a> {
+    /// Returns a reader of a stream.
+    fn new(stream: &'a [u8], cuts: u32, fails: bool) -> Cut<'a> {
+        Cut {
+            left: stream,
+            cuts,
+            fails,
+        }
+    }
 }
 
 impl<'a> Read for Cut<'a> {
@@ -183,25 +197,55 @@ fn gives(
     Ok(ends_so && matches.next().is_none())
 }
 
+/// How matches are exchanged: by a list, or by a closure that writes the text of the pattern.
+#[derive(Clone, Copy)]
+enum Form {
+    List,
+    Closure,
+}
+
+/// Writes a stream with each match exchanged for the text of its pattern.
+fn exchange(
+    alloc: Global,
+    searcher: &AhoCorasick,
+    reader: Cut<'_>,
+    writer: &mut Written<Global>,
+    texts: &[&[u8]],
+    form: Form,
+) -> Result<(), StreamError>
+    requires { length texts.now ≡ length searcher.now.built.patterns }
+{
+    let mut reader = FromRead::new(reader);
+    match form {
+        Form::List => searcher.try_stream_replace_all(alloc, &mut reader, writer, texts),
+        Form::Closure => searcher.try_stream_replace_all_with(
+            alloc,
+            &mut reader,
+            writer,
+            |m, _, writer: &mut Written<Global>| {
+                if let Some(text) = texts.get(m.pattern().as_usize()) {
+                    writer.write_some(text)?;
+                }
+                Ok(())
+            },
+        ),
+    }
+}
+
 /// Returns whether this is written in place of a stream, or so much of it as is settled where the stream fails.
 fn writes(
     alloc: Global,
     searcher: &AhoCorasick,
     reader: Cut<'_>,
-    texts: &[&[u8]],
+    form: Form,
     wanted: &Wanted<'_>,
 ) -> Result<bool, Fail> {
-    let Some(texts) = texts.get(..searcher.patterns_len()) else {
+    let Some(texts) = TEXTS.get(..searcher.patterns_len()) else {
         return Err(Fail::new("no list is so long here"));
     };
     let fails = reader.fails;
     let mut writer = Written::new(alloc);
-    let ended = searcher.try_stream_replace_all(
-        alloc,
-        &mut FromRead::new(reader),
-        &mut writer,
-        texts,
-    );
+    let ended = exchange(alloc, searcher, reader, &mut writer, texts, form);
     Ok(match ended {
         Ok(()) => !fails && writer.bytes() == wanted.replaced.as_slice(),
         Err(StreamError::Io(_)) => fails && is_settled_text(alloc, wanted, writer.bytes())?,
@@ -225,18 +269,11 @@ fn compare_cuts(alloc: Global, searcher: &AhoCorasick, wanted: &Wanted<'_>) -> R
     let stream = wanted.stream;
     for cuts in 0..16 {
         for fails in [false, true] {
-            let reader = Cut {
-                left: stream,
-                cuts,
-                fails,
-            };
-            let again = Cut {
-                left: stream,
-                cuts,
-                fails,
-            };
-            let same = gives(alloc, searcher, reader, wanted)?
-                && writes(alloc, searcher, again, &TEXTS, wanted)?;
+            let mut same = gives(alloc, searcher, Cut::new(stream, cuts, fails), wanted)?;
+            for form in [Form::List, Form::Closure] {
+                let reader = Cut::new(stream, cuts, fails);
+                same = same && writes(alloc, searcher, reader, form, wanted)?;
+            }
             if !same {
                 return Err(Fail::new(format_args!("{stream:?} cut by {cuts}: {fails}")));
             }

@@ -1,6 +1,8 @@
 //! The patterns that take part, sorted by their bytes.
 ghost use Rattle.std.specs.Prelude.{◌≡◌, ◌≢◌, ℕ, ◌+◌, ◌-◌, ◌<◌, ◌≤◌, Bool, List, true, false, nat_eq, All, IfOk, IsTrue, OnOk, length, map, slice_get, take};
+ghost use Rattle.std.specs.Cmp.Lexicographic.{slice_cmp};
 ghost use Rattle.std.specs.List.{AllWithin, HoldsAt, starts_with};
+ghost use Rattle.std.specs.Ordering.{nat_cmp};
 ghost use Rattle.ac_automaton.specs.Util.{GREATEST, LeftmostFirst, plain, Standard};
 ghost use Rattle.ac_automaton.specs.Sorted.{AreListed, AreSorted, IsOrder, byte_at, compared, is_prefix, key_at, keyed, numbers};
 
@@ -201,12 +203,26 @@ fn listed<'p, A: Allocator>(
 fn compare(a: &SortedPattern<'_>, b: &SortedPattern<'_>, ignores_case: bool) -> Ordering
     ensures { result ≡ compared ignores_case a.now b.now }
 {
-    let plain = |x: &u8| plain_byte(ignores_case, *x);
-    a.bytes
-        .iter()
-        .map(plain)
-        .cmp(b.bytes.iter().map(plain))
-        .then(a.number.cmp(&b.number))
+    let by_number = a.number.cmp(&b.number);
+    if ignores_case {
+        return compare_letters(a.bytes, b.bytes).then(by_number);
+    }
+    compare_bytes(a.bytes, b.bytes).then(by_number)
+}
+
+/// Compares two patterns by their bytes.
+fn compare_bytes(a: &[u8], b: &[u8]) -> Ordering
+    ensures { result ≡ slice_cmp nat_cmp (plain false a.now) (plain false b.now) }
+{
+    a.cmp(b)
+}
+
+/// Compares two patterns by their bytes, each ASCII capital taken for its small letter.
+fn compare_letters(a: &[u8], b: &[u8]) -> Ordering
+    ensures { result ≡ slice_cmp nat_cmp (plain true a.now) (plain true b.now) }
+{
+    let plain = |x: &u8| plain_byte(true, *x);
+    a.iter().map(plain).cmp(b.iter().map(plain))
 }
 
 /// Keeps those of all patterns that take part under `LeftmostFirst`: those without an earlier pattern as a

@@ -1,5 +1,5 @@
 //! Builds of engines and of searchers, and clones of them.
-use super::{Call, SENTENCE, Trial, WORDS};
+use super::{Call, SENTENCE, Trial, WORDS, unless_memory};
 use ac_search::AhoCorasickKind::{ContiguousNFA, DFA, NoncontiguousNFA};
 use ac_search::MatchKind::{LeftmostFirst, LeftmostLongest, Standard};
 use ac_search::nfa::{contiguous, noncontiguous};
@@ -27,15 +27,6 @@ const ENGINES: [Option<AhoCorasickKind>; 4] = [
 
 /// The start kinds by which an unanchored search is supported.
 pub(super) const STARTS: [StartKind; 2] = [StartKind::Unanchored, StartKind::Both];
-
-/// Returns the value that was built, or none where memory was refused.
-fn unless_memory<T: Drop>(built: Result<T, BuildError>) -> Result<Option<T>, Fail> {
-    match built {
-        Ok(value) => Ok(Some(value)),
-        Err(BuildError::Memory) => Ok(None),
-        Err(_) => Err(Fail::new("another refusal of a build")),
-    }
-}
 
 /// Tests that a find in the sentence answers what it has to.
 fn finds(found: Option<Match>, wanted: (usize, usize)) -> Result<(), Fail> {

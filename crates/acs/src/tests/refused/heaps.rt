@@ -3,9 +3,12 @@ use super::builds::{KINDS, STARTS, SearcherBuild, SearcherTrial};
 use super::{Call, SENTENCE, Trial, WORDS, try_each};
 use crate::tests::same_by;
 use ac_search::AhoCorasickKind::{ContiguousNFA, DFA, NoncontiguousNFA};
-use ac_search::MatchKind::Standard;
+use ac_search::MatchKind::{LeftmostFirst, LeftmostLongest, Standard};
 use ac_search::nfa::{contiguous, noncontiguous};
-use ac_search::{AhoCorasick, AhoCorasickKind, Input, MatchKind, StartKind, dfa};
+use ac_search::{
+    AhoCorasick, AhoCorasickKind, Input, Match, MatchError, MatchKind, OverlappingState, StartKind,
+    dfa,
+};
 use linked_list_allocator::LocalHeap;
 use std::alloc::{AllocError, Global};
 use std::test::Fail;
@@ -76,23 +79,65 @@ fn filled<'h>(
     Ok(pieces)
 }
 
-/// Tests that a searcher and its clone find the same where there is no memory left, and take none.
+/// The pattern and the end of a match, if there is one: of the find, and of the last one of the walk, of the listing
+/// and of three calls of a search by a state. A leftmost kind refuses the last two.
+type Answers = [Option<(usize, usize)>; 4];
+
+/// Each match kind, and what a searcher over the words answers in the sentence.
+const ANSWERS: [(MatchKind, Answers); 3] = [
+    (
+        Standard,
+        [Some((2, 3)), Some((2, 25)), Some((1, 31)), Some((2, 14))],
+    ),
+    (LeftmostFirst, [Some((0, 6)), Some((0, 28)), None, None]),
+    (LeftmostLongest, [Some((0, 6)), Some((1, 31)), None, None]),
+];
+
+/// Returns the third match that a search by a state gives.
+fn third_of(
+    searcher: &AhoCorasick<&LocalHeap>,
+    input: Input<'_>,
+) -> Result<Option<Match>, MatchError> {
+    let mut state = OverlappingState::start();
+    searcher.try_find_overlapping(input, &mut state)?;
+    searcher.try_find_overlapping(input, &mut state)?;
+    searcher.try_find_overlapping(input, &mut state)?;
+    Ok(state.get_match())
+}
+
+/// Returns what a searcher answers in the sentence.
+fn answers_of(searcher: &AhoCorasick<&LocalHeap>) -> Result<Answers, Fail> {
+    let input = Input::of_text(SENTENCE);
+    let found = searcher.try_find(input)?;
+    if !searcher.is_match(input) {
+        return Err(Fail::new("no match"));
+    }
+    let listed = match searcher.try_find_overlapping_iter(input) {
+        Ok(items) => items.last(),
+        Err(_) => None,
+    };
+    let last = searcher.try_find_iter(input)?.last();
+    let third = third_of(searcher, input).unwrap_or(None);
+    Ok([found, last, listed, third].map(|m| m.map(|m| (m.pattern().as_usize(), m.end()))))
+}
+
+/// Tests that a searcher over the words and its clone answer what they have to where no memory is left, and take none.
 fn searches_take_nothing(
     alloc: Global,
     heap: &LocalHeap,
     searcher: &AhoCorasick<&LocalHeap>,
 ) -> Result<(), Fail> {
     let used = heap.used();
-    let input = Input::of_text(SENTENCE);
-    let wanted = (
-        searcher.try_find(input)?,
-        searcher.try_find_iter(input)?.last(),
-    );
     let pieces = filled(alloc, heap)?;
     let clone = searcher.clone()?;
-    let found = (clone.try_find(input)?, clone.try_find_iter(input)?.last());
+    let answers = [answers_of(searcher)?, answers_of(&clone)?];
     drop(pieces);
-    if found != wanted || heap.used() != used {
+    for (kind, wanted) in ANSWERS {
+        if kind == searcher.match_kind() && answers != [wanted, wanted] {
+            return Err(Fail::new(format_args!("{kind:?}: {answers:?}")));
+        }
+    }
+    if heap.used() != used {
         return Err(Fail::new("a clone or a search takes memory"));
     }
     Ok(())

@@ -2,10 +2,11 @@
 ghost use Rattle.std.specs.Prelude.{◌≡◌, None};
 ghost use Rattle.ac_search.specs.Built.{replace_refusal};
 
-use super::{Call, SENTENCE, Trial, WORDS};
+use super::{Call, SENTENCE, Trial, WORDS, unless_memory};
 use ac_search::MatchKind::LeftmostFirst;
-use ac_search::{AhoCorasick, AhoCorasickBuilder, Match, ReplaceError};
-use std::alloc::{Allocator, Global};
+use ac_search::{AhoCorasick, AhoCorasickBuilder, Match};
+use std::alloc::{AllocError, Allocator, Global};
+use std::fmt::Debug;
 use std::test::Fail;
 
 /// What the words are exchanged for.
@@ -26,15 +27,6 @@ enum Form {
 }
 
 const FORMS: [Form; 4] = [Form::Text, Form::Bytes, Form::TryText, Form::TryBytes];
-
-/// Returns the value of a call, or none where memory was refused.
-fn unless_memory<T: Drop>(answer: Result<T, ReplaceError>) -> Result<Option<T>, Fail> {
-    match answer {
-        Ok(value) => Ok(Some(value)),
-        Err(ReplaceError::Memory) => Ok(None),
-        Err(_) => Err(Fail::new("another refusal of a replacement")),
-    }
-}
 
 /// Returns whether there is a text, which then has to be the one with the words exchanged.
 fn has_text<A: Allocator>(replaced: Option<String<A>>) -> Result<bool, Fail> {
@@ -92,8 +84,10 @@ const STOPPED: [&str; 3] = ["pre", "pre the ", "pre the  to the "];
 /// What stands after the replacement.
 const REMOVED: &str = "pre the  to the age";
 
-/// A replacement by a closure that appends nothing, all over the usual memory: a bound on a closure can't name another
-/// allocator yet.
+/// A replacement by a closure that appends nothing.
+///
+/// It takes the usual memory, and none of the allocator that `has_room` is handed: a bound on a closure can't name a
+/// destination in other memory yet. So it is tried where requests are refused one by one, and in no heap.
 #[derive(Drop)]
 struct ByClosure {
     alloc: Global,
@@ -113,6 +107,13 @@ fn has_removed(had_room: bool, calls: usize, left: &[u8]) -> Result<bool, Fail> 
     }
 }
 
+/// Returns whether a replacement had memory.
+fn had_memory<E: From<AllocError> + PartialEq + Debug + Drop>(
+    answer: Result<(), E>,
+) -> Result<bool, Fail> {
+    Ok(unless_memory(answer)?.is_some())
+}
+
 /// Counts a call of a closure, which appends nothing.
 fn counted(calls: &mut usize) -> bool {
     *calls = calls.saturating_add(1);
@@ -129,11 +130,9 @@ fn removes_in_text(searcher: &AhoCorasick, alloc: Global, tries: bool) -> Result
     let mut calls = 0;
     let exchange = |_: &Match, _: &str, _: &mut String| counted(&mut calls);
     let had_room = if tries {
-        unless_memory(searcher.try_replace_all_with(SENTENCE, &mut text, exchange))?.is_some()
+        had_memory(searcher.try_replace_all_with(SENTENCE, &mut text, exchange))?
     } else {
-        searcher
-            .replace_all_with(SENTENCE, &mut text, exchange)
-            .is_ok()
+        had_memory(searcher.replace_all_with(SENTENCE, &mut text, exchange))?
     };
     has_removed(had_room, calls, text.as_bytes())
 }
@@ -148,13 +147,9 @@ fn removes_in_bytes(searcher: &AhoCorasick, alloc: Global, tries: bool) -> Resul
     let (sentence, mut calls) = (SENTENCE.as_bytes(), 0);
     let exchange = |_: &Match, _: &[u8], _: &mut Vec<u8>| counted(&mut calls);
     let had_room = if tries {
-        unless_memory(searcher.try_replace_all_with_bytes(
-            sentence, &mut bytes, exchange,
-        ))?.is_some()
+        had_memory(searcher.try_replace_all_with_bytes(sentence, &mut bytes, exchange))?
     } else {
-        searcher
-            .replace_all_with_bytes(sentence, &mut bytes, exchange)
-            .is_ok()
+        had_memory(searcher.replace_all_with_bytes(sentence, &mut bytes, exchange))?
     };
     has_removed(had_room, calls, &bytes)
 }

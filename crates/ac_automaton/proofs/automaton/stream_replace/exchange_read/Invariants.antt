@@ -10,9 +10,9 @@ invariant-loop-found g l =
       accepted : (m : Occurrence) → E.accepts l.fn.exchange m → E.accepts l.exchange m;
       same : l.finder ≡ record l.fn.finder { given = l.finder.given; kept = l.finder.kept };
       replaced : (first : Replacing _ _)
-          → HasReplaced g.W.Sink.told E.calls l.fn.finder first
+          → HasReplaced E.passing E.calls l.fn.finder first
           (record { closure = l.fn.exchange; destination = l.fn.writer })
-          → HasReplaced g.W.Sink.told E.calls l.finder first
+          → HasReplaced E.passing E.calls l.finder first
           (record { closure = l.exchange; destination = l.writer });
     }
 

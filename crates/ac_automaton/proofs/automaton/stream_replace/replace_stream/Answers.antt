@@ -1,4 +1,4 @@
-use Rattle.std.proofs.Common.{Bool, inr, subst, MatchBool, rules}
+use Rattle.std.proofs.Common.{Bool, subst, MatchBool, rules}
 use Rattle.ac_automaton.specs.Streams.{FillsMore, MeetsEnd}
 use Rattle.ac_automaton.proofs.Places.{match-by, refused-by}
 use Rattle.ac_automaton.proofs.StreamExchanging.{begins, ends-there, fails-at-last, fails-exchanging, fails-reading, fills, goes-on, replaces}
@@ -13,12 +13,9 @@ loop-finder-init g c = search (rules, begins, settled-begun)
 pub returns-in_err-fill : goal.returns-in_err-fill
 returns-in_err-fill g c =
     let inv = c.loop-finder.invariant in
-    refused-by c.from_residual-in_err-fill.result c.in_err-fill.field-0.0 _ _ c.from_residual-in_err-fill.ensures.1
-    (inr (
-      c.in_ok-finder.ensures.0,
-      fails-reading g.W.Sink.told g.E.Exchange.calls _ (g.A.Automaton.built c.args.automaton.now) _ _ inv.on inv.within
-          inv.settled inv.near c.in_err-fill.field-0.0 c.in_err-fill.ensures,
-    ))
+    refused-by c.from_residual.result c.in_err-fill.field-0.0 _ _ c.from_residual.ensures.1
+    (fails-reading g.E.Exchange.passing g.E.Exchange.calls _ _ _ _ inv.on inv.within inv.settled inv.near
+    c.in_err-fill.field-0.0 c.in_err-fill.ensures)
 
 -- more was read
 filled : (g : Over) (c : After-exchange_read g) → FillsMore c.loop-finder.finder c.fill.new.self
@@ -34,10 +31,10 @@ pub loop-finder-preserved : goal.loop-finder-preserved
 loop-finder-preserved g c =
     let inv = c.loop-finder.invariant in
     let done = c.in_ok-exchange_read.ensures.exchanged in
-    let on = fills g.W.Sink.told g.E.Exchange.calls g.R.Source.empty_means_end _ _ _ inv.on inv.within (filled g (goal.at.loop-finder-preserved g c).After-exchange_read) in
+    let on = fills g.E.Exchange.passing g.E.Exchange.calls g.R.Source.empty_means_end _ _ _ inv.on inv.within (filled g (goal.at.loop-finder-preserved g c).After-exchange_read) in
     record {
       accepted = λ m accepts. c.exchange_read.ensures.accepted m (inv.accepted m accepts);
-      on = goes-on g.W.Sink.told g.E.Exchange.calls g.R.Source.empty_means_end _ _ _ on done;
+      on = goes-on g.E.Exchange.passing g.E.Exchange.calls g.R.Source.empty_means_end _ _ _ on done;
       settled = done.settled;
       near = done.near;
       within = done.within;
@@ -46,14 +43,11 @@ loop-finder-preserved g c =
 pub returns-in_err-exchange_read : goal.returns-in_err-exchange_read
 returns-in_err-exchange_read g c =
     let inv = c.loop-finder.invariant in
-    let on = fills g.W.Sink.told g.E.Exchange.calls g.R.Source.empty_means_end _ _ _ inv.on inv.within (filled g (goal.at.returns-in_err-exchange_read g c).After-exchange_read) in
+    let on = fills g.E.Exchange.passing g.E.Exchange.calls g.R.Source.empty_means_end _ _ _ inv.on inv.within (filled g (goal.at.returns-in_err-exchange_read g c).After-exchange_read) in
     refused-by c.from_residual-in_err-exchange_read.result c.in_err-exchange_read.field-0.0 _ _
     c.from_residual-in_err-exchange_read.ensures.1
-    (inr (
-      c.in_ok-finder.ensures.0,
-      fails-exchanging g.W.Sink.told g.E.Exchange.calls g.R.Source.empty_means_end _ _ _ on
-          c.in_err-exchange_read.field-0.0 _ c.in_err-exchange_read.ensures.exchanged,
-    ))
+    (fails-exchanging g.E.Exchange.passing g.E.Exchange.calls g.R.Source.empty_means_end _ _ _ on
+    c.in_err-exchange_read.field-0.0 _ c.in_err-exchange_read.ensures.exchanged)
 
 pub returns : goal.returns
 returns g c =
@@ -65,14 +59,8 @@ returns g c =
     (FillsMore v c.fill.new.self (told c.loop-finder.reader) (told c.fill.new.reader))
     (MeetsEnd g.R.Source.empty_means_end v c.fill.new.self (told c.loop-finder.reader) (told c.fill.new.reader)))
     c.if-branch.false c.in_ok-fill.ensures in
-    let on = ends-there g.W.Sink.told g.E.Exchange.calls g.R.Source.empty_means_end _ _ _ inv.on inv.within met in
+    let on = ends-there g.E.Exchange.passing g.E.Exchange.calls g.R.Source.empty_means_end _ _ _ inv.on inv.within met in
     match-by c.exchange_read-2.result _ _
-    (λ done exchanged. (
-      c.in_ok-finder.ensures.0,
-      replaces g.W.Sink.told g.E.Exchange.calls g.R.Source.empty_means_end _ _ _ on exchanged,
-    ))
-    (λ e fails. inr (
-      c.in_ok-finder.ensures.0,
-      fails-at-last g.W.Sink.told g.E.Exchange.calls g.R.Source.empty_means_end _ _ _ on e _ fails,
-    ))
+    (λ done exchanged. replaces g.E.Exchange.passing g.E.Exchange.calls g.R.Source.empty_means_end _ _ _ on exchanged)
+    (λ e fails. fails-at-last g.E.Exchange.passing g.E.Exchange.calls g.R.Source.empty_means_end _ _ _ on e _ fails)
     c.exchange_read-2.ensures.exchanged

@@ -9,7 +9,7 @@ abbrev pub invariant-loop-finder : goal.invariant-loop-finder
 invariant-loop-finder g l =
     let R = g.R.Source in let E = g.E.Exchange in record {
       accepted : (m : Occurrence) → E.accepts l.fn.exchange m → E.accepts l.exchange m;
-      on : IsReplacing g.W.Sink.told E.calls R.empty_means_end (g.A.Automaton.built l.automaton) (R.told l.fn.reader)
+      on : IsReplacing E.passing E.calls R.empty_means_end l.fn.finder.built (R.told l.fn.reader)
           (record { closure = l.fn.exchange; destination = l.fn.writer }) (R.told l.reader) l.finder
           (record { closure = l.exchange; destination = l.writer });
       settled : IsSettledIn l.finder.phase l.finder.built l.finder.bytes l.finder.given l.finder.kept;

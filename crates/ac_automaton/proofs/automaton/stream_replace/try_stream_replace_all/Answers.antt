@@ -1,5 +1,6 @@
-use Rattle.std.proofs.Common.{refl}
-use Rattle.ac_util.specs.Borrowed.{bytes_of}
+use Rattle.std.proofs.Common.{◌≡◌, ap, subst}
+use Rattle.ac_automaton.specs.Util.{Built, bytes_of, FailsToReplace, ReplacesStream, Replacing}
+use Rattle.ac_automaton.specs.Prelude.{Streaming}
 use Rattle.ac_automaton.specs.declared.automaton.stream_replace.ByTexts.{ByTexts}
 use Rattle.ac_automaton.proofs.StreamReplacing.{answers-by}
 use Rattle.ac_automaton.proofs.StreamTexts.{fails-by, replaces-by}
@@ -7,13 +8,23 @@ use Rattle.ac_automaton.proofs.automaton.stream_replace.try_stream_replace_all.G
 
 pub returns : goal.returns
 returns g c =
-    let built = g.A.Automaton.built c.args.automaton.now in
-    let texts = λ (e : ByTexts). bytes_of e.texts.now in
-    answers-by _ _
-    (replaces-by g.W.Sink.told texts g.R.Source.empty_means_end built _ _ (bytes_of c.args.texts.now)
-    (record { closure = record { texts = c.args.texts }; destination = c.args.writer.now })
-    (record { closure = c.replace_stream.new.exchange; destination = c.replace_stream.new.writer }) refl)
-    (fails-by g.W.Sink.told texts g.R.Source.empty_means_end built _ _ (bytes_of c.args.texts.now)
-    (record { closure = record { texts = c.args.texts }; destination = c.args.writer.now })
-    (record { closure = c.replace_stream.new.exchange; destination = c.replace_stream.new.writer }) refl)
+    let ends = g.R.Source.empty_means_end in
+    let reader = g.R.Source.told c.args.reader.now in
+    let new_reader = g.R.Source.told c.replace_stream.new.reader in
+    let old = g.W.Sink.told c.args.writer.now in
+    let new = g.W.Sink.told c.replace_stream.new.writer in
+    let texts = λ (e : ByTexts _). bytes_of e.texts.now in
+    let list = bytes_of c.args.texts.now in
+    let before : Replacing _ _ = record { closure = c.in_ok-exchange.exchange; destination = c.args.writer.now } in
+    let after : Replacing _ _ =
+    record { closure = c.replace_stream.new.exchange; destination = c.replace_stream.new.writer } in
+    let same = ap texts c.in_ok-exchange.ensures in
+    let clear = ap (λ (e : ByTexts _). e.gathered) c.in_ok-exchange.ensures in
+    let built : c.in_ok-finder.finder.built ≡ g.A.Automaton.built c.args.automaton.now =
+    ap (λ (v : Streaming). v.built) c.in_ok-finder.ensures.1 in
+    answers-by _ _ c.in_ok-finder.ensures.0
+    (λ done. subst (λ (b : Built). ReplacesStream b list old new ends reader new_reader) built
+    (replaces-by _ texts (λ d e p. ap texts p) ends c.in_ok-finder.finder.built reader new_reader list before after same clear done))
+    (λ e fails. subst (λ (b : Built). FailsToReplace b list old new ends reader new_reader e) built
+    (fails-by _ texts (λ d e p. ap texts p) ends c.in_ok-finder.finder.built reader new_reader list before after same clear e fails))
     c.replace_stream.result c.replace_stream.ensures

@@ -1,12 +1,23 @@
+use Rattle.std.proofs.Common.{◌≡◌, ap, subst}
+use Rattle.ac_automaton.specs.Util.{Built, FailsToReplaceWith, ReplacesStreamWith, Replacing}
+use Rattle.ac_automaton.specs.Prelude.{Streaming}
 use Rattle.ac_automaton.proofs.StreamReplacing.{answers-by, fails-with, replaces-with}
 use Rattle.ac_automaton.proofs.automaton.stream_replace.try_stream_replace_all_with.Goals as goal
 
 pub returns : goal.returns
 returns g c =
-    let built = g.A.Automaton.built c.args.automaton.now in
-    answers-by _ _
-    (replaces-with g.W.Sink.told g.F.FnMut g.R.Source.empty_means_end built _ _ c.args.closure c.args.writer.now
-    (record { closure = c.replace_stream.new.exchange; destination = c.replace_stream.new.writer }))
-    (fails-with g.W.Sink.told g.F.FnMut g.R.Source.empty_means_end built _ _ c.args.closure c.args.writer.now
-    (record { closure = c.replace_stream.new.exchange; destination = c.replace_stream.new.writer }))
+    let told = g.W.Sink.told in
+    let ends = g.R.Source.empty_means_end in
+    let reader = g.R.Source.told c.args.reader.now in
+    let new_reader = g.R.Source.told c.replace_stream.new.reader in
+    let old = c.args.writer.now in
+    let new = c.replace_stream.new.writer in
+    let after : Replacing _ _ = record { closure = c.replace_stream.new.exchange; destination = new } in
+    let built : c.in_ok-finder.finder.built ≡ g.A.Automaton.built c.args.automaton.now =
+    ap (λ (v : Streaming). v.built) c.in_ok-finder.ensures.1 in
+    answers-by _ _ c.in_ok-finder.ensures.0
+    (λ done. subst (λ (b : Built). ReplacesStreamWith told g.F.FnMut b c.args.closure old ends reader new_reader new) built
+    (replaces-with told g.F.FnMut ends c.in_ok-finder.finder.built reader new_reader c.args.closure old after done))
+    (λ e fails. subst (λ (b : Built). FailsToReplaceWith told g.F.FnMut b c.args.closure old ends reader new_reader new e) built
+    (fails-with told g.F.FnMut ends c.in_ok-finder.finder.built reader new_reader c.args.closure old after e fails))
     c.replace_stream.result c.replace_stream.ensures

@@ -7,7 +7,7 @@ use Rattle.ac_automaton.proofs.ListLoop.{HasComeOn, come-on, has-moved}
 use Rattle.ac_automaton.proofs.ReadOn.{scans-on}
 use Rattle.ac_automaton.proofs.automaton.scan.Scanner.next_item.Given.{Over}
 use Rattle.ac_automaton.proofs.automaton.scan.Scanner.next_item.Goals.{After-new, After-take_due}
-use Rattle.ac_automaton.proofs.automaton.scan.Scanner.next_item.Goals.{in-Some-prefilter, in_default-prefilter, then-here-self-via-then-here-self, then-here-self-via-else-here-self+then-is_dead}
+use Rattle.ac_automaton.proofs.automaton.scan.Scanner.next_item.Goals.{in-Some-prefilter, in-None, then-here-self-via-then-here-self, then-here-self-via-else-here-self+then-is_dead}
 use Rattle.ac_automaton.proofs.automaton.scan.Scanner.next_item.Goals as goal
 
 -- what is given where the listing has come to
@@ -100,7 +100,7 @@ module _ (g : Over) (c : After-new g) where
           within = ahead.within;
           passed = ahead.reads _ (sym c.loop-found.invariant.bytes) alive;
         })
-    | in_default-prefilter w ↦
+    | in-None w ↦
         let ahead = w.read_ahead-ahead.ensures in
         came-as w.ahead-is w.tape-is w.looks-is (record {
           same = ahead.bytes;

@@ -4,8 +4,8 @@ use Rattle.ac_automaton.proofs.ReadAhead.{IsAlong}
 use Rattle.ac_automaton.proofs.automaton.scan.Scanner.skip_on.Given as goal
 
 -- the scan has come on, by whichever text it has come
-abbrev pub invariant-loop-place : goal.invariant-loop-place
-invariant-loop-place g l =
+abbrev pub invariant-loop-at : goal.invariant-loop-at
+invariant-loop-at g l =
     let s : Scan = scan_of g.A.Automaton.stands g.A.Automaton.listed g.A.Automaton.built g.A.Automaton.LOOKS g.A.Automaton.wants_prefilter
     l.self.automaton.now l.self.anchored in record {
       onward : l.fn.cursor.at ≤ l.at;
@@ -17,5 +17,5 @@ invariant-loop-place g l =
           (work_of l.tape l.looks);
     }
 
-abbrev pub decreases-loop-place : goal.decreases-loop-place
-decreases-loop-place g l = l.self.span.end - l.at
+abbrev pub decreases-loop-at : goal.decreases-loop-at
+decreases-loop-at g l = l.self.span.end - l.at

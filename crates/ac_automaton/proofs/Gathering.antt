@@ -1,0 +1,125 @@
+-- Bytes that are gathered on their way to a writer: one piece and then another, and where a write fails.
+use Rattle.std.proofs.Common.{◌≡◌, ◌∙◌, ℕ, List, [], ◌++◌, length-append, append_assoc, append-nil, refl, sym, ap, subst, arith, Option, Some, None, Result, Ok, Err, MatchResult}
+use Rattle.std.proofs.Math.Seq.{take-append-add}
+use Rattle.std.proofs.lemmas.Grind.{common_steps}
+use Rattle.ac_automaton.specs.Util.{error_of, Replacing, StreamError, WriteError, WritesAll, WritesUntilFailure, Writing}
+use Rattle.ac_automaton.specs.Prelude.{Gathers, Passing, PassesPiece}
+
+-- some bytes were written, and then some more
+writes-join : (a b c : Writing) (xs ys : List ℕ) → WritesAll a b xs → WritesAll b c ys → WritesAll a c (xs ++ ys)
+writes-join a b c xs ys first second = grind (arith, common_steps)
+
+-- or a beginning of them
+fails-join : (a b c : Writing) (xs ys : List ℕ) (e : WriteError) → WritesAll a b xs → WritesUntilFailure b c ys e
+    → WritesUntilFailure a c (xs ++ ys) e
+fails-join a b c xs ys e first second =
+    grind (arith, common_steps, length-append xs second.some.part, take-append-add)
+
+-- what was held back was written, and then a piece, or a beginning of it
+pub written-through : {a b : Writing} (c : Writing) {held : List ℕ} (piece : List ℕ) {still : List ℕ}
+    (r : Result (Unit {0}) WriteError) → still ≡ []
+    → WritesAll a b held → MatchResult r (λ _. WritesAll b c piece) (WritesUntilFailure b c piece)
+    → MatchResult r (λ _. Gathers a c held piece still) (WritesUntilFailure a c (held ++ piece))
+written-through {a} {b} c {held} piece {still} (Ok done) none first second = record {
+  part = held ++ piece;
+  writes = writes-join a b c held piece first second;
+  whole = sym (ap (λ (w : List ℕ). held ++ piece ++ w) none ∙ append-nil (held ++ piece));
+}
+written-through {a} {b} c {held} piece (Err e) none first second = fails-join a b c held piece e first second
+
+-- nothing was gathered
+gathers-none : (a : Writing) (held : List ℕ) → Gathers a a held [] held
+gathers-none a held = record {
+  part = [];
+  writes = grind (arith, common_steps);
+  whole = append-nil held;
+}
+
+-- one piece was gathered, and then another
+gathers-join : (a b c : Writing) (held xs between ys still : List ℕ) → Gathers a b held xs between
+    → Gathers b c between ys still → Gathers a c held (xs ++ ys) still
+gathers-join a b c held xs between ys still first second = record {
+  part = first.part ++ second.part;
+  writes = writes-join a b c first.part second.part first.writes second.writes;
+  whole =
+      sym (append_assoc held xs ys) ∙ ap (λ (w : List ℕ). w ++ ys) first.whole ∙ append_assoc first.part between ys
+      ∙ ap (λ (w : List ℕ). first.part ++ w) second.whole ∙ sym (append_assoc first.part second.part still);
+}
+
+-- or a write has failed
+gathers-fails : (a b c : Writing) (held xs between ys : List ℕ) (e : WriteError) → Gathers a b held xs between
+    → WritesUntilFailure b c (between ++ ys) e → WritesUntilFailure a c (held ++ (xs ++ ys)) e
+gathers-fails a b c held xs between ys e first second =
+    subst (λ (w : List ℕ). WritesUntilFailure a c w e)
+    (sym (append_assoc first.part between ys) ∙ ap (λ (w : List ℕ). w ++ ys) (sym first.whole) ∙ append_assoc held xs ys)
+    (fails-join a b c first.part (between ++ ys) e first.writes second)
+
+-- a failure before some bytes is one before those and more
+fails-longer : (a b : Writing) (xs ys : List ℕ) (e : WriteError) → WritesUntilFailure a b xs e
+    → WritesUntilFailure a b (xs ++ ys) e
+fails-longer a b xs ys e fails = grind (arith, common_steps)
+
+module _ {E D : Type 0} (passing : Passing E D) where
+  -- nothing was passed on
+  pub piece-none : (s : Replacing E D) → PassesPiece passing [] s None s
+  piece-none s = (refl, gathers-none (passing.told s.destination) (passing.held s.closure))
+
+  -- one piece was passed on, and then another, or that has failed
+  pub piece-join : (xs ys : List ℕ) (s t u : Replacing E D) (end : Option StreamError)
+      → PassesPiece passing xs s None t → PassesPiece passing ys t end u → PassesPiece passing (xs ++ ys) s end u
+  piece-join xs ys s t u None first second = (
+    second.0 ∙ first.0,
+    gathers-join (passing.told s.destination) (passing.told t.destination) (passing.told u.destination)
+        (passing.held s.closure) xs (passing.held t.closure) ys (passing.held u.closure) first.1 second.1,
+  )
+  piece-join xs ys s t u (Some e) first second = (
+    second.0 ∙ first.0,
+    (
+      second.1.0,
+      second.1.1,
+      gathers-fails (passing.told s.destination) (passing.told t.destination) (passing.told u.destination)
+          (passing.held s.closure) xs (passing.held t.closure) ys second.1.0 first.1 second.1.2,
+    ),
+  )
+
+  -- a piece that could not be passed on, and more
+  pub piece-begun : (xs ys : List ℕ) (s t : Replacing E D) (e : StreamError) → PassesPiece passing xs s (Some e) t
+      → PassesPiece passing (xs ++ ys) s (Some e) t
+  piece-begun xs ys s t e fails = (
+    fails.0,
+    (
+      fails.1.0,
+      fails.1.1,
+      subst (λ (w : List ℕ). WritesUntilFailure (passing.told s.destination) (passing.told t.destination) w fails.1.0)
+          (append_assoc (passing.held s.closure) xs ys)
+          (fails-longer (passing.told s.destination) (passing.told t.destination) (passing.held s.closure ++ xs) ys
+          fails.1.0 fails.1.2),
+    ),
+  )
+
+  -- where nothing was held back before it nor is after it, it was written
+  pub piece-written : (bytes : List ℕ) (s t : Replacing E D) → passing.held s.closure ≡ [] → passing.held t.closure ≡ []
+      → PassesPiece passing bytes s None t → WritesAll (passing.told s.destination) (passing.told t.destination) bytes
+  piece-written bytes s t begins clear passes =
+      subst (WritesAll (passing.told s.destination) (passing.told t.destination))
+      (sym (append-nil passes.1.part) ∙ ap (λ (w : List ℕ). passes.1.part ++ w) (sym clear) ∙ sym passes.1.whole
+      ∙ ap (λ (w : List ℕ). w ++ bytes) begins)
+      passes.1.writes
+
+  -- or a beginning of it
+  pub piece-failed : (bytes : List ℕ) (s t : Replacing E D) (e : StreamError) → passing.held s.closure ≡ []
+      → PassesPiece passing bytes s (Some e) t
+      → (failure : WriteError) × (e ≡ error_of failure)
+      × WritesUntilFailure (passing.told s.destination) (passing.told t.destination) bytes failure
+  piece-failed bytes s t e begins fails = (
+    fails.1.0,
+    fails.1.1,
+    subst (λ (w : List ℕ). WritesUntilFailure (passing.told s.destination) (passing.told t.destination) (w ++ bytes) fails.1.0)
+        begins fails.1.2,
+  )
+
+  -- what is held back after a piece was written, or that has failed
+  pub piece-flushed : (bytes : List ℕ) (s t u : Replacing E D) (end : Option StreamError)
+      → PassesPiece passing bytes s None t → PassesPiece passing [] t end u → PassesPiece passing bytes s end u
+  piece-flushed bytes s t u end first second =
+      subst (λ (w : List ℕ). PassesPiece passing w s end u) (append-nil bytes) (piece-join bytes [] s t u end first second)
