@@ -116,10 +116,7 @@ impl<'a, A: Automaton> Scanner<'a, A> {
             if here.at >= self.span.end || self.automaton.is_dead(here.state) {
                 return None;
             }
-            let ahead = match prefilter {
-                Some(prefilter) => self.skip_on(prefilter, here, credit, tape, looks),
-                None => self.read_ahead(here, tape, looks),
-            };
+            let ahead = self.read_or_skip(prefilter, here, credit, tape, looks);
             *reached = Reached::new(ahead.state, ahead.at);
         }
     }

@@ -106,6 +106,35 @@ impl<'a, A: Automaton> Scanner<'a, A> {
     ghost use Rattle.ac_automaton.specs.Scans.{HasSkipped, IsAt, MayRead, ReadsOn, ScanText, led_to};
     ghost use Rattle.ac_automaton.specs.Skipping.{SkipsByBytes};
 
+    /// Reads on by a byte at least, up to a state that has matches or is dead, or up to the end of the span. It skips by
+    /// the prefilter, where one is given and that pays. Returns how far it has come.
+    #[inline]
+    pub(super) fn read_or_skip(
+        &self,
+        prefilter: Option<&Prefilter<A::Memory>>,
+        cursor: Cursor,
+        credit: &mut Credit,
+        tape: &mut Tape<'_>,
+        looks: &mut Looks,
+    ) -> Cursor
+        requires skips { IfSome prefilter
+            (λ p. SkipsByBytes (⟦<A as Scans>⟧.scan self.now.automaton.now self.now.anchored) (skip_of p.now)) }
+        requires alive { MayRead (⟦<A as Scans>⟧.scan self.now.automaton.now self.now.anchored) tape.old.bytes cursor }
+        requires before_end { cursor.at < self.now.span.end }
+        requires inside { self.now.span.end ≤ length tape.old.bytes }
+        requires unread { tape.old.place ≤ cursor.at }
+        ensures bytes { tape.new.bytes ≡ tape.old.bytes }
+        ensures moved { cursor.at < result.at }
+        ensures within { result.at ≤ self.now.span.end }
+        ensures reads { ReadsOn (⟦<A as Scans>⟧.scan self.now.automaton.now self.now.anchored) tape.old.bytes cursor
+            (work_of tape.old looks.old) result (work_of tape.new looks.new) }
+    {
+        match prefilter {
+            Some(prefilter) => self.skip_on(prefilter, cursor, credit, tape, looks),
+            None => self.read_ahead(cursor, tape, looks),
+        }
+    }
+
     /// Reads on by a byte at least, up to a state that has matches or is dead, or up to the end of the span. It skips
     /// ahead where the automaton is at its start and that pays. Returns how far it has come.
     #[inline(never)]

@@ -6,6 +6,7 @@ ghost use Rattle.ac_automaton.specs.Streams.{Fills, GivesEarly, GivesLast, Gives
 
 use super::Automaton;
 use super::scan::{Cursor, Scanner};
+use super::skip::Credit;
 use super::stream_settled::{Phase, buffer_len, most_kept, settled_from, settled_match};
 use ac_util::device::Source;
 use ac_util::error::{MatchError, StreamError};
@@ -50,6 +51,8 @@ pub struct StreamFinder<'a, A: Automaton, Z: Allocator> {
     at: usize,
     /// The match that is picked so far, which more bytes may still change.
     picked: Option<Match>,
+    /// Kept from call to call, so that no prefilter is called often where it skips little.
+    credit: Credit,
     phase: Phase,
     /// Where in the stream the last match given ended.
     begun: Snapshot<usize>,
@@ -114,6 +117,7 @@ impl<'a, A: Automaton, Z: Allocator> StreamFinder<'a, A, Z> {
             state: start,
             at: 0,
             picked: None,
+            credit: Credit::new(),
             phase: Phase::Open,
             begun: Snapshot::of(&0),
             given: Tally::zero(),
@@ -172,9 +176,17 @@ impl<'a, A: Automaton, Z: Allocator> StreamFinder<'a, A, Z> {
             },
         };
         let (mut tape, mut looks) = open(&Input::new(&self.buffer));
+        let prefilter = scanner.listing_prefilter();
+        let mut credit = self.credit;
         let (mut state, mut at, mut picked) = (self.state, self.at, self.picked);
         while !scanner.is_decided(self.stops, Cursor { state, at }, &picked) {
-            let ahead = scanner.read_ahead(Cursor { state, at }, &mut tape, &mut looks);
+            let ahead = scanner.read_or_skip(
+                prefilter,
+                Cursor { state, at },
+                &mut credit,
+                &mut tape,
+                &mut looks,
+            );
             (state, at) = (ahead.state, ahead.at);
             let read = self.front + at;
             let found = scanner.match_at(Cursor { state, at: read });
@@ -182,6 +194,7 @@ impl<'a, A: Automaton, Z: Allocator> StreamFinder<'a, A, Z> {
                 picked = found;
             }
         }
+        self.credit = credit;
         let dead = self.automaton.is_dead(state);
         match settled_match(picked, self.stops, dead, self.phase) {
             Some(found) => {

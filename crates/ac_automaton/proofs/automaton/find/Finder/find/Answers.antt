@@ -1,4 +1,4 @@
-use Rattle.std.proofs.Common.{◌≡◌, ◌≤◌, ℕ, length, subst, arith, rules}
+use Rattle.std.proofs.Common.{◌≤◌, length, subst, arith, rules}
 use Rattle.ac_automaton.specs.Prelude.{Finding, HasSearched, in_memory, scan_of, Scan, search_of, work_of}
 use Rattle.ac_automaton.proofs.FindLoop.{searched-nothing}
 use Rattle.ac_automaton.proofs.FindSkipping.{ready-start}

@@ -1,13 +1,13 @@
-use Rattle.std.proofs.Common.{◌≡◌, ◌≢◌, ◌⊎◌, ◌<◌, ◌≤◌, [], ap, sym, subst, ◌∙◌, inl, inr, arith, Option, None, rules}
+use Rattle.std.proofs.Common.{◌≡◌, ◌≢◌, ◌⊎◌, [], ap, sym, subst, ◌∙◌, inl, inr, arith, Option, None, rules}
 use Rattle.std.proofs.lemmas.Bool.{false≢true}
-use Rattle.ac_automaton.specs.Util.{Counts, Occurrence, Taped}
-use Rattle.ac_automaton.specs.Prelude.{Cursor, due_in, given_in, HasMoved, in_memory, IsAlive, node, PassesNoMatch, Reached, Scan, scan_of, ScansTo, ScanText, search_through, work_of}
+use Rattle.ac_automaton.specs.Util.{Occurrence}
+use Rattle.ac_automaton.specs.Prelude.{due_in, given_in, HasMoved, in_memory, IsAlive, node, Reached, Scan, scan_of, ScansTo, ScanText, search_through, work_of}
 use Rattle.ac_automaton.specs.Overlaps.{HasGivenItem}
 use Rattle.ac_automaton.proofs.ListLoop.{HasComeOn, come-on, has-moved}
 use Rattle.ac_automaton.proofs.ReadOn.{scans-on}
 use Rattle.ac_automaton.proofs.automaton.scan.Scanner.next_item.Given.{Over}
 use Rattle.ac_automaton.proofs.automaton.scan.Scanner.next_item.Goals.{After-new, After-take_due}
-use Rattle.ac_automaton.proofs.automaton.scan.Scanner.next_item.Goals.{in-Some-prefilter, in-None, then-here-self-via-then-here-self, then-here-self-via-else-here-self+then-is_dead}
+use Rattle.ac_automaton.proofs.automaton.scan.Scanner.next_item.Goals.{then-here-self-via-then-here-self, then-here-self-via-else-here-self+then-is_dead}
 use Rattle.ac_automaton.proofs.automaton.scan.Scanner.next_item.Goals as goal
 
 -- what is given where the listing has come to
@@ -64,51 +64,8 @@ alive : (g : Over) (c : After-take_due g) → c.take_due.result ≡ None
     → IsAlive (s g c) (t g c) (record { state = c.take_due.new.reached.state; at = c.take_due.new.reached.at })
 alive g c none living = search (rules, stayed)
 
-pub skip_on-ahead-requires-clause-alive : goal.skip_on-ahead-requires-clause-alive
-skip_on-ahead-requires-clause-alive g c = search (rules, alive, false≢true)
-
-pub read_ahead-ahead-requires-clause-alive : goal.read_ahead-ahead-requires-clause-alive
-read_ahead-ahead-requires-clause-alive g c = search (rules, alive, false≢true)
-
--- where it has read on, by skipping or without
-module _ (g : Over) (c : After-new g) where
-  abbrev scan : Scan
-  scan =
-      scan_of g.A.Automaton.stands g.A.Automaton.listed g.A.Automaton.built g.A.Automaton.LOOKS g.A.Automaton.wants_prefilter
-      c.args.self.now.automaton.now c.args.self.now.anchored
-
-  -- what is known of where it has come to
-  record Came (cursor : Cursor) (tape : Taped) (counts : Counts) : Type 0 where
-    same : tape.bytes ≡ c.loop-found.tape.bytes
-    moved : c.take_due.new.reached.at < cursor.at
-    within : cursor.at ≤ c.args.self.now.span.end
-    passed : PassesNoMatch scan (in_memory c.args.tape.now.bytes c.args.self.now.span) c.take_due.new.reached.at (work_of c.loop-found.tape c.loop-found.looks) cursor
-        (work_of tape counts)
-
-  came-as : {cursor joined : Cursor} {tape new_tape : Taped} {counts new_counts : Counts} → joined ≡ cursor
-      → new_tape ≡ tape → new_counts ≡ counts → Came cursor tape counts → Came joined new_tape new_counts
-  came-as {cursor} {joined} {tape} {new_tape} {counts} {new_counts} there taped counted came = search rules
-
-  came : IsAlive scan (in_memory c.args.tape.now.bytes c.args.self.now.span) (record { state = c.take_due.new.reached.state; at = c.take_due.new.reached.at })
-      → Came c.match-prefilter.ahead c.match-prefilter.tape c.match-prefilter.looks
-  came alive = elim c.match-prefilter.branch [
-    | in-Some-prefilter w ↦
-        let ahead = w.skip_on-ahead.ensures in
-        came-as w.ahead-is w.tape-is w.looks-is (record {
-          same = ahead.bytes;
-          moved = ahead.moved;
-          within = ahead.within;
-          passed = ahead.reads _ (sym c.loop-found.invariant.bytes) alive;
-        })
-    | in-None w ↦
-        let ahead = w.read_ahead-ahead.ensures in
-        came-as w.ahead-is w.tape-is w.looks-is (record {
-          same = ahead.bytes;
-          moved = ahead.moved c.if-here-self.false;
-          within = ahead.within;
-          passed = ahead.reads _ (sym c.loop-found.invariant.bytes) alive;
-        })
-  ]
+pub read_or_skip-ahead-requires-clause-alive : goal.read_or_skip-ahead-requires-clause-alive
+read_or_skip-ahead-requires-clause-alive g c = search (rules, alive, false≢true)
 
 -- what is due there is still to be given, and nothing was given since
 pub loop-found-preserved : goal.loop-found-preserved
@@ -116,17 +73,18 @@ loop-found-preserved g c =
     let d = (goal.at.loop-found-preserved g c).After-take_due in
     let inv = c.loop-found.invariant in
     let stayed = stayed g d c.in_default.is in
-    let came = came g c (alive g d c.in_default.is
+    let ahead = c.read_or_skip-ahead in
+    let passed = ahead.ensures.reads _ (sym c.loop-found.invariant.bytes) (alive g d c.in_default.is
     (λ u there dead. false≢true (sym c.if-is_dead.false ∙ (c.is_dead.ensures c.args.self.now.anchored u there).1 dead))) in
     let on = come-on (s g d) _ _ c.requires.listed.standard c.requires.listed.inside (gave g d).leaves
-    (ap (due_in (s g d).listed (search_through (s g d) (t g d))) stayed.1 ∙ stayed.0) came.passed came.within came.moved
-    (g.met.A.Automaton.lists c.args.self.now.automaton.now c.args.self.now.anchored c.match-prefilter.ahead.state _
-    came.passed.is_at.there) in
+    (ap (due_in (s g d).listed (search_through (s g d) (t g d))) stayed.1 ∙ stayed.0) passed ahead.ensures.within ahead.ensures.moved
+    (g.met.A.Automaton.lists c.args.self.now.automaton.now c.args.self.now.anchored ahead.result.state _
+    passed.is_at.there) in
     let Scans : Reached → Reached → Type 0 =
     λ from to. ScansTo (s g d) (t g d) from.at (work_of c.loop-found.tape c.loop-found.looks) to.at
-    (work_of c.match-prefilter.tape c.match-prefilter.looks) in
+    (work_of ahead.new.tape ahead.new.looks) in
     record {
-      bytes = came.same ∙ inv.bytes;
+      bytes = ahead.ensures.bytes ∙ inv.bytes;
       on = subst (HasComeOn (s g d) c.args.tape.now.bytes c.args.self.now.span c.args.reached.now) (sym c.new.ensures) (record {
         leaves = on.leaves;
         as_many = on.as_many
@@ -135,5 +93,5 @@ loop-found-preserved g c =
       scans = scans-on inv.scans
           (subst (Scans c.loop-found.reached) (sym c.new.ensures)
           (subst (λ (r : Reached). ScansTo (s g d) (t g d) r.at (work_of c.loop-found.tape c.loop-found.looks)
-          c.match-prefilter.ahead.at (work_of c.match-prefilter.tape c.match-prefilter.looks)) stayed.1 came.passed.scans));
+          ahead.result.at (work_of ahead.new.tape ahead.new.looks)) stayed.1 passed.scans));
     }

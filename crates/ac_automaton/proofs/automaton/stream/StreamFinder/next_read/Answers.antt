@@ -80,9 +80,9 @@ module _ (g : Over) (c : After-is_decided g) where
           may-read stands listed g.A.Automaton.LOOKS wants_prefilter i seen inv c.loop-scanner.state c.loop-scanner.at
           c.loop-scanner.picked on unanswered.living
 
-pub read_ahead-ahead-requires-clause-alive : goal.read_ahead-ahead-requires-clause-alive
-read_ahead-ahead-requires-clause-alive g c =
-    let d = (goal.at.read_ahead-ahead-requires-clause-alive g c).After-is_decided in (
+pub read_or_skip-ahead-requires-clause-alive : goal.read_or_skip-ahead-requires-clause-alive
+read_or_skip-ahead-requires-clause-alive g c =
+    let d = (goal.at.read_or_skip-ahead-requires-clause-alive g c).After-is_decided in (
       t g d (inside g d) c.self.invariant (bytes-are g d) (on-now g d),
       bytes-there g d (inside g d) c.self.invariant (bytes-are g d) (on-now g d),
       alive g d (inside g d) c.self.invariant (bytes-are g d) (on-now g d) c.loop-scanner-test.true,
@@ -92,15 +92,15 @@ pub match_at-found-requires : goal.match_at-found-requires
 match_at-found-requires g c =
     let d = (goal.at.match_at-found-requires g c).After-is_decided in
     let i = inside g d in
-    let passes = c.read_ahead-ahead.ensures.reads (t g d i c.self.invariant (bytes-are g d) (on-now g d))
+    let passes = c.read_or_skip-ahead.ensures.reads (t g d i c.self.invariant (bytes-are g d) (on-now g d))
     (bytes-there g d i c.self.invariant (bytes-are g d) (on-now g d))
     (alive g d i c.self.invariant (bytes-are g d) (on-now g d) c.loop-scanner-test.true) in
     record {
       state = (
         _,
         passes.is_at.there,
-        fits-there _ _ _ _ _ _ c.self.invariant _ _ _ (on-now g d) c.read_ahead-ahead.result passes
-            c.read_ahead-ahead.ensures.within,
+        fits-there _ _ _ _ _ _ c.self.invariant _ _ _ (on-now g d) c.read_or_skip-ahead.result passes
+            c.read_or_skip-ahead.ensures.within,
       );
     }
 
@@ -108,6 +108,10 @@ match_at-found-requires g c =
 module _ (g : Over) (c : After-is_decided g) (undecided : c.is_decided.result ≡ false) where
   room : c.loop-scanner.at < c.self.inside.filled
   room = (unanswered g c (inside g c) c.self.invariant (bytes-are g c) (on-now g c) undecided).room
+
+pub read_or_skip-ahead-requires-clause-before_end : goal.read_or_skip-ahead-requires-clause-before_end
+read_or_skip-ahead-requires-clause-before_end g c =
+    room g ((goal.at.read_or_skip-ahead-requires-clause-before_end g c).After-is_decided) c.loop-scanner-test.true
 
 pub loop-scanner-smaller-then-is_some : goal.loop-scanner-smaller-then-is_some
 loop-scanner-smaller-then-is_some g c =
@@ -118,7 +122,7 @@ loop-scanner-preserved-then-is_some g c =
     let d = (goal.at.loop-scanner-preserved-then-is_some g c).After-is_decided in
     let undecided = c.loop-scanner-test.true in
     let inv = c.loop-scanner.invariant in
-    let ahead = c.read_ahead-ahead in
+    let ahead = c.read_or_skip-ahead in
     record {
       bytes = ahead.ensures.bytes ∙ inv.bytes;
       unread = (ahead.ensures.reads (t g d (inside g d) c.self.invariant (bytes-are g d) (on-now g d))
@@ -134,7 +138,7 @@ loop-scanner-preserved-then-is_some g c =
           (alive g d i h buffer on undecided) in
           let within : ahead.result.at ≤ i.filled = let w = ahead.ensures.within in omega arith in
           found-on _ _ _ _ _ _ h _ _ _ on ahead.result passes within
-          (ahead.ensures.moved (room g d undecided)) (goes g d i h buffer on undecided) c.match_at-found.result
+          (ahead.ensures.moved) (goes g d i h buffer on undecided) c.match_at-found.result
           (c.match_at-found.ensures _ passes.is_at.there (fits-there _ _ _ _ _ _ h _ _ _ on ahead.result passes within))
           (sym c.is_some.ensures ∙ c.if-is_some.true))
           h (inv.reads i v is h buffer filled state at picked);
@@ -148,7 +152,7 @@ loop-scanner-preserved g c =
     let d = (goal.at.loop-scanner-preserved g c).After-is_decided in
     let undecided = c.loop-scanner-test.true in
     let inv = c.loop-scanner.invariant in
-    let ahead = c.read_ahead-ahead in
+    let ahead = c.read_or_skip-ahead in
     record {
       bytes = ahead.ensures.bytes ∙ inv.bytes;
       unread = (ahead.ensures.reads (t g d (inside g d) c.self.invariant (bytes-are g d) (on-now g d))
@@ -164,7 +168,7 @@ loop-scanner-preserved g c =
           (alive g d i h buffer on undecided) in
           let within : ahead.result.at ≤ i.filled = let w = ahead.ensures.within in omega arith in
           stays-on _ _ _ _ _ _ h _ _ _ on ahead.result passes within
-          (ahead.ensures.moved (room g d undecided)) (goes g d i h buffer on undecided) c.match_at-found.result
+          (ahead.ensures.moved) (goes g d i h buffer on undecided) c.match_at-found.result
           (c.match_at-found.ensures _ passes.is_at.there (fits-there _ _ _ _ _ _ h _ _ _ on ahead.result passes within))
           (sym c.is_some.ensures ∙ c.if-is_some.false))
           h (inv.reads i v is h buffer filled state at picked);
