@@ -21,6 +21,7 @@ pub mod ListsOf
 pub mod Misses
 pub mod Orders
 pub mod Overlapping
+pub mod PatternHeads
 pub mod Places
 pub mod Prefixes
 pub mod Ranges

@@ -20,7 +20,7 @@ step-within most built No u byte one_or_two = search (rules, step-paid)
 step-within most built Yes u byte one_or_two = grind (arith, common_steps)
 
 -- what holds as far as n and one place on holds as far as there
-below_next : (n : ℕ) (P : ℕ → Type 0) → ((k : ℕ) → k < n → P k) → P n → (k : ℕ) → k < n + 1 → P k
+pub below_next : (n : ℕ) (P : ℕ → Type 0) → ((k : ℕ) → k < n → P k) → P n → (k : ℕ) → k < n + 1 → P k
 below_next n P before now k up = elim (cases_lt k n) [ inl l ↦ before k l | inr l ↦ subst P (omega arith) now ]
 
 -- a place of the tape among all bytes read, as a sum

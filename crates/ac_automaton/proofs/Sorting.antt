@@ -25,8 +25,9 @@ use denote.Param.Members.{Mut}
 use denote.Ref.{Bor}
 use Rattle.ac_automaton.specs.Util.{participants, pattern_of, plain, Standard}
 use Rattle.ac_util.proofs.Lists.{IsOrdered, IsOrdered-map, IsOrdered-range, AllPairs-from_IsOrdered}
-use Rattle.ac_automaton.specs.Prelude.{AreListed, compared, IsOrder, Keyed, keyed, keyed_one, numbers, Precedes, SortedPattern}
+use Rattle.ac_automaton.specs.Prelude.{AreListed, compared, compared_by_bytes, HasHead, IsOrder, Keyed, keyed, keyed_one, numbers, Precedes, SortedPattern}
 use Rattle.ac_automaton.proofs.Counting.{IsOrdered-from_AllPairs}
+use Rattle.ac_automaton.proofs.PatternHeads.{compared-by_bytes}
 
 -- the view has the number of the pattern that is stored at a place
 pub sorted_number : (ignores_case : Bool) (sorted : List SortedPattern) (place : ℕ) (m : SortedPattern)
@@ -56,11 +57,16 @@ pub All-pushed : {X : Type 0} (P : X → Type 0) (xs ys : List X) (x : X) → ys
     → All P ys
 All-pushed P xs ys x is all here = All-same P ys (xs ++ x ∷ []) is (All-push P xs x all here)
 
+-- the comparison by bytes is a total order
+by_bytes-total : (ignores_case : Bool) → IsTotalOrder (compared_by_bytes ignores_case)
+by_bytes-total ignores_case =
+    then_total (on_total (λ (m : SortedPattern). plain ignores_case m.bytes.now) nat_list_cmp_total)
+    (on_total (λ (m : SortedPattern). m.number) nat_cmp_total)
+
 -- the comparison is a total order
 pub compared-total : (ignores_case : Bool) → IsTotalOrder (compared ignores_case)
 compared-total ignores_case =
-    then_total (on_total (λ (m : SortedPattern). plain ignores_case m.bytes.now) nat_list_cmp_total)
-    (on_total (λ (m : SortedPattern). m.number) nat_cmp_total)
+    then_total (on_total (λ (m : SortedPattern). m.head) nat_cmp_total) (by_bytes-total ignores_case)
 
 -- what a sort ensures whose closure answers by the comparison
 pub IsSortedBy-from_calls :
@@ -92,7 +98,7 @@ Precedes-by_parts a b Greater p bytes numbers le apart = absurd (false≢true (s
 
 -- a is no greater than b, and has another number
 record StandsBefore (ignores_case : Bool) (a b : SortedPattern) : Type 0 where
-  no_greater : is_lt (compared ignores_case b a) ≡ false
+  no_greater : is_lt (compared_by_bytes ignores_case b a) ≡ false
   apart : a.number ≢ b.number
 
 -- such patterns precede each other in the view
@@ -101,7 +107,8 @@ Precedes-from_StandsBefore : (ignores_case : Bool) (a b : SortedPattern) → Sta
 Precedes-from_StandsBefore ignores_case a b s =
     Precedes-by_parts (keyed_one ignores_case a) (keyed_one ignores_case b)
     (slice_cmp nat_cmp (plain ignores_case a.bytes.now) (plain ignores_case b.bytes.now)) (nat_cmp a.number b.number) refl refl
-    (ap is_gt ((compared-total ignores_case).antisymm a b) ∙ is_gt-reverse (compared ignores_case b a) ∙ s.no_greater) s.apart
+    (ap is_gt ((by_bytes-total ignores_case).antisymm a b) ∙ is_gt-reverse (compared_by_bytes ignores_case b a)
+    ∙ s.no_greater) s.apart
 
 -- a filter that lets all pass keeps the list
 all_kept : (xs : List ℕ) → filter (λ _. true) xs ≡ xs
@@ -192,13 +199,16 @@ module _ (ignores_case : Bool) (patterns : List (List ℕ)) (listed : List Sorte
         )
 
     -- sorted by the comparison they stand in order
-    pub IsOrder-from_sorted : IsSortedBy (λ a b. is_lt (compared ignores_case a b)) sorted
+    pub IsOrder-from_sorted : All (HasHead ignores_case) listed → IsSortedBy (λ a b. is_lt (compared ignores_case a b)) sorted
         → IsOrder Standard (map (plain ignores_case) patterns) (keyed ignores_case sorted)
-    IsOrder-from_sorted up =
+    IsOrder-from_sorted listed_heads up =
+        let heads = All-permutation (HasHead ignores_case) listed sorted moved listed_heads in
         let less = λ (a b : SortedPattern). is_lt (compared ignores_case a b) in
         let far = sorted_far less (ranks_by (compared-total ignores_case) (λ m. m)) sorted up in
         let before = IsOrdered-from_AllPairs (StandsBefore ignores_case) sorted (λ i j d below within. record {
-          no_greater = far i j d (omega arith) within;
+          no_greater = ap is_lt (sym (compared-by_bytes ignores_case (get_or sorted j d) (get_or sorted i d)
+              (heads j d within) (heads i d (omega (arith, below, within)))))
+              ∙ far i j d (omega arith) within;
           apart = sorted-apart i j d below within;
         }) in record {
           ascending = AllPairs-from_IsOrdered Precedes (keyed ignores_case sorted)

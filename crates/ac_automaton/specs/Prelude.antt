@@ -14,7 +14,8 @@ pub use Rattle.ac_automaton.specs.Readers.{AreNodes, HasOwn, IsOwn, leads_on}
 unfoldable pub use Rattle.ac_automaton.specs.Readers.{transition_bytes_of}
 pub use Rattle.ac_automaton.specs.Scans.{HasSkipped, in_memory, IsAlive, IsAt, node, NoMatchBetween, PassesNoMatch, past, Scan, scan_by, scan_of, ScansTo, ScanText, search_through, StaysAtStart}
 pub use Rattle.ac_automaton.specs.Skipping.{Skips, SkipsByBytes, SkipsByNeedle}
-pub use Rattle.ac_automaton.specs.Sorted.{AreListed, byte_at, compared, is_prefix, IsOrder, key_at, Keyed, keyed, keyed_one, numbers, Precedes, Sorted}
+unfoldable pub use Rattle.ac_automaton.specs.Sorted.{head_of}
+pub use Rattle.ac_automaton.specs.Sorted.{AreListed, byte_at, compared, compared_by_bytes, HasHead, head_len, is_prefix, IsHead, IsOrder, key_at, Keyed, keyed, keyed_one, numbers, Precedes, Sorted}
 pub use Rattle.ac_automaton.specs.Streams.{EndsNow, FailsToFill, FillsMore, GivesEarly, GivesLast, GivesMatch, GivesNone, GivesRead, GoesOnBy, HasGivenSettled, HasReadOn, Inside, IsSettledIn, IsSettling, IsStreaming, KeepsGiven, kept_from, kept_len, matches_so_far, MeetsEnd, most_kept, initial_stream, stream_from, Streaming, StreamsOn}
 pub use Rattle.ac_automaton.specs.Tries.{all_matches, anchored_matches, AreStates, dead_state, HasState, IsNumberOf, IsRoot, IsTrie, IsTrieState, Links, listed_within, TrieView, meaning_of, fallback, NumbersNodes, transition_target, Represents, IsRootEntry, stands-lists, state_at, state_patterns, TakesFrom, transition_bytes, transitions_of, Trie, trie_of}
 pub use Rattle.ac_automaton.specs.declared.automaton.listing.MatchRest.{MatchRest}

@@ -1,6 +1,6 @@
 -- The patterns that take part in ascending order of their bytes, so that those with one prefix stand side by
 -- side.
-use Rattle.std.specs.Prelude.{◌≡◌, ◌↔◌, ◌⊎◌, ℕ, ◌<◌, Bool, nat_eq, List, [], Option, map, length, slice_get, slice_index_or, All, AllPairs, Contains}
+use Rattle.std.specs.Prelude.{◌≡◌, ◌↔◌, ◌⊎◌, ℕ, zero, suc, ◌+◌, ◌*◌, ◌<◌, Bool, nat_eq, List, [], Option, map, length, slice_get, slice_index_or, All, AllPairs, Contains}
 use Rattle.std.specs.Cmp.Lexicographic.{slice_cmp}
 use Rattle.std.specs.List.{range_with_len, starts_with}
 use Rattle.std.specs.Ordering.{nat_cmp, ordering_then}
@@ -39,11 +39,33 @@ key_at sorted place = (slice_index_or sorted place (record { key = []; number = 
 abbrev pub byte_at : List Keyed → ℕ → ℕ → Option ℕ
 byte_at sorted depth place = slice_get (key_at sorted place) depth
 
--- how two patterns compare: by their plain bytes, and then by number
-abbrev pub compared : Bool → SortedPattern → SortedPattern → Ordering
-compared ignores_case a b =
+-- the first n bytes of a string as one number, each 256 times as much as the one after it, with zeros past its end
+unfoldable pub head_of : ℕ → List ℕ → ℕ
+head_of zero u = 0
+head_of (suc n) u = head_of n u * 256 + slice_index_or u n 0
+
+-- how many bytes the head of a pattern has
+abbrev pub head_len : ℕ
+head_len = 8
+
+-- a number is the head of a string, whose first bytes are bytes
+pub record IsHead (head : ℕ) (u : List ℕ) : Type 0 where
+  pub value : head ≡ head_of head_len u
+  pub small : (k : ℕ) → k < head_len → slice_index_or u k 0 < 256
+
+-- a pattern has the head of its plain bytes
+abbrev pub HasHead : Bool → SortedPattern → Type 0
+HasHead ignores_case m = IsHead m.head (plain ignores_case m.bytes.now)
+
+-- how two patterns compare by their plain bytes, and then by number
+abbrev pub compared_by_bytes : Bool → SortedPattern → SortedPattern → Ordering
+compared_by_bytes ignores_case a b =
     ordering_then (slice_cmp nat_cmp (plain ignores_case a.bytes.now) (plain ignores_case b.bytes.now))
     (nat_cmp a.number b.number)
+
+-- how two patterns compare: by their heads, and then by bytes and number
+abbrev pub compared : Bool → SortedPattern → SortedPattern → Ordering
+compared ignores_case a b = ordering_then (nat_cmp a.head b.head) (compared_by_bytes ignores_case a b)
 
 -- whether b's plain bytes are a prefix of a's
 abbrev pub is_prefix : Bool → SortedPattern → SortedPattern → Bool

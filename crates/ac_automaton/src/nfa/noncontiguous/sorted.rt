@@ -1,10 +1,10 @@
 //! The patterns that take part, sorted by their bytes.
-ghost use Rattle.std.specs.Prelude.{◌≡◌, ◌≢◌, ℕ, ◌+◌, ◌-◌, ◌<◌, ◌≤◌, Bool, List, true, false, nat_eq, All, IfOk, IsTrue, OnOk, length, map, slice_get, take};
+ghost use Rattle.std.specs.Prelude.{◌≡◌, ◌≢◌, ℕ, ◌+◌, ◌-◌, ◌<◌, ◌≤◌, Bool, List, true, false, nat_eq, All, IfOk, IsTrue, OnOk, length, map, slice_get, slice_index_or, take};
 ghost use Rattle.std.specs.Cmp.Lexicographic.{slice_cmp};
 ghost use Rattle.std.specs.List.{AllWithin, HoldsAt, starts_with};
 ghost use Rattle.std.specs.Ordering.{nat_cmp};
 ghost use Rattle.ac_automaton.specs.Util.{GREATEST, LeftmostFirst, plain, Standard};
-ghost use Rattle.ac_automaton.specs.Sorted.{AreListed, AreSorted, IsOrder, byte_at, compared, is_prefix, key_at, keyed, numbers};
+ghost use Rattle.ac_automaton.specs.Sorted.{AreListed, AreSorted, HasHead, IsHead, IsOrder, byte_at, compared, compared_by_bytes, is_prefix, key_at, keyed, numbers};
 
 use ac_util::patterns::{Patterns, plain_byte};
 use ac_util::primitives::PatternID;
@@ -13,10 +13,15 @@ use std::alloc::{AllocError, Allocator};
 use std::cmp::Ordering;
 use std::marker::Model;
 
+/// How many bytes of a pattern are compared as one number.
+const HEAD_LEN: usize = 8;
+
 /// A pattern that takes part.
 #[derive(Clone, Copy)]
 struct SortedPattern<'p> {
     bytes: &'p [u8],
+    /// Its first plain bytes as one number, by which most patterns are told apart.
+    head: u64,
     // no `PatternID`, since the borrow checker has no rule for one in a struct that also has a reference
     number: u32,
 }
@@ -59,7 +64,7 @@ impl<'p, A: Allocator> SortedPatterns<'p, A> {
     ) -> Result<SortedPatterns<'p, A>, AllocError>
         ensures { IfOk result (AreSorted Standard ignores_case patterns.now) }
     {
-        let mut patterns = listed(alloc, patterns)?;
+        let mut patterns = listed(alloc, patterns, ignores_case)?;
         patterns.sort_unstable_by(|a, b| compare(a, b, ignores_case));
         Ok(SortedPatterns {
             patterns,
@@ -183,25 +188,63 @@ impl<'p, A: Allocator + Clone> SortedPatterns<'p, A> {
 fn listed<'p, A: Allocator>(
     alloc: A,
     patterns: &'p Patterns<A>,
+    ignores_case: bool,
 ) -> Result<Vec<SortedPattern<'p>, A>, AllocError>
     ensures listed { IfOk result (λ listed. AreListed patterns.now listed.items) }
+    ensures heads { IfOk result (λ listed. All (HasHead ignores_case) listed.items) }
     ensures few { IfOk result (λ listed. length listed.items ≤ GREATEST + 1) }
     ensures short { IfOk result (λ listed. All (λ p. length p.bytes.now ≤ GREATEST) listed.items) }
     ensures numbered { IfOk result (λ listed. All (λ p. p.number ≤ GREATEST) listed.items) }
 {
     let mut listed = Vec::new(alloc);
     for number in 0..patterns.len() {
+        let bytes = patterns.get(number);
         listed.push(SortedPattern {
-            bytes: patterns.get(number),
+            bytes,
+            head: head_of(bytes, ignores_case),
             number: number as u32,
         })?;
     }
     Ok(listed)
 }
 
-/// Compares two patterns by their plain bytes, and then by number.
+/// Returns the first plain bytes of a pattern as one number, which is the greater the later the bytes come in order.
+fn head_of(bytes: &[u8], ignores_case: bool) -> u64
+    ensures { IsHead result (plain ignores_case bytes.now) }
+{
+    let mut head = 0;
+    for depth in 0..HEAD_LEN {
+        head = head * 256 + u64::from(byte_or_zero(bytes, depth, ignores_case));
+    }
+    head
+}
+
+/// Returns the plain byte at a depth of a pattern, or 0 past its end.
+#[inline]
+fn byte_or_zero(bytes: &[u8], depth: usize, ignores_case: bool) -> u8
+    ensures { result ≡ slice_index_or (plain ignores_case bytes.now) depth 0 }
+{
+    match bytes.get(depth) {
+        Some(byte) => plain_byte(ignores_case, *byte),
+        None => 0,
+    }
+}
+
+/// Compares two patterns by their heads, and where these are the same by their plain bytes and by number.
+#[inline]
 fn compare(a: &SortedPattern<'_>, b: &SortedPattern<'_>, ignores_case: bool) -> Ordering
     ensures { result ≡ compared ignores_case a.now b.now }
+{
+    match a.head.cmp(&b.head) {
+        Ordering::Equal => compare_whole(a, b, ignores_case),
+        unequal => unequal,
+    }
+}
+
+/// Compares two patterns by their plain bytes, and then by number.
+#[inline(never)]
+fn compare_whole(a: &SortedPattern<'_>, b: &SortedPattern<'_>, ignores_case: bool) -> Ordering
+    ensures { result ≡ compared_by_bytes ignores_case a.now b.now }
 {
     let by_number = a.number.cmp(&b.number);
     if ignores_case {

@@ -23,7 +23,7 @@ returns g c =
     record {
       fold_is = refl;
       order = IsOrder-from_sorted c.args.ignores_case c.args.patterns.now listed c.in_ok-patterns.ensures.listed sorted
-          c.sort_unstable_by.ensures.permutation
+          c.sort_unstable_by.ensures.permutation c.in_ok-patterns.ensures.heads
           (IsSortedBy-from_calls c.args.ignores_case sorted c.sort_unstable_by.ensures.sorted
           (λ a r f called. search rules));
     }
