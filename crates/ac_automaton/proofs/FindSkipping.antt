@@ -1,19 +1,22 @@
 -- A find that skips: it picks what its prefilter says, or has passed over no match where it reads on.
-use Rattle.std.proofs.Common.{◌≡◌, ◌⊎◌, ℕ, ◌+◌, ◌<◌, ◌≤◌, Bool, true, false, List, [], length, refl, ap, sym, inl, inr, arith, Option, Some, None, IfSome, rules}
+use Rattle.std.proofs.Common.{◌≡◌, ◌⊎◌, ℕ, zero, suc, ◌+◌, ◌<◌, ◌≤◌, Bool, true, false, List, [], ◌∷◌, length, refl, ap, sym, inl, inr, arith, Option, Some, None, IfSome, map, subst, ◌∙◌, rules}
 use Rattle.std.specs.List.{list_any}
 use Rattle.std.proofs.lemmas.Bool.{cases_lt}
 use Rattle.std.proofs.lemmas.Grind.{common_steps}
-use Rattle.ac_automaton.specs.Util.{Candidate, Counts, is_empty, is_leftmost, MatchKind, No, Occurrence, Occurs, one_more_call, order_of, pick, PossibleStart, Search, search_over, Skip, skip_for, Span}
+use Rattle.ac_automaton.specs.Util.{Candidate, Counts, is_empty, is_leftmost, MatchKind, may_skip, No, Occurrence, Occurs, one_more_call, order_of, IsPick, IsSkipFor, participates, pick, plain, plain_patterns, PossibleStart, reached, text, Search, search_over, Skip, skip_for, Span}
 use Rattle.ac_util.specs.declared.prefilter.Candidate.TheVariants.{None as Nothing}
 use Rattle.ac_util.specs.Prefilters.{IsCandidateFor}
 use Rattle.ac_util.specs.Prefilters.Skip.{Needle}
 use Rattle.ac_util.proofs.SearchLoop.{SearchGoesOn}
 use Rattle.ac_util.proofs.Walks.{pick-Occurs}
-use Rattle.ac_automaton.specs.Prelude.{Cursor, found_at, HasSearched, in_memory, node, PassesNoMatch, picking_by, ReadsTo, Scan, search_through, SkipsByNeedle, HasReadMatch, Work}
+use Rattle.ac_util.proofs.AtStart.{pick-rest}
+use Rattle.ac_util.proofs.Participants.{takes_part}
+use Rattle.ac_util.proofs.Picks.{pick-IsPick}
+use Rattle.ac_automaton.specs.Prelude.{Cursor, found_at, HasRead, HasSearched, in_memory, most_looks, node, PassesNoMatch, picking_by, ReadsTo, Scan, ScansTo, search_through, SkipsByNeedle, HasReadMatch, Work}
 use Rattle.ac_automaton.specs.Finds.{IsReady}
 use Rattle.ac_automaton.proofs.FindAhead.{found-nothing, picked-ahead, picked-there}
 use Rattle.ac_automaton.proofs.FindLoop.{goes_on-by, order, picked-start, up_to}
-use Rattle.ac_automaton.proofs.ReadOn.{at-start, node-start}
+use Rattle.ac_automaton.proofs.ReadOn.{at-start, node-start, read-scanned}
 use Rattle.ac_automaton.proofs.Skipping.{none-there}
 
 -- a search that skips has no empty pattern
@@ -36,41 +39,123 @@ pub nothing-none : (needle bytes : List ℕ) (low high : ℕ) (candidate : Candi
 nothing-none needle bytes low high candidate (inl is) told = is
 nothing-none needle bytes low high candidate (inr is) told = grind (arith, common_steps)
 
--- a find that has called its prefilter alone, and answers the pick, has read nothing
-module _ (s : Scan) (bytes : List ℕ) (span : Span) {skip : Skip} (by : SkipsByNeedle s skip) (place : ℕ)
-    (counts new_counts : Counts) (counted : new_counts ≡ one_more_call counts) where
+-- each pattern of a list of one takes part
+one-takes_part : (kind : MatchKind) (p : List ℕ) (n : ℕ) → n < 1 → participates kind (p ∷ []) n ≡ true
+one-takes_part kind p zero within = takes_part (p ∷ []) kind zero refl
+one-takes_part kind p (suc n) within = absurd (omega arith)
+
+-- a find that has come to a place without a match, and whose automaton is at its start there: it calls its prefilter,
+-- which answers the pick of the rest of the span
+module _ (s : Scan) (bytes : List ℕ) (span : Span) {skip : Skip} (by : SkipsByNeedle s skip) (stops : Bool)
+    {cursor : Cursor} (ready : IsReady s (in_memory bytes span) stops cursor)
+    (at_start : node s (in_memory bytes span) cursor.at ≡ Some []) (before_end : cursor.at < span.end)
+    (inside : span.end ≤ length bytes) where
   abbrev searched : Search
   searched = search_through s (in_memory bytes span)
 
-  abbrev before : Work
-  before = record { place = place; counts = counts }
+  abbrev picks : MatchKind
+  picks = order_of s.built.kind stops
 
-  abbrev after : Work
-  after = record { place = place; counts = new_counts }
+  -- nothing occurs in what was read
+  nothing : (m : Occurrence) → ¬ Occurs (record searched { high = cursor.at }) m
+  nothing =
+      let has_none = skip-some s.wants_prefilter s.built.ignores_case s.built.patterns skip by.skips.built_so in
+      let found : found_at s.built s.anchored (node s (in_memory bytes span) cursor.at) cursor.at ≡ None =
+      found-nothing s stops bytes span cursor.at (none-there s by.unanchored has_none at_start) in
+      subst (IsPick picks (record searched { high = cursor.at })) (sym ready.picked ∙ found)
+      (pick-IsPick picks (record searched { high = cursor.at }))
 
-  calls : new_counts.calls ≡ counts.calls + 1
-  calls = ap (λ (c : Counts). c.calls) counted
+  -- each pattern takes part, since there is one
+  all : (n : ℕ) → n < length s.built.patterns → participates s.built.kind (plain_patterns searched) n ≡ true
+  all n within =
+      let serves : (s.built.ignores_case ≡ false) × (s.built.patterns ≡ by.needle ∷ []) =
+      subst (λ k. IsSkipFor k s.built.ignores_case s.built.patterns) by.by_needle by.skips.serves in
+      subst (λ ps. participates s.built.kind ps n ≡ true) (sym (ap (map (plain s.built.ignores_case)) serves.1))
+      (one-takes_part s.built.kind (plain s.built.ignores_case by.needle) n
+      (subst (λ ps. n < length ps) serves.1 within))
 
-  says : (r : Option Occurrence) → IfSome r (HasReadMatch span.start before after)
-  says None = tt
-  says (Some m) = grind (arith, common_steps)
+  -- what is picked in the rest of the span is picked
+  picked-rest : {r : Option Occurrence}
+      → pick picks (search_over s.built.ignores_case s.built.patterns bytes cursor.at span.end) ≡ r → r ≡ pick picks searched
+  picked-rest is =
+      let there = subst (λ a. reached s.built.kind (plain_patterns searched) a
+      (text (record searched { high = cursor.at })) ≡ Some []) by.unanchored at_start in
+      sym is
+      ∙ ap (λ a. pick picks (record {
+        patterns = s.built.patterns;
+        ignores_case = s.built.ignores_case;
+        haystack = bytes;
+        anchored = a;
+        low = cursor.at;
+        high = span.end;
+      })) (sym by.unanchored)
+      ∙ pick-rest s.built.kind searched by.unanchored cursor.at ready.is_at.onward (omega (arith, before_end)) inside all there
+      nothing picks
 
-  stops-at : (kind : MatchKind) (r : Option Occurrence) → r ≡ pick kind searched
-      → IfSome r (ReadsTo span.start before after)
-  stops-at kind None answer = tt
-  stops-at kind (Some m) answer = grind (arith, common_steps, pick-Occurs kind searched m (sym answer), calls)
+  module _ {begun work : Work} (scans : ScansTo s (in_memory bytes span) span.start begun cursor.at work)
+      {counts : Counts} (counted : counts ≡ one_more_call work.counts) where
+    abbrev after : Work
+    after = record { place = work.place; counts = counts }
 
-  -- the search of a span that isn't anchored
-  unanchored : (kind : MatchKind) {r : Option Occurrence}
-      → pick kind (search_over s.built.ignores_case s.built.patterns bytes span.start span.end) ≡ r → r ≡ pick kind searched
-  unanchored kind is = cc
+    calls : counts.calls ≡ work.counts.calls + 1
+    calls = ap (λ (c : Counts). c.calls) counted
 
-  pub searched-none : (stops : Bool) (r : Option Occurrence)
-      → pick (order_of s.built.kind stops) (search_over s.built.ignores_case s.built.patterns bytes span.start span.end) ≡ r
-      → span.start < span.end → place ≤ span.start
-      → HasSearched (picking_by s stops) searched r before after
-  searched-none stops r answer some_bytes unread =
-      grind (arith, common_steps, says r, stops-at (order_of s.built.kind stops) r (unanchored (order_of s.built.kind stops) answer))
+    reads : counts.reads ≡ work.counts.reads
+    reads = ap (λ (c : Counts). c.reads) counted
+
+    looks : counts.looks ≡ work.counts.looks
+    looks = ap (λ (c : Counts). c.looks) counted
+
+    -- it has called once more, so nothing is owed to a find that has not
+    called : counts.calls ≡ begun.counts.calls → ⊥
+    called same = omega (arith, same, calls, scans.grows.calls)
+
+    has_read : HasRead (most_looks s.anchored s.most) (may_skip s.wants_prefilter searched) span.start span.end begun after
+    has_read =
+        let has = read-scanned s (in_memory bytes span) refl scans (omega (arith, before_end)) in
+        record {
+          onward = has.onward;
+          within = has.within;
+          grows = record {
+            reads = omega (arith, has.grows.reads, reads);
+            looks = omega (arith, has.grows.looks, reads, looks);
+            calls = omega (arith, has.grows.calls, calls);
+          };
+          told = λ further. (let told = has.told further in omega (arith, told, reads));
+          whole = λ same. absurd (called same);
+          reads = omega (arith, has.reads, reads);
+          looks = rw (looks, reads) has.looks;
+          calls = omega (arith, scans.calls, scans.onward, calls, before_end);
+          quiet = λ off. grind (arith, common_steps, by.skips.built_so, by.unanchored);
+        }
+
+    ends-there : (r : Option Occurrence) → pick picks (search_over s.built.ignores_case s.built.patterns bytes cursor.at span.end) ≡ r
+        → IfSome r (ReadsTo span.start begun after)
+    ends-there None answer = tt
+    ends-there (Some m) answer =
+        let o = pick-Occurs picks (search_over s.built.ignores_case s.built.patterns bytes cursor.at span.end) m answer in
+        let low = o.from_low in
+        let long : m.start < m.end = grind (arith, common_steps, o, by.skips.built_so) in
+        record {
+          place = omega (arith, scans.unread, low, long);
+          calls = omega (arith, scans.calls, scans.onward, calls, low, long);
+        }
+
+    says : (r : Option Occurrence) → IfSome r (HasReadMatch span.start begun after)
+    says None = tt
+    says (Some m) = record { place = λ same. absurd (called same); reads = λ same. absurd (called same) }
+
+    pub searched-rest : (r : Option Occurrence)
+        → pick picks (search_over s.built.ignores_case s.built.patterns bytes cursor.at span.end) ≡ r
+        → HasSearched (picking_by s stops) searched r begun after
+    searched-rest r answer = record {
+      answer = picked-rest answer;
+      read = has_read;
+      says = says r;
+      stops = λ _. ends-there r answer;
+      dead = λ k low before. ready.is_at.alive k low (omega (arith, before, scans.unread));
+      decided = λ same. absurd (called same);
+    }
 
 -- at the start of the span a find may read on: what the start state finds is picked
 pub ready-start : (s : Scan) (stops : Bool) (bytes : List ℕ) (span : Span) {state : ℕ} → s.stands state (Some [])

@@ -54,7 +54,7 @@ head-same (suc n) a b p q same k within =
     let left = ap (λ k. head_of k a) (sym (add-one n)) ∙ head_of-push n a in
     let right = ap (λ k. head_of k b) (sym (add-one n)) ∙ head_of-push n b in
     let before = head-same n a b (λ j h. p j (omega (arith, h))) (λ j h. q j (omega (arith, h)))
-        (omega (arith, same, x, y, left, right)) in
+    (omega (arith, same, x, y, left, right)) in
     below_next n (λ j. slice_index_or a j 0 ≡ slice_index_or b j 0) before (omega (arith, same, x, y, left, right)) k
     (omega (arith, within))
 

@@ -13,6 +13,7 @@ pub mod Found
 pub mod Standing
 pub mod Advance
 pub mod Spans
+pub mod AtStart
 pub mod OneLonger
 pub mod ListingLonger
 pub mod ListingBeginning

@@ -67,7 +67,7 @@ module _ (q : Search) (order : q.low ≤ q.high) (inside : q.high ≤ length q.h
   text_length = grind (arith, common_steps)
 
   -- a part of the text is the plain part of the haystack
-  part : (k n : ℕ) → k + n ≤ q.high - q.low
+  pub part : (k n : ℕ) → k + n ≤ q.high - q.low
       → take n (drop k (text q)) ≡ plain q.ignores_case (slice_range q.haystack (q.low + k) (q.low + k + n))
   part k n h = search (rules, drop-drop, drop-map, take-map, take_drop_take)
 

@@ -1,5 +1,5 @@
 //! The core of every find.
-ghost use Rattle.std.specs.Prelude.{◌≡◌, ◌+◌, ◌<◌, ◌≤◌, ◌↔◌, false, true, IsTrue, length, None, Some, MatchResult};
+ghost use Rattle.std.specs.Prelude.{◌≡◌, ◌+◌, ◌<◌, ◌≤◌, ◌↔◌, false, true, [], IsTrue, length, None, Some, MatchResult};
 ghost use Rattle.ac_automaton.specs.Util.{AnswersUnless, input_of, find_refusal, find_result, is_leftmost, order_of, search_in, skip_of, Standard, start_refusal};
 ghost use Rattle.ac_automaton.specs.Finders.{picking_of};
 ghost use Rattle.ac_automaton.specs.Finds.{HasSearched, input_over};
@@ -223,11 +223,15 @@ impl<'a, A: Automaton> Finder<'a, A> {
                 Prefilter::Bytes(_) => {
                     scanner.skip_on(prefilter, start, &mut self.credit, tape, looks)
                 }
-                Prefilter::Needle(_) if self.credit.is_left() => {
-                    return scanner.find_needle(prefilter, stops, &mut self.credit, tape, looks);
-                }
                 Prefilter::Needle(_) => {
-                    return scanner.find_without_needle(stops, start, &mut self.credit, tape, looks);
+                    let cursor = scanner.read_to_start(start, &mut self.credit, tape, looks);
+                    if cursor.at < span.end && self.automaton.is_start(cursor.state) {
+                        let from = cursor.at;
+                        let found = scanner.find_needle(prefilter, stops, cursor, tape, looks);
+                        self.credit.record_needle(from, &found);
+                        return found;
+                    }
+                    cursor
                 }
             },
             _ => start,
@@ -280,40 +284,6 @@ impl<'a, A: Automaton> Scanner<'a, A> {
         last
     }
 
-    /// Returns the pick of the span, as `find_on` does, and records how many bytes that took: after enough of them the
-    /// prefilter may be called again.
-    #[inline(never)]
-    fn find_without_needle(
-        &self,
-        stops: bool,
-        cursor: Cursor,
-        credit: &mut Credit,
-        tape: &mut Tape<'_>,
-        looks: &mut Looks,
-    ) -> Option<Match>
-        requires leftmost { stops ≡ false
-            → is_leftmost (⟦<A as Scans>⟧.scan self.now.automaton.now self.now.anchored).built.kind ≡ true }
-        requires within { cursor.at ≤ self.now.span.end }
-        requires inside { self.now.span.end ≤ length tape.old.bytes }
-        requires unread { tape.old.place ≤ cursor.at }
-        requires ready { IsReady (⟦<A as Scans>⟧.scan self.now.automaton.now self.now.anchored)
-            (in_memory tape.old.bytes self.now.span) stops cursor }
-        ensures bytes { tape.new.bytes ≡ tape.old.bytes }
-        ensures found { (begun : Work) → ScansTo (⟦<A as Scans>⟧.scan self.now.automaton.now self.now.anchored)
-            (in_memory tape.old.bytes self.now.span) self.now.span.start begun cursor.at (work_of tape.old looks.old)
-            → HasSearched (picking_by (⟦<A as Scans>⟧.scan self.now.automaton.now self.now.anchored) stops)
-            (search_through (⟦<A as Scans>⟧.scan self.now.automaton.now self.now.anchored) (in_memory tape.old.bytes self.now.span))
-            result begun (work_of tape.new looks.new) }
-    {
-        let found = self.find_on(stops, cursor, tape, looks);
-        let end = match &found {
-            Some(found) => found.end(),
-            None => self.span.end,
-        };
-        credit.record_rest(end.saturating_sub(self.span.start));
-        found
-    }
-
     /// Returns whether the last match found is the answer: nothing is left to read, nothing more is found, or the
     /// first match counts.
     #[inline]
@@ -327,30 +297,33 @@ impl<'a, A: Automaton> Scanner<'a, A> {
             || (stops && last.is_some())
     }
 
-    /// Returns the pick of the span where there is a single pattern, as its prefilter finds it.
+    /// Returns the pick of the span where there is a single pattern and the automaton is at its start, as the prefilter
+    /// finds it in the rest of the span.
     #[inline(never)]
     fn find_needle(
         &self,
         prefilter: &Prefilter<A::Memory>,
         stops: bool,
-        credit: &mut Credit,
+        cursor: Cursor,
         tape: &Tape<'_>,
         looks: &mut Looks,
     ) -> Option<Match>
         requires needle { SkipsByNeedle (⟦<A as Scans>⟧.scan self.now.automaton.now self.now.anchored) (skip_of prefilter.now) }
         requires inside { self.now.span.end ≤ length tape.now.bytes }
-        requires some_bytes { self.now.span.start < self.now.span.end }
-        requires unread { tape.now.place ≤ self.now.span.start }
-        ensures { HasSearched (picking_by (⟦<A as Scans>⟧.scan self.now.automaton.now self.now.anchored) stops)
+        requires before_end { cursor.at < self.now.span.end }
+        requires unread { tape.now.place ≤ cursor.at }
+        requires ready { IsReady (⟦<A as Scans>⟧.scan self.now.automaton.now self.now.anchored)
+            (in_memory tape.now.bytes self.now.span) stops cursor }
+        requires at_start { (u : Node) → (⟦<A as Scans>⟧.scan self.now.automaton.now self.now.anchored).stands cursor.state u
+            → u ≡ Some [] }
+        ensures { (begun : Work) → ScansTo (⟦<A as Scans>⟧.scan self.now.automaton.now self.now.anchored)
+            (in_memory tape.now.bytes self.now.span) self.now.span.start begun cursor.at (work_of tape.now looks.old)
+            → HasSearched (picking_by (⟦<A as Scans>⟧.scan self.now.automaton.now self.now.anchored) stops)
             (search_through (⟦<A as Scans>⟧.scan self.now.automaton.now self.now.anchored) (in_memory tape.now.bytes self.now.span))
-            result (work_of tape.now looks.old) (work_of tape.now looks.new) }
+            result begun (work_of tape.now looks.new) }
     {
-        let span = self.span;
-        match tape.scan(prefilter, span.start, span.end, looks) {
-            Candidate::Match(found) => {
-                credit.record_skip(found.start().saturating_sub(span.start));
-                Some(found)
-            }
+        match tape.scan(prefilter, cursor.at, self.span.end, looks) {
+            Candidate::Match(found) => Some(found),
             Candidate::None | Candidate::PossibleStart(_) => None,
         }
     }

@@ -11,7 +11,7 @@ use super::Automaton;
 use super::scan::{Cursor, Scanner, Scans};
 use ac_util::looks::{Looks, Tape};
 use ac_util::prefilter::{Candidate, Prefilter};
-use ac_util::search::Span;
+use ac_util::search::{Match, Span};
 
 /// How many bytes a call of a prefilter has to skip to be worth its time.
 const CALL_WORTH: usize = 16;
@@ -63,7 +63,7 @@ impl Credit {
 
     /// Charges for a call, and credits the bytes that it skipped.
     #[inline]
-    pub(super) fn record_skip(&mut self, skipped: usize) {
+    fn record_skip(&mut self, skipped: usize) {
         let left = self.bytes.saturating_sub(CALL_WORTH);
         self.bytes = left.saturating_add(skipped);
         if self.bytes > MOST_CREDIT {
@@ -73,25 +73,39 @@ impl Credit {
         }
     }
 
+    /// Charges for a call that looked for a needle from a place on, and credits the bytes up to where it was found.
+    #[inline]
+    pub(super) fn record_needle(&mut self, from: usize, found: &Option<Match>) {
+        if let Some(found) = found {
+            self.record_skip(found.start().saturating_sub(from));
+        }
+    }
+
     /// Charges for a byte that is read where no call can be made, since that takes longer here than by `read_ahead`.
     #[inline]
     fn record_byte(&mut self) {
         self.bytes = self.bytes.saturating_sub(1);
     }
 
-    /// Returns up to where a search reads without the prefilter: by a byte at least, and no further than the end.
+    /// Returns up to where a search reads without the prefilter: by a byte where it may be called again, else by the bytes of
+    /// the rest, and no further than the end.
     #[inline]
     fn rest_end(&self, at: usize, end: usize) -> usize
         requires before_end { at < end }
         ensures onward { at < result }
         ensures within { result ≤ end }
     {
-        at.saturating_add(self.rest.max(1)).min(end)
+        let most = if self.is_left() { 1 } else { self.rest.max(1) };
+        at.saturating_add(most).min(end)
     }
 
-    /// Records bytes that were read without the prefilter: after enough of them it may be called again.
+    /// Records bytes that were read without the prefilter, where no credit is left: after enough of them it may be called
+    /// again.
     #[inline]
-    pub(super) fn record_rest(&mut self, read: usize) {
+    fn record_rest(&mut self, read: usize) {
+        if self.is_left() {
+            return;
+        }
         if read < self.rest {
             self.rest -= read;
         } else {
@@ -168,8 +182,8 @@ impl<'a, A: Automaton> Scanner<'a, A> {
         }
     }
 
-    /// Reads on without the prefilter: as far as the credit has it rest, or up to a state that has matches or is dead,
-    /// or up to the end of the span. Returns how far it has come.
+    /// Reads on without the prefilter: as far as the credit has it rest, or by a byte where there is credit, or up to a state
+    /// that has matches or is dead, or up to the end of the span. Returns how far it has come.
     #[inline]
     fn read_rest(
         &self,
@@ -201,6 +215,42 @@ impl<'a, A: Automaton> Scanner<'a, A> {
         let read = ahead.at - from;
         credit.record_rest(read);
         ahead
+    }
+
+    /// Reads on without the prefilter, as long as there is no credit for a call, and then up to where the automaton is at its
+    /// start. It ends at a state that has matches or is dead, and at the end of the span. Returns how far it has come.
+    #[inline]
+    pub(super) fn read_to_start(
+        &self,
+        cursor: Cursor,
+        credit: &mut Credit,
+        tape: &mut Tape<'_>,
+        looks: &mut Looks,
+    ) -> Cursor
+        requires alive { MayRead (⟦<A as Scans>⟧.scan self.now.automaton.now self.now.anchored) tape.old.bytes cursor }
+        requires before_end { cursor.at < self.now.span.end }
+        requires inside { self.now.span.end ≤ length tape.old.bytes }
+        requires unread { tape.old.place ≤ cursor.at }
+        ensures bytes { tape.new.bytes ≡ tape.old.bytes }
+        ensures within { result.at ≤ self.now.span.end }
+        ensures reads { ReadsOn (⟦<A as Scans>⟧.scan self.now.automaton.now self.now.anchored) tape.old.bytes cursor
+            (work_of tape.old looks.old) result (work_of tape.new looks.new) }
+    {
+        if credit.is_left() {
+            return cursor;
+        }
+        let end = self.span.end;
+        let (mut state, mut at) = (cursor.state, cursor.at);
+        loop {
+            let ahead = self.read_rest(Cursor { state, at }, credit, tape, looks);
+            (state, at) = (ahead.state, ahead.at);
+            if at >= end || self.automaton.is_match_or_dead(state) {
+                return ahead;
+            }
+            if credit.is_left() && self.automaton.is_start(state) {
+                return ahead;
+            }
+        }
     }
 
     /// Reads on by a byte at least: skipping ahead where there is credit, and else without the prefilter. Returns how far

@@ -1,14 +1,14 @@
-use Rattle.std.proofs.Common.{◌≡◌, ℕ, List, refl, subst, sym, arith, Option, IfSome, rules}
+use Rattle.std.proofs.Common.{◌≡◌, ℕ, List, refl, subst, sym, arith, Option, Some, IfSome, rules}
 use Rattle.std.specs.Borrow.{Bor}
 use Rattle.std.proofs.lemmas.Grind.{common_steps}
 use Rattle.ac_automaton.specs.Util.{Counts, No, Prefilter, skip_of, Taped}
-use Rattle.ac_automaton.specs.Prelude.{Cursor, Finding, HasSearched, in_memory, picking_by, Scan, scan_of, ScansTo, ScanText, search_of, search_through, Skips, work_of}
+use Rattle.ac_automaton.specs.Prelude.{Cursor, Finding, HasSearched, in_memory, IsAlive, PassesNoMatch, picking_by, Scan, scan_of, ScansTo, ScanText, search_of, search_through, Skips, work_of}
 use Rattle.ac_automaton.specs.Finds.{IsReady}
 use Rattle.ac_automaton.proofs.FindLoop.{searched-nothing}
 use Rattle.ac_automaton.proofs.FindSkipping.{ready-passed, ready-start, skip-some}
 use Rattle.ac_automaton.proofs.ReadOn.{alive-start, scans-nothing}
 use Rattle.ac_automaton.proofs.automaton.find.Finder.find_skipping.Given.{Over}
-use Rattle.ac_automaton.proofs.automaton.find.Finder.find_skipping.Goals.{In-Needle-2, Joined-self, in-Some+in-Bytes, in_default-2, in_default}
+use Rattle.ac_automaton.proofs.automaton.find.Finder.find_skipping.Goals.{After-read_to_start-cursor, Joined-self, in-Some+in-Bytes, in-Some+in-Needle+else-cursor-span, in_default-2, in_default}
 use Rattle.ac_automaton.proofs.automaton.find.Finder.find_skipping.Goals as goal
 
 pub returns-then-span-clause-searched : goal.returns-then-span-clause-searched
@@ -54,22 +54,37 @@ module _ (g : Over) (c : Joined-self g) where
         scans = scans-nothing s t c.requires.unread;
       }
 
+  -- it has passed over no match
+  passed-may : {prefilter : Bor (Prefilter g.row.A-Memory.Denot)} {cursor : Cursor} {tape : Taped} {counts : Counts}
+      → c.self.inside.prefilter ≡ Some prefilter → tape.bytes ≡ c.args.tape.now.bytes
+      → PassesNoMatch s t c.args.span.start (work_of c.args.tape.now c.args.looks.now) cursor (work_of tape counts)
+      → MayFind cursor tape counts
+  passed-may {prefilter = prefilter} is same passed =
+      let skips : (c.self.inside.anchored ≡ No) × Skips s.wants_prefilter s.built (skip_of prefilter.now) =
+      subst (λ (o : Option (Bor (Prefilter g.row.A-Memory.Denot))). IfSome o (λ p. (c.self.inside.anchored ≡ No)
+      × Skips s.wants_prefilter s.built (skip_of p.now))) is c.self.invariant.skips in
+      record {
+        same = same;
+        ready = ready-passed s c.self.inside.stops c.args.tape.now.bytes c.args.span skips.0
+            (skip-some s.wants_prefilter s.built.ignores_case s.built.patterns _ skips.1.built_so) c.self.invariant.leftmost passed;
+        scans = passed.scans;
+      }
+
+  -- where the find begins the automaton may read
+  alive : IsAlive s t (record { state = c.self.inside.start; at = c.args.span.start })
+  alive =
+      let within = c.requires.end_within in
+      let ordered = c.if-span.false in
+      alive-start s t c.args.span.start c.self.invariant.starts refl (omega arith)
+
   may : MayFind c.match-self.cursor c.match-self.tape c.match-self.looks
   may = elim c.match-self.branch [
     | in-Some+in-Bytes w ↦
-        let skips : (c.self.inside.anchored ≡ No) × Skips s.wants_prefilter s.built (skip_of w.in-Some.prefilter.now) =
-        subst (λ (o : Option (Bor (Prefilter g.row.A-Memory.Denot))). IfSome o (λ p. (c.self.inside.anchored ≡ No)
-        × Skips s.wants_prefilter s.built (skip_of p.now))) w.in-Some.is c.self.invariant.skips in
-        let within = c.requires.end_within in
-        let ordered = c.if-span.false in
-        let passed = w.skip_on.ensures.reads t refl
-        (alive-start s t c.args.span.start c.self.invariant.starts refl (omega arith)) in
-        may-as w.cursor-is w.tape-is w.looks-is (record {
-          same = w.skip_on.ensures.bytes;
-          ready = ready-passed s c.self.inside.stops c.args.tape.now.bytes c.args.span skips.0
-              (skip-some s.wants_prefilter s.built.ignores_case s.built.patterns _ skips.1.built_so) c.self.invariant.leftmost passed;
-          scans = passed.scans;
-        })
+        may-as w.cursor-is w.tape-is w.looks-is
+        (passed-may w.in-Some.is w.skip_on.ensures.bytes (w.skip_on.ensures.reads t refl alive))
+    | in-Some+in-Needle+else-cursor-span w ↦
+        may-as w.cursor-is w.tape-is w.looks-is
+        (passed-may w.in-Some.is w.read_to_start-cursor.ensures.bytes (w.read_to_start-cursor.ensures.reads t refl alive))
     | in_default-2 w ↦ may-as w.cursor-is w.tape-is w.looks-is starts
     | in_default w ↦ may-as w.cursor-is w.tape-is w.looks-is starts
   ]
@@ -99,30 +114,68 @@ returns-clause-searched g c =
     (search_of f.built f.anchored c.args.tape.now.bytes c.args.span.start c.args.span.end) c.find_on.result work done)
     c.self.view_is searched
 
--- a find without its needle begins where nothing was read
-module _ (g : Over) (c : In-Needle-2 g) where
-  abbrev without : Scan
-  without =
+pub read_to_start-cursor-requires-clause-alive : goal.read_to_start-cursor-requires-clause-alive
+read_to_start-cursor-requires-clause-alive g c =
+    let within = c.requires.end_within in
+    let ordered = c.if-span.false in (
+      in_memory c.args.tape.now.bytes c.args.span,
+      refl,
+      alive-start _ _ c.args.span.start c.self.invariant.starts refl (omega arith),
+    )
+
+-- a find by a needle has read on while there was no credit, and has passed over no match
+module _ (g : Over) (c : After-read_to_start-cursor g) where
+  abbrev by_needle : Scan
+  by_needle =
       scan_of g.A.Automaton.stands g.A.Automaton.listed g.A.Automaton.built g.A.Automaton.LOOKS g.A.Automaton.wants_prefilter
       c.self.inside.automaton.now c.self.inside.anchored
 
-  ready-there : IsReady without (in_memory c.args.tape.now.bytes c.args.span) c.self.inside.stops
-      (record { state = c.self.inside.start; at = c.args.span.start })
-  ready-there =
+  passed : PassesNoMatch by_needle (in_memory c.args.tape.now.bytes c.args.span) c.args.span.start
+      (work_of c.args.tape.now c.args.looks.now) c.read_to_start-cursor.result
+      (work_of c.read_to_start-cursor.new.tape c.read_to_start-cursor.new.looks)
+  passed =
       let within = c.requires.end_within in
       let ordered = c.if-span.false in
-      ready-start without c.self.inside.stops c.args.tape.now.bytes c.args.span c.self.invariant.starts (omega arith)
+      c.read_to_start-cursor.ensures.reads (in_memory c.args.tape.now.bytes c.args.span) refl
+      (alive-start by_needle (in_memory c.args.tape.now.bytes c.args.span) c.args.span.start c.self.invariant.starts refl
+      (omega arith))
 
-pub find_without_needle-requires-clause-ready : goal.find_without_needle-requires-clause-ready
-find_without_needle-requires-clause-ready g c =
-    ready-there g ((goal.at.find_without_needle-requires-clause-ready g c).In-Needle-2)
+  ready-there : IsReady by_needle (in_memory c.args.tape.now.bytes c.args.span) c.self.inside.stops c.read_to_start-cursor.result
+  ready-there =
+      let skips : (c.self.inside.anchored ≡ No) × Skips by_needle.wants_prefilter by_needle.built (skip_of c.in-Some.prefilter.now) =
+      subst (λ (o : Option (Bor (Prefilter g.row.A-Memory.Denot))). IfSome o (λ p. (c.self.inside.anchored ≡ No)
+      × Skips by_needle.wants_prefilter by_needle.built (skip_of p.now))) c.in-Some.is c.self.invariant.skips in
+      ready-passed by_needle c.self.inside.stops c.args.tape.now.bytes c.args.span skips.0
+      (skip-some by_needle.wants_prefilter by_needle.built.ignores_case by_needle.built.patterns _ skips.1.built_so)
+      c.self.invariant.leftmost passed
 
-pub returns-in-Needle-2-clause-searched : goal.returns-in-Needle-2-clause-searched
-returns-in-Needle-2-clause-searched g c =
-    let s = without g ((goal.at.returns-in-Needle-2-clause-searched g c).In-Needle-2) in
+pub is_start-requires : goal.is_start-requires
+is_start-requires g c =
+    let s = (goal.at.is_start-requires g c).After-read_to_start-cursor in
+    record { state = (c.self.inside.anchored, (_, (passed g s).is_at.there)) }
+
+pub find_needle-found-requires-clause-unread : goal.find_needle-found-requires-clause-unread
+find_needle-found-requires-clause-unread g c =
+    (passed g (goal.at.find_needle-found-requires-clause-unread g c).After-read_to_start-cursor).scans.unread
+
+pub find_needle-found-requires-clause-ready : goal.find_needle-found-requires-clause-ready
+find_needle-found-requires-clause-ready g c =
+    let s = (goal.at.find_needle-found-requires-clause-ready g c).After-read_to_start-cursor in
+    subst (λ (bs : List ℕ). IsReady (by_needle g s) (in_memory bs c.args.span) c.self.inside.stops
+    c.read_to_start-cursor.result) (sym c.read_to_start-cursor.ensures.bytes) (ready-there g s)
+
+pub returns-then-is_start-clause-searched : goal.returns-then-is_start-clause-searched
+returns-then-is_start-clause-searched g c =
+    let s = (goal.at.returns-then-is_start-clause-searched g c).After-read_to_start-cursor in
+    let work = work_of c.args.tape.now c.args.looks.now in
+    let read = c.read_to_start-cursor.ensures.bytes in
+    let done = work_of c.read_to_start-cursor.new.tape c.find_needle-found.new.looks in
     subst (λ (f : Finding). HasSearched f.picking
-    (search_of f.built f.anchored c.args.tape.now.bytes c.args.span.start c.args.span.end) c.find_without_needle.result
-    (work_of c.args.tape.now c.args.looks.now) (work_of c.find_without_needle.new.tape c.find_without_needle.new.looks))
+    (search_of f.built f.anchored c.args.tape.now.bytes c.args.span.start c.args.span.end) c.find_needle-found.result work done)
     c.self.view_is
-    (c.find_without_needle.ensures.found (work_of c.args.tape.now c.args.looks.now)
-    (scans-nothing s (in_memory c.args.tape.now.bytes c.args.span) c.requires.unread))
+    (subst (λ (bs : List ℕ). HasSearched (picking_by (by_needle g s) c.self.inside.stops)
+    (search_through (by_needle g s) (in_memory bs c.args.span)) c.find_needle-found.result work done) read
+    (c.find_needle-found.ensures work
+    (subst (λ (bs : List ℕ). ScansTo (by_needle g s) (in_memory bs c.args.span) c.args.span.start work
+    c.read_to_start-cursor.result.at (work_of c.read_to_start-cursor.new.tape c.read_to_start-cursor.new.looks))
+    (sym read) (passed g s).scans)))

@@ -20,7 +20,7 @@ overflow_mul-head c =
 pub overflow_add-head : goal.overflow_add-head
 overflow_add-head c =
     let room = head-fits c.loop-depth.depth c.loop-depth.head c.byte_or_zero.result c.loop-depth-test.true
-        c.loop-depth.invariant.bound c.byte_or_zero.type_inv in omega (arith, room, c.from.ensures)
+    c.loop-depth.invariant.bound c.byte_or_zero.type_inv in omega (arith, room, c.from.ensures)
 
 pub loop-depth-preserved : goal.loop-depth-preserved
 loop-depth-preserved c =
