@@ -28,6 +28,7 @@ pub mod Ranges
 pub mod ReadAhead
 pub mod ReadOn
 pub mod Reading
+pub mod Rising
 pub mod Roots
 pub mod Skipping
 pub mod Sorting

@@ -82,20 +82,29 @@ impl State {
     }
 }
 
-/// Lists up to this length are searched linearly.
-const FEW: usize = 8;
-
-/// Returns the target of the transition by a byte, if there is one.
+/// Returns the target of the transition by a byte, if there is one, among some in ascending order.
+///
+/// A byte that is n above the first one is at most n places after it. So the search goes down from there: by no step where
+/// the bytes follow one another, as letters do, and mostly by few.
 #[inline]
 fn target_among(own: &[Transition], byte: u8) -> Option<StateID>
+    requires ascending { IsStrictlyIncreasing (transition_bytes own.now) }
     ensures { IsTarget own.now byte result }
 {
-    for next in own {
-        if next.byte == byte {
-            return Some(next.target);
-        }
+    if own.is_empty() {
+        return None;
     }
-    None
+    let above = usize::from(byte.saturating_sub(own[0].byte));
+    let mut at = above.min(own.len() - 1);
+    while at > 0 && own[at].byte > byte {
+        at -= 1;
+    }
+    let next = own[at];
+    if next.byte == byte {
+        Some(next.target)
+    } else {
+        None
+    }
 }
 
 /// Returns the state to which a byte leads, if there is a transition by it.
@@ -108,13 +117,7 @@ fn target(state: &State, transitions: &[Transition], byte: u8) -> Option<StateID
     ensures { IsTarget (transitions_of transitions.now state.now) byte result }
 {
     let own = &transitions[state.transitions as usize..state.transitions_end as usize];
-    if own.len() <= FEW {
-        return target_among(own, byte);
-    }
-    match own.binary_search_by_key(&byte, |t| t.byte) {
-        Ok(place) => Some(own[place].target),
-        Err(_) => None,
-    }
+    target_among(own, byte)
 }
 
 /// Returns the state to which a byte leads, if there is a transition by it, and counts the look at the state.

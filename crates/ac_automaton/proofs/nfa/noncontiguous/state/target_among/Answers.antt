@@ -1,21 +1,65 @@
-use Rattle.std.proofs.Common.{arith, rules}
+-- The search begins no nearer than the byte can be, and goes down past greater bytes alone.
+use Rattle.std.proofs.Common.{◌≡◌, ◌<◌, ◌≤◌, ◌⊎◌, length, get_or, arith, ap, ◌∙◌, inl, inr, Some}
 use Rattle.std.proofs.lemmas.Bool.{cases_lt}
-use Rattle.std.proofs.lemmas.Option.{slice_get_read}
-use Rattle.ac_util.proofs.Lists.{IsIn-from_Contains, IsIn-from_map}
-use Rattle.ac_automaton.specs.Prelude.{Transition, transition_bytes}
-use Rattle.ac_automaton.proofs.Places.{get-same, place-of}
+use Rattle.std.proofs.lemmas.Grind.{common_steps}
+use Rattle.ac_automaton.specs.Prelude.{transition_bytes}
+use Rattle.ac_automaton.proofs.Rising.{byte-read, greater-beyond, none-below, none-between, read-target}
+use Rattle.ac_automaton.proofs.nfa.noncontiguous.state.target_among.Goals.{then-loop-at-test+else-own-at, else-loop-at-test}
 use Rattle.ac_automaton.proofs.nfa.noncontiguous.state.target_among.Goals as goal
 
-pub loop-next-preserved : goal.loop-next-preserved
-loop-next-preserved c = search (rules, cases_lt, get-same, slice_get_read)
+pub loop-at-init : goal.loop-at-init
+loop-at-init c =
+    let own = c.args.own.now in
+    let some : 0 < length own = grind (arith, common_steps) in
+    let first = byte-read own 0 c.index-own-0.result some c.index-own-0.is in
+    let read = ap (λ t. t.byte) c.index-own-0.is in
+    record {
+      within = omega (arith, c.min-at.ensures, some);
+      greater = λ k after inside. elim (cases_lt c.from-above.result (length own)) [
+        | inl near ↦ greater-beyond own c.requires.ascending c.args.byte c.min-at.result
+            (omega (arith, near, c.min-at.ensures, c.from-above.ensures, c.saturating_sub.ensures, first, read)) k after inside
+        | inr far ↦ absurd (omega (arith, far, c.min-at.ensures, after, inside))
+      ];
+    }
+
+pub loop-at-preserved : goal.loop-at-preserved
+loop-at-preserved c =
+    let own = c.args.own.now in
+    let here = byte-read own c.loop-at.at c.index-own-at.result c.loop-at.invariant.within c.index-own-at.is in
+    let read = ap (λ t. t.byte) c.index-own-at.is in
+    record {
+      within = omega (arith, c.loop-at.invariant.within);
+      greater = λ k after inside. elim (cases_lt c.loop-at.at k) [
+        | inl beyond ↦ c.loop-at.invariant.greater k beyond inside
+        | inr upto ↦ (let same : c.loop-at.at ≡ k = omega (arith, after, upto) in
+            omega (arith, here, read, c.if-own-at.true, ap (λ n. get_or (transition_bytes own) n 0) same))
+      ];
+    }
 
 pub returns-then-next-byte : goal.returns-then-next-byte
-returns-then-next-byte c = search (rules, slice_get_read)
+returns-then-next-byte c = (
+  c.loop-at.at,
+  read-target c.args.own.now c.loop-at.at c.index-own-at-2.result c.loop-at.invariant.within c.index-own-at-2.is
+      ∙ ap (λ b. Some (record { byte = b; target = c.index-own-at-2.result.target })) c.if-next-byte.true,
+)
 
-pub returns : goal.returns
-returns c = λ has.
-    let t =
-    IsIn-from_map (λ (x : Transition). x.byte) c.args.byte c.args.own.now
-    (IsIn-from_Contains c.args.byte (transition_bytes c.args.own.now) has) in
-    let k = place-of t.0 c.args.own.now t.1 in
-    c.loop-next.invariant k.place t.0 (omega (arith, k.within, c.loop-next-test.false)) k.there t.2
+pub returns-else-next-byte : goal.returns-else-next-byte
+returns-else-next-byte c =
+    let own = c.args.own.now in
+    let at = c.loop-at.at in
+    let within = c.loop-at.invariant.within in
+    let here = byte-read own at c.index-own-at-2.result within c.index-own-at-2.is in
+    elim (cases_lt c.index-own-at-2.result.byte c.args.byte) [
+      | inl less ↦ none-between own c.requires.ascending c.args.byte at within (omega (arith, here, less))
+          c.loop-at.invariant.greater
+      | inr more ↦ elim c.loop-at-test.branch [
+          | then-loop-at-test+else-own-at w ↦
+              let was = byte-read own at w.index-own-at.result within w.index-own-at.is in
+              let read = ap (λ t. t.byte) w.index-own-at.is in
+              absurd (omega (arith, here, was, read, more, w.if-own-at.false, c.if-next-byte.false))
+          | else-loop-at-test w ↦
+              let first : at ≡ 0 = omega (arith, w.loop-at-test.false) in
+              none-below own c.requires.ascending c.args.byte
+              (omega (arith, here, more, c.if-next-byte.false, ap (λ n. get_or (transition_bytes own) n 0) first))
+        ]
+    ]

@@ -1,8 +1,13 @@
-use Rattle.std.proofs.Common.{◌≡◌, ℕ, ◌<◌, Some, slice_get}
-use Rattle.ac_automaton.specs.declared.nfa.noncontiguous.state.Transition.{Transition}
+-- All transitions after the place have greater bytes.
+use Rattle.std.proofs.Common.{◌<◌, length}
+use Rattle.ac_automaton.proofs.Rising.{AreGreaterAfter}
 use Rattle.ac_automaton.proofs.nfa.noncontiguous.state.target_among.Given as goal
 
--- none of those before is by the byte
-abbrev pub invariant-loop-next : goal.invariant-loop-next
-invariant-loop-next l =
-    (k : ℕ) (t : Transition) → k < l.next-index → slice_get l.own k ≡ Some t → t.byte ≡ l.byte → ⊥
+abbrev pub invariant-loop-at : goal.invariant-loop-at
+invariant-loop-at l = record {
+  within : l.at < length l.own;
+  greater : AreGreaterAfter l.own l.at l.byte;
+}
+
+abbrev pub decreases-loop-at : goal.decreases-loop-at
+decreases-loop-at l = l.at
