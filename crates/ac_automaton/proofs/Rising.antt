@@ -1,5 +1,5 @@
 -- Transitions whose bytes ascend: how far from the first one a byte can stand, and where there is no transition by it.
-use Rattle.std.proofs.Common.{◌≡◌, ◌≢◌, ℕ, zero, suc, add-one, ◌+◌, ◌<◌, ◌≤◌, List, [], ◌∷◌, length, get_or, refl, ap, sym, ◌∙◌, arith, rules, inl, inr, Contains, Some, slice_get}
+use Rattle.std.proofs.Common.{◌≡◌, ℕ, zero, suc, add-one, ◌+◌, ◌<◌, ◌≤◌, List, [], ◌∷◌, length, get_or, refl, ap, sym, ◌∙◌, arith, rules, inl, inr, Contains, Some, slice_get}
 use Rattle.std.specs.List.Sorted.{IsStrictlyIncreasing}
 use Rattle.std.proofs.lemmas.Bool.{cases_lt}
 use Rattle.std.proofs.lemmas.Grind.{get_or_default_zero}
@@ -53,11 +53,15 @@ none-between xs ascending byte place within less greater found =
     elim (cases_lt place found.0) [
       | inl after ↦ (omega (arith, here, greater found.0 after (omega (arith, found.1, long))))
       | inr before ↦ elim (cases_lt found.0 place) [
-          | inl lower ↦ (omega (arith, here, less,
-              AllPairs-from_increasing bytes ascending found.0 place 0 lower (omega (arith, within, long))))
-          | inr upper ↦ (let same : found.0 ≡ place = omega (arith, before, upper) in
-              omega (arith, here, less, ap (λ n. get_or bytes n 0) same))
-        ]
+        | inl lower ↦ (omega (
+          arith,
+          here,
+          less,
+          AllPairs-from_increasing bytes ascending found.0 place 0 lower (omega (arith, within, long)),
+        ))
+        | inr upper ↦ (let same : found.0 ≡ place = omega (arith, before, upper) in
+            omega (arith, here, less, ap (λ n. get_or bytes n 0) same))
+      ]
     ]
 
 -- the first transition has a greater byte: so none is by the byte

@@ -1,4 +1,4 @@
-use Rattle.std.proofs.Common.{Some, None, rules, arith, sym, ◌≡◌}
+use Rattle.std.proofs.Common.{Some, None, rules, sym, ◌≡◌}
 use Rattle.ac_automaton.specs.Util.{order_of, pick, search_over}
 use Rattle.ac_automaton.proofs.FindSkipping.{picks-none, searched-rest, nothing-none}
 use Rattle.ac_automaton.proofs.automaton.scan.Scanner.find_needle.Goals as goal

@@ -1,5 +1,5 @@
 -- One more byte is added, for which there is room.
-use Rattle.std.proofs.Common.{◌≡◌, ◌+◌, ◌*◌, ◌<◌, sym, ap, ◌∙◌, arith, slice_index_or}
+use Rattle.std.proofs.Common.{◌+◌, ◌*◌, ◌<◌, sym, ap, ◌∙◌, arith, slice_index_or}
 use Rattle.ac_automaton.specs.Util.{plain}
 use Rattle.ac_automaton.proofs.PatternHeads.{head-bound, head-fits, head_of-zero, head_of-push}
 use Rattle.ac_automaton.proofs.ReadOn.{below_next}

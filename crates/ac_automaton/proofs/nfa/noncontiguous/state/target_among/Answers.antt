@@ -1,5 +1,5 @@
 -- The search begins no nearer than the byte can be, and goes down past greater bytes alone.
-use Rattle.std.proofs.Common.{◌≡◌, ◌<◌, ◌≤◌, ◌⊎◌, length, get_or, arith, ap, ◌∙◌, inl, inr, Some}
+use Rattle.std.proofs.Common.{◌≡◌, ◌<◌, length, get_or, arith, ap, ◌∙◌, inl, inr, Some}
 use Rattle.std.proofs.lemmas.Bool.{cases_lt}
 use Rattle.std.proofs.lemmas.Grind.{common_steps}
 use Rattle.ac_automaton.specs.Prelude.{transition_bytes}
@@ -53,13 +53,13 @@ returns-else-next-byte c =
       | inl less ↦ none-between own c.requires.ascending c.args.byte at within (omega (arith, here, less))
           c.loop-at.invariant.greater
       | inr more ↦ elim c.loop-at-test.branch [
-          | then-loop-at-test+else-own-at w ↦
-              let was = byte-read own at w.index-own-at.result within w.index-own-at.is in
-              let read = ap (λ t. t.byte) w.index-own-at.is in
-              absurd (omega (arith, here, was, read, more, w.if-own-at.false, c.if-next-byte.false))
-          | else-loop-at-test w ↦
-              let first : at ≡ 0 = omega (arith, w.loop-at-test.false) in
-              none-below own c.requires.ascending c.args.byte
-              (omega (arith, here, more, c.if-next-byte.false, ap (λ n. get_or (transition_bytes own) n 0) first))
-        ]
+        | then-loop-at-test+else-own-at w ↦
+            let was = byte-read own at w.index-own-at.result within w.index-own-at.is in
+            let read = ap (λ t. t.byte) w.index-own-at.is in
+            absurd (omega (arith, here, was, read, more, w.if-own-at.false, c.if-next-byte.false))
+        | else-loop-at-test w ↦
+            let first : at ≡ 0 = omega (arith, w.loop-at-test.false) in
+            none-below own c.requires.ascending c.args.byte
+            (omega (arith, here, more, c.if-next-byte.false, ap (λ n. get_or (transition_bytes own) n 0) first))
+      ]
     ]
