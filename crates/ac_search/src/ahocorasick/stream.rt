@@ -124,8 +124,8 @@ impl<A: Allocator> AhoCorasick<A> {
     ///
     /// The closure is handed the match, with offsets in the whole stream, the slice that matched and the writer, to
     /// which it writes what replaces the match. It may be called with any match and writer. All bytes before a match
-    /// were written when the closure is called, so only the buffer for what is read is made. Else this is as
-    /// `try_stream_replace_all`.
+    /// were written when the closure is called, so only the buffer for what is read is made. Apart from that this does
+    /// what `try_stream_replace_all` does.
     ///
     /// # Errors
     /// As `try_stream_replace_all`; and `Io` where the closure failed: what it wrote stays written, and nothing
