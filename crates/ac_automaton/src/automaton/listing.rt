@@ -47,7 +47,7 @@ impl<'a, A: Automaton> Scanner<'a, A> {
 
     /// Returns the prefilter of a listing: one that skips by first bytes, in an unanchored search.
     ///
-    /// A needle is none: where it is found first the automaton need not have been at its start.
+    /// A needle can't be one: where it is found first, the automaton need not have been at its start.
     #[inline]
     pub(super) fn listing_prefilter(&self) -> Option<&'a Prefilter<A::Memory>>
         ensures { IfSome result (λ p. SkipsByBytes (⟦<A as Scans>⟧.scan self.now.automaton.now self.now.anchored) (skip_of p.now)) }
@@ -85,8 +85,8 @@ impl<'a, A: Automaton> Scanner<'a, A> {
         Some(Match::new(pattern, span))
     }
 
-    /// Returns the next item of the listing of the span, and moves on past it. It skips by the prefilter, where one is
-    /// given and that pays.
+    /// Returns the next item of the listing of the span, and moves on past it. It skips ahead with the prefilter, where
+    /// one is given and that pays.
     #[inline]
     pub(super) fn next_item(
         &self,
