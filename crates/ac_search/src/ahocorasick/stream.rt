@@ -135,14 +135,17 @@ impl<A: Allocator> AhoCorasick<A> {
     /// // a searcher over "fox", "brown" and "quick"; a `Written` takes all of each piece
     /// let mut reader = Bytes::new(b"The quick brown fox.");
     /// let mut writer = Written::new(alloc);
-    /// let mark = |_: &Match, slice: &[u8], writer: &mut Written<Global>| {
-    ///     writer.write_some(b"<")?;
-    ///     writer.write_some(slice)?;
-    ///     writer.write_some(b">")?;
-    ///     Ok(())
-    /// };
-    /// searcher.try_stream_replace_all_with(alloc, &mut reader, &mut writer, mark)?;
-    /// // writes "The <quick> <brown> <fox>."
+    /// searcher.try_stream_replace_all_with(
+    ///     alloc,
+    ///     &mut reader,
+    ///     &mut writer,
+    ///     |_, slice, writer: &mut Written<Global>| {
+    ///         writer.write_some(b"<")?;
+    ///         writer.write_some(slice)?;
+    ///         writer.write_some(b">")?;
+    ///         Ok(())
+    ///     },
+    /// )?; // writes "The <quick> <brown> <fox>."
     /// ```
     pub fn try_stream_replace_all_with<R: Source, W: Sink, Z: Allocator, F>(
         &self,
