@@ -1,4 +1,4 @@
-//! What an engine offers, and the searches over any engine.
+//! What an engine has to offer, and the searches that run on any engine.
 ghost use Rattle.std.specs.Prelude.{◌≡◌, ◌≢◌, ◌↔◌, ◌⊎◌, ℕ, ◌<◌, Bool, List, [], length, option_map, slice_get, string_bytes, Some, None, IfSome, IsTrue, MatchResult, ⊤};
 ghost use Rattle.std.specs.Iterator.Runs.{YieldsInOrder};
 ghost use Rattle.ac_util.specs.declared.search.Anchored.{Anchored};
@@ -46,18 +46,24 @@ pub use stream_iter::StreamFindIter;
 pub use stream_settled::Phase;
 pub use walk::FindIter;
 
-/// An automaton that finds patterns: states, and where each byte leads from a state.
+/// An automaton that finds patterns: it has states, and from each state every byte leads to a state. This ports
+/// `Automaton`.
 ///
-/// A state is identified by its number. Contracts see which node a number stands for, in an unanchored or in an
-/// anchored search: a string of bytes, or the dead node from which nothing is found any more. State numbers
-/// that are handed in have to stand for some node: `start_state` gives such a number, and `next_state` gives
-/// one where it was handed one, under the same anchoring.
+/// A state is identified by its number. In an unanchored or in an anchored search a number stands for a node, which
+/// contracts see: a string of bytes, or the dead node from which nothing is found any more. State numbers that are
+/// passed have to stand for some node: `start_state` returns such a number, and `next_state` returns one if it was
+/// passed one, under the same anchoring.
+///
+/// ```
+/// let nfa = noncontiguous::NFA::new(alloc, &[b"he", b"she"])?;
+/// nfa.try_find(Input::new(b"ushers"))? // pattern 1, 1..4
+/// ```
 pub trait Automaton {
     /// The allocator of the automaton's memory.
     type Memory: Allocator;
 
-    /// How many looks at states a search may take for each byte that it reads, on the whole: 2 where failed
-    /// transitions are followed one after another, 1 by a DFA.
+    /// How many looks at states a search may take for each byte that it reads, on the whole: 2 where failed transitions
+    /// are followed one after another, 1 in a DFA.
     const LOOKS: usize;
 
     ghost LOOKS: { ℕ };
@@ -74,17 +80,17 @@ pub trait Automaton {
     // Whether the automaton was built to have a prefilter, where there is one for its patterns.
     ghost wants_prefilter: { Self → Bool };
 
-    /// Returns the state at which a search begins.
+    /// Returns the state in which a search starts.
     ///
     /// # Errors
-    /// `InvalidInputAnchored` or `InvalidInputUnanchored` where the automaton has no such start.
+    /// `InvalidInputAnchored` or `InvalidInputUnanchored` where the automaton has no start for this anchoring.
     fn start_state(&self, anchored: Anchored) -> Result<StateID, MatchError>
         ensures { MatchResult result
             (λ sid. (start_refusal (built self.now).start_kind anchored ≡ None)
             × stands self.now anchored sid (Some []))
             (λ e. start_refusal (built self.now).start_kind anchored ≡ Some e) };
 
-    /// Returns the state after a byte, and counts the looks that this takes.
+    /// Returns the state to which a byte leads from a state, and counts the looks at states that this takes.
     fn next_state(&self, anchored: Anchored, sid: StateID, byte: u8, looks: &mut Looks) -> StateID
         requires state { IsState (stands self.now anchored) sid }
         ensures steps { (u : Node) → stands self.now anchored sid u
@@ -103,8 +109,8 @@ pub trait Automaton {
         requires state { (anchored : Anchored) × IsState (stands self.now anchored) sid }
         ensures { IsTrue result ↔ (listed self.now sid ≢ []) };
 
-    /// Returns whether the state has matches or is dead. A search without a prefilter reads on from any other state, a
-    /// start too, without a further test.
+    /// Returns whether the state has matches or is dead. In any other state, also at the start, a search without a
+    /// prefilter reads on without a further test.
     #[inline]
     fn is_match_or_dead(&self, sid: StateID) -> bool
         requires state { (anchored : Anchored) × IsState (stands self.now anchored) sid }
@@ -114,14 +120,14 @@ pub trait Automaton {
         self.is_match(sid) || self.is_dead(sid)
     }
 
-    /// Returns whether the state is one at which a search begins.
+    /// Returns whether the state is one in which a search starts.
     fn is_start(&self, sid: StateID) -> bool
         requires state { (anchored : Anchored) × IsState (stands self.now anchored) sid }
         ensures { (anchored : Anchored) (u : Node) → stands self.now anchored sid u
             → IsTrue result ↔ (u ≡ Some []) };
 
-    /// Returns whether the state is dead, a match state or a start. At any other nothing is found, and nothing begins or
-    /// ends.
+    /// Returns whether the state is dead, has matches or is a start. In any other state nothing is found, and nothing
+    /// begins or ends.
     #[inline]
     fn is_special(&self, sid: StateID) -> bool
         requires state { (anchored : Anchored) × IsState (stands self.now anchored) sid }
@@ -131,20 +137,20 @@ pub trait Automaton {
         self.is_match_or_dead(sid) || self.is_start(sid)
     }
 
-    /// Returns how many matches a match state has.
+    /// Returns how many matches a state has. It has to have some.
     fn match_len(&self, sid: StateID) -> usize
         requires state { (anchored : Anchored) × IsState (stands self.now anchored) sid }
         requires matches { listed self.now sid ≢ [] }
         ensures { result ≡ length (listed self.now sid) };
 
-    /// Returns the pattern of one of the matches of a match state.
+    /// Returns the pattern of one of the matches of a state. The index has to be less than the number of its matches.
     fn match_pattern(&self, sid: StateID, index: usize) -> PatternID
         requires state { (anchored : Anchored) × IsState (stands self.now anchored) sid }
         requires within { index < length (listed self.now sid) }
         ensures { slice_get (listed self.now sid) index ≡ Some result };
 
-    /// Returns the first match in a rest of a match list and the rest after it, or None where there is none. A
-    /// list is gone through by it in as many steps as it has matches.
+    /// Returns the first match in a rest of a match list and the rest after it, or `None` where the rest is empty. A
+    /// list is gone through with it in as many steps as it has matches.
     fn take_match(&self, rest: MatchRest) -> Option<(PatternID, MatchRest)>
         requires state { (anchored : Anchored) × IsState (stands self.now anchored) rest.state }
         ensures taken { Takes (listed self.now) rest result }
@@ -155,7 +161,7 @@ pub trait Automaton {
     fn common(&self) -> &Common<Self::Memory>
         ensures { result.now ≡ common_of (built self.now) (wants_prefilter self.now) };
 
-    /// Returns which of the occurrences in a span a search answers.
+    /// Returns the match kind, which decides which of the occurrences in a span a search returns.
     #[inline]
     final fn match_kind(&self) -> MatchKind
         ensures { result ≡ (built self.now).kind }
@@ -171,7 +177,7 @@ pub trait Automaton {
         self.common().patterns().as_ref().len()
     }
 
-    /// Returns how many bytes a pattern has.
+    /// Returns the length of a pattern in bytes. The pattern has to be one of the automaton's.
     #[inline]
     final fn pattern_len(&self, pattern: PatternID) -> usize
         requires numbered { pattern < length (built self.now).patterns }
@@ -184,7 +190,7 @@ pub trait Automaton {
             .len()
     }
 
-    /// Returns how many bytes the shortest pattern has, or `usize::MAX` without patterns.
+    /// Returns the length of the shortest pattern in bytes, or `usize::MAX` if there are no patterns.
     #[inline]
     final fn min_pattern_len(&self) -> usize
         ensures { result ≡ shortest_len (built self.now).patterns }
@@ -192,7 +198,7 @@ pub trait Automaton {
         self.common().min_pattern_len()
     }
 
-    /// Returns how many bytes the longest pattern has, or 0 without patterns.
+    /// Returns the length of the longest pattern in bytes, or 0 if there are no patterns.
     #[inline]
     final fn max_pattern_len(&self) -> usize
         ensures { result ≡ longest_len (built self.now).patterns }
@@ -200,8 +206,8 @@ pub trait Automaton {
         self.common().max_pattern_len()
     }
 
-    /// Returns the prefilter of the automaton, where it was built with one and there is one for its patterns. An
-    /// unanchored search may skip by it, and answers what it would without.
+    /// Returns the prefilter, if the automaton was built to have one and there is one for its patterns. An unanchored
+    /// search may skip ahead with it, and returns what it would return without.
     #[inline]
     final fn prefilter(&self) -> Option<&Prefilter<Self::Memory>>
         ensures skips { option_map (λ p. skip_of p.now) result
@@ -212,7 +218,7 @@ pub trait Automaton {
         self.common().prefilter()
     }
 
-    /// Returns about how many bytes of memory the automaton takes. Nothing is promised of the number.
+    /// Returns about how many bytes of memory the automaton takes. Nothing is promised about the number.
     fn memory_usage(&self) -> usize;
 
     ghost one_or_two: { (LOOKS ≡ 1) ⊎ (LOOKS ≡ 2) };
@@ -220,13 +226,12 @@ pub trait Automaton {
     ghost lists: { (automaton : Self) (anchored : Anchored) (s : ℕ) (u : Node)
         → stands automaton anchored s u → Lists (built automaton) anchored u (listed automaton s) };
 
-    /// Returns the match that the match kind picks of all that occur in the span of an input, or with
-    /// `earliest` the one that `MatchKind::Standard` picks. This ports `Automaton::try_find`. The law
-    /// `ac_util::laws::matches_lie_inside` says that the match lies in the span.
+    /// Returns the match that the match kind picks from all occurrences in the input's span, or `None` if nothing
+    /// occurs there. With `Input::earliest` the match is the one that `MatchKind::Standard` picks. This ports
+    /// `Automaton::try_find`. The law `ac_util::laws::matches_lie_inside` says that the match lies in the span.
     ///
     /// # Errors
-    /// `InvalidInputAnchored` or `InvalidInputUnanchored` where the automaton has no start for the input's
-    /// anchoring.
+    /// `InvalidInputAnchored` or `InvalidInputUnanchored` where the automaton has no start for the input's anchoring.
     #[inline]
     final fn try_find(&self, input: Input<'_>) -> Result<Option<Match>, MatchError>
     where
@@ -237,9 +242,9 @@ pub trait Automaton {
         find::try_find(self, input)
     }
 
-    /// Returns an iterator over the matches of an input that don't overlap, each picked from where the one
-    /// before it ended. This ports `Automaton::try_find_iter`. The laws `matches_lie_inside` and `walk_is_short`
-    /// of `ac_util::laws` say that all matches lie in the span, and how many there are at most.
+    /// Returns an iterator over the matches of an input that don't overlap: the match kind picks each from where the
+    /// one before it ended. This ports `Automaton::try_find_iter`. The laws `matches_lie_inside` and `walk_is_short` of
+    /// `ac_util::laws` say that all matches lie in the span, and how many there are at most.
     ///
     /// # Errors
     /// As `try_find`.
@@ -257,17 +262,17 @@ pub trait Automaton {
         FindIter::new(self, input)
     }
 
-    /// Gives the next item of the listing of an input: all occurrences in its span, each once, by their ends, then
-    /// their starts, then their patterns. `OverlappingState::get_match` returns it, and `None` at every call past the
-    /// last item. This ports `Automaton::try_find_overlapping`. The law `ac_util::laws::listing_is_exact` says what
-    /// the listing has.
+    /// Moves on to the next occurrence in the listing of an input: `OverlappingState::get_match` then returns it. This
+    /// ports `Automaton::try_find_overlapping`.
     ///
-    /// The state has to be fresh, or left by this automaton over this same input.
+    /// The listing has each occurrence in the span once, ordered by end, then by start, then by pattern number. After
+    /// the last one `get_match` returns `None`, however often this is called again. The law
+    /// `ac_util::laws::listing_is_exact` says what the listing has. The state has to be fresh, or left by this
+    /// automaton over this same input.
     ///
     /// # Errors
-    /// `InvalidInputAnchored` or `InvalidInputUnanchored` where the automaton has no start for the input's
-    /// anchoring, else `UnsupportedOverlapping` where its match kind isn't `MatchKind::Standard`. Then the state is
-    /// as it was.
+    /// `InvalidInputAnchored` or `InvalidInputUnanchored` where the automaton has no start for the input's anchoring,
+    /// else `UnsupportedOverlapping` where its match kind isn't `MatchKind::Standard`. The state is then as it was.
     #[inline]
     final fn try_find_overlapping(
         &self,
@@ -287,12 +292,12 @@ pub trait Automaton {
         overlap::try_find_overlapping(self, input, state)
     }
 
-    /// Returns an iterator over the listing of an input, as `try_find_overlapping` gives it. This ports
-    /// `Automaton::try_find_overlapping_iter`. The law `ac_util::laws::matches_lie_inside` says that all items lie
-    /// in the span.
+    /// Returns an iterator over all occurrences in the input's span, in the order of `try_find_overlapping`. This ports
+    /// `Automaton::try_find_overlapping_iter`. The law `ac_util::laws::matches_lie_inside` says that all of them lie in
+    /// the span.
     ///
     /// # Errors
-    /// As `try_find_overlapping`, and else `InvalidInputAnchored` for an anchored input.
+    /// As `try_find_overlapping`, else `InvalidInputAnchored` for an anchored input.
     #[inline]
     final fn try_find_overlapping_iter<'a, 'h>(
         &'a self,
@@ -307,8 +312,9 @@ pub trait Automaton {
         FindOverlappingIter::new(self, input)
     }
 
-    /// Returns the text with each match of the walk over it exchanged for the text of its pattern. A match that cuts
-    /// a character is left as it is; the walk isn't taken again without it. This ports `Automaton::try_replace_all`.
+    /// Returns the haystack with each match of `try_find_iter` over it replaced by the text of its pattern. A match
+    /// that starts or ends inside a character is left as it is; the walk isn't taken again without it. This ports
+    /// `Automaton::try_replace_all`.
     ///
     /// There have to be as many texts as patterns.
     ///
@@ -332,7 +338,7 @@ pub trait Automaton {
         replace::try_replace_all(self, alloc, haystack, texts)
     }
 
-    /// Returns the haystack with each match of the walk over it exchanged for the text of its pattern. This ports
+    /// Returns the haystack with each match of `try_find_iter` over it replaced by the text of its pattern. This ports
     /// `Automaton::try_replace_all_bytes`.
     ///
     /// There have to be as many texts as patterns.
@@ -355,17 +361,17 @@ pub trait Automaton {
         replace::try_replace_all_bytes(self, alloc, haystack, texts)
     }
 
-    /// Appends the text to the destination, with a call of the closure at each match that cuts no character: it is
-    /// handed the match, the slice of the text that matched, and the destination, to which it appends what it
-    /// exchanges the match for. After an answer `false` it is called no more, and the rest is appended. This ports
-    /// `Automaton::try_replace_all_with`. The law `ac_util::laws::text_closure_exchanges` says what a closure leaves
-    /// that appends at each call.
+    /// Appends the haystack to the destination, and calls the closure at each match of `try_find_iter` over it, except
+    /// at those that start or end inside a character. This ports `Automaton::try_replace_all_with`.
     ///
-    /// The closure may be called at each match and destination.
+    /// The closure is handed the match, the slice that matched and the destination, to which it appends what replaces
+    /// the match. It returns whether to go on: after `false` it isn't called again, and the rest of the haystack is
+    /// appended as it is. It may be called with any match and destination. The law
+    /// `ac_util::laws::text_closure_exchanges` says what is left by a closure that appends at each call.
     ///
     /// # Errors
-    /// As `try_replace_all`. Where the search is refused the destination is as it was, and where memory is, as the
-    /// steps before left it.
+    /// As `try_replace_all`. Where the search is refused the destination is as it was; where memory is refused it is as
+    /// the steps before left it.
     final fn try_replace_all_with<F>(
         &self,
         haystack: &str,
@@ -384,9 +390,9 @@ pub trait Automaton {
         replace::try_replace_all_with(self, haystack, destination, exchange)
     }
 
-    /// Does the same as `try_replace_all_with` with a haystack of bytes, and with all matches. This ports
-    /// `Automaton::try_replace_all_with_bytes`. The law `ac_util::laws::closure_exchanges` says what a closure leaves
-    /// that appends at each call.
+    /// Appends the haystack to the destination, and calls the closure at each match of `try_find_iter` over it, as
+    /// `try_replace_all_with` does for a text. This ports `Automaton::try_replace_all_with_bytes`. The law
+    /// `ac_util::laws::closure_exchanges` says what is left by a closure that appends at each call.
     ///
     /// # Errors
     /// As `try_replace_all_with`.
@@ -408,12 +414,14 @@ pub trait Automaton {
         replace::try_replace_all_with_bytes(self, haystack, destination, exchange)
     }
 
-    /// Returns an iterator over the matches of what a reader gives: those of the walk over all its bytes, however it cuts
-    /// them. Offsets count from 0 over the whole stream. This ports `Automaton::try_stream_find_iter`.
+    /// Returns an iterator over the matches of all bytes that a reader gives: those of the walk over these bytes,
+    /// however the reads cut them. Offsets count bytes of the whole stream from 0. This ports
+    /// `Automaton::try_stream_find_iter`.
     ///
     /// # Errors
     /// `StreamError::Match` with `InvalidInputUnanchored` where the automaton has no unanchored start, else with
-    /// `UnsupportedEmpty` where some pattern is empty; else `StreamError::Memory` where the memory for the buffer is refused. Then nothing is read.
+    /// `UnsupportedEmpty` where some pattern is empty; else `StreamError::Memory` where the memory for the buffer is
+    /// refused. Nothing was read then.
     final fn try_stream_find_iter<'a, R: Source + Drop, Z: Allocator>(
         &'a self,
         alloc: Z,
@@ -429,17 +437,18 @@ pub trait Automaton {
         StreamFindIter::new(self, alloc, reader)
     }
 
-    /// Writes what a reader gives, with each match of the walk over it exchanged for the text of its pattern. It reads as it
-    /// goes and writes as it goes: before each read all of the replaced text was written but for the bytes that a match to
-    /// come may still need, no more than the longest pattern has. Between two reads it gathers what it writes. The writer isn't
-    /// flushed. This ports `Automaton::try_stream_replace_all`.
+    /// Writes all bytes that a reader gives, with each match of the walk over them replaced by the text of its pattern.
+    /// This ports `Automaton::try_stream_replace_all`.
     ///
-    /// There have to be as many texts as patterns.
+    /// It writes while it reads: before each read all of the replaced text was written except for the bytes that a
+    /// match to come may still need, which are no more than the longest pattern has. Between two reads it gathers what
+    /// it writes. The writer isn't flushed. There have to be as many texts as patterns.
     ///
     /// # Errors
-    /// Those of `try_stream_find_iter`: then nothing was read or written. `Io` where a read or a write failed, and `TooLong` where
-    /// more bytes came than a `usize` counts: what was written before that read stands. `WriteZero` where a write took no
-    /// byte. Where a write failed or took nothing, a beginning of the replaced text of what was read was written.
+    /// Those of `try_stream_find_iter`: then nothing was read or written. `Io` where a read or a write failed, and
+    /// `TooLong` where more bytes came than a `usize` counts: what was written before that read stays written.
+    /// `WriteZero` where a write took no byte. Where a write failed or took nothing, a beginning of the replaced text
+    /// of what was read was written.
     final fn try_stream_replace_all<R: Source, W: Sink, Z: Allocator>(
         &self,
         alloc: Z,
@@ -459,14 +468,16 @@ pub trait Automaton {
         stream_replace::try_stream_replace_all(self, alloc, reader, writer, texts)
     }
 
-    /// Does the same with a call of the closure at each match: it is handed the match, with offsets over the whole stream, the
-    /// slice that matched, and the writer, to which it writes what it exchanges the match for. This ports
+    /// Writes all bytes that a reader gives, with a call of the closure at each match of the walk over them. This ports
     /// `Automaton::try_stream_replace_all_with`.
     ///
-    /// The closure may be called at each match and writer.
+    /// The closure is handed the match, with offsets in the whole stream, the slice that matched and the writer, to
+    /// which it writes what replaces the match. It may be called with any match and writer. All bytes before a match
+    /// were written when the closure is called. Apart from that this does what `try_stream_replace_all` does.
     ///
     /// # Errors
-    /// As `try_stream_replace_all`; and `Io` where the closure failed: what it wrote stands, and nothing follows.
+    /// As `try_stream_replace_all`; and `Io` where the closure failed: what it wrote stays written, and nothing
+    /// follows.
     final fn try_stream_replace_all_with<R: Source, W: Sink, Z: Allocator, F>(
         &self,
         alloc: Z,

@@ -27,22 +27,29 @@ mod lists;
 
 pub use builder::{Builder, table_len};
 
-/// The number of the dead state, from which nothing is found any more.
+/// The number of the dead state: nothing is found from it on.
 const DEAD: usize = 0;
 
-/// An automaton that looks up where each byte leads: the fastest to search with, and the largest.
+/// An automaton that looks up where each byte leads: the fastest to search with, and the largest. This ports
+/// `dfa::DFA`.
 ///
-/// Its table has a row for each state, and in it an entry for each class of bytes: the state where a byte of that
-/// class leads, with all failure links followed when it was built. So a search looks at one state for each byte. A
-/// state's number is that of the first entry of its row. First stand the rows of the dead state and of the starts,
-/// then those of match states, then the others: so one compare or two say what a search has to know of a state.
-/// This ports `dfa::DFA`.
+/// Its transition table has a row for each state, and in it an entry for each class of bytes: the state where a byte of
+/// that class leads, with all failure links followed when it was built. So a search looks at one state for each byte.
+///
+/// A state's number is the index of the first entry of its row. The rows of the dead state and of the starts come
+/// first, then those of match states, then the others: so one or two comparisons say what a search has to know about a
+/// state.
+///
+/// ```
+/// let dfa = dfa::DFA::new(alloc, &[b"he", b"she"])?;
+/// dfa.try_find(Input::new(b"ushers"))? // pattern 1, 1..4
+/// ```
 #[derive(Drop)]
 pub struct DFA<A: Allocator = Global> {
     common: Common<A>,
     start_kind: StartKind,
     classes: ByteClasses,
-    /// A row has two to this power entries.
+    /// A row has two to the power of this many entries.
     stride2: u32,
     table: Vec<StateID, A>,
     /// The match list of each row up to the last that has one.
@@ -51,9 +58,9 @@ pub struct DFA<A: Allocator = Global> {
     start: StateID,
     /// The anchored start, or the dead state where there is none.
     anchored_start: StateID,
-    /// No state before this number has matches.
+    /// No state with a lesser number has matches.
     first_match: usize,
-    /// Nor from this one on.
+    /// No state with this number or a greater one has matches.
     match_end: usize,
 }
 
@@ -88,7 +95,7 @@ impl<A: Allocator> fmt::Debug for DFA<A> {
 impl<A: Allocator + Clone> Clone for DFA<A> {
     ghost is_clone = { λ s t. t ≡ s };
 
-    /// Returns a copy, which shares the patterns with this automaton, and answers equally.
+    /// Returns a copy, which shares the patterns with this automaton and gives the same answers.
     ///
     /// # Errors
     /// `AllocError` where a request for memory is refused.
@@ -103,8 +110,9 @@ impl<A: Allocator + Clone> Clone for DFA<A> {
 }
 
 impl<A: Allocator + Clone> DFA<A> {
-    /// Builds an automaton with the usual settings: `MatchKind::Standard`, case counts, unanchored searches alone,
-    /// bytes that need not be distinguished share a class, and a prefilter where there is one.
+    /// Builds an automaton over a list of patterns with the usual settings: `MatchKind::Standard`, the case of letters
+    /// counts, unanchored searches only, bytes that need not be distinguished share a class, and there is a prefilter
+    /// where the patterns have one. This ports `DFA::new`.
     ///
     /// # Errors
     /// As `Builder::build`.
@@ -118,7 +126,7 @@ impl<A: Allocator + Clone> DFA<A> {
 }
 
 impl DFA {
-    /// Returns a builder with the usual settings.
+    /// Returns a builder with the usual settings, those of `Builder::new`. This ports `DFA::builder`.
     pub fn builder() -> Builder
         ensures { result ≡ usual_dfa_settings }
     {

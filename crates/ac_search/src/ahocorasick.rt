@@ -1,4 +1,4 @@
-//! The searcher, which chooses its engine.
+//! The searcher, and the choice of its engine.
 ghost use Rattle.std.specs.Prelude.{◌≡◌, ◌↔◌, IsTrue, MatchResult, None, Some, length};
 ghost use Rattle.std.specs.Iterator.Runs.{YieldsInOrder};
 ghost use Rattle.ac_automaton.specs.Util.{AnswersUnless, input_of, bytes_of, find_refusal, find_result, item_at, longest_len, Occurrence, Occurs, overlapping_iter_refusal, overlapping_refusal, place_after, search_in, shortest_len, start_refusal};
@@ -31,10 +31,11 @@ pub use overlap::FindOverlappingIter;
 pub use stream::StreamFinder;
 pub use stream_iter::StreamFindIter;
 
-/// A searcher for many patterns.
+/// A searcher for many patterns at once.
 ///
-/// It is seen as what it was built from: patterns, match kind, case setting and start kind decide every answer,
-/// whichever engine serves it. This ports `AhoCorasick`.
+/// `AhoCorasick::new` builds one with the usual settings, `AhoCorasickBuilder` with others. The patterns, the match
+/// kind, the case setting and the start kind decide every answer, whichever engine serves the searcher
+/// (`laws::engines_agree`). Contracts see what it was built from, and which engine serves it. This ports `AhoCorasick`.
 ///
 /// ```
 /// let searcher = AhoCorasick::new(alloc, &[b"he", b"she"])?;
@@ -71,7 +72,10 @@ impl<A: Allocator> fmt::Debug for AhoCorasick<A> {
 impl<A: Allocator> Clone for AhoCorasick<A> {
     ghost is_clone = { λ s t. t ≡ s };
 
-    /// Returns a searcher that shares the engine.
+    /// Returns a searcher that shares this one's engine, so no automaton is copied.
+    ///
+    /// # Errors
+    /// `AllocError` where a request for memory is refused.
     fn clone(&self) -> Result<AhoCorasick<A>, AllocError> {
         let engine = self.engine.share()?;
         Ok(AhoCorasick::new_by(engine, self.start_kind))
@@ -79,11 +83,18 @@ impl<A: Allocator> Clone for AhoCorasick<A> {
 }
 
 impl<A: Allocator + Clone> AhoCorasick<A> {
-    /// Builds a searcher with the usual settings: `MatchKind::Standard`, unanchored searches alone, case
-    /// counts, and the engine is chosen.
+    /// Builds a searcher over a list of patterns with the usual settings: `MatchKind::Standard`, unanchored searches
+    /// only, the case of letters counts, and the engine is chosen. This ports `AhoCorasick::new`.
+    ///
+    /// The number of a pattern is its index in the list. `AhoCorasickBuilder` builds with other settings.
     ///
     /// # Errors
     /// As `AhoCorasickBuilder::build`.
+    ///
+    /// ```
+    /// let searcher = AhoCorasick::new(alloc, &[b"foo", b"bar", b"baz"])?;
+    /// searcher.find(Input::new(b"xxx bar xxx")) // pattern 1, 4..7
+    /// ```
     pub fn new(alloc: A, patterns: &[&[u8]]) -> Result<AhoCorasick<A>, BuildError>
         ensures { MatchResult result
             (IsBuilt usual_settings (bytes_of patterns.now))
@@ -94,7 +105,15 @@ impl<A: Allocator + Clone> AhoCorasick<A> {
 }
 
 impl AhoCorasick {
-    /// Returns a builder with the usual settings.
+    /// Returns a builder with the usual settings, those of `AhoCorasickBuilder::new`. This ports
+    /// `AhoCorasick::builder`.
+    ///
+    /// ```
+    /// let mut builder = AhoCorasick::builder();
+    /// builder.match_kind(MatchKind::LeftmostLongest);
+    /// let searcher = builder.build(alloc, &[b"Sam", b"Samwise"])?;
+    /// searcher.try_find(Input::new(b"Samwise"))? // pattern 1, 0..7
+    /// ```
     pub fn builder() -> AhoCorasickBuilder
         ensures { result ≡ usual_settings }
     {
@@ -103,7 +122,7 @@ impl AhoCorasick {
 }
 
 impl<A: Allocator> AhoCorasick<A> {
-    /// Returns a searcher by an engine that supports these starts.
+    /// Returns a searcher that an engine serves, which has to support these starts.
     fn new_by(engine: Engine<A>, start_kind: StartKind) -> AhoCorasick<A>
         requires supports { Supports engine start_kind }
         ensures { result ≡ searcher_of engine start_kind }
@@ -111,55 +130,83 @@ impl<A: Allocator> AhoCorasick<A> {
         AhoCorasick { engine, start_kind }
     }
 
-    /// Returns which engine serves the searcher.
+    /// Returns which engine serves the searcher: the one that was named to the builder, or the one that was chosen.
+    /// This ports `AhoCorasick::kind`.
+    ///
+    /// ```
+    /// let searcher = AhoCorasick::new(alloc, &[b"foo", b"bar"])?;
+    /// searcher.kind() // AhoCorasickKind::DFA
+    /// ```
     pub fn kind(&self) -> AhoCorasickKind
         ensures { result ≡ self.now.kind }
     {
         self.engine.kind()
     }
 
-    /// Returns which searches the searcher supports.
+    /// Returns whether the searcher supports unanchored searches, anchored ones or both, as its builder was set. This
+    /// ports `AhoCorasick::start_kind`.
     pub fn start_kind(&self) -> StartKind
         ensures { result ≡ self.now.built.start_kind }
     {
         self.start_kind
     }
 
-    /// Returns which of the occurrences in a span a search answers.
+    /// Returns the match kind, which decides which of the occurrences in a span a search returns. This ports
+    /// `AhoCorasick::match_kind`.
     pub fn match_kind(&self) -> MatchKind
         ensures { result ≡ self.now.built.kind }
     {
         self.engine.common().match_kind()
     }
 
-    /// Returns how many bytes the shortest pattern has, or `usize::MAX` without patterns.
+    /// Returns the length of the shortest pattern in bytes, or `usize::MAX` if there are no patterns. This ports
+    /// `AhoCorasick::min_pattern_len`.
+    ///
+    /// It is 0 exactly if some pattern is empty (`laws::shortest_is_empty`).
+    ///
+    /// ```
+    /// // a searcher over "foo", "bar" and "quux"
+    /// searcher.min_pattern_len() // 3
+    /// ```
     pub fn min_pattern_len(&self) -> usize
         ensures { result ≡ shortest_len self.now.built.patterns }
     {
         self.engine.common().min_pattern_len()
     }
 
-    /// Returns how many bytes the longest pattern has, or 0 without patterns.
+    /// Returns the length of the longest pattern in bytes, or 0 if there are no patterns. This ports
+    /// `AhoCorasick::max_pattern_len`.
+    ///
+    /// ```
+    /// // a searcher over "foo", "bar" and "quux"
+    /// searcher.max_pattern_len() // 4
+    /// ```
     pub fn max_pattern_len(&self) -> usize
         ensures { result ≡ longest_len self.now.built.patterns }
     {
         self.engine.common().max_pattern_len()
     }
 
-    /// Returns how many patterns there are.
+    /// Returns how many patterns the searcher was built from. This ports `AhoCorasick::patterns_len`.
+    ///
+    /// Patterns that no search can return count too, such as "Samwise" after "Sam" under `MatchKind::LeftmostFirst`.
     pub fn patterns_len(&self) -> usize
         ensures { result ≡ length self.now.built.patterns }
     {
         self.engine.common().patterns().as_ref().len()
     }
 
-    /// Returns about how many bytes of memory the searcher takes. Nothing is promised of the number.
+    /// Returns about how many bytes of memory the searcher takes. Nothing is promised about the number. This ports
+    /// `AhoCorasick::memory_usage`.
     pub fn memory_usage(&self) -> usize {
         self.engine.memory_usage()
     }
 }
 
-/// Tests that a start kind supports an anchoring.
+/// Checks that a start kind supports an anchoring.
+///
+/// # Errors
+/// `InvalidInputAnchored` or `InvalidInputUnanchored` where it doesn't.
 #[inline]
 fn check_start(start_kind: StartKind, anchored: Anchored) -> Result<(), MatchError>
     ensures { AnswersUnless (start_refusal start_kind anchored) tt result }

@@ -1,5 +1,5 @@
-//! Laws that users of a searcher may rest on, each as the contract of a function that does nothing. They speak
-//! of the definitions that the contracts of the searches are made of: nothing is called, nothing is assumed.
+//! Laws that users of a searcher may rely on, each the contract of a function that does nothing. They are about the
+//! definitions that the contracts of the searches are made of: nothing is called, nothing is assumed.
 ghost use Rattle.std.specs.Prelude.{◌≡◌, ◌≢◌, ◌+◌, ◌-◌, ◌≤◌, ◌↔◌, ℕ, IfSome, IsTrue, List, None, true, length};
 ghost use Rattle.std.specs.List.{AllByRecursion};
 ghost use Rattle.std.specs.Str.{IsUtf8};
@@ -23,12 +23,13 @@ pub use ac_util::laws::{
 use ac_util::search::Input;
 use std::alloc::Allocator;
 
-/// The answer of a find, each match of a walk and each item of the listing lie in the input's span, and so in the
-/// haystack, and have the number of a pattern; and a walk has at most one match more than the span has bytes.
+/// The match that a find returns, each match of a walk and each occurrence of the listing lie in the input's span, and
+/// so in the haystack, and have the number of a pattern. A walk has at most one match more than the span has bytes.
 ///
-/// Call this before a loop over the matches in which the haystack is sliced at them, or a list is indexed by
-/// their patterns. The loop's invariant is then `walk` or `listing`, or `ends` or `listing_ends` where the searcher
-/// is a variable of the function, over the matches still to come. A `count` of the matches needs no more than the call.
+/// Call this before a loop over the matches in which the haystack is sliced at them, or a list is indexed by their
+/// patterns. The loop's invariant is then `walk` or `listing`, over the matches still to come; or `ends` or
+/// `listing_ends` where the searcher is a variable of the function. A `count` of the matches needs no more than the
+/// call.
 pub fn answers_lie_inside<A: Allocator>(searcher: &AhoCorasick<A>, input: Input<'_>)
     ensures find { IfSome (find_result searcher.now.built (input_of input.entry))
         (LiesIn searcher.now.built (input_of input.entry)) }
@@ -44,8 +45,8 @@ pub fn answers_lie_inside<A: Allocator>(searcher: &AhoCorasick<A>, input: Input<
         ≤ (input_of input.entry).end + 1 - (input_of input.entry).start }
 {}
 
-/// Where the haystack and all patterns are texts, and no pattern is empty, the answer of a find, each match of a
-/// walk and each item of the listing start and end between characters.
+/// Where the haystack and all patterns are texts, and no pattern is empty, the match that a find returns, each match of
+/// a walk and each occurrence of the listing start and end between characters.
 ///
 /// Call this as `answers_lie_inside`, where the haystack is a `str`.
 pub fn answers_cut_no_character<A: Allocator>(searcher: &AhoCorasick<A>, input: Input<'_>)
@@ -59,7 +60,7 @@ pub fn answers_cut_no_character<A: Allocator>(searcher: &AhoCorasick<A>, input: 
         (all (search_in searcher.now.built (input_of input.entry))) }
 {}
 
-/// Something occurs exactly if a find answers a match, whatever the match kind and `earliest`.
+/// A find returns a match exactly if something occurs, whatever the match kind and `earliest`.
 pub fn finds_if_something_occurs()
     ensures { (built : Built) (input : InputView)
         → ((m : Occurrence) × Occurs (search_in built input) m) ↔ (find_result built input ≢ None) }
@@ -70,9 +71,9 @@ pub fn shortest_is_empty()
     ensures { (built : Built) → (shortest_len built.patterns ≡ 0) ↔ IsTrue (has_empty built) }
 {}
 
-/// Two searchers over the same patterns, match kind, case setting and start kind answer every search equally, whatever
-/// their engines are, their dense depth and their classes of bytes, and whether they have a prefilter: what one refuses,
-/// finds, walks over, lists or exchanges, in memory or in a stream, the other does too.
+/// Two searchers over the same patterns, match kind, case setting and start kind give the same answer to every search,
+/// whatever their engines, dense depths and classes of bytes are, and whether they have a prefilter: what one refuses,
+/// finds, walks over, lists or replaces, in memory or in a stream, the other does too.
 ///
 /// Their values differ in what serves them, so this speaks of the parts that decide.
 pub fn engines_agree<A: Allocator, B: Allocator>(one: &AhoCorasick<A>, other: &AhoCorasick<B>)
@@ -95,8 +96,8 @@ pub fn engines_agree<A: Allocator, B: Allocator>(one: &AhoCorasick<A>, other: &A
         × (kept_back_len one.now.built bytes ≡ kept_back_len other.now.built bytes) }
 {}
 
-/// Two builds over the same patterns, by settings with the same match kind, case setting and start kind, give searchers
-/// that `engines_agree` speaks of, whatever the settings are else.
+/// Two builds over the same patterns, whose settings have the same match kind, case setting and start kind, give
+/// searchers about which `engines_agree` speaks, whatever the other settings are.
 pub fn settings_change_no_answer()
     ensures { (one other : Settings) (patterns : List (List ℕ)) (s t : Searcher) → IsBuilt one patterns s
         → IsBuilt other patterns t → one.engine.kind ≡ other.engine.kind
@@ -104,7 +105,7 @@ pub fn settings_change_no_answer()
         → one.start_kind ≡ other.start_kind → s.built ≡ t.built }
 {}
 
-/// The names of engines are equal where they are the same, and a clone of one is that name.
+/// Two values of `AhoCorasickKind` compare equal exactly if they are the same, and a clone of one is that value.
 pub fn engine_names_compare()
     ensures equal { (a b : AhoCorasickKind)
         → (⟦<AhoCorasickKind as PartialEq>⟧.eq a b ≡ true) ↔ (a ≡ b) }
@@ -112,7 +113,7 @@ pub fn engine_names_compare()
     ensures no_memory { (a : AhoCorasickKind) → ⟦<AhoCorasickKind as Clone>⟧.is_infallible a }
 {}
 
-/// The forms of packed states are equal where they are the same, and a clone of one is that form.
+/// Two forms of packed states compare equal exactly if they are the same, and a clone of one is that form.
 pub fn formats_compare()
     ensures equal { (a b : Format) → (⟦<Format as PartialEq>⟧.eq a b ≡ true) ↔ (a ≡ b) }
     ensures clone { (a b : Format) → ⟦<Format as Clone>⟧.is_clone a b → b ≡ a }

@@ -1,17 +1,17 @@
 //! Searches for all matches of many patterns at once.
 //!
-//! All that contracts here cite has a name in this crate, so a user lists no other. Definitions stand in
-//! `specs/`, and types with their cases in `specs.declared`:
+//! `AhoCorasick` is the searcher. Everything that contracts here cite has a name in this crate, so a user lists no
+//! other crate. Definitions are in `specs/`, and types with their cases in `specs.declared`:
 //!
 //! ```
-//! ghost use Rattle.ac_search.specs.InputView.{asked_whole};
-//! ghost use Rattle.ac_search.specs.Built.{find_refusal, found, walked};
+//! ghost use Rattle.ac_search.specs.InputView.{whole_input};
+//! ghost use Rattle.ac_search.specs.Built.{find_refusal, find_result, walk_result};
 //! ghost use Rattle.ac_search.specs.Searchers.{IsBuilt, usual_settings};
 //! ghost use Rattle.ac_search.specs.declared.MatchKind.TheVariants.{LeftmostFirst};
 //!
 //! fn first(searcher: &AhoCorasick, haystack: &[u8]) -> Option<Match>
-//!     requires { find_refusal searcher.now.built (asked_whole haystack.now) ≡ None }
-//!     ensures { result ≡ found searcher.now.built (asked_whole haystack.now) }
+//!     requires { find_refusal searcher.now.built (whole_input haystack.now) ≡ None }
+//!     ensures { result ≡ find_result searcher.now.built (whole_input haystack.now) }
 //! {
 //!     searcher.find(Input::new(haystack))
 //! }

@@ -1,4 +1,4 @@
-//! Classes of bytes that an automaton need not distinguish, so that its rows of transitions are short.
+//! Classes of bytes that an automaton need not distinguish, which make its rows of transitions short.
 ghost use Rattle.std.specs.Prelude.{◌≡◌, ℕ, ◌<◌, ◌≤◌, ◌||◌, slice_index_or, false};
 ghost use Rattle.std.specs.List.{list_any};
 ghost use Rattle.ac_util.specs.Classes.{alphabet_len, class_at, classes_of, singletons, is_in_patterns, stride, stride2};
@@ -8,11 +8,10 @@ use crate::patterns::{Patterns, plain_byte};
 use std::alloc::Allocator;
 use std::marker::Model;
 
-/// The class of each byte.
+/// The class of each byte. This ports upstream's `util::alphabet::ByteClasses`.
 ///
-/// An automaton can step by the class of a byte in place of the byte, so the row of a state needs an entry for
-/// each class alone. Contracts see it as the list of the 256 classes. Ports upstream's
-/// `util::alphabet::ByteClasses`.
+/// An automaton can step by the class of a byte in place of the byte, so the row of a state needs one entry for each
+/// class. Contracts see it as the list of the 256 classes.
 #[derive(Clone, Copy, Debug)]
 pub struct ByteClasses {
     classes: [u8; 256],
@@ -32,7 +31,7 @@ impl Model for ByteClasses {
 }
 
 impl ByteClasses {
-    /// Returns the classes in which each byte has a class of its own. Ports `ByteClasses::singletons`.
+    /// Returns the classes with which each byte is in a class of its own. This ports `ByteClasses::singletons`.
     pub fn singletons() -> ByteClasses
         ensures { result ≡ singletons }
     {
@@ -43,8 +42,8 @@ impl ByteClasses {
         ByteClasses { classes }
     }
 
-    /// Returns classes in which each byte that stands in a pattern has a class of its own, in either case where
-    /// case is ignored. This takes no memory. Ports upstream's `ByteClassSet`, and its `byte_classes`.
+    /// Returns classes in which each byte that is in a pattern, in either letter case where case is ignored, has a
+    /// class of its own. It takes no memory. This ports upstream's `ByteClassSet`, and its `byte_classes`.
     pub fn of<A: Allocator>(patterns: &Patterns<A>, ignores_case: bool) -> ByteClasses
         ensures { result ≡ classes_of ignores_case patterns.now }
     {
@@ -62,7 +61,7 @@ impl ByteClasses {
         ByteClasses { classes }
     }
 
-    /// Returns the class of a byte. Ports `ByteClasses::get`.
+    /// Returns the class of a byte. This ports `ByteClasses::get`.
     #[inline]
     pub fn get(&self, byte: u8) -> u8
         ensures value { result ≡ class_at self.now byte }
@@ -71,7 +70,7 @@ impl ByteClasses {
         self.classes[byte as usize]
     }
 
-    /// Returns how many classes there are. Ports `ByteClasses::alphabet_len`.
+    /// Returns how many classes there are, from 1 to 256. This ports `ByteClasses::alphabet_len`.
     #[inline]
     pub fn alphabet_len(&self) -> usize
         ensures value { result ≡ alphabet_len self.now }
@@ -81,7 +80,7 @@ impl ByteClasses {
         self.classes[255] as usize + 1
     }
 
-    /// Returns the exponent of the stride. Ports `ByteClasses::stride2`.
+    /// Returns the exponent of the stride, which is a power of two. This ports `ByteClasses::stride2`.
     #[inline]
     pub fn stride2(&self) -> u32
         ensures value { result ≡ stride2 self.now }
@@ -96,8 +95,8 @@ impl ByteClasses {
         8
     }
 
-    /// Returns the stride: the least power of two that is not below the number of classes. Upstream has it as
-    /// `stride` of its table engine.
+    /// Returns the stride: the least power of two that is at least the number of classes. Upstream has it as `stride`
+    /// of its DFA.
     #[inline]
     pub fn stride(&self) -> usize
         ensures { result ≡ stride self.now }

@@ -1,4 +1,4 @@
-//! Where the bytes of a stream come from and go to.
+//! Readers and writers: where the bytes of a stream come from, and where they go.
 ghost use Rattle.std.specs.Prelude.{Bool, MatchResult};
 ghost use Rattle.ac_util.specs.Device.{Reading, Reads, Writing, Writes, WritesAll, WritesUntilFailure};
 
@@ -10,19 +10,19 @@ pub use adapters::{FromRead, IntoWrite};
 pub use memory::{Bytes, Written};
 use std::io;
 
-/// A reader of bytes.
+/// A reader of bytes. `FromRead` makes one of any `Read`, and `Bytes` one of a slice.
 ///
-/// Contracts see the bytes that it has left, where it reports them, how often a call failed, and how often one
-/// gave no byte though there was room. These counts only rise, and have no greatest number.
+/// Contracts see the bytes that it has left, where it reports them, how often a call failed, and how often one gave no
+/// byte though there was room. These counts only rise, and have no greatest number.
 ///
-/// A read that gives no byte, though there was room, is the end for whoever reads. Where `empty_means_end` is
-/// true the bytes that the reader reports are at their end then too; else it may have more to give later.
+/// A read that gives no byte, though there was room, is taken for the end by whoever reads. Where `empty_means_end` is
+/// true, the bytes that the reader reports are at their end then too; else it may have more to give later.
 pub trait Source {
     ghost told: { Self → Reading };
 
     ghost empty_means_end: { Bool };
 
-    /// Reads bytes into `into`, from its start on, and returns how many came.
+    /// Reads bytes into the beginning of `into`, and returns how many were read.
     ///
     /// # Errors
     /// Those of the reader. A call that fails takes no bytes from the reader, and may leave anything in `into`.
@@ -30,22 +30,22 @@ pub trait Source {
         ensures { Reads empty_means_end (told self.old) (told self.new) result into.new };
 }
 
-/// A writer of bytes.
+/// A writer of bytes. `IntoWrite` makes one of any `Write`, and `Written` collects them in memory.
 ///
-/// Contracts see the bytes that were written to it, where it reports them, how often a call failed, and how
-/// often one took no byte of a piece that isn't empty.
+/// Contracts see the bytes that were written to it, where it reports them, how often a call failed, and how often one
+/// took no byte of a piece that isn't empty.
 pub trait Sink {
     ghost told: { Self → Writing };
 
-    /// Writes bytes of `piece`, from its start on, and returns how many it took. It may take none.
+    /// Writes bytes from the beginning of `piece`, and returns how many were written. It may be none.
     ///
     /// # Errors
-    /// Those of the writer. A call that fails has taken nothing.
+    /// Those of the writer. A call that fails has written nothing.
     fn write_some(&mut self, piece: &[u8]) -> io::Result<usize>
         ensures { Writes (told self.old) (told self.new) result piece.now };
 }
 
-/// Why not all of some bytes were written.
+/// Why some bytes were not all written.
 #[derive(Debug, Drop)]
 pub enum WriteError {
     /// A write failed.
@@ -54,10 +54,10 @@ pub enum WriteError {
     WriteZero,
 }
 
-/// Writes all of the bytes. It makes no call for bytes of which none are left.
+/// Writes all of the bytes, with as many calls of the writer as that needs, and none for no bytes.
 ///
 /// # Errors
-/// `Io` where a write failed and `WriteZero` where one took no byte: a beginning of the bytes was written then, and
+/// `Io` where a write failed, and `WriteZero` where one took no byte: a beginning of the bytes was written then, and
 /// not all of them.
 pub fn write_all<W: Sink>(writer: &mut W, bytes: &[u8]) -> Result<(), WriteError>
     ensures { MatchResult result

@@ -1,4 +1,4 @@
-//! Why a build or a search is refused.
+//! The errors of builds and of searches.
 ghost use Rattle.ac_util.specs.declared.error.BuildError.TheVariants.{Memory};
 ghost use Rattle.std.specs.Prelude.{◌≡◌};
 
@@ -9,7 +9,8 @@ use std::alloc::{AllocError, AllocFailed};
 use std::io;
 use thiserror::Error;
 
-/// Why no automaton was built. The limits are tested in the order of the cases that follow `Memory`.
+/// Why no automaton was built. The limits are checked in the order of the cases after `Memory`. This ports
+/// `BuildError`.
 #[derive(Clone, Copy, PartialEq, Eq, Debug, Error)]
 pub enum BuildError {
     /// A request for memory was refused.
@@ -18,7 +19,7 @@ pub enum BuildError {
     /// There are more patterns than `PatternID::LIMIT`.
     #[error("a pattern would have the number {requested}, and the greatest is {max}")]
     PatternIdOverflow {
-        /// The greatest number of a pattern.
+        /// The greatest number that a pattern may have.
         max: u64,
         /// The number that the last pattern would have.
         requested: u64,
@@ -34,7 +35,7 @@ pub enum BuildError {
     /// An automaton would need more states than it has numbers for.
     #[error("a state would have the number {requested}, and the greatest is {max}")]
     StateIdOverflow {
-        /// The greatest number of a state.
+        /// The greatest number that a state may have.
         max: u64,
         /// The number that would be needed.
         requested: u64,
@@ -57,15 +58,16 @@ impl<T: Drop> From<AllocFailed<T>> for BuildError {
     }
 }
 
-/// Why a search is refused: the settings of its searcher, or the anchoring of its input, rule it out.
+/// Why a search is refused: the settings of its searcher, or the anchoring of its input, rule it out. This ports
+/// `MatchError`.
 ///
-/// The haystack decides nothing: a refused call has read nothing, written nothing and changed nothing.
+/// The haystack has no influence: a refused call has read nothing, written nothing and changed nothing.
 #[derive(Clone, Copy, PartialEq, Eq, Debug, Error)]
 pub enum MatchError {
-    /// The input is anchored, and the searcher serves no anchored search or the call has no anchored form.
+    /// The input is anchored, and the searcher supports no anchored search or the call has no anchored form.
     #[error("no anchored search is served")]
     InvalidInputAnchored,
-    /// The search is unanchored, and the searcher serves anchored searches alone.
+    /// The search is unanchored, and the searcher supports anchored searches only.
     #[error("no unanchored search is served")]
     InvalidInputUnanchored,
     /// The search is overlapping, which needs `MatchKind::Standard`.
@@ -74,22 +76,22 @@ pub enum MatchError {
         /// The match kind of the searcher.
         got: MatchKind,
     },
-    /// The search is that of a stream, by a match kind that has none. Each has one here, so no call answers it; upstream's
-    /// streams need `MatchKind::Standard`.
+    /// The search is over a stream, with a match kind that supports none. No call returns it, since every match kind
+    /// supports streams here; upstream's streams need `MatchKind::Standard`.
     #[error("no search of a stream is served by the match kind {got:?}")]
     UnsupportedStream {
         /// The match kind of the searcher.
         got: MatchKind,
     },
-    /// The search is that of a stream, and some pattern is empty.
+    /// The search is over a stream, and some pattern is empty.
     #[error("no search of a stream is served where a pattern is empty")]
     UnsupportedEmpty,
 }
 
-/// Why a replacement gave no whole text.
+/// Why a replacement didn't return a whole text.
 #[derive(Clone, Copy, PartialEq, Eq, Debug, Error)]
 pub enum ReplaceError {
-    /// It is refused: nothing was appended, and no closure called.
+    /// The search is refused: nothing was appended, and no closure was called.
     #[error("{0}")]
     Match(MatchError),
     /// A request for memory was refused. The destination has what was appended before.
@@ -119,13 +121,13 @@ impl From<AllocError> for ReplaceError {
     }
 }
 
-/// Why a stream was not searched, or not replaced, to its end.
+/// Why a stream was not searched, or not replaced, up to its end.
 #[derive(Debug, Drop, Error)]
 pub enum StreamError {
-    /// It is refused: nothing was read or written, and no closure called.
+    /// The search is refused: nothing was read or written, and no closure was called.
     #[error("{0}")]
     Match(MatchError),
-    /// A request for the buffer's memory was refused: nothing was read or written, and no closure called.
+    /// The memory for a buffer was refused: nothing was read or written, and no closure was called.
     #[error("a request for memory was refused")]
     Memory,
     /// A read or a write failed, or a call of the closure did.

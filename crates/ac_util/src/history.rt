@@ -1,4 +1,4 @@
-//! Bytes that contracts alone see.
+//! Bytes that only contracts see.
 ghost use Rattle.std.specs.Prelude.{◌≡◌, ℕ, List, [], ◌++◌};
 ghost use Rattle.std.specs.Borrow.{ftrue};
 

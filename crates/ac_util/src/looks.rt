@@ -13,9 +13,8 @@ use std::snapshot::Snapshot;
 
 /// How many bytes a search has read, how many states it has looked at, and how often it has called a prefilter.
 ///
-/// Contracts alone see these counts: at run time they take no bytes and no work. They cannot be copied, and
-/// no call makes one of them less: what a contract says of them holds of all that was counted since they were
-/// made.
+/// Only contracts see these counts: at run time they take no bytes and no work. They can't be copied, and no call makes
+/// one of them less. So what a contract says of them holds for all that was counted since they were made.
 #[derive(Drop)]
 pub struct Looks {
     reads: Tally,
@@ -44,7 +43,8 @@ impl Looks {
         }
     }
 
-    /// Counts one look at a state: one use of its own transitions for a byte of the haystack.
+    /// Counts one look at a state: one use of the state's transitions for a byte of the haystack, without following
+    /// failure targets.
     #[inline]
     pub fn look(&mut self)
         ensures { self.new ≡ more_looks 1 self.old }
@@ -71,7 +71,7 @@ impl Looks {
 
 /// Lends the bytes of a haystack one at a time, each at most once and in rising order.
 ///
-/// Contracts see its bytes and the place after the last one that was read; at run time it is the slice alone.
+/// Contracts see its bytes and the offset after the last one that was read; at run time it is only the slice.
 #[derive(Drop)]
 pub struct Tape<'h> {
     haystack: &'h [u8],
@@ -87,7 +87,7 @@ impl<'h> Model for Tape<'h> {
 }
 
 impl<'h> Tape<'h> {
-    /// Returns a tape over a haystack of which nothing was read.
+    /// Returns a tape over a haystack of which nothing was read yet.
     #[inline]
     pub fn new(haystack: &'h [u8]) -> Tape<'h>
         ensures { result ≡ record { bytes = haystack.now; place = 0 } }
@@ -106,9 +106,9 @@ impl<'h> Tape<'h> {
         self.place = Snapshot::of(&0);
     }
 
-    /// Returns the byte at a place, and counts it as read.
+    /// Returns the byte at an offset, and counts it as read.
     ///
-    /// The place has to lie in the haystack, and not before the one after the last read.
+    /// The offset has to lie in the haystack, and not before the one after the last byte read.
     #[inline]
     pub fn read(&mut self, at: usize, looks: &mut Looks) -> u8
         requires inside { at < length self.old.bytes }
@@ -126,10 +126,11 @@ impl<'h> Tape<'h> {
 }
 
 impl<'h> Tape<'h> {
-    /// Returns what a prefilter says of the bytes from `at` up to `end`, and counts the call. The place of reading
+    /// Returns what a prefilter finds in the bytes from `at` up to `end`, and counts the call. The place of reading
     /// stays.
     ///
-    /// `at` has to be no later than `end`, and not before the place after the last read; `end` lies in the haystack.
+    /// `at` has to be no later than `end`, and not before the offset after the last byte read; `end` has to lie in the
+    /// haystack.
     #[inline]
     pub fn scan<A: Allocator>(
         &self,

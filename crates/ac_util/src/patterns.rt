@@ -1,4 +1,4 @@
-//! The patterns of a searcher, stored once.
+//! The patterns of a searcher, which it stores once.
 ghost use Rattle.std.specs.Prelude.{◌≡◌, ◌+◌, ◌<◌, ◌≤◌, length, map, slice_get, Some, Ok, Err};
 ghost use Rattle.std.specs.Prelude.{MatchOption, MatchResult};
 ghost use Rattle.ac_util.specs.declared.error.BuildError.TheVariants.{Memory};
@@ -17,7 +17,8 @@ pub mod pieces;
 
 /// A list of patterns, stored one after another.
 ///
-/// Contracts see it as the list of the patterns. There are never more of them than `PatternID` has numbers for.
+/// Contracts see it as the list of the patterns. It never has more of them than there are numbers for, so each has a
+/// `PatternID`.
 #[derive(Drop)]
 pub struct Patterns<A: Allocator> {
     pieces: Pieces<u8, A>,
@@ -44,7 +45,7 @@ impl<A: Allocator> Patterns<A> {
         self.pieces.len()
     }
 
-    /// Returns a pattern by its number, which has to be below `len`.
+    /// Returns the bytes of the pattern with this number, which has to be less than `len`.
     #[inline]
     pub fn get(&self, number: usize) -> &[u8]
         requires numbered { number < length self.now }
@@ -61,7 +62,7 @@ impl<A: Allocator> Patterns<A> {
         self.pieces.allocator()
     }
 
-    /// Returns about how many bytes of memory the patterns take. Nothing is promised of the number.
+    /// Returns about how many bytes of memory the patterns take. Nothing is promised about the number.
     pub fn memory_usage(&self) -> usize {
         self.pieces.memory_usage()
     }
@@ -71,8 +72,8 @@ impl<A: Allocator + Clone> Patterns<A> {
     /// Copies a list of patterns.
     ///
     /// # Errors
-    /// `PatternIdOverflow` and `PatternTooLong` exactly where a limit is passed, tested over the whole list in
-    /// this order, whether there is memory or not; else `Memory` where a request for memory is refused.
+    /// `PatternIdOverflow` and `PatternTooLong` exactly where a limit is passed, checked over the whole list in this
+    /// order, whether there is memory or not; else `Memory` where a request for memory is refused.
     pub fn new(alloc: A, patterns: &[&[u8]]) -> Result<Patterns<A>, BuildError>
         ensures { MatchOption (limit_refusal (bytes_of patterns.now))
             (MatchResult result (λ stored. stored ≡ bytes_of patterns.now) (λ e. e ≡ Memory))
@@ -87,7 +88,12 @@ impl<A: Allocator + Clone> Patterns<A> {
     }
 }
 
-/// Returns the byte, or its small letter where case is ignored and it is a capital ASCII letter.
+/// Returns the byte itself or, where case is ignored and it is an ASCII capital, its small letter.
+///
+/// ```
+/// plain_byte(true, b'A') // b'a'
+/// plain_byte(false, b'A') // b'A'
+/// ```
 #[inline]
 pub fn plain_byte(ignores_case: bool, byte: u8) -> u8
     ensures { result ≡ plain_byte ignores_case byte }
@@ -99,11 +105,10 @@ pub fn plain_byte(ignores_case: bool, byte: u8) -> u8
     }
 }
 
-/// Tests that each pattern can have a number and that none is too long. A pattern is a slice of bytes or a
-/// text.
+/// Checks that each pattern can have a number and that none is too long. A pattern is a slice of bytes or a text.
 ///
-/// This takes no memory. A caller that needs memory before it stores the patterns tests them first, and so
-/// reports a passed limit even where there is no memory.
+/// This takes no memory. A caller that needs memory before it stores the patterns calls it first, and so reports a
+/// passed limit even where there is no memory.
 ///
 /// # Errors
 /// `PatternIdOverflow` or `PatternTooLong`, whichever limit is passed first.

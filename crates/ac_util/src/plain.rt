@@ -60,9 +60,9 @@ impl<'a> Model for Query<'a> {
 impl<'a> Query<'a> {
     /// Returns the search for these patterns in a span of the haystack.
     ///
-    /// With `ignores_case` the case of ASCII letters is ignored. Places count bytes of the whole haystack, in which the
-    /// span has to end. In a span that starts after its end nothing is found. There have to be no more patterns
-    /// than `PatternID::LIMIT`.
+    /// With `ignores_case` the case of ASCII letters is ignored. Offsets count bytes of the whole haystack, in which
+    /// the span has to end. In a span that starts after its end nothing is found. There may be no more patterns than
+    /// `PatternID::LIMIT`.
     pub fn new(
         patterns: &'a [&'a [u8]],
         ignores_case: bool,
@@ -91,7 +91,7 @@ impl<'a> Query<'a> {
         }
     }
 
-    /// Returns the same search in a span that starts at this place.
+    /// Returns the same search in a span that starts at this offset.
     pub fn from(&self, place: usize) -> Query<'a>
         ensures { result ≡ from self.now place }
     {
@@ -121,7 +121,7 @@ impl<'a> Query<'a> {
     }
 }
 
-/// Returns the match that the kind picks, found by trying each pattern at each place.
+/// Returns the match that the kind picks, found by trying each pattern at each offset.
 pub fn find(kind: MatchKind, query: &Query) -> Option<Match>
     ensures { result ≡ pick kind query.now }
 {

@@ -1,4 +1,4 @@
-//! Prefilters, which skip to where a match may start.
+//! Prefilters, which skip ahead to where a match may start.
 //!
 //! Fast searches for one to three bytes, or for one needle, are those of `memchr`.
 ghost use Rattle.std.specs.Prelude.{◌≡◌, ℕ, ◌≤◌, ◌<◌, ◌⊎◌, Bool, List, [], false, true, length, IfOk, IfSome, MatchOption, MatchResult, option_map, slice_index_or};
@@ -19,46 +19,46 @@ use memchr::{memchr, memchr2, memchr3, memmem};
 use std::alloc::{AllocError, Allocator, Global};
 use std::marker::Model;
 
-/// How many patterns there may be at most for a prefilter by their first bytes.
+/// The most patterns for which there is a prefilter by their first bytes.
 const MOST_PATTERNS: usize = 100;
 
-/// How many first bytes they may have at most.
+/// The most different first bytes that they may have.
 const MOST_BYTES: usize = 3;
 
-/// A way to skip to where a match may start. It changes no answer of a search.
+/// A way to skip ahead to where a match may start. It changes no answer of a search.
 ///
 /// This ports upstream's `util::prefilter::Prefilter`, without its packed searchers and its rare bytes.
 #[derive(Drop)]
 pub enum Prefilter<A: Allocator = Global> {
-    /// Skips to the first of the bytes with which the patterns begin.
+    /// Skips to the next of the bytes with which the patterns begin.
     Bytes(FirstBytes),
-    /// Skips to the first place of the only pattern.
+    /// Skips to the next occurrence of the only pattern.
     Needle(Needle<A>),
 }
 
-/// What a prefilter says of a span.
+/// What a prefilter returns for a span. This ports upstream's `util::prefilter::Candidate`.
 #[derive(Clone, Copy, PartialEq, Eq, Debug)]
 pub enum Candidate {
-    /// No pattern occurs in it.
+    /// No pattern occurs in the span.
     None,
-    /// The match that a search of it picks, whatever its match kind.
+    /// The match that a search of the span returns, whatever its match kind.
     Match(Match),
-    /// A place of it before which no match starts.
+    /// An offset in the span before which no match starts.
     PossibleStart(usize),
 }
 
-/// The bytes with which patterns begin.
+/// The different bytes with which the patterns begin.
 #[derive(Clone, Copy, PartialEq, Eq, Debug)]
 pub enum FirstBytes {
-    /// All begin with this byte.
+    /// All patterns begin with this byte.
     One(u8),
-    /// Each begins with one of these.
+    /// Each pattern begins with one of these.
     Two(u8, u8),
-    /// Each begins with one of these.
+    /// Each pattern begins with one of these.
     Three(u8, u8, u8),
 }
 
-/// A pattern that is alone. Contracts see its bytes.
+/// The only pattern of a list. Contracts see its bytes.
 #[derive(Drop)]
 pub struct Needle<A: Allocator = Global> {
     bytes: Vec<u8, A>,
@@ -75,7 +75,7 @@ impl<A: Allocator> Model for Needle<A> {
 impl<A: Allocator + Clone> Clone for Needle<A> {
     ghost is_clone = { λ s t. t ≡ s };
 
-    /// Returns a copy, which skips equally.
+    /// Returns a copy, which skips to the same offsets.
     ///
     /// # Errors
     /// `AllocError` where a request for memory is refused.
@@ -87,7 +87,7 @@ impl<A: Allocator + Clone> Clone for Needle<A> {
 }
 
 impl<A: Allocator> Needle<A> {
-    /// Copies a pattern.
+    /// Returns a needle with the bytes of a pattern, which are copied.
     ///
     /// # Errors
     /// `AllocError` where a request for memory is refused.
@@ -116,7 +116,7 @@ impl<A: Allocator> Needle<A> {
 }
 
 impl FirstBytes {
-    /// Returns the bytes whose plain byte is marked, where these are one to three.
+    /// Returns the bytes whose plain byte is marked, if there are one to three of them.
     fn of(marks: &[bool; 256], ignores_case: bool) -> Option<FirstBytes>
         ensures { MatchOption result
             ((marked ignores_case marks.now ≡ []) ⊎ (3 < length (marked ignores_case marks.now)))
@@ -141,7 +141,7 @@ impl FirstBytes {
         }
     }
 
-    /// Returns how many bytes these are.
+    /// Returns how many different bytes these are.
     fn count(&self) -> usize
         ensures { result ≡ length (first_bytes_of self.now) }
     {
@@ -152,7 +152,7 @@ impl FirstBytes {
         }
     }
 
-    /// Returns the first place of the haystack that holds one of the bytes.
+    /// Returns the first offset in the haystack at which one of the bytes is.
     #[inline]
     fn find(&self, haystack: &[u8]) -> Option<usize>
         ensures { IsFirstByte (is_one_of (first_bytes_of self.now)) haystack.now result }
@@ -164,7 +164,7 @@ impl FirstBytes {
         }
     }
 
-    /// Returns the first place of a span that holds one of the bytes.
+    /// Returns the first offset in a span at which one of the bytes is.
     #[inline]
     fn find_in(&self, haystack: &[u8], span: Span) -> Candidate
         requires ordered { span.start ≤ span.end }
@@ -181,7 +181,7 @@ impl FirstBytes {
 impl<A: Allocator + Clone> Clone for Prefilter<A> {
     ghost is_clone = { λ s t. t ≡ s };
 
-    /// Returns a copy, which skips equally.
+    /// Returns a copy, which skips to the same offsets.
     ///
     /// # Errors
     /// `AllocError` where a request for memory is refused.
@@ -194,11 +194,13 @@ impl<A: Allocator + Clone> Clone for Prefilter<A> {
 }
 
 impl<A: Allocator> Prefilter<A> {
-    /// Returns the prefilter of a search for some patterns, with `ignores_case` without regard to the case of ASCII letters.
+    /// Returns the prefilter of a search for some patterns, or `None` if there is none for them. With `ignores_case`
+    /// the search ignores the case of ASCII letters.
     ///
-    /// None where a pattern is empty, since a match may then start anywhere, and where there are no patterns. A single
-    /// pattern is searched for itself, unless case is ignored. Else at most 100 patterns are searched for by their first
-    /// bytes, where these are at most three; letters count in both cases where case is ignored.
+    /// There is none where a pattern is empty, since a match may then start anywhere, and none without patterns. A
+    /// single pattern is searched for itself, unless case is ignored. Else at most 100 patterns are searched for by
+    /// their first bytes, if these are at most three different ones; where case is ignored a letter counts in both
+    /// cases.
     ///
     /// # Errors
     /// `BuildError::Memory` where a request for memory is refused.
@@ -229,7 +231,8 @@ impl<A: Allocator> Prefilter<A> {
         }
     }
 
-    /// Returns how many first bytes it skips by, which are one to three, or 0 for one that skips by a needle.
+    /// Returns how many different first bytes the prefilter looks for, which are one to three, or 0 if it looks for a
+    /// needle.
     pub fn byte_count(&self) -> usize
         ensures { result ≡ byte_count (skip_of self.now) }
     {
@@ -239,11 +242,11 @@ impl<A: Allocator> Prefilter<A> {
         }
     }
 
-    /// Returns what is known of the bytes of a span: the first place of it that holds one of the first bytes, or the
-    /// first match of the needle.
+    /// Returns what is known about a span: the offset of the first of its bytes that is a first byte of a pattern, or
+    /// the first match of the needle; or that nothing occurs in it.
     ///
-    /// The span has to end within the haystack, and to start no later than one past its end: where it starts past its
-    /// end, nothing occurs in it.
+    /// The span has to end within the haystack, and to start no later than one past its own end. Nothing occurs in a
+    /// span that starts past its end.
     #[inline]
     pub fn find_in(&self, haystack: &[u8], span: Span) -> Candidate
         requires legal { IsLegal haystack.now span.start span.end }

@@ -9,26 +9,26 @@ use std::marker::{Model, PhantomData};
 /// The greatest number that a pattern or a state may have.
 pub const GREATEST: usize = 2147483646;
 
-/// A number above the greatest one was handed in.
+/// The error of a number that is greater than `GREATEST`.
 #[derive(Clone, Copy, PartialEq, Eq, Debug)]
 pub struct TooLarge {
-    /// The number that was handed in.
+    /// The number that was passed.
     pub attempted: usize,
 }
 
-/// The kind of a plain `SmallIndex`.
+/// The kind of number that a plain `SmallIndex` is.
 #[derive(Clone, Copy, PartialEq, Eq, PartialOrd, Ord, Hash, Default, Debug)]
 pub struct Plain;
 
-/// The kind of a `PatternID`.
+/// The kind of number that a `PatternID` is.
 #[derive(Clone, Copy, PartialEq, Eq, PartialOrd, Ord, Hash, Default, Debug)]
 pub struct OfPattern;
 
-/// The kind of a `StateID`.
+/// The kind of number that a `StateID` is.
 #[derive(Clone, Copy, PartialEq, Eq, PartialOrd, Ord, Hash, Default, Debug)]
 pub struct OfState;
 
-/// A number up to and with `GREATEST`, seen by contracts as that number.
+/// A number from 0 to `GREATEST`, both included. Contracts see it as that number. This ports `SmallIndex`.
 ///
 /// Its kind keeps the number of a pattern from being taken for that of a state.
 #[derive(Clone, Copy, PartialEq, Eq, PartialOrd, Ord, Hash, Default)]
@@ -37,10 +37,10 @@ pub struct SmallIndex<K = Plain> {
     kind: PhantomData<K>,
 }
 
-/// The number of a pattern: its place in the list that a searcher was built from, from 0.
+/// The number of a pattern: its index in the list that a searcher was built from. This ports `PatternID`.
 pub type PatternID = SmallIndex<OfPattern>;
 
-/// The number of a state of an automaton. Which state has which number is each engine's own matter.
+/// The number of a state of an automaton. Each engine numbers its states as it likes. This ports `StateID`.
 pub type StateID = SmallIndex<OfState>;
 
 impl<K> Model for SmallIndex<K> {
@@ -106,7 +106,12 @@ impl<K> SmallIndex<K> {
     /// Returns the number as an index.
     ///
     /// # Errors
-    /// `TooLarge` exactly where the number is above `MAX`.
+    /// `TooLarge` exactly where the number is greater than `MAX`.
+    ///
+    /// ```
+    /// PatternID::new(3)? // PatternID(3)
+    /// PatternID::new(2_147_483_647) // `TooLarge`
+    /// ```
     pub fn new(number: usize) -> Result<SmallIndex<K>, TooLarge>
         ensures ok { IfOk result (λ index. (index ≡ number) × (number ≤ GREATEST)) }
         ensures err { IfErr result (λ e. (e.attempted ≡ number) × (GREATEST < number)) }
@@ -117,7 +122,7 @@ impl<K> SmallIndex<K> {
         Ok(SmallIndex::must(number))
     }
 
-    /// Returns the number as an index, for a caller that knows that it is at most `MAX`.
+    /// Returns the number as an index. It has to be at most `MAX`.
     pub fn must(number: usize) -> SmallIndex<K>
         requires small { number ≤ GREATEST }
         ensures value { result ≡ number }
@@ -150,7 +155,7 @@ impl<K> SmallIndex<K> {
         u64::from(self.number)
     }
 
-    /// Returns the number after this one, which is no index where this is the greatest.
+    /// Returns the number after this one. It is no index itself where this is the greatest.
     pub fn one_more(&self) -> usize
         ensures { result ≡ self.now + 1 }
     {

@@ -1,4 +1,4 @@
-//! What a search is asked, and what it answers.
+//! The options of a search, and what it returns: match kinds, anchoring, spans and matches.
 ghost use Rattle.std.specs.Prelude.{◌≡◌, ◌+◌, ◌-◌, ◌<◌, ◌≤◌, ◌↔◌, IsTrue};
 ghost use Rattle.ac_util.specs.Node.{is_leftmost};
 ghost use Rattle.ac_util.specs.Occurrence.{occurrence};
@@ -12,20 +12,24 @@ use std::fmt;
 use std::marker::Model;
 use std::ops::Range;
 
-/// Which of the occurrences in a span a search answers.
+/// Which of the occurrences in a span a search returns. This ports `MatchKind`.
+///
+/// In the haystack "abcd" a search for "b", "abc" and "abcd", listed in this order, returns "b" under `Standard`, "abc"
+/// under `LeftmostFirst`, and "abcd" under `LeftmostLongest`.
 #[derive(Clone, Copy, PartialEq, Eq, Default, Debug)]
 pub enum MatchKind {
-    /// The one that ends first; of these the one that starts first, then the least pattern number.
+    /// The occurrence that ends first; of those that end there the one that starts first, then the least pattern
+    /// number.
     #[default]
     Standard,
-    /// The one that starts first; of these the least pattern number.
+    /// The occurrence that starts first; of those that start there the least pattern number.
     LeftmostFirst,
-    /// The one that starts first; of these the longest, then the least pattern number.
+    /// The occurrence that starts first; of those that start there the longest, then the least pattern number.
     LeftmostLongest,
 }
 
 impl MatchKind {
-    /// Returns whether the kind prefers what starts first.
+    /// Returns whether the kind is `LeftmostFirst` or `LeftmostLongest`, which prefer what starts first.
     pub fn is_leftmost(&self) -> bool
         ensures { result ≡ is_leftmost self.now }
     {
@@ -36,33 +40,33 @@ impl MatchKind {
     }
 }
 
-/// Which searches a searcher can serve.
+/// Which searches a searcher supports. This ports `StartKind`.
 #[derive(Clone, Copy, PartialEq, Eq, Default, Debug)]
 pub enum StartKind {
     /// Unanchored and anchored searches.
     Both,
-    /// Unanchored searches alone.
+    /// Unanchored searches only.
     #[default]
     Unanchored,
-    /// Anchored searches alone.
+    /// Anchored searches only.
     Anchored,
 }
 
-/// Whether a match must start where the span of the search starts.
+/// Whether a match has to start where the span of the search starts. This ports `Anchored`.
 #[derive(Clone, Copy, PartialEq, Eq, Debug)]
 pub enum Anchored {
     /// A match may start anywhere in the span.
     No,
-    /// A match starts where the span starts.
+    /// A match has to start where the span starts.
     Yes,
 }
 
-/// A part of a haystack: the bytes from `start` up to, and without, `end`.
+/// A range of bytes in a haystack: from the offset `start` up to, but not including, `end`. This ports `Span`.
 #[derive(Clone, Copy, PartialEq, Eq, Hash)]
 pub struct Span {
-    /// The place of the first byte, from 0.
+    /// The offset of the first byte, counted from 0.
     pub start: usize,
-    /// One past the place of the last byte.
+    /// One past the offset of the last byte.
     pub end: usize,
 }
 
@@ -89,14 +93,19 @@ impl Span {
         self.end.saturating_sub(self.start)
     }
 
-    /// Returns whether an offset lies in the span or is its end. A span without bytes has no offsets.
+    /// Returns whether an offset lies in the span or is its end. No offset lies in a span without bytes.
+    ///
+    /// ```
+    /// Span { start: 3, end: 6 }.contains(6) // true
+    /// Span { start: 3, end: 3 }.contains(3) // false
+    /// ```
     pub fn contains(&self, offset: usize) -> bool
         ensures { IsTrue result ↔ ((self.now.start < self.now.end) × (self.now.start ≤ offset) × (offset ≤ self.now.end)) }
     {
         !self.is_empty() && self.start <= offset && offset <= self.end
     }
 
-    /// Returns the span that starts and ends so many bytes later. Neither place may pass what a `usize` counts.
+    /// Returns the span moved on by so many bytes. Its start and its end may then not be greater than `usize::MAX`.
     pub fn offset(&self, offset: usize) -> Span
         requires start { self.now.start + offset ≤ usize_max }
         requires end { self.now.end + offset ≤ usize_max }
@@ -127,9 +136,16 @@ impl From<Range<usize>> for Span {
     }
 }
 
-/// A pattern, and where it stands in the haystack.
+/// A match: the number of a pattern, and the span of bytes in the haystack where it occurs. This ports `Match`.
 ///
 /// Contracts see it as an `Occurrence`: the pattern's number, the start and the end.
+///
+/// ```
+/// let m = Match::must(1, 13..18);
+/// m.pattern().as_usize() // 1
+/// m.start() // 13
+/// m.len() // 5
+/// ```
 #[derive(Clone, Copy, PartialEq, Eq, Hash, Debug)]
 pub struct Match {
     pattern: PatternID,
@@ -150,7 +166,7 @@ impl Model for Match {
 }
 
 impl Match {
-    /// Returns the match of a pattern at a span, which has to start no later than it ends.
+    /// Returns the match of a pattern at a span. The span may not start after its end.
     pub fn new(pattern: PatternID, span: Span) -> Match
         requires ordered { span.start ≤ span.end }
         ensures value { result ≡ occurrence pattern span.start span.end }
@@ -158,9 +174,9 @@ impl Match {
         Match { pattern, span }
     }
 
-    /// Returns the match of a pattern, given by its number, at a range of places.
+    /// Returns the match of the pattern with this number at a range of offsets.
     ///
-    /// The number has to be at most `PatternID::MAX`, and the range to start no later than it ends.
+    /// The number has to be at most `PatternID::MAX`, and the range may not start after its end.
     pub fn must(pattern: usize, range: Range<usize>) -> Match
         requires small { pattern ≤ GREATEST }
         requires ordered { range.start ≤ range.end }
@@ -173,28 +189,28 @@ impl Match {
         Match::new(PatternID::must(pattern), span)
     }
 
-    /// Returns the number of the pattern.
+    /// Returns the number of the pattern: its index in the list that the searcher was built from.
     pub fn pattern(&self) -> PatternID
         ensures { result ≡ self.now.pattern }
     {
         self.pattern
     }
 
-    /// Returns the place of the first byte.
+    /// Returns the offset of the first byte of the match.
     pub fn start(&self) -> usize
         ensures { result ≡ self.now.start }
     {
         self.span.start
     }
 
-    /// Returns one past the place of the last byte.
+    /// Returns the offset one past the last byte of the match.
     pub fn end(&self) -> usize
         ensures { result ≡ self.now.end }
     {
         self.span.end
     }
 
-    /// Returns where the match stands, as a range for indexing.
+    /// Returns the span of the match as a range, for indexing.
     pub fn range(&self) -> Range<usize>
         ensures start { result.start ≡ self.now.start }
         ensures end { result.end ≡ self.now.end }
@@ -202,21 +218,21 @@ impl Match {
         self.span.range()
     }
 
-    /// Returns where the match stands.
+    /// Returns the span of the match.
     pub fn span(&self) -> Span
         ensures { result ≡ record { start = self.now.start; end = self.now.end } }
     {
         self.span
     }
 
-    /// Returns how many bytes the match has.
+    /// Returns the length of the match in bytes.
     pub fn len(&self) -> usize
         ensures { self.now.start + result ≡ self.now.end }
     {
         self.span.len()
     }
 
-    /// Returns the match of the same pattern so many bytes later. Its end may not pass what a `usize` counts.
+    /// Returns the match moved on by so many bytes. Its end may then not be greater than `usize::MAX`.
     pub fn offset(&self, offset: usize) -> Match
         requires end { self.now.end + offset ≤ usize_max }
         ensures { result ≡ occurrence self.now.pattern (self.now.start + offset) (self.now.end + offset) }
@@ -227,7 +243,7 @@ impl Match {
         }
     }
 
-    /// Returns whether the match has no bytes, as that of an empty pattern.
+    /// Returns whether the match has no bytes, as a match of an empty pattern.
     pub fn is_empty(&self) -> bool
         ensures { IsTrue result ↔ (self.now.start ≡ self.now.end) }
     {
@@ -236,7 +252,7 @@ impl Match {
 }
 
 impl Anchored {
-    /// Returns whether matches must start where the span starts.
+    /// Returns whether a match has to start where the span starts.
     pub fn is_anchored(&self) -> bool
         ensures { IsTrue result ↔ (self.now ≡ Anchored.Yes) }
     {

@@ -1,4 +1,4 @@
-//! A number that contracts alone see.
+//! A number that only contracts see.
 ghost use Rattle.std.specs.Prelude.{◌≡◌, ◌+◌};
 
 use crate::history::History;

@@ -12,7 +12,8 @@ use std::alloc::{AllocError, Allocator, Global};
 use std::marker::Model;
 use std::rc::Rc;
 
-/// The patterns, which engines that are built from one another share, how they are matched, and the prefilter.
+/// What every engine has: the patterns, which engines that are built from one another share, the match kind, the case
+/// setting, the lengths of the shortest and the longest pattern, and the prefilter.
 #[derive(Drop)]
 pub struct Common<A: Allocator = Global> {
     patterns: Rc<Patterns<A>, A>,
@@ -109,7 +110,7 @@ impl<A: Allocator> Common<A> {
         &self.patterns
     }
 
-    /// Returns which of the occurrences in a span a search answers.
+    /// Returns the match kind, which decides which of the occurrences in a span a search returns.
     #[inline]
     pub fn match_kind(&self) -> MatchKind
         ensures { result ≡ self.now.kind }
@@ -117,7 +118,7 @@ impl<A: Allocator> Common<A> {
         self.kind
     }
 
-    /// Returns whether case is ignored.
+    /// Returns whether the case of ASCII letters is ignored.
     #[inline]
     pub fn fold(&self) -> bool
         ensures { result ≡ self.now.ignores_case }
@@ -133,7 +134,7 @@ impl<A: Allocator> Common<A> {
         self.wants_prefilter
     }
 
-    /// Returns how many bytes the shortest pattern has, or `usize::MAX` without patterns.
+    /// Returns the length of the shortest pattern in bytes, or `usize::MAX` if there are no patterns.
     #[inline]
     pub fn min_pattern_len(&self) -> usize
         ensures { result ≡ shortest_len self.now.patterns }
@@ -141,7 +142,7 @@ impl<A: Allocator> Common<A> {
         self.shortest
     }
 
-    /// Returns how many bytes the longest pattern has, or 0 without patterns.
+    /// Returns the length of the longest pattern in bytes, or 0 if there are no patterns.
     #[inline]
     pub fn max_pattern_len(&self) -> usize
         ensures { result ≡ longest_len self.now.patterns }
@@ -149,7 +150,7 @@ impl<A: Allocator> Common<A> {
         self.longest
     }
 
-    /// Returns the prefilter, where it is to be had and there is one for the patterns.
+    /// Returns the prefilter, if there is to be one and there is one for the patterns.
     #[inline]
     pub fn prefilter(&self) -> Option<&Prefilter<A>>
         ensures skips { option_map (λ p. skip_of p.now) result

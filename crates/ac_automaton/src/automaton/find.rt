@@ -15,18 +15,19 @@ use ac_util::primitives::StateID;
 use ac_util::search::{Anchored, Input, Match, MatchKind, Span};
 use std::marker::Model;
 
-/// Returns the match that the automaton's match kind picks in the span `start..end` of a tape's haystack, or
-/// with `earliest` the one that `MatchKind::Standard` picks.
+/// Returns the match that the automaton's match kind picks in the span `start..end` of a tape's haystack, or with
+/// `earliest` the one that `MatchKind::Standard` picks.
 ///
-/// The automaton has to support the anchoring; the span has to end within the haystack, to start no later than
-/// one past its end, and not before the tape's place of reading. Each byte is read at most once, and unless the
-/// prefilter was called each byte as far as the end of the match is. For each byte read states are looked at
-/// once in an anchored search, and else at least once and at most `LOOKS` times on the whole. No byte is read
-/// from the dead node on, where nothing more is found: there an anchored search stands once it has left all
-/// patterns, and a leftmost one once its match can't change. Under `MatchKind::Standard` or with `earliest` no
-/// byte past the end of the match is read, so the next find can go on with the same tape. An unanchored search
-/// skips by the automaton's prefilter where that pays: it calls it at most once for each byte of the span, and
-/// the answer is the same without.
+/// The automaton has to support the anchoring. The span has to end within the haystack, and to start no later than one
+/// past its own end, and not before the tape's place of reading.
+///
+/// What is read and counted is bounded. Each byte is read at most once; unless the prefilter was called, each byte up
+/// to the end of the match is read. For each byte read, states are looked at once in an anchored search, and else at
+/// least once and at most `LOOKS` times on the whole. No byte is read from the dead node on, where nothing more is
+/// found: an anchored search is there once it has left all patterns, and a leftmost one once its match can't change.
+/// Under `MatchKind::Standard` or with `earliest` no byte past the end of the match is read, so the next find can go on
+/// with the same tape. An unanchored search skips ahead with the automaton's prefilter where that pays: it calls it at
+/// most once for each byte of the span, and the answer is the same without.
 #[inline]
 pub fn find_core<A: Automaton>(
     automaton: &A,
@@ -77,9 +78,9 @@ pub(super) fn try_find<A: Automaton>(
     ))
 }
 
-/// A find by an automaton, with its start state and its prefilter looked up, so that it can be made in span after span.
+/// A find by an automaton whose start state and prefilter are looked up once, for finds in many spans.
 ///
-/// `find` is the core of every find: `find_core` is one call of it, and a walk one or two for each match. Contracts see
+/// `find` is the core of every find: `find_core` calls it once, and a walk once or twice for each match. Contracts see
 /// what the automaton was built from, the anchoring, and the order by which the find picks.
 #[derive(Drop)]
 pub struct Finder<'a, A: Automaton> {
@@ -117,7 +118,7 @@ impl<'a, A: Automaton> Model for Finder<'a, A> {
 }
 
 impl<'a, A: Automaton> Finder<'a, A> {
-    /// Returns a find by the automaton's match kind, or with `earliest` by `MatchKind::Standard`.
+    /// Returns a finder with the automaton's match kind, or with `earliest` with `MatchKind::Standard`.
     ///
     /// # Errors
     /// `InvalidInputAnchored` or `InvalidInputUnanchored` where the automaton has no start for the anchoring.
@@ -160,9 +161,9 @@ impl<'a, A: Automaton> Finder<'a, A> {
         self.stops
     }
 
-    /// Returns the pick of a span of a tape's haystack, as `find_core` does, with the same conditions and the same
-    /// bounds on what is read and counted. It calls the prefilter where that has paid, in this find and in those made
-    /// before by this finder; else it reads on for a while and tries it again.
+    /// Returns the match that is picked in a span of a tape's haystack, as `find_core` does, with the same conditions
+    /// and the same bounds on what is read and counted. It calls the prefilter where that has paid, in this find and in
+    /// earlier ones of this finder; else it reads on for a while and tries it again.
     #[inline]
     pub fn find(&mut self, span: Span, tape: &mut Tape<'_>, looks: &mut Looks) -> Option<Match>
         requires end_within { span.end ≤ length tape.old.bytes }

@@ -8,10 +8,10 @@ use ac_util::device::{Sink, WriteError, write_all};
 use std::alloc::{AllocError, Allocator};
 use std::marker::Model;
 
-/// How many bytes are held back at most.
+/// The most bytes that are held back.
 const ROOM: usize = 65536;
 
-/// How many bytes a piece has at least that is written by itself: to copy it costs more than a write.
+/// The length in bytes from which a piece is written by itself, since copying it would cost more than a write.
 const LONG_PIECE: usize = 8192;
 
 /// The bytes that are held back before they are written. Contracts see them alone.
@@ -46,8 +46,8 @@ impl<Z: Allocator> Gathered<Z> {
         Ok(Gathered { buffer, held: 0 })
     }
 
-    /// Takes a piece, and writes what is held back where there is no room for it. A long piece is written at once, after what
-    /// is held back.
+    /// Takes a piece, and first writes what is held back if there is no room for the piece. A long piece is written at
+    /// once, after what is held back.
     ///
     /// # Errors
     /// As `write_all`: of what was held back and the piece a beginning was written then, and not all of it.
@@ -67,7 +67,7 @@ impl<Z: Allocator> Gathered<Z> {
         Ok(())
     }
 
-    /// Holds a piece back for which there is room.
+    /// Holds back a piece for which there is room.
     fn hold(&mut self, piece: &[u8])
         requires room { length self.old + length piece.now ≤ ROOM }
         ensures { self.new ≡ self.old ++ piece.now }

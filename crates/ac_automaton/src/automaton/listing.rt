@@ -11,17 +11,17 @@ use ac_util::prefilter::Prefilter;
 use ac_util::primitives::StateID;
 use ac_util::search::{Anchored, Match, Span};
 
-/// The rest of a match list: of the matches of `state` those from `index` on.
+/// A rest of a match list: the matches of `state` from index `index` on.
 #[derive(Clone, Copy, Debug)]
 pub struct MatchRest {
     /// The state whose list it is.
     pub state: StateID,
-    /// How many matches of that list stand before the rest.
+    /// How many matches of that list come before the rest.
     pub index: usize,
 }
 
-/// How far a listing has come: where its automaton stands, up to which place it has read the span, and what is
-/// left of the matches there.
+/// How far a listing has come: in which state its automaton is, up to which offset the span was read, and which matches
+/// there are left.
 #[derive(Clone, Copy, Debug)]
 pub(super) struct Reached {
     pub(super) state: StateID,
@@ -30,7 +30,7 @@ pub(super) struct Reached {
 }
 
 impl Reached {
-    /// Returns that a listing has come to a state, all of whose matches are left.
+    /// Returns the beginning of a state's matches: the listing has come to it, and all its matches are left.
     #[inline]
     pub(super) fn new(state: StateID, at: usize) -> Reached
         ensures { result ≡ record { state = state; at = at; rest = record { state = state; index = 0 } } }
@@ -47,7 +47,7 @@ impl<'a, A: Automaton> Scanner<'a, A> {
 
     /// Returns the prefilter of a listing: one that skips by first bytes, in an unanchored search.
     ///
-    /// A needle is none: where it is found first the automaton need not have been at its start.
+    /// A needle can't be one: where it is found first, the automaton need not have been at its start.
     #[inline]
     pub(super) fn listing_prefilter(&self) -> Option<&'a Prefilter<A::Memory>>
         ensures { IfSome result (λ p. SkipsByBytes (⟦<A as Scans>⟧.scan self.now.automaton.now self.now.anchored) (skip_of p.now)) }
@@ -85,8 +85,8 @@ impl<'a, A: Automaton> Scanner<'a, A> {
         Some(Match::new(pattern, span))
     }
 
-    /// Returns the next item of the listing of the span, and moves on past it. It skips by the prefilter, where one is
-    /// given and that pays.
+    /// Returns the next item of the listing of the span, and moves on past it. It skips ahead with the prefilter, where
+    /// one is given and that pays.
     #[inline]
     pub(super) fn next_item(
         &self,

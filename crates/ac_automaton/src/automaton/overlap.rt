@@ -1,4 +1,4 @@
-//! Overlapping search by a state that its caller holds.
+//! Overlapping searches whose state the caller holds.
 ghost use Rattle.std.specs.Prelude.{◌≡◌, ◌≢◌, ◌⊎◌, [], None, Some, MatchResult};
 ghost use Rattle.ac_automaton.specs.Util.{input_of, overlapping_refusal, search_in, Standard, start_refusal};
 ghost use Rattle.ac_automaton.specs.Overlaps.{GivesNext, IsPlaced, fresh};
@@ -12,10 +12,18 @@ use ac_util::looks::open;
 use ac_util::primitives::StateID;
 use ac_util::search::{Anchored, Input, Match, MatchKind};
 
-/// A place in the listing of an input, and what the last call gave.
+/// How far an overlapping search has come in the listing of its input, and what its last call found. This ports
+/// `automaton::OverlappingState`.
 ///
-/// It belongs to one automaton, or searcher, and one input: the calls of an overlapping search over these move it
-/// on. This ports `automaton::OverlappingState`.
+/// It belongs to one automaton, or searcher, and to one input: each call of an overlapping search over these moves it
+/// on.
+///
+/// ```
+/// // a searcher over "append", "appendage" and "app", with `MatchKind::Standard`
+/// let mut state = OverlappingState::start();
+/// searcher.find_overlapping(Input::new(b"append"), &mut state);
+/// state.get_match() // pattern 2, 0..3
+/// ```
 #[derive(Debug, Drop)]
 pub struct OverlappingState {
     found: Option<Match>,
@@ -24,7 +32,8 @@ pub struct OverlappingState {
 }
 
 impl OverlappingState {
-    /// Returns a state from which a search begins: it stands for the first place of each listing.
+    /// Returns a state with which a search starts, at the beginning of any listing. This ports
+    /// `OverlappingState::start`.
     pub fn start() -> OverlappingState
         ensures { result ≡ fresh }
     {
@@ -34,7 +43,8 @@ impl OverlappingState {
         }
     }
 
-    /// Returns the item that the last call gave. `None` where it had none to give, and where there was no call.
+    /// Returns the match that the last call found, or `None` if it found none or there was no call. This ports
+    /// `OverlappingState::get_match`.
     #[inline]
     pub fn get_match(&self) -> Option<Match>
         ensures { result ≡ self.now.found }
@@ -42,7 +52,7 @@ impl OverlappingState {
         self.found
     }
 
-    /// Returns a state for the same place.
+    /// Returns a state that has come as far.
     pub fn clone(&self) -> OverlappingState
         ensures { result ≡ self.now }
     {

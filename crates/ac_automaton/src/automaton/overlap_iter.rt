@@ -17,9 +17,9 @@ use std::marker::Model;
 
 /// An iterator over all occurrences in the span of an input, made by `Automaton::try_find_overlapping_iter`.
 ///
-/// After its end it keeps giving `None`. Contracts see the items still to come, and what was read and counted since
-/// it was made: all calls together read each byte of the span at most once, and none past the end of the item that
-/// was given last.
+/// After the last occurrence it keeps returning `None`. Contracts see the occurrences still to come, and what was read
+/// and counted since it was made: all calls together read each byte of the span at most once, and none past the end of
+/// the occurrence that was returned last.
 #[derive(Drop)]
 pub struct FindOverlappingIter<'a, 'h, A: Automaton> {
     scanner: Scanner<'a, A>,

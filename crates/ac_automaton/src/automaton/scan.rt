@@ -21,8 +21,8 @@ pub(super) struct Cursor {
     pub(super) at: usize,
 }
 
-/// Returns whether a match of this length counts where so many bytes of the span were read: in an anchored search it
-/// has to be as long, or it would start later than the span.
+/// Returns whether a match of this length counts after so many bytes of the span were read. In an anchored search it
+/// has to be as long as that, or it would start later than the span.
 #[inline]
 pub fn is_due(anchored: Anchored, len: usize, read: usize) -> bool
     ensures { result ≡ is_due anchored len read }

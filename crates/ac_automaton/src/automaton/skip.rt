@@ -1,7 +1,7 @@
-//! Skipping: how a search passes over the bytes at which no match can start.
+//! Skipping: how a search passes over bytes at which no match can start.
 //!
-//! This is the one place where a search calls a prefilter that skips by first bytes. It does so where the automaton
-//! stands at its start, from which such bytes don't lead away.
+//! This is the one module that calls a prefilter by first bytes. It does so where the automaton is at its start: the
+//! bytes that are skipped would lead from there to the start again.
 ghost use Rattle.std.specs.Prelude.{◌≡◌, ◌≤◌, ◌<◌, IfSome, length};
 ghost use Rattle.ac_util.specs.Prefilters.{skip_of};
 ghost use Rattle.ac_automaton.specs.Automata.{IsState};
@@ -19,16 +19,17 @@ const CALL_WORTH: usize = 16;
 /// The credit that a search starts with.
 const CREDIT_AT_FIRST: usize = 16 * CALL_WORTH;
 
-/// The most credit that calls which skipped much can earn.
+/// The most credit that can be earned, by calls that skip much.
 const MOST_CREDIT: usize = 64 * CALL_WORTH;
 
-/// How many bytes are read without the prefilter, once no credit is left, before it is tried again.
+/// How many bytes are read without the prefilter, once no credit is left, before it is tried again for the first time.
 const FIRST_REST: usize = 4096;
 
-/// How many these are at most. After each try in vain they are twice as many.
+/// The most bytes that are so read between two tries. The number doubles after each try, until the credit is full
+/// again.
 const MOST_REST: usize = 256 * FIRST_REST;
 
-/// The credit for trying it again.
+/// The credit that a new try starts with.
 const CREDIT_AFTER_REST: usize = 4 * CALL_WORTH;
 
 /// Whether it pays to call a prefilter: calls that skip little cost more than they save.
@@ -38,14 +39,14 @@ const CREDIT_AFTER_REST: usize = 4 * CALL_WORTH;
 #[derive(Clone, Copy)]
 pub(super) struct Credit {
     bytes: usize,
-    /// How many bytes are still to be read without the prefilter once no credit is left.
+    /// How many bytes are still to be read without the prefilter, once no credit is left.
     rest: usize,
-    /// How many these will be the next time.
+    /// What `rest` will be after the next try.
     next_rest: usize,
 }
 
 impl Credit {
-    /// Returns the credit with which a search begins.
+    /// Returns the credit that a search starts with.
     #[inline]
     pub(super) fn new() -> Credit {
         Credit {
@@ -73,7 +74,7 @@ impl Credit {
         }
     }
 
-    /// Charges for a call that looked for a needle from a place on, and credits the bytes up to where it was found.
+    /// Charges for a call that looked for a needle from an offset on, and credits the bytes up to where it was found.
     #[inline]
     pub(super) fn record_needle(&mut self, from: usize, found: &Option<Match>) {
         if let Some(found) = found {
@@ -81,14 +82,15 @@ impl Credit {
         }
     }
 
-    /// Charges for a byte that is read where no call can be made, since that takes longer here than by `read_ahead`.
+    /// Charges for a byte that is read where no call can be made, since reading it here takes longer than in
+    /// `read_ahead`.
     #[inline]
     fn record_byte(&mut self) {
         self.bytes = self.bytes.saturating_sub(1);
     }
 
-    /// Returns up to where a search reads without the prefilter: by a byte where it may be called again, else by the bytes of
-    /// the rest, and no further than the end.
+    /// Returns the offset up to which a search reads without the prefilter: one byte on where there is credit, else as far
+    /// as it rests, and no further than the end.
     #[inline]
     fn rest_end(&self, at: usize, end: usize) -> usize
         requires before_end { at < end }
@@ -99,8 +101,8 @@ impl Credit {
         at.saturating_add(most).min(end)
     }
 
-    /// Records bytes that were read without the prefilter, where no credit is left: after enough of them it may be called
-    /// again.
+    /// Records bytes that were read without the prefilter. Where there is no credit it may be called again after enough of
+    /// them.
     #[inline]
     fn record_rest(&mut self, read: usize) {
         if self.is_left() {
@@ -120,8 +122,8 @@ impl<'a, A: Automaton> Scanner<'a, A> {
     ghost use Rattle.ac_automaton.specs.Scans.{HasSkipped, IsAt, MayRead, ReadsOn, ScanText, led_to};
     ghost use Rattle.ac_automaton.specs.Skipping.{SkipsByBytes};
 
-    /// Reads on by a byte at least, up to a state that has matches or is dead, or up to the end of the span. It skips by
-    /// the prefilter, where one is given and that pays. Returns how far it has come.
+    /// Reads on by a byte at least, up to a state that has matches or is dead, or up to the end of the span. It skips
+    /// ahead with the prefilter, where one is given and that pays. Returns how far it has come.
     #[inline]
     pub(super) fn read_or_skip(
         &self,

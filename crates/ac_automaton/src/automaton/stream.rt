@@ -1,4 +1,4 @@
-//! The search of a stream: what a reader gives is read into a buffer, and its matches are given one after another.
+//! The search of a stream: what a reader gives is read into a buffer, and its matches are returned one after another.
 ghost use Rattle.std.specs.Prelude.{◌≡◌, ◌≢◌, ◌⊎◌, ◌≤◌, ◌<◌, ◌+◌, ◌-◌, ◌*◌, MatchOption, MatchResult, None, Some, drop, false, true, if◌then◌else◌, length, max, min, slice_range, take, ⊤};
 ghost use Rattle.ac_automaton.specs.Util.{IsNear, IsStreamRefused, Reads, stream_refusal};
 ghost use Rattle.ac_automaton.specs.declared.automaton.stream_settled.Phase.TheVariants.{Ended, Open};
@@ -20,16 +20,17 @@ use std::io;
 use std::marker::Model;
 use std::snapshot::Snapshot;
 
-/// A search over a stream, whose reader is handed to each call. `StreamFindIter` is one with a reader of its own.
+/// A search of a stream whose reader is handed to each call. `StreamFindIter` has its own reader.
 ///
-/// The matches are those of the walk over all bytes that the readers gave, however they cut them. A match is settled,
-/// and given, once it is seen that no byte to come can change it: under `MatchKind::Standard` when it is found, under a
-/// leftmost kind at most one byte later than that is so. Some bytes after the match may have been read by then: these are
-/// searched again, at most as many for each match as the longest pattern has.
+/// The matches are those of the walk over all bytes that the readers gave, however they cut them. A match is returned
+/// once it is settled, which means that the search has seen that no byte to come can change it: under
+/// `MatchKind::Standard` when it is found, under a leftmost kind at most one byte after that is so. Some bytes after
+/// the match may have been read by then: these are searched again, at most as many for each match as the longest
+/// pattern has.
 ///
-/// What was read stands in one buffer, which is made at first and never grows: it is read into as far as it has room, and the
-/// bytes that a match to come may need are moved to its front only when it is full. Contracts see all bytes that were read, and
-/// how many of their matches were given.
+/// What was read is in one buffer, which is made at first and never grows: it is read into as far as it has room, and
+/// the bytes that a match to come may need are moved to its front only when it is full. Contracts see all bytes that
+/// were read, and how many of their matches were returned.
 #[derive(Drop)]
 pub struct StreamFinder<'a, A: Automaton, Z: Allocator> {
     automaton: &'a A,
@@ -87,11 +88,12 @@ impl<'a, A: Automaton, Z: Allocator> Model for StreamFinder<'a, A, Z> {
 }
 
 impl<'a, A: Automaton, Z: Allocator> StreamFinder<'a, A, Z> {
-    /// Returns a search over a stream of which nothing was read yet, and makes its buffer.
+    /// Returns a search of a stream from which nothing was read yet, and makes its buffer.
     ///
     /// # Errors
     /// `StreamError::Match` with `InvalidInputUnanchored` where the automaton has no unanchored start, else with
-    /// `UnsupportedEmpty` where some pattern is empty; else `StreamError::Memory` where the memory for the buffer is refused.
+    /// `UnsupportedEmpty` where some pattern is empty; else `StreamError::Memory` where the memory for the buffer is
+    /// refused.
     pub fn new(automaton: &'a A, alloc: Z) -> Result<StreamFinder<'a, A, Z>, StreamError>
         ensures { MatchResult result
             (λ finder. (stream_refusal (A.built automaton.now) ≡ None) × (finder ≡ initial_stream (A.built automaton.now)))
@@ -125,16 +127,17 @@ impl<'a, A: Automaton, Z: Allocator> StreamFinder<'a, A, Z> {
         })
     }
 
-    /// Returns how many bytes the buffer has: 65,536, or eight times as many as the longest pattern if that is more.
+    /// Returns the size of the buffer in bytes: 65,536, or eight times the length of the longest pattern if that is
+    /// more.
     pub fn buffer_len(&self) -> usize
         ensures { result ≡ self.now.buffer }
     {
         self.buffer.len()
     }
 
-    /// Returns how many bytes of the stream are kept: those from the end of the last match given on; or of these, once all
-    /// matches of what was read that are settled were given, as many as a match to come may need. After an error they are no more
-    /// than the longest pattern has, and after the end there are none.
+    /// Returns how many bytes of the stream are kept: all that were read from the end of the last returned match on.
+    /// Once all settled matches of what was read were returned, only as many of these are kept as a match to come may
+    /// need. After an error they are no more than the longest pattern has, and after the end there are none.
     pub fn kept_len(&self) -> usize
         ensures { result ≡ kept_len self.now }
     {
@@ -163,6 +166,8 @@ impl<'a, A: Automaton, Z: Allocator> StreamFinder<'a, A, Z> {
     /// Returns the next match of the bytes that were read, without reading more of them. `None` says that all their matches
     /// that are settled were given.
     // Its loop is slower where it becomes a part of its caller's.
+    /// Returns the next match of the bytes that were read, without reading on. `None` says that all their matches that
+    /// are settled were returned.
     #[inline(never)]
     pub fn next_read(&mut self) -> Option<Match>
         ensures { GivesRead self.old result self.new }
@@ -265,12 +270,14 @@ impl<'a, A: Automaton, Z: Allocator> StreamFinder<'a, A, Z> {
         self.front = self.kept;
     }
 
-    /// Returns the next match of the stream, and reads more of it where that is needed. After an error it keeps giving `None`,
-    /// and so it does after the end once all matches were given; the reader isn't asked again.
+    /// Returns the next match of the stream, and reads on as far as that needs.
+    ///
+    /// After the end of the stream, once all matches were returned, it keeps returning `None`, and so it does after an
+    /// error; the reader isn't called again.
     ///
     /// # Errors
-    /// `Io` where a read failed, and `TooLong` where more bytes came than a `usize` counts. All matches of the bytes read
-    /// before that are settled were given then.
+    /// `Io` where a read failed, and `TooLong` where more bytes came than a `usize` counts. All matches of the bytes
+    /// read before it that are settled were returned by then.
     pub fn next<R: Source>(&mut self, reader: &mut R) -> Option<Result<Match, StreamError>>
         ensures { StreamsOn R.empty_means_end self.old result self.new (R.told reader.old) (R.told reader.new) }
     {

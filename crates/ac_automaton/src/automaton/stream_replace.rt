@@ -1,4 +1,5 @@
-//! Replacement in a stream: its bytes are written as they were read, with each match exchanged by a list or by a closure.
+//! Replacement in a stream: its bytes are written as they were read, with each match replaced from a list or by a
+//! closure.
 ghost use Rattle.std.specs.Prelude.{◌≡◌, ℕ, ◌<◌, List, [], MatchResult, None, OnOk, Result, length, ⊤};
 ghost use Rattle.ac_automaton.specs.Util.{AnswersStream, bytes_of, FailsToReplace, FailsToReplaceWith, IsStreamRefused, Occurrence, ReplacesStream, ReplacesStreamWith, Replacing, stream_refusal, StreamError};
 ghost use Rattle.ac_automaton.specs.Exchanges.{CallsBy, error_in, FailsBy, FailsToExchange, HasExchanged, PassesText, ReplacesBy};
@@ -71,7 +72,7 @@ pub(super) trait Exchange<W: Sink> {
     // A call with a match and its slice may answer so, and leave it and the writer so.
     ghost calls: { Occurrence → List ℕ → Replacing Self W → Result (Unit {0}) StreamError → Replacing Self W → Type 0 };
 
-    /// Passes on bytes that stand in no match.
+    /// Passes on bytes that are in no match.
     ///
     /// # Errors
     /// As `write_all`.
@@ -180,8 +181,8 @@ impl<W: Sink, F: FnMut(&Match, &[u8], &mut W) -> io::Result<()>> Exchange<W> for
     }
 }
 
-/// Exchanges all matches of what was read that are still to be given, and writes the bytes between them as far as they are
-/// settled. Nothing is held back then.
+/// Replaces all matches of what was read that are still to be given, and writes the bytes between them as far as they
+/// are settled. Nothing is held back afterwards.
 ///
 /// # Errors
 /// `Io` where a write failed, `WriteZero` where one took no byte, and those of an exchange.
@@ -209,7 +210,7 @@ fn exchange_read<A: Automaton, Z: Allocator, W: Sink, E: Exchange<W>>(
     }
 }
 
-/// Exchanges the matches of all that a reader gives, and writes all other bytes as they are.
+/// Replaces the matches of all bytes that a reader gives, and writes all other bytes as they are.
 ///
 /// # Errors
 /// As `Automaton::try_stream_replace_all`.

@@ -1,4 +1,4 @@
-//! What of a stream is settled, so that no byte to come can change it, and how many bytes are kept for what isn't.
+//! What of a stream is settled, so that no byte to come can change it, and how many bytes are kept for the rest.
 ghost use Rattle.std.specs.Prelude.{◌≡◌, ◌≢◌, ◌⊎◌, ◌-◌, ◌*◌, MatchOption, None, Some, false, true, if◌then◌else◌, max, min};
 ghost use Rattle.ac_automaton.specs.Util.{usize_max};
 ghost use Rattle.ac_automaton.specs.declared.automaton.stream_settled.Phase.TheVariants.{Ended};
@@ -17,14 +17,14 @@ const BUFFER_FACTOR: usize = 8;
 pub enum Phase {
     /// More may be read.
     Open,
-    /// A read gave no byte, though there was room: the reader isn't asked again.
+    /// A read gave no byte, though there was room: the reader isn't called again.
     Ended,
-    /// A read failed, or brought more than a `usize` counts: the reader isn't asked again.
+    /// A read failed, or brought more than a `usize` counts: the reader isn't called again.
     Failed,
 }
 
-/// Returns what a search picks so far, where it is settled: the first match found counts, nothing more is found, or the end was
-/// met.
+/// Returns what a search picks so far if it is settled: if the first match found is the answer, nothing more can be
+/// found, or the stream has ended.
 pub(super) fn settled_match(
     picked: Option<Match>,
     stops: bool,
@@ -42,7 +42,7 @@ pub(super) fn settled_match(
     }
 }
 
-/// Returns as far as where nothing is kept once all matches of the bytes read that are settled were given.
+/// Returns the offset before which nothing is kept, once all matches of the bytes read that are settled were returned.
 pub(super) fn settled_from(phase: Phase, kept: usize, read: usize, reserve: usize) -> usize
     ensures { result ≡ kept_from phase (max kept (read - reserve)) read }
 {
@@ -52,7 +52,7 @@ pub(super) fn settled_from(phase: Phase, kept: usize, read: usize, reserve: usiz
     }
 }
 
-/// Returns how many bytes the buffer of a stream has, by the length of the longest pattern.
+/// Returns the size of a stream's buffer in bytes, given the length of the longest pattern.
 pub(super) fn buffer_len(longest: usize) -> usize
     ensures { result ≡ max 65536 (min usize_max (8 * longest)) }
 {

@@ -16,11 +16,11 @@ use std::snapshot::Snapshot;
 
 /// An iterator over the matches of an input that don't overlap, made by `Automaton::try_find_iter`.
 ///
-/// After its end it keeps giving `None`. Contracts see the matches still to come, and what was read and counted
-/// since it was made. For each match it makes one find, or two where the first finds an empty match again at the
-/// end of the one before. Under `MatchKind::Standard`, or with `earliest`, it reads each byte at most once on the
-/// whole; else each find reads anew from where the match before it ended, since a leftmost one may have read past
-/// the end of what it picked.
+/// After the last match it keeps returning `None`. Contracts see the matches still to come, and what was read and
+/// counted since it was made. For each match it makes one find, or two where the first finds an empty match again at
+/// the end of the match before. Under `MatchKind::Standard`, or with `earliest`, it reads each byte at most once on the
+/// whole; else each find reads anew from where the match before it ended, since a leftmost one may have read past the
+/// end of what it picked.
 #[derive(Drop)]
 pub struct FindIter<'a, 'h, A: Automaton> {
     finder: Finder<'a, A>,

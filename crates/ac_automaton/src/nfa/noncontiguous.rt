@@ -29,11 +29,16 @@ pub(crate) mod state;
 pub use builder::Builder;
 pub use state::{ANCHORED_START, DEAD, FAIL, FIRST_INNER, START};
 
-/// An automaton that follows failure links.
+/// An automaton that keeps its states and their transitions in lists, and follows failure links while it searches.
 ///
-/// It takes little memory and is built in time linear in the bytes of the patterns; a search looks at states at
-/// most twice for each byte that it reads. It serves unanchored and anchored searches. This ports
-/// `nfa::noncontiguous::NFA`.
+/// It takes little memory and is built in time linear in the bytes of the patterns, but for the sort of their list. A
+/// search looks at states at most twice for each byte that it reads. It serves unanchored and anchored searches. This
+/// ports `nfa::noncontiguous::NFA`.
+///
+/// ```
+/// let nfa = noncontiguous::NFA::new(alloc, &[b"he", b"she"])?;
+/// nfa.try_find(Input::new(b"ushers"))? // pattern 1, 1..4
+/// ```
 #[derive(Drop)]
 pub struct NFA<A: Allocator = Global> {
     common: Common<A>,
@@ -69,7 +74,7 @@ impl<A: Allocator> fmt::Debug for NFA<A> {
 impl<A: Allocator + Clone> Clone for NFA<A> {
     ghost is_clone = { λ s t. t ≡ s };
 
-    /// Returns a copy, which shares the patterns with this automaton, and answers equally.
+    /// Returns a copy, which shares the patterns with this automaton and gives the same answers.
     ///
     /// # Errors
     /// `AllocError` where a request for memory is refused.
@@ -83,8 +88,8 @@ impl<A: Allocator + Clone> Clone for NFA<A> {
 }
 
 impl<A: Allocator + Clone> NFA<A> {
-    /// Builds an automaton with the usual settings: `MatchKind::Standard`, case counts, and a prefilter where there is
-    /// one.
+    /// Builds an automaton over a list of patterns with the usual settings: `MatchKind::Standard`, the case of letters
+    /// counts, and there is a prefilter where the patterns have one. This ports `NFA::new`.
     ///
     /// # Errors
     /// As `Builder::build`.
@@ -98,7 +103,7 @@ impl<A: Allocator + Clone> NFA<A> {
 }
 
 impl NFA {
-    /// Returns a builder with the usual settings.
+    /// Returns a builder with the usual settings, those of `Builder::new`. This ports `NFA::builder`.
     pub fn builder() -> Builder
         ensures { result ≡ usual_engine_settings }
     {
@@ -116,7 +121,7 @@ impl<A: Allocator> NFA<A> {
         &self.lists.states
     }
 
-    /// Returns what a search follows.
+    /// Returns the lists that a search reads.
     #[inline]
     fn slices(&self) -> TrieSlices<'_>
         ensures states { result.states.now ≡ self.now.states }

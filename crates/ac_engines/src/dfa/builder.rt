@@ -22,9 +22,17 @@ use ac_util::search::{Anchored, MatchKind, StartKind};
 use std::alloc::{AllocError, Allocator};
 use std::marker::Model;
 
-/// The settings of a build. A build changes none of them, so after a refusal the builder can be used again.
+/// The settings of a DFA, and its build. This ports `dfa::Builder`.
 ///
-/// This ports `dfa::Builder`.
+/// Each setter returns the builder, so calls can be chained. A build changes no setting, so the builder can be used
+/// again, also after an error.
+///
+/// ```
+/// let mut builder = dfa::Builder::new();
+/// builder.match_kind(MatchKind::LeftmostFirst).start_kind(StartKind::Both);
+/// let dfa = builder.build(alloc, &[b"Sam", b"Samwise"])?;
+/// dfa.try_find(Input::new(b"Samwise"))? // pattern 0, 0..3
+/// ```
 #[derive(Debug, Drop)]
 pub struct Builder {
     noncontiguous: noncontiguous::Builder,
@@ -59,8 +67,9 @@ impl Default for Builder {
 }
 
 impl Builder {
-    /// Returns a builder with the usual settings: `MatchKind::Standard`, case counts, unanchored searches alone,
-    /// bytes that need not be distinguished share a class, and a prefilter where there is one.
+    /// Returns a builder with the usual settings: `MatchKind::Standard`, the case of letters counts, unanchored
+    /// searches only, bytes that need not be distinguished share a class, and there is a prefilter where the patterns
+    /// have one. This ports `Builder::new`.
     pub fn new() -> Builder
         ensures { result ≡ usual_dfa_settings }
     {
@@ -71,7 +80,7 @@ impl Builder {
         }
     }
 
-    /// Returns a builder with the same settings, and takes no memory.
+    /// Returns a builder with the same settings. It takes no memory.
     pub fn clone(&self) -> Builder
         ensures { result ≡ self.now }
     {
@@ -81,7 +90,8 @@ impl Builder {
         }
     }
 
-    /// Sets which of the occurrences in a span a search answers. `Standard` unless set.
+    /// Sets which of the occurrences in a span a search returns. `MatchKind::Standard` unless set. This ports
+    /// `Builder::match_kind`.
     pub fn match_kind(&mut self, kind: MatchKind) -> &mut Builder
         ensures value { result.now ≡ record self.old { engine = record self.old.engine { kind = kind } } }
         ensures same { result.ghost_name ≡ self.entry.ghost_name }
@@ -90,7 +100,8 @@ impl Builder {
         self
     }
 
-    /// Sets whether the case of ASCII letters is ignored. It counts unless set.
+    /// Sets whether searches ignore the case of ASCII letters, `a` to `z` and `A` to `Z`. They don't unless set. This
+    /// ports `Builder::ascii_case_insensitive`.
     pub fn ascii_case_insensitive(&mut self, yes: bool) -> &mut Builder
         ensures value { result.now ≡ record self.old { engine = record self.old.engine { ignores_case = yes } } }
         ensures same { result.ghost_name ≡ self.entry.ghost_name }
@@ -99,9 +110,10 @@ impl Builder {
         self
     }
 
-    /// Sets which searches the automaton serves. `Unanchored` unless set.
+    /// Sets which searches the automaton serves: unanchored ones, anchored ones or both. `StartKind::Unanchored` unless
+    /// set. This ports `Builder::start_kind`.
     ///
-    /// With `Both` the table has two rows for each state, and so takes about twice the memory.
+    /// With `StartKind::Both` the transition table has two rows for each state, and so takes about twice the memory.
     pub fn start_kind(&mut self, kind: StartKind) -> &mut Builder
         ensures value { result.now ≡ record self.old { start_kind = kind } }
         ensures same { result.ghost_name ≡ self.entry.ghost_name }
@@ -111,8 +123,7 @@ impl Builder {
     }
 
     /// Sets whether bytes that need not be distinguished share a class, so that rows are shorter. They do unless set.
-    ///
-    /// It changes no answer.
+    /// It changes no answer. This ports `Builder::byte_classes`.
     pub fn byte_classes(&mut self, yes: bool) -> &mut Builder
         ensures value { result.now ≡ record self.old { byte_classes = yes } }
         ensures same { result.ghost_name ≡ self.entry.ghost_name }
@@ -121,8 +132,8 @@ impl Builder {
         self
     }
 
-    /// Sets whether a search may skip ahead by a prefilter, where there is one for the patterns. It changes no answer.
-    /// It may unless set.
+    /// Sets whether searches may skip ahead with a prefilter, where there is one for the patterns. They may unless set.
+    /// It changes no answer. This ports `Builder::prefilter`.
     pub fn prefilter(&mut self, yes: bool) -> &mut Builder
         ensures value { result.now ≡ record self.old { engine = record self.old.engine { prefilter = yes } } }
         ensures same { result.ghost_name ≡ self.entry.ghost_name }
@@ -131,11 +142,12 @@ impl Builder {
         self
     }
 
-    /// Builds an automaton over a list of patterns. An empty list is fine: nothing is then found.
+    /// Builds an automaton over a list of patterns. An empty list is allowed: such an automaton finds nothing. This
+    /// ports `Builder::build`.
     ///
     /// # Errors
-    /// `PatternIdOverflow` and `PatternTooLong` exactly where a limit is passed, whether there is memory or
-    /// not. Else `StateIdOverflow` only where there are more nodes than state numbers, or where the last row of the
+    /// `PatternIdOverflow` and `PatternTooLong` exactly where a limit is passed, whether there is memory or not. Else
+    /// `StateIdOverflow` only where there are more nodes than state numbers, or where the last row of the transition
     /// table would begin at a number that no state may have, and `Memory` where a request for memory is refused.
     pub fn build<A: Allocator + Clone>(
         &self,
@@ -151,7 +163,7 @@ impl Builder {
         self.build_from_noncontiguous(alloc, &nfa)
     }
 
-    /// Returns whether a DFA that is built from this automaton is within its limit, and takes no memory.
+    /// Returns whether a DFA that is built from this automaton would be within its limit. It takes no memory.
     pub fn fits<A: Allocator>(&self, nfa: &NFA<A>) -> bool
         ensures { result ≡ fits (dfa_refusal self.now.start_kind self.now.byte_classes nfa.now.built) }
     {
@@ -159,12 +171,13 @@ impl Builder {
         len_for(nfa, self.start_kind, &classes).is_ok()
     }
 
-    /// Builds an automaton that answers as another one, whose patterns it shares. Of the settings only the start kind
-    /// and the byte classes count: match kind, case and prefilter are those of the other automaton.
+    /// Builds an automaton that gives the same answers as a noncontiguous NFA, whose patterns it shares. Of the
+    /// settings only the start kind and the byte classes count: match kind, case and prefilter are those of the
+    /// noncontiguous NFA. This ports `Builder::build_from_noncontiguous`.
     ///
     /// # Errors
-    /// `StateIdOverflow` exactly where the last row of the table would begin at a number that no state may have,
-    /// whether there is memory or not; else `Memory` where a request for memory is refused.
+    /// `StateIdOverflow` exactly where the last row of the transition table would begin at a number that no state may
+    /// have, whether there is memory or not; else `Memory` where a request for memory is refused.
     pub fn build_from_noncontiguous<A: Allocator + Clone>(
         &self,
         alloc: A,
@@ -221,13 +234,19 @@ fn len_for<A: Allocator>(
     table_len(rows, classes.stride2())
 }
 
-/// Returns how many entries a DFA has with so many rows, each two to the power of `stride2` long.
+/// Returns how many entries the transition table of a DFA has with so many rows, each two to the power of `stride2`
+/// long.
 ///
-/// The number of a state is that of the first entry of its row, so the limit is one on where the last row begins.
+/// The number of a state is the index of the first entry of its row, so the limit is one on where the last row begins.
 /// This ports the size and the limit of upstream's `Builder::build_from_noncontiguous`.
 ///
 /// # Errors
-/// `StateIdOverflow` exactly where that number is above the greatest of a state.
+/// `StateIdOverflow` exactly where that index is above the greatest number of a state.
+///
+/// ```
+/// table_len(10, 5)? // 320
+/// table_len(100_000_000, 8) // `BuildError::StateIdOverflow`: the last row would begin at 25,599,999,744
+/// ```
 pub fn table_len(rows: u64, stride2: u32) -> Result<u64, BuildError>
     requires some { 1 ≤ rows }
     requires few { rows ≤ table_rows StartKind.Both (GREATEST + 1) }

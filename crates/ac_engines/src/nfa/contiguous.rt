@@ -34,22 +34,28 @@ mod transitions;
 pub use builder::Builder;
 pub use format::{Format, check_words, format_of, state_words};
 
-/// An automaton that follows failure links, packed into one list of words.
+/// An automaton whose states are packed into one list of words, and which follows failure links while it searches.
 ///
-/// It is made to take little memory, and a search looks at states at most twice for each byte that it reads. A
-/// state's number is the place of its first word. First stands the dead state, then those that have matches, then the
-/// others: so compares of the number say what a search has to know of a state. It serves unanchored and anchored
-/// searches. This ports `nfa::contiguous::NFA`.
+/// It is made to take little memory, and a search looks at states at most twice for each byte that it reads. It serves
+/// unanchored and anchored searches. This ports `nfa::contiguous::NFA`.
+///
+/// A state's number is the index of its first word. The dead state comes first, then the states that have matches, then
+/// the others: so comparisons of the number say what a search has to know about a state.
+///
+/// ```
+/// let nfa = contiguous::NFA::new(alloc, &[b"he", b"she"])?;
+/// nfa.try_find(Input::new(b"ushers"))? // pattern 1, 1..4
+/// ```
 #[derive(Drop)]
 pub struct NFA<A: Allocator = Global> {
     common: Common<A>,
     classes: ByteClasses,
-    /// States of strings that are shorter are dense.
+    /// States of strings shorter than this are dense.
     dense_depth: usize,
     words: Vec<u32, A>,
     start: StateID,
     anchored_start: StateID,
-    /// No state has matches from this number on.
+    /// No state with this number or a greater one has matches.
     match_end: usize,
 }
 
@@ -76,7 +82,7 @@ impl<A: Allocator> fmt::Debug for NFA<A> {
 impl<A: Allocator + Clone> Clone for NFA<A> {
     ghost is_clone = { λ s t. t ≡ s };
 
-    /// Returns a copy, which shares the patterns with this automaton, and answers equally.
+    /// Returns a copy, which shares the patterns with this automaton and gives the same answers.
     ///
     /// # Errors
     /// `AllocError` where a request for memory is refused.
@@ -90,8 +96,9 @@ impl<A: Allocator + Clone> Clone for NFA<A> {
 }
 
 impl<A: Allocator + Clone> NFA<A> {
-    /// Builds an automaton with the usual settings: `MatchKind::Standard`, case counts, the states of no byte and of one
-    /// byte are dense, bytes that need not be distinguished share a class, and a prefilter where there is one.
+    /// Builds an automaton over a list of patterns with the usual settings: `MatchKind::Standard`, the case of letters
+    /// counts, states of no byte and of one byte are dense, bytes that need not be distinguished share a class, and
+    /// there is a prefilter where the patterns have one. This ports `NFA::new`.
     ///
     /// # Errors
     /// As `Builder::build`.
@@ -106,7 +113,7 @@ impl<A: Allocator + Clone> NFA<A> {
 }
 
 impl NFA {
-    /// Returns a builder with the usual settings.
+    /// Returns a builder with the usual settings, those of `Builder::new`. This ports `NFA::builder`.
     pub fn builder() -> Builder
         ensures { result ≡ usual_contiguous_settings }
     {
@@ -115,7 +122,7 @@ impl NFA {
 }
 
 impl<A: Allocator> NFA<A> {
-    /// Returns the words, which are those of packed states.
+    /// Returns the words of all states.
     #[inline]
     fn words(&self) -> &[u32]
         ensures value { result.now ≡ self.now.words }
@@ -124,7 +131,7 @@ impl<A: Allocator> NFA<A> {
         &self.words
     }
 
-    /// Returns the state of a number.
+    /// Returns the packed state with this number.
     #[inline]
     fn state(&self, sid: StateID) -> State<'_>
         requires { (anchored : Anchored) × IsState (λ s u. IsContiguousState self.now anchored s u) sid }

@@ -20,12 +20,22 @@ use std::alloc::Allocator;
 use std::marker::Model;
 use std::rc::Rc;
 
-/// States of strings that are shorter are dense in a contiguous NFA, unless it is set otherwise.
+/// The dense depth of a contiguous NFA unless another is set: states of strings shorter than this are dense.
 const USUAL_DENSE_DEPTH: usize = 2;
 
-/// The settings of a build. A build changes none of them, so after a refusal the builder can be used again.
+/// The settings of a searcher, and its build. This ports `AhoCorasickBuilder`.
 ///
-/// This ports `AhoCorasickBuilder`.
+/// Each setter returns the builder, so calls can be chained. A build changes no setting, so the builder can be used
+/// again, also after an error.
+///
+/// ```
+/// let mut builder = AhoCorasickBuilder::new();
+/// builder
+///     .match_kind(MatchKind::LeftmostFirst)
+///     .ascii_case_insensitive(true);
+/// let searcher = builder.build(alloc, &[b"Sam", b"Samwise"])?;
+/// searcher.try_find(Input::new(b"SAMWISE"))? // pattern 0, 0..3
+/// ```
 #[derive(Debug, Drop)]
 pub struct AhoCorasickBuilder {
     noncontiguous: noncontiguous::Builder,
@@ -66,9 +76,10 @@ impl Default for AhoCorasickBuilder {
 }
 
 impl AhoCorasickBuilder {
-    /// Returns a builder with the usual settings: `MatchKind::Standard`, unanchored searches alone, case
-    /// counts, the engine is chosen, a contiguous NFA's states of fewer than two bytes are dense, bytes that need
-    /// not be distinguished share a class, and there is a prefilter where the patterns have one.
+    /// Returns a builder with the usual settings: `MatchKind::Standard`, unanchored searches only, the case of letters
+    /// counts, the engine is chosen, states of a contiguous NFA are dense below depth 2, bytes that need not be
+    /// distinguished share a class, and there is a prefilter where the patterns have one. This ports
+    /// `AhoCorasickBuilder::new`.
     pub fn new() -> AhoCorasickBuilder
         ensures { result ≡ usual_settings }
     {
@@ -81,7 +92,7 @@ impl AhoCorasickBuilder {
         }
     }
 
-    /// Returns a builder with the same settings, and takes no memory.
+    /// Returns a builder with the same settings. It takes no memory.
     pub fn clone(&self) -> AhoCorasickBuilder
         ensures { result ≡ self.now }
     {
@@ -91,7 +102,17 @@ impl AhoCorasickBuilder {
         }
     }
 
-    /// Sets which of the occurrences in a span a search answers. `Standard` unless set.
+    /// Sets which of the occurrences in a span a search returns. `MatchKind::Standard` unless set.
+    ///
+    /// Overlapping searches need `MatchKind::Standard`; all other searches serve every match kind. This ports
+    /// `AhoCorasickBuilder::match_kind`.
+    ///
+    /// ```
+    /// let mut builder = AhoCorasickBuilder::new();
+    /// builder.match_kind(MatchKind::LeftmostLongest);
+    /// let searcher = builder.build(alloc, &[b"b", b"abc", b"abcd"])?;
+    /// searcher.try_find(Input::new(b"abcd"))? // pattern 2, 0..4
+    /// ```
     pub fn match_kind(&mut self, kind: MatchKind) -> &mut AhoCorasickBuilder
         ensures value { result.now ≡ record self.old { engine = record self.old.engine { kind = kind } } }
         ensures same { result.ghost_name ≡ self.entry.ghost_name }
@@ -100,7 +121,20 @@ impl AhoCorasickBuilder {
         self
     }
 
-    /// Sets which searches the searcher supports. `Unanchored` unless set.
+    /// Sets which searches the searcher supports: unanchored ones, anchored ones or both. `StartKind::Unanchored`
+    /// unless set.
+    ///
+    /// Any other search is refused, also where the engine could serve it. With `StartKind::Both` no DFA is chosen, and
+    /// one that is named takes about twice the memory. This ports `AhoCorasickBuilder::start_kind`.
+    ///
+    /// ```
+    /// let mut builder = AhoCorasickBuilder::new();
+    /// builder.start_kind(StartKind::Anchored);
+    /// let searcher = builder.build(alloc, &[b"b", b"abc"])?;
+    /// let input = Input::new(b"abcd");
+    /// searcher.try_find(input) // `MatchError::InvalidInputUnanchored`
+    /// searcher.try_find(input.anchored(Anchored::Yes))? // pattern 1, 0..3
+    /// ```
     pub fn start_kind(&mut self, kind: StartKind) -> &mut AhoCorasickBuilder
         ensures value { result.now ≡ record self.old { start_kind = kind } }
         ensures same { result.ghost_name ≡ self.entry.ghost_name }
@@ -109,7 +143,18 @@ impl AhoCorasickBuilder {
         self
     }
 
-    /// Sets whether the case of ASCII letters is ignored. It counts unless set.
+    /// Sets whether searches ignore the case of ASCII letters, `a` to `z` and `A` to `Z`. They don't unless set.
+    ///
+    /// Letters beyond ASCII always differ by case. This ports `AhoCorasickBuilder::ascii_case_insensitive`.
+    ///
+    /// ```
+    /// let mut builder = AhoCorasickBuilder::new();
+    /// builder.ascii_case_insensitive(true);
+    /// let searcher = builder.build(alloc, &[b"Straw", b"BERRY"])?;
+    /// for found in searcher.try_find_iter(Input::new(b"strawberry"))? {
+    ///     // pattern 0, 0..5; pattern 1, 5..10
+    /// }
+    /// ```
     pub fn ascii_case_insensitive(&mut self, yes: bool) -> &mut AhoCorasickBuilder
         ensures value { result.now ≡ record self.old { engine = record self.old.engine { ignores_case = yes } } }
         ensures same { result.ghost_name ≡ self.entry.ghost_name }
@@ -118,7 +163,17 @@ impl AhoCorasickBuilder {
         self
     }
 
-    /// Sets the engine, or with `None` lets the searcher choose. It chooses unless set.
+    /// Names the engine, or with `None` lets `choose_kind` choose it. `None` unless set.
+    ///
+    /// It changes no answer. A named engine serves or the build is refused: `StateIdOverflow` where it would be too
+    /// large. Without a name another engine serves then. This ports `AhoCorasickBuilder::kind`.
+    ///
+    /// ```
+    /// let mut builder = AhoCorasickBuilder::new();
+    /// builder.kind(Some(AhoCorasickKind::DFA));
+    /// let searcher = builder.build(alloc, &[b"foo", b"bar"])?;
+    /// searcher.kind() // AhoCorasickKind::DFA
+    /// ```
     pub fn kind(&mut self, kind: Option<AhoCorasickKind>) -> &mut AhoCorasickBuilder
         ensures value { result.now ≡ record self.old { kind = kind } }
         ensures same { result.ghost_name ≡ self.entry.ghost_name }
@@ -127,12 +182,14 @@ impl AhoCorasickBuilder {
         self
     }
 
-    /// Sets which states of a contiguous NFA are dense, so that they have a target for each class of bytes: those
-    /// of strings shorter than this many bytes. States of more than 127 transitions, the dead state and the starts are
-    /// dense always. It is 2 unless set. The other engines have no use for it.
+    /// Sets below which depth the states of a contiguous NFA are dense. 2 unless set. The other engines have no use for
+    /// it.
     ///
-    /// It changes no answer of a search. Where no engine was named, a contiguous NFA may be too large with more
-    /// dense states, and then the noncontiguous one serves.
+    /// The depth of a state is the length of its string in bytes. A dense state has a target for each class of bytes.
+    /// States of more than 127 transitions, the dead state and the starts are dense always.
+    ///
+    /// It changes no answer of a search. Where no engine was named, a contiguous NFA may be too large with more dense
+    /// states, and then the noncontiguous one serves. This ports `AhoCorasickBuilder::dense_depth`.
     pub fn dense_depth(&mut self, depth: usize) -> &mut AhoCorasickBuilder
         ensures value { result.now ≡ record self.old { dense_depth = depth } }
         ensures same { result.ghost_name ≡ self.entry.ghost_name }
@@ -141,11 +198,11 @@ impl AhoCorasickBuilder {
         self
     }
 
-    /// Sets whether bytes that need not be distinguished share a class, so that a DFA or a contiguous NFA takes
-    /// less memory. They do unless set.
+    /// Sets whether bytes that need not be distinguished share a class, so that a DFA or a contiguous NFA takes less
+    /// memory. They do unless set.
     ///
-    /// It changes no answer of a search. Where no engine was named, an engine may be too large without classes, and then
-    /// another one serves.
+    /// It changes no answer of a search. Where no engine was named, an engine may be too large without classes, and
+    /// then another one serves. This ports `AhoCorasickBuilder::byte_classes`.
     pub fn byte_classes(&mut self, yes: bool) -> &mut AhoCorasickBuilder
         ensures value { result.now ≡ record self.old { byte_classes = yes } }
         ensures same { result.ghost_name ≡ self.entry.ghost_name }
@@ -154,9 +211,9 @@ impl AhoCorasickBuilder {
         self
     }
 
-    /// Sets whether a search may skip ahead by a prefilter, where there is one for the patterns. It may unless set.
+    /// Sets whether searches may skip ahead with a prefilter, where there is one for the patterns. They may unless set.
     ///
-    /// It changes no answer.
+    /// It changes no answer. This ports `AhoCorasickBuilder::prefilter`.
     pub fn prefilter(&mut self, yes: bool) -> &mut AhoCorasickBuilder
         ensures value { result.now ≡ record self.old { engine = record self.old.engine { prefilter = yes } } }
         ensures same { result.ghost_name ≡ self.entry.ghost_name }
@@ -165,16 +222,22 @@ impl AhoCorasickBuilder {
         self
     }
 
-    /// Builds a searcher over a list of patterns. An empty list is fine: nothing is then found.
+    /// Builds a searcher over a list of patterns. An empty list is allowed: such a searcher finds nothing. This ports
+    /// `AhoCorasickBuilder::build`.
     ///
-    /// Where no engine was named `choose_kind` names it: the DFA for at most 100 patterns and one start, else the
-    /// contiguous NFA, else the noncontiguous one; each of the first two unless it would be too large.
+    /// The number of a pattern is its index in the list. Where no engine was named `choose_kind` names it: the DFA for
+    /// at most 100 patterns and a start kind other than `Both`, else the contiguous NFA, else the noncontiguous one;
+    /// each of the first two unless it would be too large.
     ///
     /// # Errors
-    /// `PatternIdOverflow` and `PatternTooLong` exactly where a limit is passed, whether there is memory or
-    /// not. Else `StateIdOverflow` only where the noncontiguous NFA would need more states than there are
-    /// numbers, or where another engine was named that would be too large, and `Memory` where a request for memory is
-    /// refused.
+    /// `PatternIdOverflow` and `PatternTooLong` exactly where a limit is passed, whether there is memory or not. Else
+    /// `StateIdOverflow` only where the noncontiguous NFA would need more states than there are numbers, or where
+    /// another engine was named that would be too large, and `Memory` where a request for memory is refused.
+    ///
+    /// ```
+    /// let searcher = AhoCorasickBuilder::new().build(alloc, &[b"foo", b"bar", b"baz"])?;
+    /// searcher.try_find(Input::new(b"xxx bar xxx"))? // pattern 1, 4..7
+    /// ```
     pub fn build<A: Allocator + Clone>(
         &self,
         alloc: A,
@@ -190,7 +253,8 @@ impl AhoCorasickBuilder {
         Ok(AhoCorasick::new_by(engine, self.start_kind))
     }
 
-    /// Returns the engine that was named, or else the one that is chosen over this automaton.
+    /// Returns the engine that was named, or else the one that is chosen, for a searcher built from this noncontiguous
+    /// NFA.
     fn kind_over<A: Allocator>(&self, nfa: &noncontiguous::NFA<A>) -> AhoCorasickKind
         ensures { result ≡ engine_chosen_from self.now nfa.now.built }
     {
@@ -207,7 +271,7 @@ impl AhoCorasickBuilder {
         )
     }
 
-    /// Returns the engine of this name, built from an automaton.
+    /// Returns the engine of this kind, built from a noncontiguous NFA.
     fn engine_over<A: Allocator + Clone>(
         &self,
         kind: AhoCorasickKind,
@@ -226,7 +290,7 @@ impl AhoCorasickBuilder {
         }
     }
 
-    /// Returns the contiguous NFA that is built from an automaton.
+    /// Returns the contiguous NFA that is built from a noncontiguous one.
     fn contiguous_over<A: Allocator + Clone>(
         &self,
         nfa: &noncontiguous::NFA<A>,
@@ -241,7 +305,7 @@ impl AhoCorasickBuilder {
         Ok(Engine::Contiguous(Rc::new(alloc.clone()?, engine)?))
     }
 
-    /// Returns the DFA that is built from an automaton.
+    /// Returns the DFA that is built from a noncontiguous NFA.
     fn dfa_over<A: Allocator + Clone>(
         &self,
         nfa: &noncontiguous::NFA<A>,
@@ -254,7 +318,7 @@ impl AhoCorasickBuilder {
         Ok(Engine::Dfa(Rc::new(alloc.clone()?, engine)?))
     }
 
-    /// Returns the builder of a contiguous NFA with this dense depth and these classes.
+    /// Returns the builder of a contiguous NFA with this builder's dense depth and byte classes.
     fn contiguous(&self) -> contiguous::Builder
         ensures dense_depth { result.dense_depth ≡ self.now.dense_depth }
         ensures byte_classes { result.byte_classes ≡ self.now.byte_classes }
@@ -265,7 +329,7 @@ impl AhoCorasickBuilder {
         contiguous
     }
 
-    /// Returns the builder of a DFA with these starts and classes.
+    /// Returns the builder of a DFA with this builder's start kind and byte classes.
     fn dfa(&self) -> dfa::Builder
         ensures start_kind { result.start_kind ≡ self.now.start_kind }
         ensures byte_classes { result.byte_classes ≡ self.now.byte_classes }

@@ -1,28 +1,34 @@
-//! Which engine serves a searcher.
+//! The choice of the engine that serves a searcher.
 ghost use Rattle.std.specs.Prelude.{◌≡◌};
 ghost use Rattle.ac_search.specs.Searchers.{choose_kind, suits_dfa};
 
 use ac_util::search::StartKind;
 
-/// The greatest number of patterns for which a searcher chooses the DFA.
+/// The most patterns for which a searcher chooses the DFA.
 pub const MOST_FOR_DFA: usize = 100;
 
-/// An engine that serves a searcher.
+/// The engines that can serve a searcher. This ports `AhoCorasickKind`.
 #[derive(Clone, Copy, PartialEq, Eq, Debug)]
 pub enum AhoCorasickKind {
-    /// `nfa::noncontiguous::NFA`.
+    /// `nfa::noncontiguous::NFA`, which is quickly built.
     NoncontiguousNFA,
-    /// `nfa::contiguous::NFA`.
+    /// `nfa::contiguous::NFA`, which takes little memory.
     ContiguousNFA,
-    /// `dfa::DFA`.
+    /// `dfa::DFA`, the fastest to search with, and the largest.
     DFA,
 }
 
-/// Returns the engine that a searcher over so many patterns takes where none was named, by whether a DFA would be
-/// within its limit, and a contiguous NFA within its own.
+/// Returns the engine that a searcher over so many patterns takes where none was named. The last two arguments say
+/// whether a DFA would be within its limit, and whether a contiguous NFA would be within its own.
 ///
-/// The DFA serves at most 100 patterns and one start, where it fits; else the contiguous NFA serves, where that
-/// fits; else the noncontiguous one.
+/// The DFA serves at most 100 patterns and a start kind other than `Both`, where it fits; else the contiguous NFA
+/// serves, where that fits; else the noncontiguous one.
+///
+/// ```
+/// choose_kind(3, StartKind::Unanchored, true, true) // AhoCorasickKind::DFA
+/// choose_kind(3, StartKind::Both, true, true) // AhoCorasickKind::ContiguousNFA
+/// choose_kind(101, StartKind::Unanchored, true, false) // AhoCorasickKind::NoncontiguousNFA
+/// ```
 pub fn choose_kind(
     patterns_len: usize,
     start_kind: StartKind,
@@ -40,7 +46,7 @@ pub fn choose_kind(
     }
 }
 
-/// Returns whether a DFA over so many patterns is worth its size, where no engine was named.
+/// Returns whether so many patterns are few enough for a DFA, and their searches have one start.
 fn suits_dfa(start_kind: StartKind, patterns: usize) -> bool
     ensures { result ≡ suits_dfa start_kind patterns }
 {

@@ -24,7 +24,7 @@ pub(super) enum Engine<A: Allocator> {
 }
 
 impl<A: Allocator> Engine<A> {
-    /// Returns the same engine once more.
+    /// Returns another handle to the same engine.
     ///
     /// # Errors
     /// `AllocError` where a request for memory is refused.
@@ -52,7 +52,7 @@ impl<A: Allocator> Engine<A> {
         }
     }
 
-    /// Returns what the engine has whatever its states are.
+    /// Returns what every engine has, whatever its states are.
     pub(super) fn common(&self) -> &Common<A>
         ensures { result.now ≡ common_of (built_of self.now) (wants_prefilter_of self.now) }
     {
@@ -63,7 +63,7 @@ impl<A: Allocator> Engine<A> {
         }
     }
 
-    /// Returns about how many bytes of memory the engine takes. Nothing is promised of the number.
+    /// Returns about how many bytes of memory the engine takes. Nothing is promised about the number.
     pub(super) fn memory_usage(&self) -> usize {
         match self {
             Engine::Noncontiguous(nfa) => nfa.as_ref().memory_usage(),
@@ -73,7 +73,7 @@ impl<A: Allocator> Engine<A> {
     }
 }
 
-/// The iterator of an engine over the matches of a walk.
+/// An engine's iterator over the matches of a walk.
 #[derive(Drop)]
 pub(super) enum EngineFindIter<'a, 'h, A: Allocator> {
     Noncontiguous(automaton::FindIter<'a, 'h, noncontiguous::NFA<A>>),
@@ -95,7 +95,7 @@ impl<'a, 'h, A: Allocator> EngineFindIter<'a, 'h, A> {
     }
 }
 
-/// The iterator of an engine over the listing.
+/// An engine's iterator over the listing.
 #[derive(Drop)]
 pub(super) enum EngineFindOverlappingIter<'a, 'h, A: Allocator> {
     Noncontiguous(automaton::FindOverlappingIter<'a, 'h, noncontiguous::NFA<A>>),
@@ -117,7 +117,7 @@ impl<'a, 'h, A: Allocator> EngineFindOverlappingIter<'a, 'h, A> {
     }
 }
 
-/// The search of an engine over a stream.
+/// An engine's search of a stream.
 #[derive(Drop)]
 pub(super) enum EngineStreamFinder<'a, A: Allocator, Z: Allocator> {
     Noncontiguous(automaton::StreamFinder<'a, noncontiguous::NFA<A>, Z>),

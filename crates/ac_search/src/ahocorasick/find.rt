@@ -1,4 +1,4 @@
-//! The finds and the walks of a searcher.
+//! Finds, and walks over the matches that don't overlap.
 ghost use Rattle.std.specs.Prelude.{◌≡◌, ◌↔◌, IsTrue, None};
 ghost use Rattle.std.specs.Iterator.{item_count};
 ghost use Rattle.std.specs.Iterator.Runs.{YieldsInOrder};
@@ -15,10 +15,18 @@ use std::alloc::{Allocator, Global};
 use std::marker::Model;
 
 impl<A: Allocator> AhoCorasick<A> {
-    /// Returns whether some pattern occurs in the span of the input, or if it is anchored at its start.
+    /// Returns whether some pattern occurs in the input's span. If the input is anchored, only an occurrence that
+    /// starts where the span starts counts. This ports `AhoCorasick::is_match`.
     ///
-    /// The searcher has to support the input's anchoring. `laws::finds_if_something_occurs` says that this is
-    /// whether `find` answers a match.
+    /// The search ends as soon as it knows of an occurrence, so under a leftmost kind it may read less than `find`. The
+    /// searcher has to support the input's anchoring; where that isn't known, call `try_find` with `Input::earliest`.
+    /// `laws::finds_if_something_occurs` says that this is whether `find` returns a match.
+    ///
+    /// ```
+    /// // a searcher over "foo", "bar" and "quux"
+    /// searcher.is_match(Input::new(b"xxx bar xxx")) // true
+    /// searcher.is_match(Input::new(b"xxx qux xxx")) // false
+    /// ```
     #[inline]
     pub fn is_match(&self, input: Input<'_>) -> bool
         requires supported { find_refusal self.now.built (input_of input) ≡ None }
@@ -28,16 +36,23 @@ impl<A: Allocator> AhoCorasick<A> {
         self.find(input.earliest(true)).is_some()
     }
 
-    /// Returns the match that the match kind picks of all that occur in the span of the input, or with
-    /// `earliest` the one that `MatchKind::Standard` picks.
+    /// Returns the match that the match kind picks from all occurrences in the input's span, or `None` if nothing
+    /// occurs there. This ports `AhoCorasick::find`.
     ///
-    /// The searcher has to support the input's anchoring. `laws::answers_lie_inside` says that the match lies in
-    /// the span, so that the haystack can be sliced by it, and `laws::answers_cut_no_character` the same of a
-    /// text; `laws::pick_comes_first` says that nothing else can be picked.
+    /// Offsets count bytes of the whole haystack, wherever the span starts; an end is one past the last byte. With
+    /// `Input::earliest` the match is the one that `MatchKind::Standard` picks, under every match kind.
+    ///
+    /// The searcher has to support the input's anchoring; `try_find` returns an error where it doesn't.
+    /// `laws::answers_lie_inside` says that the match lies in the span, so that the haystack can be sliced by it, and
+    /// `laws::answers_cut_no_character` says the same of a text; `laws::pick_comes_first` says that nothing else can be
+    /// picked.
     ///
     /// ```
-    /// // a searcher over "append", "appendage" and "app", by `MatchKind::LeftmostLongest`
-    /// searcher.find(Input::new(b"the appendage")) // pattern 1, 4..13
+    /// // a searcher over "b", "abc" and "abcd"
+    /// searcher.find(Input::new(b"abcd"))
+    /// // `MatchKind::Standard`: pattern 0, 1..2, which ends first
+    /// // `MatchKind::LeftmostFirst`: pattern 1, 0..3, the first pattern of those that start first
+    /// // `MatchKind::LeftmostLongest`: pattern 2, 0..4, the longest of those that start first
     /// ```
     #[inline]
     pub fn find(&self, input: Input<'_>) -> Option<Match>
@@ -50,16 +65,16 @@ impl<A: Allocator> AhoCorasick<A> {
         found
     }
 
-    /// Returns an iterator over the matches of the input that don't overlap, each picked from where the one
-    /// before it ended.
+    /// Returns an iterator over the matches of the input that don't overlap: the match kind picks each from where the
+    /// one before it ended. This ports `AhoCorasick::find_iter`.
     ///
-    /// The searcher has to support the input's anchoring. `laws::answers_lie_inside` says that all matches lie
-    /// in the span, and how many there are at most, and `laws::answers_cut_no_character` that those of a text
-    /// can slice it: call one before a loop over the matches. `laws::walk_is_in_order` says that they don't
-    /// overlap.
+    /// The searcher has to support the input's anchoring; `try_find_iter` returns an error where it doesn't.
+    /// `laws::answers_lie_inside` says that all matches lie in the span, and how many there are at most, and
+    /// `laws::answers_cut_no_character` that those of a text can slice it: call one before a loop over the matches.
+    /// `laws::walk_is_in_order` says that they don't overlap.
     ///
     /// ```
-    /// // a searcher over "append", "appendage" and "app", by `MatchKind::LeftmostFirst`
+    /// // a searcher over "append", "appendage" and "app", with `MatchKind::LeftmostFirst`
     /// for found in searcher.find_iter(Input::new(b"append the app to the appendage")) {
     ///     // pattern 0, 0..6; pattern 2, 11..14; pattern 0, 22..28
     /// }
@@ -77,11 +92,19 @@ impl<A: Allocator> AhoCorasick<A> {
         matches
     }
 
-    /// Returns the same as `find`.
+    /// Returns what `find` returns, or an error where the searcher doesn't support the search. This ports
+    /// `AhoCorasick::try_find`.
     ///
     /// # Errors
-    /// `InvalidInputAnchored` or `InvalidInputUnanchored` where the searcher doesn't support the input's
-    /// anchoring.
+    /// `InvalidInputAnchored` where the input is anchored and the searcher supports unanchored searches only;
+    /// `InvalidInputUnanchored` where it is the other way around. The haystack has no influence on this.
+    ///
+    /// ```
+    /// // a searcher over "bar", with `StartKind::Unanchored`
+    /// let input = Input::new(b"foo bar");
+    /// searcher.try_find(input)? // pattern 0, 4..7
+    /// searcher.try_find(input.anchored(Anchored::Yes)) // `MatchError::InvalidInputAnchored`
+    /// ```
     #[inline]
     pub fn try_find(&self, input: Input<'_>) -> Result<Option<Match>, MatchError>
         ensures { AnswersUnless (find_refusal self.now.built (input_of input.entry))
@@ -95,7 +118,8 @@ impl<A: Allocator> AhoCorasick<A> {
         }
     }
 
-    /// Returns the same as `find_iter`.
+    /// Returns what `find_iter` returns, or an error where the searcher doesn't support the search. This ports
+    /// `AhoCorasick::try_find_iter`.
     ///
     /// # Errors
     /// As `try_find`.
@@ -124,10 +148,9 @@ impl<A: Allocator> AhoCorasick<A> {
 
 /// An iterator over the matches of an input that don't overlap, made by `AhoCorasick::find_iter`.
 ///
-/// After its end it keeps giving `None`. Contracts see the matches still to come, and what was read and counted
-/// since it was made: a call makes one find, or two where the first finds an empty match again at the end of the
-/// one before, and under `MatchKind::Standard`, or with `earliest`, all calls together keep the bounds of one
-/// find.
+/// After the last match it keeps returning `None`. Contracts see the matches still to come, and what was read and
+/// counted since it was made. A call makes one find, or two where the first finds an empty match again at the end of
+/// the match before. Under `MatchKind::Standard`, or with `earliest`, all calls together keep the bounds of one find.
 #[derive(Drop)]
 pub struct FindIter<'a, 'h, A: Allocator = Global> {
     pub(super) matches: EngineFindIter<'a, 'h, A>,

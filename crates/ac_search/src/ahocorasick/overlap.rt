@@ -1,4 +1,4 @@
-//! The overlapping searches of a searcher.
+//! Overlapping searches.
 ghost use Rattle.std.specs.Prelude.{◌≡◌, MatchResult, None};
 ghost use Rattle.std.specs.Iterator.{item_count};
 ghost use Rattle.std.specs.Iterator.Runs.{YieldsInOrder};
@@ -16,20 +16,29 @@ use std::alloc::{Allocator, Global};
 use std::marker::Model;
 
 impl<A: Allocator> AhoCorasick<A> {
-    /// Gives the next item of the listing of the input: all that occur in its span, each once, by their ends, then
-    /// their starts, then their patterns. `OverlappingState::get_match` returns it, and `None` at every call past the
-    /// last item.
+    /// Moves on to the next occurrence in the listing of the input: `OverlappingState::get_match` then returns it. This
+    /// ports `AhoCorasick::find_overlapping`.
     ///
-    /// The searcher has to support the input's anchoring, and its match kind to be `MatchKind::Standard`. The state
-    /// has to be fresh, or left by this searcher over this same input. An anchored search gives what starts at the
-    /// span's start. `laws::listing_is_exact` says what the listing has, and `laws::answers_lie_inside` that all of
-    /// it lies in the span.
+    /// The listing has each occurrence in the span once, ordered by end, then by start, then by pattern number. If the
+    /// input is anchored, it has only those that start where the span starts. After the last one `get_match` returns
+    /// `None`, however often this is called again. `laws::listing_is_exact` says what the listing has, and
+    /// `laws::answers_lie_inside` that all of it lies in the span.
+    ///
+    /// The searcher has to support the input's anchoring, and its match kind has to be `MatchKind::Standard`. The state
+    /// has to be fresh, or left by this searcher over this same input.
     ///
     /// ```
-    /// // a searcher over "append", "appendage" and "app", by `MatchKind::Standard`
+    /// // a searcher over "append", "appendage" and "app", with `MatchKind::Standard`
+    /// let input = Input::new(b"append the app");
     /// let mut state = OverlappingState::start();
-    /// searcher.find_overlapping(Input::new(b"append the app"), &mut state);
-    /// state.get_match() // pattern 2, 0..3; pattern 0, 0..6 after one more call
+    /// searcher.find_overlapping(input, &mut state);
+    /// state.get_match() // pattern 2, 0..3
+    /// searcher.find_overlapping(input, &mut state);
+    /// state.get_match() // pattern 0, 0..6
+    /// searcher.find_overlapping(input, &mut state);
+    /// state.get_match() // pattern 2, 11..14
+    /// searcher.find_overlapping(input, &mut state);
+    /// state.get_match() // None
     /// ```
     #[inline]
     pub fn find_overlapping(&self, input: Input<'_>, state: &mut OverlappingState)
@@ -47,14 +56,15 @@ impl<A: Allocator> AhoCorasick<A> {
         };
     }
 
-    /// Returns an iterator over the listing of the input, as `find_overlapping` gives it.
+    /// Returns an iterator over all occurrences in the input's span, in the order of `find_overlapping`. This ports
+    /// `AhoCorasick::find_overlapping_iter`.
     ///
-    /// The searcher has to support unanchored searches, its match kind to be `MatchKind::Standard`, and the input to
-    /// be unanchored. `laws::answers_lie_inside` says that all items lie in the span: call it before a loop over
-    /// them.
+    /// The searcher has to support unanchored searches, its match kind has to be `MatchKind::Standard`, and the input
+    /// has to be unanchored. `laws::answers_lie_inside` says that all occurrences lie in the span: call it before a
+    /// loop over them.
     ///
     /// ```
-    /// // a searcher over "append", "appendage" and "app", by `MatchKind::Standard`
+    /// // a searcher over "append", "appendage" and "app", with `MatchKind::Standard`
     /// for found in searcher.find_overlapping_iter(Input::new(b"append the app")) {
     ///     // pattern 2, 0..3; pattern 0, 0..6; pattern 2, 11..14
     /// }
@@ -75,11 +85,14 @@ impl<A: Allocator> AhoCorasick<A> {
         items
     }
 
-    /// Does the same as `find_overlapping`. The state has to be as there.
+    /// Does what `find_overlapping` does, or returns an error where the searcher doesn't support the search. This ports
+    /// `AhoCorasick::try_find_overlapping`.
+    ///
+    /// The state has to be fresh, or left by this searcher over this same input.
     ///
     /// # Errors
-    /// As `try_find`, else `UnsupportedOverlapping` where the match kind isn't `MatchKind::Standard`. Then the state
-    /// is as it was.
+    /// As `try_find`, else `UnsupportedOverlapping` where the match kind isn't `MatchKind::Standard`. The state is then
+    /// as it was.
     #[inline]
     pub fn try_find_overlapping(
         &self,
@@ -101,10 +114,11 @@ impl<A: Allocator> AhoCorasick<A> {
         }
     }
 
-    /// Returns the same as `find_overlapping_iter`.
+    /// Returns what `find_overlapping_iter` returns, or an error where the searcher doesn't support the search. This
+    /// ports `AhoCorasick::try_find_overlapping_iter`.
     ///
     /// # Errors
-    /// As `try_find_overlapping`, and else `InvalidInputAnchored` for an anchored input.
+    /// As `try_find_overlapping`, else `InvalidInputAnchored` for an anchored input.
     #[inline]
     pub fn try_find_overlapping_iter<'a, 'h>(
         &'a self,
@@ -136,9 +150,9 @@ impl<A: Allocator> AhoCorasick<A> {
 
 /// An iterator over all occurrences in the span of an input, made by `AhoCorasick::find_overlapping_iter`.
 ///
-/// After its end it keeps giving `None`. Contracts see the items still to come, and what was read and counted since
-/// it was made: all calls together read each byte of the span at most once, and none past the end of the item that
-/// was given last.
+/// After the last occurrence it keeps returning `None`. Contracts see the occurrences still to come, and what was read
+/// and counted since it was made: all calls together read each byte of the span at most once, and none past the end of
+/// the occurrence that was returned last.
 #[derive(Drop)]
 pub struct FindOverlappingIter<'a, 'h, A: Allocator = Global> {
     pub(super) items: EngineFindOverlappingIter<'a, 'h, A>,

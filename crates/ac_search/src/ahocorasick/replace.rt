@@ -1,4 +1,4 @@
-//! Replacement by a searcher.
+//! Replacement of the matches of a haystack in memory.
 ghost use Rattle.std.specs.Prelude.{◌≡◌, Err, IfErr, IfOk, MatchResult, None, Ok, Some, length, string_bytes};
 ghost use Rattle.ac_automaton.specs.Util.{AnswersWhole, bytes_of, exchanged, exchanged_in_text, MakesSteps, replace_refusal, replaced, StepsLead};
 
@@ -10,19 +10,21 @@ use ac_util::search::{Anchored, Match};
 use std::alloc::{AllocError, Allocator};
 
 impl<A: Allocator> AhoCorasick<A> {
-    /// Returns the text with each match of the walk over it exchanged for the text of its pattern. A match that cuts
-    /// a character is left as it is; the walk isn't taken again without it.
+    /// Returns the haystack with each match of `find_iter` over it replaced by the text of its pattern: `texts[2]`
+    /// replaces pattern 2. This ports `AhoCorasick::replace_all`.
     ///
-    /// There have to be as many texts as patterns, and the searcher has to support unanchored searches.
-    ///
-    /// ```
-    /// // a searcher over "append", "appendage" and "app", by `MatchKind::LeftmostFirst`
-    /// searcher.replace_all(alloc, "append the app to the appendage", &["x", "y", "z"])?
-    /// // "x the z to the xage"
-    /// ```
+    /// A match that starts or ends inside a character is left as it is; the walk isn't taken again without it. There
+    /// have to be as many texts as patterns, and the searcher has to support unanchored searches; `try_replace_all`
+    /// returns an error where it doesn't.
     ///
     /// # Errors
     /// `AllocError` where a request for memory is refused.
+    ///
+    /// ```
+    /// // a searcher over "append", "appendage" and "app", with `MatchKind::LeftmostFirst`
+    /// searcher.replace_all(alloc, "append the app to the appendage", &["x", "y", "z"])?
+    /// // "x the z to the xage"
+    /// ```
     pub fn replace_all<Z: Allocator>(
         &self,
         alloc: Z,
@@ -37,12 +39,21 @@ impl<A: Allocator> AhoCorasick<A> {
         unrefused(self.try_replace_all(alloc, haystack, texts))
     }
 
-    /// Returns the haystack with each match of the walk over it exchanged for the text of its pattern.
+    /// Returns the haystack with each match of `find_iter` over it replaced by the text of its pattern: `texts[2]`
+    /// replaces pattern 2. This ports `AhoCorasick::replace_all_bytes`.
     ///
-    /// There have to be as many texts as patterns, and the searcher has to support unanchored searches.
+    /// Every match is replaced, since bytes have no characters that one could cut. There have to be as many texts as
+    /// patterns, and the searcher has to support unanchored searches; `try_replace_all_bytes` returns an error where it
+    /// doesn't.
     ///
     /// # Errors
     /// `AllocError` where a request for memory is refused.
+    ///
+    /// ```
+    /// // a searcher over "fox", "brown" and "quick"
+    /// searcher.replace_all_bytes(alloc, b"The quick brown fox.", &[b"sloth", b"grey", b"slow"])?
+    /// // b"The slow grey sloth."
+    /// ```
     pub fn replace_all_bytes<Z: Allocator>(
         &self,
         alloc: Z,
@@ -57,22 +68,25 @@ impl<A: Allocator> AhoCorasick<A> {
         unrefused(self.try_replace_all_bytes(alloc, haystack, texts))
     }
 
-    /// Appends the text to the destination, with a call of the closure at each match that cuts no character: it is
-    /// handed the match, the slice of the text that matched, and the destination, to which it appends what it
-    /// exchanges the match for. After an answer `false` it is called no more, and the rest is appended.
+    /// Appends the haystack to the destination, and calls the closure at each match of `find_iter` over it, except at
+    /// those that start or end inside a character. This ports `AhoCorasick::replace_all_with`.
     ///
-    /// The searcher has to support unanchored searches, and the closure may be called at each match and destination.
-    /// `laws::text_closure_exchanges` says what a closure leaves that appends at each call.
+    /// The closure is handed the match, the slice that matched and the destination, to which it appends what replaces
+    /// the match. It returns whether to go on: after `false` it isn't called again, and the rest of the haystack is
+    /// appended as it is.
+    ///
+    /// The searcher has to support unanchored searches, and the closure may be called with any match and destination.
+    /// `laws::text_closure_exchanges` says what is left by a closure that appends at each call.
+    ///
+    /// # Errors
+    /// `AllocError` where a request for memory is refused. The destination is then as the steps before left it.
     ///
     /// ```
-    /// // a searcher over "append", "appendage" and "app", by `MatchKind::LeftmostFirst`
+    /// // a searcher over "append", "appendage" and "app", with `MatchKind::LeftmostFirst`
     /// searcher.replace_all_with("append the app", &mut destination, |_, slice, destination| {
     ///     destination.push_str(slice).is_ok() && destination.push_str("!").is_ok()
     /// })?; // appends "append! the app!"
     /// ```
-    ///
-    /// # Errors
-    /// `AllocError` where a request for memory is refused. The destination is as the steps before left it.
     pub fn replace_all_with<F>(
         &self,
         haystack: &str,
@@ -93,11 +107,20 @@ impl<A: Allocator> AhoCorasick<A> {
         unrefused(self.try_replace_all_with(haystack, destination, exchange))
     }
 
-    /// Does the same as `replace_all_with` with a haystack of bytes, and with all matches.
-    /// `laws::closure_exchanges` says what a closure leaves that appends at each call.
+    /// Appends the haystack to the destination, and calls the closure at each match of `find_iter` over it, as
+    /// `replace_all_with` does for a text. This ports `AhoCorasick::replace_all_with_bytes`.
+    ///
+    /// `laws::closure_exchanges` says what is left by a closure that appends at each call.
     ///
     /// # Errors
     /// As `replace_all_with`.
+    ///
+    /// ```
+    /// // a searcher over "password"
+    /// searcher.replace_all_with_bytes(b"a password here", &mut destination, |_, _, destination| {
+    ///     destination.extend_from_slice(b"***").is_ok()
+    /// })?; // appends b"a *** here"
+    /// ```
     pub fn replace_all_with_bytes<F>(
         &self,
         haystack: &[u8],
@@ -117,11 +140,14 @@ impl<A: Allocator> AhoCorasick<A> {
         unrefused(self.try_replace_all_with_bytes(haystack, destination, exchange))
     }
 
-    /// Returns the same as `replace_all`. There have to be as many texts as patterns.
+    /// Returns what `replace_all` returns, or an error where the searcher doesn't support unanchored searches. This
+    /// ports `AhoCorasick::try_replace_all`.
+    ///
+    /// There have to be as many texts as patterns.
     ///
     /// # Errors
-    /// `ReplaceError::Match` with `InvalidInputUnanchored` where the searcher doesn't support unanchored searches,
-    /// else `ReplaceError::Memory` where a request for memory is refused.
+    /// `ReplaceError::Match` with `InvalidInputUnanchored` where the searcher doesn't support unanchored searches, else
+    /// `ReplaceError::Memory` where a request for memory is refused.
     pub fn try_replace_all<Z: Allocator>(
         &self,
         alloc: Z,
@@ -142,7 +168,10 @@ impl<A: Allocator> AhoCorasick<A> {
         }
     }
 
-    /// Returns the same as `replace_all_bytes`. There have to be as many texts as patterns.
+    /// Returns what `replace_all_bytes` returns, or an error where the searcher doesn't support unanchored searches.
+    /// This ports `AhoCorasick::try_replace_all_bytes`.
+    ///
+    /// There have to be as many texts as patterns.
     ///
     /// # Errors
     /// As `try_replace_all`.
@@ -167,11 +196,14 @@ impl<A: Allocator> AhoCorasick<A> {
         }
     }
 
-    /// Does the same as `replace_all_with`. The closure may be called at each match and destination.
+    /// Does what `replace_all_with` does, or returns an error where the searcher doesn't support unanchored searches.
+    /// This ports `AhoCorasick::try_replace_all_with`.
+    ///
+    /// The closure may be called with any match and destination.
     ///
     /// # Errors
-    /// As `try_replace_all`. Where the search is refused the destination is as it was, and where memory is, as the
-    /// steps before left it.
+    /// As `try_replace_all`. Where the search is refused the destination is as it was; where memory is refused it is as
+    /// the steps before left it.
     pub fn try_replace_all_with<F>(
         &self,
         haystack: &str,
@@ -200,7 +232,10 @@ impl<A: Allocator> AhoCorasick<A> {
         }
     }
 
-    /// Does the same as `replace_all_with_bytes`. The closure may be called at each match and destination.
+    /// Does what `replace_all_with_bytes` does, or returns an error where the searcher doesn't support unanchored
+    /// searches. This ports `AhoCorasick::try_replace_all_with_bytes`.
+    ///
+    /// The closure may be called with any match and destination.
     ///
     /// # Errors
     /// As `try_replace_all_with`.
@@ -233,7 +268,7 @@ impl<A: Allocator> AhoCorasick<A> {
     }
 }
 
-/// Returns what a replacement answers that nothing but want of memory can stop.
+/// Returns the outcome of a replacement that only a refused request for memory can stop.
 fn unrefused<T: Drop>(outcome: Result<T, ReplaceError>) -> Result<T, AllocError>
     requires { IfErr outcome (λ e. e ≡ ReplaceError.Memory) }
     ensures { MatchResult result (λ value. outcome ≡ Ok value) (λ _. outcome ≡ Err ReplaceError.Memory) }

@@ -1,4 +1,4 @@
-//! The search of a stream by a searcher.
+//! Searches of streams, and replacement in them.
 ghost use Rattle.std.specs.Prelude.{◌≡◌, ◌⊎◌, Err, IfErr, IfOk, MatchResult, None, Ok, length, ⊤};
 ghost use Rattle.std.specs.Iterator.{at_most};
 ghost use Rattle.ac_automaton.specs.Util.{AnswersStream, bytes_of, FailsToReplace, FailsToReplaceWith, IsStreamRefused, ReplacesStream, ReplacesStreamWith, stream_refusal};
@@ -17,25 +17,28 @@ use std::io;
 use std::marker::Model;
 
 impl<A: Allocator> AhoCorasick<A> {
-    /// Returns an iterator over the matches of all that a reader gives. They are those of `find_iter` over all its bytes,
-    /// however it cuts them. Offsets count bytes from 0 over the whole stream, and a match goes from its start up to, but
-    /// without, its end.
+    /// Returns an iterator over the matches of all bytes that a reader gives: those of `find_iter` over these bytes,
+    /// however the reads cut them. This ports `AhoCorasick::stream_find_iter`, which supports `MatchKind::Standard`
+    /// only.
     ///
-    /// A match is settled, and given, once it is seen that no byte to come can change it: under `MatchKind::Standard` when
-    /// it is found, under a leftmost kind by the bytes after it, at the latest one byte later than that is so, or by the
-    /// end. Nothing is read before the first match is asked for. The allocator makes one buffer, which never grows. The
-    /// searcher has to support unanchored searches, and no pattern may be empty. This ports
-    /// `AhoCorasick::stream_find_iter`, which takes `MatchKind::Standard` alone.
+    /// Offsets count bytes of the whole stream from 0; an end is one past the last byte. A match is returned once it is
+    /// settled, which means that the search has seen that no byte to come can change it. Under `MatchKind::Standard`
+    /// that is when it is found. Under a leftmost kind the bytes after it settle it, at the latest one byte after no
+    /// byte to come can change it, or else the end of the stream does.
+    ///
+    /// Nothing is read before the first match is asked for. The allocator makes one buffer, which never grows. The
+    /// searcher has to support unanchored searches, and no pattern may be empty; `try_stream_find_iter` returns an
+    /// error otherwise.
+    ///
+    /// # Errors
+    /// `AllocError` where the memory for the buffer is refused.
     ///
     /// ```
-    /// // a searcher over "append", "appendage" and "app", by `MatchKind::Standard`
+    /// // a searcher over "append", "appendage" and "app", with `MatchKind::Standard`
     /// for found in searcher.stream_find_iter(alloc, Bytes::new(b"append the app"))? {
     ///     let found = found?; // pattern 2, 0..3; pattern 2, 11..14
     /// }
     /// ```
-    ///
-    /// # Errors
-    /// `AllocError` where the memory for the buffer is refused.
     pub fn stream_find_iter<R: Source + Drop, Z: Allocator>(
         &self,
         alloc: Z,
@@ -47,12 +50,13 @@ impl<A: Allocator> AhoCorasick<A> {
         unrefused(self.try_stream_find_iter(alloc, reader))
     }
 
-    /// Returns the same as `stream_find_iter`. This ports `AhoCorasick::try_stream_find_iter`.
+    /// Returns what `stream_find_iter` returns, or an error where the searcher doesn't support the search. This ports
+    /// `AhoCorasick::try_stream_find_iter`.
     ///
     /// # Errors
-    /// `StreamError::Match` with `InvalidInputUnanchored` where the searcher doesn't support unanchored searches, else with
-    /// `UnsupportedEmpty` where some pattern is empty; else `StreamError::Memory` where the memory for the buffer is refused.
-    /// Nothing was read then.
+    /// `StreamError::Match` with `InvalidInputUnanchored` where the searcher doesn't support unanchored searches, else
+    /// with `UnsupportedEmpty` where some pattern is empty; else `StreamError::Memory` where the memory for the buffer
+    /// is refused. Nothing was read then.
     pub fn try_stream_find_iter<R: Source + Drop, Z: Allocator>(
         &self,
         alloc: Z,
@@ -66,12 +70,19 @@ impl<A: Allocator> AhoCorasick<A> {
         Ok(StreamFindIter { finder, reader })
     }
 
-    /// Writes what a reader gives, with each match of `find_iter` over all its bytes exchanged for the text of its pattern.
+    /// Writes all bytes that a reader gives, with each match of `find_iter` over them replaced by the text of its
+    /// pattern: `texts[2]` replaces pattern 2. This ports `AhoCorasick::try_stream_replace_all`.
     ///
-    /// It reads as it goes and writes as it goes: before each read all of the replaced text was written but for the bytes
-    /// that a match to come may still need, no more than the longest pattern has. The allocator makes two buffers, which never
-    /// grow, one for what is read and one of 65,536 bytes for what is written; no other memory is taken. The writer isn't
-    /// flushed. There have to be as many texts as patterns. This ports `AhoCorasick::try_stream_replace_all`.
+    /// It writes while it reads: before each read all of the replaced text was written except for the bytes that a
+    /// match to come may still need, which are no more than the longest pattern has. The allocator makes two buffers,
+    /// which never grow: one for what is read, and one of 65,536 bytes for what is written; no other memory is taken.
+    /// The writer isn't flushed. There have to be as many texts as patterns.
+    ///
+    /// # Errors
+    /// Those of `try_stream_find_iter`: then nothing was read or written. `Io` where a read or a write failed, and
+    /// `TooLong` where more bytes came than a `usize` counts: what was written before that read stays written.
+    /// `WriteZero` where a write took no byte. Where a write failed or took nothing, a beginning of the replaced text
+    /// of what was read was written.
     ///
     /// ```
     /// // a searcher over "fox", "brown" and "quick"
@@ -80,11 +91,6 @@ impl<A: Allocator> AhoCorasick<A> {
     /// searcher.try_stream_replace_all(alloc, &mut reader, &mut writer, &[b"sloth", b"grey", b"slow"])?;
     /// // writes "The slow grey sloth."
     /// ```
-    ///
-    /// # Errors
-    /// Those of `try_stream_find_iter`: then nothing was read or written. `Io` where a read or a write failed, and `TooLong`
-    /// where more bytes came than a `usize` counts: what was written before that read stands. `WriteZero` where a write took
-    /// no byte. Where a write failed or took nothing, a beginning of the replaced text of what was read was written.
     pub fn try_stream_replace_all<R: Source, W: Sink, Z: Allocator>(
         &self,
         alloc: Z,
@@ -113,15 +119,34 @@ impl<A: Allocator> AhoCorasick<A> {
         }
     }
 
-    /// Does the same as `try_stream_replace_all` with a call of the closure at each match: it is handed the match, with
-    /// offsets over the whole stream, the slice that matched, and the writer, to which it writes what it exchanges the match
-    /// for. What stands before a match was written when the closure is called, so there is one buffer alone. This ports
-    /// `AhoCorasick::try_stream_replace_all_with`.
+    /// Writes all bytes that a reader gives, with a call of the closure at each match of `find_iter` over them. This
+    /// ports `AhoCorasick::try_stream_replace_all_with`.
     ///
-    /// The closure may be called at each match and writer.
+    /// The closure is handed the match, with offsets in the whole stream, the slice that matched and the writer, to
+    /// which it writes what replaces the match. It may be called with any match and writer. All bytes before a match
+    /// were written when the closure is called, so only the buffer for what is read is made. Apart from that this does
+    /// what `try_stream_replace_all` does.
     ///
     /// # Errors
-    /// As `try_stream_replace_all`; and `Io` where the closure failed: what it wrote stands, and nothing follows.
+    /// As `try_stream_replace_all`; and `Io` where the closure failed: what it wrote stays written, and nothing
+    /// follows.
+    ///
+    /// ```
+    /// // a searcher over "fox", "brown" and "quick"; a `Written` takes all of each piece
+    /// let mut reader = Bytes::new(b"The quick brown fox.");
+    /// let mut writer = Written::new(alloc);
+    /// searcher.try_stream_replace_all_with(
+    ///     alloc,
+    ///     &mut reader,
+    ///     &mut writer,
+    ///     |_, slice, writer: &mut Written<Global>| {
+    ///         writer.write_some(b"<")?;
+    ///         writer.write_some(slice)?;
+    ///         writer.write_some(b">")?;
+    ///         Ok(())
+    ///     },
+    /// )?; // writes "The <quick> <brown> <fox>."
+    /// ```
     pub fn try_stream_replace_all_with<R: Source, W: Sink, Z: Allocator, F>(
         &self,
         alloc: Z,
@@ -152,8 +177,8 @@ impl<A: Allocator> AhoCorasick<A> {
         }
     }
 
-    /// Returns a search over a stream of which nothing was read yet: what `try_stream_find_iter` iterates by, but its reader
-    /// is handed to each call.
+    /// Returns a search of a stream from which nothing was read yet, whose reader is handed to each call. The iterator
+    /// of `try_stream_find_iter` is this search together with its reader.
     ///
     /// # Errors
     /// As `try_stream_find_iter`.
@@ -184,11 +209,11 @@ impl<A: Allocator> AhoCorasick<A> {
     }
 }
 
-/// A search over a stream by a searcher, whose reader is handed to each call, made by `AhoCorasick::try_stream_finder`.
-/// `StreamFindIter` is one with a reader of its own.
+/// A search of a stream whose reader is handed to each call, made by `AhoCorasick::try_stream_finder`. `StreamFindIter`
+/// has its own reader.
 ///
-/// The matches are those of the walk over all bytes that the readers gave, however they cut them. Contracts see all bytes
-/// that were read, and how many of their matches were given.
+/// The matches are those of the walk over all bytes that the readers gave, however they cut them. Contracts see all
+/// bytes that were read, and how many of their matches were returned.
 #[derive(Drop)]
 pub struct StreamFinder<'a, A: Allocator = Global, Z: Allocator = Global> {
     finder: EngineStreamFinder<'a, A, Z>,
@@ -204,36 +229,39 @@ impl<'a, A: Allocator, Z: Allocator> Model for StreamFinder<'a, A, Z> {
 }
 
 impl<'a, A: Allocator, Z: Allocator> StreamFinder<'a, A, Z> {
-    /// Returns the next match of the stream, and reads more of it where that is needed. After an error it keeps giving `None`,
-    /// and so it does after the end once all matches were given; the reader isn't asked again.
+    /// Returns the next match of the stream, and reads on as far as that needs.
+    ///
+    /// After the end of the stream, once all matches were returned, it keeps returning `None`, and so it does after an
+    /// error; the reader isn't called again.
     ///
     /// # Errors
-    /// `Io` where a read failed, and `TooLong` where more bytes came than a `usize` counts. All matches of the bytes read
-    /// before that are settled were given then.
+    /// `Io` where a read failed, and `TooLong` where more bytes came than a `usize` counts. All matches of the bytes
+    /// read before it that are settled were returned by then.
     pub fn next<R: Source>(&mut self, reader: &mut R) -> Option<Result<Match, StreamError>>
         ensures { StreamsOn R.empty_means_end self.old result self.new (R.told reader.old) (R.told reader.new) }
     {
         self.finder.next(reader)
     }
 
-    /// Returns the next match of the bytes that were read, without reading more of them. `None` says that all their matches
-    /// that are settled were given.
+    /// Returns the next match of the bytes that were read, without reading on. `None` says that all their matches that
+    /// are settled were returned.
     pub fn next_read(&mut self) -> Option<Match>
         ensures { GivesRead self.old result self.new }
     {
         self.finder.next_read()
     }
 
-    /// Returns how many bytes of the stream are kept: those from the end of the last match given on; or of these, once all
-    /// matches of what was read that are settled were given, as many as a match to come may need. After an error they are no
-    /// more than the longest pattern has, and after the end there are none.
+    /// Returns how many bytes of the stream are kept: all that were read from the end of the last returned match on.
+    /// Once all settled matches of what was read were returned, only as many of these are kept as a match to come may
+    /// need. After an error they are no more than the longest pattern has, and after the end there are none.
     pub fn kept_len(&self) -> usize
         ensures { result ≡ kept_len self.now }
     {
         self.finder.kept_len()
     }
 
-    /// Returns how many bytes the buffer has: 65,536, or eight times as many as the longest pattern if that is more.
+    /// Returns the size of the buffer in bytes: 65,536, or eight times the length of the longest pattern if that is
+    /// more.
     pub fn buffer_len(&self) -> usize
         ensures { result ≡ self.now.buffer }
     {
@@ -241,7 +269,7 @@ impl<'a, A: Allocator, Z: Allocator> StreamFinder<'a, A, Z> {
     }
 }
 
-/// Returns what a search of a stream answers at first that nothing but want of memory can stop.
+/// Returns the outcome of the start of a stream search that only a refused request for memory can stop.
 fn unrefused<T: Drop>(outcome: Result<T, StreamError>) -> Result<T, AllocError>
     requires { IfErr outcome (λ e. e ≡ StreamError.Memory) }
     ensures { MatchResult result (λ value. outcome ≡ Ok value) (λ _. outcome ≡ Err StreamError.Memory) }

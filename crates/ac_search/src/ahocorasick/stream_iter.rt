@@ -1,4 +1,4 @@
-//! The searcher's iterator over the matches of what a reader gives.
+//! The iterator over the matches of what a reader gives.
 ghost use Rattle.std.specs.Prelude.{◌≡◌};
 ghost use Rattle.std.specs.Iterator.{at_most};
 ghost use Rattle.ac_automaton.specs.Streams.{GivesStreamItem, ReadsItem, items_left, kept_len};
@@ -10,12 +10,12 @@ use ac_util::search::Match;
 use std::alloc::{Allocator, Global};
 use std::marker::Model;
 
-/// An iterator over the matches of what a reader gives, made by `AhoCorasick::stream_find_iter`.
+/// An iterator over the matches of all bytes that a reader gives, made by `AhoCorasick::stream_find_iter`.
 ///
-/// The matches are those of the walk over all bytes of the reader, however it cuts them; offsets count bytes from 0 over the
-/// whole stream. An item is `Io` where a read failed, and `TooLong` where more bytes came than a `usize` counts. The first
-/// error is the last item: after an error, as after the end, it keeps giving `None`, and the reader isn't asked again.
-/// Before each read all matches of the bytes read so far that are settled were given.
+/// The matches are those of the walk over all these bytes, however the reads cut them; offsets count bytes of the whole
+/// stream from 0. An item is `Io` where a read failed, and `TooLong` where more bytes came than a `usize` counts. The
+/// first error is the last item: after an error, as after the end, it keeps returning `None`, and the reader isn't
+/// called again. Before each read all matches of the bytes read so far that are settled were returned.
 #[derive(Drop)]
 pub struct StreamFindIter<'a, R: Source + Drop, A: Allocator = Global, Z: Allocator = Global> {
     pub(super) finder: StreamFinder<'a, A, Z>,
@@ -31,31 +31,32 @@ impl<'a, R: Source + Drop, A: Allocator, Z: Allocator> Model for StreamFindIter<
 }
 
 impl<'a, R: Source + Drop, A: Allocator, Z: Allocator> StreamFindIter<'a, R, A, Z> {
-    /// Returns the next match of the bytes that were read, without reading more of them. `None` says that all their matches
-    /// that are settled were given.
+    /// Returns the next match of the bytes that were read, without reading on. `None` says that all their matches that
+    /// are settled were returned.
     pub fn next_read(&mut self) -> Option<Match>
         ensures { ReadsItem self.old result self.new }
     {
         self.finder.next_read()
     }
 
-    /// Returns how many bytes of the stream are kept: those from the end of the last match given on; or of these, once all
-    /// matches of what was read that are settled were given, as many as a match to come may need. After an error they are no
-    /// more than the longest pattern has, and after the end there are none.
+    /// Returns how many bytes of the stream are kept: all that were read from the end of the last returned match on.
+    /// Once all settled matches of what was read were returned, only as many of these are kept as a match to come may
+    /// need. After an error they are no more than the longest pattern has, and after the end there are none.
     pub fn kept_len(&self) -> usize
         ensures { result ≡ kept_len self.now.stream }
     {
         self.finder.kept_len()
     }
 
-    /// Returns how many bytes the buffer has: 65,536, or eight times as many as the longest pattern if that is more.
+    /// Returns the size of the buffer in bytes: 65,536, or eight times the length of the longest pattern if that is
+    /// more.
     pub fn buffer_len(&self) -> usize
         ensures { result ≡ self.now.stream.buffer }
     {
         self.finder.buffer_len()
     }
 
-    /// Returns the next match of the stream, and reads more of it where that is needed.
+    /// Returns the next match of the stream, and reads on as far as that needs.
     #[inline]
     fn advance(&mut self) -> Option<Result<Match, StreamError>>
         ensures { GivesStreamItem R.empty_means_end self.old result self.new }

@@ -1,4 +1,4 @@
-//! Any `Read` as a reader, and any `Write` as a writer.
+//! Readers made of any `Read`, and writers made of any `Write`.
 ghost use Rattle.std.specs.Prelude.{◌≡◌, true};
 
 use super::misses::Misses;
@@ -8,8 +8,9 @@ use std::io::{Read, Write};
 use std::marker::Model;
 use std::snapshot::Snapshot;
 
-/// Reads from any `Read`. Contracts see the bytes that are left where the `Read` reports them. One that is lent
-/// by `&mut` stays lent until this is dropped.
+/// A reader that reads from any `Read`. Contracts see the bytes that are left where the `Read` reports them.
+///
+/// A `Read` that is lent by `&mut` stays lent until this is dropped.
 #[derive(Drop)]
 pub struct FromRead<R: Read + Drop> {
     inner: R,
@@ -65,8 +66,9 @@ impl<R: Read + Drop> Source for FromRead<R> {
     }
 }
 
-/// Writes to any `Write`. Contracts see the bytes that were written where the `Write` reports them. One that is
-/// lent by `&mut` stays lent until this is dropped.
+/// A writer that writes to any `Write`. Contracts see the bytes that were written where the `Write` reports them.
+///
+/// A `Write` that is lent by `&mut` stays lent until this is dropped.
 #[derive(Drop)]
 pub struct IntoWrite<W: Write + Drop> {
     inner: W,

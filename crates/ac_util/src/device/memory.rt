@@ -11,7 +11,7 @@ use std::io;
 use std::io::Read;
 use std::marker::Model;
 
-/// Reads a slice of bytes. It never fails.
+/// A reader of a slice of bytes. It never fails.
 #[derive(Drop)]
 pub struct Bytes<'a> {
     left: &'a [u8],
@@ -55,7 +55,7 @@ impl<'a> Source for Bytes<'a> {
     }
 }
 
-/// A writer that keeps all that is written to it in memory.
+/// A writer that collects all that is written to it in memory. It fails only where a request for memory is refused.
 #[derive(Drop)]
 pub struct Written<A: Allocator> {
     bytes: Vec<u8, A>,
@@ -82,7 +82,7 @@ impl<A: Allocator> Written<A> {
         }
     }
 
-    /// Returns what was written so far.
+    /// Returns all bytes that were written so far.
     pub fn bytes(&self) -> &[u8]
         ensures { self.now.written ≡ Some result.now }
     {

@@ -26,9 +26,9 @@ use crate::error::ReplaceError;
 use crate::search::Match;
 use std::alloc::AllocError;
 
-/// Two bytes are the same if they are equal or, where case is ignored, one ASCII letter in its two cases; two
-/// strings are the same if they have one length and are the same place by place, and where case counts if they
-/// are equal.
+/// Two bytes are the same if they are equal or, where case is ignored, one ASCII letter in its two cases. Two strings
+/// are the same if they have one length and their bytes are the same, one by one; where case counts they are the same
+/// if they are equal.
 pub fn sameness_is_by_letter()
     ensures bytes { (a b : ℕ) → (same_byte false a b ≡ true) ↔ (a ≡ b) }
     ensures letters { (a b : ℕ) → (same_byte true a b ≡ true) ↔ ((a ≡ b) ⊎ AreOneLetter a b) }
@@ -37,8 +37,7 @@ pub fn sameness_is_by_letter()
     ensures counted { (s t : List ℕ) → IsSame false s t ↔ (s ≡ t) }
 {}
 
-/// The computed tests answer yes exactly where their facts hold: of sameness, occurrence and character
-/// boundaries.
+/// The computed tests of sameness, occurrence and character boundaries are true exactly where their facts hold.
 pub fn tests_decide()
     ensures strings { (ignores_case : Bool) (s t : List ℕ)
         → (same_string ignores_case s t ≡ true) ↔ IsSame ignores_case s t }
@@ -53,9 +52,9 @@ pub fn listing_is_exact()
     ensures in_order { (q : Search) → AllPairs IsBefore (all q) }
 {}
 
-/// Where an overlapping search has an item at a place the place after it is one further on; else the place stays,
-/// and all items were given. Call this in a loop over the places of a listing: the number of items that are left is
-/// its measure.
+/// At a rank before its end the listing has an item, and the next rank is one further on; past its end the rank stays,
+/// and all items were given. Call this in a loop over the ranks of a listing: the number of items that are left is its
+/// measure.
 pub fn listing_goes_on()
     ensures ends { (q : Search) (place : ℕ) → item_at q place ≡ None
         → (length (all q) ≤ place) × (place_after q place ≡ place) }
@@ -148,9 +147,9 @@ pub fn stream_goes_on()
         → take (length (stream_result built bytes)) (stream_result built (bytes ++ more)) ≡ stream_result built bytes }
 {}
 
-/// Under a leftmost kind without an empty pattern the matches by which a stream is settled stay as more of it comes, and no
-/// other starts before the place up to which it is. And a match that stays the next one whatever follows is decided: no place
-/// up to and with its start is open.
+/// Under a leftmost kind without an empty pattern the matches by which a stream is settled stay as more of it comes,
+/// and no other match starts before the offset up to which it is settled. And a match that stays the next one whatever
+/// follows is decided: no offset up to and including its start is open.
 pub fn settled_stays()
     ensures stays { (built : Built) (bytes more : List ℕ) (given place : ℕ) → is_leftmost built.kind ≡ true
         → has_empty built ≡ false → IsSettledAt built bytes given place
@@ -179,15 +178,15 @@ pub fn steps_replace()
         → (more : List ℕ) × (t.destination ≡ s.destination ++ more) }
 {}
 
-/// A closure that appends to its destination, at each call, what `write` gives for the match and its slice, and
-/// answers true, leaves behind what was there the haystack with each match exchanged for that; and a beginning of
-/// that where an append was refused. One that only appends, whatever it answers, leaves what was there at the
-/// beginning. Call this before a replacement by such a closure.
+/// A closure that appends to its destination, at each call, what `write` gives for the match and its slice, and returns
+/// true, leaves the haystack with each match replaced by that, after what was there before; and a beginning of it where
+/// an append was refused. One that only appends, whatever it returns, leaves what was there before at the beginning.
+/// Call this before a replacement by such a closure.
 pub fn closure_exchanges<D, F: FnMut(&Match, &[u8], &mut D) -> bool>(_closure: &F)
     ensures { ClosureExchanges ReplaceError (Calls F.FnMut) }
 {}
 
-/// The same as `closure_exchanges`, of a replacement in a text.
+/// The same as `closure_exchanges`, for a replacement in a text.
 pub fn text_closure_exchanges<D, F: FnMut(&Match, &str, &mut D) -> bool>(_closure: &F)
     ensures { ClosureExchanges ReplaceError (Calls F.FnMut) }
 {}

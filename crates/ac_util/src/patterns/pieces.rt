@@ -1,4 +1,4 @@
-//! Lists stored in one, one after another.
+//! Many lists stored in one, one after another.
 ghost use Rattle.std.specs.Prelude.{◌≡◌, ◌<◌, ◌++◌, ◌∷◌, [], length, slice_get, IfOk, MatchResult, Some, ◌+◌};
 ghost use Rattle.ac_util.specs.Pieces.{AreBounds, pieces};
 
@@ -83,7 +83,7 @@ impl<T, A: Allocator> Pieces<T, A> {
         self.items.allocator()
     }
 
-    /// Returns about how many bytes of memory the pieces take. Nothing is promised of the number.
+    /// Returns about how many bytes of memory the pieces take. Nothing is promised about the number.
     pub fn memory_usage(&self) -> usize {
         let items = size_of_val(self.items.as_slice());
         items.saturating_add(size_of_val(self.bounds.as_slice()))
@@ -91,10 +91,10 @@ impl<T, A: Allocator> Pieces<T, A> {
 }
 
 impl<T: Copy, A: Allocator> Pieces<T, A> {
-    /// Adds a piece after the others. After an error the pieces are those of before.
+    /// Adds a piece after the others.
     ///
     /// # Errors
-    /// `AllocError` where a request for memory is refused.
+    /// `AllocError` where a request for memory is refused. The pieces are then as before.
     pub fn push(&mut self, piece: &[T]) -> Result<(), AllocError>
         ensures { MatchResult result (λ _. self.new ≡ self.old ++ piece.now ∷ []) (λ _. self.new ≡ self.old) }
     {

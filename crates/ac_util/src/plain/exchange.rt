@@ -1,4 +1,4 @@
-//! Matches exchanged for texts.
+//! Matches replaced by texts.
 ghost use Rattle.std.specs.Prelude.{◌≡◌, ◌≤◌, length, All, AllPairs, IfOk};
 ghost use Rattle.ac_util.specs.Borrowed.{bytes_of};
 ghost use Rattle.ac_util.specs.Plain.{IsReplaceable, EndsBy};
@@ -9,7 +9,7 @@ use super::{Query, walk};
 use crate::search::{Match, MatchKind};
 use std::alloc::{AllocError, Global};
 
-/// Returns the haystack with each match exchanged for the text of its pattern.
+/// Returns the haystack with each match replaced by the text of its pattern.
 ///
 /// The matches have to lie in the haystack, in order and apart, and each of their patterns has to have a text.
 ///
@@ -37,7 +37,7 @@ pub fn replaced(
     Ok(bytes)
 }
 
-/// Returns the whole haystack with each match of a walk exchanged for the text of its pattern.
+/// Returns the whole haystack with each match of a walk replaced by the text of its pattern.
 ///
 /// There has to be a text for each pattern. The walk is that of the span; what lies outside it stays as it is.
 ///

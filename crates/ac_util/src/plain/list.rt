@@ -1,4 +1,4 @@
-//! All occurrences of a search, by trying each place that its span has room for.
+//! All occurrences of a search, found by trying each offset that its span has room for.
 ghost use Rattle.std.specs.Prelude.{◌≡◌, ◌≤◌, ◌++◌, filter, IfOk};
 ghost use Rattle.ac_util.specs.Listing.{all, places_at, places_ending_at};
 ghost use Rattle.ac_util.specs.Search.{occurs};
@@ -7,7 +7,7 @@ use super::Query;
 use crate::search::Match;
 use std::alloc::{AllocError, Global};
 
-/// Returns all occurrences: by end, then by start, then by pattern number.
+/// Returns all occurrences, ordered by end, then by start, then by pattern number.
 ///
 /// # Errors
 /// `AllocError` where a request for memory is refused.

@@ -4,11 +4,12 @@ ghost use Rattle.std.specs.Prelude.{◌≡◌, ◌+◌, ◌<◌, ◌≤◌, ◌�
 use super::{Anchored, Span};
 use std::ops::Range;
 
-/// A haystack with the span of it that is searched, whether a match must start where the span does, and whether
-/// the search ends at the earliest place at which some match is known.
+/// The input of a search: a haystack, the span of it that is searched, whether a match has to start where the span
+/// starts, and whether the search ends at the earliest offset at which some match is known. This ports `Input`.
 ///
-/// Bytes outside the span never count. The span ends within the haystack, and may begin one past its end: then
-/// nothing is found in it, not even an empty match. Contracts see an input as the record `asked`.
+/// Bytes outside the span never count. The span ends within the haystack, and may start one past its own end: then
+/// nothing is found in it, not even an empty match. Offsets of matches count from the start of the haystack, not of the
+/// span. Contracts see an input as an `InputView`, which `input_of` gives.
 ///
 /// ```
 /// let input = Input::new(b"foobar").range(3..6).anchored(Anchored::Yes);
@@ -28,7 +29,8 @@ impl<'h> Input<'h> {
     ghost use Rattle.ac_util.specs.InputView.{IsLegal, whole_input};
     ghost use Rattle.ac_util.specs.Inputs.{input_of};
 
-    /// Returns an input that searches all of a haystack, unanchored and not for the earliest end.
+    /// Returns an input that searches a whole haystack, unanchored and not for the earliest end. This ports
+    /// `Input::new`.
     #[inline]
     pub fn new(haystack: &'h [u8]) -> Input<'h>
         ensures value { input_of result ≡ whole_input haystack.now }
@@ -42,7 +44,7 @@ impl<'h> Input<'h> {
         }
     }
 
-    /// Returns an input that searches all of a text. Places count its bytes, not its characters.
+    /// Returns an input that searches a whole text. Offsets count its bytes, not its characters.
     #[inline]
     pub fn of_text(text: &'h str) -> Input<'h>
         ensures value { input_of result ≡ whole_input text.now }
@@ -50,9 +52,13 @@ impl<'h> Input<'h> {
         Input::new(text.as_bytes())
     }
 
-    /// Returns the input with this span.
+    /// Returns the input with this span. This ports `Input::span`.
     ///
-    /// The span has to end within the haystack, and to start no later than one past its end.
+    /// The span has to end within the haystack, and to start no later than one past its own end.
+    ///
+    /// ```
+    /// let input = Input::new(b"foobar").span(Span { start: 3, end: 6 }); // searches "bar"
+    /// ```
     #[inline]
     pub fn span(mut self, span: Span) -> Input<'h>
         requires legal { IsLegal (input_of self).haystack span.start span.end }
@@ -62,7 +68,13 @@ impl<'h> Input<'h> {
         self
     }
 
-    /// Returns the input with the span of this range.
+    /// Returns the input with the span of this range. This ports `Input::range`.
+    ///
+    /// The range has to end within the haystack, and to start no later than one past its own end.
+    ///
+    /// ```
+    /// let input = Input::new(b"foobar").range(3..6); // searches "bar"
+    /// ```
     #[inline]
     pub fn range(mut self, range: Range<usize>) -> Input<'h>
         requires legal { IsLegal (input_of self).haystack range.start range.end }
@@ -72,7 +84,14 @@ impl<'h> Input<'h> {
         self
     }
 
-    /// Returns the input anchored, or not. Unanchored unless set.
+    /// Returns the input with this anchoring. `Anchored::No` unless set. This ports `Input::anchored`.
+    ///
+    /// ```
+    /// // a searcher over "bar", with `StartKind::Both`
+    /// let input = Input::new(b"foo bar").anchored(Anchored::Yes);
+    /// searcher.try_find(input)? // None
+    /// searcher.try_find(input.range(4..7))? // pattern 0, 4..7
+    /// ```
     #[inline]
     pub fn anchored(mut self, mode: Anchored) -> Input<'h>
         ensures value { input_of result ≡ record (input_of self.entry) { anchored = mode } }
@@ -81,9 +100,16 @@ impl<'h> Input<'h> {
         self
     }
 
-    /// Returns the input asking for the earliest end, or not. Not unless set.
+    /// Returns the input with or without the request for the earliest end. Without unless set. This ports
+    /// `Input::earliest`.
     ///
-    /// A search that asks for it answers what `MatchKind::Standard` picks, under every match kind.
+    /// With it a search returns the match that `MatchKind::Standard` picks, under every match kind.
+    ///
+    /// ```
+    /// // a searcher over "b", "abc" and "abcd", with `MatchKind::LeftmostLongest`
+    /// searcher.find(Input::new(b"abcd")) // pattern 2, 0..4
+    /// searcher.find(Input::new(b"abcd").earliest(true)) // pattern 0, 1..2
+    /// ```
     #[inline]
     pub fn earliest(mut self, yes: bool) -> Input<'h>
         ensures value { input_of result ≡ record (input_of self.entry) { earliest = yes } }
@@ -92,7 +118,7 @@ impl<'h> Input<'h> {
         self
     }
 
-    /// Sets the span, which has to end within the haystack and to start no later than one past its end.
+    /// Sets the span, which has to end within the haystack and to start no later than one past its own end.
     #[inline]
     pub fn set_span(&mut self, span: Span)
         requires legal { IsLegal (input_of self.old).haystack span.start span.end }
@@ -113,7 +139,8 @@ impl<'h> Input<'h> {
         };
     }
 
-    /// Sets the span to that of this range.
+    /// Sets the span to that of this range, which has to end within the haystack and to start no later than one past
+    /// its own end.
     #[inline]
     pub fn set_range(&mut self, range: Range<usize>)
         requires legal { IsLegal (input_of self.old).haystack range.start range.end }
@@ -125,7 +152,7 @@ impl<'h> Input<'h> {
         });
     }
 
-    /// Sets where the span starts: no later than one past its end.
+    /// Sets the offset where the span starts: no later than one past the span's end.
     #[inline]
     pub fn set_start(&mut self, start: usize)
         requires legal { start ≤ (input_of self.old).end + 1 }
@@ -134,7 +161,7 @@ impl<'h> Input<'h> {
         self.start = start;
     }
 
-    /// Sets where the span ends: within the haystack, and no earlier than one before its start.
+    /// Sets the offset where the span ends: within the haystack, and no earlier than one before the span's start.
     #[inline]
     pub fn set_end(&mut self, end: usize)
         requires legal { IsLegal (input_of self.old).haystack (input_of self.old).start end }
@@ -146,7 +173,7 @@ impl<'h> Input<'h> {
         });
     }
 
-    /// Sets whether a match must start where the span does.
+    /// Sets whether a match has to start where the span starts.
     #[inline]
     pub fn set_anchored(&mut self, mode: Anchored)
         ensures value { input_of self.new ≡ record (input_of self.old) { anchored = mode } }
@@ -154,7 +181,7 @@ impl<'h> Input<'h> {
         self.anchored = mode;
     }
 
-    /// Sets whether the search ends at the earliest place at which some match is known.
+    /// Sets whether the search ends at the earliest offset at which some match is known.
     #[inline]
     pub fn set_earliest(&mut self, yes: bool)
         ensures value { input_of self.new ≡ record (input_of self.old) { earliest = yes } }
@@ -162,7 +189,7 @@ impl<'h> Input<'h> {
         self.earliest = yes;
     }
 
-    /// Returns the whole haystack, also what lies outside the span.
+    /// Returns the whole haystack, including what lies outside the span.
     #[inline]
     pub fn haystack(&self) -> &'h [u8]
         ensures { result.now ≡ (input_of self.now).haystack }
@@ -170,7 +197,7 @@ impl<'h> Input<'h> {
         self.haystack
     }
 
-    /// Returns where the span starts.
+    /// Returns the offset where the span starts.
     #[inline]
     pub fn start(&self) -> usize
         ensures { result ≡ (input_of self.now).start }
@@ -178,7 +205,7 @@ impl<'h> Input<'h> {
         self.start
     }
 
-    /// Returns where the span ends.
+    /// Returns the offset one past the last byte of the span.
     #[inline]
     pub fn end(&self) -> usize
         ensures { result ≡ (input_of self.now).end }
@@ -206,7 +233,7 @@ impl<'h> Input<'h> {
         self.start..self.end
     }
 
-    /// Returns whether a match must start where the span does.
+    /// Returns whether a match has to start where the span starts.
     #[inline]
     pub fn get_anchored(&self) -> Anchored
         ensures { result ≡ (input_of self.now).anchored }
@@ -214,7 +241,7 @@ impl<'h> Input<'h> {
         self.anchored
     }
 
-    /// Returns whether the search ends at the earliest place at which some match is known.
+    /// Returns whether the search ends at the earliest offset at which some match is known.
     #[inline]
     pub fn get_earliest(&self) -> bool
         ensures { result ≡ (input_of self.now).earliest }
@@ -222,7 +249,7 @@ impl<'h> Input<'h> {
         self.earliest
     }
 
-    /// Returns whether the span starts past its end, so that nothing can be found.
+    /// Returns whether the span starts past its own end, so that nothing can be found.
     #[inline]
     pub fn is_done(&self) -> bool
         ensures { IsTrue result ↔ ((input_of self.now).end < (input_of self.now).start) }

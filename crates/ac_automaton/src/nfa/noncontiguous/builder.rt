@@ -13,9 +13,17 @@ use ac_util::search::MatchKind;
 use std::alloc::Allocator;
 use std::marker::Model;
 
-/// The settings of a build. A build changes none of them, so after a refusal the builder can be used again.
+/// The settings of a noncontiguous NFA, and its build. This ports `nfa::noncontiguous::Builder`.
 ///
-/// This ports `nfa::noncontiguous::Builder`.
+/// Each setter returns the builder, so calls can be chained. A build changes no setting, so the builder can be used
+/// again, also after an error.
+///
+/// ```
+/// let mut builder = noncontiguous::Builder::new();
+/// builder.match_kind(MatchKind::LeftmostFirst);
+/// let nfa = builder.build(alloc, &[b"Sam", b"Samwise"])?;
+/// nfa.try_find(Input::new(b"Samwise"))? // pattern 0, 0..3
+/// ```
 #[derive(Debug, Drop)]
 pub struct Builder {
     kind: MatchKind,
@@ -42,8 +50,8 @@ impl Default for Builder {
 }
 
 impl Builder {
-    /// Returns a builder with the usual settings: `MatchKind::Standard`, case counts, and a prefilter where there is
-    /// one.
+    /// Returns a builder with the usual settings: `MatchKind::Standard`, the case of letters counts, and there is a
+    /// prefilter where the patterns have one. This ports `Builder::new`.
     pub fn new() -> Builder
         ensures { result ≡ usual_engine_settings }
     {
@@ -54,14 +62,15 @@ impl Builder {
         }
     }
 
-    /// Returns a builder with the same settings, and takes no memory.
+    /// Returns a builder with the same settings. It takes no memory.
     pub fn clone(&self) -> Builder
         ensures { result ≡ self.now }
     {
         Builder { ..*self }
     }
 
-    /// Sets which of the occurrences in a span a search answers. `Standard` unless set.
+    /// Sets which of the occurrences in a span a search returns. `MatchKind::Standard` unless set. This ports
+    /// `Builder::match_kind`.
     pub fn match_kind(&mut self, kind: MatchKind) -> &mut Builder
         ensures value { result.now ≡ record self.old { kind = kind } }
         ensures same { result.ghost_name ≡ self.entry.ghost_name }
@@ -70,7 +79,8 @@ impl Builder {
         self
     }
 
-    /// Sets whether the case of ASCII letters is ignored. It counts unless set.
+    /// Sets whether searches ignore the case of ASCII letters, `a` to `z` and `A` to `Z`. They don't unless set. This
+    /// ports `Builder::ascii_case_insensitive`.
     pub fn ascii_case_insensitive(&mut self, yes: bool) -> &mut Builder
         ensures value { result.now ≡ record self.old { ignores_case = yes } }
         ensures same { result.ghost_name ≡ self.entry.ghost_name }
@@ -79,8 +89,8 @@ impl Builder {
         self
     }
 
-    /// Sets whether a search may skip ahead by a prefilter, where there is one for the patterns. It changes no answer.
-    /// It may unless set.
+    /// Sets whether searches may skip ahead with a prefilter, where there is one for the patterns. They may unless set.
+    /// It changes no answer. This ports `Builder::prefilter`.
     pub fn prefilter(&mut self, yes: bool) -> &mut Builder
         ensures value { result.now ≡ record self.old { prefilter = yes } }
         ensures same { result.ghost_name ≡ self.entry.ghost_name }
@@ -89,8 +99,10 @@ impl Builder {
         self
     }
 
-    /// Has no effect, and is here since upstream's builder has it, so that its callers need no change. There it sets how
-    /// deep a state may be to get a row of its own for all bytes; states of this automaton have no such rows.
+    /// Has no effect. Upstream's builder has it, so callers of that one need no change.
+    ///
+    /// There it sets how deep a state may be to have a row with an entry for each byte. States of this automaton have
+    /// no such rows.
     pub fn dense_depth(&mut self, depth: usize) -> &mut Builder
         ensures value { result.now ≡ self.old }
         ensures same { result.ghost_name ≡ self.entry.ghost_name }
@@ -99,14 +111,15 @@ impl Builder {
         self
     }
 
-    /// Builds an automaton over a list of patterns. An empty list is fine: nothing is then found.
+    /// Builds an automaton over a list of patterns. An empty list is allowed: such an automaton finds nothing. This
+    /// ports `Builder::build`.
     ///
     /// Time is linear in the bytes of the patterns but for the sort of the list, and so is memory.
     ///
     /// # Errors
-    /// `PatternIdOverflow` and `PatternTooLong` exactly where a limit is passed, whether there is memory or
-    /// not. Else `StateIdOverflow` only where there are more nodes than state numbers, and `Memory` where a
-    /// request for memory is refused.
+    /// `PatternIdOverflow` and `PatternTooLong` exactly where a limit is passed, whether there is memory or not. Else
+    /// `StateIdOverflow` only where there are more nodes than state numbers, and `Memory` where a request for memory is
+    /// refused.
     pub fn build<A: Allocator + Clone>(
         &self,
         alloc: A,

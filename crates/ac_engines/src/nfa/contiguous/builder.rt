@@ -16,12 +16,20 @@ use ac_util::search::MatchKind;
 use std::alloc::Allocator;
 use std::marker::Model;
 
-/// States of strings that are shorter are dense, unless it is set otherwise.
+/// The dense depth unless another is set: states of strings shorter than this are dense.
 const USUAL_DENSE_DEPTH: usize = 2;
 
-/// The settings of a build. A build changes none of them, so after a refusal the builder can be used again.
+/// The settings of a contiguous NFA, and its build. This ports `nfa::contiguous::Builder`.
 ///
-/// This ports `nfa::contiguous::Builder`.
+/// Each setter returns the builder, so calls can be chained. A build changes no setting, so the builder can be used
+/// again, also after an error.
+///
+/// ```
+/// let mut builder = contiguous::Builder::new();
+/// builder.match_kind(MatchKind::LeftmostFirst).dense_depth(3);
+/// let nfa = builder.build(alloc, &[b"Sam", b"Samwise"])?;
+/// nfa.try_find(Input::new(b"Samwise"))? // pattern 0, 0..3
+/// ```
 #[derive(Debug, Drop)]
 pub struct Builder {
     noncontiguous: noncontiguous::Builder,
@@ -56,8 +64,9 @@ impl Default for Builder {
 }
 
 impl Builder {
-    /// Returns a builder with the usual settings: `MatchKind::Standard`, case counts, the states of no byte and of one
-    /// byte are dense, bytes that need not be distinguished share a class, and a prefilter where there is one.
+    /// Returns a builder with the usual settings: `MatchKind::Standard`, the case of letters counts, states of no byte
+    /// and of one byte are dense, bytes that need not be distinguished share a class, and there is a prefilter where
+    /// the patterns have one. This ports `Builder::new`.
     pub fn new() -> Builder
         ensures { result ≡ usual_contiguous_settings }
     {
@@ -68,7 +77,7 @@ impl Builder {
         }
     }
 
-    /// Returns a builder with the same settings, and takes no memory.
+    /// Returns a builder with the same settings. It takes no memory.
     pub fn clone(&self) -> Builder
         ensures { result ≡ self.now }
     {
@@ -78,7 +87,8 @@ impl Builder {
         }
     }
 
-    /// Sets which of the occurrences in a span a search answers. `Standard` unless set.
+    /// Sets which of the occurrences in a span a search returns. `MatchKind::Standard` unless set. This ports
+    /// `Builder::match_kind`.
     pub fn match_kind(&mut self, kind: MatchKind) -> &mut Builder
         ensures value { result.now ≡ record self.old { engine = record self.old.engine { kind = kind } } }
         ensures same { result.ghost_name ≡ self.entry.ghost_name }
@@ -87,7 +97,8 @@ impl Builder {
         self
     }
 
-    /// Sets whether the case of ASCII letters is ignored. It counts unless set.
+    /// Sets whether searches ignore the case of ASCII letters, `a` to `z` and `A` to `Z`. They don't unless set. This
+    /// ports `Builder::ascii_case_insensitive`.
     pub fn ascii_case_insensitive(&mut self, yes: bool) -> &mut Builder
         ensures value { result.now ≡ record self.old { engine = record self.old.engine { ignores_case = yes } } }
         ensures same { result.ghost_name ≡ self.entry.ghost_name }
@@ -96,11 +107,11 @@ impl Builder {
         self
     }
 
-    /// Sets which states are dense, so that they have a target for each class of bytes: those of strings shorter than
-    /// this many bytes. States of more than 127 transitions, the dead state and the starts are dense always. It is 2
-    /// unless set.
+    /// Sets below which depth states are dense. 2 unless set. This ports `Builder::dense_depth`.
     ///
-    /// Dense states are faster, and larger. It changes no answer.
+    /// The depth of a state is the length of its string in bytes. A dense state has a target for each class of bytes:
+    /// it is faster, and larger. States of more than 127 transitions, the dead state and the starts are dense always.
+    /// It changes no answer.
     pub fn dense_depth(&mut self, depth: usize) -> &mut Builder
         ensures value { result.now ≡ record self.old { dense_depth = depth } }
         ensures same { result.ghost_name ≡ self.entry.ghost_name }
@@ -109,10 +120,8 @@ impl Builder {
         self
     }
 
-    /// Sets whether bytes that need not be distinguished share a class, so that dense states are smaller. They do unless
-    /// set.
-    ///
-    /// It changes no answer.
+    /// Sets whether bytes that need not be distinguished share a class, so that dense states are smaller. They do
+    /// unless set. It changes no answer. This ports `Builder::byte_classes`.
     pub fn byte_classes(&mut self, yes: bool) -> &mut Builder
         ensures value { result.now ≡ record self.old { byte_classes = yes } }
         ensures same { result.ghost_name ≡ self.entry.ghost_name }
@@ -121,8 +130,8 @@ impl Builder {
         self
     }
 
-    /// Sets whether a search may skip ahead by a prefilter, where there is one for the patterns. It changes no answer.
-    /// It may unless set.
+    /// Sets whether searches may skip ahead with a prefilter, where there is one for the patterns. They may unless set.
+    /// It changes no answer. This ports `Builder::prefilter`.
     pub fn prefilter(&mut self, yes: bool) -> &mut Builder
         ensures value { result.now ≡ record self.old { engine = record self.old.engine { prefilter = yes } } }
         ensures same { result.ghost_name ≡ self.entry.ghost_name }
@@ -131,12 +140,13 @@ impl Builder {
         self
     }
 
-    /// Builds an automaton over a list of patterns. An empty list is fine: nothing is then found.
+    /// Builds an automaton over a list of patterns. An empty list is allowed: such an automaton finds nothing. This
+    /// ports `Builder::build`.
     ///
     /// # Errors
-    /// `PatternIdOverflow` and `PatternTooLong` exactly where a limit is passed, whether there is memory or
-    /// not. Else `StateIdOverflow` only where there are more nodes than state numbers, or more words than the greatest
-    /// number of a state, and `Memory` where a request for memory is refused.
+    /// `PatternIdOverflow` and `PatternTooLong` exactly where a limit is passed, whether there is memory or not. Else
+    /// `StateIdOverflow` only where there are more nodes than state numbers, or more words than the greatest number of
+    /// a state, and `Memory` where a request for memory is refused.
     pub fn build<A: Allocator + Clone>(
         &self,
         alloc: A,
@@ -151,7 +161,8 @@ impl Builder {
         self.build_from_noncontiguous(alloc, &nfa)
     }
 
-    /// Returns whether a contiguous NFA that is built from this automaton is within its limit, and takes no memory.
+    /// Returns whether a contiguous NFA that is built from this automaton would be within its limit. It takes no
+    /// memory.
     pub fn fits<A: Allocator>(&self, nfa: &noncontiguous::NFA<A>) -> bool
         ensures { result ≡ fits (contiguous_refusal self.now.dense_depth self.now.byte_classes nfa.now.built) }
     {
@@ -160,8 +171,9 @@ impl Builder {
         check_words(plan.sizes().all).is_ok()
     }
 
-    /// Builds an automaton that answers as another one, whose patterns it shares. Of the settings only `dense_depth`
-    /// and `byte_classes` count: match kind, case and prefilter are those of the other automaton.
+    /// Builds an automaton that gives the same answers as a noncontiguous NFA, whose patterns it shares. Of the
+    /// settings only `dense_depth` and `byte_classes` count: match kind, case and prefilter are those of the
+    /// noncontiguous NFA. This ports `Builder::build_from_noncontiguous`.
     ///
     /// # Errors
     /// `StateIdOverflow` exactly where there would be more words than the greatest number of a state, whether there is

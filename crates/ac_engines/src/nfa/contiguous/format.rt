@@ -6,30 +6,36 @@ ghost use Rattle.ac_engines.specs.Contiguous.Formats.{format_of, words_of_state}
 use ac_util::error::BuildError;
 use ac_util::primitives::StateID;
 
-/// The most transitions of a state that is not dense.
+/// The most transitions that a state may have without being dense.
 pub const MOST_SPARSE: usize = 127;
 
-/// How many words stand before a state's transitions: its form, and its failure target.
+/// How many words come before a state's transitions: its form, and its failure target.
 pub(super) const HEAD: usize = 2;
 
-/// How many classes stand in one word.
+/// How many classes one word holds.
 pub(super) const CLASSES_A_WORD: usize = 4;
 
-/// In which form a state is packed.
+/// The form in which a state is packed.
 #[derive(Clone, Copy, PartialEq, Eq, Debug)]
 pub enum Format {
     /// A target for each class of bytes.
     Dense,
-    /// One transition, whose class stands beside the form, and no match.
+    /// One transition, whose class is in the word of the form, and no match.
     One,
     /// The classes of the transitions, four in a word, and then their targets.
     Sparse,
 }
 
-/// Returns the form of a state other than the dead one and the starts, which are dense. Its depth is the length of its
-/// string.
+/// Returns the form of a state other than the dead one and the starts, which are always dense. Its depth is the length
+/// of its string in bytes.
 ///
-/// A state of a depth below `dense_depth` is dense, and so is one with more than 127 transitions.
+/// A state of a depth less than `dense_depth` is dense, and so is one with more than 127 transitions.
+///
+/// ```
+/// format_of(1, 2, 1, 0) // Format::Dense
+/// format_of(2, 2, 1, 0) // Format::One
+/// format_of(2, 2, 1, 1) // Format::Sparse
+/// ```
 pub fn format_of(depth: usize, dense_depth: usize, transitions: usize, matches: usize) -> Format
     ensures { result ≡ format_of depth dense_depth transitions matches }
 {
@@ -42,7 +48,12 @@ pub fn format_of(depth: usize, dense_depth: usize, transitions: usize, matches: 
     }
 }
 
-/// Returns how many words a state takes with so many classes of bytes, transitions and matches.
+/// Returns how many words a state in this form takes, with so many classes of bytes, transitions and matches.
+///
+/// ```
+/// state_words(Format::Dense, 3, 1, 0) // 5
+/// state_words(Format::Sparse, 30, 5, 2) // 2 + 2 + 5 + 3 = 12
+/// ```
 pub fn state_words(format: Format, classes: u64, transitions: u64, matches: u64) -> u64
     requires classes { classes ≤ 256 }
     requires transitions { transitions ≤ 256 }
@@ -63,10 +74,10 @@ pub fn state_words(format: Format, classes: u64, transitions: u64, matches: u64)
     }
 }
 
-/// Returns the number of words of all states.
+/// Returns the number of words of all states, if it is within the limit.
 ///
 /// # Errors
-/// `StateIdOverflow` exactly where it is above the greatest number of a state.
+/// `StateIdOverflow` exactly where it is greater than the greatest number of a state.
 pub fn check_words(sum: u64) -> Result<u64, BuildError>
     ensures { MatchResult result
         (λ words. (words ≡ sum) × (sum ≤ GREATEST))

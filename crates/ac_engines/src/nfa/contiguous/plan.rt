@@ -29,7 +29,7 @@ impl<'a, A: Allocator> Model for Plan<'a, A> {
     ghost view = { λ p. record { trie = p.nfa.now; classes = p.classes.now; dense_depth = p.dense_depth } };
 }
 
-/// How many words all states take, and up to which place those stand that have matches.
+/// How many words all states take, and the address at which the states that have matches end.
 #[derive(Drop)]
 pub(super) struct Sizes {
     pub(super) match_end: u64,
@@ -118,7 +118,7 @@ impl<'a, A: Allocator> Plan<'a, A> {
         state_words(Format::Dense, self.classes.alphabet_len() as u64, 0, 0)
     }
 
-    /// Returns how many words all states take, and up to which place those stand that have matches.
+    /// Returns how many words all states take, and the address at which the states that have matches end.
     pub(super) fn sizes(&self) -> Sizes
         requires may { (nodes : List Node) × MayPack self.now nodes }
         ensures match_end { (nodes : List Node) → MayPack self.now nodes
@@ -143,8 +143,8 @@ impl<'a, A: Allocator> Plan<'a, A> {
         sizes
     }
 
-    /// Returns the place of each state of the trie: that of its first word. Those that have matches stand in front,
-    /// up to a place that is handed in, and the others after them.
+    /// Returns the number of each state of the trie, which is the address of its first word. States that have matches
+    /// come first, up to the address that is passed, and the others after them.
     ///
     /// # Errors
     /// `AllocError` where a request for memory is refused.

@@ -11,13 +11,13 @@ use ac_util::looks::Looks;
 /// The low byte of a dense state's first word.
 pub const DENSE: u8 = 0xFF;
 
-/// The low byte of the first word of a state with one transition and no match; its class stands in the byte after it.
+/// The low byte of the first word of a state with one transition and no match. The next byte is the transition's class.
 pub const ONE: u8 = 0xFE;
 
-/// What stands where a class has no target. No state has this number.
+/// The target of a class that has no transition. No state has this number.
 pub const FAIL: u32 = 1;
 
-/// What is added to the number of a match that is the only one.
+/// What is added to the number of a match that is the only one of its state.
 pub const ONE_MATCH: u32 = 1 << 31;
 
 /// A transition: the class of a byte, and the number of the state to which it leads.
@@ -34,7 +34,7 @@ pub(super) struct State<'a> {
 }
 
 impl<'a> State<'a> {
-    /// Returns the state whose first word stands at a place.
+    /// Returns the state with this address, the index of its first word.
     #[inline]
     pub(super) fn at(words: &'a [u32], place: usize) -> State<'a>
         requires { place ≤ length words.now }

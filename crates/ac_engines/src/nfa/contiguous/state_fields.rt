@@ -14,7 +14,7 @@ use std::marker::Model;
 #[derive(Drop)]
 pub(super) struct StateFields<'a> {
     pub(super) failure: u32,
-    /// Where a class leads that has no transition.
+    /// Where a class without a transition leads.
     pub(super) default_target: u32,
     /// The transitions, in ascending order of their classes.
     pub(super) edges: &'a [Edge],
