@@ -101,14 +101,13 @@ impl Credit {
         at.saturating_add(most).min(end)
     }
 
-    /// Records bytes that were read without the prefilter. Where there is no credit it may be called again after enough of
-    /// them.
+    /// Records bytes that were read without the prefilter: where there is credit they use it up, and else it may be called
+    /// again after enough of them.
     #[inline]
     fn record_rest(&mut self, read: usize) {
         if self.is_left() {
-            return;
-        }
-        if read < self.rest {
+            self.bytes = self.bytes.saturating_sub(read);
+        } else if read < self.rest {
             self.rest -= read;
         } else {
             self.bytes = CREDIT_AFTER_REST;

@@ -205,3 +205,37 @@ fn many_items(rt: HostRuntime) -> Result<(), Fail> {
     }
     Ok(())
 }
+
+/// How often a needle stands in a burst, after which a search no longer looks for it by itself for a while.
+const BURST: usize = 5_000;
+
+/// Returns a burst of the needle `aab`, then bytes of which none ends it, and then the needle.
+fn burst_and_gap(alloc: Global, gap: &[u8]) -> Result<Vec<u8>, AllocError> {
+    let mut bytes = Vec::new(alloc);
+    for _ in 0..BURST {
+        bytes.extend_from_slice(b"aab")?;
+    }
+    for _ in 0..LONG / 4 {
+        bytes.extend_from_slice(gap)?;
+    }
+    bytes.extend_from_slice(b"aab")?;
+    Ok(bytes)
+}
+
+/// A needle after a burst of it and a long gap, by each engine and kind: where the gap leaves the automaton at its start,
+/// where it never does, and where it does at times.
+#[test]
+fn a_needle_after_a_burst(rt: HostRuntime) -> Result<(), Fail> {
+    for gap in [b"x".as_slice(), b"a", b"xaax"] {
+        let haystack = burst_and_gap(rt.alloc(), gap)?;
+        for kind in [Standard, LeftmostFirst, LeftmostLongest] {
+            for engine in ENGINES {
+                let builder = builder_by(kind, engine, StartKind::Unanchored);
+                let searcher = builder.build(rt.alloc(), &[b"aab"])?;
+                let matches = searcher.try_find_iter(Input::new(&haystack))?;
+                same_by(&rt, len_of(matches), BURST + 1, &engine);
+            }
+        }
+    }
+    Ok(())
+}
