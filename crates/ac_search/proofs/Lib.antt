@@ -1,3 +1,4 @@
 pub mod Served
 pub mod StreamsServed
 pub mod SomeMatch
+pub mod InOrder

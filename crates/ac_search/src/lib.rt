@@ -4,14 +4,14 @@
 //! `specs/`, and types with their cases in `specs.declared`:
 //!
 //! ```
-//! ghost use Rattle.ac_search.specs.InputView.{asked_whole};
-//! ghost use Rattle.ac_search.specs.Built.{find_refusal, found, walked};
+//! ghost use Rattle.ac_search.specs.InputView.{whole_input};
+//! ghost use Rattle.ac_search.specs.Built.{find_refusal, find_result, walk_result};
 //! ghost use Rattle.ac_search.specs.Searchers.{IsBuilt, usual_settings};
 //! ghost use Rattle.ac_search.specs.declared.MatchKind.TheVariants.{LeftmostFirst};
 //!
 //! fn first(searcher: &AhoCorasick, haystack: &[u8]) -> Option<Match>
-//!     requires { find_refusal searcher.now.built (asked_whole haystack.now) ≡ None }
-//!     ensures { result ≡ found searcher.now.built (asked_whole haystack.now) }
+//!     requires { find_refusal searcher.now.built (whole_input haystack.now) ≡ None }
+//!     ensures { result ≡ find_result searcher.now.built (whole_input haystack.now) }
 //! {
 //!     searcher.find(Input::new(haystack))
 //! }
@@ -21,6 +21,7 @@
 pub mod ahocorasick;
 pub mod laws;
 pub mod nfa;
+mod texts;
 
 pub use ac_automaton::automaton;
 pub use ac_automaton::automaton::{
@@ -45,6 +46,7 @@ pub use ahocorasick::{
     AhoCorasick, AhoCorasickBuilder, AhoCorasickKind, FindIter, FindOverlappingIter,
     StreamFindIter, StreamFinder, choose_kind,
 };
+pub use texts::patterns_of;
 
 #[cfg(test)]
 mod tests;
