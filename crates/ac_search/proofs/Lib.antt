@@ -2,3 +2,4 @@ pub mod Served
 pub mod StreamsServed
 pub mod SomeMatch
 pub mod InOrder
+pub mod StreamCounts

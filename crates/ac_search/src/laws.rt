@@ -21,7 +21,7 @@ pub use ac_util::laws::{
     values_hash_by_their_fields, walk_goes_on, walk_has_beginnings, walk_is_in_order,
     walk_is_short,
 };
-use ac_util::search::Input;
+use ac_util::search::{Anchored, Input, StartKind};
 use std::alloc::Allocator;
 
 /// The answer of a find, each match of a walk and each item of the listing lie in the input's span, and so in the
@@ -43,6 +43,16 @@ pub fn answers_lie_inside<A: Allocator>(searcher: &AhoCorasick<A>, input: Input<
         (all (search_in searcher.now.built (input_of input.entry))) }
     ensures few { length (walk_result searcher.now.built (input_of input.entry))
         ≤ (input_of input.entry).end + 1 - (input_of input.entry).start }
+{}
+
+/// A searcher supports a find and a walk over an input that isn't anchored, unless it supports anchored searches alone.
+///
+/// Call this before a `find` or a loop over the matches, in a function where much else stands after the build and the check
+/// doesn't find this by itself.
+pub fn finds_are_supported<A: Allocator>(searcher: &AhoCorasick<A>, input: Input<'_>)
+    requires starts { searcher.now.built.start_kind ≢ StartKind.Anchored }
+    requires unanchored { (input_of input).anchored ≡ Anchored.No }
+    ensures { find_refusal searcher.now.built (input_of input.entry) ≡ None }
 {}
 
 /// Where there is a value for each pattern, the answer of a find, each match of a walk and each item of the listing have

@@ -1,21 +1,28 @@
-//! Finds right after a build.
+//! Finds that stand far from the build of their searcher.
+use crate::laws::finds_are_supported;
 use crate::tests::same;
-use crate::{AhoCorasick, Input, Match, MatchKind};
+use crate::{AhoCorasick, Input, Match, MatchKind, StartKind};
 use std::test::Fail;
 
 #[test]
-fn a_built_searcher_finds(rt: HostRuntime) -> Result<(), Fail> {
+fn built_searchers_find(rt: HostRuntime) -> Result<(), Fail> {
     let alloc = rt.alloc();
     let patterns: &[&[u8]] = &[b"Sam", b"Samwise"];
     let mut builder = AhoCorasick::builder();
     builder.match_kind(MatchKind::LeftmostLongest);
     let searcher = builder.build(alloc, patterns)?;
-    let input = Input::new(b"Samwise");
+    let input = Input::new(b"Samwise, Sam");
     same(&rt, searcher.find(input), Some(Match::must(1, 0..7)));
+
+    builder
+        .match_kind(MatchKind::LeftmostFirst)
+        .start_kind(StartKind::Both);
+    let both = builder.build(alloc, patterns)?;
+    finds_are_supported(&both, input);
     let mut ends = Vec::new(alloc);
-    for m in searcher.find_iter(input) {
+    for m in both.find_iter(input) {
         ends.push(m.end())?;
     }
-    same(&rt, ends.as_slice(), [7].as_slice());
+    same(&rt, ends.as_slice(), [3, 12].as_slice());
     Ok(())
 }
