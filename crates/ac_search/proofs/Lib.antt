@@ -1,3 +1,5 @@
 pub mod Served
 pub mod StreamsServed
 pub mod SomeMatch
+pub mod InOrder
+pub mod StreamCounts

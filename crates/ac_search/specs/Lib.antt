@@ -2,6 +2,7 @@
 -- crate cite, so that a user need not list those crates. Each keeps its name, as `Built` here is `Built` of ac_util; but
 -- the `Classes` of ac_engines are `EngineClasses` here.
 pub mod Engines
+pub mod Order
 pub mod Places
 pub mod Prelude
 pub mod Searchers

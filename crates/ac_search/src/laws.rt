@@ -1,9 +1,10 @@
 //! Laws that users of a searcher may rely on, each the contract of a function that does nothing. They are about the
 //! definitions that the contracts of the searches are made of: nothing is called, nothing is assumed.
-ghost use Rattle.std.specs.Prelude.{◌≡◌, ◌≢◌, ◌+◌, ◌-◌, ◌≤◌, ◌↔◌, ℕ, IfSome, IsTrue, List, None, true, length};
+ghost use Rattle.std.specs.Prelude.{◌≡◌, ◌≢◌, ◌+◌, ◌-◌, ◌<◌, ◌≤◌, ◌↔◌, ℕ, IfSome, IsTrue, List, None, true, length};
 ghost use Rattle.std.specs.List.{AllByRecursion};
 ghost use Rattle.std.specs.Str.{IsUtf8};
 ghost use Rattle.ac_automaton.specs.Util.{all, AreTexts, InputView, input_of, Built, exchanged, exchanged_in_text, find_refusal, find_result, has_empty, kept_back_len, IsBetweenCharacters, LiesIn, Occurrence, Occurs, overlapping_iter_refusal, overlapping_refusal, replace_refusal, search_in, shortest_len, stream_refusal, stream_result, walk_result};
+ghost use Rattle.ac_search.specs.Order.{StandInOrder};
 ghost use Rattle.ac_engines.specs.declared.nfa.contiguous.format.Format.{Format};
 ghost use Rattle.ac_search.specs.Searchers.{IsBuilt, Searcher, Settings};
 ghost use Rattle.ac_search.specs.declared.ahocorasick.choice.AhoCorasickKind.{AhoCorasickKind};
@@ -20,7 +21,7 @@ pub use ac_util::laws::{
     values_hash_by_their_fields, walk_goes_on, walk_has_beginnings, walk_is_in_order,
     walk_is_short,
 };
-use ac_util::search::Input;
+use ac_util::search::{Anchored, Input, StartKind};
 use std::alloc::Allocator;
 
 /// The match that a find returns, each match of a walk and each occurrence of the listing lie in the input's span, and
@@ -43,6 +44,43 @@ pub fn answers_lie_inside<A: Allocator>(searcher: &AhoCorasick<A>, input: Input<
         (all (search_in searcher.now.built (input_of input.entry))) }
     ensures few { length (walk_result searcher.now.built (input_of input.entry))
         ≤ (input_of input.entry).end + 1 - (input_of input.entry).start }
+{}
+
+/// A searcher supports a find and a walk over an input that isn't anchored, unless it supports anchored searches alone.
+///
+/// Call this before a `find` or a loop over the matches, in a function where much else stands after the build and the check
+/// doesn't find this by itself.
+pub fn finds_are_supported<A: Allocator>(searcher: &AhoCorasick<A>, input: Input<'_>)
+    requires starts { searcher.now.built.start_kind ≢ StartKind.Anchored }
+    requires unanchored { (input_of input).anchored ≡ Anchored.No }
+    ensures { find_refusal searcher.now.built (input_of input.entry) ≡ None }
+{}
+
+/// Where there is a value for each pattern, the answer of a find, each match of a walk and each item of the listing have
+/// the number of a value.
+///
+/// Call this before a loop over the matches in which the values are indexed by their patterns. The loop's invariant is then
+/// `walk` or `listing` over the matches still to come, also where the searcher is a variable of the function.
+pub fn answers_have_values<A: Allocator, T>(
+    searcher: &AhoCorasick<A>,
+    input: Input<'_>,
+    values: &[T],
+)
+    requires { length values.now ≡ length searcher.now.built.patterns }
+    ensures find { IfSome (find_result searcher.now.built (input_of input.entry)) (λ m. m.pattern < length values.now) }
+    ensures walk { AllByRecursion (λ m. m.pattern < length values.now)
+        (walk_result searcher.now.built (input_of input.entry)) }
+    ensures listing { AllByRecursion (λ m. m.pattern < length values.now)
+        (all (search_in searcher.now.built (input_of input.entry))) }
+{}
+
+/// The matches of a walk stand one after another in the input's span, and so in the haystack.
+///
+/// Call this before a loop over the matches that also slices the haystack between them. The loop's invariant is then
+/// `StandInOrder`, from where the match before ended, over the matches still to come.
+pub fn matches_stand_in_order<A: Allocator>(searcher: &AhoCorasick<A>, input: Input<'_>)
+    ensures { StandInOrder (input_of input.entry).start (length (input_of input.entry).haystack)
+        (walk_result searcher.now.built (input_of input.entry)) }
 {}
 
 /// Where the haystack and all patterns are texts, and no pattern is empty, the match that a find returns, each match of

@@ -21,6 +21,7 @@
 pub mod ahocorasick;
 pub mod laws;
 pub mod nfa;
+mod texts;
 
 pub use ac_automaton::automaton;
 pub use ac_automaton::automaton::{
@@ -45,6 +46,7 @@ pub use ahocorasick::{
     AhoCorasick, AhoCorasickBuilder, AhoCorasickKind, FindIter, FindOverlappingIter,
     StreamFindIter, StreamFinder, choose_kind,
 };
+pub use texts::patterns_of;
 
 #[cfg(test)]
 mod tests;
