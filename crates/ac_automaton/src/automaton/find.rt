@@ -300,7 +300,7 @@ impl<'a, A: Automaton> Scanner<'a, A> {
 
     /// Returns the pick of the span where there is a single pattern and the automaton is at its start, as the prefilter
     /// finds it in the rest of the span.
-    #[inline(never)]
+    #[inline]
     fn find_needle(
         &self,
         prefilter: &Prefilter<A::Memory>,
