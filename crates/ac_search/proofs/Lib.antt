@@ -3,3 +3,4 @@ pub mod StreamsServed
 pub mod SomeMatch
 pub mod InOrder
 pub mod StreamCounts
+pub mod Words

@@ -8,6 +8,7 @@ pub mod Prelude
 pub mod Searchers
 pub mod States
 pub mod StreamsBegun
+pub mod Words
 -- what is asked, what occurs, and what answers it
 pub use Rattle.ac_util.specs.InputView
 pub use Rattle.ac_util.specs.Inputs

@@ -7,6 +7,7 @@ ghost use Rattle.ac_automaton.specs.Util.{all, AreTexts, InputView, input_of, Bu
 ghost use Rattle.ac_search.specs.Order.{StandInOrder};
 ghost use Rattle.ac_engines.specs.declared.nfa.contiguous.format.Format.{Format};
 ghost use Rattle.ac_search.specs.Searchers.{IsBuilt, Searcher, Settings};
+ghost use Rattle.ac_search.specs.Words.{AreWords};
 ghost use Rattle.ac_search.specs.declared.ahocorasick.choice.AhoCorasickKind.{AhoCorasickKind};
 
 use crate::ahocorasick::{AhoCorasick, AhoCorasickKind};
@@ -81,6 +82,14 @@ pub fn answers_have_values<A: Allocator, T>(
 pub fn matches_stand_in_order<A: Allocator>(searcher: &AhoCorasick<A>, input: Input<'_>)
     ensures { StandInOrder (input_of input.entry).start (length (input_of input.entry).haystack)
         (walk_result searcher.now.built (input_of input.entry)) }
+{}
+
+/// Patterns of ASCII bytes of which none is empty are texts, as `answers_cut_no_character` requires.
+///
+/// Call this before it. The check sees by itself that literals are such patterns (`AreWords`).
+pub fn words_are_texts<A: Allocator>(searcher: &AhoCorasick<A>)
+    requires { AreWords searcher.now.built.patterns }
+    ensures { AreTexts searcher.now.built.patterns }
 {}
 
 /// Where the haystack and all patterns are texts, and no pattern is empty, the match that a find returns, each match of

@@ -5,5 +5,7 @@ mod log_count;
 mod log_filter;
 mod occurrences;
 mod redactor;
+mod starts;
 mod texts;
 mod tokenizer;
+mod words;
