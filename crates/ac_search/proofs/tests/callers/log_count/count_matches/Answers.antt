@@ -1,5 +1,4 @@
-use Rattle.std.proofs.Common.{◌≡◌, ◌∙◌, ap, arith, rules}
-use Rattle.std.proofs.lemmas.Grind.{common_steps}
+use Rattle.std.proofs.Common.{◌≡◌, ◌∙◌, rules}
 use Rattle.ac_util.specs.declared.error.StreamError.TheVariants.{Io}
 use Rattle.ac_search.proofs.StreamCounts.{counting-begins, counting-ends, counting-fails, counting-goes_on}
 use Rattle.ac_search.proofs.tests.callers.log_count.count_matches.Goals as goal
