@@ -1,13 +1,12 @@
 -- A find that reads on from match to match: what is picked where it has come to.
-use Rattle.std.proofs.Common.{◌≡◌, ◌≢◌, ◌⊎◌, ℕ, zero, suc, ◌+◌, ◌-◌, ◌<◌, ◌≤◌, Bool, true, false, List, [], length, refl, ap, sym, ◌∙◌, inl, inr, arith, Option, Some, None, option_map, slice_get, IfSome, max, rules}
-use Rattle.std.specs.Option.{is_some}
-use Rattle.std.proofs.lemmas.Bool.{false≢true}
+use Rattle.std.proofs.Common.{◌≡◌, ◌≢◌, ◌⊎◌, ℕ, zero, suc, ◌+◌, ◌-◌, ◌<◌, ◌≤◌, Bool, true, false, IsTrue, ◌↔◌, List, [], length, refl, ap, sym, ◌∙◌, inl, inr, arith, Option, Some, None, option_map, slice_get, IfSome, max, rules}
+use Rattle.std.specs.Option.{option_or}
 use Rattle.std.proofs.lemmas.Grind.{common_steps}
 use Rattle.ac_util.specs.declared.search.Anchored.{Anchored}
 use Rattle.ac_automaton.specs.Util.{Built, is_leftmost, MatchKind, Node, Occurrence, order_of, pick, Span, Standard}
 use Rattle.ac_util.proofs.SearchLoop.{SearchGoesOn}
 use Rattle.ac_automaton.specs.Prelude.{found_at, in_memory, IsAnswered, IsDecided, matches_of, NoMatchBetween, place_of, Scan}
-use Rattle.ac_automaton.proofs.FindLoop.{dead-stays, found-end, goes_on-by, node_at, order, picked-final, picked-newly, picked-still, q, up_to}
+use Rattle.ac_automaton.proofs.FindLoop.{dead-stays, found-end, goes_on-by, goes_on-none, node_at, order, picked-final, picked-newly, picked-still, q, up_to}
 
 module _ (s : Scan) (stops : Bool) (bytes : List ℕ) (span : Span) where
   abbrev node : ℕ → Node
@@ -43,16 +42,11 @@ module _ (s : Scan) (stops : Bool) (bytes : List ℕ) (span : Span) where
         → Some m ≡ picked_to at
     picked-there before m some = search (rules, picked-newly, still-before)
 
-    -- so what is picked there is what is found, if anything is
-    pub picked-some : from < at → (found : Option Occurrence) → found ≡ found_at s.built s.anchored (node at) at
-        → is_some found ≡ true → found ≡ picked_to at
-    picked-some before None is some = absurd (false≢true some)
-    picked-some before (Some m) is some = picked-there before m (sym is)
-
-    pub picked-none : from < at → (found : Option Occurrence) → found ≡ found_at s.built s.anchored (node at) at
-        → is_some found ≡ false → r ≡ picked_to at
-    picked-none before None is none = picked-ahead before (sym is)
-    picked-none before (Some m) is none = absurd (cc)
+    -- so what is picked there is what is found, or else what was picked
+    pub picked-or : from < at → (found : Option Occurrence) → found ≡ found_at s.built s.anchored (node at) at
+        → option_or found r ≡ picked_to at
+    picked-or before None is = picked-ahead before (sym is)
+    picked-or before (Some m) is = picked-there before m (sym is)
 
   -- a find that stops at the first match has it, or the find goes on
   kept-or-goes : (kind : MatchKind) (t : Bool) (r : Option Occurrence) → (t ≡ false → is_leftmost kind ≡ true)
@@ -93,8 +87,19 @@ pub ends-there : (built : Built) (a : Anchored) (u : Node) (at : ℕ) (r : Optio
 ends-there built a u at None is = tt
 ends-there built a u at (Some m) is = found-end built a u at m (sym is)
 
+-- and so does what is picked of a find that goes on, if it stops at the first match
+pub ends-or : (kind picks : MatchKind) (at : ℕ) (found r : Option Occurrence) → IfSome found (λ m. m.end ≡ at)
+    → SearchGoesOn kind picks r → picks ≡ Standard → IfSome (option_or found r) (λ m. m.end ≡ at)
+ends-or kind picks at None r ends goes standard = goes_on-none kind picks r (λ m. m.end ≡ at) goes standard
+ends-or kind picks at (Some m) r ends goes standard = ends
+
 -- a find without its answer has bytes to read, is alive, and has no match if it stops at the first
 pub record IsUnanswered (stops : Bool) (end at : ℕ) (u : Node) (last : Option Occurrence) : Type 0 where
   pub room : at < end
   pub living : u ≢ None
   pub none : stops ≡ true → last ≡ None
+
+-- so says a test whether it has its answer
+pub unanswered-by : {stops : Bool} {end at : ℕ} {u : Node} {last : Option Occurrence} (test : Bool)
+    → (IsTrue test ↔ IsAnswered stops end at u last) → test ≡ false → IsUnanswered stops end at u last
+unanswered-by {stops} {end} {at} {u} {last} test says fails = grind (arith, common_steps)

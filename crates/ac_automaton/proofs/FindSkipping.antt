@@ -1,43 +1,26 @@
 -- A find that skips: it picks what its prefilter says, or has passed over no match where it reads on.
-use Rattle.std.proofs.Common.{◌≡◌, ◌⊎◌, ℕ, zero, suc, ◌+◌, ◌<◌, ◌≤◌, Bool, true, false, List, [], ◌∷◌, length, refl, ap, sym, inl, inr, arith, Option, Some, None, IfSome, map, subst, ◌∙◌, rules}
+use Rattle.std.proofs.Common.{◌≡◌, ℕ, zero, suc, ◌+◌, ◌<◌, ◌≤◌, Bool, true, false, List, [], ◌∷◌, length, refl, ap, sym, arith, Option, Some, None, IfSome, map, subst, ◌∙◌, rules}
 use Rattle.std.specs.List.{list_any}
 use Rattle.std.proofs.lemmas.Bool.{cases_lt}
 use Rattle.std.proofs.lemmas.Grind.{common_steps}
-use Rattle.ac_automaton.specs.Util.{Candidate, Counts, is_empty, is_leftmost, MatchKind, may_skip, No, Occurrence, Occurs, one_more_call, order_of, IsPick, IsSkipFor, participates, pick, plain, plain_patterns, PossibleStart, reached, text, Search, search_over, Skip, skip_for, Span}
-use Rattle.ac_util.specs.declared.prefilter.Candidate.TheVariants.{None as Nothing}
-use Rattle.ac_util.specs.Prefilters.{IsCandidateFor}
-use Rattle.ac_util.specs.Prefilters.Skip.{Needle}
+use Rattle.ac_util.specs.declared.search.Anchored.{Anchored}
+use Rattle.ac_automaton.specs.Util.{Built, Counts, is_empty, is_leftmost, IsNeedleMatch, MatchKind, may_skip, No, Node, Occurrence, Occurs, one_more_call, order_of, IsPick, participates, pick, plain, plain_patterns, reached, text, Search, search_over, Skip, Span, Taped, usize_max}
 use Rattle.ac_util.proofs.SearchLoop.{SearchGoesOn}
 use Rattle.ac_util.proofs.Walks.{pick-Occurs}
 use Rattle.ac_util.proofs.AtStart.{pick-rest}
 use Rattle.ac_util.proofs.Participants.{takes_part}
 use Rattle.ac_util.proofs.Picks.{pick-IsPick}
-use Rattle.ac_automaton.specs.Prelude.{Cursor, found_at, HasRead, HasSearched, in_memory, most_looks, node, PassesNoMatch, picking_by, ReadsTo, Scan, ScansTo, search_through, SkipsByNeedle, HasReadMatch, Work}
+use Rattle.ac_automaton.specs.Prelude.{AutomatonView, Cursor, FindsIn, finding_of, FindsOn, found_at, HasRead, HasSearched, in_memory, IsAlive, MayAdvance, MayBegin, MayFind, MaySearch, most_looks, node, PassesNoMatch, picking_by, ReadsTo, Scan, scan_of, ScannerView, ScansTo, ScanText, search_through, Skips, SkipsToNeedle, HasReadMatch, Work, work_of}
 use Rattle.ac_automaton.specs.Finds.{IsReady}
 use Rattle.ac_automaton.proofs.FindAhead.{found-nothing, picked-ahead, picked-there}
 use Rattle.ac_automaton.proofs.FindLoop.{goes_on-by, order, picked-start, up_to}
-use Rattle.ac_automaton.proofs.ReadOn.{at-start, node-start, read-scanned}
+use Rattle.ac_automaton.proofs.ReadOn.{alive-start, at-start, node-start, read-scanned, scans-nothing, scans-on}
 use Rattle.ac_automaton.proofs.Skipping.{none-there}
 
 -- a search that skips has no empty pattern
-pub skip-some : (wants_prefilter ignores_case : Bool) (patterns : List (List ℕ)) (skip : Skip)
-    → skip_for wants_prefilter ignores_case patterns ≡ Some skip → list_any is_empty patterns ≡ false
-skip-some wants_prefilter ignores_case patterns skip = grind (arith, common_steps)
-
--- where nothing occurs nothing is picked
-pub picks-none : (kind : MatchKind) (q : Search) → ((m : Occurrence) → ¬ Occurs q m) → None ≡ pick kind q
-picks-none kind q nothing = by (pick kind q) refl
-  where
-    by : (r : Option Occurrence) → pick kind q ≡ r → None ≡ r
-    by None e = refl
-    by (Some m) e = absurd (nothing m (pick-Occurs kind q m e))
-
--- of a needle no start alone is returned
-pub nothing-none : (needle bytes : List ℕ) (low high : ℕ) (candidate : Candidate)
-    → (candidate ≡ Nothing) ⊎ ((place : ℕ) × (candidate ≡ PossibleStart place))
-    → IsCandidateFor (Needle needle) bytes low high candidate → candidate ≡ Nothing
-nothing-none needle bytes low high candidate (inl is) told = is
-nothing-none needle bytes low high candidate (inr is) told = grind (arith, common_steps)
+pub skip-some : {wants_prefilter : Bool} {built : Built} {skip : Skip} → Skips wants_prefilter built skip
+    → list_any is_empty built.patterns ≡ false
+skip-some skips = grind (arith, common_steps)
 
 -- each pattern of a list of one takes part
 one-takes_part : (kind : MatchKind) (p : List ℕ) (n : ℕ) → n < 1 → participates kind (p ∷ []) n ≡ true
@@ -46,7 +29,7 @@ one-takes_part kind p (suc n) within = absurd (omega arith)
 
 -- a find that has come to a place without a match, and whose automaton is at its start there: it calls its prefilter,
 -- which answers the pick of the rest of the span
-module _ (s : Scan) (bytes : List ℕ) (span : Span) {skip : Skip} (by : SkipsByNeedle s skip) (stops : Bool)
+module _ (s : Scan) (bytes : List ℕ) (span : Span) {needle : List ℕ} (by : SkipsToNeedle s needle) (stops : Bool)
     {cursor : Cursor} (ready : IsReady s (in_memory bytes span) stops cursor)
     (at_start : node s (in_memory bytes span) cursor.at ≡ Some []) (before_end : cursor.at < span.end)
     (inside : span.end ≤ length bytes) where
@@ -59,7 +42,7 @@ module _ (s : Scan) (bytes : List ℕ) (span : Span) {skip : Skip} (by : SkipsBy
   -- nothing occurs in what was read
   nothing : (m : Occurrence) → ¬ Occurs (record searched { high = cursor.at }) m
   nothing =
-      let has_none = skip-some s.wants_prefilter s.built.ignores_case s.built.patterns skip by.skips.built_so in
+      let has_none = skip-some by.skips in
       let found : found_at s.built s.anchored (node s (in_memory bytes span) cursor.at) cursor.at ≡ None =
       found-nothing s stops bytes span cursor.at (none-there s by.unanchored has_none at_start) in
       subst (IsPick picks (record searched { high = cursor.at })) (sym ready.picked ∙ found)
@@ -68,10 +51,9 @@ module _ (s : Scan) (bytes : List ℕ) (span : Span) {skip : Skip} (by : SkipsBy
   -- each pattern takes part, since there is one
   all : (n : ℕ) → n < length s.built.patterns → participates s.built.kind (plain_patterns searched) n ≡ true
   all n within =
-      let serves : (s.built.ignores_case ≡ false) × (s.built.patterns ≡ by.needle ∷ []) =
-      subst (λ k. IsSkipFor k s.built.ignores_case s.built.patterns) by.by_needle by.skips.serves in
+      let serves = by.skips.serves in
       subst (λ ps. participates s.built.kind ps n ≡ true) (sym (ap (map (plain s.built.ignores_case)) serves.1))
-      (one-takes_part s.built.kind (plain s.built.ignores_case by.needle) n
+      (one-takes_part s.built.kind (plain s.built.ignores_case needle) n
       (subst (λ ps. n < length ps) serves.1 within))
 
   -- what is picked in the rest of the span is picked
@@ -145,25 +127,61 @@ module _ (s : Scan) (bytes : List ℕ) (span : Span) {skip : Skip} (by : SkipsBy
     says None = tt
     says (Some m) = record { place = λ same. absurd (called same); reads = λ same. absurd (called same) }
 
-    pub searched-rest : (r : Option Occurrence)
+    -- the pick of the rest is the match of the needle
+    answers : {r : Option Occurrence} → IsNeedleMatch needle bytes cursor.at span.end r
         → pick picks (search_over s.built.ignores_case s.built.patterns bytes cursor.at span.end) ≡ r
+    answers {r} found =
+        subst (λ (i : Bool). pick picks (search_over i s.built.patterns bytes cursor.at span.end) ≡ r) (sym by.skips.serves.0)
+        (subst (λ (ps : List (List ℕ)). pick picks (search_over false ps bytes cursor.at span.end) ≡ r) (sym by.skips.serves.1)
+        (found picks))
+
+    pub searched-rest : (r : Option Occurrence) → IsNeedleMatch needle bytes cursor.at span.end r
         → HasSearched (picking_by s stops) searched r begun after
-    searched-rest r answer = record {
-      answer = picked-rest answer;
-      read = has_read;
-      says = says r;
-      stops = λ _. ends-there r answer;
-      dead = λ k low before. ready.is_at.alive k low (omega (arith, before, scans.unread));
-      decided = λ same. absurd (called same);
-    }
+    searched-rest r found =
+        let answer = answers found in
+        record {
+          answer = picked-rest answer;
+          read = has_read;
+          says = says r;
+          stops = λ _. ends-there r answer;
+          dead = λ k low before. ready.is_at.alive k low (omega (arith, before, scans.unread));
+          decided = λ same. absurd (called same);
+        }
 
 -- at the start of the span a find may read on: what the start state finds is picked
-pub ready-start : (s : Scan) (stops : Bool) (bytes : List ℕ) (span : Span) {state : ℕ} → s.stands state (Some [])
+ready-start : (s : Scan) (stops : Bool) (bytes : List ℕ) (span : Span) {state : ℕ} → s.stands state (Some [])
     → span.start ≤ length bytes → IsReady s (in_memory bytes span) stops (record { state = state; at = span.start })
 ready-start s stops bytes span there inside = record {
   is_at = at-start s (in_memory bytes span) span.start there refl inside;
   picked = sym (picked-start s stops bytes span inside);
 }
+
+pub may-find-first : {v : ScannerView} {stops : Bool} {tape : Taped} {state : ℕ} → MaySearch v.span tape → v.front ≡ 0
+    → v.span.end ≤ usize_max → v.span.start ≤ v.span.end → v.scan.stands state (Some []) → (stops ≡ false → is_leftmost v.scan.built.kind ≡ true)
+    → MayFind v stops tape (record { state = state; at = v.span.start })
+may-find-first {v} {stops} {tape} may memory small ordered starts leftmost = record {
+  leftmost = leftmost;
+  within = ordered;
+  inside = may.end_within;
+  unread = may.unread;
+  memory = memory;
+  small = small;
+  ready = ready-start v.scan stops tape.bytes v.span starts (omega (arith, ordered, may.end_within));
+}
+
+-- what a find answers that begins there is said of its finder
+pub finds-in : (a : AutomatonView) {anchored : Anchored} {span : Span} {stops : Bool} {tape new_tape : Taped}
+    {counts new_counts : Counts} {found : Option Occurrence} {start : Cursor} → start.at ≡ span.start → tape.place ≤ span.start
+    → FindsOn (record { scan = scan_of a anchored; span = span; front = 0 }) stops start tape counts found new_tape new_counts
+    → FindsIn (finding_of a anchored stops) span tape counts found new_tape new_counts
+finds-in a {anchored} {span} {stops} {tape} {new_tape} {counts} {new_counts} {found} {start} there unread finds =
+    let s = scan_of a anchored in
+    record {
+      searched = finds.searched (work_of tape counts)
+          (subst (λ (k : ℕ). ScansTo s (in_memory tape.bytes span) span.start (work_of tape counts) k (work_of tape counts))
+          (sym there) (scans-nothing s (in_memory tape.bytes span) unread));
+      bytes = finds.bytes;
+    }
 
 -- a find whose automaton has reached no match since it began picks what the node finds
 module _ (s : Scan) (stops : Bool) (bytes : List ℕ) (span : Span) (free : s.anchored ≡ No)
@@ -193,3 +211,84 @@ module _ (s : Scan) (stops : Bool) (bytes : List ℕ) (span : Span) (free : s.an
 
   pub ready-passed : IsReady s (in_memory bytes span) stops cursor
   ready-passed = record { is_at = passed.is_at; picked = picked-quiet passed.is_at.onward }
+
+-- a find that begins where its automaton is at its start
+module _ {v : ScannerView} {stops : Bool} {tape : Taped} {start : Cursor} (begins : MayBegin v stops tape start) where
+  abbrev t : ScanText
+  t = in_memory tape.bytes v.span
+
+  alive : IsAlive v.scan t start
+  alive = alive-start v.scan t start.at begins.starts begins.there (omega (arith, begins.before_end, begins.inside))
+
+  -- its scanner may read on
+  pub may-advance : MayAdvance v tape start
+  may-advance = record {
+    alive = (t, refl, alive);
+    before_end = begins.before_end;
+    inside = begins.inside;
+    unread = begins.unread;
+  }
+
+  -- where it skips, and its scanner has passed over no match
+  module _ (free : v.scan.anchored ≡ No) (some : list_any is_empty v.scan.built.patterns ≡ false) {counts : Counts}
+      {here : Cursor} {tape_here : Taped} {counts_here : Counts} (same : tape_here.bytes ≡ tape.bytes)
+      (within : here.at ≤ v.span.end)
+      (passes : (u : ScanText) → u.bytes ≡ tape.bytes → IsAlive v.scan u start
+      → PassesNoMatch v.scan u start.at (work_of tape counts) here (work_of tape_here counts_here)) where
+    passed : PassesNoMatch v.scan t v.span.start (work_of tape counts) here (work_of tape_here counts_here)
+    passed =
+        subst (λ (k : ℕ). PassesNoMatch v.scan t k (work_of tape counts) here (work_of tape_here counts_here)) begins.there
+        (passes t refl alive)
+
+    ready : IsReady v.scan (in_memory tape_here.bytes v.span) stops here
+    ready =
+        subst (λ (bs : List ℕ). IsReady v.scan (in_memory bs v.span) stops here) (sym same)
+        (ready-passed v.scan stops tape.bytes v.span free some begins.leftmost passed)
+
+    -- it may read on from there
+    pub may-find-passed : MayFind v stops tape_here here
+    may-find-passed =
+        let long = ap (length {A = ℕ}) same in
+        record {
+          leftmost = begins.leftmost;
+          within = within;
+          inside = omega (arith, long, begins.inside);
+          unread = passed.scans.unread;
+          memory = begins.memory;
+          small = begins.small;
+          ready = ready;
+        }
+
+    -- what was done before it began, and then as far as there
+    scanned : {begun : Work} → ScansTo v.scan t v.span.start begun start.at (work_of tape counts)
+        → ScansTo v.scan (in_memory tape_here.bytes v.span) v.span.start begun here.at (work_of tape_here counts_here)
+    scanned {begun} scans =
+        subst (λ (bs : List ℕ). ScansTo v.scan (in_memory bs v.span) v.span.start begun here.at (work_of tape_here counts_here))
+        (sym same) (scans-on scans (passes t refl alive).scans)
+
+    -- what a find answers there it answers from where it began
+    pub finds-passed : {found : Option Occurrence} {new_tape : Taped} {new_counts : Counts}
+        → FindsOn v stops here tape_here counts_here found new_tape new_counts
+        → FindsOn v stops start tape counts found new_tape new_counts
+    finds-passed {found} {new_tape} {new_counts} finds = record {
+      bytes = finds.bytes ∙ same;
+      searched = λ begun scans.
+          subst (λ (bs : List ℕ). HasSearched (picking_by v.scan stops) (search_through v.scan (in_memory bs v.span)) found
+          begun (work_of new_tape new_counts)) same (finds.searched begun (scanned scans));
+    }
+
+    -- and so it does by its only pattern, where its automaton is at its start
+    pub finds-needle : {needle : List ℕ} → SkipsToNeedle v.scan needle
+        → ((u : Node) → v.scan.stands here.state u → u ≡ Some []) → here.at < v.span.end
+        → {found : Option Occurrence} {new_counts : Counts} → IsNeedleMatch needle tape_here.bytes here.at v.span.end found
+        → new_counts ≡ one_more_call counts_here → FindsOn v stops start tape counts found tape_here new_counts
+    finds-needle by at_start before {found} {new_counts} matched called =
+        let long = ap (length {A = ℕ}) same in
+        record {
+          bytes = same;
+          searched = λ begun scans.
+              subst (λ (bs : List ℕ). HasSearched (picking_by v.scan stops) (search_through v.scan (in_memory bs v.span)) found
+              begun (work_of tape_here new_counts)) same
+              (searched-rest v.scan tape_here.bytes v.span by stops ready (at_start _ ready.is_at.there) before
+              (omega (arith, long, begins.inside)) (scanned scans) called found matched);
+        }

@@ -7,6 +7,7 @@ pub mod Due
 pub mod Exchanging
 pub mod FindAhead
 pub mod FindLoop
+mod FindPicks
 pub mod FindSkipping
 pub mod Follows
 pub mod Gathering
@@ -17,6 +18,7 @@ mod Leading
 pub mod Lengths
 pub mod Linking
 pub mod ListLoop
+mod ListSteps
 pub mod ListsOf
 pub mod Misses
 pub mod Orders

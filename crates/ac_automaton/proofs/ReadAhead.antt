@@ -1,10 +1,10 @@
 -- Reading on up to a match: where the automaton stands, and that it has passed over none.
-use Rattle.std.proofs.Common.{◌≡◌, ◌≢◌, ◌⊎◌, ℕ, ◌+◌, ◌≤◌, List, [], inl, inr, subst, sym, refl, ◌++◌, ◌∷◌, ◌∙◌, arith, None}
-use Rattle.std.proofs.lemmas.Bool.{cases_lt}
+use Rattle.std.proofs.Common.{◌≡◌, ◌≢◌, ◌⊎◌, ℕ, ◌+◌, ◌<◌, ◌≤◌, ◌↔◌, Bool, false, IsTrue, List, [], length, ap, inl, inr, subst, sym, refl, ◌++◌, ◌∷◌, ◌∙◌, arith, None}
+use Rattle.std.proofs.lemmas.Bool.{cases_lt, false≢true}
 use Rattle.std.proofs.lemmas.Grind.{common_steps}
 use Rattle.ac_util.specs.declared.search.Anchored.{Anchored}
-use Rattle.ac_automaton.specs.Util.{Built, No, Node, Yes}
-use Rattle.ac_automaton.specs.Prelude.{Cursor, IsAlive, Lists, matches_of, node, NoMatchBetween, PassesNoMatch, Scan, ScansTo, ScanText, Work}
+use Rattle.ac_automaton.specs.Util.{Built, Counts, No, Node, Taped, Yes}
+use Rattle.ac_automaton.specs.Prelude.{Advances, Cursor, IsAlive, Lists, matches_of, MayAdvance, node, NoMatchBetween, PassesNoMatch, Scan, ScannerView, ScansTo, ScanText, Work, work_of}
 use Rattle.ac_automaton.proofs.Heads.{nil-from_not}
 use Rattle.ac_automaton.proofs.ReadOn.{passes-on}
 
@@ -60,3 +60,66 @@ module _ {s : Scan} {t : ScanText} where
                 subst (λ (n : ℕ). matches_of s.built s.anchored (node s t n) ≡ []) e none
           ];
         }
+
+-- a scanner has read on to here, before the end of its span, isn't dead, and has reached no match since, nor stands at
+-- one: whichever text has led to where it began
+pub record ComesOn (v : ScannerView) (start : Cursor) (tape : Taped) (counts : Counts) (here : Cursor) (new_tape : Taped)
+    (new_counts : Counts) : Type 0 where
+  pub bytes : new_tape.bytes ≡ tape.bytes
+  pub onward : start.at ≤ here.at
+  pub before_end : here.at < v.span.end
+  pub along : (t : ScanText) → t.bytes ≡ tape.bytes → IsAlive v.scan t start
+      → IsAlong v.scan t start.at (work_of tape counts) here (work_of new_tape new_counts)
+
+module _ {v : ScannerView} {start : Cursor} {tape : Taped} {counts : Counts} (may : MayAdvance v tape start) where
+  -- as it begins
+  pub comes-start : ComesOn v start tape counts start tape counts
+  comes-start = record {
+    bytes = refl;
+    onward = omega arith;
+    before_end = may.before_end;
+    along = λ t same alive. along-start alive may.unread;
+  }
+
+  module _ {here : Cursor} {tape_here : Taped} {counts_here : Counts} (on : ComesOn v start tape counts here tape_here counts_here)
+    where
+      -- it may read on
+      pub may-go-on : MayAdvance v tape_here here
+      may-go-on =
+          let r = may.alive in
+          let long = ap (length {A = ℕ}) on.bytes in
+          record {
+            alive = (r.0, r.1 ∙ sym on.bytes, (on.along r.0 r.1 r.2).alive);
+            before_end = on.before_end;
+            inside = omega (arith, long, may.inside);
+            unread = (on.along r.0 r.1 r.2).scans.unread;
+          }
+
+module _ {v : ScannerView} {start : Cursor} {tape : Taped} {counts : Counts} {here : Cursor} {tape_here : Taped}
+    {counts_here : Counts} (on : ComesOn v start tape counts here tape_here counts_here) {then_cursor : Cursor}
+    {new_tape : Taped} {new_counts : Counts}
+    (advances : Advances v here tape_here counts_here then_cursor new_tape new_counts) where
+  -- so it has where it reads on once more
+  pub comes-advances : Advances v start tape counts then_cursor new_tape new_counts
+  comes-advances = record {
+    bytes = advances.bytes ∙ on.bytes;
+    moved = omega (arith, on.onward, advances.moved);
+    within = advances.within;
+    passes = λ t same alive.
+        let along = on.along t same alive in along-passes along (advances.passes t (same ∙ sym on.bytes) along.alive);
+  }
+
+  -- and comes on to there, where a byte is left and a test says that the state is neither dead nor has matches
+  pub comes-on : then_cursor.at < v.span.end → ((u : Node) → v.scan.stands then_cursor.state u
+      → Lists v.scan.built v.scan.anchored u (v.scan.listed then_cursor.state)) → (test : Bool)
+      → ((u : Node) → v.scan.stands then_cursor.state u → IsTrue test ↔ ((u ≡ None) ⊎ (v.scan.listed then_cursor.state ≢ [])))
+      → test ≡ false → ComesOn v start tape counts then_cursor new_tape new_counts
+  comes-on before_end lists test says fails = record {
+    bytes = advances.bytes ∙ on.bytes;
+    onward = omega (arith, on.onward, advances.moved);
+    before_end = before_end;
+    along = λ t same alive.
+        let along = on.along t same alive in
+        let passes = advances.passes t (same ∙ sym on.bytes) along.alive in
+        along-next along passes (lists _ passes.is_at.there) (λ stop. false≢true (sym fails ∙ (says _ passes.is_at.there).1 stop));
+  }

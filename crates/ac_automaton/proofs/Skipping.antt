@@ -1,17 +1,17 @@
 -- Bytes with which no pattern begins don't lead away from the start, where nothing is found either if no pattern is
 -- empty.
-use Rattle.std.proofs.Common.{rules, ◌≡◌, ℕ, zero, suc, ◌+◌, ◌-◌, ◌<◌, ◌≤◌, Bool, true, false, ◌⊎◌, List, [], ◌∷◌, length, map, refl, ap, sym, ◌∙◌, subst, inl, inr, arith, Some, None, nat_eq, slice_index}
+use Rattle.std.proofs.Common.{rules, ◌≡◌, ℕ, zero, suc, ◌+◌, ◌-◌, ◌<◌, ◌≤◌, Bool, true, false, List, [], ◌∷◌, length, map, refl, ap, sym, ◌∙◌, subst, inl, inr, arith, Some, None, nat_eq, slice_index}
 use Rattle.std.specs.List.{list_any, starts_with}
 use Rattle.std.proofs.lemmas.Bool.{or_right, false≢true, false_from_ne_true, cases_lt}
 use Rattle.ac_util.specs.declared.search.Anchored.{Anchored}
-use Rattle.ac_automaton.specs.Util.{begins_with, begins_with_pattern, BeginWith, Built, Candidate, Counts, FirstOf, is_empty, is_one_of, IsSkipFor, No, Node, Occurrence, pattern_of, plain, plain_byte, Skip, IsCandidateFor}
+use Rattle.ac_automaton.specs.Util.{begins_with, begins_with_pattern, BeginWith, Built, Counts, is_empty, is_one_of, No, Node, one_more_call, pattern_of, plain, plain_byte, Taped}
 use Rattle.memchr.specs.Find.{Nowhere, Passes}
-use Rattle.ac_util.specs.declared.prefilter.Candidate.TheVariants.{None as Nothing, Match as Found}
 use Rattle.ac_util.proofs.Found.{matches-nil}
 use Rattle.ac_util.proofs.NodeCount.{any_passes}
 use Rattle.ac_util.proofs.Participants.{equal_to-none_begins}
 use Rattle.ac_util.proofs.Reached.{step-nil}
-use Rattle.ac_automaton.specs.Prelude.{Cursor, HasSkipped, IsAlive, matches_of, node, node_at, PassesNoMatch, past, plain_of, Scan, ScanText, search_through, SkipsByBytes, StaysAtStart, step_of, Work}
+use Rattle.ac_automaton.specs.Prelude.{Advances, Cursor, IsAlive, matches_of, MayAdvance, node, node_at, PassesNoMatch, past, plain_of, Scan, ScannerView, ScanText, search_through, SkipsTo, StaysAtStart, step_of, Work}
+use Rattle.ac_automaton.proofs.ReadAhead.{along-passed, along-start}
 use Rattle.ac_automaton.proofs.ReadOn.{grows-trans, inside-past, node-step, past-is}
 
 -- where a plain pattern begins with a plain byte, some pattern begins with the byte
@@ -45,38 +45,19 @@ module _ (built : Built) (some : list_any is_empty built.patterns ≡ false) whe
       → step_of built No (Some []) b ≡ Some []
   step-stays b none = search (rules, any_passes, begins-from_plain, false≢true, no_empty, step-nil)
 
--- what is known of the first bytes: from the place on asked none stands before the place returned
-pub record IsSkippedTo (first : List ℕ) (bytes : List ℕ) (low high place : ℕ) : Type 0 where
-  pub onward : low ≤ place
-  pub within : place < high
-  pub none : Nowhere (Passes (is_one_of first) bytes) low place
-
--- or, where no place is returned, none stands anywhere
-pub nothing-none : (first bytes : List ℕ) (low high : ℕ) (candidate : Candidate)
-    → (candidate ≡ Nothing) ⊎ ((m : Occurrence) × (candidate ≡ Found m))
-    → IsCandidateFor (FirstOf first) bytes low high candidate → Nowhere (Passes (is_one_of first) bytes) low high
-nothing-none first bytes low high candidate is (None, h, e) = h
-nothing-none first bytes low high candidate (inl is) (Some p, h, e) = absurd (cc)
-nothing-none first bytes low high candidate (inr is) (Some p, h, e) = let other = is.1 in absurd (cc)
-
--- a scan skips onward
-pub skipped-onward : (s : Scan) (t : ScanText) {from to : ℕ} {counts new_counts : Counts}
-    → HasSkipped s t from to counts new_counts → from ≤ to
-skipped-onward s t skipped = elim skipped [ inl same ↦ omega (arith, same.0) | inr gone ↦ gone.0 ]
-
 -- at the start of an unanchored scan no match is found, if no pattern is empty
 pub none-there : (s : Scan) → s.anchored ≡ No → list_any is_empty s.built.patterns ≡ false → {u : Node} → u ≡ Some []
     → matches_of s.built s.anchored u ≡ []
 none-there s free some start = search (rules, matches-start)
 
--- a scan that skips by first bytes
-module _ {s : Scan} {skip : Skip} (by : SkipsByBytes s skip) where
-  begin : BeginWith by.bytes s.built.ignores_case s.built.patterns
-  begin = subst (λ (k : Skip). IsSkipFor k s.built.ignores_case s.built.patterns) by.by_bytes by.skips.serves
+-- a scan that skips to first bytes
+module _ {s : Scan} {bytes : List ℕ} (by : SkipsTo s bytes) where
+  begin : BeginWith bytes s.built.ignores_case s.built.patterns
+  begin = by.skips.serves
 
   -- over bytes with which no pattern begins it stays there
   module _ (t : ScanText) (at to : ℕ) (onward : t.start ≤ past t.before at) (inside : to ≤ length t.bytes)
-      (none : Nowhere (Passes (is_one_of by.bytes) t.bytes) at to) (there : node s t at ≡ Some []) where
+      (none : Nowhere (Passes (is_one_of bytes) t.bytes) at to) (there : node s t at ≡ Some []) where
     stays-for : (n : ℕ) → at + n ≤ to → node s t (at + n) ≡ Some []
     stays-for zero up = ap (node s t) (omega arith) ∙ there
     stays-for (suc n) up =
@@ -95,41 +76,100 @@ module _ {s : Scan} {skip : Skip} (by : SkipsByBytes s skip) where
     pub stays : StaysAtStart s t at to
     stays k low high = ap (node s t) (omega arith) ∙ stays-for (k - at) (omega arith)
 
-  module _ {t : ScanText} {cursor : Cursor} {to : ℕ} {counts new_counts : Counts} (alive : IsAlive s t cursor)
-      (inside : to ≤ length t.bytes) (skipped : HasSkipped s t cursor.at to counts new_counts) where
+  module _ {t : ScanText} {cursor : Cursor} {to : ℕ} (alive : IsAlive s t cursor) (inside : to ≤ length t.bytes)
+      (onward : cursor.at ≤ to) (stays : StaysAtStart s t cursor.at to) where
     -- where it has skipped to the automaton stands too, and isn't dead
     pub alive-skipped : IsAlive s t (record { state = cursor.state; at = to })
-    alive-skipped = elim skipped [
-      | inl same ↦
-          subst (λ (at : ℕ). IsAlive s t (record { state = cursor.state; at = at })) (sym same.0) alive
-      | inr gone ↦
-          let low = past-is t.before cursor.at in
-          let high = past-is t.before to in
-          let here = gone.1 cursor.at (omega arith) gone.0 in
-          let there = gone.1 to gone.0 (omega arith) in
-          record {
-            is_at = record {
-              there = subst (s.stands cursor.state) (here ∙ sym there) alive.is_at.there;
-              onward = (let o = alive.is_at.onward in omega arith);
-              inside = inside-past s t inside;
-              alive = λ k from below. elim (cases_lt k (past t.before cursor.at)) [
-                | inl before ↦ alive.is_at.alive k from before
-                | inr beyond ↦ (λ dead.
-                    let local = past-is t.before (k - length t.before) in
-                    let place : past t.before (k - length t.before) ≡ k = omega arith in
-                    let start = gone.1 (k - length t.before) (omega arith) (omega arith) in
-                    let both : Some [] ≡ None =
-                    sym start ∙ ap (λ (n : ℕ). node_at s.built.kind (search_through s t) n) place ∙ dead in
-                    absurd (cc))
-              ];
-            };
-            living = λ dead. let both : Some [] ≡ None = sym there ∙ dead in absurd (cc);
-          }
-    ]
+    alive-skipped =
+        let low = past-is t.before cursor.at in
+        let high = past-is t.before to in
+        let here = stays cursor.at (omega arith) onward in
+        let there = stays to onward (omega arith) in
+        record {
+          is_at = record {
+            there = subst (s.stands cursor.state) (here ∙ sym there) alive.is_at.there;
+            onward = (let o = alive.is_at.onward in omega arith);
+            inside = inside-past s t inside;
+            alive = λ k from below. elim (cases_lt k (past t.before cursor.at)) [
+              | inl before ↦ alive.is_at.alive k from before
+              | inr beyond ↦ (λ dead.
+                  let local = past-is t.before (k - length t.before) in
+                  let place : past t.before (k - length t.before) ≡ k = omega arith in
+                  let start = stays (k - length t.before) (omega arith) (omega arith) in
+                  let both : Some [] ≡ None =
+                  sym start ∙ ap (λ (n : ℕ). node_at s.built.kind (search_through s t) n) place ∙ dead in
+                  absurd (cc))
+            ];
+          };
+          living = λ dead. let both : Some [] ≡ None = sym there ∙ dead in absurd (cc);
+        }
 
-    -- what it reads on from there was scanned from where it was
-    pub skipped-on : {place : ℕ} {then_cursor : Cursor} {new_work : Work} → place ≤ cursor.at
+    -- by one call of the prefilter: what it reads on from there was scanned from where it was
+    pub skipped-on : {place : ℕ} {counts new_counts : Counts} {then_cursor : Cursor} {new_work : Work}
+        → new_counts ≡ one_more_call counts → place ≤ cursor.at
         → PassesNoMatch s t to (record { place = place; counts = new_counts }) then_cursor new_work
         → new_work.counts.calls ≡ new_counts.calls → cursor.at < then_cursor.at
         → PassesNoMatch s t cursor.at (record { place = place; counts = counts }) then_cursor new_work
-    skipped-on {place} {then_cursor} {new_work} unread read uncalled moved = search (rules, grows-trans, none-there)
+    skipped-on {place} {counts} {new_counts} {then_cursor} {new_work} called unread read uncalled moved =
+        search (rules, grows-trans, none-there)
+
+-- a scanner whose automaton is at its start calls its prefilter, which leads it to a place over bytes with which no pattern
+-- begins
+module _ {v : ScannerView} {bytes : List ℕ} (by : SkipsTo v.scan bytes) {tape : Taped} {cursor : Cursor}
+    (may : MayAdvance v tape cursor) (start : (u : Node) → v.scan.stands cursor.state u → u ≡ Some [])
+    {to : ℕ} (onward : cursor.at ≤ to) (within : to ≤ v.span.end)
+    (none : Nowhere (Passes (is_one_of bytes) tape.bytes) cursor.at to) where
+  abbrev there : Cursor
+  there = record { state = cursor.state; at = to }
+
+  -- what is known of a text with the bytes of the tape that has led to where it was
+  module _ (t : ScanText) (same : t.bytes ≡ tape.bytes) (alive : IsAlive v.scan t cursor) where
+    in-text : to ≤ length t.bytes
+    in-text = let long = ap (length {A = ℕ}) same in omega (arith, long, within, may.inside)
+
+    stays-there : StaysAtStart v.scan t cursor.at to
+    stays-there =
+        stays by t cursor.at to alive.is_at.onward in-text
+        (subst (λ (bs : List ℕ). Nowhere (Passes (is_one_of bytes) bs) cursor.at to) (sym same) none)
+        (start _ alive.is_at.there)
+
+    alive-there : IsAlive v.scan t there
+    alive-there = alive-skipped by alive in-text onward stays-there
+
+  -- there it may read on
+  pub may-skipped : to < v.span.end → MayAdvance v tape there
+  may-skipped before =
+      let r = may.alive in
+      record {
+        alive = (r.0, r.1, alive-there r.0 r.1 r.2);
+        before_end = before;
+        inside = may.inside;
+        unread = omega (arith, may.unread, onward);
+      }
+
+  module _ {counts new_counts : Counts} (called : new_counts ≡ one_more_call counts) where
+    -- and then it has read on from where it was
+    pub advances-skipped : {then_cursor : Cursor} {new_tape : Taped} {then_counts : Counts}
+        → Advances v there tape new_counts then_cursor new_tape then_counts → then_counts.calls ≡ new_counts.calls
+        → Advances v cursor tape counts then_cursor new_tape then_counts
+    advances-skipped advances uncalled =
+        let moved = advances.moved in
+        record {
+          bytes = advances.bytes;
+          moved = omega (arith, moved, onward);
+          within = advances.within;
+          passes = λ t same alive.
+              skipped-on by alive (in-text t same alive) onward (stays-there t same alive) called may.unread
+              (advances.passes t same (alive-there t same alive)) uncalled (omega (arith, moved, onward));
+        }
+
+    -- as it has where no pattern begins up to the end
+    pub skipped-to-end : cursor.at < to → Advances v cursor tape counts there tape new_counts
+    skipped-to-end moved = record {
+      bytes = refl;
+      moved = moved;
+      within = within;
+      passes = λ t same alive.
+          skipped-on by alive (in-text t same alive) onward (stays-there t same alive) called may.unread
+          (along-passed (along-start (alive-there t same alive) (omega (arith, may.unread, onward)))) refl moved;
+    }

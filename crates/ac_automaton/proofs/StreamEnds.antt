@@ -1,7 +1,7 @@
 -- The next match of a stream, or that there is none, once its end was met.
-use Rattle.std.proofs.Common.{◌≡◌, ℕ, Bool, List, ◌++◌, length, arith, Option, Some, None, Result, Ok, Err}
+use Rattle.std.proofs.Common.{◌≡◌, ℕ, ◌≤◌, Bool, List, ◌++◌, length, arith, Option, Some, None, Result, Ok, Err}
 use Rattle.std.proofs.lemmas.Grind.{common_steps}
-use Rattle.ac_automaton.specs.Util.{Occurrence, Reading, Standard, stream_result, StreamError}
+use Rattle.ac_automaton.specs.Util.{Occurrence, Reading, Standard, stream_result, StreamError, usize_max}
 use Rattle.ac_automaton.specs.Prelude.{Ended, EndsNow, Failed, GivesLast, GivesMatch, GivesNone, GoesOnBy, HasGivenSettled, KeepsGiven, Open, Phase, Streaming, StreamsOn}
 use Rattle.ac_automaton.specs.Streams.{GivesNextMatch}
 
@@ -10,7 +10,8 @@ module _ (ends : Bool) (old between new : Streaming) (reader new_reader : Readin
     (read : between
     ≡ record old { bytes = old.bytes ++ more; front = between.front; kept = between.kept; phase = Ended })
     (reads : GoesOnBy ends old.phase Ended reader new_reader more) (keeps : KeepsGiven old (old.bytes ++ more))
-    (early : old.built.kind ≡ Standard → old.given ≡ length (stream_result old.built (old.bytes ++ more))) where
+    (early : old.built.kind ≡ Standard → old.given ≡ length (stream_result old.built (old.bytes ++ more)))
+    (small : length (old.bytes ++ more) ≤ usize_max) where
   -- all matches were given
   ends-now : HasGivenSettled between new → EndsNow ends old new reader new_reader
   ends-now done = grind (arith, common_steps)

@@ -3,7 +3,7 @@ use Rattle.std.proofs.Common.{◌≡◌, ℕ, zero, suc, ◌+◌, ◌-◌, ◌<�
 use Rattle.std.proofs.Math.Seq.{take-add}
 use Rattle.std.proofs.lemmas.List.{append-nil, append_assoc, drop-drop, drop-take, drop_all, take-append-le, take-take, take_all}
 use Rattle.std.proofs.lemmas.Grind.{common_steps}
-use Rattle.ac_automaton.specs.Util.{Built, IsNear, IsSettledBy, Occurrence, Reading, ReadsAll, ReadsSome, Replacing, stream_result, StreamError, Turn}
+use Rattle.ac_automaton.specs.Util.{Built, IsNear, IsSettledBy, Occurrence, Reading, ReadsAll, ReadsSome, Replacing, stream_result, StreamError, Turn, usize_max}
 use Rattle.ac_util.proofs.Devices.{fails-on, reads-on, reads-out}
 use Rattle.ac_util.proofs.Spans.{take_drop_take}
 use Rattle.ac_automaton.specs.Prelude.{answer_of_exchange, Ended, error_in, FailsBy, FailsToExchange, FailsToFill, FillsMore, GivesMatch, HasExchanged, HasGivenSettled, HasReplaced, initial_stream, IsSettledIn, matches_so_far, MeetsEnd, Open, Passing, PassesPiece, ReplacesBy, StartFrom, Steps, Streaming}
@@ -229,6 +229,7 @@ module _ {E D : Type 0} (passing : Passing E D)
     pub built_is : v.built ≡ built
     pub goes_on : v.phase ≡ Open
     pub reads : ReadsSome begun reader v.bytes
+    pub small : length v.bytes ≤ usize_max
     pub clear : passing.held s.closure ≡ []
     pub replaced : HasReplaced passing calls v first s
 
@@ -237,6 +238,7 @@ module _ {E D : Type 0} (passing : Passing E D)
     pub built_is : v.built ≡ built
     pub ended : v.phase ≡ Ended
     pub reads : ReadsAll ends begun reader v.bytes
+    pub small : length v.bytes ≤ usize_max
     pub replaced : HasReplaced passing calls v first s
 
   -- steps given by what the search was built from
@@ -282,6 +284,7 @@ module _ {E D : Type 0} (passing : Passing E D)
         clear = on.clear;
         steps = steps-by v v.given v.kept None s on.built_is (replaced-all passing calls v first s v.kept on.replaced refl);
       }),
+      on.small,
     )
 
   module _ {reader : Reading} {v : Streaming} {s : Replacing E D} where
@@ -302,6 +305,7 @@ module _ {E D : Type 0} (passing : Passing E D)
             inl (on.reads, settled-open v made.0 made.1 on.built_is on.goes_on made.2),
             steps-by v made.0 made.1 (Some e) t on.built_is made.3,
           ),
+          on.small,
         )
 
     -- at the end all was written
@@ -321,4 +325,5 @@ module _ {E D : Type 0} (passing : Passing E D)
             inr (let all = settled-ended v made.0 made.1 on.built_is on.ended made.2 in (on.reads, all.0, all.1)),
             steps-by v made.0 made.1 (Some e) t on.built_is made.3,
           ),
+          on.small,
         )

@@ -59,6 +59,7 @@ module _ (stands : ℕ → Node → Type 0) (built : Built) (allowed : stream_re
     };
     given = record { matches = []; count = refl; end = refl; last = None; walks = λ more last. refl };
     all = λ ended. absurd (cc);
+    failed = λ failed. absurd (cc);
     few = omega arith;
     in_buffer = omega arith;
     after = omega arith;
@@ -161,6 +162,7 @@ module _ (stands : ℕ → Node → Type 0) (i : Inside) (v : Streaming) (inv : 
             };
             given = given-longer stands v.built v.bytes more i.begun v.phase v.given goes-on inv.given;
             all = λ ended. absurd (goes-on ended);
+            failed = λ failed. absurd (let no = sym open' ∙ failed in cc);
             few = inv.few;
             in_buffer = inv.in_buffer;
             after = inv.after;

@@ -1,5 +1,5 @@
 -- The search of a stream gives a match: it is the next one whatever follows, and the search begins anew after it.
-use Rattle.std.proofs.Common.{◌≡◌, ◌⊎◌, ℕ, ◌+◌, ◌-◌, ◌<◌, ◌≤◌, Bool, true, false, List, [], ◌∷◌, ◌++◌, length, length-append, get_or, inl, inr, refl, ap, sym, subst, ◌∙◌, arith, Option, Some, None, AllPairs, IfSome, slice_get, rules}
+use Rattle.std.proofs.Common.{◌≡◌, ◌≢◌, ◌⊎◌, ℕ, ◌+◌, ◌-◌, ◌<◌, ◌≤◌, Bool, true, false, List, [], ◌∷◌, ◌++◌, length, length-append, get_or, inl, inr, refl, ap, sym, subst, ◌∙◌, arith, Option, Some, None, AllPairs, IfSome, slice_get, rules}
 use Rattle.std.proofs.lemmas.Bool.{cases_lt, false≢true}
 use Rattle.std.proofs.lemmas.List.{append-nil, append_assoc}
 use Rattle.std.proofs.lemmas.Option.{get_or_from_slice_get, slice_get_within}
@@ -79,7 +79,7 @@ module _ (stands : ℕ → Node → Type 0) (listed : ℕ → List ℕ) (most : 
 
   -- a match that is picked, and settled: it stops at it, nothing more is found, or the end was met
   module _ (m : Occurrence) (is : picked ≡ Some m)
-      (cause : (i.stops ≡ true) ⊎ ((here ≡ None) ⊎ (v.phase ≡ Ended))) where
+      (cause : (i.stops ≡ true) ⊎ ((here ≡ None) ⊎ (v.phase ≡ Ended))) (unfailed : v.phase ≢ Failed) where
     occurs : Occurs (up_to v i.begun (v.front + at)) m
     occurs = pick-Occurs v.built.kind (up_to v i.begun (v.front + at)) m (sym on.picks ∙ is)
 
@@ -231,6 +231,7 @@ module _ (stands : ℕ → Node → Type 0) (listed : ℕ → List ℕ) (most : 
     gives =
         let o = occurs.as_long in let f = occurs.from_low in let some = some-bytes in
         record {
+          goes_on = unfailed;
           next = next-there;
           same = refl;
           numbered = occurs.numbered;
@@ -281,6 +282,7 @@ module _ (stands : ℕ → Node → Type 0) (listed : ℕ → List ℕ) (most : 
           all = λ ended standard.
               let none = inv.all ended standard in
               let within = slice_get_within (stream_result v.built v.bytes) v.given m next-there in absurd (omega arith);
+          failed = λ failed. absurd (unfailed failed);
           few = (let f = inv.few in let l = occurs.from_low in let o = occurs.as_long in let s = some-bytes in
               omega arith);
           in_buffer = (let k = inv.in_buffer in omega arith);

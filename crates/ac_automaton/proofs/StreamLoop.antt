@@ -1,16 +1,15 @@
 -- The search of a stream reads on from where it stands: what it picks then.
-use Rattle.std.proofs.Common.{◌≡◌, ◌≢◌, ℕ, ◌+◌, ◌-◌, ◌<◌, ◌≤◌, Bool, true, false, List, length, max, inl, inr, refl, ap, sym, subst, ◌∙◌, arith, Option, Some, None, IfSome, not, rules}
-use Rattle.std.specs.Option.{is_some}
-use Rattle.std.proofs.lemmas.Bool.{false≢true}
-use Rattle.ac_automaton.specs.Util.{is_leftmost, LeftmostFirst, LeftmostLongest, longest_len, MatchKind, No, Node, Occurrence, order_of, pick, Search, Span, Standard}
-use Rattle.ac_util.proofs.SearchLoop.{SearchGoesOn}
+use Rattle.std.proofs.Common.{◌≡◌, ℕ, ◌+◌, ◌-◌, ◌<◌, ◌≤◌, Bool, true, false, List, length, length-take, take, drop, max, inl, inr, refl, ap, sym, subst, ◌∙◌, arith, Option, Some, None, IfSome, not}
+use Rattle.std.proofs.lemmas.Bool.{cases_lt, false≢true}
+use Rattle.std.proofs.lemmas.List.{take-append-drop}
+use Rattle.std.proofs.lemmas.Grind.{common_steps}
+use Rattle.ac_automaton.specs.Util.{Counts, is_leftmost, IsPick, LeftmostFirst, LeftmostLongest, longest_len, MatchKind, Node, Occurrence, Occurs, order_of, pick, Search, Standard, Taped}
+use Rattle.ac_util.proofs.Picks.{pick-from_IsPick, pick-IsPick}
 use Rattle.ac_util.proofs.Shortest.{longest-most}
 use Rattle.ac_util.proofs.Walks.{pick-Occurs}
-use Rattle.ac_automaton.specs.Prelude.{Cursor, FitsIn, found_at, HasReadOn, in_memory, Inside, IsAlive, IsAt, IsStreaming, node, NoMatchBetween, PassesNoMatch, Scan, ScanText, stream_from, Streaming, Work}
-use Rattle.ac_automaton.proofs.FindAhead.{picked-none, picked-some}
-use Rattle.ac_automaton.proofs.FindLoop.{found-end}
-use Rattle.ac_automaton.proofs.ReadOn.{node-fits}
-use Rattle.ac_automaton.proofs.StreamText.{At, at-in_buffer, at-in_stream, buffer_text, node-in_buffer, node_there, none-in_stream, place-is, scan}
+use Rattle.ac_automaton.specs.Prelude.{Cursor, HasPicked, HasReadOn, Inside, IsStreaming, LeadsTo, MayPick, past, PicksOn, Reaches, ScannerView, ScanText, search_through, stream_from, Streaming}
+use Rattle.ac_automaton.proofs.ReadOn.{past-is}
+use Rattle.ac_automaton.proofs.StreamText.{scan}
 use Rattle.ac_automaton.proofs.StreamReserves.{most-back}
 
 -- the order by which a search picks that stops at the first match under Standard, and at none under a leftmost kind
@@ -29,130 +28,140 @@ standard-by Standard stops is first = refl
 standard-by LeftmostFirst stops is first = absurd (false≢true (sym is ∙ first))
 standard-by LeftmostLongest stops is first = absurd (false≢true (sym is ∙ first))
 
+-- a match that ends before a place is picked as far as there too
+pick-earlier : (kind : MatchKind) (q : Search) (high : ℕ) (m : Occurrence) → high ≤ q.high → m.end ≤ high
+    → pick kind q ≡ Some m → pick kind (record q { high = high }) ≡ Some m
+pick-earlier kind q high m within ends picked =
+    let is : IsPick kind q (Some m) = subst (IsPick kind q) picked (pick-IsPick kind q) in
+    sym (pick-from_IsPick kind (record q { high = high }) (Some m)
+    (narrower m is.0 ends, (λ o occurs. is.1 o (wider o occurs))))
+  where
+    narrower : (o : Occurrence) → Occurs q o → o.end ≤ high → Occurs (record q { high = high }) o
+    narrower o occurs before = grind (arith, common_steps)
+
+    wider : (o : Occurrence) → Occurs (record q { high = high }) o → Occurs q o
+    wider o occurs = grind (arith, common_steps)
+
 -- a search over a stream as it is kept between two calls
 module _ (stands : ℕ → Node → Type 0) (listed : ℕ → List ℕ) (most : ℕ) (wants_prefilter : Bool) (i : Inside) (v : Streaming)
     (inv : IsStreaming stands i v) where
-  abbrev pub stream_scan : Scan
-  stream_scan = scan stands listed v.built most wants_prefilter
+  -- its scanner, over the bytes of the buffer that are filled
+  abbrev pub stream_scanner : ScannerView
+  stream_scanner = record {
+    scan = scan stands listed v.built most wants_prefilter;
+    span = record { start = 0; end = i.filled };
+    front = v.front;
+  }
 
-  abbrev pub stream_text : ScanText
-  stream_text =
-      buffer_text stands listed v.built most wants_prefilter v.bytes i.buffer v.front i.filled i.begun inv.counted inv.holds
+  -- what it reads: these bytes after those that were read before
+  abbrev text-read : ScanText
+  text-read = record { before = take v.front v.bytes; bytes = drop v.front v.bytes; start = i.begun; end = length v.bytes }
 
-  -- the node reached at a place of the stream, and what it finds there
-  abbrev pub node_here : ℕ → Node
-  node_here place = node_there v.built v.bytes i.begun place
+  place-is : (k : ℕ) → past (take v.front v.bytes) k ≡ v.front + k
+  place-is k =
+      let is = past-is (take v.front v.bytes) k in
+      let long = length-take v.front v.bytes in
+      let counted = inv.counted in omega arith
 
-  abbrev found_there : ℕ → Option Occurrence
-  found_there place = found_at v.built No (node_here place) place
-
-  -- the search as far as a place
-  abbrev up_to : ℕ → Search
-  up_to place = record (stream_from v.built v.bytes i.begun) { high = place }
-
-  abbrev span : Span
-  span = record { start = i.begun; end = length v.bytes }
+  -- which is the search of the stream
+  search-is : search_through stream_scanner.scan text-read ≡ stream_from v.built v.bytes i.begun
+  search-is =
+      ap (λ (hs : List ℕ). record (stream_from v.built v.bytes i.begun) { haystack = hs }) (take-append-drop v.front v.bytes)
 
   -- it picks as its match kind does
   same-order : order_of v.built.kind i.stops ≡ v.built.kind
   same-order = order-by v.built.kind i.stops inv.stops
 
-  leftmost : i.stops ≡ false → is_leftmost v.built.kind ≡ true
-  leftmost = leftmost-by v.built.kind i.stops inv.stops
+  -- the search as far as a place
+  abbrev up_to : ℕ → Search
+  up_to place = record (stream_from v.built v.bytes i.begun) { high = place }
 
-  -- it has read on to a place
-  module _ (state at : ℕ) (picked : Option Occurrence) (on : HasReadOn stands i v state at picked) where
-    order-picks : picked ≡ pick (order_of v.built.kind i.stops) (up_to (v.front + at))
-    order-picks = on.picks ∙ ap (λ (k : MatchKind). pick k (up_to (v.front + at))) (sym same-order)
+  -- so it picks the same
+  picks-are : (at : ℕ) → pick (order_of v.built.kind i.stops)
+      (record (search_through stream_scanner.scan text-read) { high = past (take v.front v.bytes) at })
+      ≡ pick v.built.kind (up_to (v.front + at))
+  picks-are at =
+      ap (λ (q : Search). pick (order_of v.built.kind i.stops) (record q { high = past (take v.front v.bytes) at })) search-is
+      ∙ ap (λ (k : ℕ). pick (order_of v.built.kind i.stops) (up_to k)) (place-is at)
+      ∙ ap (λ (kind : MatchKind). pick kind (up_to (v.front + at))) same-order
 
-    inside-bytes : v.front + at ≤ length v.bytes
-    inside-bytes = let w = on.within in let n = inv.counted in omega arith
+  -- what it has read on is what its scanner has come to
+  picked-by : HasPicked stream_scanner.scan i.stops text-read (record { state = i.state; at = i.at }) i.picked
+  picked-by = record {
+    is_at = subst (λ (q : Search). Reaches stands v.built.kind q i.state (past (take v.front v.bytes) i.at)) (sym search-is)
+        (subst (Reaches stands v.built.kind (stream_from v.built v.bytes i.begun) i.state) (sym (place-is i.at))
+        inv.searched.is_at);
+    picks = inv.searched.picks ∙ sym (picks-are i.at);
+  }
 
-    pub is-in_buffer : IsAt stream_scan stream_text state at
-    is-in_buffer = search (rules, at-in_buffer)
-
-    -- the node that its state stands for
-    pub node-is : node stream_scan stream_text at ≡ node_here (v.front + at)
-    node-is = search (rules, node-in_buffer)
-
-    -- where it isn't dead it may read on
-    pub may-read : node_here (v.front + at) ≢ None → IsAlive stream_scan stream_text (record { state = state; at = at })
-    may-read living = record { is_at = is-in_buffer; living = λ dead. living (sym node-is ∙ dead) }
-
-    -- to a cursor
-    module _ (cursor : Cursor) {work new_work : Work}
-        (passes : PassesNoMatch stream_scan stream_text at work cursor new_work) (within : cursor.at ≤ i.filled) where
-      ordered : i.begun ≤ v.front + cursor.at
-      ordered = let o = on.is_at.onward in let f = passes.scans.onward in omega arith
-
-      -- its state stands for a node that fits into what was read
-      pub fits-there : FitsIn No (node stream_scan stream_text cursor.at) 0 (v.front + cursor.at)
-      fits-there =
-          search (
-            rules,
-            node-fits stream_scan stream_text cursor.state cursor.at passes.is_at,
-            place-is stands listed v.built most wants_prefilter v.bytes i.buffer v.front i.filled i.begun inv.counted inv.holds cursor.at,
-          )
-
-      there : At stands listed v.built most wants_prefilter v.bytes i.begun cursor.state (v.front + cursor.at)
-      there = search (rules, at-in_stream)
-
-      none-between : NoMatchBetween stream_scan (in_memory v.bytes span) (v.front + at) (v.front + cursor.at)
-      none-between = search (rules, none-in_stream)
-
-      module _ (further : at < cursor.at) (goes : SearchGoesOn v.built.kind (order_of v.built.kind i.stops) picked)
-          (found : Option Occurrence)
-          (finds : found ≡ found_at v.built No (node stream_scan stream_text cursor.at) (v.front + cursor.at)) where
-        finds-there : found ≡ found_there (v.front + cursor.at)
-        finds-there =
-            finds ∙ ap (λ (u : Node). found_at v.built No u (v.front + cursor.at))
-            (node-in_buffer stands listed v.built most wants_prefilter v.bytes i.buffer v.front i.filled i.begun inv.counted inv.holds
-            cursor.at ordered within)
-
-        -- what is found there is picked
-        pub found-on : is_some found ≡ true → HasReadOn stands i v cursor.state cursor.at found
-        found-on some = record {
-          within = within;
-          onward = (let o = on.onward in omega arith);
-          is_at = there;
-          picks = picks;
-          after = beyond found refl;
+  module _ {tape : Taped} (holds : tape.bytes ≡ take i.filled i.buffer) (fresh : tape.place ≡ 0) where
+    leads : LeadsTo stream_scanner tape text-read
+    leads =
+        let long = length-take v.front v.bytes in
+        let counted = inv.counted in
+        record {
+          same = sym inv.holds ∙ sym holds;
+          front = omega arith;
+          low = omega arith;
+          whole = λ anchored. absurd (cc);
         }
-          where
-            picks : found ≡ pick v.built.kind (up_to (v.front + cursor.at))
-            picks =
-                picked-some stream_scan i.stops v.bytes span on.is_at.onward there.inside picked goes order-picks none-between
-                (omega arith) found finds-there some
-                ∙ ap (λ (k : MatchKind). pick k (up_to (v.front + cursor.at))) same-order
 
-            beyond : (r : Option Occurrence) → r ≡ found → IfSome r (λ m. v.kept ≤ m.start)
-            beyond None is = tt
-            beyond (Some m) is =
-                let ends = found-end v.built No _ (v.front + cursor.at) m (sym finds-there ∙ sym is) in
-                let o = pick-Occurs v.built.kind (up_to (v.front + cursor.at)) m (sym picks ∙ sym is) in
-                let long = longest-most v.built.patterns m.pattern o.numbered in
-                let as_long = o.as_long in let low = o.from_low in let before = on.onward in
-                elim inv.back [
-                  | inl back ↦ reaches-back back
-                      (subst (λ (n : ℕ). longest_len v.built.patterns ≤ n + 1) (sym inv.reserve) (most-back v.built))
-                      (omega arith) (omega arith)
-                  | inr ended ↦ let filled = ended.1 in absurd (omega arith)
-                ]
-              where
-                reaches-back : v.kept ≤ max i.begun (v.front + i.at - i.reserve)
-                    → longest_len v.built.patterns ≤ i.reserve + 1 → i.begun ≤ m.start
-                    → v.front + i.at < m.start + longest_len v.built.patterns → v.kept ≤ m.start
-                reaches-back back spare low far = omega arith
-
-        -- where nothing is found what was picked stays picked
-        pub stays-on : is_some found ≡ false → HasReadOn stands i v cursor.state cursor.at picked
-        stays-on none = record {
-          within = within;
-          onward = (let o = on.onward in omega arith);
-          is_at = there;
-          picks =
-              picked-none stream_scan i.stops v.bytes span on.is_at.onward there.inside picked goes order-picks none-between
-              (omega arith) found finds-there none
-              ∙ ap (λ (k : MatchKind). pick k (up_to (v.front + cursor.at))) same-order;
-          after = on.after;
+    -- it may go on
+    pub may-search : MayPick stream_scanner i.stops tape (record { state = i.state; at = i.at }) i.picked
+    may-search =
+        let long = ap (length {A = ℕ}) holds in
+        let taken = length-take i.filled i.buffer in
+        record {
+          leftmost = leftmost-by v.built.kind i.stops inv.stops;
+          within = inv.searched.within;
+          inside = omega (arith, long, taken, inv.filled);
+          unread = omega (arith, fresh);
+          small = omega (arith, inv.counted, inv.small);
+          led = (text-read, leads, picked-by);
         }
+
+    module _ {there : Cursor} {counts new_counts : Counts} {new_tape : Taped} {picked : Option Occurrence}
+        (on : PicksOn stream_scanner i.stops (record { state = i.state; at = i.at }) tape counts i.picked there new_tape new_counts
+        picked) where
+      come : HasPicked stream_scanner.scan i.stops text-read there picked
+      come = on.picks text-read leads picked-by
+
+      picks : picked ≡ pick v.built.kind (up_to (v.front + there.at))
+      picks = come.picks ∙ picks-are there.at
+
+      -- what is picked starts after what isn't kept any more: it was picked before, or ends after what was searched then
+      after : (r : Option Occurrence) → picked ≡ r → IfSome r (λ m. v.kept ≤ m.start)
+      after None is = tt
+      after (Some m) is = elim (cases_lt (v.front + i.at) m.end) [
+        | inl beyond ↦
+            let o = pick-Occurs v.built.kind (up_to (v.front + there.at)) m (sym picks ∙ is) in
+            let long = longest-most v.built.patterns m.pattern o.numbered in
+            let as_long = o.as_long in let low = o.from_low in let ends = o.to_high in
+            elim inv.back [
+              | inl back ↦ reaches-back back
+                  (subst (λ (n : ℕ). longest_len v.built.patterns ≤ n + 1) (sym inv.reserve) (most-back v.built))
+                  (omega arith) (omega arith)
+              | inr ended ↦ let filled = ended.1 in let within = on.within in absurd (omega arith)
+            ]
+        | inr before ↦
+            let same = pick-earlier v.built.kind (up_to (v.front + there.at)) (v.front + i.at) m
+            (let onward = on.onward in omega arith) before (sym picks ∙ is) in
+            subst (λ (r : Option Occurrence). IfSome r (λ m. v.kept ≤ m.start)) (inv.searched.picks ∙ same) inv.searched.after
+      ]
+        where
+          reaches-back : v.kept ≤ max i.begun (v.front + i.at - i.reserve)
+              → longest_len v.built.patterns ≤ i.reserve + 1 → i.begun ≤ m.start
+              → v.front + i.at < m.start + longest_len v.built.patterns → v.kept ≤ m.start
+          reaches-back back spare low far = omega arith
+
+      -- and has then read on
+      pub has-searched : HasReadOn stands i v there.state there.at picked
+      has-searched = record {
+        within = on.within;
+        onward = on.onward;
+        is_at = subst (λ (q : Search). Reaches stands v.built.kind q there.state (v.front + there.at)) search-is
+            (subst (Reaches stands v.built.kind (search_through stream_scanner.scan text-read) there.state) (place-is there.at)
+            come.is_at);
+        picks = picks;
+        after = after picked refl;
+      }

@@ -94,7 +94,7 @@ module _ {F D : Type 0} (told : D → Writing)
 
     pub fails-with : (e : StreamError) → FailsBy through wrapped ends built reader new_reader first e t
         → FailsToReplaceWith told closures built closure old ends reader new_reader t.destination e
-    fails-with e (bytes, inl fails) = (bytes, inl (fails.reads, by built.kind fails.settled))
+    fails-with e (bytes, inl fails, small) = (bytes, inl (fails.reads, by built.kind fails.settled), small)
       where
         bare-made : ReplacementSteps (WritesPiece told) (Calls closures) answer_of_result (take fails.place bytes) 0
             (take fails.given (stream_result built bytes)) (bare first) None (bare t)
@@ -112,7 +112,7 @@ module _ {F D : Type 0} (told : D → Writing)
         )
         by LeftmostFirst some = (fails.given, fails.place, some, fails.near, (t.closure.closure, bare-made))
         by LeftmostLongest some = (fails.given, fails.place, some, fails.near, (t.closure.closure, bare-made))
-    fails-with e (bytes, inr fails) = (
+    fails-with e (bytes, inr fails, small) = (
       bytes,
       inr (
         fails.0,
@@ -123,4 +123,5 @@ module _ {F D : Type 0} (told : D → Writing)
           bare-steps (take fails.1 bytes) 0 (take fails.0 (stream_result built bytes)) first t (Some e) fails.3,
         ),
       ),
+      small,
     )

@@ -174,13 +174,14 @@ module _ {E D : Type 0} (passing : Passing E D) (texts : E → List (List ℕ))
 
     pub replaces-by : ReplacesBy passing exchanges ends built reader new_reader s t
         → ReplacesStream built list (passing.told s.destination) (passing.told t.destination) ends reader new_reader
-    replaces-by (bytes, reads, clear, steps) = (
+    replaces-by (bytes, reads, clear, steps, small) = (
       bytes,
       reads,
       piece-written passing (whole-of bytes) s t begins clear
           (subst (λ (w : List ℕ). PassesPiece passing (replaced w list (stream_result built bytes)) s None t)
           (take_all (length bytes) bytes (omega arith))
           (text-steps (take (length bytes) bytes) 0 (stream_result built bytes) s t None list same steps)),
+      small,
     )
 
     last-inside : (bytes : List ℕ) → last_end (stream_result built bytes) ≤ length bytes
@@ -231,7 +232,7 @@ module _ {E D : Type 0} (passing : Passing E D) (texts : E → List (List ℕ))
 
     pub fails-by : (e : StreamError) → FailsBy passing exchanges ends built reader new_reader s e t
         → FailsToReplace built list (passing.told s.destination) (passing.told t.destination) ends reader new_reader e
-    fails-by e (bytes, inl fails) =
+    fails-by e (bytes, inl fails, small) =
         grind (
           arith,
           common_steps,
@@ -241,5 +242,5 @@ module _ {E D : Type 0} (passing : Passing E D) (texts : E → List (List ℕ))
               fails.steps),
           settled-text,
         )
-    fails-by e (bytes, inr (given, place, inl (some, is), steps)) = search (rules, apart-by, begun-text)
-    fails-by e (bytes, inr (given, place, inr (all, many, is), steps)) = search (rules, all-apart, begun-text, last-inside)
+    fails-by e (bytes, inr (given, place, inl (some, is), steps), small) = search (rules, apart-by, begun-text)
+    fails-by e (bytes, inr (given, place, inr (all, many, is), steps), small) = search (rules, all-apart, begun-text, last-inside)

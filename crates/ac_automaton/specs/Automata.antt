@@ -1,5 +1,5 @@
 -- What contracts say of the states of an automaton, by the node that a state stands for.
-use Rattle.std.specs.Prelude.{◌≡◌, ℕ, List, ◌++◌, map}
+use Rattle.std.specs.Prelude.{◌≡◌, ℕ, Bool, List, ◌++◌, map}
 use Rattle.ac_util.specs.declared.search.Anchored.{Anchored}
 use Rattle.ac_automaton.specs.Util.{Built, looks_by, matches, No, Node, plain, plain_byte, step, Yes}
 
@@ -18,9 +18,23 @@ looks_of most built anchored u byte =
 abbrev pub matches_of : Built → Anchored → Node → List ℕ
 matches_of built anchored u = matches built.kind (plain_of built) anchored u
 
+-- what contracts see of an automaton: what it was built from; how many looks it may take for each byte where it isn't
+-- anchored; whether it was built to have a prefilter; for which nodes its states stand, under an anchoring; and the match
+-- list of each state
+pub record AutomatonView : Type 1 where
+  pub built : Built
+  pub most : ℕ
+  pub wants_prefilter : Bool
+  pub stands : Anchored → ℕ → Node → Type 0
+  pub listed : ℕ → List ℕ
+
 -- the number stands for some node
 abbrev pub IsState : (ℕ → Node → Type 0) → ℕ → Type 0
 IsState stands s = (u : Node) × stands s u
+
+-- under some anchoring
+abbrev pub IsAnyState : AutomatonView → ℕ → Type 0
+IsAnyState a s = (anchored : Anchored) × IsState (a.stands anchored) s
 
 -- the list has the matches that count in an anchored search in front, and is itself a prefix of all matches of
 -- the node

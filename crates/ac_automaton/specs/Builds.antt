@@ -1,5 +1,5 @@
 -- What a build of an automaton is asked for, what it answers, and why it may be refused.
-use Rattle.std.specs.Prelude.{◌≡◌, ◌⊎◌, ℕ, ◌+◌, nat_lt, Bool, false, true, List, Option, map, Some, None, MatchOption, if◌then◌else◌}
+use Rattle.std.specs.Prelude.{◌≡◌, ◌⊎◌, ℕ, ◌+◌, nat_lt, Bool, false, true, List, Option, map, Some, None, MatchOption, MatchResult, Result, if◌then◌else◌}
 use Rattle.ac_automaton.specs.Util.{Both, BuildError, Built, GREATEST, limit_refusal, MatchKind, plain, Standard, state_count, StateIdOverflow}
 use Rattle.ac_util.specs.declared.error.BuildError.TheVariants.{Memory}
 use Rattle.ac_automaton.specs.Tries.{Trie}
@@ -65,3 +65,13 @@ RefusesBy own_refusal patterns e =
 abbrev pub fits : Option BuildError → Bool
 fits None = true
 fits (Some e) = false
+
+-- a build over a list of patterns has succeeded, or is refused
+abbrev pub AnswersBuild : {X : Type 0} → (List (List ℕ) → X → Type 0) → (List (List ℕ) → Option BuildError)
+    → List (List ℕ) → Result X BuildError → Type 0
+AnswersBuild IsBuilt own_refusal patterns result = MatchResult result (IsBuilt patterns) (RefusesBy (own_refusal patterns) patterns)
+
+-- an engine was made from another, or is refused by a limit of its own, which comes first
+abbrev pub AnswersMaking : {X : Type 0} → (X → Type 0) → Option BuildError → Result X BuildError → Type 0
+AnswersMaking IsMade own_refusal result =
+    MatchResult result (λ made. IsMade made × (own_refusal ≡ None)) (IsRefusedExactly own_refusal)

@@ -3,7 +3,7 @@ use Rattle.std.specs.Prelude.{◌≡◌, ◌⊎◌, ℕ, ◌≤◌, Bool, List, 
 use Rattle.std.specs.Borrow.{Bor, MutBor}
 use Rattle.std.specs.Fn.{Mut}
 use Rattle.std.specs.declared.io.Error.{Error}
-use Rattle.ac_automaton.specs.Util.{Answer, Built, Calls, Fails, FailsToRead, Continues, IsNear, IsSettled, IsSettledBy, Occurrence, Reading, ReadsAll, ReplacementSteps, Replacing, stream_result, StreamError}
+use Rattle.ac_automaton.specs.Util.{Answer, Built, Calls, Fails, FailsToRead, Continues, IsNear, IsSettled, IsSettledBy, Occurrence, Reading, ReadsAll, ReplacementSteps, Replacing, stream_result, StreamError, usize_max}
 use Rattle.ac_util.specs.declared.error.StreamError.TheVariants.{Io}
 use Rattle.ac_automaton.specs.Gathering.{Passing, PassesPiece}
 use Rattle.ac_automaton.specs.Streams.{IsSettledIn, Streaming, matches_so_far}
@@ -69,11 +69,11 @@ module _ {E D : Type 0} (passing : Passing E D)
       → (given place : ℕ) × IsSettledIn old.phase old.built old.bytes given place
       × Steps (take place old.bytes) 0 (take given (matches_so_far old)) first (Some e) t
 
-  -- the stream was read to its end, all of its steps were made, and nothing is held back
+  -- the stream was read to its end, usize counts its bytes, all of its steps were made, and nothing is held back
   abbrev pub ReplacesBy : Bool → Built → Reading → Reading → Replacing E D → Replacing E D → Type 0
   ReplacesBy ends built reader new_reader s t =
       (bytes : List ℕ) × ReadsAll ends reader new_reader bytes × (passing.held t.closure ≡ [])
-      × Steps (take (length bytes) bytes) 0 (stream_result built bytes) s None t
+      × Steps (take (length bytes) bytes) 0 (stream_result built bytes) s None t × (length bytes ≤ usize_max)
 
   -- a read has failed, or brought more than usize counts: the steps were made as far as the stream was settled, and nothing is
   -- held back
@@ -87,10 +87,11 @@ module _ {E D : Type 0} (passing : Passing E D)
     pub clear : passing.held t.closure ≡ []
     pub steps : Steps (take place bytes) 0 (take given (stream_result built bytes)) s None t
 
-  -- that; or a write, or an exchange, has failed: no step was made after that
+  -- that; or a write, or an exchange, has failed: no step was made after that. usize counts what was read
   abbrev pub FailsBy : Bool → Built → Reading → Reading → Replacing E D → StreamError → Replacing E D → Type 0
   FailsBy ends built reader new_reader s e t =
       (bytes : List ℕ)
       × (FailsAtRead built reader new_reader s e t bytes
       ⊎ ((given place : ℕ) × IsSettled ends built reader new_reader bytes given place
       × Steps (take place bytes) 0 (take given (stream_result built bytes)) s (Some e) t))
+      × (length bytes ≤ usize_max)

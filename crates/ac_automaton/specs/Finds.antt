@@ -1,12 +1,12 @@
 -- What a find answers, and when it has read enough.
-use Rattle.std.specs.Prelude.{◌≡◌, ◌≢◌, ◌⊎◌, ℕ, ◌+◌, ◌-◌, ◌≤◌, Bool, true, List, Option, None, IfSome, option_map, slice_get, length, max}
+use Rattle.std.specs.Prelude.{◌≡◌, ◌≢◌, ◌⊎◌, ℕ, ◌+◌, ◌-◌, ◌<◌, ◌≤◌, Bool, false, true, List, [], Option, None, Some, IfSome, option_map, slice_get, length, max}
 use Rattle.ac_util.specs.declared.search.Anchored.{Anchored}
-use Rattle.ac_automaton.specs.Util.{InputView, Built, depth, MatchKind, may_skip, Node, Occurrence, occurrence, order_of, pattern_of, pick, Search, Standard, Yes}
+use Rattle.ac_automaton.specs.Util.{InputView, Built, Counts, depth, is_leftmost, MatchKind, may_skip, Node, Occurrence, occurrence, order_of, pattern_of, pick, Search, Span, Standard, Taped, usize_max, Yes}
 use Rattle.ac_automaton.specs.declared.automaton.scan.Cursor.{Cursor}
 use Rattle.ac_automaton.specs.Automata.{matches_of}
-use Rattle.ac_automaton.specs.Finders.{Picking, picking_of}
-use Rattle.ac_automaton.specs.Progress.{HasRead, StopsAtDead, Work, most_looks, node_at}
-use Rattle.ac_automaton.specs.Scans.{IsAt, Scan, ScanText, node, search_through}
+use Rattle.ac_automaton.specs.Finders.{Finding, Picking, picking_of}
+use Rattle.ac_automaton.specs.Progress.{HasRead, StopsAtDead, Work, most_looks, node_at, search_of, work_of}
+use Rattle.ac_automaton.specs.Scans.{IsAt, Scan, ScannerView, ScansTo, ScanText, in_memory, node, past, search_through}
 
 -- what a core is asked: a span of the bytes of a tape, and two options
 abbrev pub input_over : List ℕ → ℕ → ℕ → Anchored → Bool → InputView
@@ -56,15 +56,54 @@ pub record FitsIn (anchored : Anchored) (u : Node) (start end : ℕ) : Type 0 wh
 abbrev pub found_at : Built → Anchored → Node → ℕ → Option Occurrence
 found_at built anchored u end = option_map (place_of built end) (slice_get (matches_of built anchored u) 0)
 
--- the state stands for a node that fits into what was read from start up to the cursor
-abbrev pub StandsIn : Scan → ℕ → Cursor → Type 0
-StandsIn s start cursor = (u : Node) × s.stands cursor.state u × FitsIn s.anchored u start cursor.at
+-- a scanner's state stands for a node that fits into what was read since its span began, and usize counts that
+pub record StandsIn (v : ScannerView) (cursor : Cursor) : Type 0 where
+  pub node : Node
+  pub stands : v.scan.stands cursor.state node
+  pub fits : FitsIn v.scan.anchored node v.span.start (v.front + cursor.at)
+  pub small : v.front + cursor.at ≤ usize_max
 
 -- this is what each such node finds
-abbrev pub FindsAt : Scan → ℕ → Cursor → Option Occurrence → Type 0
-FindsAt s start cursor found =
-    (u : Node) → s.stands cursor.state u → FitsIn s.anchored u start cursor.at
-    → found ≡ found_at s.built s.anchored u cursor.at
+abbrev pub FindsAt : ScannerView → Cursor → Option Occurrence → Type 0
+FindsAt v cursor found =
+    (u : Node) → v.scan.stands cursor.state u → FitsIn v.scan.anchored u v.span.start (v.front + cursor.at)
+    → found ≡ found_at v.scan.built v.scan.anchored u (v.front + cursor.at)
+
+-- a text by which a scanner may have come to its tape: it has the tape's bytes, and as many before them; it begins with the
+-- span, or later in an unanchored search
+pub record LeadsTo (v : ScannerView) (tape : Taped) (t : ScanText) : Type 0 where
+  pub same : t.bytes ≡ tape.bytes
+  pub front : length t.before ≡ v.front
+  pub low : v.span.start ≤ t.start
+  pub whole : v.scan.anchored ≡ Yes → t.start ≡ v.span.start
+
+-- a find that stops at the first match, or not, has come to a cursor and has picked this so far
+pub record HasPicked (s : Scan) (stops : Bool) (t : ScanText) (cursor : Cursor) (picked : Option Occurrence) : Type 0 where
+  pub is_at : IsAt s t cursor.state cursor.at
+  pub picks : picked ≡ pick (order_of s.built.kind stops) (record (search_through s t) { high = past t.before cursor.at })
+
+-- it may go on within its span
+pub record MayPick (v : ScannerView) (stops : Bool) (tape : Taped) (cursor : Cursor) (picked : Option Occurrence) : Type 0 where
+  pub leftmost : stops ≡ false → is_leftmost v.scan.built.kind ≡ true
+  pub within : cursor.at ≤ v.span.end
+  pub inside : v.span.end ≤ length tape.bytes
+  pub unread : tape.place ≤ cursor.at
+  pub small : v.front + v.span.end ≤ usize_max
+  pub led : (t : ScanText) × LeadsTo v tape t × HasPicked v.scan stops t cursor picked
+
+-- it has gone on, whichever text has led to its tape. A match that it stops at ends where it has come to
+pub record PicksOn (v : ScannerView) (stops : Bool) (cursor : Cursor) (tape : Taped) (counts : Counts)
+    (picked : Option Occurrence) (new_cursor : Cursor) (new_tape : Taped) (new_counts : Counts)
+    (new_picked : Option Occurrence) : Type 0 where
+  pub bytes : new_tape.bytes ≡ tape.bytes
+  pub onward : cursor.at ≤ new_cursor.at
+  pub within : new_cursor.at ≤ v.span.end
+  pub picks : (t : ScanText) → LeadsTo v tape t → HasPicked v.scan stops t cursor picked
+      → HasPicked v.scan stops t new_cursor new_picked
+  pub scans : (t : ScanText) → LeadsTo v tape t → HasPicked v.scan stops t cursor picked
+      → ScansTo v.scan t cursor.at (work_of tape counts) new_cursor.at (work_of new_tape new_counts)
+  pub ends : order_of v.scan.built.kind stops ≡ Standard → IfSome picked (λ m. m.end ≡ v.front + cursor.at)
+      → IfSome new_picked (λ m. m.end ≡ v.front + new_cursor.at)
 
 -- how a scan's finds are made that stop at the first match, or not
 abbrev pub picking_by : Scan → Bool → Picking
@@ -80,3 +119,48 @@ pub record IsReady (s : Scan) (t : ScanText) (stops : Bool) (cursor : Cursor) : 
 -- found, or it stops at the first match and has one
 abbrev pub IsAnswered : Bool → ℕ → ℕ → Node → Option Occurrence → Type 0
 IsAnswered stops end at u last = (end ≤ at) ⊎ ((u ≡ None) ⊎ ((stops ≡ true) × (last ≢ None)))
+
+-- a find that stops at the first match, or not, may read on from a cursor within its span
+pub record MayFind (v : ScannerView) (stops : Bool) (tape : Taped) (cursor : Cursor) : Type 0 where
+  pub leftmost : stops ≡ false → is_leftmost v.scan.built.kind ≡ true
+  pub within : cursor.at ≤ v.span.end
+  pub inside : v.span.end ≤ length tape.bytes
+  pub unread : tape.place ≤ cursor.at
+  pub memory : v.front ≡ 0
+  pub small : v.span.end ≤ usize_max
+  pub ready : IsReady v.scan (in_memory tape.bytes v.span) stops cursor
+
+-- it may begin there: its automaton is at its start, no byte of the span was read, and one is left
+pub record MayBegin (v : ScannerView) (stops : Bool) (tape : Taped) (cursor : Cursor) : Type 0 where
+  pub starts : v.scan.stands cursor.state (Some [])
+  pub there : cursor.at ≡ v.span.start
+  pub memory : v.front ≡ 0
+  pub small : v.span.end ≤ usize_max
+  pub leftmost : stops ≡ false → is_leftmost v.scan.built.kind ≡ true
+  pub before_end : cursor.at < v.span.end
+  pub inside : v.span.end ≤ length tape.bytes
+  pub unread : tape.place ≤ cursor.at
+
+-- it has answered, whatever was done before the cursor
+pub record FindsOn (v : ScannerView) (stops : Bool) (cursor : Cursor) (tape : Taped) (counts : Counts)
+    (found : Option Occurrence) (new_tape : Taped) (new_counts : Counts) : Type 0 where
+  pub bytes : new_tape.bytes ≡ tape.bytes
+  pub searched : (begun : Work)
+      → ScansTo v.scan (in_memory tape.bytes v.span) v.span.start begun cursor.at (work_of tape counts)
+      → HasSearched (picking_by v.scan stops) (search_through v.scan (in_memory tape.bytes v.span)) found begun
+      (work_of new_tape new_counts)
+
+-- a find may be made in a span of a tape: it ends within the haystack, starts no later than one past its own end, and not
+-- before the tape's place of reading
+pub record MaySearch (span : Span) (tape : Taped) : Type 0 where
+  pub end_within : span.end ≤ length tape.bytes
+  pub start_within : span.start ≤ span.end + 1
+  pub unread : tape.place ≤ span.start
+
+-- a finder has made a find in a span of a tape
+pub record FindsIn (finder : Finding) (span : Span) (tape : Taped) (counts : Counts) (found : Option Occurrence)
+    (new_tape : Taped) (new_counts : Counts) : Type 0 where
+  pub searched : HasSearched finder.picking
+      (search_of finder.built finder.anchored tape.bytes span.start span.end) found
+      (work_of tape counts) (work_of new_tape new_counts)
+  pub bytes : new_tape.bytes ≡ tape.bytes

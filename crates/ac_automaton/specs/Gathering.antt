@@ -16,7 +16,7 @@ pub record Passing (E D : Type 0) : Type 0 where
   pub without : E → E
 
 -- an exchange by texts holds back what it has gathered
-abbrev pub by_texts : {Z D : Type 0} → (D → Writing) → Passing (ByTexts Z) D
+abbrev pub by_texts : {D : Type 0} → (D → Writing) → Passing ByTexts D
 by_texts told = record { told = told; held = λ e. e.gathered; without = λ e. record e { gathered = [] } }
 
 module _ {E D : Type 0} (passing : Passing E D) where

@@ -47,7 +47,7 @@ abbrev pub last_after : Option ℕ → Option Occurrence → Option ℕ
 last_after last None = last
 last_after last (Some m) = Some m.end
 
--- from where a find of a walk reads: under Standard it goes on from there; else the tape is rewound, since a
+-- from where a find of a walk reads: under Standard it goes on with its tape; else it has a new one, since a
 -- leftmost search may have read on past its match
 abbrev pub kept_place : MatchKind → ℕ → ℕ
 kept_place Standard place = place

@@ -1,3 +1,4 @@
+pub mod Answers
 pub mod Automata
 pub mod Builds
 pub mod Common

@@ -1,15 +1,15 @@
 -- The places of an overlapping search: where its automaton stands, and how many items of the listing were given.
-use Rattle.std.specs.Prelude.{◌≡◌, ◌⊎◌, ℕ, ◌-◌, ◌<◌, ◌≤◌, ◌==◌, Bool, true, List, ◌∷◌, ◌++◌, [], length, map, drop, All, Option, None, Some, IfSome, MatchOption, max}
+use Rattle.std.specs.Prelude.{◌≡◌, ◌≢◌, ◌⊎◌, ℕ, ◌-◌, ◌<◌, ◌≤◌, ◌==◌, Bool, true, List, ◌∷◌, ◌++◌, [], length, map, drop, All, Option, None, Some, IfSome, MatchOption, MatchResult, max, Result}
 use Rattle.std.specs.Iterator.{YieldsFirst}
 use Rattle.std.specs.List.{take_while}
 use Rattle.ac_util.specs.declared.search.Anchored.{Anchored}
-use Rattle.ac_automaton.specs.Util.{all, InputView, Built, Counts, ending, item_at, MatchKind, may_skip, No, no_counts, Node, Occurrence, pattern_of, place_after, Search, search_in, Span, Standard, Taped, Yes}
+use Rattle.ac_automaton.specs.Util.{all, InputView, Built, Counts, ending, item_at, MatchError, MatchKind, may_skip, No, no_counts, Node, Occurrence, pattern_of, place_after, Search, search_in, Standard, start_refusal, Taped, Yes}
 use Rattle.ac_automaton.specs.declared.automaton.listing.MatchRest.{MatchRest}
 use Rattle.ac_automaton.specs.declared.automaton.overlap.OverlappingState.{OverlappingState}
 use Rattle.ac_automaton.specs.declared.automaton.listing.Reached.{Reached}
-use Rattle.ac_automaton.specs.Automata.{IsState}
-use Rattle.ac_automaton.specs.Progress.{Grows, HasRead, Reaches, Work, most_looks, nothing_done}
-use Rattle.ac_automaton.specs.Scans.{Scan, ScanText, ScansTo, in_memory, node, search_through}
+use Rattle.ac_automaton.specs.Automata.{AutomatonView, IsState}
+use Rattle.ac_automaton.specs.Progress.{Grows, HasRead, Reaches, Work, most_looks, nothing_done, work_of}
+use Rattle.ac_automaton.specs.Scans.{Scan, ScannerView, ScanText, ScansTo, in_memory, node, search_through}
 
 -- the matches in a rest of a match list
 abbrev pub rest_in : (ℕ → List ℕ) → MatchRest → List ℕ
@@ -53,11 +53,11 @@ pub record HasListed (stands : ℕ → Node → Type 0) (listed : ℕ → List �
 abbrev pub IsListed : Scan → ScanText → Reached → Type 0
 IsListed s t reached = HasListed s.stands s.listed s.built.kind (search_through s t) reached
 
--- a listing of a span may go on from where it has come to
-pub record MayList (s : Scan) (span : Span) (tape : Taped) (reached : Reached) : Type 0 where
-  pub standard : s.built.kind ≡ Standard
-  pub listed : IsListed s (in_memory tape.bytes span) reached
-  pub inside : span.end ≤ length tape.bytes
+-- a listing may go on within its span from where it has come to
+pub record MayList (v : ScannerView) (tape : Taped) (reached : Reached) : Type 0 where
+  pub standard : v.scan.built.kind ≡ Standard
+  pub listed : IsListed v.scan (in_memory tape.bytes v.span) reached
+  pub inside : v.span.end ≤ length tape.bytes
   pub unread : tape.place ≤ reached.at
 
 -- the match that is due first where the automaton stands was given and passed over, or there is none; the automaton
@@ -81,6 +81,24 @@ pub record HasMoved (s : Scan) (t : ScanText) (reached : Reached) (found : Optio
   pub leaves : IsListed s t new_reached
   pub ends : IfSome found (λ m. m.end ≡ new_reached.at)
   pub whole : found ≡ None → (new_reached.at ≡ t.end) ⊎ (node s t new_reached.at ≡ None)
+
+-- a listing of some bytes has come to here
+abbrev pub HasComeTo : ScannerView → Reached → Type 0
+HasComeTo v reached = (bytes : List ℕ) × IsListed v.scan (in_memory bytes v.span) reached
+
+-- the next match of the current state was given, or there is none, whichever bytes were listed
+abbrev pub TakesDue : ScannerView → Reached → Option Occurrence → Reached → Type 0
+TakesDue v reached found new_reached =
+    (bytes : List ℕ) → IsListed v.scan (in_memory bytes v.span) reached
+    → HasGivenItem v.scan (in_memory bytes v.span) reached found new_reached
+
+-- a listing has given its next item by reading on, or none past its end
+pub record ListsOn (v : ScannerView) (reached : Reached) (tape : Taped) (counts : Counts) (found : Option Occurrence)
+    (new_reached : Reached) (new_tape : Taped) (new_counts : Counts) : Type 0 where
+  pub bytes : new_tape.bytes ≡ tape.bytes
+  pub moved : HasMoved v.scan (in_memory tape.bytes v.span) reached found new_reached
+  pub scans : ScansTo v.scan (in_memory tape.bytes v.span) reached.at (work_of tape counts) new_reached.at
+      (work_of new_tape new_counts)
 
 -- a state of an overlapping search that has given nothing yet
 abbrev pub fresh : OverlappingState
@@ -165,3 +183,12 @@ pub record IsListing (s : Scan) (t : ScanText) (reached : Option Reached) (work 
   pub legal : t.end ≤ length t.bytes
   pub begun : MatchOption reached ((t.end < t.start) × (work ≡ nothing_done))
       (λ here. IsListed s t here × ScansTo s t t.start nothing_done here.at work)
+
+-- the state at which a listing begins, or why it is refused: for its start, or for its match kind
+abbrev pub StartsListing : AutomatonView → Anchored → Result ℕ MatchError → Type 0
+StartsListing a anchored result =
+    MatchResult result
+    (λ state. (start_refusal a.built.start_kind anchored ≡ None) × (a.built.kind ≡ Standard) × a.stands anchored state (Some []))
+    (λ e. (start_refusal a.built.start_kind anchored ≡ Some e)
+    ⊎ ((start_refusal a.built.start_kind anchored ≡ None) × (a.built.kind ≢ Standard)
+    × (e ≡ MatchError.UnsupportedOverlapping a.built.kind)))

@@ -1,7 +1,7 @@
 -- What the readers of a noncontiguous NFA return: the node of each state number, and its own transitions.
 use Rattle.std.specs.Prelude.{◌≡◌, ℕ, ◌<◌, Bool, false, List, [], ◌∷◌, ◌++◌, length, filter, slice_get, None, Some}
 use Rattle.std.specs.List.{range_with_len}
-use Rattle.ac_automaton.specs.Util.{Built, is_node, Node, plain_byte}
+use Rattle.ac_automaton.specs.Util.{Built, failure, is_node, Node, plain_byte}
 use Rattle.ac_automaton.specs.declared.nfa.noncontiguous.state.TheConstants.{DEAD, FAIL, START, ANCHORED_START}
 use Rattle.ac_automaton.specs.Automata.{plain_of}
 use Rattle.ac_automaton.specs.Tries.{IsTrie, NumbersNodes, IsTrieState, Trie}
@@ -37,3 +37,17 @@ pub record HasOwn (trie : Trie) (s index : ℕ) : Type 0 where
 pub record IsOwn (trie : Trie) (nodes : List Node) (w : List ℕ) (index byte target : ℕ) : Type 0 where
   pub place : slice_get (transition_bytes_of trie.built (Some w)) index ≡ Some byte
   pub leads : slice_get nodes target ≡ Some (Some (w ++ plain_byte trie.built.ignores_case byte ∷ []))
+
+-- this holds of the node of a state, where these are the nodes
+abbrev pub ForNode : (List Node → Type 0) → ℕ → (List Node → Node → Type 0) → Type 0
+ForNode AreThese s P = (nodes : List Node) (u : Node) → AreThese nodes → slice_get nodes s ≡ Some u → P nodes u
+
+-- the state of a number stands for the string
+abbrev pub IsNumbered : List Node → ℕ → List ℕ → Type 0
+IsNumbered nodes s w = slice_get nodes s ≡ Some (Some w)
+
+-- a state is the failure target of another, which stands for a string that isn't empty
+abbrev pub IsFailureOf : Trie → ℕ → ℕ → Type 0
+IsFailureOf trie s target =
+    (nodes : List Node) (x : ℕ) (u : List ℕ) → AreNodes trie nodes → IsNumbered nodes s (x ∷ u)
+    → slice_get nodes target ≡ Some (failure trie.built.kind (plain_of trie.built) (x ∷ u))

@@ -1,10 +1,10 @@
 -- What a scan has done: an automaton under an anchoring, the text that it reads, and how far it has come in it.
-use Rattle.std.specs.Prelude.{◌≡◌, ◌≢◌, ◌⊎◌, ℕ, ◌+◌, ◌-◌, ◌*◌, ◌<◌, ◌≤◌, Bool, false, List, [], ◌∷◌, ◌++◌, Option, None, Some, max}
+use Rattle.std.specs.Prelude.{◌≡◌, ◌≢◌, ◌⊎◌, ℕ, ◌+◌, ◌-◌, ◌*◌, ◌<◌, ◌≤◌, Bool, false, List, [], ◌∷◌, ◌++◌, None, Some, length, max}
 use Rattle.ac_util.specs.declared.search.Anchored.{Anchored}
-use Rattle.ac_automaton.specs.Util.{Built, Counts, credit, may_skip, Node, one_more_call, Search, Span}
+use Rattle.ac_automaton.specs.Util.{Built, Counts, credit, may_skip, Node, Search, Span, Taped}
 use Rattle.ac_automaton.specs.declared.automaton.scan.Cursor.{Cursor}
-use Rattle.ac_automaton.specs.Automata.{matches_of}
-use Rattle.ac_automaton.specs.Progress.{Grows, Reaches, Work, most_looks, node_at, search_of}
+use Rattle.ac_automaton.specs.Automata.{AutomatonView, matches_of}
+use Rattle.ac_automaton.specs.Progress.{Grows, Reaches, Work, most_looks, node_at, search_of, work_of}
 
 -- an automaton under an anchoring: the nodes for which its states stand, and their match lists; what it was built from;
 -- the anchoring; how many looks it may take for each byte where it isn't anchored, and whether it was built to have a
@@ -17,16 +17,23 @@ pub record Scan : Type 1 where
   pub most : ℕ
   pub wants_prefilter : Bool
 
--- that of an automaton with these states
-abbrev pub scan_by : (Anchored → ℕ → Node → Type 0) → (ℕ → List ℕ) → Built → ℕ → Bool → Anchored → Scan
-scan_by stands listed built most wants_prefilter anchored =
-    record { stands = stands anchored; listed = listed; built = built; anchored = anchored; most = most; wants_prefilter = wants_prefilter }
+-- that of an automaton
+abbrev pub scan_of : AutomatonView → Anchored → Scan
+scan_of a anchored = record {
+  stands = a.stands anchored;
+  listed = a.listed;
+  built = a.built;
+  anchored = anchored;
+  most = a.most;
+  wants_prefilter = a.wants_prefilter;
+}
 
--- that of an automaton under an anchoring, by how its states are seen
-abbrev pub scan_of : {Z : Type 0} → (Z → Anchored → ℕ → Node → Type 0) → (Z → ℕ → List ℕ) → (Z → Built) → ℕ → (Z → Bool)
-    → Z → Anchored → Scan
-scan_of stands listed built most wants_prefilter automaton anchored =
-    scan_by (stands automaton) (listed automaton) (built automaton) most (wants_prefilter automaton) anchored
+-- what contracts see of a scanner: its scan, the span of its tape that it reads, and how many bytes were read before the
+-- first of its tape
+pub record ScannerView : Type 1 where
+  pub scan : Scan
+  pub span : Span
+  pub front : ℕ
 
 -- what a scan reads: the bytes that were read before the first of its tape, and those of the tape; and where in all of
 -- these the span starts that it searches, and where that ends
@@ -96,28 +103,33 @@ module _ (s : Scan) (t : ScanText) where
   abbrev pub StaysAtStart : ℕ → ℕ → Type 0
   StaysAtStart from to = (k : ℕ) → from ≤ k → k ≤ to → node k ≡ Some []
 
-  -- a scan has gone to a place where it may read: by no call of the prefilter it stays where it is; by one it goes on
-  -- over bytes at which its automaton is at its start
-  abbrev pub HasSkipped : ℕ → ℕ → Counts → Counts → Type 0
-  HasSkipped from to counts new_counts =
-      ((to ≡ from) × (new_counts ≡ counts))
-      ⊎ ((from ≤ to) × StaysAtStart from to × (new_counts ≡ one_more_call counts))
+-- a scanner may read on from a cursor: some text with the bytes of its tape has led there, the automaton isn't dead, and
+-- a byte of the span is left, which the tape has not lent yet
+pub record MayAdvance (v : ScannerView) (tape : Taped) (cursor : Cursor) : Type 0 where
+  pub alive : (t : ScanText) × (t.bytes ≡ tape.bytes) × IsAlive v.scan t cursor
+  pub before_end : cursor.at < v.span.end
+  pub inside : v.span.end ≤ length tape.bytes
+  pub unread : tape.place ≤ cursor.at
 
--- a scan over these bytes may read on from here: it has come here by some text, and isn't dead
-abbrev pub MayRead : Scan → List ℕ → Cursor → Type 0
-MayRead s bytes cursor = (t : ScanText) × (t.bytes ≡ bytes) × IsAlive s t cursor
+-- it has read on within its span, by a byte at least: whichever text has led to where it began, it has passed over no match
+pub record Advances (v : ScannerView) (cursor : Cursor) (tape : Taped) (counts : Counts) (new_cursor : Cursor)
+    (new_tape : Taped) (new_counts : Counts) : Type 0 where
+  pub bytes : new_tape.bytes ≡ tape.bytes
+  pub moved : cursor.at < new_cursor.at
+  pub within : new_cursor.at ≤ v.span.end
+  pub passes : (t : ScanText) → t.bytes ≡ tape.bytes → IsAlive v.scan t cursor
+      → PassesNoMatch v.scan t cursor.at (work_of tape counts) new_cursor (work_of new_tape new_counts)
 
--- whichever text with these bytes has led here, the scan has read on, and has passed over no match
-abbrev pub ReadsOn : Scan → List ℕ → Cursor → Work → Cursor → Work → Type 0
-ReadsOn s bytes cursor work new_cursor new_work =
-    (t : ScanText) → t.bytes ≡ bytes → IsAlive s t cursor
-    → PassesNoMatch s t cursor.at work new_cursor new_work
+-- the byte at a cursor was read, and leads to this state
+abbrev pub Follows : ScannerView → Cursor → Taped → Counts → ℕ → Taped → Counts → Type 0
+Follows v cursor tape counts state new_tape new_counts =
+    Advances v cursor tape counts (record { state = state; at = cursor.at + 1 }) new_tape new_counts
 
--- a scan stops in a state that is dead or has matches
-abbrev pub HasStopped : Scan → ℕ → Type 0
-HasStopped s state = (u : Node) → s.stands state u → (u ≡ None) ⊎ (s.listed state ≢ [])
+-- nothing is left to read up to an end, or nothing more is found
+abbrev pub IsOver : ℕ → ℕ → Node → Type 0
+IsOver end at u = (end ≤ at) ⊎ (u ≡ None)
 
--- the place to which a prefilter leads: the one that it gives, or the end
-abbrev pub led_to : Option ℕ → ℕ → ℕ
-led_to None end = end
-led_to (Some place) end = place
+-- a scanner has come to the end of its span, or to a state that is dead or has matches
+abbrev pub Stops : ScannerView → Cursor → Type 0
+Stops v cursor =
+    cursor.at < v.span.end → (u : Node) → v.scan.stands cursor.state u → (u ≡ None) ⊎ (v.scan.listed cursor.state ≢ [])

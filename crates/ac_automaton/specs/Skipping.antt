@@ -9,16 +9,12 @@ pub record Skips (wants_prefilter : Bool) (built : Built) (skip : Skip) : Type 0
   pub built_so : skip_for wants_prefilter built.ignores_case built.patterns ≡ Some skip
   pub serves : IsSkipFor skip built.ignores_case built.patterns
 
--- a scan may skip so, by first bytes
-pub record SkipsByBytes (s : Scan) (skip : Skip) : Type 0 where
+-- a scan may skip to these first bytes
+pub record SkipsTo (s : Scan) (bytes : List ℕ) : Type 0 where
   pub unanchored : s.anchored ≡ No
-  pub bytes : List ℕ
-  pub by_bytes : skip ≡ FirstOf bytes
-  pub skips : Skips s.wants_prefilter s.built skip
+  pub skips : Skips s.wants_prefilter s.built (FirstOf bytes)
 
--- a scan may skip so, by the only pattern itself
-pub record SkipsByNeedle (s : Scan) (skip : Skip) : Type 0 where
+-- a scan may skip to its only pattern
+pub record SkipsToNeedle (s : Scan) (needle : List ℕ) : Type 0 where
   pub unanchored : s.anchored ≡ No
-  pub needle : List ℕ
-  pub by_needle : skip ≡ Needle needle
-  pub skips : Skips s.wants_prefilter s.built skip
+  pub skips : Skips s.wants_prefilter s.built (Needle needle)

@@ -1,5 +1,5 @@
 -- What is seen of a search over a stream, and what its calls do.
-use Rattle.std.specs.Prelude.{◌≡◌, ◌⊎◌, ℕ, ◌+◌, ◌-◌, ◌<◌, ◌≤◌, Bool, not, List, [], ◌++◌, Option, None, Some, IfSome, Result, MatchBool, MatchOption, MatchResult, if◌then◌else◌, length, max, slice_get, take, drop}
+use Rattle.std.specs.Prelude.{◌≡◌, ◌≢◌, ◌⊎◌, ℕ, ◌+◌, ◌-◌, ◌<◌, ◌≤◌, Bool, not, List, [], ◌++◌, Option, None, Some, IfSome, Result, MatchBool, MatchOption, MatchResult, if◌then◌else◌, length, max, slice_get, take, drop}
 use Rattle.ac_automaton.specs.Util.{buffer_len, Built, FailsToRead, is_leftmost, IsNear, IsSettledBy, last_end, longest_len, No, Node, Occurrence, pick, Reading, ReadsAll, ReadsSome, reserve, Search, Standard, stream_refusal, stream_result, StreamError, walk_after, usize_max}
 use Rattle.ac_automaton.specs.declared.automaton.stream_settled.Phase.{Phase}
 use Rattle.ac_automaton.specs.declared.automaton.stream_settled.Phase.TheVariants.{Open, Ended, Failed}
@@ -48,8 +48,10 @@ pub record IsSettling (v : Streaming) (m : Occurrence) : Type 0 where
   pub among : v.given < given
   pub ended : m.end ≤ place
 
--- the next match of the bytes read so far was given. It stands after what isn't kept any more, and is settled
+-- the next match of the bytes read so far was given, unless an error was met before. It stands after what isn't kept any
+-- more, and is settled
 pub record GivesMatch (old : Streaming) (m : Occurrence) (new : Streaming) : Type 0 where
+  pub goes_on : old.phase ≢ Failed
   pub next : slice_get (matches_so_far old) old.given ≡ Some m
   pub same : new ≡ record old { given = old.given + 1; kept = m.end }
   pub numbered : m.pattern < length old.built.patterns
@@ -109,8 +111,9 @@ GoesOnBy ends Open Ended reader new_reader more = ReadsAll ends reader new_reade
 GoesOnBy ends Ended Ended reader new_reader more = (more ≡ []) × (new_reader ≡ reader)
 GoesOnBy ends phase new_phase reader new_reader more = ⊥
 
--- the next match of all that was read was given, once more was read where that was needed; those given before stay, and
--- bytes are kept from its end on. Under Standard it was given before the end was met
+-- the next match of all that was read was given, once more was read where that was needed, and is settled; those given
+-- before stay, and bytes are kept from its end on. Under Standard it was given before the end was met. usize counts what was
+-- read
 pub record GivesNextMatch (ends : Bool) (old : Streaming) (m : Occurrence) (new : Streaming) (reader new_reader : Reading)
     : Type 0 where
   pub more : List ℕ
@@ -118,7 +121,9 @@ pub record GivesNextMatch (ends : Bool) (old : Streaming) (m : Occurrence) (new 
   pub early : old.built.kind ≡ Standard → new.phase ≡ Open
   pub given : KeepsGiven old (old.bytes ++ more)
   pub next : slice_get (stream_result old.built (old.bytes ++ more)) old.given ≡ Some m
+  pub settled : IsSettling (record new { given = old.given }) m
   pub counted : new.given ≤ usize_max
+  pub small : length (old.bytes ++ more) ≤ usize_max
   pub same : new ≡ record old {
     bytes = old.bytes ++ more;
     given = old.given + 1;
@@ -127,8 +132,8 @@ pub record GivesNextMatch (ends : Bool) (old : Streaming) (m : Occurrence) (new 
     phase = new.phase;
   }
 
--- all matches of what was read that are settled were given, and then a read has failed, or brought more than usize counts; no
--- more bytes are kept than the longest pattern has
+-- all matches of what was read that are settled were given, and then a read has failed, or brought more than usize counts,
+-- which counts all before it; no more bytes are kept than the longest pattern has
 pub record GivesError (old : Streaming) (e : StreamError) (new : Streaming) (reader new_reader : Reading)
     : Type 0 where
   pub open' : old.phase ≡ Open
@@ -137,14 +142,16 @@ pub record GivesError (old : Streaming) (e : StreamError) (new : Streaming) (rea
   pub given : KeepsGiven old (old.bytes ++ more)
   pub settled : IsSettledBy old.built.kind old.built (old.bytes ++ more) old.given new.kept
   pub few : kept_len new ≤ longest_len old.built.patterns
+  pub small : length (old.bytes ++ more) ≤ usize_max
   pub same : new ≡ record old { bytes = old.bytes ++ more; front = new.front; kept = new.kept; phase = Failed }
 
--- all matches of the stream were given, and its end was met; no byte is kept
+-- all matches of the stream were given, and its end was met; usize counts its bytes, and none is kept
 pub record EndsNow (ends : Bool) (old new : Streaming) (reader new_reader : Reading) : Type 0 where
   pub more : List ℕ
   pub reads : GoesOnBy ends old.phase Ended reader new_reader more
   pub given : KeepsGiven old (old.bytes ++ more)
   pub all : old.given ≡ length (stream_result old.built (old.bytes ++ more))
+  pub small : length (old.bytes ++ more) ≤ usize_max
   pub same : new ≡ record old {
     bytes = old.bytes ++ more;
     front = new.front;
@@ -239,6 +246,7 @@ pub record IsStreaming (stands : ℕ → Node → Type 0) (i : Inside) (v : Stre
   pub searched : HasReadOn stands i v i.state i.at i.picked
   pub given : HasGiven v.phase v.built v.bytes v.given i.begun
   pub all : v.phase ≡ Ended → GivesEarly v
+  pub failed : v.phase ≡ Failed → HasGivenSettled v v
   pub few : v.given ≤ i.begun
   pub in_buffer : v.front ≤ v.kept
   pub after : i.begun ≤ v.kept
@@ -266,3 +274,7 @@ items_in Failed given = 0
 
 abbrev pub items_left : StreamReading → ℕ
 items_left s = items_in s.stream.phase s.stream.given
+
+-- one that begins
+abbrev pub initial_reading : Built → Reading → StreamReading
+initial_reading built reader = record { stream = initial_stream built; reader = reader }

@@ -1,13 +1,14 @@
 //! What an engine has to offer, and the searches that run on any engine.
-ghost use Rattle.std.specs.Prelude.{◌≡◌, ◌≢◌, ◌↔◌, ◌⊎◌, ℕ, ◌<◌, Bool, List, [], length, option_map, slice_get, string_bytes, Some, None, IfSome, IsTrue, MatchResult, ⊤};
+ghost use Rattle.std.specs.Prelude.{◌≡◌, ◌≢◌, ◌↔◌, ◌⊎◌, ℕ, ◌<◌, [], length, option_map, slice_get, string_bytes, Some, None, IfSome, IsTrue};
 ghost use Rattle.std.specs.Iterator.Runs.{YieldsInOrder};
 ghost use Rattle.ac_util.specs.declared.search.Anchored.{Anchored};
-ghost use Rattle.ac_automaton.specs.Util.{AnswersStream, AnswersUnless, AnswersWhole, input_of, Built, bytes_of, exchanged, exchanged_in_text, FailsToReplace, FailsToReplaceWith, find_refusal, find_result, IsSkipFor, IsStreamRefused, longest_len, MakesSteps, more_looks, Node, overlapping_iter_refusal, overlapping_refusal, pattern_of, replace_refusal, replaced, ReplacesStream, ReplacesStreamWith, search_in, shortest_len, skip_for, skip_of, start_refusal, StepsLead, stream_refusal};
-ghost use Rattle.ac_automaton.specs.Iterators.{GoesOn, initial_walk};
-ghost use Rattle.ac_automaton.specs.Automata.{IsState, Lists, looks_of, step_of};
+ghost use Rattle.ac_automaton.specs.Util.{AnswersStream, input_of, bytes_of, exchanged, exchanged_in_text, FailsToReplace, FailsToReplaceWith, IsSkipFor, longest_len, more_looks, Node, pattern_of, ReplacesStream, ReplacesStreamWith, shortest_len, skip_for, skip_of, stream_refusal};
+ghost use Rattle.ac_automaton.specs.Answers.{AnswersBytes, AnswersFind, AnswersListing, AnswersText, AnswersWalk, BeginsBy, BeginsStream, FindsNext, IsPlacedIn, MakesStepsBy};
+ghost use Rattle.ac_automaton.specs.Automata.{AutomatonView, IsAnyState, IsState, Lists, looks_of, step_of};
 ghost use Rattle.ac_automaton.specs.Common.{common_of};
-ghost use Rattle.ac_automaton.specs.Overlaps.{GivesNext, IsPlaced, ListsNext, Takes, initial_listing};
-ghost use Rattle.ac_automaton.specs.Streams.{initial_stream};
+ghost use Rattle.ac_automaton.specs.Iterators.{GoesOn};
+ghost use Rattle.ac_automaton.specs.Overlaps.{ListsNext, Takes};
+ghost use Rattle.ac_automaton.specs.Streams.{initial_reading};
 
 use ac_util::device::{Sink, Source};
 use ac_util::error::{MatchError, ReplaceError, StreamError};
@@ -68,103 +69,91 @@ pub trait Automaton {
 
     ghost LOOKS: { ℕ };
 
-    // What the automaton was built from.
-    ghost built: { Self → Built };
-
-    // Whether a state stands for a node, in an unanchored or in an anchored search.
-    ghost stands: { Self → Anchored → ℕ → Node → Type 0 };
-
-    // The match list of a state.
-    ghost listed: { Self → ℕ → List ℕ };
-
-    // Whether the automaton was built to have a prefilter, where there is one for its patterns.
-    ghost wants_prefilter: { Self → Bool };
+    // What contracts see of an automaton.
+    ghost seen: { Self → AutomatonView };
 
     /// Returns the state in which a search starts.
     ///
     /// # Errors
     /// `InvalidInputAnchored` or `InvalidInputUnanchored` where the automaton has no start for this anchoring.
     fn start_state(&self, anchored: Anchored) -> Result<StateID, MatchError>
-        ensures { MatchResult result
-            (λ sid. (start_refusal (built self.now).start_kind anchored ≡ None)
-            × stands self.now anchored sid (Some []))
-            (λ e. start_refusal (built self.now).start_kind anchored ≡ Some e) };
+        ensures { BeginsBy (seen self.now) anchored (λ sid. (seen self.now).stands anchored sid (Some [])) result };
 
     /// Returns the state to which a byte leads from a state, and counts the looks at states that this takes.
     fn next_state(&self, anchored: Anchored, sid: StateID, byte: u8, looks: &mut Looks) -> StateID
-        requires state { IsState (stands self.now anchored) sid }
-        ensures steps { (u : Node) → stands self.now anchored sid u
-            → stands self.now anchored result (step_of (built self.now) anchored u byte) }
-        ensures looks { (u : Node) → stands self.now anchored sid u
-            → looks.new ≡ more_looks (looks_of LOOKS (built self.now) anchored u byte) looks.old };
+        requires state { IsState ((seen self.now).stands anchored) sid }
+        ensures steps { (u : Node) → (seen self.now).stands anchored sid u
+            → (seen self.now).stands anchored result (step_of (seen self.now).built anchored u byte) }
+        ensures looks { (u : Node) → (seen self.now).stands anchored sid u
+            → looks.new ≡ more_looks (looks_of (seen self.now).most (seen self.now).built anchored u byte) looks.old };
 
     /// Returns whether the state is dead: nothing is found from it on.
     fn is_dead(&self, sid: StateID) -> bool
-        requires state { (anchored : Anchored) × IsState (stands self.now anchored) sid }
-        ensures { (anchored : Anchored) (u : Node) → stands self.now anchored sid u
+        requires state { IsAnyState (seen self.now) sid }
+        ensures { (anchored : Anchored) (u : Node) → (seen self.now).stands anchored sid u
             → IsTrue result ↔ (u ≡ None) };
 
     /// Returns whether the state has matches.
     fn is_match(&self, sid: StateID) -> bool
-        requires state { (anchored : Anchored) × IsState (stands self.now anchored) sid }
-        ensures { IsTrue result ↔ (listed self.now sid ≢ []) };
+        requires state { IsAnyState (seen self.now) sid }
+        ensures { IsTrue result ↔ ((seen self.now).listed sid ≢ []) };
 
     /// Returns whether the state has matches or is dead. In any other state, also at the start, a search without a
     /// prefilter reads on without a further test.
     #[inline]
     fn is_match_or_dead(&self, sid: StateID) -> bool
-        requires state { (anchored : Anchored) × IsState (stands self.now anchored) sid }
-        ensures { (anchored : Anchored) (u : Node) → stands self.now anchored sid u
-            → IsTrue result ↔ ((u ≡ None) ⊎ (listed self.now sid ≢ [])) }
+        requires state { IsAnyState (seen self.now) sid }
+        ensures { (anchored : Anchored) (u : Node) → (seen self.now).stands anchored sid u
+            → IsTrue result ↔ ((u ≡ None) ⊎ ((seen self.now).listed sid ≢ [])) }
     {
         self.is_match(sid) || self.is_dead(sid)
     }
 
     /// Returns whether the state is one in which a search starts.
     fn is_start(&self, sid: StateID) -> bool
-        requires state { (anchored : Anchored) × IsState (stands self.now anchored) sid }
-        ensures { (anchored : Anchored) (u : Node) → stands self.now anchored sid u
+        requires state { IsAnyState (seen self.now) sid }
+        ensures { (anchored : Anchored) (u : Node) → (seen self.now).stands anchored sid u
             → IsTrue result ↔ (u ≡ Some []) };
 
     /// Returns whether the state is dead, has matches or is a start. In any other state nothing is found, and nothing
     /// begins or ends.
     #[inline]
     fn is_special(&self, sid: StateID) -> bool
-        requires state { (anchored : Anchored) × IsState (stands self.now anchored) sid }
-        ensures { (anchored : Anchored) (u : Node) → stands self.now anchored sid u
-            → IsTrue result ↔ ((u ≡ None) ⊎ (u ≡ Some []) ⊎ (listed self.now sid ≢ [])) }
+        requires state { IsAnyState (seen self.now) sid }
+        ensures { (anchored : Anchored) (u : Node) → (seen self.now).stands anchored sid u
+            → IsTrue result ↔ ((u ≡ None) ⊎ (u ≡ Some []) ⊎ ((seen self.now).listed sid ≢ [])) }
     {
         self.is_match_or_dead(sid) || self.is_start(sid)
     }
 
     /// Returns how many matches a state has. It has to have some.
     fn match_len(&self, sid: StateID) -> usize
-        requires state { (anchored : Anchored) × IsState (stands self.now anchored) sid }
-        requires matches { listed self.now sid ≢ [] }
-        ensures { result ≡ length (listed self.now sid) };
+        requires state { IsAnyState (seen self.now) sid }
+        requires matches { (seen self.now).listed sid ≢ [] }
+        ensures { result ≡ length ((seen self.now).listed sid) };
 
     /// Returns the pattern of one of the matches of a state. The index has to be less than the number of its matches.
     fn match_pattern(&self, sid: StateID, index: usize) -> PatternID
-        requires state { (anchored : Anchored) × IsState (stands self.now anchored) sid }
-        requires within { index < length (listed self.now sid) }
-        ensures { slice_get (listed self.now sid) index ≡ Some result };
+        requires state { IsAnyState (seen self.now) sid }
+        requires within { index < length ((seen self.now).listed sid) }
+        ensures { slice_get ((seen self.now).listed sid) index ≡ Some result };
 
     /// Returns the first match in a rest of a match list and the rest after it, or `None` where the rest is empty. A
     /// list is gone through with it in as many steps as it has matches.
     fn take_match(&self, rest: MatchRest) -> Option<(PatternID, MatchRest)>
-        requires state { (anchored : Anchored) × IsState (stands self.now anchored) rest.state }
-        ensures taken { Takes (listed self.now) rest result }
-        ensures state { (anchored : Anchored) → IsState (stands self.now anchored) rest.state
-            → IfSome result (λ first. IsState (stands self.now anchored) first.1.state) };
+        requires state { IsAnyState (seen self.now) rest.state }
+        ensures taken { Takes (seen self.now).listed rest result }
+        ensures state { (anchored : Anchored) → IsState ((seen self.now).stands anchored) rest.state
+            → IfSome result (λ first. IsState ((seen self.now).stands anchored) first.1.state) };
 
     /// Returns what every engine has, whatever its states are.
     fn common(&self) -> &Common<Self::Memory>
-        ensures { result.now ≡ common_of (built self.now) (wants_prefilter self.now) };
+        ensures { result.now ≡ common_of (seen self.now).built (seen self.now).wants_prefilter };
 
     /// Returns the match kind, which decides which of the occurrences in a span a search returns.
     #[inline]
     final fn match_kind(&self) -> MatchKind
-        ensures { result ≡ (built self.now).kind }
+        ensures { result ≡ (seen self.now).built.kind }
     {
         self.common().match_kind()
     }
@@ -172,7 +161,7 @@ pub trait Automaton {
     /// Returns how many patterns there are.
     #[inline]
     final fn patterns_len(&self) -> usize
-        ensures { result ≡ length (built self.now).patterns }
+        ensures { result ≡ length (seen self.now).built.patterns }
     {
         self.common().patterns().as_ref().len()
     }
@@ -180,8 +169,8 @@ pub trait Automaton {
     /// Returns the length of a pattern in bytes. The pattern has to be one of the automaton's.
     #[inline]
     final fn pattern_len(&self, pattern: PatternID) -> usize
-        requires numbered { pattern < length (built self.now).patterns }
-        ensures { result ≡ length (pattern_of (built self.now).patterns pattern) }
+        requires numbered { pattern < length (seen self.now).built.patterns }
+        ensures { result ≡ length (pattern_of (seen self.now).built.patterns pattern) }
     {
         self.common()
             .patterns()
@@ -193,7 +182,7 @@ pub trait Automaton {
     /// Returns the length of the shortest pattern in bytes, or `usize::MAX` if there are no patterns.
     #[inline]
     final fn min_pattern_len(&self) -> usize
-        ensures { result ≡ shortest_len (built self.now).patterns }
+        ensures { result ≡ shortest_len (seen self.now).built.patterns }
     {
         self.common().min_pattern_len()
     }
@@ -201,7 +190,7 @@ pub trait Automaton {
     /// Returns the length of the longest pattern in bytes, or 0 if there are no patterns.
     #[inline]
     final fn max_pattern_len(&self) -> usize
-        ensures { result ≡ longest_len (built self.now).patterns }
+        ensures { result ≡ longest_len (seen self.now).built.patterns }
     {
         self.common().max_pattern_len()
     }
@@ -211,9 +200,9 @@ pub trait Automaton {
     #[inline]
     final fn prefilter(&self) -> Option<&Prefilter<Self::Memory>>
         ensures skips { option_map (λ p. skip_of p.now) result
-            ≡ skip_for (wants_prefilter self.now) (built self.now).ignores_case (built self.now).patterns }
+            ≡ skip_for (seen self.now).wants_prefilter (seen self.now).built.ignores_case (seen self.now).built.patterns }
         ensures serves { IfSome result
-            (λ p. IsSkipFor (skip_of p.now) (built self.now).ignores_case (built self.now).patterns) }
+            (λ p. IsSkipFor (skip_of p.now) (seen self.now).built.ignores_case (seen self.now).built.patterns) }
     {
         self.common().prefilter()
     }
@@ -223,8 +212,10 @@ pub trait Automaton {
 
     ghost one_or_two: { (LOOKS ≡ 1) ⊎ (LOOKS ≡ 2) };
 
+    ghost allows: { (automaton : Self) → (seen automaton).most ≡ LOOKS };
+
     ghost lists: { (automaton : Self) (anchored : Anchored) (s : ℕ) (u : Node)
-        → stands automaton anchored s u → Lists (built automaton) anchored u (listed automaton s) };
+        → (seen automaton).stands anchored s u → Lists (seen automaton).built anchored u ((seen automaton).listed s) };
 
     /// Returns the match that the match kind picks from all occurrences in the input's span, or `None` if nothing
     /// occurs there. With `Input::earliest` the match is the one that `MatchKind::Standard` picks. This ports
@@ -236,8 +227,7 @@ pub trait Automaton {
     final fn try_find(&self, input: Input<'_>) -> Result<Option<Match>, MatchError>
     where
         Self: Sized,
-        ensures { AnswersUnless (find_refusal (built self.now) (input_of input.entry))
-            (find_result (built self.now) (input_of input.entry)) result }
+        ensures { AnswersFind (seen self.now).built (input_of input.entry) result }
     {
         find::try_find(self, input)
     }
@@ -255,8 +245,7 @@ pub trait Automaton {
     ) -> Result<FindIter<'a, 'h, Self>, MatchError>
     where
         Self: Sized,
-        ensures begun { AnswersUnless (find_refusal (built self.now) (input_of input.entry))
-            (initial_walk LOOKS (built self.now) (wants_prefilter self.now) (input_of input.entry)) result }
+        ensures begun { AnswersWalk (seen self.now) (input_of input.entry) result }
         ensures runs { YieldsInOrder GoesOn (λ w. w.rest) }
     {
         FindIter::new(self, input)
@@ -281,13 +270,8 @@ pub trait Automaton {
     ) -> Result<(), MatchError>
     where
         Self: Sized,
-        requires placed { IsPlaced (stands self.now (input_of input).anchored) (listed self.now)
-            (built self.now).kind (search_in (built self.now) (input_of input)) state.old }
-        ensures { MatchResult result
-            (λ _. (overlapping_refusal (built self.now) (input_of input.entry) ≡ None)
-            × GivesNext (stands self.now (input_of input.entry).anchored) (listed self.now) (built self.now).kind
-            (search_in (built self.now) (input_of input.entry)) state.old state.new)
-            (λ e. (overlapping_refusal (built self.now) (input_of input.entry) ≡ Some e) × (state.new ≡ state.old)) }
+        requires placed { IsPlacedIn (seen self.now) (input_of input) state.old }
+        ensures { FindsNext (seen self.now) (input_of input.entry) state.old result state.new }
     {
         overlap::try_find_overlapping(self, input, state)
     }
@@ -305,8 +289,7 @@ pub trait Automaton {
     ) -> Result<FindOverlappingIter<'a, 'h, Self>, MatchError>
     where
         Self: Sized,
-        ensures begun { AnswersUnless (overlapping_iter_refusal (built self.now) (input_of input.entry))
-            (initial_listing LOOKS (built self.now) (wants_prefilter self.now) (input_of input.entry)) result }
+        ensures begun { AnswersListing (seen self.now) (input_of input.entry) result }
         ensures runs { YieldsInOrder ListsNext (λ l. l.rest) }
     {
         FindOverlappingIter::new(self, input)
@@ -329,11 +312,8 @@ pub trait Automaton {
     ) -> Result<String<Z>, ReplaceError>
     where
         Self: Sized,
-        requires texts { length texts.now ≡ length (built self.now).patterns }
-        ensures { AnswersWhole (replace_refusal (built self.now))
-            (λ whole. string_bytes whole
-            ≡ replaced haystack.now (bytes_of texts.now) (exchanged_in_text (built self.now) haystack.now))
-            result }
+        requires texts { length texts.now ≡ length (seen self.now).built.patterns }
+        ensures { AnswersText (seen self.now).built haystack.now (bytes_of texts.now) result }
     {
         replace::try_replace_all(self, alloc, haystack, texts)
     }
@@ -353,10 +333,8 @@ pub trait Automaton {
     ) -> Result<Vec<u8, Z>, ReplaceError>
     where
         Self: Sized,
-        requires texts { length texts.now ≡ length (built self.now).patterns }
-        ensures { AnswersWhole (replace_refusal (built self.now))
-            (λ whole. whole.items
-            ≡ replaced haystack.now (bytes_of texts.now) (exchanged (built self.now) haystack.now)) result }
+        requires texts { length texts.now ≡ length (seen self.now).built.patterns }
+        ensures { AnswersBytes (seen self.now).built haystack.now (bytes_of texts.now) result }
     {
         replace::try_replace_all_bytes(self, alloc, haystack, texts)
     }
@@ -382,10 +360,7 @@ pub trait Automaton {
         Self: Sized,
         F: FnMut(&Match, &str, &mut String) -> bool,
         requires callable { F.IsAlwaysCallable exchange }
-        ensures { MakesSteps (replace_refusal (built self.now))
-            (λ end. StepsLead F.FnMut (λ d. string_bytes d) haystack.now
-            (exchanged_in_text (built self.now) haystack.now) exchange destination.old end destination.new)
-            (destination.new ≡ destination.old) result }
+        ensures { MakesStepsBy F.FnMut string_bytes exchanged_in_text (seen self.now).built haystack.now exchange destination.old destination.new result }
     {
         replace::try_replace_all_with(self, haystack, destination, exchange)
     }
@@ -406,10 +381,7 @@ pub trait Automaton {
         Self: Sized,
         F: FnMut(&Match, &[u8], &mut Vec<u8>) -> bool,
         requires callable { F.IsAlwaysCallable exchange }
-        ensures { MakesSteps (replace_refusal (built self.now))
-            (λ end. StepsLead F.FnMut (λ d. d.items) haystack.now (exchanged (built self.now) haystack.now) exchange
-            destination.old end destination.new)
-            (destination.new ≡ destination.old) result }
+        ensures { MakesStepsBy F.FnMut (λ d. d.items) exchanged (seen self.now).built haystack.now exchange destination.old destination.new result }
     {
         replace::try_replace_all_with_bytes(self, haystack, destination, exchange)
     }
@@ -429,10 +401,7 @@ pub trait Automaton {
     ) -> Result<StreamFindIter<'a, Self, R, Z>, StreamError>
     where
         Self: Sized,
-        ensures { MatchResult result
-            (λ matches. (stream_refusal (built self.now) ≡ None)
-            × (matches ≡ record { stream = initial_stream (built self.now); reader = R.told reader }))
-            (IsStreamRefused (stream_refusal (built self.now)) ⊤) }
+        ensures { BeginsStream (seen self.now).built (λ matches. matches ≡ initial_reading (seen self.now).built (R.told reader)) result }
     {
         StreamFindIter::new(self, alloc, reader)
     }
@@ -458,11 +427,11 @@ pub trait Automaton {
     ) -> Result<(), StreamError>
     where
         Self: Sized,
-        requires texts { length texts.now ≡ length (built self.now).patterns }
-        ensures { AnswersStream (stream_refusal (built self.now)) ((reader.new ≡ reader.old) × (writer.new ≡ writer.old))
-            (ReplacesStream (built self.now) (bytes_of texts.now) (W.told writer.old) (W.told writer.new)
+        requires texts { length texts.now ≡ length (seen self.now).built.patterns }
+        ensures { AnswersStream (stream_refusal (seen self.now).built) ((reader.new ≡ reader.old) × (writer.new ≡ writer.old))
+            (ReplacesStream (seen self.now).built (bytes_of texts.now) (W.told writer.old) (W.told writer.new)
             R.empty_means_end (R.told reader.old) (R.told reader.new))
-            (FailsToReplace (built self.now) (bytes_of texts.now) (W.told writer.old) (W.told writer.new)
+            (FailsToReplace (seen self.now).built (bytes_of texts.now) (W.told writer.old) (W.told writer.new)
             R.empty_means_end (R.told reader.old) (R.told reader.new)) result }
     {
         stream_replace::try_stream_replace_all(self, alloc, reader, writer, texts)
@@ -489,10 +458,10 @@ pub trait Automaton {
         Self: Sized,
         F: FnMut(&Match, &[u8], &mut W) -> io::Result<()>,
         requires callable { F.IsAlwaysCallable closure }
-        ensures { AnswersStream (stream_refusal (built self.now)) ((reader.new ≡ reader.old) × (writer.new ≡ writer.old))
-            (ReplacesStreamWith W.told F.FnMut (built self.now) closure writer.old R.empty_means_end
+        ensures { AnswersStream (stream_refusal (seen self.now).built) ((reader.new ≡ reader.old) × (writer.new ≡ writer.old))
+            (ReplacesStreamWith W.told F.FnMut (seen self.now).built closure writer.old R.empty_means_end
             (R.told reader.old) (R.told reader.new) writer.new)
-            (FailsToReplaceWith W.told F.FnMut (built self.now) closure writer.old R.empty_means_end
+            (FailsToReplaceWith W.told F.FnMut (seen self.now).built closure writer.old R.empty_means_end
             (R.told reader.old) (R.told reader.new) writer.new) result }
     {
         stream_replace::try_stream_replace_all_with(self, alloc, reader, writer, closure)

@@ -2,7 +2,7 @@
 use Rattle.std.proofs.Common.{◌≡◌, ◌≢◌, ◌⊎◌, inl, inr, ℕ, zero, suc, ◌+◌, ◌*◌, ◌<◌, ◌≤◌, List, [], ◌∷◌, length, slice_index_or, refl, arith, Some, None, slice_get, rules}
 use Rattle.std.proofs.lemmas.Option.{slice_get_within}
 use Rattle.std.proofs.lemmas.Grind.{common_steps}
-use Rattle.ac_automaton.specs.Util.{Both, class_at, failure, MatchKind, No, Node, StartKind, Unanchored}
+use Rattle.ac_automaton.specs.Util.{alphabet_len, Both, class_at, failure, MatchKind, No, Node, StartKind, Unanchored}
 use Rattle.ac_util.specs.declared.search.StartKind.TheVariants.{Anchored as AnchoredAlone}
 use Rattle.ac_engines.specs.Prelude.{anchored_shift, Filling, HasRow, MayFill, row_at, row_input, width}
 use Rattle.ac_engines.proofs.Numbered.{place-inner, place-start}
@@ -61,6 +61,39 @@ module _ (f : Filling) (nodes : List Node) (size : ℕ) (may : MayFill f nodes s
       → 2 * f.stride ≤ slice_index_or f.numbers s 0
   row-anchored_shift s (inl start) there = grind (arith, common_steps)
   row-anchored_shift s (inr inner) there = let later = may.laid.inner s inner there in omega arith
+
+  -- a part of a row as long as its classes is apart from another where the rows are
+  narrower : (m n : ℕ) → (m + width (row_input f nodes) ≤ n) ⊎ (n + width (row_input f nodes) ≤ m)
+      → (m + alphabet_len f.classes ≤ n) ⊎ (n + alphabet_len f.classes ≤ m)
+  narrower m n (inl less) = let room = may.room in inl (omega arith)
+  narrower m n (inr more) = let room = may.room in inr (omega arith)
+
+  -- the classes of a state and of one after it stand apart, those of the dead state too
+  pub classes-apart : (t s : ℕ) → t < s → t ≢ 3 → 4 ≤ s → s < length f.numbers
+      → (slice_index_or f.numbers t 0 + alphabet_len f.classes ≤ slice_index_or f.numbers s 0)
+      ⊎ (slice_index_or f.numbers s 0 + alphabet_len f.classes ≤ slice_index_or f.numbers t 0)
+  classes-apart zero s before other inner within =
+      let dead = may.laid.dead in let room = may.room in let after = row-anchored_shift s (inr inner) within in
+      inl (omega arith)
+  classes-apart (suc zero) s before other inner within =
+      let unreached = may.laid.unreached in let room = may.room in let after = row-anchored_shift s (inr inner) within in
+      inl (omega arith)
+  classes-apart (suc (suc zero)) s before other inner within = narrower _ _ (rows-apart 2 s (inl refl) inner before within)
+  classes-apart (suc (suc (suc zero))) s before other inner within = absurd (other refl)
+  classes-apart (suc (suc (suc (suc t)))) s before other inner within =
+      narrower _ _ (rows-apart (suc (suc (suc (suc t)))) s (inr (omega arith)) inner before within)
+
+  -- and within the table
+  pub classes-within : (t : ℕ) → t ≢ 3 → t < length f.numbers → slice_index_or f.numbers t 0 + alphabet_len f.classes ≤ size
+  classes-within zero other within =
+      let dead = may.laid.dead in let room = may.room in let whole = may.laid.whole in omega arith
+  classes-within (suc zero) other within =
+      let unreached = may.laid.unreached in let room = may.room in let whole = may.laid.whole in omega arith
+  classes-within (suc (suc zero)) other within =
+      let start = may.laid.start in let room = may.room in let whole = may.laid.whole in omega arith
+  classes-within (suc (suc (suc zero))) other within = absurd (other refl)
+  classes-within (suc (suc (suc (suc t)))) other within =
+      let there = may.laid.within (suc (suc (suc (suc t)))) (omega arith) within in let room = may.room in omega arith
 
 -- the failure target of a string that isn't empty
 pub failed-to : (kind : MatchKind) (patterns : List (List ℕ)) (nodes : List Node) (s t : ℕ) (w : List ℕ) → w ≢ []

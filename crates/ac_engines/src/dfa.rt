@@ -1,8 +1,8 @@
 //! The DFA: one look for each byte.
-ghost use Rattle.std.specs.Prelude.{◌≡◌, ℕ, ◌+◌, ◌<◌, ◌≤◌, IsTrue, List, length, MatchResult, slice_index_or};
+ghost use Rattle.std.specs.Prelude.{◌≡◌, ℕ, ◌+◌, ◌<◌, ◌≤◌, IsTrue, List, length, slice_index_or};
 ghost use Rattle.std.proofs.Common.{inl, refl};
 ghost use Rattle.ac_automaton.specs.Util.{bytes_of, more_looks};
-ghost use Rattle.ac_automaton.specs.Builds.{RefusesBy};
+ghost use Rattle.ac_automaton.specs.Builds.{AnswersBuild};
 ghost use Rattle.ac_engines.specs.Dfa.{HasMatchesAmong, IsDfa, IsDfaState, list_at};
 ghost use Rattle.ac_engines.specs.Dfa.Builds.{IsDfaBuilt, dfa_refusal_by, usual_dfa_settings};
 ghost use Rattle.ac_engines.specs.Listed.{dfa-lists};
@@ -117,9 +117,7 @@ impl<A: Allocator + Clone> DFA<A> {
     /// # Errors
     /// As `Builder::build`.
     pub fn new(alloc: A, patterns: &[&[u8]]) -> Result<DFA<A>, BuildError>
-        ensures { MatchResult result
-            (IsDfaBuilt usual_dfa_settings (bytes_of patterns.now))
-            (RefusesBy (dfa_refusal_by usual_dfa_settings (bytes_of patterns.now)) (bytes_of patterns.now)) }
+        ensures { AnswersBuild (IsDfaBuilt usual_dfa_settings) (dfa_refusal_by usual_dfa_settings) (bytes_of patterns.now) result }
     {
         Builder::new().build(alloc, patterns)
     }
@@ -174,15 +172,17 @@ impl<A: Allocator> Automaton for DFA<A> {
 
     ghost LOOKS = { 1 };
 
-    ghost built = { λ d. d.built };
-
-    ghost stands = { λ d anchored s u. IsDfaState d anchored s u };
-
-    ghost listed = { λ d s. list_at d s };
-
-    ghost wants_prefilter = { λ d. d.wants_prefilter };
+    ghost seen = { λ d. record {
+      built = d.built;
+      most = 1;
+      wants_prefilter = d.wants_prefilter;
+      stands = λ anchored s u. IsDfaState d anchored s u;
+      listed = λ s. list_at d s;
+    } };
 
     ghost one_or_two = { inl refl };
+
+    ghost allows = { λ d. refl };
 
     ghost lists = { dfa-lists };
 

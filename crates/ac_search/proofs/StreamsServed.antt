@@ -21,10 +21,10 @@ module _ (engine : Built) (start_kind : StartKind) where
   decided bytes from (m ∷ ms) to all = (none-open bytes from (m.start + 1) all.0, decided bytes m.end ms to all.1)
 
   -- the same settles a stream of either
-  pub settled-at : (bytes : List ℕ) (given place : ℕ) → IsSettledAt engine bytes given place → IsSettledAt searcher bytes given place
+  settled-at : (bytes : List ℕ) (given place : ℕ) → IsSettledAt engine bytes given place → IsSettledAt searcher bytes given place
   settled-at bytes given place h = search (rules, decided)
 
-  settled-by : (kind : MatchKind) (bytes : List ℕ) (given place : ℕ) → IsSettledBy kind engine bytes given place
+  pub settled-by : (kind : MatchKind) (bytes : List ℕ) (given place : ℕ) → IsSettledBy kind engine bytes given place
       → IsSettledBy kind searcher bytes given place
   settled-by Standard bytes given place h = h
   settled-by LeftmostFirst bytes given place h = settled-at bytes given place h

@@ -1,6 +1,6 @@
 -- What is seen of a searcher and of its engine; then the definitions of the crates below that contracts of this
 -- crate cite, so that a user need not list those crates. Each keeps its name, as `Built` here is `Built` of ac_util; but
--- the `Classes` of ac_engines are `EngineClasses` here.
+-- the `Classes` of ac_engines are `EngineClasses` here, and the constant `GREATEST` is in `Numbers`.
 pub mod Engines
 pub mod Order
 pub mod Places
@@ -27,6 +27,7 @@ pub use Rattle.ac_util.specs.Replacement
 pub use Rattle.ac_util.specs.Replacing
 -- streams
 pub use Rattle.ac_util.specs.Stream
+pub use Rattle.ac_util.specs.Settled
 pub use Rattle.ac_util.specs.StreamReplacing
 pub use Rattle.ac_automaton.specs.Streams
 -- texts
@@ -36,6 +37,7 @@ pub use Rattle.ac_util.specs.Texts
 pub use Rattle.ac_util.specs.Borrowed
 pub use Rattle.ac_util.specs.Pieces
 pub use Rattle.ac_util.specs.Limits
+pub use Rattle.ac_util.specs.declared.primitives.TheConstants as Numbers
 pub use Rattle.ac_util.specs.Sizes
 pub use Rattle.ac_util.specs.Plain
 -- builds and iterators

@@ -1,9 +1,13 @@
 //! Laws that users of a searcher may rely on, each the contract of a function that does nothing. They are about the
 //! definitions that the contracts of the searches are made of: nothing is called, nothing is assumed.
-ghost use Rattle.std.specs.Prelude.{◌≡◌, ◌≢◌, ◌+◌, ◌-◌, ◌<◌, ◌≤◌, ◌↔◌, ℕ, IfSome, IsTrue, List, None, true, length};
+ghost use Rattle.std.specs.Prelude.{◌≡◌, ◌≢◌, ◌+◌, ◌-◌, ◌<◌, ◌≤◌, ◌↔◌, ℕ, Bool, Err, IfSome, IsTrue, List, None, Option, Result, Some, true, length};
 ghost use Rattle.std.specs.List.{AllByRecursion};
 ghost use Rattle.std.specs.Str.{IsUtf8};
-ghost use Rattle.ac_automaton.specs.Util.{all, AreTexts, InputView, input_of, Built, exchanged, exchanged_in_text, find_refusal, find_result, has_empty, kept_back_len, IsBetweenCharacters, LiesIn, Occurrence, Occurs, overlapping_iter_refusal, overlapping_refusal, replace_refusal, search_in, shortest_len, stream_refusal, stream_result, walk_result};
+ghost use Rattle.ac_automaton.specs.Util.{all, AreTexts, InputView, input_of, Built, exchanged, exchanged_in_text, find_refusal, find_result, has_empty, IsSettledBy, kept_back_len, IsBetweenCharacters, LiesIn, MatchKind, Occurrence, Occurs, overlapping_iter_refusal, overlapping_refusal, replace_refusal, search_in, shortest_len, StartKind, stream_refusal, stream_result, walk_result};
+ghost use Rattle.ac_util.specs.declared.error.StreamError.{StreamError};
+ghost use Rattle.ac_automaton.specs.Iterators.{GoesOn, Walking};
+ghost use Rattle.ac_automaton.specs.Overlaps.{ListsNext, Overlapping};
+ghost use Rattle.ac_automaton.specs.Streams.{GivesStreamItem, StreamReading, items_left};
 ghost use Rattle.ac_search.specs.Order.{StandInOrder};
 ghost use Rattle.ac_engines.specs.declared.nfa.contiguous.format.Format.{Format};
 ghost use Rattle.ac_search.specs.Searchers.{IsBuilt, Searcher, Settings};
@@ -150,6 +154,42 @@ pub fn settings_change_no_answer()
         → IsBuilt other patterns t → one.engine.kind ≡ other.engine.kind
         → one.engine.ignores_case ≡ other.engine.ignores_case
         → one.start_kind ≡ other.start_kind → s.built ≡ t.built }
+{}
+
+/// An iterator that has returned `None` keeps returning it: one over a walk, over a listing, or over the matches of a stream,
+/// which does so after an error too. With `walk_is_in_order` this is all that a walk promises of its order.
+///
+/// The variables are values of an iterator before a call of `next`, after it, and after one more.
+pub fn ended_iterators_stay_ended()
+    ensures walk { (w v u : Walking) (again : Option Occurrence) → GoesOn w None v → GoesOn v again u → again ≡ None }
+    ensures listing { (l m n : Overlapping) (again : Option Occurrence)
+        → ListsNext l None m → ListsNext m again n → again ≡ None }
+    ensures stream { (ends : Bool) (s t u : StreamReading) (again : Option (Result Occurrence StreamError))
+        → GivesStreamItem ends s None t → GivesStreamItem ends t again u → again ≡ None }
+    ensures failed { (ends : Bool) (s t u : StreamReading) (e : StreamError) (again : Option (Result Occurrence StreamError))
+        → GivesStreamItem ends s (Some (Err e)) t → GivesStreamItem ends t again u → again ≡ None }
+{}
+
+/// Every iterator ends, since each item leaves fewer that may follow: of a walk, of a listing, and of a stream, whatever its
+/// reader gives.
+///
+/// The variables are values of an iterator before a call of `next` and after it. A loop of one's own over `next` has what is
+/// left as its measure.
+pub fn iterators_end()
+    ensures walk { (w v : Walking) (m : Occurrence) → GoesOn w (Some m) v → length v.rest < length w.rest }
+    ensures listing { (l m : Overlapping) (n : Occurrence) → ListsNext l (Some n) m → length m.rest < length l.rest }
+    ensures stream { (ends : Bool) (s t : StreamReading) (item : Result Occurrence StreamError)
+        → GivesStreamItem ends s (Some item) t → items_left t < items_left s }
+{}
+
+/// Whichever starts are supported, a stream is settled up to the same offsets by the same matches.
+///
+/// The search that `AhoCorasick::try_stream_finder` returns is for what its searcher was built from, but its engine may
+/// support more starts. Call this where what that search says of a failed read has to be said of the searcher.
+pub fn streams_settle_alike()
+    ensures { (kind : MatchKind) (built : Built) (start : StartKind) (bytes : List ℕ) (given place : ℕ)
+        → IsSettledBy kind (record built { start_kind = start }) bytes given place
+        → IsSettledBy kind built bytes given place }
 {}
 
 /// Two values of `AhoCorasickKind` compare equal exactly if they are the same, and a clone of one is that value.

@@ -34,7 +34,7 @@ pub use ac_util::device::{
 };
 pub use ac_util::error::{BuildError, MatchError, ReplaceError, StreamError};
 pub use ac_util::looks::{Looks, Tape, open};
-pub use ac_util::patterns::{Patterns, check_limits, plain_byte};
+pub use ac_util::patterns::{Patterns, check_limits};
 pub use ac_util::plain;
 pub use ac_util::prefilter::{Candidate, FirstBytes, Needle, Prefilter};
 pub use ac_util::primitives::{

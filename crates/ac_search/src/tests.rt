@@ -21,6 +21,7 @@ mod choice;
 mod devices;
 mod engines;
 mod leftmost_stream;
+mod listed_stream;
 mod listings;
 mod readme;
 mod refusals;
@@ -199,13 +200,13 @@ fn lengths_of(searcher: &AhoCorasick) -> (usize, usize, usize) {
 
 #[test]
 fn a_new_searcher_reports_its_settings(rt: HostRuntime) -> Result<(), Fail> {
-    let searcher = AhoCorasick::new(rt.alloc(), &[b"he", b"she", b"hers"])?;
+    let searcher = AhoCorasick::new(rt.alloc(), &[b"foo", b"bar", b"quux", b"baz"])?;
     same(
         &rt,
         kinds_of(&searcher),
         (AhoCorasickKind::DFA, Standard, Unanchored),
     );
-    same(&rt, lengths_of(&searcher), (2, 4, 3));
+    same(&rt, lengths_of(&searcher), (3, 4, 4));
     assert!(rt; searcher.memory_usage() > 0);
     let empty = AhoCorasick::new(rt.alloc(), &[])?;
     same(&rt, lengths_of(&empty), (usize::MAX, 0, 0));

@@ -3,17 +3,11 @@ use Rattle.std.proofs.Common.{◌≡◌, ◌≢◌, ◌+◌, ◌<◌, ℕ, zero,
 use Rattle.std.proofs.lemmas.Bool.Decides.{nat_tests}
 use Rattle.std.proofs.lemmas.List.{length-take-le}
 use Rattle.std.specs.Io.{StartsWith}
-use Rattle.std.specs.Io.KnownBytes.{Appends, Consumes}
+use Rattle.std.specs.Io.KnownBytes.{Appends}
 use Rattle.std.proofs.Math.Seq.{take-add}
-use Rattle.std.proofs.KnownBytes.{Appends-trans, Consumes-trans}
+use Rattle.std.proofs.KnownBytes.{Appends-trans}
 use Rattle.std.proofs.lemmas.Grind.{common_steps}
-use Rattle.ac_util.specs.Prelude.{FailsToRead, idle, Reading, ReadsAll, ReadsSome, StreamError, Took, TooLong}
-use Rattle.ac_util.specs.declared.error.StreamError.TheVariants.{Io, Match, Memory, WriteZero}
-
--- what was read so far with what a read has taken
-pub read-more : {ends : Bool} (a b c : Reading) (bs piece : List ℕ) (n : ℕ) → Consumes a.left b.left bs
-    → Took ends b c piece n → Consumes a.left c.left (bs ++ take n piece)
-read-more a b c bs piece n p t = Consumes-trans a.left b.left c.left bs (take n piece) p t.moved
+use Rattle.ac_util.specs.Prelude.{FailsToRead, idle, Reading, ReadsAll, ReadsSome, StreamError}
 
 -- what was written so far with what a write has taken
 pub append-more : (a b c : Option (List ℕ)) (bytes : List ℕ) (at n : ℕ)
@@ -34,11 +28,6 @@ take-short at bytes less = let l = length-take-le at bytes (omega arith) in omeg
 pub not-idle : (n room : ℕ) → n ≢ 0 → idle n room ≡ 0
 not-idle n room some = grind (arith, nat_tests)
 
--- a read that took something wasn't an empty one
-pub not-empty : {ends : Bool} (a b : Reading) (into : List ℕ) (n : ℕ) → n ≢ 0 → Took ends a b into n
-    → b.empties ≡ a.empties
-not-empty a b into n some t = let none = not-idle n (length into) some in let count = t.empties in omega arith
-
 -- what is left of the bytes from a place on
 pub rest-range : (at : ℕ) (bytes : List ℕ) → slice_range bytes at (length bytes) ≡ drop at bytes
 rest-range at bytes = grind (arith, common_steps)
@@ -51,16 +40,6 @@ module _ {old between new : Reading} {bytes more : List ℕ} (reads : ReadsSome 
   -- or all that there were
   pub reads-out : {ends : Bool} → ReadsAll ends between new more → ReadsAll ends old new (bytes ++ more)
   reads-out later = grind (arith, common_steps)
-
--- some bytes came, and after them a read has failed, or brought more than usize counts
-pub fails-after : {old between : Reading} {bytes : List ℕ} (new : Reading) (more : List ℕ) → ReadsSome old between bytes
-    → (seen total : ℕ) → total ≡ seen + length bytes → (e : StreamError) → FailsToRead total between new more e
-    → FailsToRead seen old new (bytes ++ more) e
-fails-after new more reads seen total sum (Match m) fails = fails
-fails-after new more reads seen total sum Memory fails = fails
-fails-after {old} {between} {bytes} new more reads seen total sum (Io e) fails = grind (arith, common_steps)
-fails-after new more reads seen total sum WriteZero fails = fails
-fails-after {old} {between} {bytes} new more reads seen total sum TooLong fails = grind (arith, common_steps)
 
 -- bytes came, and then a read has failed, or brought more than usize counts
 pub fails-on : {old between : Reading} (new : Reading) (seen total : ℕ) (bytes : List ℕ) → total ≡ seen + length bytes

@@ -3,7 +3,7 @@ use Rattle.std.proofs.Common.{◌≡◌, ℕ, ◌+◌, ◌-◌, ◌<◌, ◌≤�
 use Rattle.std.proofs.lemmas.Bool.{eq-eqb, cases_lt, false≢true}
 use Rattle.std.proofs.lemmas.Grind.{common_steps}
 use Rattle.memchr.specs.Find.{IsFirst, IsFirstByte, FindsNeedle, OccursAt, Passes}
-use Rattle.ac_util.specs.Prelude.{begins_with, BeginWith, Candidate, FirstOf, is_empty, is_one_of, IsPick, IsSkipFor, LeftmostFirst, LeftmostLongest, match_candidate, MatchKind, Occurrence, occurrence, Occurs, pick, plain_byte, Promises, Search, search_over, Skip, Standard, start_candidate, IsCandidateFor}
+use Rattle.ac_util.specs.Prelude.{begins_with, BeginWith, Candidate, FirstOf, is_empty, is_one_of, IsNeedleMatch, IsPick, IsSkipFor, LeftmostFirst, LeftmostLongest, match_candidate, MatchKind, Occurrence, occurrence, Occurs, pick, plain_byte, Promises, Search, search_over, Skip, Standard, start_candidate, IsCandidateFor}
 use Rattle.ac_util.specs.declared.prefilter.Candidate.TheVariants.{None as Nothing}
 use Rattle.ac_util.specs.Pick as Order
 use Rattle.ac_util.specs.Prefilters.Skip.{Needle}
@@ -96,12 +96,16 @@ module _ (needle : List ℕ) (hay : List ℕ) (low high : ℕ) where
   picked_by_all kind None h = h
   picked_by_all kind (Some m) h = (h.0, λ o occurs. first_by_all kind m o h.0 occurs (h.1 o occurs))
 
-  -- so what is picked is promised
-  needle_promise : (r : Option Occurrence) → pick Standard alone ≡ r → Promises alone (match_candidate r)
-  needle_promise None e = subst (λ (w : Option Occurrence). IsPick Standard alone w) e (pick-IsPick Standard alone)
-  needle_promise (Some m) e =
+  -- so it is the match of the needle
+  pub needle_match : (r : Option Occurrence) → pick Standard alone ≡ r → IsNeedleMatch needle hay low high r
+  needle_match r e =
       λ kind. sym (pick-from_IsPick kind alone (pick Standard alone)
       (picked_by_all kind (pick Standard alone) (pick-IsPick Standard alone))) ∙ e
+
+  -- and is promised
+  needle_promise : (r : Option Occurrence) → pick Standard alone ≡ r → Promises alone (match_candidate r)
+  needle_promise None e = subst (λ (w : Option Occurrence). IsPick Standard alone w) e (pick-IsPick Standard alone)
+  needle_promise (Some m) e = needle_match (Some m) e
 
   -- each occurrence is the needle at its start
   stands : (m : Occurrence) → Occurs alone m → m ≡ standing m.start

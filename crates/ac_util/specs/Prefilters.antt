@@ -117,12 +117,20 @@ abbrev pub match_candidate : Option Occurrence → Candidate
 match_candidate None = Nothing
 match_candidate (Some m) = Found m
 
+-- the first place of a span that holds one of the bytes
+abbrev pub IsFirstAmong : List ℕ → List ℕ → ℕ → ℕ → Option ℕ → Type 0
+IsFirstAmong bytes haystack low high place = IsFirst (Passes (is_one_of bytes) haystack) low high place
+
+-- the match in a span that a search for the needle alone picks, by any match kind
+abbrev pub IsNeedleMatch : List ℕ → List ℕ → ℕ → ℕ → Option Occurrence → Type 0
+IsNeedleMatch needle haystack low high found =
+    (kind : MatchKind) → pick kind (search_over false (needle ∷ []) haystack low high) ≡ found
+
 -- what a skip says of a span: the first place of it that holds one of the bytes; or the match that a search for
 -- the needle alone picks
 abbrev pub IsCandidateFor : Skip → List ℕ → ℕ → ℕ → Candidate → Type 0
 IsCandidateFor (FirstOf bytes) haystack low high candidate =
-    (place : Option ℕ) × IsFirst (Passes (is_one_of bytes) haystack) low high place
-    × (candidate ≡ start_candidate place)
+    (place : Option ℕ) × IsFirstAmong bytes haystack low high place × (candidate ≡ start_candidate place)
 IsCandidateFor (Needle needle) haystack low high candidate =
     candidate ≡ match_candidate (pick Standard (search_over false (needle ∷ []) haystack low high))
 

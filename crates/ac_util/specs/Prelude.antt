@@ -16,7 +16,7 @@ pub use Rattle.ac_util.specs.Occurrence.{Occurrence, occurrence}
 pub use Rattle.ac_util.specs.Pick.{beats, best, better, IsFirst, IsFirstByEnd, IsPick, order_of}
 unfoldable pub use Rattle.ac_util.specs.Pick.{pick}
 pub use Rattle.ac_util.specs.Plain.{EndsBy, IsReplaceable}
-pub use Rattle.ac_util.specs.Prefilters.{begins_with, BeginWith, first_bytes_of, is_one_of, IsSkipFor, marked, match_candidate, MOST_BYTES, MOST_PATTERNS, Promises, search_over, Skip, skip_among, skip_by_bytes, skip_for, start_candidate, IsCandidateFor}
+pub use Rattle.ac_util.specs.Prefilters.{begins_with, BeginWith, first_bytes_of, is_one_of, IsFirstAmong, IsNeedleMatch, IsSkipFor, marked, match_candidate, MOST_BYTES, MOST_PATTERNS, Promises, search_over, Skip, skip_among, skip_by_bytes, skip_for, start_candidate, IsCandidateFor}
 unfoldable pub use Rattle.ac_util.specs.Prefilters.{first_bytes}
 pub use Rattle.ac_util.specs.Prefilters.Skip.{FirstOf}
 pub use Rattle.ac_util.specs.Refusal.{Call, Find, OverlappingByState, OverlappingIterator, refusal, Replace, Stream}

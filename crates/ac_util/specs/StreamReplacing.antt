@@ -15,7 +15,7 @@ use Rattle.ac_util.specs.Occurrence.{Occurrence}
 use Rattle.ac_util.specs.Replaced.{replaced}
 use Rattle.ac_util.specs.Replacement.{Answer, Calls, Fails, Continues, Replacing, ReplacementSteps}
 use Rattle.ac_util.specs.Settled.{IsSettledAt}
-use Rattle.ac_util.specs.Sizes.{longest_len}
+use Rattle.ac_util.specs.Sizes.{longest_len, usize_max}
 use Rattle.ac_util.specs.Stream.{error_of, kept_back_len, stream_result, without_last}
 
 -- one of five things, by why a stream ended
@@ -88,11 +88,11 @@ module _ {F D : Type 0} (told : D → Writing)
       ms (record { closure = closure; destination = old }) end
       (record { closure = left; destination = new })
 
-  -- the stream was read to its end, and all of its steps were made
+  -- the stream was read to its end, usize counts its bytes, and all of its steps were made
   abbrev pub ReplacesStreamWith : Bool → Reading → Reading → D → Type 0
   ReplacesStreamWith ends reader new_reader new =
       (bytes : List ℕ) × ReadsAll ends reader new_reader bytes
-      × StreamStepsLead bytes (stream_result built bytes) (length bytes) None new
+      × StreamStepsLead bytes (stream_result built bytes) (length bytes) None new × (length bytes ≤ usize_max)
 
   -- the steps were made as far as the stream is settled, of which these bytes came: under Standard to all but the bytes held
   -- back, and under a leftmost kind to all but at most as many as the longest pattern has
@@ -102,24 +102,26 @@ module _ {F D : Type 0} (told : D → Writing)
       (given place : ℕ) × IsSettledAt built bytes given place × IsNear built bytes place
       × StreamStepsLead bytes (take given (stream_result built bytes)) place None new
 
-  -- a read has failed, or brought more than usize counts: the steps were made as far as the stream is settled. Or a
-  -- write has failed, or took nothing, or the closure has failed: no step was made after that
+  -- a read has failed, or brought more than usize counts, which counts all before it: the steps were made as far as the
+  -- stream is settled. Or a write has failed, or took nothing, or the closure has failed: no step was made after that
   abbrev pub FailsToReplaceWith : Bool → Reading → Reading → D → StreamError → Type 0
   FailsToReplaceWith ends reader new_reader new e =
       (bytes : List ℕ)
       × ((FailsToRead 0 reader new_reader bytes e × StepsAreSettled built.kind bytes new)
       ⊎ ((given place : ℕ) × IsSettled ends built reader new_reader bytes given place
       × StreamStepsLead bytes (take given (stream_result built bytes)) place (Some e) new))
+      × (length bytes ≤ usize_max)
 
 module _ (built : Built) (texts : List (List ℕ)) (old new : Writing) where
   -- all bytes of the stream with their matches exchanged for texts
   abbrev pub stream_replaced : List ℕ → List ℕ
   stream_replaced bytes = replaced bytes texts (stream_result built bytes)
 
-  -- the stream was read to its end, and its replaced text was written
+  -- the stream was read to its end, usize counts its bytes, and its replaced text was written
   abbrev pub ReplacesStream : Bool → Reading → Reading → Type 0
   ReplacesStream ends reader new_reader =
       (bytes : List ℕ) × ReadsAll ends reader new_reader bytes × WritesAll old new (stream_replaced bytes)
+      × (length bytes ≤ usize_max)
 
   -- the replaced text was written as far as the stream is settled, of which these bytes came: under Standard but for the bytes
   -- held back, and under a leftmost kind but for at most as many as the longest pattern has
@@ -129,8 +131,9 @@ module _ (built : Built) (texts : List (List ℕ)) (old new : Writing) where
       (given place : ℕ) × IsSettledAt built bytes given place × IsNear built bytes place
       × WritesAll old new (replaced (take place bytes) texts (take given (stream_result built bytes)))
 
-  -- a read has failed, or brought more than usize counts: the replaced text was written as far as the stream is settled.
-  -- Or a write has failed, or took nothing: a beginning of the replaced text of what was read was written
+  -- a read has failed, or brought more than usize counts, which counts all before it: the replaced text was written as far
+  -- as the stream is settled. Or a write has failed, or took nothing: a beginning of the replaced text of what was read was
+  -- written
   abbrev pub FailsToReplace : Bool → Reading → Reading → StreamError → Type 0
   FailsToReplace ends reader new_reader e =
       (bytes : List ℕ)
@@ -138,3 +141,4 @@ module _ (built : Built) (texts : List (List ℕ)) (old new : Writing) where
       ⊎ ((ReadsSome reader new_reader bytes ⊎ ReadsAll ends reader new_reader bytes)
       × ((failure : WriteError) × (e ≡ error_of failure)
       × WritesUntilFailure old new (stream_replaced bytes) failure)))
+      × (length bytes ≤ usize_max)

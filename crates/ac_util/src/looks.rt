@@ -2,10 +2,10 @@
 ghost use Rattle.std.specs.Prelude.{◌≡◌, ℕ, ◌+◌, ◌<◌, ◌≤◌, Bool, List, length, slice_index};
 ghost use Rattle.ac_util.specs.Counts.{no_counts, one_more_call, one_more_read, more_looks};
 ghost use Rattle.ac_util.specs.Inputs.{input_of};
-ghost use Rattle.ac_util.specs.Prefilters.{IsSkipFor, Promises, IsCandidateFor, search_over, skip_of};
+ghost use Rattle.ac_util.specs.Prefilters.{IsFirstAmong, IsNeedleMatch, IsSkipFor, Promises, IsCandidateFor, first_bytes_of, search_over, skip_of};
 
-use crate::prefilter::{Candidate, Prefilter};
-use crate::search::{Input, Span};
+use crate::prefilter::{Candidate, FirstBytes, Needle, Prefilter};
+use crate::search::{Input, Match, Span};
 use crate::tally::Tally;
 use std::alloc::Allocator;
 use std::marker::Model;
@@ -98,14 +98,6 @@ impl<'h> Tape<'h> {
         }
     }
 
-    /// Goes back to the first byte, so that all may be read again.
-    #[inline]
-    pub fn rewind(&mut self)
-        ensures { self.new ≡ record { bytes = self.old.bytes; place = 0 } }
-    {
-        self.place = Snapshot::of(&0);
-    }
-
     /// Returns the byte at an offset, and counts it as read.
     ///
     /// The offset has to lie in the haystack, and not before the one after the last byte read.
@@ -149,6 +141,46 @@ impl<'h> Tape<'h> {
     {
         looks.call();
         prefilter.find_in(self.haystack, Span { start: at, end })
+    }
+
+    /// Returns the first offset from `at` up to `end` at which one of the bytes is, and counts a call of a prefilter. The
+    /// conditions are those of `scan`.
+    #[inline]
+    pub fn skip_to(
+        &self,
+        first: FirstBytes,
+        at: usize,
+        end: usize,
+        looks: &mut Looks,
+    ) -> Option<usize>
+        requires onward { self.now.place ≤ at }
+        requires ordered { at ≤ end }
+        requires within { end ≤ length self.now.bytes }
+        ensures first { IsFirstAmong (first_bytes_of first) self.now.bytes at end result }
+        ensures counted { looks.new ≡ one_more_call looks.old }
+    {
+        looks.call();
+        first.find_in(self.haystack, Span { start: at, end })
+    }
+
+    /// Returns the first match of the needle from `at` up to `end`, and counts a call of a prefilter. The conditions are
+    /// those of `scan`.
+    #[inline]
+    pub fn find_needle<A: Allocator>(
+        &self,
+        needle: &Needle<A>,
+        at: usize,
+        end: usize,
+        looks: &mut Looks,
+    ) -> Option<Match>
+        requires onward { self.now.place ≤ at }
+        requires ordered { at ≤ end }
+        requires within { end ≤ length self.now.bytes }
+        ensures found { IsNeedleMatch needle.now self.now.bytes at end result }
+        ensures counted { looks.new ≡ one_more_call looks.old }
+    {
+        looks.call();
+        needle.find_in(self.haystack, Span { start: at, end })
     }
 }
 

@@ -7,8 +7,7 @@ ghost use Rattle.memchr.specs.Find.{IsFirstByte};
 ghost use Rattle.ac_util.specs.declared.error.BuildError.TheVariants.{Memory};
 ghost use Rattle.ac_util.specs.InputView.{IsLegal};
 ghost use Rattle.ac_util.specs.Node.{is_empty};
-ghost use Rattle.ac_util.specs.Prefilters.{IsSkipFor, Promises, Skip, IsCandidateFor, begins_with, byte_count, first_bytes_of, is_one_of, marked, search_over, skip_for, skip_of};
-ghost use Rattle.ac_util.specs.Prefilters.Skip.{FirstOf};
+ghost use Rattle.ac_util.specs.Prefilters.{IsFirstAmong, IsNeedleMatch, IsSkipFor, Promises, IsCandidateFor, begins_with, byte_count, first_bytes_of, is_one_of, marked, search_over, skip_for, skip_of};
 ghost use Rattle.ac_util.specs.Sameness.{plain_byte};
 
 use crate::error::BuildError;
@@ -101,17 +100,15 @@ impl<A: Allocator> Needle<A> {
 
     /// Returns the first match of the needle in a span, as the match of pattern 0.
     #[inline]
-    fn find_in(&self, haystack: &[u8], span: Span) -> Candidate
+    pub(crate) fn find_in(&self, haystack: &[u8], span: Span) -> Option<Match>
         requires ordered { span.start ≤ span.end }
         requires within { span.end ≤ length haystack.now }
-        ensures { IsCandidateFor (Skip.Needle self.now) haystack.now span.start span.end result }
+        ensures { IsNeedleMatch self.now haystack.now span.start span.end result }
     {
-        let Some(skipped) = memmem::find(&haystack[span.start..span.end], &self.bytes) else {
-            return Candidate::None;
-        };
+        let skipped = memmem::find(&haystack[span.start..span.end], &self.bytes)?;
         let start = span.start + skipped;
         let end = start + self.bytes.len();
-        Candidate::Match(Match::new(PatternID::must(0), Span { start, end }))
+        Some(Match::new(PatternID::must(0), Span { start, end }))
     }
 }
 
@@ -166,15 +163,13 @@ impl FirstBytes {
 
     /// Returns the first offset in a span at which one of the bytes is.
     #[inline]
-    fn find_in(&self, haystack: &[u8], span: Span) -> Candidate
+    pub(crate) fn find_in(&self, haystack: &[u8], span: Span) -> Option<usize>
         requires ordered { span.start ≤ span.end }
         requires within { span.end ≤ length haystack.now }
-        ensures { IsCandidateFor (FirstOf (first_bytes_of self.now)) haystack.now span.start span.end result }
+        ensures { IsFirstAmong (first_bytes_of self.now) haystack.now span.start span.end result }
     {
-        match self.find(&haystack[span.start..span.end]) {
-            Some(skipped) => Candidate::PossibleStart(span.start + skipped),
-            None => Candidate::None,
-        }
+        let skipped = self.find(&haystack[span.start..span.end])?;
+        Some(span.start + skipped)
     }
 }
 
@@ -257,9 +252,25 @@ impl<A: Allocator> Prefilter<A> {
         if span.start > span.end {
             return Candidate::None;
         }
+        self.candidate_in(haystack, span)
+    }
+
+    /// Returns what is known about a span that doesn't start past its end.
+    #[inline]
+    fn candidate_in(&self, haystack: &[u8], span: Span) -> Candidate
+        requires ordered { span.start ≤ span.end }
+        requires within { span.end ≤ length haystack.now }
+        ensures { IsCandidateFor (skip_of self.now) haystack.now span.start span.end result }
+    {
         match self {
-            Prefilter::Bytes(bytes) => bytes.find_in(haystack, span),
-            Prefilter::Needle(needle) => needle.find_in(haystack, span),
+            Prefilter::Bytes(first) => match first.find_in(haystack, span) {
+                Some(start) => Candidate::PossibleStart(start),
+                None => Candidate::None,
+            },
+            Prefilter::Needle(needle) => match needle.find_in(haystack, span) {
+                Some(found) => Candidate::Match(found),
+                None => Candidate::None,
+            },
         }
     }
 }

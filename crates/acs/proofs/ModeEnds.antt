@@ -2,21 +2,20 @@
 use Rattle.std.proofs.Common.{◌≡◌, ℕ, List, [], ap, ◌∙◌, inl, inr, Bool, None, rules, arith}
 use Rattle.std.specs.Prelude.{MatchResult, Result, Ok, Err}
 use Rattle.std.proofs.lemmas.Grind.{common_steps}
-use Rattle.ac_util.specs.declared.device.WriteError.{WriteError}
-use Rattle.ac_util.specs.declared.device.WriteError.TheVariants.{Io as WriteFailed, WriteZero as WroteNothing}
-use Rattle.ac_util.specs.declared.error.StreamError.{StreamError}
-use Rattle.ac_util.specs.declared.error.StreamError.TheVariants.{Io as DeviceFailed, Match as Refused, Memory as NoBuffer, TooLong as StreamTooLong, WriteZero as TookNothing}
-use Rattle.ac_util.specs.declared.search.MatchKind.{MatchKind}
-use Rattle.ac_util.specs.declared.search.MatchKind.TheVariants.{LeftmostFirst, LeftmostLongest, Standard}
-use Rattle.ac_util.specs.declared.search.StartKind.{StartKind}
-use Rattle.ac_util.specs.Built.{Built, exchanged, stream_refusal}
-use Rattle.ac_util.specs.Device.{Reading, ReadsAll, Writing, WritesAll, WritesUntilFailure}
-use Rattle.ac_util.specs.Replaced.{replaced}
-use Rattle.ac_util.specs.Stream.{error_of}
-use Rattle.ac_util.specs.StreamReplacing.{FailsToReplace, IsStreamRefused, TextIsSettled}
-use Rattle.ac_automaton.specs.Streams.{Streaming}
+use Rattle.ac_search.specs.declared.WriteError.{WriteError}
+use Rattle.ac_search.specs.declared.WriteError.TheVariants.{Io as WriteFailed, WriteZero as WroteNothing}
+use Rattle.ac_search.specs.declared.StreamError.{StreamError}
+use Rattle.ac_search.specs.declared.StreamError.TheVariants.{Io as DeviceFailed, Match as Refused, Memory as NoBuffer, TooLong as StreamTooLong, WriteZero as TookNothing}
+use Rattle.ac_search.specs.declared.MatchKind.{MatchKind}
+use Rattle.ac_search.specs.declared.MatchKind.TheVariants.{LeftmostFirst, LeftmostLongest, Standard}
+use Rattle.ac_search.specs.declared.StartKind.{StartKind}
+use Rattle.ac_search.specs.Built.{Built, exchanged, stream_refusal}
+use Rattle.ac_search.specs.Device.{Reading, ReadsAll, Writing, WritesAll, WritesUntilFailure}
+use Rattle.ac_search.specs.Replaced.{replaced}
+use Rattle.ac_search.specs.Stream.{error_of}
+use Rattle.ac_search.specs.StreamReplacing.{FailsToReplace, IsSettledBy, IsStreamRefused, TextIsSettled}
+use Rattle.ac_search.specs.Streams.{Streaming}
 use Rattle.ac_search.specs.StreamsBegun.{HasBegun}
-use Rattle.ac_search.proofs.StreamsServed.{settled-at}
 use Rattle.acs.specs.declared.fault.Fault.{Fault}
 use Rattle.acs.specs.declared.request.Mode.{Mode}
 use Rattle.acs.specs.declared.request.Mode.TheVariants.{Replace, Stream, StreamReplace}
@@ -52,23 +51,25 @@ module _ (built : Built) (texts : List (List ℕ)) (ends : Bool) (reader new_rea
   refused-first mode unchanged TookNothing fault is same refusal = absurd refusal
   refused-first mode unchanged StreamTooLong fault is same refusal = absurd refusal
 
-  -- lines ask for no texts, and for no start
-  lines-settled : (begun : StartKind) (kind : MatchKind) (bytes : List ℕ)
-      → WritesSettled kind Stream (record built { start_kind = begun }) [] bytes writer new_writer
-      → WritesSettled kind Stream built texts bytes writer new_writer
-  lines-settled begun Standard bytes h = h
-  lines-settled begun LeftmostFirst bytes h =
-      (h.0, h.1, settled-at (record built { start_kind = begun }) built.start_kind bytes h.0 h.1 h.2, h.3, h.4)
-  lines-settled begun LeftmostLongest bytes h =
-      (h.0, h.1, settled-at (record built { start_kind = begun }) built.start_kind bytes h.0 h.1 h.2, h.3, h.4)
+  -- where streams settle alike, lines ask for no texts, and for no start
+  module _ (alike : (kind : MatchKind) (over : Built) (start : StartKind) (bytes : List ℕ) (given place : ℕ)
+      → IsSettledBy kind (record over { start_kind = start }) bytes given place → IsSettledBy kind over bytes given place) where
+    lines-settled : (begun : StartKind) (kind : MatchKind) (bytes : List ℕ)
+        → WritesSettled kind Stream (record built { start_kind = begun }) [] bytes writer new_writer
+        → WritesSettled kind Stream built texts bytes writer new_writer
+    lines-settled begun Standard bytes h = h
+    lines-settled begun LeftmostFirst bytes h =
+        (h.0, h.1, alike LeftmostFirst built begun bytes h.0 h.1 h.2, h.3, h.4)
+    lines-settled begun LeftmostLongest bytes h =
+        (h.0, h.1, alike LeftmostLongest built begun bytes h.0 h.1 h.2, h.3, h.4)
 
-  -- the lines of a stream were printed, or a read or a write has failed
-  pub stream-printed : (begun : Streaming) (r : Result Outcome Fault) → stream_refusal built ≡ None → HasBegun built begun
-      → MatchResult r (PrintsStream ends begun.built reader new_reader writer new_writer)
-      (FailsToPrintStream ends begun.built reader new_reader writer new_writer)
-      → AnswersOrFails ends Stream built texts reader new_reader writer new_writer r
-  stream-printed begun (Ok outcome) served is prints = grind (arith, common_steps)
-  stream-printed begun (Err fault) served is fails = search (rules, lines-settled)
+    -- the lines of a stream were printed, or a read or a write has failed
+    pub stream-printed : (begun : Streaming) (r : Result Outcome Fault) → stream_refusal built ≡ None → HasBegun built begun
+        → MatchResult r (PrintsStream ends begun.built reader new_reader writer new_writer)
+        (FailsToPrintStream ends begun.built reader new_reader writer new_writer)
+        → AnswersOrFails ends Stream built texts reader new_reader writer new_writer r
+    stream-printed begun (Ok outcome) served is prints = grind (arith, common_steps)
+    stream-printed begun (Err fault) served is fails = search (rules, lines-settled)
 
   -- the replaced text is written as far as the stream is settled
   settled-written : (kind : MatchKind) (bytes : List ℕ) → TextIsSettled built texts writer new_writer kind bytes

@@ -4,11 +4,11 @@ use Rattle.std.proofs.lemmas.Bool.{cond-false, cond-true, lt-ltb, le-ltb}
 use Rattle.std.specs.Prelude.{nat_lt}
 use Rattle.std.specs.Borrow.{Bor}
 use Rattle.std.proofs.lemmas.Grind.{common_steps}
-use Rattle.ac_util.specs.declared.error.BuildError.{BuildError}
-use Rattle.ac_util.specs.declared.error.BuildError.TheVariants.{PatternIdOverflow, PatternTooLong}
-use Rattle.ac_util.specs.declared.primitives.TheConstants.{GREATEST}
-use Rattle.ac_util.specs.Borrowed.{bytes_of}
-use Rattle.ac_util.specs.Limits.{limit_refusal, too_long_from}
+use Rattle.ac_search.specs.declared.BuildError.{BuildError}
+use Rattle.ac_search.specs.declared.BuildError.TheVariants.{PatternIdOverflow, PatternTooLong}
+use Rattle.ac_search.specs.Borrowed.{bytes_of}
+use Rattle.ac_search.specs.Limits.{limit_refusal, too_long_from}
+use Rattle.ac_search.specs.Numbers.{GREATEST}
 use Rattle.acs.specs.Faults.{fault_of}
 use Rattle.acs.specs.Requests.{firsts}
 

@@ -3,9 +3,9 @@ use Rattle.std.proofs.Common.{◌≡◌, ℕ, List, Bool, arith}
 use Rattle.std.specs.Prelude.{Result, Ok, Err, MatchResult}
 use Rattle.std.specs.Borrow.{Bor}
 use Rattle.std.proofs.lemmas.Grind.{common_steps}
-use Rattle.ac_util.specs.Borrowed.{bytes_of}
-use Rattle.ac_util.specs.Built.{Built}
-use Rattle.ac_util.specs.Device.{Reading, Writing}
+use Rattle.ac_search.specs.Borrowed.{bytes_of}
+use Rattle.ac_search.specs.Built.{Built}
+use Rattle.ac_search.specs.Device.{Reading, Writing}
 use Rattle.ac_search.specs.Searchers.{IsBuilt, Searcher}
 use Rattle.acs.specs.declared.fault.Fault.{Fault}
 use Rattle.acs.specs.declared.request.Mode.{Mode}

@@ -1,20 +1,21 @@
 -- Printing the matches of a stream while it is read.
-use Rattle.std.proofs.Common.{◌≡◌, ◌⊎◌, ◌<◌, ◌≤◌, ◌-◌, ℕ, List, [], ◌∷◌, ◌++◌, length, drop, take, ap, sym, ◌∙◌, subst, arith, inl, inr, Bool, rules}
+use Rattle.std.proofs.Common.{◌≡◌, ◌⊎◌, ◌+◌, ◌<◌, ◌≤◌, ◌-◌, ℕ, List, [], ◌∷◌, ◌++◌, length, drop, take, ap, sym, ◌∙◌, subst, arith, inl, inr, Bool, Some, rules, slice_get}
 use Rattle.std.proofs.KnownBytes.{Consumes-nil}
+use Rattle.std.proofs.lemmas.List.{drop_more}
+use Rattle.std.proofs.lemmas.Option.{get_or_from_slice_get, slice_get_within}
 use Rattle.std.proofs.lemmas.Grind.{common_steps}
-use Rattle.ac_util.specs.declared.error.StreamError.{StreamError}
-use Rattle.ac_util.specs.declared.search.MatchKind.{MatchKind}
-use Rattle.ac_util.specs.declared.search.MatchKind.TheVariants.{LeftmostFirst, LeftmostLongest, Standard}
-use Rattle.ac_util.specs.Built.{Built}
-use Rattle.ac_util.specs.Device.{Reading, ReadsAll, ReadsSome, Writing, WritesAll}
-use Rattle.ac_util.specs.Occurrence.{Occurrence}
-use Rattle.ac_util.specs.Stream.{stream_result}
-use Rattle.ac_util.specs.StreamReplacing.{IsNear, IsSettledBy}
-use Rattle.ac_util.proofs.Devices.{fails-after}
-use Rattle.ac_util.proofs.Lists.{drop-slice_get}
-use Rattle.ac_automaton.specs.declared.automaton.stream_settled.Phase.{Phase}
-use Rattle.ac_automaton.specs.declared.automaton.stream_settled.Phase.TheVariants.{Ended, Failed, Open}
-use Rattle.ac_automaton.specs.Streams.{EndsNow, GivesError, GivesMatch, GivesNextMatch, GivesNone, GoesOnBy, HasGivenSettled, KeepsGiven, Streaming, matches_so_far, initial_stream}
+use Rattle.ac_search.specs.declared.StreamError.{StreamError}
+use Rattle.ac_search.specs.declared.MatchKind.{MatchKind}
+use Rattle.ac_search.specs.declared.MatchKind.TheVariants.{LeftmostFirst, LeftmostLongest, Standard}
+use Rattle.ac_search.specs.Built.{Built}
+use Rattle.ac_search.specs.Device.{Reading, ReadsAll, ReadsSome, Writing, WritesAll}
+use Rattle.ac_search.specs.Occurrence.{Occurrence}
+use Rattle.ac_search.specs.Sizes.{usize_max}
+use Rattle.ac_search.specs.Stream.{stream_result}
+use Rattle.ac_search.specs.StreamReplacing.{IsNear, IsSettledBy}
+use Rattle.ac_search.specs.declared.Phase.{Phase}
+use Rattle.ac_search.specs.declared.Phase.TheVariants.{Ended, Failed, Open}
+use Rattle.ac_search.specs.Streams.{EndsNow, GivesError, GivesMatch, GivesNextMatch, GivesNone, GoesOnBy, HasGivenSettled, KeepsGiven, Streaming, matches_so_far, initial_stream}
 use Rattle.acs.specs.declared.fault.Fault.{Fault}
 use Rattle.acs.specs.declared.request.Mode.TheVariants.{Stream}
 use Rattle.acs.specs.declared.run.Outcome.{Outcome}
@@ -24,7 +25,13 @@ use Rattle.acs.specs.Lines.{lines, outcome_of}
 use Rattle.acs.specs.Printed.{FailsToPrintStream, HasPrintedRead, IsPrinting, PrintsSoFar, PrintsStream}
 use Rattle.acs.specs.Modes.{FailsToPrint, WritesSettled}
 use Rattle.acs.proofs.Printing.{printing-begins, printing-writes}
-use Rattle.ac_util.specs.Sizes.{usize_max}
+use Rattle.acs.proofs.Reading.{fails-after}
+
+-- what is left of a list from a place on begins with the element there
+drop-slice_get : {X : Type 0} (xs : List X) (i : ℕ) (x : X) → slice_get xs i ≡ Some x → drop i xs ≡ x ∷ drop (i + 1) xs
+drop-slice_get xs i x at =
+    drop_more xs i x (slice_get_within xs i x at)
+    ∙ ap (λ (y : _). y ∷ drop (i + 1) xs) (get_or_from_slice_get xs i x x at)
 
 -- of another list that begins with the matches given, the same lines are written
 printing-longer : (n : ℕ) (all others : List Occurrence) {old new : Writing} {text : List ℕ} {outcome : Outcome}
@@ -100,7 +107,7 @@ module _ {ends : Bool} {built : Built} {v : Streaming} {reader new_reader : Read
         cause = inl (
           e,
           is,
-          fails-after later gives.more read 0 (length v.bytes) (omega arith) e gives.reads,
+          fails-after later gives.more read e gives.reads,
           settled-written bytes w.kept gives.given (subst (λ (b : Built). IsNear b bytes w.kept) h.built_is near) built.kind
               (subst (λ (b : Built). IsSettledBy b.kind b bytes v.given w.kept) h.built_is gives.settled),
         );

@@ -1,13 +1,13 @@
 -- Why the program fails, and what it says then.
 use Rattle.std.specs.Prelude.{◌≡◌, ℕ, List, codes}
-use Rattle.ac_util.specs.declared.device.WriteError.{WriteError}
-use Rattle.ac_util.specs.declared.device.WriteError.TheVariants.{Io as WriteFailed, WriteZero as WroteNothing}
-use Rattle.ac_util.specs.declared.error.BuildError.{BuildError}
-use Rattle.ac_util.specs.declared.error.BuildError.TheVariants.{Memory as NoMemory, PatternIdOverflow, PatternTooLong as TooLongPattern, StateIdOverflow}
-use Rattle.ac_util.specs.declared.error.MatchError.{MatchError}
-use Rattle.ac_util.specs.declared.error.MatchError.TheVariants.{InvalidInputAnchored, InvalidInputUnanchored, UnsupportedEmpty, UnsupportedOverlapping, UnsupportedStream}
-use Rattle.ac_util.specs.declared.error.StreamError.{StreamError}
-use Rattle.ac_util.specs.declared.error.StreamError.TheVariants.{Io as DeviceFailed, Match as Refused, Memory as NoBuffer, TooLong as StreamTooLong, WriteZero as TookNothing}
+use Rattle.ac_search.specs.declared.WriteError.{WriteError}
+use Rattle.ac_search.specs.declared.WriteError.TheVariants.{Io as WriteFailed, WriteZero as WroteNothing}
+use Rattle.ac_search.specs.declared.BuildError.{BuildError}
+use Rattle.ac_search.specs.declared.BuildError.TheVariants.{Memory as NoMemory, PatternIdOverflow, PatternTooLong as TooLongPattern, StateIdOverflow}
+use Rattle.ac_search.specs.declared.MatchError.{MatchError}
+use Rattle.ac_search.specs.declared.MatchError.TheVariants.{InvalidInputAnchored, InvalidInputUnanchored, UnsupportedEmpty, UnsupportedOverlapping, UnsupportedStream}
+use Rattle.ac_search.specs.declared.StreamError.{StreamError}
+use Rattle.ac_search.specs.declared.StreamError.TheVariants.{Io as DeviceFailed, Match as Refused, Memory as NoBuffer, TooLong as StreamTooLong, WriteZero as TookNothing}
 use Rattle.ac_search.specs.Builds.{RefusesBy}
 use Rattle.ac_search.specs.Searchers.{Settings, engine_refusal}
 use Rattle.acs.specs.declared.fault.Fault.{Fault}

@@ -1,17 +1,17 @@
 -- What a mode does to the reader and the writer of a run, by a searcher that is built.
 use Rattle.std.specs.Prelude.{◌≡◌, ◌⊎◌, ℕ, ◌+◌, Bool, List, [], MatchResult, Option, None, Some, Result, option_map, take}
 use Rattle.std.specs.Io.KnownBytes.{Consumes}
-use Rattle.ac_util.specs.declared.error.MatchError.{MatchError}
-use Rattle.ac_util.specs.declared.error.StreamError.{StreamError}
-use Rattle.ac_util.specs.declared.search.MatchKind.{MatchKind}
-use Rattle.ac_util.specs.declared.search.MatchKind.TheVariants.{Standard}
-use Rattle.ac_util.specs.InputView.{whole_input}
-use Rattle.ac_util.specs.Built.{Built, overlapping_iter_refusal, stream_refusal}
-use Rattle.ac_util.specs.Device.{Reading, ReadsAll, ReadsSome, Writing, WritesAll, WritesSome}
-use Rattle.ac_util.specs.Replaced.{replaced}
-use Rattle.ac_util.specs.Settled.{IsSettledAt}
-use Rattle.ac_util.specs.Stream.{kept_back_len, stream_result, without_last}
-use Rattle.ac_util.specs.StreamReplacing.{FailsToRead, IsNear}
+use Rattle.ac_search.specs.declared.MatchError.{MatchError}
+use Rattle.ac_search.specs.declared.StreamError.{StreamError}
+use Rattle.ac_search.specs.declared.MatchKind.{MatchKind}
+use Rattle.ac_search.specs.declared.MatchKind.TheVariants.{Standard}
+use Rattle.ac_search.specs.InputView.{whole_input}
+use Rattle.ac_search.specs.Built.{Built, overlapping_iter_refusal, stream_refusal}
+use Rattle.ac_search.specs.Device.{Reading, ReadsAll, ReadsSome, Writing, WritesAll, WritesSome}
+use Rattle.ac_search.specs.Replaced.{replaced}
+use Rattle.ac_search.specs.Settled.{IsSettledAt}
+use Rattle.ac_search.specs.Stream.{kept_back_len, stream_result, without_last}
+use Rattle.ac_search.specs.StreamReplacing.{FailsToRead, IsNear}
 use Rattle.acs.specs.declared.fault.Fault.{Fault}
 use Rattle.acs.specs.declared.fault.Fault.TheVariants.{Io, Memory, WriteZero}
 use Rattle.acs.specs.declared.request.Mode.{Mode}

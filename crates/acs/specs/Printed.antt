@@ -2,11 +2,11 @@
 use Rattle.std.specs.Prelude.{◌≡◌, ◌≤◌, ℕ, Bool, List, [], ◌++◌, drop, Option}
 use Rattle.std.specs.Io.KnownBytes.{Appends}
 use Rattle.std.specs.Iterator.{YieldsFirst}
-use Rattle.ac_util.specs.Built.{Built}
-use Rattle.ac_util.specs.Device.{Reading, ReadsAll, Writing, WritesAll}
-use Rattle.ac_util.specs.Occurrence.{Occurrence}
-use Rattle.ac_util.specs.Stream.{stream_result}
-use Rattle.ac_automaton.specs.Streams.{Streaming, matches_so_far}
+use Rattle.ac_search.specs.Built.{Built}
+use Rattle.ac_search.specs.Device.{Reading, ReadsAll, Writing, WritesAll}
+use Rattle.ac_search.specs.Occurrence.{Occurrence}
+use Rattle.ac_search.specs.Stream.{stream_result}
+use Rattle.ac_search.specs.Streams.{Streaming, matches_so_far}
 use Rattle.acs.specs.declared.fault.Fault.{Fault}
 use Rattle.acs.specs.declared.request.Mode.TheVariants.{Stream}
 use Rattle.acs.specs.declared.run.Outcome.{Outcome}

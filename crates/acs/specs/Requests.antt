@@ -1,10 +1,10 @@
 -- What the words after the program's name ask for.
 use Rattle.std.specs.Prelude.{ℕ, ◌%◌, ◌==◌, List, [], ◌∷◌, Option, None, Some, Bool, false, true, bytes_eq, String, codes, drop, length, map, string_bytes, if◌then◌else◌}
-use Rattle.ac_util.specs.declared.search.MatchKind.{MatchKind}
-use Rattle.ac_util.specs.declared.search.MatchKind.TheVariants.{Standard, LeftmostFirst, LeftmostLongest}
-use Rattle.ac_search.specs.declared.ahocorasick.choice.AhoCorasickKind.{AhoCorasickKind}
-use Rattle.ac_search.specs.declared.ahocorasick.choice.AhoCorasickKind.TheVariants.{ContiguousNFA, DFA, NoncontiguousNFA}
-use Rattle.ac_util.specs.Built.{Built}
+use Rattle.ac_search.specs.declared.MatchKind.{MatchKind}
+use Rattle.ac_search.specs.declared.MatchKind.TheVariants.{Standard, LeftmostFirst, LeftmostLongest}
+use Rattle.ac_search.specs.declared.AhoCorasickKind.{AhoCorasickKind}
+use Rattle.ac_search.specs.declared.AhoCorasickKind.TheVariants.{ContiguousNFA, DFA, NoncontiguousNFA}
+use Rattle.ac_search.specs.Built.{Built}
 use Rattle.ac_search.specs.Builds.{usual_engine_settings}
 use Rattle.ac_search.specs.Searchers.{Settings, built_by, usual_settings}
 use Rattle.acs.specs.declared.request.Mode.{Mode}

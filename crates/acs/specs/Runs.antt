@@ -1,6 +1,6 @@
 -- What a run of the program does to its reader and its writer.
 use Rattle.std.specs.Prelude.{◌≡◌, ◌⊎◌, ℕ, ◌++◌, Bool, List, codes, MatchOption, MatchResult, Result, Ok, Err}
-use Rattle.ac_util.specs.Device.{Reading, Writing, WritesAll}
+use Rattle.ac_search.specs.Device.{Reading, Writing, WritesAll}
 use Rattle.ac_search.specs.Builds.{IsAllowed}
 use Rattle.ac_search.specs.Searchers.{engine_refusal}
 use Rattle.acs.specs.declared.fault.Fault.{Fault}

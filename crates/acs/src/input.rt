@@ -1,6 +1,6 @@
 //! All bytes of a reader.
 ghost use Rattle.std.specs.Prelude.{MatchResult};
-ghost use Rattle.ac_util.specs.Device.{ReadsAll};
+ghost use Rattle.ac_search.specs.Device.{ReadsAll};
 ghost use Rattle.acs.specs.Modes.{FailsToReadAll};
 
 use crate::fault::Fault;

@@ -1,8 +1,8 @@
 //! What each mode reads and writes, by a searcher that is built.
 ghost use Rattle.std.specs.Prelude.{◌≡◌, ◌≢◌, [], MatchResult};
-ghost use Rattle.ac_util.specs.declared.search.MatchKind.TheVariants.{Standard};
-ghost use Rattle.ac_util.specs.declared.search.StartKind.TheVariants.{Unanchored};
-ghost use Rattle.ac_util.specs.Borrowed.{bytes_of};
+ghost use Rattle.ac_search.specs.declared.MatchKind.TheVariants.{Standard};
+ghost use Rattle.ac_search.specs.declared.StartKind.TheVariants.{Unanchored};
+ghost use Rattle.ac_search.specs.Borrowed.{bytes_of};
 ghost use Rattle.acs.specs.declared.fault.Fault.TheVariants.{OverlappingKind};
 ghost use Rattle.acs.specs.declared.request.Mode.{Mode};
 ghost use Rattle.acs.specs.Modes.{AnswersOrFails};
@@ -13,6 +13,7 @@ use crate::input::read_all;
 use crate::output::{print_all, print_found, print_stream, print_text};
 use crate::request::texts_of;
 use crate::run::Outcome;
+use ac_search::laws::streams_settle_alike;
 use ac_search::{AhoCorasick, Input, MatchKind, Sink, Source};
 use std::alloc::Allocator;
 
@@ -88,6 +89,7 @@ pub(crate) fn stream<A: Allocator + Clone, R: Source, W: Sink>(
         (R.told reader.old) (R.told reader.new) (W.told writer.old) (W.told writer.new) result }
 {
     let mut finder = searcher.try_stream_finder(alloc.clone()?)?;
+    streams_settle_alike();
     print_stream(alloc, &mut finder, reader, writer)
 }
 

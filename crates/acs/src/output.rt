@@ -1,9 +1,9 @@
 //! Lines for matches, written in large pieces, and replaced texts.
 ghost use Rattle.std.specs.Prelude.{◌≡◌, ◌≤◌, ◌+◌, ◌++◌, ◌∷◌, [], List, codes, decimal, drop, length, MatchResult, OnOk, option_to_list};
 ghost use Rattle.std.specs.Iterator.{IsFinite};
-ghost use Rattle.ac_util.specs.Device.{Writing, WritesAll};
-ghost use Rattle.ac_util.specs.Occurrence.{Occurrence};
-ghost use Rattle.ac_automaton.specs.Streams.{matches_so_far, initial_stream};
+ghost use Rattle.ac_search.specs.Device.{Writing, WritesAll};
+ghost use Rattle.ac_search.specs.Occurrence.{Occurrence};
+ghost use Rattle.ac_search.specs.Streams.{matches_so_far, initial_stream};
 ghost use Rattle.acs.specs.declared.output.TheConstants.{NUMBER};
 ghost use Rattle.acs.specs.declared.run.Outcome.{Outcome};
 ghost use Rattle.acs.specs.declared.run.Outcome.TheVariants.{Found};

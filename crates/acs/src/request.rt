@@ -1,7 +1,7 @@
 //! What the words after the program's name ask for.
 ghost use Rattle.std.specs.Prelude.{◌≡◌, Err, IfOk, MatchOption, Ok};
-ghost use Rattle.ac_util.specs.Borrowed.{bytes_of};
-ghost use Rattle.ac_util.specs.Limits.{limit_refusal};
+ghost use Rattle.ac_search.specs.Borrowed.{bytes_of};
+ghost use Rattle.ac_search.specs.Limits.{limit_refusal};
 ghost use Rattle.acs.specs.Faults.{fault_of};
 ghost use Rattle.acs.specs.Requests.{allows_count, engine_of, firsts, kind_of, mode_of, patterns_in, request_of, seconds, side, words_among};
 

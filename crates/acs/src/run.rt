@@ -2,7 +2,7 @@
 ghost use Rattle.std.specs.Prelude.{◌≡◌, IfErr, IfOk, List, MatchResult, String};
 ghost use Rattle.std.specs.declared.alloc.Global.{Global};
 ghost use Rattle.std.specs.Iterator.{Drains, IsFinite};
-ghost use Rattle.ac_util.specs.Borrowed.{bytes_of};
+ghost use Rattle.ac_search.specs.Borrowed.{bytes_of};
 ghost use Rattle.ac_search.specs.Searchers.{IsBuilt};
 ghost use Rattle.acs.specs.declared.fault.Fault;
 ghost use Rattle.acs.specs.declared.fault.Fault.TheVariants.{Memory};
@@ -75,7 +75,7 @@ pub fn run<A: Allocator + Clone, R: Source, W: Sink>(
 ///
 /// # Errors
 /// `Memory` where the arguments can't be copied: then nothing is read, written or reported.
-pub fn run_on_arguments<
+pub(crate) fn run_on_arguments<
     A: Allocator + Clone,
     I: Iterator<Item = String>,
     R: Source,
@@ -99,7 +99,7 @@ pub fn run_on_arguments<
 /// text was written, 1 where no line was, 2 after a fault.
 ///
 /// Where that device fails, a beginning of the line was written. Where there is no fault nothing is written there.
-pub fn run_and_report<A: Allocator + Clone, R: Source, W: Sink, E: Sink>(
+fn run_and_report<A: Allocator + Clone, R: Source, W: Sink, E: Sink>(
     alloc: A,
     words: &[&str],
     reader: &mut R,
@@ -115,7 +115,7 @@ pub fn run_and_report<A: Allocator + Clone, R: Source, W: Sink, E: Sink>(
 }
 
 /// Writes the line of a fault, if there is one. A failure to write this line is ignored.
-pub fn report<E: Sink>(outcome: &Result<Outcome, Fault>, errors: &mut E)
+pub(crate) fn report<E: Sink>(outcome: &Result<Outcome, Fault>, errors: &mut E)
     ensures { HasReported outcome.now (E.told errors.old) (E.told errors.new) }
 {
     if let Err(fault) = outcome {

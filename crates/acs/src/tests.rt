@@ -2,6 +2,7 @@
 //! large sizes.
 ghost use Rattle.std.specs.Prelude.{◌≡◌, length};
 
+mod costs;
 mod edges;
 mod large;
 mod refused;

@@ -1,16 +1,16 @@
 //! The core of every find.
-ghost use Rattle.std.specs.Prelude.{◌≡◌, ◌+◌, ◌<◌, ◌≤◌, ◌↔◌, false, true, [], IsTrue, length, None, Some, MatchResult};
-ghost use Rattle.ac_automaton.specs.Util.{AnswersUnless, input_of, find_refusal, find_result, is_leftmost, order_of, search_in, skip_of, Standard, start_refusal};
-ghost use Rattle.ac_automaton.specs.Finders.{picking_of};
-ghost use Rattle.ac_automaton.specs.Finds.{HasSearched, input_over};
-ghost use Rattle.ac_automaton.specs.Progress.{search_of, work_of};
+ghost use Rattle.std.specs.Prelude.{◌≡◌, ◌<◌, ◌↔◌, IsTrue, None};
+ghost use Rattle.ac_automaton.specs.Util.{find_result, input_of, Standard, start_refusal};
+ghost use Rattle.ac_automaton.specs.Answers.{AnswersFind, BeginsBy};
+ghost use Rattle.ac_automaton.specs.Finders.{finding_of};
+ghost use Rattle.ac_automaton.specs.Finds.{FindsIn, MaySearch, input_over};
 
 use super::Automaton;
 use super::scan::{Cursor, Scanner, Scans};
-use super::skip::Credit;
+use super::skip::SkipBudget;
 use ac_util::error::MatchError;
 use ac_util::looks::{Looks, Tape, open};
-use ac_util::prefilter::{Candidate, Prefilter};
+use ac_util::prefilter::{Needle, Prefilter};
 use ac_util::primitives::StateID;
 use ac_util::search::{Anchored, Input, Match, MatchKind, Span};
 use std::marker::Model;
@@ -38,17 +38,11 @@ pub fn find_core<A: Automaton>(
     tape: &mut Tape<'_>,
     looks: &mut Looks,
 ) -> Option<Match>
-    requires supported { start_refusal (A.built automaton.now).start_kind anchored ≡ None }
-    requires end_within { end ≤ length tape.old.bytes }
-    requires start_within { start ≤ end + 1 }
-    requires unread { tape.old.place ≤ start }
-    ensures pick { result ≡ find_result (A.built automaton.now)
-        (input_over tape.old.bytes start end anchored earliest) }
-    ensures searched { HasSearched
-        (picking_of A.LOOKS (A.built automaton.now).kind (A.wants_prefilter automaton.now) earliest)
-        (search_in (A.built automaton.now) (input_over tape.old.bytes start end anchored earliest)) result
-        (work_of tape.old looks.old) (work_of tape.new looks.new) }
-    ensures bytes { tape.new.bytes ≡ tape.old.bytes }
+    requires supported { start_refusal (A.seen automaton.now).built.start_kind anchored ≡ None }
+    requires may { MaySearch (record { start = start; end = end }) tape.old }
+    ensures pick { result ≡ find_result (A.seen automaton.now).built (input_over tape.old.bytes start end anchored earliest) }
+    ensures finds { FindsIn (finding_of (A.seen automaton.now) anchored earliest) (record { start = start; end = end })
+        tape.old looks.old result tape.new looks.new }
 {
     let Ok(mut finder) = Finder::new(automaton, anchored, earliest) else {
         unreachable!()
@@ -62,26 +56,17 @@ pub(super) fn try_find<A: Automaton>(
     automaton: &A,
     input: Input<'_>,
 ) -> Result<Option<Match>, MatchError>
-    ensures { AnswersUnless (find_refusal (A.built automaton.now) (input_of input.entry))
-        (find_result (A.built automaton.now) (input_of input.entry)) result }
+    ensures { AnswersFind (A.seen automaton.now).built (input_of input.entry) result }
 {
-    automaton.start_state(input.get_anchored())?;
+    let mut finder = Finder::new(automaton, input.get_anchored(), input.get_earliest())?;
     let (mut tape, mut looks) = open(&input);
-    Ok(find_core(
-        automaton,
-        input.get_anchored(),
-        input.get_earliest(),
-        input.start(),
-        input.end(),
-        &mut tape,
-        &mut looks,
-    ))
+    Ok(finder.find(input.get_span(), &mut tape, &mut looks))
 }
 
 /// A find by an automaton whose start state and prefilter are looked up once, for finds in many spans.
 ///
-/// `find` is the core of every find: `find_core` calls it once, and a walk once or twice for each match. Contracts see
-/// what the automaton was built from, the anchoring, and the order by which the find picks.
+/// `find` is the core of every find: `find_core` and `Automaton::try_find` call it once, and a walk once or twice for each
+/// match. Contracts see what the automaton was built from, the anchoring, and the order by which the find picks.
 #[derive(Drop)]
 pub struct Finder<'a, A: Automaton> {
     automaton: &'a A,
@@ -92,28 +77,24 @@ pub struct Finder<'a, A: Automaton> {
     /// None in an anchored search, which skips nothing.
     prefilter: Option<&'a Prefilter<A::Memory>>,
     /// Kept from find to find, so that no prefilter is called often where it skips little.
-    credit: Credit,
+    budget: SkipBudget,
 }
 
 impl<'a, A: Automaton> Model for Finder<'a, A> {
-    ghost use Rattle.std.specs.Prelude.{◌≡◌, false, true, [], None, Some, IfSome, if◌then◌else◌};
-    ghost use Rattle.ac_automaton.specs.Util.{is_leftmost, No, skip_of, Standard, start_refusal};
-    ghost use Rattle.ac_automaton.specs.Finders.{Finding, picking_of};
+    ghost use Rattle.std.specs.Prelude.{◌≡◌, false, true, [], Some, IfSome};
+    ghost use Rattle.ac_automaton.specs.Util.{is_leftmost, No, skip_of};
+    ghost use Rattle.ac_automaton.specs.Finders.{Finding, finding_of};
     ghost use Rattle.ac_automaton.specs.Skipping.{Skips};
 
     ghost Value = { Finding };
 
-    ghost view = { λ f. record {
-      built = A.built f.automaton.now;
-      anchored = f.anchored;
-      picking = picking_of A.LOOKS (A.built f.automaton.now).kind (A.wants_prefilter f.automaton.now) f.stops;
-    } };
+    ghost view = { λ f. finding_of (A.seen f.automaton.now) f.anchored f.stops };
 
     ghost invariant = { λ f. record {
-      starts : A.stands f.automaton.now f.anchored f.start (Some []);
-      leftmost : f.stops ≡ false → is_leftmost (A.built f.automaton.now).kind ≡ true;
+      starts : (A.seen f.automaton.now).stands f.anchored f.start (Some []);
+      leftmost : f.stops ≡ false → is_leftmost (A.seen f.automaton.now).built.kind ≡ true;
       skips : IfSome f.prefilter (λ p. (f.anchored ≡ No)
-          × Skips (A.wants_prefilter f.automaton.now) (A.built f.automaton.now) (skip_of p.now));
+          × Skips (A.seen f.automaton.now).wants_prefilter (A.seen f.automaton.now).built (skip_of p.now));
     } };
 }
 
@@ -128,14 +109,7 @@ impl<'a, A: Automaton> Finder<'a, A> {
         anchored: Anchored,
         earliest: bool,
     ) -> Result<Finder<'a, A>, MatchError>
-        ensures { MatchResult result
-            (λ finder. (start_refusal (A.built automaton.now).start_kind anchored ≡ None)
-            × (finder ≡ record {
-              built = A.built automaton.now;
-              anchored = anchored;
-              picking = picking_of A.LOOKS (A.built automaton.now).kind (A.wants_prefilter automaton.now) earliest;
-            }))
-            (λ e. start_refusal (A.built automaton.now).start_kind anchored ≡ Some e) }
+        ensures { BeginsBy (A.seen automaton.now) anchored (λ finder. finder ≡ finding_of (A.seen automaton.now) anchored earliest) result }
     {
         let start = automaton.start_state(anchored)?;
         let stops = earliest || matches!(automaton.match_kind(), MatchKind::Standard);
@@ -149,7 +123,7 @@ impl<'a, A: Automaton> Finder<'a, A> {
             stops,
             start,
             prefilter,
-            credit: Credit::new(),
+            budget: SkipBudget::new(),
         })
     }
 
@@ -166,13 +140,8 @@ impl<'a, A: Automaton> Finder<'a, A> {
     /// earlier ones of this finder; else it reads on for a while and tries it again.
     #[inline]
     pub fn find(&mut self, span: Span, tape: &mut Tape<'_>, looks: &mut Looks) -> Option<Match>
-        requires end_within { span.end ≤ length tape.old.bytes }
-        requires start_within { span.start ≤ span.end + 1 }
-        requires unread { tape.old.place ≤ span.start }
-        ensures searched { HasSearched self.old.picking
-            (search_of self.old.built self.old.anchored tape.old.bytes span.start span.end) result
-            (work_of tape.old looks.old) (work_of tape.new looks.new) }
-        ensures bytes { tape.new.bytes ≡ tape.old.bytes }
+        requires { MaySearch span tape.old }
+        ensures finds { FindsIn self.old span tape.old looks.old result tape.new looks.new }
         ensures same { self.new ≡ self.old }
     {
         if self.prefilter.is_some() {
@@ -181,29 +150,24 @@ impl<'a, A: Automaton> Finder<'a, A> {
         if span.start > span.end {
             return None;
         }
-        let stops = self.stops;
         let scanner = Scanner {
             automaton: self.automaton,
             anchored: self.anchored,
             span,
+            front: 0,
         };
-        let start = Cursor {
+        let mut start = Cursor {
             state: self.start,
             at: span.start,
         };
-        scanner.find_on(stops, start, tape, looks)
+        scanner.find_on(self.stops, &mut start, tape, looks)
     }
 
     /// Returns what `find` does. It isn't part of `find`, which so stays short where there is no prefilter.
     #[inline(never)]
     fn find_skipping(&mut self, span: Span, tape: &mut Tape<'_>, looks: &mut Looks) -> Option<Match>
-        requires end_within { span.end ≤ length tape.old.bytes }
-        requires start_within { span.start ≤ span.end + 1 }
-        requires unread { tape.old.place ≤ span.start }
-        ensures searched { HasSearched self.old.picking
-            (search_of self.old.built self.old.anchored tape.old.bytes span.start span.end) result
-            (work_of tape.old looks.old) (work_of tape.new looks.new) }
-        ensures bytes { tape.new.bytes ≡ tape.old.bytes }
+        requires { MaySearch span tape.old }
+        ensures finds { FindsIn self.old span tape.old looks.old result tape.new looks.new }
         ensures same { self.new ≡ self.old }
     {
         if span.start > span.end {
@@ -214,118 +178,114 @@ impl<'a, A: Automaton> Finder<'a, A> {
             automaton: self.automaton,
             anchored: self.anchored,
             span,
+            front: 0,
         };
-        let start = Cursor {
+        let mut here = Cursor {
             state: self.start,
             at: span.start,
         };
-        let cursor = match self.prefilter {
+        match self.prefilter {
             Some(prefilter) if span.start < span.end => match prefilter {
-                Prefilter::Bytes(_) => {
-                    scanner.skip_on(prefilter, start, &mut self.credit, tape, looks)
+                Prefilter::Bytes(first) => {
+                    scanner.skip_ahead(*first, &mut here, &mut self.budget, tape, looks);
+                    scanner.find_on(stops, &mut here, tape, looks)
                 }
-                Prefilter::Needle(_) => {
-                    let cursor = scanner.read_to_start(start, &mut self.credit, tape, looks);
-                    if cursor.at < span.end && self.automaton.is_start(cursor.state) {
-                        let from = cursor.at;
-                        let found = scanner.find_needle(prefilter, stops, cursor, tape, looks);
-                        self.credit.record_needle(from, &found);
-                        return found;
-                    }
-                    cursor
+                Prefilter::Needle(needle) => {
+                    scanner.find_needle(needle, stops, &mut here, &mut self.budget, tape, looks)
                 }
             },
-            _ => start,
-        };
-        scanner.find_on(stops, cursor, tape, looks)
+            _ => scanner.find_on(stops, &mut here, tape, looks),
+        }
     }
 }
 
 impl<'a, A: Automaton> Scanner<'a, A> {
-    ghost use Rattle.ac_automaton.specs.Util.{Counts, Node};
+    ghost use Rattle.ac_automaton.specs.Util.{Node};
     ghost use Rattle.ac_automaton.specs.Automata.{IsState};
-    ghost use Rattle.ac_automaton.specs.Finds.{IsAnswered, IsReady, picking_by};
-    ghost use Rattle.ac_automaton.specs.Progress.{Work};
-    ghost use Rattle.ac_automaton.specs.Scans.{ScansTo, in_memory, search_through};
-    ghost use Rattle.ac_automaton.specs.Skipping.{SkipsByNeedle};
+    ghost use Rattle.ac_automaton.specs.Finds.{FindsOn, IsAnswered, MayBegin, MayFind, MayPick, PicksOn};
+    ghost use Rattle.ac_automaton.specs.Skipping.{SkipsToNeedle};
 
     /// Returns the pick of the span, by reading on from where nothing is picked but what the state there finds.
     #[inline]
     fn find_on(
         &self,
         stops: bool,
-        cursor: Cursor,
+        cursor: &mut Cursor,
         tape: &mut Tape<'_>,
         looks: &mut Looks,
     ) -> Option<Match>
-        requires leftmost { stops ≡ false
-            → is_leftmost (⟦<A as Scans>⟧.scan self.now.automaton.now self.now.anchored).built.kind ≡ true }
-        requires within { cursor.at ≤ self.now.span.end }
-        requires inside { self.now.span.end ≤ length tape.old.bytes }
-        requires unread { tape.old.place ≤ cursor.at }
-        requires ready { IsReady (⟦<A as Scans>⟧.scan self.now.automaton.now self.now.anchored)
-            (in_memory tape.old.bytes self.now.span) stops cursor }
-        ensures bytes { tape.new.bytes ≡ tape.old.bytes }
-        ensures found { (begun : Work) → ScansTo (⟦<A as Scans>⟧.scan self.now.automaton.now self.now.anchored)
-            (in_memory tape.old.bytes self.now.span) self.now.span.start begun cursor.at (work_of tape.old looks.old)
-            → HasSearched (picking_by (⟦<A as Scans>⟧.scan self.now.automaton.now self.now.anchored) stops)
-            (search_through (⟦<A as Scans>⟧.scan self.now.automaton.now self.now.anchored) (in_memory tape.old.bytes self.now.span))
-            result begun (work_of tape.new looks.new) }
+        requires { MayFind (⟦<Self as Scans>⟧.scan self.now) stops tape.old cursor.old }
+        ensures { FindsOn (⟦<Self as Scans>⟧.scan self.now) stops cursor.old tape.old looks.old result tape.new looks.new }
     {
-        let (mut state, mut at) = (cursor.state, cursor.at);
-        let mut last = self.match_at(Cursor { state, at });
-        while !self.is_decided(stops, Cursor { state, at }, &last) {
-            let ahead = self.read_ahead(Cursor { state, at }, tape, looks);
-            (state, at) = (ahead.state, ahead.at);
-            let found = self.match_at(Cursor { state, at });
-            if found.is_some() {
-                last = found;
-            }
+        let found = self.match_at(cursor);
+        self.pick_on(stops, cursor, found, tape, looks)
+    }
+
+    /// Returns the pick of what was read so far and of the rest of the span, of which `picked` is that of what was read so
+    /// far. It reads on until that can't change, or up to the first match if it stops there.
+    #[inline]
+    pub(super) fn pick_on(
+        &self,
+        stops: bool,
+        cursor: &mut Cursor,
+        picked: Option<Match>,
+        tape: &mut Tape<'_>,
+        looks: &mut Looks,
+    ) -> Option<Match>
+        requires { MayPick (⟦<Self as Scans>⟧.scan self.now) stops tape.old cursor.old picked }
+        ensures picks { PicksOn (⟦<Self as Scans>⟧.scan self.now) stops cursor.old tape.old looks.old picked cursor.new tape.new
+            looks.new result }
+        ensures answered { (u : Node) → (⟦<Self as Scans>⟧.scan self.now).scan.stands cursor.new.state u
+            → IsAnswered stops self.now.span.end cursor.new.at u result }
+    {
+        // A copy, which stays in registers.
+        let mut copied = *cursor;
+        let here = &mut copied;
+        let mut last = picked;
+        while !self.is_decided(stops, here, &last) {
+            self.read_ahead(here, tape, looks);
+            last = self.match_at(here).or(last);
         }
+        *cursor = *here;
         last
     }
 
     /// Returns whether the last match found is the answer: nothing is left to read, nothing more is found, or the
     /// first match counts.
     #[inline]
-    pub(super) fn is_decided(&self, stops: bool, cursor: Cursor, last: &Option<Match>) -> bool
-        requires state { IsState (⟦<A as Scans>⟧.scan self.now.automaton.now self.now.anchored).stands cursor.state }
-        ensures { (u : Node) → (⟦<A as Scans>⟧.scan self.now.automaton.now self.now.anchored).stands cursor.state u
-            → IsTrue result ↔ IsAnswered stops self.now.span.end cursor.at u last.now }
+    pub(super) fn is_decided(&self, stops: bool, cursor: &Cursor, last: &Option<Match>) -> bool
+        requires { IsState (⟦<Self as Scans>⟧.scan self.now).scan.stands cursor.now.state }
+        ensures { (u : Node) → (⟦<Self as Scans>⟧.scan self.now).scan.stands cursor.now.state u
+            → IsTrue result ↔ IsAnswered stops self.now.span.end cursor.now.at u last.now }
     {
-        cursor.at >= self.span.end
-            || self.automaton.is_dead(cursor.state)
-            || (stops && last.is_some())
+        self.is_over(cursor) || (stops && last.is_some())
     }
 
-    /// Returns the pick of the span where there is a single pattern and the automaton is at its start, as the prefilter
-    /// finds it in the rest of the span.
+    /// Returns the pick of the span where there is a single pattern: as it is found in the rest of the span where the
+    /// automaton is at its start and that pays; until then it reads on.
     #[inline]
     fn find_needle(
         &self,
-        prefilter: &Prefilter<A::Memory>,
+        needle: &Needle<A::Memory>,
         stops: bool,
-        cursor: Cursor,
-        tape: &Tape<'_>,
+        cursor: &mut Cursor,
+        budget: &mut SkipBudget,
+        tape: &mut Tape<'_>,
         looks: &mut Looks,
     ) -> Option<Match>
-        requires needle { SkipsByNeedle (⟦<A as Scans>⟧.scan self.now.automaton.now self.now.anchored) (skip_of prefilter.now) }
-        requires inside { self.now.span.end ≤ length tape.now.bytes }
-        requires before_end { cursor.at < self.now.span.end }
-        requires unread { tape.now.place ≤ cursor.at }
-        requires ready { IsReady (⟦<A as Scans>⟧.scan self.now.automaton.now self.now.anchored)
-            (in_memory tape.now.bytes self.now.span) stops cursor }
-        requires at_start { (u : Node) → (⟦<A as Scans>⟧.scan self.now.automaton.now self.now.anchored).stands cursor.state u
-            → u ≡ Some [] }
-        ensures { (begun : Work) → ScansTo (⟦<A as Scans>⟧.scan self.now.automaton.now self.now.anchored)
-            (in_memory tape.now.bytes self.now.span) self.now.span.start begun cursor.at (work_of tape.now looks.old)
-            → HasSearched (picking_by (⟦<A as Scans>⟧.scan self.now.automaton.now self.now.anchored) stops)
-            (search_through (⟦<A as Scans>⟧.scan self.now.automaton.now self.now.anchored) (in_memory tape.now.bytes self.now.span))
-            result begun (work_of tape.now looks.new) }
+        requires needle { SkipsToNeedle (⟦<Self as Scans>⟧.scan self.now).scan needle.now }
+        requires begins { MayBegin (⟦<Self as Scans>⟧.scan self.now) stops tape.old cursor.old }
+        ensures { FindsOn (⟦<Self as Scans>⟧.scan self.now) stops cursor.old tape.old looks.old result tape.new looks.new }
     {
-        match tape.scan(prefilter, cursor.at, self.span.end, looks) {
-            Candidate::Match(found) => Some(found),
-            Candidate::None | Candidate::PossibleStart(_) => None,
+        while !budget.is_left() || !self.automaton.is_start(cursor.state) {
+            self.read_rest(cursor, budget, tape, looks);
+            if cursor.at >= self.span.end || self.automaton.is_match_or_dead(cursor.state) {
+                return self.find_on(stops, cursor, tape, looks);
+            }
         }
+        let from = cursor.at;
+        let found = tape.find_needle(needle, from, self.span.end, looks);
+        budget.record_needle(from, &found);
+        found
     }
 }

@@ -1,49 +1,45 @@
 //! Bytes on their way to a writer, gathered so that one write takes many pieces.
-ghost use Rattle.std.specs.Prelude.{◌≡◌, ◌+◌, ◌≤◌, ◌++◌, MatchResult, [], length, ⊤};
+ghost use Rattle.std.specs.Prelude.{◌≡◌, ◌+◌, ◌≤◌, ◌++◌, MatchResult, [], length};
 ghost use Rattle.ac_automaton.specs.Util.{WritesAll, WritesUntilFailure};
 ghost use Rattle.ac_automaton.specs.declared.automaton.gathered.TheConstants.{ROOM};
 ghost use Rattle.ac_automaton.specs.Gathering.{Gathers};
 
 use ac_util::device::{Sink, WriteError, write_all};
-use std::alloc::{AllocError, Allocator};
 use std::marker::Model;
 
-/// The most bytes that are held back.
-const ROOM: usize = 65536;
+/// How many bytes there is room for. A piece of this length or more is written by itself, since copying it would cost
+/// more than a write.
+const ROOM: usize = 8192;
 
-/// The length in bytes from which a piece is written by itself, since copying it would cost more than a write.
-const LONG_PIECE: usize = 8192;
-
-/// The bytes that are held back before they are written. Contracts see them alone.
+/// The bytes that are held back before they are written, in an array of their own: it takes no memory. Contracts see
+/// them alone.
 #[derive(Drop)]
-pub(super) struct Gathered<Z: Allocator> {
-    buffer: Vec<u8, Z>,
+pub(super) struct Gathered {
+    buffer: [u8; ROOM],
     /// How many bytes of the buffer are held back.
     held: usize,
 }
 
-impl<Z: Allocator> Model for Gathered<Z> {
-    ghost use Rattle.std.specs.Prelude.{◌≡◌, ◌≤◌, ℕ, List, length, take};
+impl Model for Gathered {
+    ghost use Rattle.std.specs.Prelude.{◌≤◌, ℕ, List, take};
     ghost use Rattle.ac_automaton.specs.declared.automaton.gathered.TheConstants.{ROOM};
 
     ghost Value = { List ℕ };
 
-    ghost view = { λ g. take g.held g.buffer.items };
+    ghost view = { λ g. take g.held g.buffer };
 
-    ghost invariant = { λ g. (length g.buffer.items ≡ ROOM) × (g.held ≤ ROOM) };
+    ghost invariant = { λ g. g.held ≤ ROOM };
 }
 
-impl<Z: Allocator> Gathered<Z> {
+impl Gathered {
     /// Returns a buffer that holds nothing back.
-    ///
-    /// # Errors
-    /// Where the memory for it is refused.
-    pub(super) fn new(alloc: Z) -> Result<Gathered<Z>, AllocError>
-        ensures { MatchResult result (λ gathered. gathered ≡ []) (λ _. ⊤) }
+    pub(super) fn new() -> Gathered
+        ensures { result ≡ [] }
     {
-        let mut buffer = Vec::new(alloc);
-        buffer.resize(ROOM, 0)?;
-        Ok(Gathered { buffer, held: 0 })
+        Gathered {
+            buffer: [0; ROOM],
+            held: 0,
+        }
     }
 
     /// Takes a piece, and first writes what is held back if there is no room for the piece. A long piece is written at
@@ -56,11 +52,11 @@ impl<Z: Allocator> Gathered<Z> {
             (λ _. Gathers (W.told writer.old) (W.told writer.new) self.old piece.now self.new)
             (WritesUntilFailure (W.told writer.old) (W.told writer.new) (self.old ++ piece.now)) }
     {
-        if piece.len() >= LONG_PIECE {
+        if piece.len() >= ROOM {
             self.write_held(writer)?;
             return write_all(writer, piece);
         }
-        if piece.len() > self.buffer.len() - self.held {
+        if piece.len() > ROOM - self.held {
             self.write_held(writer)?;
         }
         self.hold(piece);

@@ -1,13 +1,12 @@
 //! The listing of all occurrences: how far it has come in its span, and how it goes on from item to item.
-ghost use Rattle.std.specs.Prelude.{◌≡◌, ℕ, IfSome, List};
-ghost use Rattle.ac_automaton.specs.Util.{skip_of};
-ghost use Rattle.ac_automaton.specs.Progress.{work_of};
+ghost use Rattle.std.specs.Prelude.{◌≡◌, IfSome};
+ghost use Rattle.ac_automaton.specs.Util.{first_bytes_of};
 
 use super::Automaton;
 use super::scan::{Cursor, Scanner, Scans, is_due};
-use super::skip::Credit;
+use super::skip::SkipBudget;
 use ac_util::looks::{Looks, Tape};
-use ac_util::prefilter::Prefilter;
+use ac_util::prefilter::{FirstBytes, Prefilter};
 use ac_util::primitives::StateID;
 use ac_util::search::{Anchored, Match, Span};
 
@@ -41,20 +40,19 @@ impl Reached {
 }
 
 impl<'a, A: Automaton> Scanner<'a, A> {
-    ghost use Rattle.ac_automaton.specs.Overlaps.{HasGivenItem, HasMoved, IsListed, MayList};
-    ghost use Rattle.ac_automaton.specs.Scans.{ScansTo, in_memory};
-    ghost use Rattle.ac_automaton.specs.Skipping.{SkipsByBytes};
+    ghost use Rattle.ac_automaton.specs.Overlaps.{HasComeTo, ListsOn, MayList, TakesDue};
+    ghost use Rattle.ac_automaton.specs.Skipping.{SkipsTo};
 
-    /// Returns the prefilter of a listing: one that skips by first bytes, in an unanchored search.
+    /// Returns the first bytes to which a listing may skip, in an unanchored search.
     ///
-    /// A needle can't be one: where it is found first, the automaton need not have been at its start.
+    /// It can't skip to a needle: where that is found first, the automaton need not have been at its start.
     #[inline]
-    pub(super) fn listing_prefilter(&self) -> Option<&'a Prefilter<A::Memory>>
-        ensures { IfSome result (λ p. SkipsByBytes (⟦<A as Scans>⟧.scan self.now.automaton.now self.now.anchored) (skip_of p.now)) }
+    pub(super) fn listing_skips_to(&self) -> Option<FirstBytes>
+        ensures { IfSome result (λ first. SkipsTo (⟦<Self as Scans>⟧.scan self.now).scan (first_bytes_of first)) }
     {
         match (self.anchored, self.automaton.prefilter()) {
             (Anchored::No, Some(prefilter)) => match prefilter {
-                Prefilter::Bytes(_) => Some(prefilter),
+                Prefilter::Bytes(first) => Some(*first),
                 Prefilter::Needle(_) => None,
             },
             _ => None,
@@ -64,12 +62,8 @@ impl<'a, A: Automaton> Scanner<'a, A> {
     /// Takes the next match of the current state, or returns None where there is none.
     #[inline]
     fn take_due(&self, reached: &mut Reached) -> Option<Match>
-        requires listed { (bytes : List ℕ) × IsListed (⟦<A as Scans>⟧.scan self.now.automaton.now self.now.anchored)
-            (in_memory bytes self.now.span) reached.old }
-        ensures { (bytes : List ℕ) → IsListed (⟦<A as Scans>⟧.scan self.now.automaton.now self.now.anchored)
-            (in_memory bytes self.now.span) reached.old
-            → HasGivenItem (⟦<A as Scans>⟧.scan self.now.automaton.now self.now.anchored) (in_memory bytes self.now.span) reached.old result
-            reached.new }
+        requires { HasComeTo (⟦<Self as Scans>⟧.scan self.now) reached.old }
+        ensures { TakesDue (⟦<Self as Scans>⟧.scan self.now) reached.old result reached.new }
     {
         let (pattern, rest) = self.automaton.take_match(reached.rest)?;
         let len = self.automaton.pattern_len(pattern);
@@ -85,39 +79,34 @@ impl<'a, A: Automaton> Scanner<'a, A> {
         Some(Match::new(pattern, span))
     }
 
-    /// Returns the next item of the listing of the span, and moves on past it. It skips ahead with the prefilter, where
-    /// one is given and that pays.
+    /// Returns the next item of the listing of the span, and moves on past it. It skips ahead to the first bytes, where
+    /// some are given and that pays.
     #[inline]
     pub(super) fn next_item(
         &self,
-        prefilter: Option<&Prefilter<A::Memory>>,
+        first: Option<FirstBytes>,
         reached: &mut Reached,
-        credit: &mut Credit,
+        budget: &mut SkipBudget,
         tape: &mut Tape<'_>,
         looks: &mut Looks,
     ) -> Option<Match>
-        requires skips { IfSome prefilter
-            (λ p. SkipsByBytes (⟦<A as Scans>⟧.scan self.now.automaton.now self.now.anchored) (skip_of p.now)) }
-        requires listed { MayList (⟦<A as Scans>⟧.scan self.now.automaton.now self.now.anchored) self.now.span tape.old reached.old }
-        ensures bytes { tape.new.bytes ≡ tape.old.bytes }
-        ensures moved { HasMoved (⟦<A as Scans>⟧.scan self.now.automaton.now self.now.anchored) (in_memory tape.old.bytes self.now.span)
-            reached.old result reached.new }
-        ensures scans { ScansTo (⟦<A as Scans>⟧.scan self.now.automaton.now self.now.anchored) (in_memory tape.old.bytes self.now.span)
-            reached.old.at (work_of tape.old looks.old) reached.new.at (work_of tape.new looks.new) }
+        requires skips { IfSome first (λ f. SkipsTo (⟦<Self as Scans>⟧.scan self.now).scan (first_bytes_of f)) }
+        requires may { MayList (⟦<Self as Scans>⟧.scan self.now) tape.old reached.old }
+        ensures { ListsOn (⟦<Self as Scans>⟧.scan self.now) reached.old tape.old looks.old result reached.new tape.new looks.new }
     {
         loop {
             if let Some(found) = self.take_due(reached) {
                 return Some(found);
             }
-            let here = Cursor {
+            let mut here = Cursor {
                 state: reached.state,
                 at: reached.at,
             };
-            if here.at >= self.span.end || self.automaton.is_dead(here.state) {
+            if self.is_over(&here) {
                 return None;
             }
-            let ahead = self.read_or_skip(prefilter, here, credit, tape, looks);
-            *reached = Reached::new(ahead.state, ahead.at);
+            self.read_or_skip(first, &mut here, budget, tape, looks);
+            *reached = Reached::new(here.state, here.at);
         }
     }
 }

@@ -1,12 +1,13 @@
 //! Overlapping searches whose state the caller holds.
-ghost use Rattle.std.specs.Prelude.{◌≡◌, ◌≢◌, ◌⊎◌, [], None, Some, MatchResult};
-ghost use Rattle.ac_automaton.specs.Util.{input_of, overlapping_refusal, search_in, Standard, start_refusal};
-ghost use Rattle.ac_automaton.specs.Overlaps.{GivesNext, IsPlaced, fresh};
+ghost use Rattle.std.specs.Prelude.{◌≡◌};
+ghost use Rattle.ac_automaton.specs.Util.{input_of};
+ghost use Rattle.ac_automaton.specs.Answers.{FindsNext, IsPlacedIn};
+ghost use Rattle.ac_automaton.specs.Overlaps.{StartsListing, fresh};
 
 use super::Automaton;
 use super::listing::Reached;
 use super::scan::Scanner;
-use super::skip::Credit;
+use super::skip::SkipBudget;
 use ac_util::error::MatchError;
 use ac_util::looks::open;
 use ac_util::primitives::StateID;
@@ -70,14 +71,8 @@ pub(super) fn try_find_overlapping<A: Automaton>(
     input: Input<'_>,
     state: &mut OverlappingState,
 ) -> Result<(), MatchError>
-    requires placed { IsPlaced (A.stands automaton.now (input_of input).anchored) (A.listed automaton.now)
-        (A.built automaton.now).kind (search_in (A.built automaton.now) (input_of input)) state.old }
-    ensures { MatchResult result
-        (λ _. (overlapping_refusal (A.built automaton.now) (input_of input.entry) ≡ None)
-        × GivesNext (A.stands automaton.now (input_of input.entry).anchored) (A.listed automaton.now)
-        (A.built automaton.now).kind (search_in (A.built automaton.now) (input_of input.entry)) state.old state.new)
-        (λ e. (overlapping_refusal (A.built automaton.now) (input_of input.entry) ≡ Some e)
-        × (state.new ≡ state.old)) }
+    requires placed { IsPlacedIn (A.seen automaton.now) (input_of input) state.old }
+    ensures { FindsNext (A.seen automaton.now) (input_of input.entry) state.old result state.new }
 {
     let anchored = input.get_anchored();
     let start = start_of(automaton, anchored)?;
@@ -89,6 +84,7 @@ pub(super) fn try_find_overlapping<A: Automaton>(
         automaton,
         anchored,
         span: input.get_span(),
+        front: 0,
     };
     let mut reached = match state.reached {
         Some(reached) => reached,
@@ -96,9 +92,9 @@ pub(super) fn try_find_overlapping<A: Automaton>(
     };
     let (mut tape, mut looks) = open(&input);
     let found = scanner.next_item(
-        scanner.listing_prefilter(),
+        scanner.listing_skips_to(),
         &mut reached,
-        &mut Credit::new(),
+        &mut SkipBudget::new(),
         &mut tape,
         &mut looks,
     );
@@ -119,13 +115,7 @@ pub(super) fn start_of<A: Automaton>(
     automaton: &A,
     anchored: Anchored,
 ) -> Result<StateID, MatchError>
-    ensures { MatchResult result
-        (λ sid. (start_refusal (A.built automaton.now).start_kind anchored ≡ None)
-        × ((A.built automaton.now).kind ≡ Standard) × A.stands automaton.now anchored sid (Some []))
-        (λ e. (start_refusal (A.built automaton.now).start_kind anchored ≡ Some e)
-        ⊎ ((start_refusal (A.built automaton.now).start_kind anchored ≡ None)
-        × ((A.built automaton.now).kind ≢ Standard)
-        × (e ≡ MatchError.UnsupportedOverlapping (A.built automaton.now).kind))) }
+    ensures { StartsListing (A.seen automaton.now) anchored result }
 {
     let start = automaton.start_state(anchored)?;
     match automaton.match_kind() {

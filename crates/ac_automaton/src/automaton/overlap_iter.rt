@@ -1,17 +1,17 @@
 //! The iterator over all occurrences.
-ghost use Rattle.std.specs.Prelude.{◌≡◌};
 ghost use Rattle.std.specs.Iterator.{item_count};
-ghost use Rattle.ac_automaton.specs.Util.{AnswersUnless, input_of, overlapping_iter_refusal};
-ghost use Rattle.ac_automaton.specs.Overlaps.{ListsNext, initial_listing};
+ghost use Rattle.ac_automaton.specs.Util.{input_of};
+ghost use Rattle.ac_automaton.specs.Answers.{AnswersListing};
+ghost use Rattle.ac_automaton.specs.Overlaps.{ListsNext};
 
 use super::Automaton;
 use super::listing::Reached;
 use super::overlap::start_of;
 use super::scan::Scanner;
-use super::skip::Credit;
+use super::skip::SkipBudget;
 use ac_util::error::MatchError;
 use ac_util::looks::{Looks, Tape, open};
-use ac_util::prefilter::Prefilter;
+use ac_util::prefilter::FirstBytes;
 use ac_util::search::{Input, Match};
 use std::marker::Model;
 
@@ -23,36 +23,34 @@ use std::marker::Model;
 #[derive(Drop)]
 pub struct FindOverlappingIter<'a, 'h, A: Automaton> {
     scanner: Scanner<'a, A>,
-    /// That of `Scanner::listing_prefilter`.
-    prefilter: Option<&'a Prefilter<A::Memory>>,
+    /// That of `Scanner::listing_skips_to`.
+    first: Option<FirstBytes>,
     /// None where the span starts past its end.
     reached: Option<Reached>,
     /// Kept from item to item, so that a listing seldom calls a prefilter that skips too little.
-    credit: Credit,
+    budget: SkipBudget,
     tape: Tape<'h>,
     looks: Looks,
 }
 
 impl<'a, 'h, A: Automaton> Model for FindOverlappingIter<'a, 'h, A> {
     ghost use Rattle.std.specs.Prelude.{IfSome};
-    ghost use Rattle.ac_util.specs.Prefilters.{skip_of};
+    ghost use Rattle.ac_util.specs.Prefilters.{first_bytes_of};
     ghost use Rattle.ac_automaton.specs.Overlaps.{IsListing, Overlapping, overlapping_by};
     ghost use Rattle.ac_automaton.specs.Progress.{work_of};
     ghost use Rattle.ac_automaton.specs.Scans.{in_memory, scan_of};
-    ghost use Rattle.ac_automaton.specs.Skipping.{SkipsByBytes};
+    ghost use Rattle.ac_automaton.specs.Skipping.{SkipsTo};
 
     ghost Value = { Overlapping };
 
-    ghost view = { λ s. overlapping_by (scan_of A.stands A.listed A.built A.LOOKS A.wants_prefilter s.scanner.automaton.now
-        s.scanner.anchored)
+    ghost view = { λ s. overlapping_by (scan_of (A.seen s.scanner.automaton.now) s.scanner.anchored)
         (in_memory s.tape.bytes s.scanner.span) s.reached (work_of s.tape s.looks) };
 
     ghost invariant = { λ s.
-        let scan = scan_of A.stands A.listed A.built A.LOOKS A.wants_prefilter s.scanner.automaton.now
-        s.scanner.anchored in
+        let scan = scan_of (A.seen s.scanner.automaton.now) s.scanner.anchored in
         record {
           listing : IsListing scan (in_memory s.tape.bytes s.scanner.span) s.reached (work_of s.tape s.looks);
-          skips : IfSome s.prefilter (λ p. SkipsByBytes scan (skip_of p.now));
+          skips : IfSome s.first (λ first. SkipsTo scan (first_bytes_of first));
         } };
 }
 
@@ -63,8 +61,7 @@ impl<'a, 'h, A: Automaton> FindOverlappingIter<'a, 'h, A> {
         automaton: &'a A,
         input: Input<'h>,
     ) -> Result<FindOverlappingIter<'a, 'h, A>, MatchError>
-        ensures { AnswersUnless (overlapping_iter_refusal (A.built automaton.now) (input_of input.entry))
-            (initial_listing A.LOOKS (A.built automaton.now) (A.wants_prefilter automaton.now) (input_of input.entry)) result }
+        ensures { AnswersListing (A.seen automaton.now) (input_of input.entry) result }
     {
         let anchored = input.get_anchored();
         let begun = start_of(automaton, anchored)?;
@@ -80,14 +77,15 @@ impl<'a, 'h, A: Automaton> FindOverlappingIter<'a, 'h, A> {
             automaton,
             anchored,
             span: input.get_span(),
+            front: 0,
         };
-        let prefilter = scanner.listing_prefilter();
+        let first = scanner.listing_skips_to();
         let (tape, looks) = open(&input);
         Ok(FindOverlappingIter {
             scanner,
-            prefilter,
+            first,
             reached,
-            credit: Credit::new(),
+            budget: SkipBudget::new(),
             tape,
             looks,
         })
@@ -100,9 +98,9 @@ impl<'a, 'h, A: Automaton> FindOverlappingIter<'a, 'h, A> {
     {
         let mut reached = self.reached?;
         let found = self.scanner.next_item(
-            self.prefilter,
+            self.first,
             &mut reached,
-            &mut self.credit,
+            &mut self.budget,
             &mut self.tape,
             &mut self.looks,
         );

@@ -1,6 +1,7 @@
 //! Matches exchanged for texts, by a list or by a closure, in bytes and in text.
 ghost use Rattle.std.specs.Prelude.{◌≡◌, length, string_bytes};
-ghost use Rattle.ac_automaton.specs.Util.{AnswersWhole, bytes_of, exchanged, exchanged_in_text, is_whole, MakesSteps, replace_refusal, replaced, StepsLead};
+ghost use Rattle.ac_automaton.specs.Answers.{AnswersBytes, AnswersText, MakesStepsBy};
+ghost use Rattle.ac_automaton.specs.Util.{bytes_of, exchanged, exchanged_in_text, is_whole, replaced};
 
 use super::Automaton;
 use super::walk::FindIter;
@@ -15,10 +16,8 @@ pub(super) fn try_replace_all_bytes<A: Automaton, Z: Allocator>(
     haystack: &[u8],
     texts: &[&[u8]],
 ) -> Result<Vec<u8, Z>, ReplaceError>
-    requires texts { length texts.now ≡ length (A.built automaton.now).patterns }
-    ensures { AnswersWhole (replace_refusal (A.built automaton.now))
-        (λ whole. whole.items
-        ≡ replaced haystack.now (bytes_of texts.now) (exchanged (A.built automaton.now) haystack.now)) result }
+    requires texts { length texts.now ≡ length (A.seen automaton.now).built.patterns }
+    ensures { AnswersBytes (A.seen automaton.now).built haystack.now (bytes_of texts.now) result }
 {
     let matches = FindIter::new(automaton, Input::new(haystack))?;
     let mut replaced = Vec::with_capacity(alloc, haystack.len())?;
@@ -39,11 +38,8 @@ pub(super) fn try_replace_all<A: Automaton, Z: Allocator>(
     text: &str,
     texts: &[&str],
 ) -> Result<String<Z>, ReplaceError>
-    requires texts { length texts.now ≡ length (A.built automaton.now).patterns }
-    ensures { AnswersWhole (replace_refusal (A.built automaton.now))
-        (λ whole. string_bytes whole
-        ≡ replaced text.now (bytes_of texts.now) (exchanged_in_text (A.built automaton.now) text.now))
-        result }
+    requires texts { length texts.now ≡ length (A.seen automaton.now).built.patterns }
+    ensures { AnswersText (A.seen automaton.now).built text.now (bytes_of texts.now) result }
 {
     let matches = FindIter::new(automaton, Input::of_text(text))?;
     let mut replaced = String::with_capacity(alloc, text.len())?;
@@ -70,10 +66,7 @@ where
     A: Automaton,
     F: FnMut(&Match, &[u8], &mut Vec<u8>) -> bool,
     requires callable { F.IsAlwaysCallable exchange }
-    ensures { MakesSteps (replace_refusal (A.built automaton.now))
-        (λ end. StepsLead F.FnMut (λ d. d.items) haystack.now (exchanged (A.built automaton.now) haystack.now)
-        exchange destination.old end destination.new)
-        (destination.new ≡ destination.old) result }
+    ensures { MakesStepsBy F.FnMut (λ d. d.items) exchanged (A.seen automaton.now).built haystack.now exchange destination.old destination.new result }
 {
     let matches = FindIter::new(automaton, Input::new(haystack))?;
     let mut place = 0;
@@ -99,11 +92,7 @@ where
     A: Automaton,
     F: FnMut(&Match, &str, &mut String) -> bool,
     requires callable { F.IsAlwaysCallable exchange }
-    ensures { MakesSteps (replace_refusal (A.built automaton.now))
-        (λ end. StepsLead F.FnMut (λ d. string_bytes d) text.now
-        (exchanged_in_text (A.built automaton.now) text.now) exchange destination.old end
-        destination.new)
-        (destination.new ≡ destination.old) result }
+    ensures { MakesStepsBy F.FnMut string_bytes exchanged_in_text (A.seen automaton.now).built text.now exchange destination.old destination.new result }
 {
     let matches = FindIter::new(automaton, Input::of_text(text))?;
     let mut place = 0;

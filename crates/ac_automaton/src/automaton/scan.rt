@@ -2,12 +2,12 @@
 //!
 //! A search adds to it what it answers, and nothing else: where the automaton stands, what was read and what was
 //! counted is kept here.
-ghost use Rattle.std.specs.Prelude.{◌≡◌, ℕ, ◌+◌, ◌<◌, ◌≤◌, length};
-ghost use Rattle.ac_util.specs.declared.search.Anchored.{Anchored};
+ghost use Rattle.std.specs.Prelude.{◌≡◌, ◌↔◌, IsTrue};
+ghost use Rattle.ac_automaton.specs.Util.{Node};
+ghost use Rattle.ac_automaton.specs.Automata.{IsState};
 ghost use Rattle.ac_automaton.specs.Finds.{FindsAt, StandsIn};
 ghost use Rattle.ac_automaton.specs.Overlaps.{is_due};
-ghost use Rattle.ac_automaton.specs.Progress.{work_of};
-ghost use Rattle.ac_automaton.specs.Scans.{HasStopped, MayRead, ReadsOn, Scan, scan_by};
+ghost use Rattle.ac_automaton.specs.Scans.{Advances, Follows, IsOver, MayAdvance, ScannerView, Stops, scan_of};
 
 use super::Automaton;
 use ac_util::looks::{Looks, Tape};
@@ -33,22 +33,23 @@ pub fn is_due(anchored: Anchored, len: usize, read: usize) -> bool
     }
 }
 
-/// What contracts see of an automaton under an anchoring.
-pub(super) trait Scans {
-    ghost scan: { Self → Anchored → Scan };
-}
-
-impl<A: Automaton> Scans for A {
-    ghost scan = { λ automaton. scan_by (A.stands automaton) (A.listed automaton) (A.built automaton) A.LOOKS
-        (A.wants_prefilter automaton) };
-}
-
 /// An automaton under an anchoring, and the span of a tape that it searches.
 #[derive(Drop)]
 pub(super) struct Scanner<'a, A: Automaton> {
     pub(super) automaton: &'a A,
     pub(super) anchored: Anchored,
     pub(super) span: Span,
+    /// How many bytes were read before the first of the tape.
+    pub(super) front: usize,
+}
+
+/// What contracts see of a scanner.
+pub(super) trait Scans {
+    ghost scan: { Self → ScannerView };
+}
+
+impl<'a, A: Automaton> Scans for Scanner<'a, A> {
+    ghost scan = { λ s. record { scan = scan_of (A.seen s.automaton.now) s.anchored; span = s.span; front = s.front } };
 }
 
 impl<'a, A: Automaton> Scanner<'a, A> {
@@ -60,63 +61,55 @@ impl<'a, A: Automaton> Scanner<'a, A> {
         tape: &mut Tape<'_>,
         looks: &mut Looks,
     ) -> StateID
-        requires alive { MayRead (⟦<A as Scans>⟧.scan self.now.automaton.now self.now.anchored) tape.old.bytes cursor }
-        requires inside { cursor.at < length tape.old.bytes }
-        requires unread { tape.old.place ≤ cursor.at }
-        ensures tape { tape.new ≡ record { bytes = tape.old.bytes; place = cursor.at + 1 } }
+        requires { MayAdvance (⟦<Self as Scans>⟧.scan self.now) tape.old cursor }
+        ensures follows { Follows (⟦<Self as Scans>⟧.scan self.now) cursor tape.old looks.old result tape.new looks.new }
         ensures calls { looks.new.calls ≡ looks.old.calls }
-        ensures reads { ReadsOn (⟦<A as Scans>⟧.scan self.now.automaton.now self.now.anchored) tape.old.bytes cursor
-            (work_of tape.old looks.old) (record { state = result; at = cursor.at + 1 })
-            (work_of tape.new looks.new) }
     {
         let byte = tape.read(cursor.at, looks);
         self.automaton
             .next_state(self.anchored, cursor.state, byte, looks)
     }
 
-    /// Reads on up to a state that has matches or is dead, or up to the end of the span. Returns how far it has come.
+    /// Reads on up to a state that has matches or is dead, or up to the end of the span: by a byte at least.
     #[inline]
-    pub(super) fn read_ahead(
-        &self,
-        cursor: Cursor,
-        tape: &mut Tape<'_>,
-        looks: &mut Looks,
-    ) -> Cursor
-        requires alive { MayRead (⟦<A as Scans>⟧.scan self.now.automaton.now self.now.anchored) tape.old.bytes cursor }
-        requires within { cursor.at ≤ self.now.span.end }
-        requires inside { self.now.span.end ≤ length tape.old.bytes }
-        requires unread { tape.old.place ≤ cursor.at }
-        ensures bytes { tape.new.bytes ≡ tape.old.bytes }
-        ensures moved { cursor.at < self.now.span.end → cursor.at < result.at }
-        ensures within { result.at ≤ self.now.span.end }
-        ensures stops { result.at < self.now.span.end
-            → HasStopped (⟦<A as Scans>⟧.scan self.now.automaton.now self.now.anchored) result.state }
-        ensures reads { ReadsOn (⟦<A as Scans>⟧.scan self.now.automaton.now self.now.anchored) tape.old.bytes cursor
-            (work_of tape.old looks.old) result (work_of tape.new looks.new) }
+    pub(super) fn read_ahead(&self, cursor: &mut Cursor, tape: &mut Tape<'_>, looks: &mut Looks)
+        requires { MayAdvance (⟦<Self as Scans>⟧.scan self.now) tape.old cursor.old }
+        ensures advances { Advances (⟦<Self as Scans>⟧.scan self.now) cursor.old tape.old looks.old cursor.new tape.new looks.new }
+        ensures stops { Stops (⟦<Self as Scans>⟧.scan self.now) cursor.new }
     {
-        let mut state = cursor.state;
-        for at in cursor.at..self.span.end {
+        let (mut state, mut at) = (cursor.state, cursor.at);
+        let end = self.span.end;
+        loop {
             state = self.read_byte(Cursor { state, at }, tape, looks);
-            if self.automaton.is_match_or_dead(state) {
-                return Cursor { state, at: at + 1 };
+            at += 1;
+            if at >= end || self.automaton.is_match_or_dead(state) {
+                *cursor = Cursor { state, at };
+                return;
             }
-        }
-        Cursor {
-            state,
-            at: self.span.end,
         }
     }
 
-    /// Returns the first match of the state where the automaton stands that counts, which ends at the cursor's place.
+    /// Returns whether nothing is left to read, or nothing more is found.
     #[inline]
-    pub(super) fn match_at(&self, cursor: Cursor) -> Option<Match>
-        requires state { StandsIn (⟦<A as Scans>⟧.scan self.now.automaton.now self.now.anchored) self.now.span.start cursor }
-        ensures { FindsAt (⟦<A as Scans>⟧.scan self.now.automaton.now self.now.anchored) self.now.span.start cursor result }
+    pub(super) fn is_over(&self, cursor: &Cursor) -> bool
+        requires { IsState (⟦<Self as Scans>⟧.scan self.now).scan.stands cursor.now.state }
+        ensures { (u : Node) → (⟦<Self as Scans>⟧.scan self.now).scan.stands cursor.now.state u
+            → IsTrue result ↔ IsOver self.now.span.end cursor.now.at u }
+    {
+        cursor.at >= self.span.end || self.automaton.is_dead(cursor.state)
+    }
+
+    /// Returns the first match of the state where the automaton stands that counts, which ends at the cursor's place. Its
+    /// offsets count the bytes that were read before the tape too.
+    #[inline]
+    pub(super) fn match_at(&self, cursor: &Cursor) -> Option<Match>
+        requires { StandsIn (⟦<Self as Scans>⟧.scan self.now) cursor.now }
+        ensures { FindsAt (⟦<Self as Scans>⟧.scan self.now) cursor.now result }
     {
         if !self.automaton.is_match(cursor.state) {
             return None;
         }
-        let end = cursor.at;
+        let end = self.front + cursor.at;
         let pattern = self.automaton.match_pattern(cursor.state, 0);
         let len = self.automaton.pattern_len(pattern);
         if !is_due(self.anchored, len, end - self.span.start) {

@@ -1,12 +1,12 @@
 //! The search of a stream: what a reader gives is read into a buffer, and its matches are returned one after another.
-ghost use Rattle.std.specs.Prelude.{◌≡◌, ◌≢◌, ◌⊎◌, ◌≤◌, ◌<◌, ◌+◌, ◌-◌, ◌*◌, MatchOption, MatchResult, None, Some, drop, false, true, if◌then◌else◌, length, max, min, slice_range, take, ⊤};
-ghost use Rattle.ac_automaton.specs.Util.{IsNear, IsStreamRefused, Reads, stream_refusal};
+ghost use Rattle.std.specs.Prelude.{◌≡◌, ◌≤◌, ◌<◌, ◌+◌, ◌-◌, None, Some, drop, false, true, length, slice_range, take};
+ghost use Rattle.ac_automaton.specs.Util.{IsNear, Reads};
+ghost use Rattle.ac_automaton.specs.Answers.{BeginsStream};
 ghost use Rattle.ac_automaton.specs.declared.automaton.stream_settled.Phase.TheVariants.{Ended, Open};
-ghost use Rattle.ac_automaton.specs.Streams.{Fills, GivesEarly, GivesLast, GivesRead, StreamsOn, kept_from, kept_len, initial_stream};
+ghost use Rattle.ac_automaton.specs.Streams.{Fills, HasGivenSettled, GivesLast, GivesRead, StreamsOn, kept_len, initial_stream};
 
 use super::Automaton;
 use super::scan::{Cursor, Scanner};
-use super::skip::Credit;
 use super::stream_settled::{Phase, buffer_len, most_kept, settled_from, settled_match};
 use ac_util::device::Source;
 use ac_util::error::{MatchError, StreamError};
@@ -52,8 +52,6 @@ pub struct StreamFinder<'a, A: Automaton, Z: Allocator> {
     at: usize,
     /// The match that is picked so far, which more bytes may still change.
     picked: Option<Match>,
-    /// Kept from call to call, so that no prefilter is called often where it skips little.
-    credit: Credit,
     phase: Phase,
     /// Where in the stream the last match given ended.
     begun: Snapshot<usize>,
@@ -68,10 +66,10 @@ impl<'a, A: Automaton, Z: Allocator> Model for StreamFinder<'a, A, Z> {
 
     ghost Value = { Streaming };
 
-    ghost view = { λ f. streaming_by (A.built f.automaton.now) f.history.bytes f.given.number f.front f.kept f.phase
+    ghost view = { λ f. streaming_by (A.seen f.automaton.now).built f.history.bytes f.given.number f.front f.kept f.phase
         (length f.buffer.items) };
 
-    ghost invariant = { λ f. IsStreaming (A.stands f.automaton.now No)
+    ghost invariant = { λ f. IsStreaming ((A.seen f.automaton.now).stands No)
         (record {
           start = f.start;
           stops = f.stops;
@@ -83,7 +81,7 @@ impl<'a, A: Automaton, Z: Allocator> Model for StreamFinder<'a, A, Z> {
           picked = f.picked;
           begun = f.begun.value;
         })
-        (streaming_by (A.built f.automaton.now) f.history.bytes f.given.number f.front f.kept f.phase
+        (streaming_by (A.seen f.automaton.now).built f.history.bytes f.given.number f.front f.kept f.phase
         (length f.buffer.items)) };
 }
 
@@ -95,9 +93,7 @@ impl<'a, A: Automaton, Z: Allocator> StreamFinder<'a, A, Z> {
     /// `UnsupportedEmpty` where some pattern is empty; else `StreamError::Memory` where the memory for the buffer is
     /// refused.
     pub fn new(automaton: &'a A, alloc: Z) -> Result<StreamFinder<'a, A, Z>, StreamError>
-        ensures { MatchResult result
-            (λ finder. (stream_refusal (A.built automaton.now) ≡ None) × (finder ≡ initial_stream (A.built automaton.now)))
-            (IsStreamRefused (stream_refusal (A.built automaton.now)) ⊤) }
+        ensures { BeginsStream (A.seen automaton.now).built (λ finder. finder ≡ initial_stream (A.seen automaton.now).built) result }
     {
         let start = automaton.start_state(Anchored::No)?;
         if automaton.min_pattern_len() == 0 {
@@ -119,7 +115,6 @@ impl<'a, A: Automaton, Z: Allocator> StreamFinder<'a, A, Z> {
             state: start,
             at: 0,
             picked: None,
-            credit: Credit::new(),
             phase: Phase::Open,
             begun: Snapshot::of(&0),
             given: Tally::zero(),
@@ -163,15 +158,16 @@ impl<'a, A: Automaton, Z: Allocator> StreamFinder<'a, A, Z> {
         &self.buffer[from - self.front..to - self.front]
     }
 
-    /// Returns the next match of the bytes that were read, without reading more of them. `None` says that all their matches
-    /// that are settled were given.
-    // Its loop is slower where it becomes a part of its caller's.
     /// Returns the next match of the bytes that were read, without reading on. `None` says that all their matches that
-    /// are settled were returned.
+    /// are settled were returned. After an error it returns `None`.
+    // Its loop is slower where it becomes a part of its caller's.
     #[inline(never)]
     pub fn next_read(&mut self) -> Option<Match>
         ensures { GivesRead self.old result self.new }
     {
+        if matches!(self.phase, Phase::Failed) {
+            return None;
+        }
         let scanner = Scanner {
             automaton: self.automaton,
             anchored: Anchored::No,
@@ -179,29 +175,20 @@ impl<'a, A: Automaton, Z: Allocator> StreamFinder<'a, A, Z> {
                 start: 0,
                 end: self.filled,
             },
+            front: self.front,
         };
-        let (mut tape, mut looks) = open(&Input::new(&self.buffer));
-        let prefilter = scanner.listing_prefilter();
-        let mut credit = self.credit;
-        let (mut state, mut at, mut picked) = (self.state, self.at, self.picked);
-        while !scanner.is_decided(self.stops, Cursor { state, at }, &picked) {
-            let ahead = scanner.read_or_skip(
-                prefilter,
-                Cursor { state, at },
-                &mut credit,
-                &mut tape,
-                &mut looks,
-            );
-            (state, at) = (ahead.state, ahead.at);
-            let read = self.front + at;
-            let found = scanner.match_at(Cursor { state, at: read });
-            if found.is_some() {
-                picked = found;
-            }
-        }
-        self.credit = credit;
+        let before = self.picked;
+        let mut here = Cursor {
+            state: self.state,
+            at: self.at,
+        };
+        let (mut tape, mut looks) = open(&Input::new(&self.buffer[..self.filled]));
+        let cursor = &mut here;
+        let picked = scanner.pick_on(self.stops, cursor, before, &mut tape, &mut looks);
+        let (state, at) = (cursor.state, cursor.at);
         let dead = self.automaton.is_dead(state);
-        match settled_match(picked, self.stops, dead, self.phase) {
+        let settled = settled_match(&picked, self.stops, dead, self.phase);
+        match settled {
             Some(found) => {
                 self.state = self.start;
                 self.at = found.end() - self.front;
@@ -219,15 +206,14 @@ impl<'a, A: Automaton, Z: Allocator> StreamFinder<'a, A, Z> {
         }
     }
 
-    /// Reads more bytes into the buffer, and returns whether some came: else the end was met. No more bytes may be kept than the
-    /// longest pattern has, and under `MatchKind::Standard` all matches of what was read have to be given.
+    /// Reads more bytes into the buffer, and returns whether some came: else the end was met. All matches of what was read that
+    /// are settled have to be given.
     ///
     /// # Errors
     /// `Io` where the read failed, and `TooLong` where more bytes have come than a `usize` counts: its bytes aren't searched.
     pub(super) fn fill<R: Source>(&mut self, reader: &mut R) -> Result<bool, StreamError>
         requires goes_on { self.old.phase ≡ Open }
-        requires near { IsNear self.old.built self.old.bytes self.old.kept }
-        requires early { GivesEarly self.old }
+        requires settled { HasGivenSettled self.old self.old }
         ensures { Fills R.empty_means_end self.old result self.new (R.told reader.old) (R.told reader.new) }
     {
         self.make_room();

@@ -1,8 +1,8 @@
 //! The matches of a stream, one after another.
-ghost use Rattle.std.specs.Prelude.{◌≡◌, MatchResult, None, ⊤};
+ghost use Rattle.std.specs.Prelude.{◌≡◌};
 ghost use Rattle.std.specs.Iterator.{at_most};
-ghost use Rattle.ac_automaton.specs.Util.{IsStreamRefused, stream_refusal};
-ghost use Rattle.ac_automaton.specs.Streams.{GivesStreamItem, ReadsItem, items_left, kept_len, initial_stream};
+ghost use Rattle.ac_automaton.specs.Answers.{BeginsStream};
+ghost use Rattle.ac_automaton.specs.Streams.{GivesStreamItem, ReadsItem, items_left, kept_len, initial_reading};
 
 use super::Automaton;
 use super::stream::StreamFinder;
@@ -38,10 +38,7 @@ impl<'a, A: Automaton, R: Source + Drop, Z: Allocator> StreamFindIter<'a, A, R, 
         alloc: Z,
         reader: R,
     ) -> Result<StreamFindIter<'a, A, R, Z>, StreamError>
-        ensures { MatchResult result
-            (λ matches. (stream_refusal (A.built automaton.now) ≡ None)
-            × (matches ≡ record { stream = initial_stream (A.built automaton.now); reader = R.told reader }))
-            (IsStreamRefused (stream_refusal (A.built automaton.now)) ⊤) }
+        ensures { BeginsStream (A.seen automaton.now).built (λ matches. matches ≡ initial_reading (A.seen automaton.now).built (R.told reader)) result }
     {
         let finder = StreamFinder::new(automaton, alloc)?;
         Ok(StreamFindIter { finder, reader })

@@ -1,7 +1,7 @@
 //! Replacement in a stream: its bytes are written as they were read, with each match replaced from a list or by a
 //! closure.
-ghost use Rattle.std.specs.Prelude.{◌≡◌, ℕ, ◌<◌, List, [], MatchResult, None, OnOk, Result, length, ⊤};
-ghost use Rattle.ac_automaton.specs.Util.{AnswersStream, bytes_of, FailsToReplace, FailsToReplaceWith, IsStreamRefused, Occurrence, ReplacesStream, ReplacesStreamWith, Replacing, stream_refusal, StreamError};
+ghost use Rattle.std.specs.Prelude.{◌≡◌, ℕ, ◌<◌, List, [], MatchResult, None, OnOk, Result, length};
+ghost use Rattle.ac_automaton.specs.Util.{AnswersStream, bytes_of, FailsToReplace, FailsToReplaceWith, Occurrence, ReplacesStream, ReplacesStreamWith, Replacing, stream_refusal, StreamError};
 ghost use Rattle.ac_automaton.specs.Exchanges.{CallsBy, error_in, FailsBy, FailsToExchange, HasExchanged, PassesText, ReplacesBy};
 ghost use Rattle.ac_automaton.specs.Gathering.{by_texts, Passing, PassesPiece};
 ghost use Rattle.ac_automaton.specs.Streams.{initial_stream};
@@ -12,7 +12,7 @@ use super::stream::StreamFinder;
 use ac_util::device::{Sink, Source, write_all};
 use ac_util::error::StreamError;
 use ac_util::search::Match;
-use std::alloc::{AllocError, Allocator};
+use std::alloc::Allocator;
 use std::io;
 
 /// Does what `Automaton::try_stream_replace_all` does.
@@ -23,15 +23,15 @@ pub(super) fn try_stream_replace_all<A: Automaton, Z: Allocator, R: Source, W: S
     writer: &mut W,
     texts: &[&[u8]],
 ) -> Result<(), StreamError>
-    requires texts { length texts.now ≡ length (A.built automaton.now).patterns }
-    ensures { AnswersStream (stream_refusal (A.built automaton.now)) ((reader.new ≡ reader.old) × (writer.new ≡ writer.old))
-        (ReplacesStream (A.built automaton.now) (bytes_of texts.now) (W.told writer.old) (W.told writer.new)
+    requires texts { length texts.now ≡ length (A.seen automaton.now).built.patterns }
+    ensures { AnswersStream (stream_refusal (A.seen automaton.now).built) ((reader.new ≡ reader.old) × (writer.new ≡ writer.old))
+        (ReplacesStream (A.seen automaton.now).built (bytes_of texts.now) (W.told writer.old) (W.told writer.new)
         R.empty_means_end (R.told reader.old) (R.told reader.new))
-        (FailsToReplace (A.built automaton.now) (bytes_of texts.now) (W.told writer.old) (W.told writer.new)
+        (FailsToReplace (A.seen automaton.now).built (bytes_of texts.now) (W.told writer.old) (W.told writer.new)
         R.empty_means_end (R.told reader.old) (R.told reader.new)) result }
 {
-    let mut finder = StreamFinder::new(automaton, &alloc)?;
-    let mut exchange = ByTexts::new(&alloc, texts)?;
+    let mut finder = StreamFinder::new(automaton, alloc)?;
+    let mut exchange = ByTexts::new(texts);
     replace_stream(&mut finder, reader, writer, &mut exchange)
 }
 
@@ -50,10 +50,10 @@ where
     W: Sink,
     F: FnMut(&Match, &[u8], &mut W) -> io::Result<()>,
     requires callable { F.IsAlwaysCallable closure }
-    ensures { AnswersStream (stream_refusal (A.built automaton.now)) ((reader.new ≡ reader.old) × (writer.new ≡ writer.old))
-        (ReplacesStreamWith W.told F.FnMut (A.built automaton.now) closure writer.old R.empty_means_end
+    ensures { AnswersStream (stream_refusal (A.seen automaton.now).built) ((reader.new ≡ reader.old) × (writer.new ≡ writer.old))
+        (ReplacesStreamWith W.told F.FnMut (A.seen automaton.now).built closure writer.old R.empty_means_end
         (R.told reader.old) (R.told reader.new) writer.new)
-        (FailsToReplaceWith W.told F.FnMut (A.built automaton.now) closure writer.old R.empty_means_end
+        (FailsToReplaceWith W.told F.FnMut (A.seen automaton.now).built closure writer.old R.empty_means_end
         (R.told reader.old) (R.told reader.new) writer.new) result }
 {
     let mut finder = StreamFinder::new(automaton, alloc)?;
@@ -104,25 +104,24 @@ pub(super) trait Exchange<W: Sink> {
 
 /// Writes the text of a match's pattern. Texts and bytes between them are gathered.
 #[derive(Drop)]
-pub(super) struct ByTexts<'t, Z: Allocator> {
+pub(super) struct ByTexts<'t> {
     pub(super) texts: &'t [&'t [u8]],
-    pub(super) gathered: Gathered<Z>,
+    pub(super) gathered: Gathered,
 }
 
-impl<'t, Z: Allocator> ByTexts<'t, Z> {
+impl<'t> ByTexts<'t> {
     /// Returns an exchange by these texts that holds nothing back.
-    ///
-    /// # Errors
-    /// Where the memory for what is held back is refused.
-    fn new(alloc: Z, texts: &'t [&'t [u8]]) -> Result<ByTexts<'t, Z>, AllocError>
-        ensures { MatchResult result (λ exchange. exchange ≡ record { texts = texts.entry; gathered = [] }) (λ _. ⊤) }
+    fn new(texts: &'t [&'t [u8]]) -> ByTexts<'t>
+        ensures { result ≡ record { texts = texts.entry; gathered = [] } }
     {
-        let gathered = Gathered::new(alloc)?;
-        Ok(ByTexts { texts, gathered })
+        ByTexts {
+            texts,
+            gathered: Gathered::new(),
+        }
     }
 }
 
-impl<'t, W: Sink, Z: Allocator> Exchange<W> for ByTexts<'t, Z> {
+impl<'t, W: Sink> Exchange<W> for ByTexts<'t> {
     ghost accepts = { λ e m. m.pattern < length e.texts.now };
 
     ghost passing = { by_texts W.told };

@@ -26,17 +26,17 @@ pub enum Phase {
 /// Returns what a search picks so far if it is settled: if the first match found is the answer, nothing more can be
 /// found, or the stream has ended.
 pub(super) fn settled_match(
-    picked: Option<Match>,
+    picked: &Option<Match>,
     stops: bool,
     dead: bool,
     phase: Phase,
 ) -> Option<Match>
     ensures { MatchOption result
-        ((picked ≡ None) ⊎ ((stops ≡ false) × (dead ≡ false) × (phase ≢ Ended)))
-        (λ m. (picked ≡ Some m) × ((stops ≡ true) ⊎ ((dead ≡ true) ⊎ (phase ≡ Ended)))) }
+        ((picked.now ≡ None) ⊎ ((stops ≡ false) × (dead ≡ false) × (phase ≢ Ended)))
+        (λ m. (picked.now ≡ Some m) × ((stops ≡ true) ⊎ ((dead ≡ true) ⊎ (phase ≡ Ended)))) }
 {
     if stops || dead || matches!(phase, Phase::Ended) {
-        picked
+        *picked
     } else {
         None
     }

@@ -1,9 +1,10 @@
 //! The matches of a walk, one after another.
 ghost use Rattle.std.specs.Prelude.{◌≡◌, ◌+◌, ◌<◌, ◌≤◌, ℕ, IfSome, length};
 ghost use Rattle.std.specs.Iterator.{item_count};
-ghost use Rattle.ac_automaton.specs.Util.{AnswersUnless, input_of, find_refusal, next_match, repeats, Standard, usize_max};
+ghost use Rattle.ac_automaton.specs.Util.{input_of, next_match, repeats, Standard, usize_max};
+ghost use Rattle.ac_automaton.specs.Answers.{AnswersWalk};
 ghost use Rattle.ac_automaton.specs.Finds.{HasSearched};
-ghost use Rattle.ac_automaton.specs.Iterators.{Finds, GoesOn, after, initial_walk, kept_place, walking_of};
+ghost use Rattle.ac_automaton.specs.Iterators.{Finds, GoesOn, after, kept_place, walking_of};
 ghost use Rattle.ac_automaton.specs.Progress.{search_of, work_of};
 
 use super::Automaton;
@@ -19,35 +20,36 @@ use std::snapshot::Snapshot;
 /// After the last match it keeps returning `None`. Contracts see the matches still to come, and what was read and
 /// counted since it was made. For each match it makes one find, or two where the first finds an empty match again at
 /// the end of the match before. Under `MatchKind::Standard`, or with `earliest`, it reads each byte at most once on the
-/// whole; else each find reads anew from where the match before it ended, since a leftmost one may have read past the
-/// end of what it picked.
+/// whole; else each find reads a new tape from where the match before it ended, since a leftmost one may have read past
+/// the end of what it picked.
 #[derive(Drop)]
 pub struct FindIter<'a, 'h, A: Automaton> {
-    finder: Finder<'a, A>,
+    search: TapedFinder<'a, 'h, A>,
     /// What is left of the span.
     span: Span,
     /// Where the match before this ended.
     last: Option<usize>,
-    tape: Tape<'h>,
-    looks: Looks,
     /// Where the span began.
     from: Snapshot<usize>,
 }
 
 impl<'a, 'h, A: Automaton> Model for FindIter<'a, 'h, A> {
-    ghost use Rattle.std.specs.Prelude.{◌<◌, ◌≤◌, length};
-    ghost use Rattle.ac_automaton.specs.Util.{usize_max};
+    ghost use Rattle.std.specs.Prelude.{◌≡◌, ◌<◌, ◌≤◌, length};
+    ghost use Rattle.ac_automaton.specs.Util.{input_of, usize_max};
     ghost use Rattle.ac_automaton.specs.Iterators.{IsUnderWay, Walking, walking_of};
     ghost use Rattle.ac_automaton.specs.Progress.{work_of};
 
     ghost Value = { Walking };
 
-    ghost view = { λ s. walking_of s.finder s.tape.bytes s.span s.last s.from.value (work_of s.tape s.looks) };
+    ghost view = { λ s. walking_of s.search.finder s.search.tape.bytes s.span s.last s.from.value
+        (work_of s.search.tape s.search.looks) };
 
     ghost invariant = { λ s. record {
-      inside : s.span.end ≤ length s.tape.bytes;
+      whole : s.search.tape.bytes ≡ (input_of s.search.input).haystack;
+      inside : s.span.end ≤ length s.search.tape.bytes;
       small : s.span.end < usize_max;
-      under_way : IsUnderWay (walking_of s.finder s.tape.bytes s.span s.last s.from.value (work_of s.tape s.looks));
+      under_way : IsUnderWay (walking_of s.search.finder s.search.tape.bytes s.span s.last s.from.value
+          (work_of s.search.tape s.search.looks));
     } };
 }
 
@@ -55,18 +57,20 @@ impl<'a, 'h, A: Automaton> FindIter<'a, 'h, A> {
     /// Returns what `Automaton::try_find_iter` does.
     #[inline]
     pub(super) fn new(automaton: &'a A, input: Input<'h>) -> Result<FindIter<'a, 'h, A>, MatchError>
-        ensures { AnswersUnless (find_refusal (A.built automaton.now) (input_of input.entry))
-            (initial_walk A.LOOKS (A.built automaton.now) (A.wants_prefilter automaton.now) (input_of input.entry)) result }
+        ensures { AnswersWalk (A.seen automaton.now) (input_of input.entry) result }
     {
         let finder = Finder::new(automaton, input.get_anchored(), input.get_earliest())?;
         let (tape, looks) = open(&input);
         let span = input.get_span();
         Ok(FindIter {
-            finder,
+            search: TapedFinder {
+                finder,
+                input,
+                tape,
+                looks,
+            },
             span,
             last: None,
-            tape,
-            looks,
             from: Snapshot::of(&span.start),
         })
     }
@@ -76,13 +80,7 @@ impl<'a, 'h, A: Automaton> FindIter<'a, 'h, A> {
     fn advance(&mut self) -> Option<Match>
         ensures { GoesOn self.old result self.new }
     {
-        let found = next_left(
-            &mut self.finder,
-            self.span,
-            self.last,
-            &mut self.tape,
-            &mut self.looks,
-        );
+        let found = self.search.next_left(self.span, self.last);
         self.span.start = after(self.span, &found);
         if let Some(found) = &found {
             self.last = Some(found.end());
@@ -91,36 +89,61 @@ impl<'a, 'h, A: Automaton> FindIter<'a, 'h, A> {
     }
 }
 
-/// Returns the next match of a walk in a span, after one that ended at `last`.
-#[inline]
-fn next_left<A: Automaton>(
-    finder: &mut Finder<'_, A>,
-    span: Span,
-    last: Option<usize>,
-    tape: &mut Tape<'_>,
-    looks: &mut Looks,
-) -> Option<Match>
-    requires inside { span.end ≤ length tape.old.bytes }
-    requires small { span.end < usize_max }
-    requires legal { span.start ≤ span.end + 1 }
-    requires unread { finder.old.picking.order ≡ Standard → tape.old.place ≤ span.start }
-    requires beyond { IfSome last (λ e. e ≤ span.start) }
-    ensures next { result ≡ next_match finder.old.picking.order
-        (search_of finder.old.built finder.old.anchored tape.old.bytes span.start span.end) last }
-    ensures bytes { tape.new.bytes ≡ tape.old.bytes }
-    ensures same { finder.new ≡ finder.old }
-    ensures finds { (start : ℕ) → Finds (walking_of finder.old tape.old.bytes span last start
-        (work_of tape.old looks.old)) (work_of tape.new looks.new) }
-{
-    let first = find_left(finder, span, tape, looks);
-    if !repeats(&first, last) {
-        return first;
+/// A finder, the input in whose spans it finds, a tape of that input, and the counts.
+#[derive(Drop)]
+struct TapedFinder<'a, 'h, A: Automaton> {
+    finder: Finder<'a, A>,
+    input: Input<'h>,
+    tape: Tape<'h>,
+    looks: Looks,
+}
+
+impl<'a, 'h, A: Automaton> TapedFinder<'a, 'h, A> {
+    /// Returns the next match of a walk in a span, after one that ended at `last`.
+    #[inline]
+    fn next_left(&mut self, span: Span, last: Option<usize>) -> Option<Match>
+        requires whole { self.old.tape.bytes ≡ (input_of self.old.input).haystack }
+        requires inside { span.end ≤ length self.old.tape.bytes }
+        requires small { span.end < usize_max }
+        requires legal { span.start ≤ span.end + 1 }
+        requires unread { self.old.finder.picking.order ≡ Standard → self.old.tape.place ≤ span.start }
+        requires beyond { IfSome last (λ e. e ≤ span.start) }
+        ensures next { result ≡ next_match self.old.finder.picking.order
+            (search_of self.old.finder.built self.old.finder.anchored self.old.tape.bytes span.start span.end) last }
+        ensures same { (self.new.finder ≡ self.old.finder) × (self.new.input ≡ self.old.input) × (self.new.tape.bytes ≡ self.old.tape.bytes) }
+        ensures finds { (start : ℕ) → Finds (walking_of self.old.finder self.old.tape.bytes span last start
+            (work_of self.old.tape self.old.looks)) (work_of self.new.tape self.new.looks) }
+    {
+        let first = self.find(span);
+        if !repeats(&first, last) {
+            return first;
+        }
+        let further = Span {
+            start: span.start + 1,
+            end: span.end,
+        };
+        self.find(further)
     }
-    let further = Span {
-        start: span.start + 1,
-        end: span.end,
-    };
-    find_left(finder, further, tape, looks)
+
+    /// Returns the pick of a span. Where the find before may have read past its match, it opens a new tape.
+    #[inline]
+    fn find(&mut self, span: Span) -> Option<Match>
+        requires whole { self.old.tape.bytes ≡ (input_of self.old.input).haystack }
+        requires inside { span.end ≤ length self.old.tape.bytes }
+        requires legal { span.start ≤ span.end + 1 }
+        requires unread { self.old.finder.picking.order ≡ Standard → self.old.tape.place ≤ span.start }
+        ensures same { (self.new.finder ≡ self.old.finder) × (self.new.input ≡ self.old.input) × (self.new.tape.bytes ≡ self.old.tape.bytes) }
+        ensures found { HasSearched self.old.finder.picking
+            (search_of self.old.finder.built self.old.finder.anchored self.old.tape.bytes span.start span.end) result
+            (record { place = kept_place self.old.finder.picking.order self.old.tape.place; counts = self.old.looks })
+            (work_of self.new.tape self.new.looks) }
+    {
+        if !self.finder.stops_at_match() {
+            let (tape, _) = open(&self.input);
+            self.tape = tape;
+        }
+        self.finder.find(span, &mut self.tape, &mut self.looks)
+    }
 }
 
 /// Returns where a walk in a span goes on: at the end of the match that was found in it, or past its own end where there is
@@ -145,30 +168,6 @@ fn repeats(found: &Option<Match>, last: Option<usize>) -> bool
         Some(found) => found.is_empty() && last == Some(found.end()),
         None => false,
     }
-}
-
-/// Returns the pick of a span. It reads from the first byte again where the find before may have read past its match.
-#[inline]
-fn find_left<A: Automaton>(
-    finder: &mut Finder<'_, A>,
-    span: Span,
-    tape: &mut Tape<'_>,
-    looks: &mut Looks,
-) -> Option<Match>
-    requires inside { span.end ≤ length tape.old.bytes }
-    requires legal { span.start ≤ span.end + 1 }
-    requires unread { finder.old.picking.order ≡ Standard → tape.old.place ≤ span.start }
-    ensures bytes { tape.new.bytes ≡ tape.old.bytes }
-    ensures same { finder.new ≡ finder.old }
-    ensures found { HasSearched finder.old.picking
-        (search_of finder.old.built finder.old.anchored tape.old.bytes span.start span.end) result
-        (record { place = kept_place finder.old.picking.order tape.old.place; counts = looks.old })
-        (work_of tape.new looks.new) }
-{
-    if !finder.stops_at_match() {
-        tape.rewind();
-    }
-    finder.find(span, tape, looks)
 }
 
 impl<'a, 'h, A: Automaton> Iterator for FindIter<'a, 'h, A> {

@@ -1,8 +1,8 @@
 //! A noncontiguous NFA: small, and quickly built.
-ghost use Rattle.std.specs.Prelude.{◌≡◌, ◌≢◌, IfSome, List, MatchResult, None};
+ghost use Rattle.std.specs.Prelude.{◌≡◌, ◌≢◌, IfSome, List, None};
 ghost use Rattle.std.proofs.Common.{inr, refl};
 ghost use Rattle.ac_automaton.specs.Util.{bytes_of, Node};
-ghost use Rattle.ac_automaton.specs.Builds.{IsEngineBuilt, RefusesBy, state_refusal, usual_engine_settings};
+ghost use Rattle.ac_automaton.specs.Builds.{AnswersBuild, IsEngineBuilt, state_refusal, usual_engine_settings};
 ghost use Rattle.ac_automaton.specs.Tries.{IsRoot, IsTrie, IsTrieState, listed_within, stands-lists};
 ghost use Rattle.ac_automaton.specs.declared.nfa.noncontiguous.state.State.{State};
 
@@ -94,9 +94,7 @@ impl<A: Allocator + Clone> NFA<A> {
     /// # Errors
     /// As `Builder::build`.
     pub fn new(alloc: A, patterns: &[&[u8]]) -> Result<NFA<A>, BuildError>
-        ensures { MatchResult result
-            (λ nfa. IsEngineBuilt usual_engine_settings (bytes_of patterns.now) nfa)
-            (RefusesBy (state_refusal usual_engine_settings (bytes_of patterns.now)) (bytes_of patterns.now)) }
+        ensures { AnswersBuild (IsEngineBuilt usual_engine_settings) (state_refusal usual_engine_settings) (bytes_of patterns.now) result }
     {
         Builder::new().build(alloc, patterns)
     }
@@ -165,15 +163,17 @@ impl<A: Allocator> Automaton for NFA<A> {
 
     ghost LOOKS = { 2 };
 
-    ghost built = { λ n. n.built };
-
-    ghost stands = { λ n anchored s u. IsTrieState n s u };
-
-    ghost listed = { λ n s. listed_within n.order n.states s s };
-
-    ghost wants_prefilter = { λ n. n.wants_prefilter };
+    ghost seen = { λ n. record {
+      built = n.built;
+      most = 2;
+      wants_prefilter = n.wants_prefilter;
+      stands = λ anchored s u. IsTrieState n s u;
+      listed = λ s. listed_within n.order n.states s s;
+    } };
 
     ghost one_or_two = { inr refl };
+
+    ghost allows = { λ n. refl };
 
     ghost lists = { stands-lists };
 

@@ -1,7 +1,8 @@
 -- What a build of a contiguous NFA is asked for, what it answers, and why it may be refused.
-use Rattle.std.specs.Prelude.{◌≡◌, ℕ, nat_lt, Bool, true, List, length, Option, Some, None, if◌then◌else◌}
+use Rattle.std.specs.Prelude.{◌≡◌, ℕ, nat_lt, Bool, true, List, length, Option, Result, Some, None, if◌then◌else◌}
 use Rattle.ac_automaton.specs.Util.{alphabet_len, BuildError, Built, GREATEST, StateIdOverflow}
-use Rattle.ac_automaton.specs.Builds.{EngineSettings, IsAllowed, engine_built_by, refusal_or, state_refusal, usual_engine_settings}
+use Rattle.ac_automaton.specs.Builds.{AnswersMaking, EngineSettings, IsAllowed, engine_built_by, refusal_or, state_refusal, usual_engine_settings}
+use Rattle.ac_automaton.specs.Prelude.{Trie}
 use Rattle.ac_engines.specs.Classes.{classes_by}
 use Rattle.ac_engines.specs.Contiguous.{ContiguousView}
 use Rattle.ac_engines.specs.Contiguous.Sizes.{packed_words}
@@ -51,3 +52,9 @@ pub record IsContiguousBuilt (settings : ContiguousSettings) (patterns : List (L
   pub value : IsContiguousFrom settings.dense_depth settings.byte_classes (engine_built_by settings.engine patterns)
       settings.engine.prefilter c
   pub allowed : IsAllowed (contiguous_refusal_by settings patterns) patterns
+
+-- a contiguous NFA was made by these settings from an automaton, or is refused
+abbrev pub AnswersContiguousFrom : ContiguousSettings → Trie → Result ContiguousView BuildError → Type 0
+AnswersContiguousFrom settings nfa result =
+    AnswersMaking (IsContiguousFrom settings.dense_depth settings.byte_classes nfa.built nfa.wants_prefilter)
+    (contiguous_refusal settings.dense_depth settings.byte_classes nfa.built) result

@@ -1,12 +1,15 @@
 -- Packing states one after another.
-use Rattle.std.specs.Prelude.{◌≡◌, ℕ, ◌+◌, ◌≤◌, Bool, List, [], ◌++◌, drop, length, nat_eq, slice_get, Some, if◌then◌else◌}
+use Rattle.std.specs.Prelude.{◌≡◌, ℕ, ◌+◌, ◌≤◌, Bool, List, [], ◌++◌, drop, IfOk, length, nat_eq, Result, slice_get, Some, if◌then◌else◌}
 use Rattle.ac_util.specs.declared.search.Anchored.{Anchored}
 use Rattle.ac_automaton.specs.Util.{alphabet_len, No, Node, Yes}
 use Rattle.ac_automaton.specs.declared.nfa.noncontiguous.state.TheConstants.{ANCHORED_START, START}
-use Rattle.ac_engines.specs.Contiguous.{packed_at}
+use Rattle.ac_engines.specs.Contiguous.{IsContiguous, packed_at}
 use Rattle.ac_engines.specs.Contiguous.Plans.{HasPlaces, HasWords, MayPack, PackPlan, has_matches, packed_of, places_of, size_at, total}
 use Rattle.ac_engines.specs.Contiguous.Sizes.{node_format}
-use Rattle.ac_engines.specs.Contiguous.Words.{BeginsWith, PackedState, format_words}
+use Rattle.ac_engines.specs.Contiguous.Words.{Appends, BeginsWith, PackedState, format_words}
+use Rattle.ac_engines.specs.declared.nfa.contiguous.format.Format.TheVariants.{Dense}
+use Rattle.ac_engines.specs.declared.nfa.contiguous.pack.Buffers.{Buffers}
+use Rattle.std.specs.declared.alloc.AllocError.{AllocError}
 
 -- what states are packed by: a plan, and the place of each state of the trie
 pub record Packer : Type 0 where
@@ -46,3 +49,22 @@ module _ (f : Packer) (nodes : List Node) where
 pub record HasPlaceIn (f : Packer) (s : ℕ) : Type 0 where
   pub words : HasWords f.plan s
   pub ready : AreReady f words.nodes
+
+-- where words succeed in being pushed, they were
+abbrev pub Pushes : {Z : Type 0} → Buffers Z → Buffers Z → List ℕ → Result (Unit {0}) AllocError → Type 0
+Pushes old new words result = Appends old.words.items new.words.items words result
+
+-- the words of the dead state
+abbrev pub dead_words : PackPlan → List ℕ
+dead_words q =
+    format_words Dense (alphabet_len q.classes) (record { failure = 0; default_target = 0; edges = []; matches = [] })
+
+-- where the states that have matches succeed in being pushed, or the others, they were
+abbrev pub PushesWhere : {Z : Type 0} → Packer → List Node → Bool → Buffers Z → Buffers Z → Result (Unit {0}) AllocError → Type 0
+PushesWhere f nodes front old new result =
+    IfOk result (λ done. HasPushedWords f nodes front old.words.items new.words.items)
+
+-- the words are those of a contiguous NFA
+abbrev pub IsPacked : Packer → List Node → List ℕ → Type 0
+IsPacked f nodes words =
+    IsContiguous (packed_of f.plan nodes f.numbers words) (places_of f.plan nodes f.numbers)

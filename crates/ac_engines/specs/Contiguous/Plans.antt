@@ -5,7 +5,7 @@ use Rattle.ac_automaton.specs.declared.nfa.noncontiguous.state.TheConstants.{ANC
 use Rattle.ac_automaton.specs.Prelude.{AreNodes, matches_of, Trie}
 use Rattle.ac_engines.specs.Dfa.Filling.{first_row_in}
 use Rattle.ac_engines.specs.Contiguous.{ContiguousView, Places}
-use Rattle.ac_engines.specs.Contiguous.Sizes.{node_words}
+use Rattle.ac_engines.specs.Contiguous.Sizes.{node_words, packed_words}
 
 -- the sum of a function over the numbers below one
 unfoldable pub total : (ℕ → ℕ) → ℕ → ℕ
@@ -17,6 +17,10 @@ pub record PackPlan : Type 0 where
   pub trie : Trie
   pub classes : List ℕ
   pub dense_depth : ℕ
+
+-- how many words there are in all
+abbrev pub all_words : PackPlan → ℕ
+all_words q = packed_words q.trie.built q.dense_depth (alphabet_len q.classes)
 
 module _ (q : PackPlan) (nodes : List Node) where
   -- the nodes are those of the trie's state numbers, and each byte of a pattern has a class of its own

@@ -1,5 +1,5 @@
 -- How the states of the contiguous engine are spelled in words of 32 bits.
-use Rattle.std.specs.Prelude.{◌≡◌, ◌≢◌, ℕ, ◌+◌, ◌*◌, ◌/◌, ◌%◌, ◌<◌, ◌≤◌, ◌==◌, List, [], ◌∷◌, ◌++◌, length, map, slice_index_or, All, Option, Some, None, if◌then◌else◌, ⊤}
+use Rattle.std.specs.Prelude.{◌≡◌, ◌≢◌, ℕ, ◌+◌, ◌*◌, ◌/◌, ◌%◌, ◌<◌, ◌≤◌, ◌==◌, List, [], ◌∷◌, ◌++◌, length, map, slice_index_or, All, IfOk, Option, Result, Some, None, if◌then◌else◌, ⊤}
 use Rattle.std.specs.Borrow.{Bor}
 use Rattle.std.specs.Int.{to_le_bytes, w32}
 use Rattle.std.specs.List.{range_with_len}
@@ -118,3 +118,55 @@ unfoldable pub edges_from : (ℕ → ℕ) → ℕ → List ℕ → List Edge
 edges_from class_of place [] = []
 edges_from class_of place (target ∷ targets) =
     record { class = class_of place; target = target } ∷ edges_from class_of (place + 1) targets
+
+-- some state is spelled where the words begin, and this holds of it
+abbrev pub SomeState : List ℕ → (Format → ℕ → PackedState → Type 0) → Type 0
+SomeState words P =
+    (format : Format) × (classes : ℕ) × (s : PackedState) × BeginsWith words format classes s × P format classes s
+
+-- this holds of each state that is spelled there
+abbrev pub EachState : List ℕ → (Format → ℕ → PackedState → Type 0) → Type 0
+EachState words P = (format : Format) (classes : ℕ) (s : PackedState) → BeginsWith words format classes s → P format classes s
+
+-- the same where it is known how many classes there are
+abbrev pub HasState : List ℕ → ℕ → (PackedState → Type 0) → Type 0
+HasState words classes P = (format : Format) × (s : PackedState) × BeginsWith words format classes s × P s
+
+abbrev pub StateOf : List ℕ → ℕ → (Format → PackedState → Type 0) → Type 0
+StateOf words classes P = (format : Format) (s : PackedState) → BeginsWith words format classes s → P format s
+
+-- a state leads so by a class
+abbrev pub LeadsBy : ℕ → Option ℕ → Format → ℕ → PackedState → Type 0
+LeadsBy class target format classes s =
+    AreNamed s.edges → class < classes → target ≡ named (target_by s.default_target s.edges class)
+
+-- the same of a sparse state with so many transitions
+abbrev pub SparseLeadsBy : List ℕ → ℕ → ℕ → Option ℕ → Type 0
+SparseLeadsBy words transitions class target =
+    (classes : ℕ) (s : PackedState) → BeginsWith words Sparse classes s → AreNamed s.edges → transitions ≡ length s.edges
+    → target ≡ named (target_by no_target s.edges class)
+
+-- the words are those of a state's matches, and what follows the state
+abbrev pub AreMatchWords : List ℕ → ℕ → List ℕ → Type 0
+AreMatchWords words classes matches =
+    (format : Format) (s : PackedState) (begins : BeginsWith words format classes s) → s.matches ≢ []
+    → matches ≡ match_list_words s.matches ++ begins.rest
+
+-- the place of a class among the four of a word
+abbrev pub IsPlaceIn : ℕ → ℕ → ℕ → Type 0
+IsPlaceIn word class place =
+    (a b c d : ℕ) → a < 256 → b < 256 → c < 256 → d < 256 → word ≡ word_of a b c d → place ≡ first_of a b c d class
+
+-- where words succeed in being appended, they were
+abbrev pub Appends : {E : Type 0} → List ℕ → List ℕ → List ℕ → Result (Unit {0}) E → Type 0
+Appends old new words result = IfOk result (λ done. new ≡ old ++ words)
+
+-- the words of a state but for its matches, by its form
+abbrev pub dense_head : ℕ → PackedState → List ℕ
+dense_head classes s = dense_form ∷ s.failure ∷ map (target_by s.default_target s.edges) (range_with_len 0 classes)
+
+abbrev pub one_head : PackedState → List ℕ
+one_head s = one_words s.failure s.edges
+
+abbrev pub sparse_head : PackedState → List ℕ
+sparse_head s = length s.edges ∷ s.failure ∷ class_words (map (λ e. e.class) s.edges) ++ map (λ e. e.target) s.edges

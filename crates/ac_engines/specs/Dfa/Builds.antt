@@ -1,7 +1,9 @@
 -- What a build of a DFA is asked for, what it answers, and why it may be refused.
-use Rattle.std.specs.Prelude.{◌≡◌, ℕ, ◌-◌, ◌*◌, nat_lt, Bool, true, List, length, Option, Some, None, if◌then◌else◌}
+use Rattle.std.specs.Prelude.{◌≡◌, ℕ, ◌-◌, ◌*◌, nat_lt, Bool, true, List, length, Option, Result, Some, None, if◌then◌else◌}
 use Rattle.ac_automaton.specs.Util.{BuildError, Built, GREATEST, StartKind, state_count, StateIdOverflow, stride, stride2, Unanchored}
 use Rattle.ac_automaton.specs.Prelude.{engine_built_by, EngineSettings, IsAllowed, plain_of, refusal_or, state_refusal, usual_engine_settings}
+use Rattle.ac_automaton.specs.Builds.{AnswersMaking}
+use Rattle.ac_automaton.specs.Prelude.{Trie}
 use Rattle.ac_engines.specs.Classes.{classes_by}
 use Rattle.ac_engines.specs.Dfa.{DfaView}
 use Rattle.ac_engines.specs.Dfa.Layouts.{table_rows}
@@ -53,3 +55,9 @@ pub record IsDfaBuilt (settings : DfaSettings) (patterns : List (List ℕ)) (d :
   pub value : IsDfaFrom settings.start_kind settings.byte_classes (engine_built_by settings.engine patterns)
       settings.engine.prefilter d
   pub allowed : IsAllowed (dfa_refusal_by settings patterns) patterns
+
+-- a DFA was made by these settings from an automaton, or is refused
+abbrev pub AnswersDfaFrom : DfaSettings → Trie → Result DfaView BuildError → Type 0
+AnswersDfaFrom settings nfa result =
+    AnswersMaking (IsDfaFrom settings.start_kind settings.byte_classes nfa.built nfa.wants_prefilter)
+    (dfa_refusal settings.start_kind settings.byte_classes nfa.built) result

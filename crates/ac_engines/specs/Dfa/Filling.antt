@@ -2,7 +2,7 @@
 use Rattle.std.specs.Prelude.{◌≡◌, ◌≢◌, ◌⊎◌, ℕ, ◌+◌, ◌*◌, ◌<◌, ◌≤◌, List, [], ◌∷◌, ◌++◌, Contains, bytes_eq, length, slice_get, slice_index_or, if◌then◌else◌, Some, None}
 use Rattle.ac_util.specs.declared.search.Anchored.{Anchored}
 use Rattle.ac_automaton.specs.Util.{alphabet_len, Built, class_at, GREATEST, No, Node, plain_byte, SetsApart, start_refusal, StartKind, Yes}
-use Rattle.ac_automaton.specs.Prelude.{AreNodes, step_of, Trie}
+use Rattle.ac_automaton.specs.Prelude.{AreNodes, step_of, transition_bytes_of, Trie}
 use Rattle.ac_engines.specs.Dfa.{anchored_shift, entry, number_of}
 
 -- what a DFA is filled from: what it is built from, the class of each byte, how many entries a row has, which node
@@ -131,3 +131,28 @@ module _ (f : Filling) (nodes : List Node) (size : ℕ) where
         → slice_index_or entries (row_at (row_input f nodes) anchored (Some w) + k) 0 ≡ 0
     pub earlier : anchored ≡ No → (t : ℕ) (u : Node) → t < s → t ≢ 3 → slice_get nodes t ≡ Some u
         → IsFilled (row_input f nodes) No u entries
+
+  -- all rows are filled
+  abbrev pub AreFilled : List ℕ → Type 0
+  AreFilled entries = FilledUpTo (length nodes) entries
+
+-- the row of a string where nodes are known
+abbrev pub row_of : Filling → List Node → Anchored → List ℕ → ℕ
+row_of f nodes anchored w = row_at (row_input f nodes) anchored (Some w)
+
+-- the own transitions of a string were set in its row
+abbrev pub SetsOwn : Filling → ℕ → Anchored → List ℕ → List ℕ → Type 0
+SetsOwn f s anchored old new =
+    (nodes : List Node) (w : List ℕ) → HasRow f nodes (length old) s w
+    → HasSet (row_input f nodes) anchored w (transition_bytes_of (row_input f nodes).built (Some w)) old new
+
+-- the row of a string was filled
+abbrev pub FillsRow : Filling → ℕ → List ℕ → Anchored → List ℕ → List ℕ → Type 0
+FillsRow f s w anchored old new =
+    (nodes : List Node) → MayFillRow f nodes (length old) s w anchored old → HasFilled (row_input f nodes) anchored w old new
+
+-- the rows of a state were filled, after those of all before it
+abbrev pub FillsState : Filling → ℕ → List ℕ → List ℕ → Type 0
+FillsState f s old new =
+    (nodes : List Node) (w : List ℕ) → HasRow f nodes (length old) s w → FilledUpTo f nodes (length old) s old
+    → FilledUpTo f nodes (length old) (s + 1) new

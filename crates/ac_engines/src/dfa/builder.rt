@@ -3,9 +3,9 @@ ghost use Rattle.std.specs.Prelude.{◌≡◌, ◌<◌, ◌≤◌, ◌+◌, ◌-
 ghost use Rattle.ac_automaton.specs.Util.{bytes_of, GREATEST, Node, StateIdOverflow, state_count, stride};
 ghost use Rattle.ac_automaton.specs.Prelude.{AreNodes, plain_of};
 ghost use Rattle.ac_util.specs.declared.search.StartKind;
-ghost use Rattle.ac_automaton.specs.Builds.{IsRefusedExactly, RefusesBy, fits};
-ghost use Rattle.ac_engines.specs.Dfa.Builds.{IsDfaBuilt, IsDfaFrom, dfa_refusal, dfa_refusal_by, rows_refusal, usual_dfa_settings};
-ghost use Rattle.ac_engines.specs.Dfa.Filling.{FilledUpTo, MayFill};
+ghost use Rattle.ac_automaton.specs.Builds.{AnswersBuild, fits};
+ghost use Rattle.ac_engines.specs.Dfa.Builds.{AnswersDfaFrom, IsDfaBuilt, dfa_refusal, dfa_refusal_by, rows_refusal, usual_dfa_settings};
+ghost use Rattle.ac_engines.specs.Dfa.Filling.{AreFilled, MayFill};
 ghost use Rattle.ac_engines.specs.Dfa.Layouts.{table_rows};
 ghost use Rattle.ac_engines.specs.Dfa.{start_number};
 
@@ -154,9 +154,7 @@ impl Builder {
         alloc: A,
         patterns: &[&[u8]],
     ) -> Result<DFA<A>, BuildError>
-        ensures { MatchResult result
-            (IsDfaBuilt self.now (bytes_of patterns.now))
-            (RefusesBy (dfa_refusal_by self.now (bytes_of patterns.now)) (bytes_of patterns.now)) }
+        ensures { AnswersBuild (IsDfaBuilt self.now) (dfa_refusal_by self.now) (bytes_of patterns.now) result }
     {
         let nfa = self.noncontiguous.build(alloc, patterns)?;
         let alloc = nfa.allocator().clone()?;
@@ -183,10 +181,7 @@ impl Builder {
         alloc: A,
         nfa: &NFA<A>,
     ) -> Result<DFA<A>, BuildError>
-        ensures { MatchResult result
-            (λ dfa. IsDfaFrom self.now.start_kind self.now.byte_classes nfa.now.built nfa.now.wants_prefilter dfa
-            × (dfa_refusal self.now.start_kind self.now.byte_classes nfa.now.built ≡ None))
-            (IsRefusedExactly (dfa_refusal self.now.start_kind self.now.byte_classes nfa.now.built)) }
+        ensures { AnswersDfaFrom self.now nfa.now result }
     {
         let classes = classes_for(nfa, self.byte_classes);
         let len = len_for(nfa, self.start_kind, &classes)?;
@@ -275,8 +270,7 @@ fn filled_table<A: Allocator>(
 ) -> Result<Vec<StateID, A>, AllocError>
     requires may { (nodes : List Node) × MayFill filler.now nodes len }
     ensures long { IfOk result (λ table. length table.items ≡ len) }
-    ensures filled { IfOk result (λ table. (nodes : List Node) → MayFill filler.now nodes len
-        → FilledUpTo filler.now nodes len (length nodes) table.items) }
+    ensures filled { IfOk result (λ table. (nodes : List Node) → MayFill filler.now nodes len → AreFilled filler.now nodes len table.items) }
 {
     let mut table = vec![in alloc; StateID::must(DEAD); len]?;
     filler.fill(&mut table);

@@ -1,9 +1,10 @@
 //! Filling the rows of a DFA.
-ghost use Rattle.std.specs.Prelude.{◌≡◌, ◌≢◌, ◌⊎◌, ◌&&◌, if◌then◌else◌, ℕ, ◌+◌, ◌<◌, ◌≤◌, List, [], Some, length, slice_index_or};
+ghost use Rattle.std.specs.Prelude.{◌≡◌, ◌≢◌, ◌⊎◌, ◌&&◌, if◌then◌else◌, ℕ, ◌+◌, ◌<◌, ◌≤◌, List, [], length, slice_index_or};
+ghost use Rattle.std.specs.List.{CopiedTo, SameBelow, SameFrom};
 ghost use Rattle.ac_automaton.specs.Util.{begins_with_pattern, GREATEST, is_leftmost, Node};
-ghost use Rattle.ac_automaton.specs.Prelude.{transition_bytes_of, plain_of};
+ghost use Rattle.ac_automaton.specs.Prelude.{plain_of};
 ghost use Rattle.ac_util.specs.declared.search.Anchored;
-ghost use Rattle.ac_engines.specs.Dfa.Filling.{FilledUpTo, HasFilled, HasRow, HasSet, MayFill, MayFillRow, row_at, row_input};
+ghost use Rattle.ac_engines.specs.Dfa.Filling.{AreFilled, FilledUpTo, FillsRow, FillsState, HasFilled, HasRow, MayFill, MayFillRow, SetsOwn, row_input, row_of};
 ghost use Rattle.ac_engines.specs.Dfa.{anchored_shift};
 
 use ac_automaton::automaton::Automaton;
@@ -55,8 +56,7 @@ impl<'a, A: Allocator> Filler<'a, A> {
     /// Returns the number of a state in the table.
     fn number(&self, sid: StateID, anchored: Anchored) -> StateID
         requires { (nodes : List Node) × (size : ℕ) × (w : List ℕ) × HasRow self.now nodes size sid w }
-        ensures { (nodes : List Node) (size : ℕ) (w : List ℕ) → HasRow self.now nodes size sid w
-            → result ≡ row_at (row_input self.now nodes) anchored (Some w) }
+        ensures { (nodes : List Node) (size : ℕ) (w : List ℕ) → HasRow self.now nodes size sid w → result ≡ row_of self.now nodes anchored w }
     {
         StateID::must(first_row(self.numbers, sid) + self.anchored_shift(anchored))
     }
@@ -64,9 +64,7 @@ impl<'a, A: Allocator> Filler<'a, A> {
     /// Sets the own transitions of a state in one of its rows.
     fn set_own(&self, table: &mut [StateID], sid: StateID, anchored: Anchored)
         requires { (nodes : List Node) × (w : List ℕ) × HasRow self.now nodes (length table.old) sid w }
-        ensures { (nodes : List Node) (w : List ℕ) → HasRow self.now nodes (length table.old) sid w
-            → HasSet (row_input self.now nodes) anchored w (transition_bytes_of (row_input self.now nodes).built (Some w))
-            table.old table.new }
+        ensures { SetsOwn self.now sid anchored table.old table.new }
     {
         let row = self.number(sid, anchored).as_usize();
         for index in 0..self.nfa.own_len(sid) {
@@ -79,8 +77,7 @@ impl<'a, A: Allocator> Filler<'a, A> {
     /// the dead state where under a leftmost kind an empty pattern has begun the match.
     fn fill_start(&self, table: &mut [StateID])
         requires { (nodes : List Node) × MayFillRow self.now nodes (length table.old) 2 [] Anchored.No table.old }
-        ensures { (nodes : List Node) → MayFillRow self.now nodes (length table.old) 2 [] Anchored.No table.old
-            → HasFilled (row_input self.now nodes) Anchored.No [] table.old table.new }
+        ensures { FillsRow self.now 2 [] Anchored.No table.old table.new }
     {
         let sid = StateID::must(START);
         let start = self.number(sid, Anchored::No);
@@ -116,7 +113,7 @@ impl<'a, A: Allocator> Filler<'a, A> {
     {
         let from = first_row(self.numbers, self.nfa.fail(sid));
         let to = self.number(sid, Anchored::No).as_usize();
-        table.copy_within(from..from + self.classes.alphabet_len(), to);
+        copy_row(table, from, to, self.classes.alphabet_len());
         self.set_own(table, sid, Anchored::No);
     }
 
@@ -139,9 +136,7 @@ impl<'a, A: Allocator> Filler<'a, A> {
     fn fill_state(&self, table: &mut [StateID], sid: StateID)
         requires { (nodes : List Node) × (w : List ℕ) × HasRow self.now nodes (length table.old) sid w
             × FilledUpTo self.now nodes (length table.old) sid table.old }
-        ensures { (nodes : List Node) (w : List ℕ) → HasRow self.now nodes (length table.old) sid w
-            → FilledUpTo self.now nodes (length table.old) sid table.old
-            → FilledUpTo self.now nodes (length table.old) (sid + 1) table.new }
+        ensures { FillsState self.now sid table.old table.new }
     {
         match self.start_kind {
             StartKind::Unanchored => self.fill_row(table, sid, Anchored::No),
@@ -157,8 +152,7 @@ impl<'a, A: Allocator> Filler<'a, A> {
     pub(super) fn fill(&self, table: &mut [StateID])
         requires may { (nodes : List Node) × MayFill self.now nodes (length table.old) }
         requires blank { (k : ℕ) → slice_index_or table.old k 0 ≡ 0 }
-        ensures { (nodes : List Node) → MayFill self.now nodes (length table.old)
-            → FilledUpTo self.now nodes (length table.old) (length nodes) table.new }
+        ensures { (nodes : List Node) → MayFill self.now nodes (length table.old) → AreFilled self.now nodes (length table.old) table.new }
     {
         self.fill_state(table, StateID::must(START));
         for state in FIRST_INNER..self.nfa.states_len() {
@@ -177,6 +171,21 @@ fn lead_all(table: &mut [StateID], from: StateID, to: StateID, classes: usize)
 {
     for class in 0..classes {
         table[from.as_usize() + class] = to;
+    }
+}
+
+/// Lets each of so many classes lead from the row at `to` to where it leads from the row at `from`.
+fn copy_row(table: &mut [StateID], from: usize, to: usize, classes: usize)
+    requires from_within { from + classes ≤ length table.old }
+    requires to_within { to + classes ≤ length table.old }
+    requires apart { (from + classes ≤ to) ⊎ (to + classes ≤ from) }
+    ensures same_length { length table.new ≡ length table.old }
+    ensures copied { CopiedTo table.old table.new from to classes }
+    ensures below { SameBelow table.old table.new to }
+    ensures above { SameFrom table.old table.new (to + classes) }
+{
+    for class in 0..classes {
+        table[to + class] = table[from + class];
     }
 }
 

@@ -1,5 +1,5 @@
 //! Where the rows of a DFA stand.
-ghost use Rattle.std.specs.Prelude.{◌≡◌, ◌∷◌, [], ℕ, ◌+◌, ◌-◌, ◌*◌, ◌^◌, ◌≤◌, ◌<◌, IfOk, List, Some, length, slice_get};
+ghost use Rattle.std.specs.Prelude.{◌≡◌, ◌∷◌, [], ◌+◌, ◌-◌, ◌*◌, ◌^◌, ◌≤◌, ◌<◌, IfOk, List, Some, slice_get};
 ghost use Rattle.ac_automaton.specs.Util.{GREATEST, Node, state_count};
 ghost use Rattle.ac_util.specs.declared.search.StartKind;
 ghost use Rattle.ac_automaton.specs.declared.nfa.noncontiguous.state.TheConstants.{FIRST_INNER, START};

@@ -1,5 +1,5 @@
 //! The match lists of the rows of a DFA, one after another.
-ghost use Rattle.std.specs.Prelude.{◌≡◌, ◌++◌, ◌∷◌, [], IfOk, List, slice_get, Some};
+ghost use Rattle.std.specs.Prelude.{◌≡◌, ◌++◌, [], IfOk, List, slice_get, Some};
 ghost use Rattle.ac_automaton.specs.Util.{Node};
 ghost use Rattle.ac_automaton.specs.Prelude.{AreNodes};
 ghost use Rattle.ac_automaton.specs.declared.nfa.noncontiguous.state.TheConstants.{START};

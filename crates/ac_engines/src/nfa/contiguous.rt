@@ -1,9 +1,9 @@
 //! The contiguous NFA: states packed into one list of words, small and nearly as fast as a DFA.
-ghost use Rattle.std.specs.Prelude.{◌≡◌, MatchResult, drop};
+ghost use Rattle.std.specs.Prelude.{◌≡◌, drop};
 ghost use Rattle.std.proofs.Common.{inr, refl};
 ghost use Rattle.ac_util.specs.declared.search.Anchored.{Anchored};
 ghost use Rattle.ac_util.specs.Borrowed.{bytes_of};
-ghost use Rattle.ac_automaton.specs.Prelude.{IsState, RefusesBy};
+ghost use Rattle.ac_automaton.specs.Prelude.{AnswersBuild, IsState};
 ghost use Rattle.ac_engines.specs.Contiguous.{IsContiguous, IsContiguousState, Places, match_list_at};
 ghost use Rattle.ac_engines.specs.Contiguous.Builds.{IsContiguousBuilt, contiguous_refusal_by, usual_contiguous_settings};
 ghost use Rattle.ac_engines.specs.Listed.{contiguous-lists};
@@ -103,10 +103,7 @@ impl<A: Allocator + Clone> NFA<A> {
     /// # Errors
     /// As `Builder::build`.
     pub fn new(alloc: A, patterns: &[&[u8]]) -> Result<NFA<A>, BuildError>
-        ensures { MatchResult result
-            (IsContiguousBuilt usual_contiguous_settings (bytes_of patterns.now))
-            (RefusesBy (contiguous_refusal_by usual_contiguous_settings (bytes_of patterns.now))
-            (bytes_of patterns.now)) }
+        ensures { AnswersBuild (IsContiguousBuilt usual_contiguous_settings) (contiguous_refusal_by usual_contiguous_settings) (bytes_of patterns.now) result }
     {
         Builder::new().build(alloc, patterns)
     }
@@ -148,15 +145,17 @@ impl<A: Allocator> Automaton for NFA<A> {
 
     ghost LOOKS = { 2 };
 
-    ghost built = { λ n. n.built };
-
-    ghost stands = { λ n anchored s u. IsContiguousState n anchored s u };
-
-    ghost listed = { λ n s. match_list_at n s };
-
-    ghost wants_prefilter = { λ n. n.wants_prefilter };
+    ghost seen = { λ n. record {
+      built = n.built;
+      most = 2;
+      wants_prefilter = n.wants_prefilter;
+      stands = λ anchored s u. IsContiguousState n anchored s u;
+      listed = λ s. match_list_at n s;
+    } };
 
     ghost one_or_two = { inr refl };
+
+    ghost allows = { λ n. refl };
 
     ghost lists = { contiguous-lists };
 

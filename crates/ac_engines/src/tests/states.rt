@@ -22,7 +22,7 @@ fn state_after<A: Automaton>(
     anchored: Anchored,
     bytes: [u8; 3],
 ) -> Result<StateID, MatchError>
-    ensures { IfOk result (λ sid. IsState (A.stands automaton.now anchored) sid) }
+    ensures { IfOk result (λ sid. IsState ((A.seen automaton.now).stands anchored) sid) }
 {
     let mut looks = Looks::new();
     let start = automaton.start_state(anchored)?;

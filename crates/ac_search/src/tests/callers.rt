@@ -1,5 +1,6 @@
 //! Short callers, each proved to keep one fact of its own. CALLING.md goes through them.
 mod built;
+mod ends;
 mod labels;
 mod log_count;
 mod log_filter;

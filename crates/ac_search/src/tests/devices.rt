@@ -2,7 +2,7 @@
 ghost use Rattle.std.specs.Prelude.{◌≡◌, length};
 
 use super::{Triple, same};
-use crate::{AhoCorasick, MatchError, Sink, Source, StreamError, StreamFindIter};
+use crate::{AhoCorasick, Match, MatchError, Sink, Source, StreamError, StreamFindIter};
 use ac_util::tally::Tally;
 use std::alloc::Global;
 use std::io;
@@ -95,9 +95,9 @@ impl Model for Few {
 }
 
 impl Few {
-    pub(super) fn new(rt: HostRuntime, most: usize, room: usize, fails: bool) -> Few {
+    pub(super) fn new(alloc: Global, most: usize, room: usize, fails: bool) -> Few {
         Few {
-            text: Vec::new(rt.alloc()),
+            text: Vec::new(alloc),
             most,
             room,
             fails,
@@ -151,7 +151,7 @@ pub(super) fn end_of(ended: Result<(), StreamError>) -> End {
 }
 
 /// An item of an iterator: none, an error, or a match as its number, start and end.
-pub(super) fn item_of(item: Option<Result<crate::Match, StreamError>>) -> Option<Option<Triple>> {
+pub(super) fn item_of(item: Option<Result<Match, StreamError>>) -> Option<Option<Triple>> {
     match item {
         None => None,
         Some(Err(_)) => Some(None),
@@ -170,16 +170,57 @@ pub(super) fn compare_items(
     }
 }
 
+/// Returns two walks of one stream: by the call that tests the searcher, and by the one that doesn't.
+pub(super) fn iterators_of<'a>(
+    alloc: Global,
+    searcher: &'a AhoCorasick,
+    stream: &'a [u8],
+    most: usize,
+    good: usize,
+) -> Result<[StreamFindIter<'a, Pieces<'a>>; 2], StreamError> {
+    let tried = searcher.try_stream_find_iter(alloc, Pieces::new(stream, most, good))?;
+    let begun = searcher.stream_find_iter(alloc, Pieces::new(stream, most, good))?;
+    Ok([tried, begun])
+}
+
+/// How matches are exchanged: by a list, or by a closure that writes the text of the pattern.
+#[derive(Clone, Copy, Debug)]
+pub(super) enum Form {
+    List,
+    Closure,
+}
+
+pub(super) const FORMS: [Form; 2] = [Form::List, Form::Closure];
+
+/// Writes the text of a match's pattern, byte by byte.
+fn write_text(writer: &mut Few, texts: &[&[u8]], found: &Match) -> io::Result<()> {
+    if let Some(text) = texts.get(found.pattern().as_usize()) {
+        for byte in *text {
+            writer.write_some(&[*byte])?;
+        }
+    }
+    Ok(())
+}
+
 /// Replaces a stream, and returns how that ends and what was written.
-pub(super) fn exchanged_by(
+pub(super) fn exchanged_by<R: Source + Drop>(
     alloc: Global,
     searcher: &AhoCorasick,
-    mut reader: Pieces<'_>,
+    mut reader: R,
     mut writer: Few,
     texts: &[&[u8]],
+    form: Form,
 ) -> (End, Vec<u8>)
     requires { length texts.now ≡ length searcher.now.built.patterns }
 {
-    let ended = searcher.try_stream_replace_all(alloc, &mut reader, &mut writer, texts);
+    let ended = match form {
+        Form::List => searcher.try_stream_replace_all(alloc, &mut reader, &mut writer, texts),
+        Form::Closure => searcher.try_stream_replace_all_with(
+            alloc,
+            &mut reader,
+            &mut writer,
+            |found, _, writer: &mut Few| write_text(writer, texts, found),
+        ),
+    };
     (end_of(ended), writer.text)
 }

@@ -1,6 +1,6 @@
 use super::replace::{
     IN_BYTES, IN_TEXT, SENTENCE as SENTENCE_TEXT, clear_bytes, clear_text, marked_up_to,
-    numbered_up_to,
+    numbered_up_to, stop_bytes, stop_text,
 };
 use super::walks::LIKES;
 use super::{Triple, lengths_of, same, same_by, triple_of, walk_of};
@@ -17,7 +17,7 @@ use std::test::Fail;
 
 /// How a searcher is served: the engine, or None to let it choose, the dense depth, whether bytes share classes, and
 /// whether there may be a prefilter.
-#[derive(Clone, Copy)]
+#[derive(Clone, Copy, Debug)]
 pub(super) struct Engine {
     kind: Option<AhoCorasickKind>,
     dense_depth: usize,
@@ -25,8 +25,16 @@ pub(super) struct Engine {
     prefilter: bool,
 }
 
+/// The usual settings, by which a searcher chooses.
+pub(super) const USUAL: Engine = Engine {
+    kind: None,
+    dense_depth: 2,
+    byte_classes: true,
+    prefilter: true,
+};
+
 /// The engines, and that one is chosen.
-pub(super) const KINDS: [Option<AhoCorasickKind>; 4] = [
+const KINDS: [Option<AhoCorasickKind>; 4] = [
     None,
     Some(NoncontiguousNFA),
     Some(ContiguousNFA),
@@ -60,6 +68,22 @@ pub(super) fn engines(alloc: Global) -> Result<Vec<Engine>, AllocError> {
         }
     }
     Ok(engines)
+}
+
+/// Returns fewer of them, for searches that take long: the contiguous NFA with four dense depths, and the others, in which
+/// these have no effect, with one.
+pub(super) fn fewer_engines(alloc: Global) -> Result<Vec<Engine>, AllocError> {
+    let mut fewer = Vec::new(alloc);
+    for engine in &engines(alloc)? {
+        let depths: &[usize] = match engine.kind {
+            Some(ContiguousNFA) => &[0, 1, 2, 6],
+            _ => &[0],
+        };
+        if depths.contains(&engine.dense_depth) {
+            fewer.push(*engine)?;
+        }
+    }
+    Ok(fewer)
 }
 
 pub(super) const EACH: &[MatchKind] = &[Standard, LeftmostFirst, LeftmostLongest];
@@ -190,6 +214,8 @@ fn each_engine_exchanges_bytes_alike(rt: HostRuntime) -> Result<(), Fail> {
             assert!(rt; texts.len() == searcher.patterns_len());
             let replaced = searcher.try_replace_all_bytes(rt.alloc(), haystack, texts)?;
             same_by(&rt, replaced.as_slice(), wanted, &builder);
+            let replaced = searcher.replace_all_bytes(rt.alloc(), haystack, texts)?;
+            same_by(&rt, replaced.as_slice(), wanted, &builder);
         }
     }
     Ok(())
@@ -204,24 +230,38 @@ fn each_engine_exchanges_text_alike(rt: HostRuntime) -> Result<(), Fail> {
             assert!(rt; texts.len() == searcher.patterns_len());
             let replaced = searcher.try_replace_all(rt.alloc(), haystack, texts)?;
             same_by(&rt, replaced.as_str(), wanted, &builder);
+            let replaced = searcher.replace_all(rt.alloc(), haystack, texts)?;
+            same_by(&rt, replaced.as_str(), wanted, &builder);
         }
     }
     Ok(())
 }
 
-/// The pattern after whose first match no more is exchanged, and what is made of the sentence in text and in bytes.
-const CALLS: [(usize, &'static str, &'static [u8]); 3] = [
+/// What the destination begins with, the pattern after whose first match no more is exchanged, and what is made of the
+/// sentence in text and in bytes.
+type CallRow = (&'static str, usize, &'static str, &'static [u8]);
+
+const CALLS: [CallRow; 4] = [
     (
+        "pre",
         0,
         "pre0 the app to the appendage",
         b"append! the app to the appendage",
     ),
     (
+        "",
+        2,
+        "0 the 2 to the appendage",
+        b"append! the app! to the appendage",
+    ),
+    (
+        "pre",
         2,
         "pre0 the 2 to the appendage",
         b"append! the app! to the appendage",
     ),
     (
+        "pre",
         3,
         "pre0 the 2 to the 0age",
         b"append! the app! to the append!age",
@@ -233,10 +273,12 @@ fn each_engine_calls_closures_alike(rt: HostRuntime) -> Result<(), Fail> {
     for engine in &engines(rt.alloc())? {
         let builder = builder_of(engine, LeftmostFirst, Unanchored);
         let searcher = builder.build(rt.alloc(), WORDS)?;
-        for (last, text, bytes) in CALLS {
-            let numbered = numbered_up_to(rt.alloc(), &searcher, last)?;
+        for (beginning, last, text, bytes) in CALLS {
+            let (tried, numbered) = numbered_up_to(rt.alloc(), &searcher, beginning, last)?;
+            same_by(&rt, tried.as_str(), text, &builder);
             same_by(&rt, numbered.as_str(), text, &builder);
-            let marked = marked_up_to(rt.alloc(), &searcher, last)?;
+            let (tried, marked) = marked_up_to(rt.alloc(), &searcher, last)?;
+            same_by(&rt, tried.as_slice(), bytes, &builder);
             same_by(&rt, marked.as_slice(), bytes, &builder);
         }
     }
@@ -252,10 +294,41 @@ fn each_engine_lets_closures_clear(rt: HostRuntime) -> Result<(), Fail> {
         let mut text = String::from_str(rt.alloc(), "keep")?;
         searcher.try_replace_all_with(SENTENCE_TEXT, &mut text, clear_text)?;
         same_by(&rt, text.as_str(), "age", &builder);
+        text.push_str("keep")?;
+        searcher.replace_all_with(SENTENCE_TEXT, &mut text, clear_text)?;
+        same_by(&rt, text.as_str(), "age", &builder);
         let mut bytes = Vec::new(rt.alloc());
         bytes.extend_from_slice(b"keep")?;
         searcher.try_replace_all_with_bytes(SENTENCE, &mut bytes, clear_bytes)?;
         same_by(&rt, bytes.as_slice(), b"age", &builder);
+        bytes.extend_from_slice(b"keep")?;
+        searcher.replace_all_with_bytes(SENTENCE, &mut bytes, clear_bytes)?;
+        same_by(&rt, bytes.as_slice(), b"age", &builder);
+    }
+    Ok(())
+}
+
+/// The sentence without its first match.
+const STOPPED: &str = " the app to the appendage";
+
+/// A closure that appends nothing and stops at once has taken away the first match.
+#[test]
+fn each_engine_lets_closures_stop(rt: HostRuntime) -> Result<(), Fail> {
+    for engine in &engines(rt.alloc())? {
+        let builder = builder_of(engine, LeftmostFirst, Unanchored);
+        let searcher = builder.build(rt.alloc(), WORDS)?;
+        let mut text = String::new(rt.alloc());
+        searcher.try_replace_all_with(SENTENCE_TEXT, &mut text, stop_text)?;
+        same_by(&rt, text.as_str(), STOPPED, &builder);
+        text.clear();
+        searcher.replace_all_with(SENTENCE_TEXT, &mut text, stop_text)?;
+        same_by(&rt, text.as_str(), STOPPED, &builder);
+        let mut bytes = Vec::new(rt.alloc());
+        searcher.try_replace_all_with_bytes(SENTENCE, &mut bytes, stop_bytes)?;
+        same_by(&rt, bytes.as_slice(), STOPPED.as_bytes(), &builder);
+        bytes.clear();
+        searcher.replace_all_with_bytes(SENTENCE, &mut bytes, stop_bytes)?;
+        same_by(&rt, bytes.as_slice(), STOPPED.as_bytes(), &builder);
     }
     Ok(())
 }

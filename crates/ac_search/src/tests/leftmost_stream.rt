@@ -1,8 +1,10 @@
 //! Streams under the leftmost kinds: what is given, what is kept, and what is written where a reader fails.
-use super::devices::{ALWAYS, End, Few, Pieces, READ, compare_items, exchanged_by};
-use super::engines::KINDS;
-use super::same;
+use super::devices::{
+    ALWAYS, End, FORMS, Few, Pieces, READ, compare_items, exchanged_by, iterators_of,
+};
+use super::engines::fewer_engines;
 use super::stream::searcher_by;
+use super::{same, same_by};
 use crate::MatchKind;
 use crate::MatchKind::{LeftmostFirst, LeftmostLongest};
 use std::test::Fail;
@@ -13,12 +15,12 @@ const LONG: &[&[u8]] = &[b"b", b"abcdefghi", b"hz", b"abcdefgh"];
 
 const SHORT_FIRST: &[&[u8]] = &[b"a", b"abcdefghi", b"hz", b"abcdefgh"];
 
-const NESTED: &[&[u8]] = &[b"b", b"abc", b"abcd"];
+pub(super) const NESTED: &[&[u8]] = &[b"b", b"abc", b"abcd"];
 
 const APPENDIX: &[u8] = b"append the app to the appendage";
 
 /// Texts for three patterns.
-const TEXTS: [&[u8]; 3] = [b"1", b"2", b"3"];
+pub(super) const TEXTS: [&[u8]; 3] = [b"1", b"2", b"3"];
 
 /// Patterns, a match kind and a stream, after how many of its bytes the reader fails, the matches, and how many bytes are kept
 /// then.
@@ -78,19 +80,19 @@ const ROWS: &[Row] = &[
 
 #[test]
 fn matches_are_given_once_no_byte_changes_them(rt: HostRuntime) -> Result<(), Fail> {
-    for engine in KINDS {
+    for engine in &fewer_engines(rt.alloc())? {
         for (patterns, kind, stream, good, wanted, kept) in ROWS {
             let searcher = searcher_by(rt, patterns, *kind, engine)?;
-            let reader = Pieces::new(stream, 1, *good);
-            let mut matches = searcher.try_stream_find_iter(rt.alloc(), reader)?;
-            for m in *wanted {
-                compare_items(&rt, &mut matches, &[Some(Some(*m))]);
+            for mut matches in iterators_of(rt.alloc(), &searcher, stream, 1, *good)? {
+                for m in *wanted {
+                    compare_items(&rt, &mut matches, &[Some(Some(*m))]);
+                }
+                if *good != ALWAYS {
+                    compare_items(&rt, &mut matches, &[Some(None)]);
+                }
+                compare_items(&rt, &mut matches, &[None, None]);
+                same(&rt, matches.kept_len(), *kept);
             }
-            if *good != ALWAYS {
-                compare_items(&rt, &mut matches, &[Some(None)]);
-            }
-            compare_items(&rt, &mut matches, &[None, None]);
-            same(&rt, matches.kept_len(), *kept);
         }
     }
     Ok(())
@@ -111,18 +113,27 @@ const WRITTEN: &[Text] = &[
 
 #[test]
 fn what_is_settled_is_written(rt: HostRuntime) -> Result<(), Fail> {
-    for engine in KINDS {
+    for engine in &fewer_engines(rt.alloc())? {
         for (kind, stream, good, wanted) in WRITTEN {
             let searcher = searcher_by(rt, NESTED, *kind, engine)?;
-            let reader = Pieces::new(stream, 1, *good);
-            let writer = Few::new(rt, 1, ALWAYS, true);
             let end = if *good == ALWAYS {
                 End::Whole
             } else {
                 End::Io(READ)
             };
-            let (ended, written) = exchanged_by(rt.alloc(), &searcher, reader, writer, &TEXTS);
-            same(&rt, (ended, written.as_slice()), (end, *wanted));
+            for form in FORMS {
+                let reader = Pieces::new(stream, 1, *good);
+                let writer = Few::new(rt.alloc(), 1, ALWAYS, true);
+                let (ended, written) = exchanged_by(
+                    rt.alloc(),
+                    &searcher,
+                    reader,
+                    writer,
+                    &TEXTS,
+                    form,
+                );
+                same_by(&rt, (ended, written.as_slice()), (end, *wanted), engine);
+            }
         }
     }
     Ok(())

@@ -43,13 +43,21 @@ const LISTINGS: &[Listing] = &[
     (&[b"abc"], b"xyz", &[]),
 ];
 
-/// Returns the listing of a searcher as a row says it.
+/// Returns the listing of a searcher as a row says it, by the call that tests the input and by the one that doesn't.
+///
+/// # Errors
+/// Where they differ, and where the input isn't supported.
 fn listing_of(
     alloc: Global,
     searcher: &AhoCorasick,
     input: Input<'_>,
 ) -> Result<Vec<Triple>, Fail> {
-    Ok(triples_of(alloc, searcher.try_find_overlapping_iter(input)?)?)
+    let tried = triples_of(alloc, searcher.try_find_overlapping_iter(input)?)?;
+    let listed = triples_of(alloc, searcher.find_overlapping_iter(input))?;
+    if tried != listed {
+        return Err(Fail::new("another listing"));
+    }
+    Ok(listed)
 }
 
 /// The listing of `aaaa` from 1 to 4 by one letter a, two and three.

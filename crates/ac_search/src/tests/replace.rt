@@ -125,6 +125,16 @@ pub(super) fn drop_text(_: &Match, _: &str, _: &mut String) -> bool {
     true
 }
 
+/// Appends nothing, and asks for no more to be exchanged.
+pub(super) fn stop_text(_: &Match, _: &str, _: &mut String) -> bool {
+    false
+}
+
+/// Does the same in bytes.
+pub(super) fn stop_bytes(_: &Match, _: &[u8], _: &mut Vec<u8>) -> bool {
+    false
+}
+
 /// Takes away all that was appended, and what was there before.
 pub(super) fn clear_text(_: &Match, _: &str, destination: &mut String) -> bool {
     destination.clear();
@@ -145,33 +155,46 @@ fn push_number(found: &Match, destination: &mut String) -> bool {
     }
 }
 
-/// Returns the sentence after `pre`, with each match exchanged for the number of its pattern, up to one of this pattern.
+/// Returns the sentence after this beginning, with each match exchanged for the number of its pattern, up to one of this
+/// pattern: by the call that tests the searcher, and by the one that doesn't.
 pub(super) fn numbered_up_to(
     alloc: Global,
     searcher: &AhoCorasick,
+    beginning: &str,
     last: usize,
-) -> Result<String, Fail> {
-    let mut text = String::from_str(alloc, "pre")?;
-    searcher.try_replace_all_with(SENTENCE, &mut text, |found, _, destination| {
+) -> Result<(String, String), Fail> {
+    let mut tried = String::from_str(alloc, beginning)?;
+    searcher.try_replace_all_with(SENTENCE, &mut tried, |found, _, destination| {
         push_number(found, destination) && found.pattern().as_usize() != last
     })?;
-    Ok(text)
+    let mut text = String::from_str(alloc, beginning)?;
+    searcher.replace_all_with(SENTENCE, &mut text, |found, _, destination| {
+        push_number(found, destination) && found.pattern().as_usize() != last
+    })?;
+    Ok((tried, text))
 }
 
-/// Returns the bytes of the sentence with a mark after each match, up to one of this pattern.
+/// Appends a match with a mark.
+fn push_marked(slice: &[u8], destination: &mut Vec<u8>) -> bool {
+    destination.extend_from_slice(slice).is_ok() && destination.push(b'!').is_ok()
+}
+
+/// Returns the bytes of the sentence with a mark after each match, up to one of this pattern, by the same two calls.
 pub(super) fn marked_up_to(
     alloc: Global,
     searcher: &AhoCorasick,
     last: usize,
-) -> Result<Vec<u8>, Fail> {
-    let mut bytes = Vec::new(alloc);
+) -> Result<(Vec<u8>, Vec<u8>), Fail> {
     let sentence = SENTENCE.as_bytes();
-    searcher.try_replace_all_with_bytes(sentence, &mut bytes, |found, slice, destination| {
-        destination.extend_from_slice(slice).is_ok()
-            && destination.push(b'!').is_ok()
-            && found.pattern().as_usize() != last
+    let mut tried = Vec::new(alloc);
+    searcher.try_replace_all_with_bytes(sentence, &mut tried, |found, slice, destination| {
+        push_marked(slice, destination) && found.pattern().as_usize() != last
     })?;
-    Ok(bytes)
+    let mut bytes = Vec::new(alloc);
+    searcher.replace_all_with_bytes(sentence, &mut bytes, |found, slice, destination| {
+        push_marked(slice, destination) && found.pattern().as_usize() != last
+    })?;
+    Ok((tried, bytes))
 }
 
 #[test]

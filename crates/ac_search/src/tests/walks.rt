@@ -37,7 +37,7 @@ const NAMES: &[&[u8]] = &[b"Samwise", b"Sam"];
 
 const FOO: &[&[u8]] = &[b"foo", b"bar", b"quux"];
 
-const WALKS: [Row; 22] = [
+const WALKS: [Row; 27] = [
     (EACH, FRUIT, LIKES, &[(1, 13, 18), (0, 28, 33), (2, 43, 50)]),
     (STANDARD, PREFIXES, b"abcd", &[(0, 1, 2)]),
     (FIRST, PREFIXES, b"abcd", &[(1, 0, 3)]),
@@ -83,6 +83,16 @@ const WALKS: [Row; 22] = [
         b"aaa",
         &[(0, 0, 1), (0, 1, 2), (0, 2, 3)],
     ),
+    (STANDARD, &[b"bc", b"abcd"], b"abcd", &[(0, 1, 3)]),
+    (LEFTMOST, &[b"abcd", b"bc"], b"abce", &[(1, 1, 3)]),
+    (LEFTMOST, &[b"abcd", b"bc"], b"abcd", &[(0, 0, 4)]),
+    (
+        EACH,
+        &[b"he", b"she", b"his", b"hers"],
+        b"ushers",
+        &[(1, 1, 4)],
+    ),
+    (EACH, &[b""], b"ab", &[(0, 0, 0), (0, 1, 1), (0, 2, 2)]),
     (EACH, &[b""], b"", &[(0, 0, 0)]),
     (EACH, &[], b"abc", &[]),
 ];

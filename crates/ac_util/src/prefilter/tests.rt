@@ -1,4 +1,6 @@
 use super::*;
+use crate::looks::open;
+use crate::search::Input;
 use std::test::Fail;
 
 /// Returns the prefilter of a search for these patterns.
@@ -55,6 +57,35 @@ fn a_single_pattern_is_a_needle(rt: HostRuntime) -> Result<(), Fail> {
         answers,
         [Some(found), Some(Candidate::None), Some(Candidate::None)]
     );
+    Ok(())
+}
+
+#[test]
+fn a_tape_is_skipped_to_a_first_byte(rt: HostRuntime) -> Result<(), Fail> {
+    let input = Input::new(b"xxfoo");
+    let (tape, mut looks) = open(&input);
+    let prefilter = prefilter_of(rt.alloc(), &[b"foo", b"bar"], false)?;
+    let Some(Prefilter::Bytes(first)) = &prefilter else {
+        return Err(Fail::new("two patterns have no first bytes"));
+    };
+    assert_eq!(rt; tape.skip_to(*first, 0, 5, &mut looks), Some(2));
+    assert_eq!(rt; tape.skip_to(*first, 3, 5, &mut looks), None);
+    Ok(())
+}
+
+#[test]
+fn a_tape_is_searched_for_a_needle(rt: HostRuntime) -> Result<(), Fail> {
+    let input = Input::new(b"xxfoo");
+    let (tape, mut looks) = open(&input);
+    let prefilter = prefilter_of(rt.alloc(), &[b"foo"], false)?;
+    let Some(Prefilter::Needle(needle)) = &prefilter else {
+        return Err(Fail::new("a single pattern is no needle"));
+    };
+    assert_eq!(rt;
+        tape.find_needle(needle, 0, 5, &mut looks),
+        Some(Match::must(0, 2..5))
+    );
+    assert_eq!(rt; tape.find_needle(needle, 0, 4, &mut looks), None);
     Ok(())
 }
 

@@ -6,6 +6,7 @@ use std::alloc::{AllocError, Allocator, Global};
 use std::fmt::Debug;
 use std::test::Fail;
 
+mod buffers;
 mod builds;
 mod heaps;
 mod replaced;

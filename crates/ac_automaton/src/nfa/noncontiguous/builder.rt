@@ -1,7 +1,7 @@
 //! Builds of a noncontiguous NFA.
-ghost use Rattle.std.specs.Prelude.{◌≡◌, MatchResult};
+ghost use Rattle.std.specs.Prelude.{◌≡◌};
 ghost use Rattle.ac_util.specs.Borrowed.{bytes_of};
-ghost use Rattle.ac_automaton.specs.Builds.{IsEngineBuilt, RefusesBy, state_refusal, usual_engine_settings};
+ghost use Rattle.ac_automaton.specs.Builds.{AnswersBuild, IsEngineBuilt, state_refusal, usual_engine_settings};
 
 use super::NFA;
 use super::lists::TrieLists;
@@ -125,9 +125,7 @@ impl Builder {
         alloc: A,
         patterns: &[&[u8]],
     ) -> Result<NFA<A>, BuildError>
-        ensures { MatchResult result
-            (λ nfa. IsEngineBuilt self.now (bytes_of patterns.now) nfa)
-            (RefusesBy (state_refusal self.now (bytes_of patterns.now)) (bytes_of patterns.now)) }
+        ensures { AnswersBuild (IsEngineBuilt self.now) (state_refusal self.now) (bytes_of patterns.now) result }
     {
         let patterns = Patterns::new(alloc, patterns)?;
         let lists = TrieLists::of(&patterns, self.kind, self.ignores_case)?;

@@ -1,8 +1,8 @@
 //! Readers of a trie's states. The DFA and the contiguous NFA are built by these alone.
-ghost use Rattle.std.specs.Prelude.{◌≡◌, ◌≢◌, ℕ, ◌+◌, ◌<◌, ◌≤◌, List, ◌∷◌, Some, length, slice_get};
-ghost use Rattle.ac_automaton.specs.Util.{depth, failure, Node, state_count};
+ghost use Rattle.std.specs.Prelude.{◌≡◌, ◌≢◌, ℕ, ◌+◌, ◌<◌, ◌≤◌, List, length};
+ghost use Rattle.ac_automaton.specs.Util.{depth, Node, state_count};
 ghost use Rattle.ac_automaton.specs.Automata.{plain_of};
-ghost use Rattle.ac_automaton.specs.Readers.{AreNodes, HasOwn, IsOwn, transition_bytes_of};
+ghost use Rattle.ac_automaton.specs.Readers.{AreNodes, ForNode, HasOwn, IsFailureOf, IsNumbered, IsOwn, transition_bytes_of};
 
 use super::{ANCHORED_START, FIRST_INNER, NFA};
 use ac_util::patterns::Patterns;
@@ -25,8 +25,7 @@ impl<A: Allocator> NFA<A> {
     #[inline]
     pub fn depth(&self, sid: StateID) -> usize
         requires numbered { sid < state_count self.now.built.kind (plain_of self.now.built) }
-        ensures { (nodes : List Node) (u : Node) → AreNodes self.now nodes → slice_get nodes sid ≡ Some u
-            → result ≡ depth u }
+        ensures { ForNode (AreNodes self.now) sid (λ nodes u. result ≡ depth u) }
     {
         self.states()[sid.as_usize()].depth as usize
     }
@@ -39,10 +38,7 @@ impl<A: Allocator> NFA<A> {
     pub fn fail(&self, sid: StateID) -> StateID
         requires inner { FIRST_INNER ≤ sid }
         requires numbered { sid < state_count self.now.built.kind (plain_of self.now.built) }
-        ensures target { (nodes : List Node) (x : ℕ) (u : List ℕ) → AreNodes self.now nodes
-            → slice_get nodes sid ≡ Some (Some (x ∷ u))
-            → slice_get nodes result
-            ≡ Some (failure self.now.built.kind (plain_of self.now.built) (x ∷ u)) }
+        ensures target { IsFailureOf self.now sid result }
         ensures start { result ≢ ANCHORED_START }
         ensures back { result < sid }
     {
@@ -53,8 +49,7 @@ impl<A: Allocator> NFA<A> {
     #[inline]
     pub fn own_len(&self, sid: StateID) -> usize
         requires numbered { sid < state_count self.now.built.kind (plain_of self.now.built) }
-        ensures value { (nodes : List Node) (u : Node) → AreNodes self.now nodes → slice_get nodes sid ≡ Some u
-            → result ≡ length (transition_bytes_of self.now.built u) }
+        ensures value { ForNode (AreNodes self.now) sid (λ nodes u. result ≡ length (transition_bytes_of self.now.built u)) }
         ensures places { (index : ℕ) → index < result → HasOwn self.now sid index }
     {
         let state = &self.states()[sid.as_usize()];
@@ -69,9 +64,7 @@ impl<A: Allocator> NFA<A> {
     pub fn own(&self, sid: StateID, index: usize) -> (u8, StateID)
         requires numbered { sid < state_count self.now.built.kind (plain_of self.now.built) }
         requires within { HasOwn self.now sid index }
-        ensures { (nodes : List Node) (w : List ℕ) → AreNodes self.now nodes
-            → slice_get nodes sid ≡ Some (Some w)
-            → IsOwn self.now nodes w index result.0 result.1 }
+        ensures { (nodes : List Node) (w : List ℕ) → AreNodes self.now nodes → IsNumbered nodes sid w → IsOwn self.now nodes w index result.0 result.1 }
     {
         let state = &self.states()[sid.as_usize()];
         let next = &self.transitions()[state.transitions as usize + index];

@@ -1,5 +1,5 @@
 //! The states of a noncontiguous NFA, and the walks over them.
-ghost use Rattle.std.specs.Prelude.{◌≡◌, ◌≢◌, ℕ, ◌+◌, ◌-◌, ◌<◌, ◌≤◌, [], IfSome, Some, length, slice_get, slice_index};
+ghost use Rattle.std.specs.Prelude.{◌≡◌, ◌≢◌, ◌+◌, ◌-◌, ◌<◌, ◌≤◌, [], IfSome, Some, length, slice_get, slice_index};
 ghost use Rattle.std.specs.List.Sorted.{IsStrictlyIncreasing};
 ghost use Rattle.ac_automaton.specs.Util.{more_looks, Node, plain_byte, step};
 ghost use Rattle.ac_util.specs.Looks.{looks as looks_of_node};

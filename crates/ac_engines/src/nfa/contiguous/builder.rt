@@ -1,8 +1,8 @@
 //! Builds of a contiguous NFA.
-ghost use Rattle.std.specs.Prelude.{◌≡◌, MatchResult, None};
+ghost use Rattle.std.specs.Prelude.{◌≡◌};
 ghost use Rattle.ac_util.specs.Borrowed.{bytes_of};
-ghost use Rattle.ac_automaton.specs.Builds.{IsRefusedExactly, RefusesBy, fits};
-ghost use Rattle.ac_engines.specs.Contiguous.Builds.{IsContiguousBuilt, IsContiguousFrom, contiguous_refusal, contiguous_refusal_by, usual_contiguous_settings};
+ghost use Rattle.ac_automaton.specs.Builds.{AnswersBuild, fits};
+ghost use Rattle.ac_engines.specs.Contiguous.Builds.{AnswersContiguousFrom, IsContiguousBuilt, contiguous_refusal, contiguous_refusal_by, usual_contiguous_settings};
 
 use super::NFA;
 use super::format::check_words;
@@ -152,9 +152,7 @@ impl Builder {
         alloc: A,
         patterns: &[&[u8]],
     ) -> Result<NFA<A>, BuildError>
-        ensures { MatchResult result
-            (IsContiguousBuilt self.now (bytes_of patterns.now))
-            (RefusesBy (contiguous_refusal_by self.now (bytes_of patterns.now)) (bytes_of patterns.now)) }
+        ensures { AnswersBuild (IsContiguousBuilt self.now) (contiguous_refusal_by self.now) (bytes_of patterns.now) result }
     {
         let nfa = self.noncontiguous.build(alloc, patterns)?;
         let alloc = nfa.allocator().clone()?;
@@ -183,10 +181,7 @@ impl Builder {
         alloc: A,
         nfa: &noncontiguous::NFA<A>,
     ) -> Result<NFA<A>, BuildError>
-        ensures { MatchResult result
-            (λ packed. IsContiguousFrom self.now.dense_depth self.now.byte_classes nfa.now.built nfa.now.wants_prefilter packed
-            × (contiguous_refusal self.now.dense_depth self.now.byte_classes nfa.now.built ≡ None))
-            (IsRefusedExactly (contiguous_refusal self.now.dense_depth self.now.byte_classes nfa.now.built)) }
+        ensures { AnswersContiguousFrom self.now nfa.now result }
     {
         let classes = classes_for(nfa, self.byte_classes);
         let plan = Plan::new(nfa, &classes, self.dense_depth);

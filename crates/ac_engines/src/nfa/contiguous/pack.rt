@@ -1,11 +1,9 @@
 //! Packing the states of a trie.
-ghost use Rattle.std.specs.Prelude.{◌≡◌, ℕ, ◌<◌, ◌≤◌, ◌++◌, IfOk, List, Some, [], length, slice_get, slice_index_or};
+ghost use Rattle.std.specs.Prelude.{◌≡◌, ◌<◌, ◌≤◌, IfOk, List, [], length, slice_index_or};
+ghost use Rattle.ac_automaton.specs.Prelude.{ForNode};
 ghost use Rattle.ac_automaton.specs.Util.{alphabet_len, GREATEST, Node};
-ghost use Rattle.ac_engines.specs.Contiguous.{IsContiguous};
-ghost use Rattle.ac_engines.specs.Contiguous.Plans.{packed_of, places_of};
-ghost use Rattle.ac_engines.specs.Contiguous.Packs.{AreReady, HasPushedWords, HasPlaceIn, packed_state, state_words};
-ghost use Rattle.ac_engines.specs.Contiguous.Sizes.{packed_words};
-ghost use Rattle.ac_engines.specs.Contiguous.Words.{format_words};
+ghost use Rattle.ac_engines.specs.Contiguous.Plans.{all_words};
+ghost use Rattle.ac_engines.specs.Contiguous.Packs.{AreReady, HasPlaceIn, IsPacked, Pushes, PushesWhere, dead_words, packed_state, state_words};
 ghost use Rattle.ac_engines.specs.declared.nfa.contiguous.format.Format;
 
 use super::format::Format;
@@ -58,8 +56,7 @@ impl<'a, A: Allocator> Packer<'a, A> {
     /// `AllocError` where a request for memory is refused.
     fn list_edges(&self, edges: &mut Vec<Edge, A>, sid: StateID) -> Result<(), AllocError>
         requires state { HasPlaceIn self.now sid }
-        ensures { (nodes : List Node) (u : Node) → AreReady self.now nodes → slice_get nodes sid ≡ Some u
-            → IfOk result (λ _. edges.new.items ≡ (packed_state self.now nodes sid u).edges) }
+        ensures { ForNode (AreReady self.now) sid (λ nodes u. IfOk result (λ _. edges.new.items ≡ (packed_state self.now nodes sid u).edges)) }
     {
         let plan = self.plan;
         let nfa = plan.nfa;
@@ -77,8 +74,7 @@ impl<'a, A: Allocator> Packer<'a, A> {
     /// Returns the place of a state's failure target. The starts have none, which is given as 0.
     fn failure(&self, sid: StateID) -> u32
         requires state { HasPlaceIn self.now sid }
-        ensures { (nodes : List Node) (u : Node) → AreReady self.now nodes → slice_get nodes sid ≡ Some u
-            → result ≡ (packed_state self.now nodes sid u).failure }
+        ensures { ForNode (AreReady self.now) sid (λ nodes u. result ≡ (packed_state self.now nodes sid u).failure) }
     {
         if sid.as_usize() < FIRST_INNER {
             return 0;
@@ -91,8 +87,7 @@ impl<'a, A: Allocator> Packer<'a, A> {
     /// under a leftmost kind an empty pattern has begun the match, and from the others nowhere.
     fn default_target(&self, sid: StateID) -> u32
         requires state { HasPlaceIn self.now sid }
-        ensures { (nodes : List Node) (u : Node) → AreReady self.now nodes → slice_get nodes sid ≡ Some u
-            → result ≡ (packed_state self.now nodes sid u).default_target }
+        ensures { ForNode (AreReady self.now) sid (λ nodes u. result ≡ (packed_state self.now nodes sid u).default_target) }
     {
         let plan = self.plan;
         let nfa = plan.nfa;
@@ -112,8 +107,7 @@ impl<'a, A: Allocator> Packer<'a, A> {
     /// `AllocError` where a request for memory is refused.
     fn push(&self, buffers: &mut Buffers<A>, sid: StateID) -> Result<(), AllocError>
         requires state { HasPlaceIn self.now sid }
-        ensures { (nodes : List Node) (u : Node) → AreReady self.now nodes → slice_get nodes sid ≡ Some u
-            → IfOk result (λ _. buffers.new.words.items ≡ buffers.old.words.items ++ state_words self.now nodes sid u) }
+        ensures { ForNode (AreReady self.now) sid (λ nodes u. Pushes buffers.old buffers.new (state_words self.now nodes sid u) result) }
     {
         let plan = self.plan;
         self.list_edges(&mut buffers.edges, sid)?;
@@ -138,9 +132,7 @@ impl<'a, A: Allocator> Packer<'a, A> {
     /// `AllocError` where a request for memory is refused.
     fn push_dead(&self, buffers: &mut Buffers<A>) -> Result<(), AllocError>
         requires few { alphabet_len self.now.plan.classes ≤ 256 }
-        ensures { IfOk result (λ _. buffers.new.words.items ≡ buffers.old.words.items
-            ++ format_words Format.Dense (alphabet_len self.now.plan.classes)
-            (record { failure = 0; default_target = 0; edges = []; matches = [] })) }
+        ensures { Pushes buffers.old buffers.new (dead_words self.now.plan) result }
     {
         let state_fields = StateFields {
             failure: 0,
@@ -163,8 +155,7 @@ impl<'a, A: Allocator> Packer<'a, A> {
     /// `AllocError` where a request for memory is refused.
     fn push_where(&self, buffers: &mut Buffers<A>, front: bool) -> Result<(), AllocError>
         requires ready { (nodes : List Node) × AreReady self.now nodes }
-        ensures { (nodes : List Node) → AreReady self.now nodes
-            → IfOk result (λ _. HasPushedWords self.now nodes front buffers.old.words.items buffers.new.words.items) }
+        ensures { (nodes : List Node) → AreReady self.now nodes → PushesWhere self.now nodes front buffers.old buffers.new result }
     {
         let plan = self.plan;
         for state in START..plan.nfa.states_len() {
@@ -184,13 +175,9 @@ impl<'a, A: Allocator + Clone> Packer<'a, A> {
     /// `AllocError` where a request for memory is refused.
     pub(super) fn pack(&self, alloc: A, len: usize) -> Result<Vec<u32, A>, AllocError>
         requires ready { (nodes : List Node) × AreReady self.now nodes }
-        requires small { packed_words self.now.plan.trie.built self.now.plan.dense_depth
-            (alphabet_len self.now.plan.classes) ≤ GREATEST }
-        ensures long { IfOk result (λ words. length words.items
-            ≡ packed_words self.now.plan.trie.built self.now.plan.dense_depth (alphabet_len self.now.plan.classes)) }
-        ensures packed { IfOk result (λ words. (nodes : List Node) → AreReady self.now nodes
-            → IsContiguous (packed_of self.now.plan nodes self.now.numbers words.items)
-            (places_of self.now.plan nodes self.now.numbers)) }
+        requires small { all_words self.now.plan ≤ GREATEST }
+        ensures long { IfOk result (λ words. length words.items ≡ all_words self.now.plan) }
+        ensures packed { IfOk result (λ words. (nodes : List Node) → AreReady self.now nodes → IsPacked self.now nodes words.items) }
     {
         let mut buffers = Buffers {
             words: Vec::with_capacity(alloc.clone()?, len)?,

@@ -1,9 +1,10 @@
 //! Which form the states of a trie take, and where each is placed.
-ghost use Rattle.std.specs.Prelude.{◌≡◌, ℕ, ◌+◌, ◌≤◌, ◌∷◌, IfOk, List, Some, [], length, slice_get};
+ghost use Rattle.std.specs.Prelude.{◌≡◌, ◌+◌, ◌≤◌, ◌∷◌, IfOk, List, [], length};
+ghost use Rattle.ac_automaton.specs.Prelude.{ForNode};
 ghost use Rattle.ac_automaton.specs.Util.{alphabet_len, AreClasses, GREATEST, No, Node, SetsApart};
 ghost use Rattle.ac_automaton.specs.Automata.{matches_of};
-ghost use Rattle.ac_engines.specs.Contiguous.Plans.{HasPlaces, HasWords, MayPack, front_end, has_matches};
-ghost use Rattle.ac_engines.specs.Contiguous.Sizes.{node_format, node_words, packed_words};
+ghost use Rattle.ac_engines.specs.Contiguous.Plans.{HasPlaces, HasWords, MayPack, all_words, front_end, has_matches, size_of};
+ghost use Rattle.ac_engines.specs.Contiguous.Sizes.{node_format};
 
 use super::format::{Format, format_of, state_words};
 use ac_automaton::automaton::Automaton;
@@ -58,8 +59,7 @@ impl<'a, A: Allocator> Plan<'a, A> {
     /// Returns whether a state has matches.
     pub(super) fn is_match(&self, sid: StateID) -> bool
         requires state { HasWords self.now sid }
-        ensures { (nodes : List Node) (u : Node) → MayPack self.now nodes → slice_get nodes sid ≡ Some u
-            → result ≡ has_matches self.now nodes u }
+        ensures { ForNode (MayPack self.now) sid (λ nodes u. result ≡ has_matches self.now nodes u) }
     {
         self.nfa.is_match(sid)
     }
@@ -67,8 +67,7 @@ impl<'a, A: Allocator> Plan<'a, A> {
     /// Returns how many matches a state has.
     fn match_len(&self, sid: StateID) -> usize
         requires state { HasWords self.now sid }
-        ensures value { (nodes : List Node) (u : Node) → MayPack self.now nodes → slice_get nodes sid ≡ Some u
-            → result ≡ length (matches_of self.now.trie.built No u) }
+        ensures value { ForNode (MayPack self.now) sid (λ nodes u. result ≡ length (matches_of self.now.trie.built No u)) }
         ensures few { result ≤ GREATEST + 1 }
     {
         if self.nfa.is_match(sid) {
@@ -81,8 +80,7 @@ impl<'a, A: Allocator> Plan<'a, A> {
     /// Returns the form of a state.
     pub(super) fn format(&self, sid: StateID) -> Format
         requires state { HasWords self.now sid }
-        ensures { (nodes : List Node) (u : Node) → MayPack self.now nodes → slice_get nodes sid ≡ Some u
-            → result ≡ node_format self.now.trie.built self.now.dense_depth u }
+        ensures { ForNode (MayPack self.now) sid (λ nodes u. result ≡ node_format self.now.trie.built self.now.dense_depth u) }
     {
         if sid.as_usize() < FIRST_INNER {
             return Format::Dense;
@@ -98,8 +96,7 @@ impl<'a, A: Allocator> Plan<'a, A> {
     /// Returns how many words a state takes.
     fn words(&self, sid: StateID) -> u64
         requires state { HasWords self.now sid }
-        ensures value { (nodes : List Node) (u : Node) → MayPack self.now nodes → slice_get nodes sid ≡ Some u
-            → result ≡ node_words self.now.trie.built self.now.dense_depth (alphabet_len self.now.classes) u }
+        ensures value { ForNode (MayPack self.now) sid (λ nodes u. result ≡ size_of self.now nodes u) }
         ensures small { result ≤ GREATEST + 260 }
     {
         state_words(
@@ -121,10 +118,8 @@ impl<'a, A: Allocator> Plan<'a, A> {
     /// Returns how many words all states take, and the address at which the states that have matches end.
     pub(super) fn sizes(&self) -> Sizes
         requires may { (nodes : List Node) × MayPack self.now nodes }
-        ensures match_end { (nodes : List Node) → MayPack self.now nodes
-            → result.match_end ≡ front_end self.now nodes }
-        ensures all { result.all
-            ≡ packed_words self.now.trie.built self.now.dense_depth (alphabet_len self.now.classes) }
+        ensures match_end { (nodes : List Node) → MayPack self.now nodes → result.match_end ≡ front_end self.now nodes }
+        ensures all { result.all ≡ all_words self.now }
         ensures ordered { result.match_end ≤ result.all }
     {
         let dead = self.dead_words();
@@ -151,10 +146,8 @@ impl<'a, A: Allocator> Plan<'a, A> {
     pub(super) fn numbers(&self, alloc: A, match_end: u64) -> Result<Vec<StateID, A>, AllocError>
         requires may { (nodes : List Node) × MayPack self.now nodes }
         requires front { (nodes : List Node) → MayPack self.now nodes → match_end ≡ front_end self.now nodes }
-        requires small { packed_words self.now.trie.built self.now.dense_depth (alphabet_len self.now.classes)
-            ≤ GREATEST }
-        ensures { IfOk result (λ numbers. (nodes : List Node) → MayPack self.now nodes
-            → HasPlaces self.now nodes numbers.items) }
+        requires small { all_words self.now ≤ GREATEST }
+        ensures { IfOk result (λ numbers. (nodes : List Node) → MayPack self.now nodes → HasPlaces self.now nodes numbers.items) }
     {
         let mut numbers = first_numbers(alloc, self.nfa.states_len())?;
         let mut front = self.dead_words();

@@ -1,8 +1,8 @@
 //! Reading the words of a state.
-ghost use Rattle.std.specs.Prelude.{◌≡◌, ◌≢◌, ℕ, ◌+◌, ◌<◌, ◌≤◌, ◌++◌, [], drop, length, slice_index};
+ghost use Rattle.std.specs.Prelude.{◌≡◌, ◌≢◌, ℕ, ◌+◌, ◌<◌, ◌≤◌, [], drop, length, slice_index};
 ghost use Rattle.ac_util.specs.Counts.{more_looks};
 ghost use Rattle.ac_engines.specs.declared.nfa.contiguous.format.Format.{Format};
-ghost use Rattle.ac_engines.specs.Contiguous.Words.{AreNamed, BeginsWith, PackedState, first_of, match_list_words, named, target_by, transitions_of_state, word_of};
+ghost use Rattle.ac_engines.specs.Contiguous.Words.{AreMatchWords, AreNamed, BeginsWith, EachState, HasState, IsPlaceIn, LeadsBy, PackedState, SomeState, SparseLeadsBy, StateOf, transitions_of_state};
 
 use super::format::{CLASSES_A_WORD, HEAD};
 use super::transitions::Transitions;
@@ -50,8 +50,7 @@ impl<'a> State<'a> {
     pub(super) fn fail(self) -> u32
         requires { (format : Format) × (classes : ℕ) × (s : PackedState)
             × BeginsWith self.words.now format classes s }
-        ensures { (format : Format) (classes : ℕ) (s : PackedState) → BeginsWith self.entry.words.now format classes s
-            → result ≡ s.failure }
+        ensures { EachState self.entry.words.now (λ format classes s. result ≡ s.failure) }
     {
         self.words[1]
     }
@@ -61,11 +60,8 @@ impl<'a> State<'a> {
     /// A step reaches the transitions of a state by this alone.
     #[inline]
     pub(super) fn look(self, class: u8, looks: &mut Looks) -> Option<u32>
-        requires { (format : Format) × (classes : ℕ) × (s : PackedState)
-            × BeginsWith self.words.now format classes s × AreNamed s.edges × (class < classes) }
-        ensures target { (format : Format) (classes : ℕ) (s : PackedState)
-            → BeginsWith self.entry.words.now format classes s → AreNamed s.edges
-            → class < classes → result ≡ named (target_by s.default_target s.edges class) }
+        requires { SomeState self.words.now (λ format classes s. AreNamed s.edges × (class < classes)) }
+        ensures target { EachState self.entry.words.now (LeadsBy class result) }
         ensures counted { looks.new ≡ more_looks 1 looks.old }
     {
         looks.look();
@@ -75,10 +71,8 @@ impl<'a> State<'a> {
     /// Returns where a class leads, if anywhere.
     #[inline]
     fn target(self, class: u8) -> Option<u32>
-        requires { (format : Format) × (classes : ℕ) × (s : PackedState)
-            × BeginsWith self.words.now format classes s × AreNamed s.edges × (class < classes) }
-        ensures { (format : Format) (classes : ℕ) (s : PackedState) → BeginsWith self.entry.words.now format classes s
-            → AreNamed s.edges → class < classes → result ≡ named (target_by s.default_target s.edges class) }
+        requires { SomeState self.words.now (λ format classes s. AreNamed s.edges × (class < classes)) }
+        ensures { EachState self.entry.words.now (LeadsBy class result) }
     {
         let [form, only, _, _] = self.words[0].to_le_bytes();
         if form == DENSE {
@@ -100,8 +94,7 @@ impl<'a> State<'a> {
     fn sparse_target(self, transitions: usize, class: u8) -> Option<u32>
         requires { (classes : ℕ) × (s : PackedState) × BeginsWith self.words.now Format.Sparse classes s
             × (transitions ≡ length s.edges) }
-        ensures { (classes : ℕ) (s : PackedState) → BeginsWith self.entry.words.now Format.Sparse classes s
-            → AreNamed s.edges → transitions ≡ length s.edges → result ≡ named (target_by FAIL s.edges class) }
+        ensures { SparseLeadsBy self.entry.words.now transitions class result }
     {
         let (classes, targets) = self.words[HEAD..].split_at(transitions.div_ceil(CLASSES_A_WORD));
         for (index, word) in classes.iter().enumerate() {
@@ -117,8 +110,7 @@ impl<'a> State<'a> {
     /// for each class, to `FAIL` where it leads nowhere.
     pub(super) fn transitions(self, classes: usize) -> Transitions<'a>
         requires { (format : Format) × (s : PackedState) × BeginsWith self.words.now format classes s }
-        ensures { (format : Format) (s : PackedState) → BeginsWith self.entry.words.now format classes s
-            → result ≡ transitions_of_state format classes s }
+        ensures { StateOf self.entry.words.now classes (λ format s. result ≡ transitions_of_state format classes s) }
     {
         let [form, only, _, _] = self.words[0].to_le_bytes();
         if form == DENSE {
@@ -147,10 +139,8 @@ impl<'a> State<'a> {
     /// Returns how many matches the state has. It has to have some.
     #[inline]
     pub(super) fn match_len(self, classes: usize) -> usize
-        requires { (format : Format) × (s : PackedState)
-            × BeginsWith self.words.now format classes s × (s.matches ≢ []) }
-        ensures { (format : Format) (s : PackedState) → BeginsWith self.entry.words.now format classes s
-            → s.matches ≢ [] → result ≡ length s.matches }
+        requires { HasState self.words.now classes (λ s. s.matches ≢ []) }
+        ensures { StateOf self.entry.words.now classes (λ format s. s.matches ≢ [] → result ≡ length s.matches) }
     {
         let first = self.match_words(classes)[0];
         if first >= ONE_MATCH {
@@ -163,10 +153,8 @@ impl<'a> State<'a> {
     /// Returns one of its matches.
     #[inline]
     pub(super) fn match_pattern(self, classes: usize, index: usize) -> u32
-        requires { (format : Format) × (s : PackedState)
-            × BeginsWith self.words.now format classes s × (index < length s.matches) }
-        ensures { (format : Format) (s : PackedState) → BeginsWith self.entry.words.now format classes s
-            → index < length s.matches → result ≡ slice_index s.matches index }
+        requires { HasState self.words.now classes (λ s. index < length s.matches) }
+        ensures { StateOf self.entry.words.now classes (λ format s. index < length s.matches → result ≡ slice_index s.matches index) }
     {
         let words = self.match_words(classes);
         if words[0] >= ONE_MATCH {
@@ -179,10 +167,8 @@ impl<'a> State<'a> {
     /// Returns the words from those of the state's matches on. It has to have some, so it is dense or sparse.
     #[inline]
     fn match_words(self, classes: usize) -> &'a [u32]
-        requires { (format : Format) × (s : PackedState)
-            × BeginsWith self.words.now format classes s × (s.matches ≢ []) }
-        ensures { (format : Format) (s : PackedState) (words : BeginsWith self.entry.words.now format classes s)
-            → s.matches ≢ [] → result.now ≡ match_list_words s.matches ++ words.rest }
+        requires { HasState self.words.now classes (λ s. s.matches ≢ []) }
+        ensures { AreMatchWords self.entry.words.now classes result.now }
     {
         let [form, _, _, _] = self.words[0].to_le_bytes();
         if form == DENSE {
@@ -196,8 +182,7 @@ impl<'a> State<'a> {
 /// Returns at which of the four places of a word a class stands first, or 4 where it stands at none.
 #[inline]
 fn place_in(word: u32, class: u8) -> usize
-    ensures { (a b c d : ℕ) → a < 256 → b < 256 → c < 256 → d < 256 → word ≡ word_of a b c d
-        → result ≡ first_of a b c d class }
+    ensures { IsPlaceIn word class result }
 {
     let [first, second, third, fourth] = word.to_le_bytes();
     if first == class {

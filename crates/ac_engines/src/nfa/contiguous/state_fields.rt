@@ -1,8 +1,8 @@
 //! Writing the words of a state.
-ghost use Rattle.std.specs.Prelude.{◌≡◌, ℕ, ◌-◌, ◌<◌, ◌≤◌, ◌++◌, ◌∷◌, IfOk, [], length, map, min, slice_index};
-ghost use Rattle.std.specs.List.{All, range_with_len};
+ghost use Rattle.std.specs.Prelude.{◌≡◌, ◌-◌, ◌<◌, ◌≤◌, ◌++◌, ◌∷◌, IfOk, [], length, map, min, slice_index};
+ghost use Rattle.std.specs.List.{All};
 ghost use Rattle.std.specs.List.Sorted.{IsStrictlyIncreasing};
-ghost use Rattle.ac_engines.specs.Contiguous.Words.{Fits, HasTargets, class_words, match_list_words, one_words, format_words, target_by};
+ghost use Rattle.ac_engines.specs.Contiguous.Words.{Appends, Fits, HasTargets, class_words, match_list_words, dense_head, one_head, format_words, sparse_head};
 
 use super::format::{CLASSES_A_WORD, Format, MOST_SPARSE};
 use super::state::{DENSE, Edge, ONE, ONE_MATCH};
@@ -49,7 +49,7 @@ pub(super) fn push_state<A: Allocator>(
     requires ascending { IsStrictlyIncreasing (map (λ e. e.class) state_fields.edges) }
     requires within { All (λ e. e.class < classes) state_fields.edges }
     requires few_matches { length state_fields.matches < ONE_MATCH }
-    ensures { IfOk result (λ _. words.new.items ≡ words.old.items ++ format_words format classes state_fields.entry) }
+    ensures { Appends words.old.items words.new.items (format_words format classes state_fields.entry) result }
 {
     match format {
         Format::Dense => {
@@ -76,8 +76,7 @@ fn push_dense<A: Allocator>(
     requires few { classes ≤ 256 }
     requires ascending { IsStrictlyIncreasing (map (λ e. e.class) state_fields.now.edges) }
     requires within { All (λ e. e.class < classes) state_fields.now.edges }
-    ensures { IfOk result (λ _. words.new.items ≡ words.old.items ++ DENSE ∷ state_fields.now.failure
-        ∷ map (target_by state_fields.now.default_target state_fields.now.edges) (range_with_len 0 classes)) }
+    ensures { Appends words.old.items words.new.items (dense_head classes state_fields.now) result }
 {
     words.push(u32::from(DENSE))?;
     words.push(state_fields.failure)?;
@@ -107,7 +106,7 @@ fn push_one<A: Allocator>(
     state_fields: &StateFields<'_>,
 ) -> Result<(), AllocError>
     requires one { length state_fields.now.edges ≡ 1 }
-    ensures { IfOk result (λ _. words.new.items ≡ words.old.items ++ one_words state_fields.now.failure state_fields.now.edges) }
+    ensures { Appends words.old.items words.new.items (one_head state_fields.now) result }
 {
     let edge = state_fields.edges[0];
     words.push(u32::from_le_bytes([ONE, edge.class, 0, 0]))?;
@@ -126,8 +125,7 @@ fn push_sparse<A: Allocator>(
     state_fields: &StateFields<'_>,
 ) -> Result<(), AllocError>
     requires few { length state_fields.now.edges ≤ MOST_SPARSE }
-    ensures { IfOk result (λ _. words.new.items ≡ words.old.items ++ length state_fields.now.edges ∷ state_fields.now.failure
-        ∷ class_words (map (λ e. e.class) state_fields.now.edges) ++ map (λ e. e.target) state_fields.now.edges) }
+    ensures { Appends words.old.items words.new.items (sparse_head state_fields.now) result }
 {
     words.push(state_fields.edges.len() as u32)?;
     words.push(state_fields.failure)?;

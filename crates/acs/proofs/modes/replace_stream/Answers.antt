@@ -1,11 +1,11 @@
 use Rattle.std.proofs.Common.{◌∙◌, ℕ, List, ap, inl, inr, refl, subst, rules}
-use Rattle.ac_util.specs.Borrowed.{bytes_of}
-use Rattle.ac_util.specs.StreamReplacing.{FailsToReplace}
+use Rattle.ac_search.specs.Borrowed.{bytes_of}
+use Rattle.ac_search.specs.StreamReplacing.{FailsToReplace}
 use Rattle.acs.specs.declared.request.Mode.TheVariants.{StreamReplace}
 use Rattle.acs.specs.Faults.{stream_fault_of}
 use Rattle.acs.specs.Modes.{FailsToAnswer}
 use Rattle.acs.specs.Requests.{seconds}
-use Rattle.ac_automaton.proofs.Places.{refused-by}
+use Rattle.acs.proofs.Results.{refused-by}
 use Rattle.acs.proofs.ModeEnds.{refused-first, replacing-fails}
 use Rattle.acs.proofs.Pairs.{texts-fit}
 use Rattle.acs.proofs.modes.replace_stream.Goals as goal

@@ -1,7 +1,7 @@
 use Rattle.std.proofs.Common.{rules}
 use Rattle.acs.specs.Lines.{lines}
 use Rattle.acs.specs.Modes.{FailsToPrint}
-use Rattle.ac_automaton.proofs.Places.{refused-by}
+use Rattle.acs.proofs.Results.{refused-by}
 use Rattle.acs.proofs.Printing.{printing-begins}
 use Rattle.acs.proofs.output.print_all.Goals as goal
 

@@ -1,5 +1,5 @@
 use Rattle.std.specs.Prelude.{List}
-use Rattle.ac_util.specs.Occurrence.{Occurrence}
+use Rattle.ac_search.specs.Occurrence.{Occurrence}
 use Rattle.acs.specs.Printed.{GivesRest, IsPrinting}
 use Rattle.acs.proofs.output.print_all.Given as goal
 

@@ -1,6 +1,6 @@
 use Rattle.std.proofs.Common.{length-append, rules}
 use Rattle.std.proofs.KnownBytes.{Appends-nil}
-use Rattle.ac_automaton.proofs.Places.{refused-by}
+use Rattle.acs.proofs.Results.{refused-by}
 use Rattle.acs.proofs.Printing.{line-some}
 use Rattle.acs.proofs.output.print_found.Goals as goal
 

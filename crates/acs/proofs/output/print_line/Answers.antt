@@ -4,7 +4,7 @@ use Rattle.acs.specs.declared.fault.Fault.TheVariants.{Memory}
 use Rattle.acs.specs.declared.run.Outcome.TheVariants.{Found}
 use Rattle.acs.specs.Lines.{line, lines}
 use Rattle.acs.specs.Modes.{FailsToPrint, FailsToWrite}
-use Rattle.ac_automaton.proofs.Places.{refused-by}
+use Rattle.acs.proofs.Results.{refused-by}
 use Rattle.acs.proofs.Printing.{printing-adds, printing-fails, printing-wants, printing-writes}
 use Rattle.acs.proofs.output.print_line.Goals as goal
 

@@ -1,9 +1,9 @@
 use Rattle.std.proofs.Common.{◌∙◌, ◌+◌, ℕ, List, ap, arith, drop, subst, sym, rules}
-use Rattle.ac_automaton.specs.Streams.{GivesMatch, Streaming, matches_so_far}
+use Rattle.ac_search.specs.Streams.{GivesMatch, Streaming, matches_so_far}
 use Rattle.acs.specs.declared.run.Outcome.TheVariants.{Found}
 use Rattle.acs.specs.Lines.{lines}
 use Rattle.acs.specs.Modes.{FailsToPrint, FailsToWrite}
-use Rattle.ac_automaton.proofs.Places.{refused-by}
+use Rattle.acs.proofs.Results.{refused-by}
 use Rattle.acs.proofs.Printing.{printing-fails}
 use Rattle.acs.proofs.Streaming.{read-printed, read-printing}
 use Rattle.acs.proofs.output.print_read.Goals as goal

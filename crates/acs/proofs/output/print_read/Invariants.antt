@@ -1,6 +1,6 @@
 use Rattle.std.proofs.Common.{◌≡◌, ◌-◌, ◌≤◌, length}
-use Rattle.ac_util.specs.Device.{Writing}
-use Rattle.ac_automaton.specs.Streams.{matches_so_far}
+use Rattle.ac_search.specs.Device.{Writing}
+use Rattle.ac_search.specs.Streams.{matches_so_far}
 use Rattle.acs.specs.declared.run.Outcome.TheVariants.{Found}
 use Rattle.acs.specs.Printed.{PrintsSoFar}
 use Rattle.acs.proofs.output.print_read.Given as goal

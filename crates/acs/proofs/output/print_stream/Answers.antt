@@ -1,7 +1,7 @@
 use Rattle.std.proofs.Common.{refl, arith}
 use Rattle.std.proofs.lemmas.Grind.{common_steps}
 use Rattle.acs.specs.Faults.{stream_fault_of}
-use Rattle.ac_automaton.proofs.Places.{refused-by}
+use Rattle.acs.proofs.Results.{refused-by}
 use Rattle.acs.proofs.Streaming.{given-more, line-printed, line-stops, print-begins, print-stops, printed-more, read-stops, stream-ends}
 use Rattle.acs.proofs.output.print_stream.Goals as goal
 

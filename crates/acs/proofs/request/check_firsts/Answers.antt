@@ -1,7 +1,7 @@
 use Rattle.std.proofs.Common.{◌≡◌, ◌+◌, ◌∙◌, refl, arith, rules}
 use Rattle.std.specs.Slice.Iter.{chunks_exact_size}
-use Rattle.ac_util.proofs.LimitLemmas.{not_refused}
 use Rattle.acs.proofs.PairLimits.{first-short, limit_refusal-few, limit_refusal-many}
+use Rattle.acs.proofs.Results.{not_refused}
 use Rattle.acs.proofs.request.check_firsts.Goals as goal
 
 -- there are more pairs than pattern numbers

@@ -37,6 +37,7 @@ const FOUND: &[&str] = &[
     "replace longest noncontiguous she he|h, e and s|h, e and s",
     "replace std noncontiguous  -|ab|-a-b-",
     "replace std noncontiguous she |ushers|urs",
+    "stream std noncontiguous abc|xxabcabc|0 2 5/0 5 8/",
     "stream std noncontiguous append appendage app|append the app to the appendage|2 0 3/2 11 14/2 22 25/",
     "stream std noncontiguous apple maple Snapple|Nobody likes maple in their apple flavored Snapple.|1 13 18/0 28 33/2 43 50/",
     "stream first auto append appendage app|append the app to the appendage|0 0 6/2 11 14/0 22 28/",

@@ -18,7 +18,7 @@ pub(super) const KINDS: [(MatchKind, usize, usize); 3] = [
 ];
 
 /// The engines, and that one is chosen.
-const ENGINES: [Option<AhoCorasickKind>; 4] = [
+pub(super) const ENGINES: [Option<AhoCorasickKind>; 4] = [
     None,
     Some(NoncontiguousNFA),
     Some(ContiguousNFA),

@@ -59,14 +59,14 @@ fn each_call_has_room_in_some_heap(rt: HostRuntime) -> Result<(), Fail> {
 }
 
 /// A heap in which each searcher over the words has room.
-const AMPLE: usize = 1 << 16;
+pub(super) const AMPLE: usize = 1 << 16;
 
 /// How many bytes a searcher takes at most beside what it says that it takes: counts of those that share its parts, blocks
 /// that are rounded up, and lists with room for more.
 const BESIDE: usize = 1024;
 
 /// Takes all that is left of a heap.
-fn filled<'h>(
+pub(super) fn filled<'h>(
     alloc: Global,
     heap: &'h LocalHeap,
 ) -> Result<Vec<Vec<u8, &'h LocalHeap>>, AllocError> {

@@ -15,8 +15,7 @@ returns-then-is_done g c = search (rules, by_state-served, past_end-gives)
 module _ (g : Over) (c : After-open-tape g) where
   abbrev s : Scan
   s =
-      scan_of g.A.Automaton.stands g.A.Automaton.listed g.A.Automaton.built g.A.Automaton.LOOKS g.A.Automaton.wants_prefilter
-      c.args.automaton.now (input_of c.args.input).anchored
+      scan_of (g.A.Automaton.seen c.args.automaton.now) (input_of c.args.input).anchored
 
   abbrev span : Span
   span = record { start = (input_of c.args.input).start; end = (input_of c.args.input).end }
@@ -31,7 +30,7 @@ module _ (g : Over) (c : After-open-tape g) where
       let Goes : Option Reached → Type 0 =
       λ r. MatchOption r (here ≡ arrived s input.haystack span start input.start) (λ there. here ≡ there) in
       goes_on-there s input.haystack span start
-      (subst (λ (a : Anchored). g.A.Automaton.stands c.args.automaton.now a start (Some [])) c.get_anchored-anchored.ensures
+      (subst (λ (a : Anchored). (g.A.Automaton.seen c.args.automaton.now).stands a start (Some [])) c.get_anchored-anchored.ensures
       c.in_ok-start.ensures.2)
       (λ u stands. g.met.A.Automaton.lists c.args.automaton.now input.anchored start u stands)
       (c.in_ok-start.ensures.1)
@@ -47,8 +46,8 @@ module _ (g : Over) (c : After-open-tape g) where
             ∙ ap (arrived s input.haystack span start) w.start.ensures)
       ])
 
-pub next_item-found-requires-clause-listed : goal.next_item-found-requires-clause-listed
-next_item-found-requires-clause-listed g c = search (rules, goes_on)
+pub next_item-found-requires-clause-may : goal.next_item-found-requires-clause-may
+next_item-found-requires-clause-may g c = search (rules, goes_on)
 
 pub returns : goal.returns
 returns g c =

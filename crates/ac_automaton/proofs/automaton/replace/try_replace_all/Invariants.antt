@@ -14,4 +14,4 @@ invariant-loop-found g l =
     × AreInOrder (length l.text) (length l.texts) l.place l.found-iterator.rest
     × (string_bytes l.replaced ++ replaced_from l.text (bytes_of l.texts) l.place
     (whole_characters l.text l.found-iterator.rest)
-    ≡ replaced l.text (bytes_of l.texts) (exchanged_in_text (g.A.Automaton.built l.automaton) l.text))
+    ≡ replaced l.text (bytes_of l.texts) (exchanged_in_text (g.A.Automaton.seen l.automaton).built l.text))

@@ -10,4 +10,4 @@ invariant-loop-found g l =
     × (goal.iterator-loop-found g).is_finite l.found-iterator
     × AreInOrder (length l.haystack) (length l.texts) l.place l.found-iterator.rest
     × (l.replaced.items ++ replaced_from l.haystack (bytes_of l.texts) l.place l.found-iterator.rest
-    ≡ replaced l.haystack (bytes_of l.texts) (exchanged (g.A.Automaton.built l.automaton) l.haystack))
+    ≡ replaced l.haystack (bytes_of l.texts) (exchanged (g.A.Automaton.seen l.automaton).built l.haystack))

@@ -16,7 +16,7 @@ loop-found-init g c = search (rules, IsCharBoundary-start, exchanged-in_order, l
 pub returns-in_err-push_str : goal.returns-in_err-push_str
 returns-in_err-push_str g c =
     let text = c.args.text.now in
-    let built = g.A.Automaton.built c.args.automaton.now in
+    let built = (g.A.Automaton.seen c.args.automaton.now).built in
     stops-by_memory (replace_refusal built)
     (λ end. StepsLead g.F.FnMut (λ d. string_bytes d) text (exchanged_in_text built text) c.args.exchange
     c.args.destination.now end c.push_str.new.self) (c.push_str.new.self ≡ c.args.destination.now)
@@ -32,7 +32,7 @@ returns-in_err-push_str g c =
 pub loop-found-preserved-else-not-exchange : goal.loop-found-preserved-else-not-exchange
 loop-found-preserved-else-not-exchange g c =
     let text = c.args.text.now in
-    let patterns = length (g.A.Automaton.built c.args.automaton.now).patterns in
+    let patterns = length (g.A.Automaton.seen c.args.automaton.now).built.patterns in
     let found = c.in-Some.found in
     let rest = c.next.new.self.rest in
     let shown = c.range-then-cuts_no_character.ensures.value in
@@ -58,7 +58,7 @@ loop-found-preserved-else-not-exchange g c =
 pub loop-found-preserved : goal.loop-found-preserved
 loop-found-preserved g c =
     let text = c.args.text.now in
-    let patterns = length (g.A.Automaton.built c.args.automaton.now).patterns in
+    let patterns = length (g.A.Automaton.seen c.args.automaton.now).built.patterns in
     let found = c.in-Some.found in
     let rest = c.next.new.self.rest in
     let order = subst (λ (ms : List Occurrence). AreInOrder (length text) patterns c.loop-found.place ms)
@@ -80,7 +80,7 @@ pub range_from-requires : goal.range_from-requires
 range_from-requires g c = search (rules, in-None, in-Some+then-cuts_no_character+in_ok-push_str+then-not-exchange, is_whole-ends)
 
 -- as far as the last match that was exchanged
-leads-there : (g : Over) (c : After-push_str-2 g) → LeadsOn g.F.FnMut (λ d. string_bytes d) c.args.text.now (exchanged_in_text (g.A.Automaton.built c.args.automaton.now) c.args.text.now) c.args.exchange
+leads-there : (g : Over) (c : After-push_str-2 g) → LeadsOn g.F.FnMut (λ d. string_bytes d) c.args.text.now (exchanged_in_text (g.A.Automaton.seen c.args.automaton.now).built c.args.text.now) c.args.exchange
     c.args.destination.now c.match-next.place [] c.match-next.exchange c.match-next.destination
 leads-there g c =
     let text = c.args.text.now in
@@ -105,7 +105,7 @@ leads-there g c =
 pub returns-in_err-push_str-2 : goal.returns-in_err-push_str-2
 returns-in_err-push_str-2 g c =
     let text = c.args.text.now in
-    let built = g.A.Automaton.built c.args.automaton.now in
+    let built = (g.A.Automaton.seen c.args.automaton.now).built in
     let leads = leads-there g (goal.at.returns-in_err-push_str-2 g c).After-push_str-2 in
     stops-by_memory (replace_refusal built)
     (λ end. StepsLead g.F.FnMut (λ d. string_bytes d) text (exchanged_in_text built text) c.args.exchange
@@ -118,7 +118,7 @@ returns-in_err-push_str-2 g c =
 pub returns : goal.returns
 returns g c =
     let text = c.args.text.now in
-    let built = g.A.Automaton.built c.args.automaton.now in
+    let built = (g.A.Automaton.seen c.args.automaton.now).built in
     let leads = leads-there g (goal.at.returns g c).After-push_str-2 in (
       unrefused built text (input_of c.of_text.result) c.of_text.ensures.value c.in_ok-matches.ensures.0,
       leads-end c.push_str-2.new.self leads (c.in_ok-push_str-2.ensures.bytes

@@ -12,8 +12,8 @@ invariant-loop-found g l =
     × (goal.iterator-loop-found g).is_finite l.found-iterator
     × goal.F-IsAlwaysCallable g l.exchange
     × IsCharBoundary l.text l.place
-    × AreInOrder (length l.text) (length (g.A.Automaton.built l.automaton).patterns) l.place
+    × AreInOrder (length l.text) (length (g.A.Automaton.seen l.automaton).built.patterns) l.place
     l.found-iterator.rest
     × LeadsOn g.F.FnMut (λ d. string_bytes d) l.text
-    (exchanged_in_text (g.A.Automaton.built l.automaton) l.text) l.fn.exchange l.fn.destination l.place
+    (exchanged_in_text (g.A.Automaton.seen l.automaton).built l.text) l.fn.exchange l.fn.destination l.place
     (whole_characters l.text l.found-iterator.rest) l.exchange l.destination

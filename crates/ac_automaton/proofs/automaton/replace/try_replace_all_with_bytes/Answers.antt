@@ -13,19 +13,19 @@ loop-found-init g c = search (rules, exchanged-in_order, leads-begin)
 
 -- the gap was refused
 pub returns-in_err-extend_from_slice : goal.returns-in_err-extend_from_slice
-returns-in_err-extend_from_slice g c = grind (arith, common_steps, stops-by_memory, unrefused (g.A.Automaton.built c.args.automaton.now) (c.args.haystack.now) (input_of c.new.result) c.new.ensures.value c.in_ok-matches.ensures.0, leads-refused c.in-Some.found c.next.new.self.rest c.loop-found.invariant.4 c.in-Some.ensures.steps.gives c.extend_from_slice.new.self c.in_err-extend_from_slice.ensures.items)
+returns-in_err-extend_from_slice g c = grind (arith, common_steps, stops-by_memory, unrefused (g.A.Automaton.seen c.args.automaton.now).built (c.args.haystack.now) (input_of c.new.result) c.new.ensures.value c.in_ok-matches.ensures.0, leads-refused c.in-Some.found c.next.new.self.rest c.loop-found.invariant.4 c.in-Some.ensures.steps.gives c.extend_from_slice.new.self c.in_err-extend_from_slice.ensures.items)
 
 -- the gap was appended, and the call asks to go on
 pub loop-found-preserved : goal.loop-found-preserved
 loop-found-preserved g c =
     let order = subst (λ (ms : List Occurrence). AreInOrder (length c.args.haystack.now)
-    (length (g.A.Automaton.built c.args.automaton.now).patterns) c.loop-found.place ms)
+    (length (g.A.Automaton.seen c.args.automaton.now).built.patterns) c.loop-found.place ms)
     c.in-Some.ensures.steps.gives c.loop-found.invariant.3 in (
       tt,
       tt,
       search (rules, of_calls),
       subst (λ (place : ℕ). AreInOrder (length c.args.haystack.now)
-          (length (g.A.Automaton.built c.args.automaton.now).patterns) place c.next.new.self.rest)
+          (length (g.A.Automaton.seen c.args.automaton.now).built.patterns) place c.next.new.self.rest)
           (sym c.end-place.ensures) order.4,
       leads-turn c.in-Some.found c.next.new.self.rest c.loop-found.invariant.4 c.in-Some.ensures.steps.gives
           c.start.result c.start-in-loop-found.result c.end-place.result c.start.ensures
@@ -37,7 +37,7 @@ loop-found-preserved g c =
 
 -- as far as the last match that was exchanged
 leads-there : (g : Over) (c : After-extend_from_slice-2 g) → LeadsOn g.F.FnMut (λ d. d.items) c.args.haystack.now
-    (exchanged (g.A.Automaton.built c.args.automaton.now) c.args.haystack.now) c.args.exchange c.args.destination.now c.match-next.place [] c.match-next.exchange c.match-next.destination
+    (exchanged (g.A.Automaton.seen c.args.automaton.now).built c.args.haystack.now) c.args.exchange c.args.destination.now c.match-next.place [] c.match-next.exchange c.match-next.destination
 leads-there g c =
     elim c.match-next.branch [
       | in-None w ↦ leads-out c.loop-found.invariant.4 w.in-None.ensures.steps.gives.0 w.place-is w.exchange-is
@@ -59,14 +59,14 @@ returns-in_err-extend_from_slice-2 g c =
       arith,
       common_steps,
       stops-by_memory,
-      unrefused (g.A.Automaton.built c.args.automaton.now) c.args.haystack.now (input_of c.new.result) c.new.ensures.value c.in_ok-matches.ensures.0,
+      unrefused (g.A.Automaton.seen c.args.automaton.now).built c.args.haystack.now (input_of c.new.result) c.new.ensures.value c.in_ok-matches.ensures.0,
       leads-end_refused c.extend_from_slice-2.new.self leads c.in_err-extend_from_slice-2.ensures.items,
     )
 
 -- what follows the last match was appended
 pub returns : goal.returns
 returns g c = (
-  unrefused (g.A.Automaton.built c.args.automaton.now) c.args.haystack.now _ c.new.ensures.value c.in_ok-matches.ensures.0,
+  unrefused (g.A.Automaton.seen c.args.automaton.now).built c.args.haystack.now _ c.new.ensures.value c.in_ok-matches.ensures.0,
   leads-end c.extend_from_slice-2.new.self (leads-there g (goal.at.returns g c).After-extend_from_slice-2)
       (c.in_ok-extend_from_slice-2.ensures.items
       ∙ ap (λ (rest : List ℕ). c.match-next.destination.items ++ rest) (slice_to_end c.args.haystack.now c.match-next.place)),

@@ -10,7 +10,7 @@ invariant-loop-found g l =
     (goal.iterator-loop-found g).can_next l.found-iterator
     × (goal.iterator-loop-found g).is_finite l.found-iterator
     × goal.F-IsAlwaysCallable g l.exchange
-    × AreInOrder (length l.haystack) (length (g.A.Automaton.built l.automaton).patterns) l.place
+    × AreInOrder (length l.haystack) (length (g.A.Automaton.seen l.automaton).built.patterns) l.place
     l.found-iterator.rest
-    × LeadsOn g.F.FnMut (λ d. d.items) l.haystack (exchanged (g.A.Automaton.built l.automaton) l.haystack)
+    × LeadsOn g.F.FnMut (λ d. d.items) l.haystack (exchanged (g.A.Automaton.seen l.automaton).built l.haystack)
     l.fn.exchange l.fn.destination l.place l.found-iterator.rest l.exchange l.destination

@@ -13,14 +13,14 @@ returns g c =
     let new_reader = g.R.Source.told c.replace_stream.new.reader in
     let old = g.W.Sink.told c.args.writer.now in
     let new = g.W.Sink.told c.replace_stream.new.writer in
-    let texts = λ (e : ByTexts _). bytes_of e.texts.now in
+    let texts = λ (e : ByTexts). bytes_of e.texts.now in
     let list = bytes_of c.args.texts.now in
-    let before : Replacing _ _ = record { closure = c.in_ok-exchange.exchange; destination = c.args.writer.now } in
+    let before : Replacing _ _ = record { closure = c.new-exchange.result; destination = c.args.writer.now } in
     let after : Replacing _ _ =
     record { closure = c.replace_stream.new.exchange; destination = c.replace_stream.new.writer } in
-    let same = ap texts c.in_ok-exchange.ensures in
-    let clear = ap (λ (e : ByTexts _). e.gathered) c.in_ok-exchange.ensures in
-    let built : c.in_ok-finder.finder.built ≡ g.A.Automaton.built c.args.automaton.now =
+    let same = ap texts c.new-exchange.ensures in
+    let clear = ap (λ (e : ByTexts). e.gathered) c.new-exchange.ensures in
+    let built : c.in_ok-finder.finder.built ≡ (g.A.Automaton.seen c.args.automaton.now).built =
     ap (λ (v : Streaming). v.built) c.in_ok-finder.ensures.1 in
     answers-by _ _ c.in_ok-finder.ensures.0
     (λ done. subst (λ (b : Built). ReplacesStream b list old new ends reader new_reader) built

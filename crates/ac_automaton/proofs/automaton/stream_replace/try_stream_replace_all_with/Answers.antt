@@ -13,7 +13,7 @@ returns g c =
     let old = c.args.writer.now in
     let new = c.replace_stream.new.writer in
     let after : Replacing _ _ = record { closure = c.replace_stream.new.exchange; destination = new } in
-    let built : c.in_ok-finder.finder.built ≡ g.A.Automaton.built c.args.automaton.now =
+    let built : c.in_ok-finder.finder.built ≡ (g.A.Automaton.seen c.args.automaton.now).built =
     ap (λ (v : Streaming). v.built) c.in_ok-finder.ensures.1 in
     answers-by _ _ c.in_ok-finder.ensures.0
     (λ done. subst (λ (b : Built). ReplacesStreamWith told g.F.FnMut b c.args.closure old ends reader new_reader new) built

@@ -59,12 +59,14 @@ fn states_are_read(rt: HostRuntime) {
     assert!(rt; lists(&BARE, 131, &[0]));
 }
 
+/// Where a class leads nowhere, an anchored step answers the dead state, and an unanchored one goes on at the failure target.
 #[test]
 fn a_class_leads_to_its_target_or_to_none(rt: HostRuntime) {
     let state = State::at(&SPARSE, 0);
     let mut looks = Looks::new();
     assert_eq!(rt; state.look(20, &mut looks), Some(140));
     assert_eq!(rt; state.look(21, &mut looks), None);
+    assert_eq!(rt; state.fail(), 40);
 }
 
 #[test]

@@ -1,6 +1,6 @@
 use Rattle.ac_automaton.proofs.Gathering.{written-through}
 use Rattle.ac_automaton.proofs.automaton.gathered.Gathered.write.Goals as goal
 
-pub returns-then-piece-ge-LONG_PIECE : goal.returns-then-piece-ge-LONG_PIECE
-returns-then-piece-ge-LONG_PIECE g c =
+pub returns-then-piece-ge-ROOM : goal.returns-then-piece-ge-ROOM
+returns-then-piece-ge-ROOM g c =
     written-through _ c.args.piece.now c.write_all.result c.in_ok-write_held.ensures.0 c.in_ok-write_held.ensures.1 c.write_all.ensures

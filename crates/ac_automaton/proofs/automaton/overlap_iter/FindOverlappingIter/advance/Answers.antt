@@ -10,8 +10,7 @@ use Rattle.ac_automaton.proofs.automaton.overlap_iter.FindOverlappingIter.advanc
 module _ (g : Over) (c : After-self g) where
   abbrev s : Scan
   s =
-      scan_of g.A.Automaton.stands g.A.Automaton.listed g.A.Automaton.built g.A.Automaton.LOOKS g.A.Automaton.wants_prefilter
-      c.self.inside.scanner.automaton.now c.self.inside.scanner.anchored
+      scan_of (g.A.Automaton.seen c.self.inside.scanner.automaton.now) c.self.inside.scanner.anchored
 
   abbrev seen : Option Reached → Overlapping
   seen reached = overlapping_by s (in_memory c.self.inside.tape.bytes c.self.inside.scanner.span) reached (work_of c.self.inside.tape c.self.inside.looks)

@@ -11,8 +11,7 @@ use Rattle.ac_automaton.proofs.automaton.overlap_iter.FindOverlappingIter.new.Go
 module _ (g : Over) (c : After-open-tape g) where
   abbrev s : Scan
   s =
-      scan_of g.A.Automaton.stands g.A.Automaton.listed g.A.Automaton.built g.A.Automaton.LOOKS g.A.Automaton.wants_prefilter
-      c.args.automaton.now c.get_anchored-anchored.result
+      scan_of (g.A.Automaton.seen c.args.automaton.now) c.get_anchored-anchored.result
 
   abbrev span : Span
   span = record { start = (input_of c.args.input).start; end = (input_of c.args.input).end }

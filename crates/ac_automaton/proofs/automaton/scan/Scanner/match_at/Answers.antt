@@ -1,4 +1,4 @@
-use Rattle.std.proofs.Common.{◌≡◌, ℕ, arith, Some, slice_get, rules}
+use Rattle.std.proofs.Common.{◌≡◌, ◌+◌, ℕ, arith, Some, slice_get, rules}
 use Rattle.std.proofs.lemmas.Bool.{false≢true}
 use Rattle.ac_automaton.proofs.Heads.{HeadFits, found-due, found-none, found-not_due, head-fits, nil-from_not}
 use Rattle.ac_automaton.proofs.automaton.scan.Scanner.match_at.Given.{Over}
@@ -11,15 +11,15 @@ returns-then-not-is_match g c = search (rules, false≢true, found-none, nil-fro
 
 -- its first match is one of a pattern, and no longer than what was read
 fits : (g : Over) (c : After-is_match g) (p : ℕ)
-    → slice_get (g.A.Automaton.listed c.args.self.now.automaton.now c.args.cursor.state) 0 ≡ Some p
-    → HeadFits (g.A.Automaton.built c.args.self.now.automaton.now)
-    (g.A.Automaton.listed c.args.self.now.automaton.now c.args.cursor.state) c.args.self.now.span.start
-    c.args.cursor.at p
+    → slice_get ((g.A.Automaton.seen c.args.self.now.automaton.now).listed c.args.cursor.now.state) 0 ≡ Some p
+    → HeadFits (g.A.Automaton.seen c.args.self.now.automaton.now).built
+    ((g.A.Automaton.seen c.args.self.now.automaton.now).listed c.args.cursor.now.state) c.args.self.now.span.start
+    (c.args.self.now.front + c.args.cursor.now.at) p
 fits g c p first =
     let self = c.args.self.now in
-    let r = c.requires.state in
-    head-fits (g.A.Automaton.built self.automaton.now) _ self.span.start c.args.cursor.at self.anchored r.0 p
-    (g.met.A.Automaton.lists self.automaton.now self.anchored c.args.cursor.state r.0 r.1) r.2 first
+    let r = c.requires in
+    head-fits (g.A.Automaton.seen self.automaton.now).built _ self.span.start (self.front + c.args.cursor.now.at) self.anchored r.node p
+    (g.met.A.Automaton.lists self.automaton.now self.anchored c.args.cursor.now.state r.node r.stands) r.fits first
 
 pub pattern_len-len-requires : goal.pattern_len-len-requires
 pattern_len-len-requires g c = record {
@@ -35,6 +35,9 @@ overflow_sub-end-2 g c =
     let short =
     (fits g (goal.at.overflow_sub-end-2 g c).After-is_match _ c.match_pattern-pattern.ensures).short in
     omega (arith, c.pattern_len-len.ensures)
+
+pub overflow_add-end : goal.overflow_add-end
+overflow_add-end g c = omega (arith, c.requires.small)
 
 -- else the first match ends here
 pub returns : goal.returns

@@ -1,21 +1,12 @@
-use Rattle.std.proofs.Common.{◌≡◌, ◌-◌, ◌<◌, ◌≤◌}
-use Rattle.ac_automaton.specs.Prelude.{IsAlive, Scan, scan_of, ScanText, work_of}
-use Rattle.ac_automaton.proofs.ReadAhead.{IsAlong}
+use Rattle.std.proofs.Common.{◌-◌}
+use Rattle.ac_automaton.specs.Prelude.{scan_of}
+use Rattle.ac_automaton.proofs.ReadAhead.{ComesOn}
 use Rattle.ac_automaton.proofs.automaton.scan.Scanner.skip_ahead.Given as goal
 
--- the scan has come on, by whichever text it has come
-abbrev pub invariant-loop-place : goal.invariant-loop-place
-invariant-loop-place g l =
-    let s : Scan = scan_of g.A.Automaton.stands g.A.Automaton.listed g.A.Automaton.built g.A.Automaton.LOOKS g.A.Automaton.wants_prefilter
-    l.self.automaton.now l.self.anchored in record {
-      onward : l.fn.cursor.at ≤ l.at;
-      bytes : l.tape.bytes ≡ l.fn.tape.bytes;
-      unread : l.tape.place ≤ l.at;
-      before_end : l.at < l.self.span.end;
-      along : (t : ScanText) → t.bytes ≡ l.fn.tape.bytes → IsAlive s t l.fn.cursor
-          → IsAlong s t l.fn.cursor.at (work_of l.fn.tape l.fn.looks) (record { state = l.state; at = l.at })
-          (work_of l.tape l.looks);
-    }
+abbrev pub invariant-loop-here : goal.invariant-loop-here
+invariant-loop-here g l =
+    ComesOn (record { scan = scan_of (g.A.Automaton.seen l.self.automaton.now) l.self.anchored; span = l.self.span; front = l.self.front })
+    l.fn.cursor l.fn.tape l.fn.looks l.here l.tape l.looks
 
-abbrev pub decreases-loop-place : goal.decreases-loop-place
-decreases-loop-place g l = l.self.span.end - l.at
+abbrev pub decreases-loop-here : goal.decreases-loop-here
+decreases-loop-here g l = l.self.span.end - l.here.at

@@ -12,8 +12,7 @@ use Rattle.ac_automaton.proofs.automaton.scan.Scanner.take_due.Goals as goal
 module _ (g : Over) (c : Else-not-is_due g) where
   abbrev s : Scan
   s =
-      scan_of g.A.Automaton.stands g.A.Automaton.listed g.A.Automaton.built g.A.Automaton.LOOKS g.A.Automaton.wants_prefilter
-      c.args.self.now.automaton.now c.args.self.now.anchored
+      scan_of (g.A.Automaton.seen c.args.self.now.automaton.now) c.args.self.now.anchored
 
   counted : counts s.built s.anchored (c.args.reached.now.at - c.args.self.now.span.start) c.in_ok-pattern.pattern ≡ true
   counted =
@@ -24,7 +23,7 @@ module _ (g : Over) (c : Else-not-is_due g) where
 pub overflow_sub-span : goal.overflow_sub-span
 overflow_sub-span g c =
     let d = (goal.at.overflow_sub-span g c).Else-not-is_due in
-    let short = due-short (s g d) c.requires.listed.0 c.args.self.now.span c.requires.listed.1 c.in_ok-pattern.pattern
+    let short = due-short (s g d) c.requires.0 c.args.self.now.span c.requires.1 c.in_ok-pattern.pattern
     c.in_ok-pattern.rest c.in_ok-pattern.ensures.taken (counted g d) in
     omega (arith, short, c.pattern_len-len.ensures)
 

@@ -21,6 +21,7 @@ invariant_of-self g c =
       searched = grind (arith, common_steps);
       given = inv.given;
       all = inv.all;
+      failed = λ failed. absurd (grind (arith, common_steps));
       few = inv.few;
       in_buffer = omega arith;
       after = inv.after;

@@ -22,14 +22,14 @@ not-leftmost LeftmostLongest other = refl
 
 -- the buffer is as long as it should be
 long : (g : Over) (c : After-empty g)
-    → length c.resize.new.self.items ≡ buffer_len (g.A.Automaton.built c.args.automaton.now).patterns
+    → length c.resize.new.self.items ≡ buffer_len (g.A.Automaton.seen c.args.automaton.now).built.patterns
 long g c = grind (arith, common_steps)
 
 pub invariant_of-result : goal.invariant_of-result
 invariant_of-result g c =
-    let allowed = not-refused (g.A.Automaton.built c.args.automaton.now) c.in_ok-start.ensures.0
+    let allowed = not-refused (g.A.Automaton.seen c.args.automaton.now).built c.in_ok-start.ensures.0
     (λ e. c.if-min_pattern_len-eq0.false (c.min_pattern_len.ensures ∙ e)) in
-    let kind = (g.A.Automaton.built c.args.automaton.now).kind in
+    let kind = (g.A.Automaton.seen c.args.automaton.now).built.kind in
     let stops : c.match-matches.matches ≡ not (is_leftmost kind) = elim c.match-matches.branch [
       | in-Standard w ↦
           w.matches-is ∙ ap (λ (k : MatchKind). not (is_leftmost k)) (sym w.in-Standard.is ∙ c.match_kind.ensures)
@@ -39,7 +39,7 @@ invariant_of-result g c =
     ] in
     streams-begin _ _ allowed c.in_ok-start.start c.in_ok-start.ensures.1 _ (long g c)
     (let ok = c.resize.new.self.ok in let small = c.resize.new.self.small in omega arith) _ _ _ _ _ stops
-    (c.most_kept.ensures ∙ most-kept (g.A.Automaton.built c.args.automaton.now) _ _ stops c.max_pattern_len-longest.ensures)
+    (c.most_kept.ensures ∙ most-kept (g.A.Automaton.seen c.args.automaton.now).built _ _ stops c.max_pattern_len-longest.ensures)
     c.of.ensures c.zero.ensures c.empty.ensures
 
 pub returns : goal.returns

@@ -1,15 +1,21 @@
-use Rattle.std.proofs.Common.{length-append, arith, rules}
+use Rattle.std.proofs.Common.{◌≤◌, ◌++◌, ℕ, List, [], length, length-append, sym, subst, arith, rules}
 use Rattle.std.proofs.KnownBytes.{Consumes-nil}
 use Rattle.std.proofs.lemmas.List.{append-nil}
 use Rattle.std.proofs.lemmas.Grind.{common_steps}
+use Rattle.ac_automaton.specs.Util.{usize_max}
 use Rattle.ac_util.proofs.Devices.{fails-on}
+use Rattle.ac_automaton.specs.Prelude.{Streaming}
 use Rattle.ac_automaton.proofs.StreamEnds.{gives-last}
 use Rattle.ac_automaton.proofs.StreamFilling.{failed-as}
 use Rattle.ac_automaton.proofs.automaton.stream.StreamFinder.next.Goals as goal
 
 -- at first nothing was read
 pub loop-found-init : goal.loop-found-init
-loop-found-init g c = search (rules, Consumes-nil, append-nil)
+loop-found-init g c =
+    let small : length (c.args.self.now.bytes ++ []) ≤ usize_max =
+    subst (λ (w : List ℕ). length w ≤ usize_max) (sym (append-nil c.args.self.now.bytes))
+    (subst (λ (v : Streaming). length v.bytes ≤ usize_max) c.self.view_is c.self.invariant.small) in
+    search (rules, Consumes-nil, append-nil, small)
 
 -- the end was met before
 pub returns-in-Ended : goal.returns-in-Ended

@@ -1,4 +1,4 @@
-use Rattle.std.proofs.Common.{◌≡◌, ◌-◌, ◌++◌, ℕ, List, length}
+use Rattle.std.proofs.Common.{◌≡◌, ◌≤◌, ◌-◌, ◌++◌, ℕ, List, length}
 use Rattle.ac_util.specs.Device.{ReadsSome}
 use Rattle.ac_automaton.specs.Prelude.{KeepsGiven, Open}
 use Rattle.ac_automaton.proofs.automaton.stream.StreamFinder.next.Given as goal
@@ -12,6 +12,7 @@ invariant-loop-found g l =
       more : List ℕ;
       reads : ReadsSome (told l.fn.reader) (told l.reader) more;
       goes_on : l.fn.self.phase ≡ Open;
+      small : length (l.fn.self.bytes ++ more) ≤ usize_max;
       given : KeepsGiven l.fn.self (l.fn.self.bytes ++ more);
       same : l.self ≡ record l.fn.self { bytes = l.fn.self.bytes ++ more; front = l.self.front; kept = l.self.kept };
     }

@@ -10,13 +10,13 @@ use Rattle.ac_automaton.proofs.automaton.walk.FindIter.advance.Goals as goal
 moved : (g : Over) (c : After-after-self-inside g) (last : Option ℕ)
     → last ≡ last_after c.self.inside.last c.next_left-found.result
     → HasGone c.args.self.now c.next_left-found.result
-    (walking_of c.next_left-found.new.finder c.next_left-found.new.tape.bytes
+    (walking_of c.next_left-found.new.self.finder c.next_left-found.new.self.tape.bytes
     (record { start = c.after-self-inside.result; end = c.self.inside.span.end }) last c.self.inside.from.value
-    (work_of c.next_left-found.new.tape c.next_left-found.new.looks))
+    (work_of c.next_left-found.new.self.tape c.next_left-found.new.self.looks))
 moved g c last ends = grind (arith, common_steps, has-gone (c.self).invariant.under_way refl (c.next_left-found.ensures).next ((c.next_left-found.ensures).finds (c.self).inside.from.value))
 
 -- it is over the same bytes
-inside : (g : Over) (c : After-after-self-inside g) → c.self.inside.span.end ≤ length c.next_left-found.new.tape.bytes
+inside : (g : Over) (c : After-after-self-inside g) → c.self.inside.span.end ≤ length c.next_left-found.new.self.tape.bytes
 inside g c = grind (arith, common_steps)
 
 -- after a match

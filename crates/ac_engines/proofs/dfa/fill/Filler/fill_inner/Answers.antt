@@ -1,25 +1,43 @@
-use Rattle.std.proofs.Common.{◌≡◌, ◌+◌, ◌-◌, ◌≤◌, ◌∷◌, length, slice_index_or, ap, sym, subst, arith, ◌∙◌, Some, refl, slice_get}
-use Rattle.ac_automaton.specs.Util.{alphabet_len, failure, No}
+use Rattle.std.proofs.Common.{◌≡◌, ◌≤◌, ◌∷◌, length, slice_index_or, ap, sym, subst, arith, inl, inr, ◌∙◌, Some, refl, slice_get}
+use Rattle.std.proofs.lemmas.Option.{slice_get_within}
+use Rattle.ac_automaton.specs.Util.{alphabet_len, failure}
 use Rattle.ac_automaton.specs.Prelude.{AreNodes, plain_of, Trie}
 use Rattle.ac_engines.specs.Dfa.Filling.{Filling}
-use Rattle.ac_engines.proofs.Owning.{row-room}
 use Rattle.ac_engines.proofs.OneRow.{inner-filled}
-use Rattle.ac_engines.proofs.StateRows.{failed-to, row-of}
+use Rattle.ac_engines.proofs.StateRows.{classes-apart, classes-within, failed-to, row-of}
 use Rattle.ac_engines.proofs.dfa.fill.Filler.fill_inner.Goals as goal
 
--- the row lies in the table
-pub copy_within-requires-clause-dest_in_bounds : goal.copy_within-requires-clause-dest_in_bounds
-copy_within-requires-clause-dest_in_bounds g c =
+-- both rows lie in the table, and apart
+pub copy_row-requires : goal.copy_row-requires
+copy_row-requires g c =
+    let nodes = c.requires.0 in
     let m = c.requires.3 in
     let f = c.args.self.now in
     let size = length c.args.table.now in
-    let to = c.as_usize-to.ensures.value ∙ c.number.ensures c.requires.0 size c.requires.1 m.row in
-    let room = row-room f c.requires.0 size c.args.sid c.requires.1 m.row No in
+    let may = m.row.may in
+    let sid = c.args.sid in
+    let inner : 4 ≤ sid = elim m.row.place [
+      | inl start ↦ absurd (c.requires.2
+          (let same = sym m.row.named ∙ ap (slice_get nodes) start ∙ may.are_nodes.start in cc))
+      | inr inner ↦ inner
+    ] in
+    let count = may.laid.count in
+    let within = slice_get_within nodes sid (Some c.requires.1) m.row.named in
+    let back = c.fail.ensures.back in
+    let from = c.first_row-from.ensures.value ∙ ap (λ (f : Filling). slice_index_or f.numbers c.fail.result 0) c.self.view_is in
+    let to = c.as_usize-to.ensures.value ∙ c.number.ensures nodes size c.requires.1 m.row
+    ∙ sym (row-of f nodes size may sid (Some c.requires.1) m.row.named (λ other. absurd (omega arith))) in
     let len = c.alphabet_len.ensures.value ∙ ap (λ (f : Filling). alphabet_len f.classes) c.self.view_is in
-    let fits = m.row.may.room in
-    let from = c.first_row-from.result in
-    let within : c.as_usize-to.result + (from + c.alphabet_len.result - from) ≤ size = omega arith in
-    within
+    let target = classes-within f nodes size may c.fail.result c.fail.ensures.start (omega arith) in
+    let own = classes-within f nodes size may sid (λ other. absurd (omega arith)) (omega arith) in
+    record {
+      from_within = omega arith;
+      to_within = omega arith;
+      apart = elim (classes-apart f nodes size may c.fail.result sid back c.fail.ensures.start inner (omega arith)) [
+        | inl before ↦ inl (omega arith)
+        | inr after ↦ inr (omega arith)
+      ];
+    }
 
 -- the row of the failure target was copied, and own transitions were set over it
 pub returns : goal.returns
@@ -38,10 +56,9 @@ returns g c = λ nodes w some m.
     ∙ row-of f nodes size m.row.may c.fail.result target named c.fail.ensures.start in
     let to = c.as_usize-to.ensures.value ∙ c.number.ensures nodes size w m.row in
     let len = c.alphabet_len.ensures.value ∙ ap (λ (f : Filling). alphabet_len f.classes) c.self.view_is in
-    let copies = c.copy_within.ensures.by_index in
-    let set = c.set_own.ensures nodes w (rw c.copy_within.ensures.len m.row) in
-    let part = c.first_row-from.result + c.alphabet_len.result - c.first_row-from.result in
-    inner-filled f nodes size c.args.sid w m.row c.first_row-from.result c.as_usize-to.result part c.args.table.now
-    c.copy_within.new.self c.set_own.new.table some
-    (m.earlier refl c.fail.result target c.fail.ensures.back c.fail.ensures.start named) from to (omega arith)
-    c.copy_within.ensures.len (λ k from to. m.blank k to) copies.0 copies.1 copies.2 set
+    let set = c.set_own.ensures nodes w (rw c.copy_row.ensures.same_length m.row) in
+    inner-filled f nodes size c.args.sid w m.row c.first_row-from.result c.as_usize-to.result c.alphabet_len.result
+    c.args.table.now c.copy_row.new.table c.set_own.new.table some
+    (m.earlier refl c.fail.result target c.fail.ensures.back c.fail.ensures.start named) from to len
+    c.copy_row.ensures.same_length (λ k from to. m.blank k to) c.copy_row.ensures.copied c.copy_row.ensures.below
+    c.copy_row.ensures.above set

@@ -1,5 +1,6 @@
 use Rattle.std.proofs.Common.{rules, ◌∙◌, ◌++◌, ◌∷◌, [], length, map, ap, refl}
 use Rattle.std.specs.Slice.Iter.{iter_rest}
+use Rattle.std.proofs.lemmas.List.{append_assoc}
 use Rattle.std.proofs.lemmas.Iterator.{YieldsList-from_map, YieldsList-from_slice}
 use Rattle.std.proofs.lemmas.Iterator.Adapters.{items_from_extend}
 use Rattle.ac_engines.specs.Prelude.{class_words, Edge}
@@ -18,4 +19,5 @@ returns g c =
     ∙ ap (λ items. items ++ c.state_fields.inside.failure ∷ []) c.in_ok-push.ensures.items in
     let before = c.in_ok-push_classes.ensures ∙ ap (λ items. items ++ classes) head
     ∙ two-pushed c.args.words.now.items classes (length c.state_fields.inside.edges.now) c.state_fields.inside.failure in
-    rw (← c.state_fields.view_is) ((rw c.in_ok-extend.was at listed).0 ∙ ap (λ items. items ++ targets) before)
+    rw (← c.state_fields.view_is) ((rw c.in_ok-extend.was at listed).0 ∙ ap (λ items. items ++ targets) before
+    ∙ append_assoc c.args.words.now.items (length c.state_fields.inside.edges.now ∷ c.state_fields.inside.failure ∷ classes) targets)

@@ -36,8 +36,10 @@ look-requires c =
       packed_at r.0 o.stands.at c.args.anchored o.node,
       begins-at r.0 c.args.anchored c.loop-next.at o.node o.stands c.args.words.now c.at-state.result.words.now r.3
           c.at-state.ensures,
-      are-named r.0 o.stands.at o.stands.is_contiguous c.args.anchored o.node,
-      below r.0 c.args.anchored c.args.from r.1 c.args.class r.2 r.6 r.4 r.5,
+      (
+        are-named r.0 o.stands.at o.stands.is_contiguous c.args.anchored o.node,
+        below r.0 c.args.anchored c.args.from r.1 c.args.class r.2 r.6 r.4 r.5,
+      ),
     )
 
 module _ (c : After-look) (p : ContiguousView) (b : ℕ) (u : Node) (same : p.words ≡ c.args.words.now) (byte : b < 256)

@@ -13,7 +13,7 @@ bounds-self-class c =
     let r = c.requires in
     let low_byte = ap (λ (ns : List ℕ). slice_index_or ns 0 0) c.to_le_bytes.ensures in
     let dense = is-dense c.args.self.words.now r.1 r.2 r.0 r.3 (sym low_byte ∙ c.if-form.true) in
-    (leads-at c.args.self.words.now r.1 r.2 c.args.class dense r.5).within
+    (leads-at c.args.self.words.now r.1 r.2 c.args.class dense r.4.1).within
 
 -- it leads there, unless nowhere
 pub returns-then-target-eq-FAIL : goal.returns-then-target-eq-FAIL

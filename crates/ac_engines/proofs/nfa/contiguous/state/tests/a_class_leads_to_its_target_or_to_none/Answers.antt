@@ -7,7 +7,10 @@ begins : (words : List ℕ) → words ≡ sparse_words → BeginsWith words Spar
 begins words are = subst (λ (ns : List ℕ). BeginsWith ns Sparse 131 five_edges) (sym are) sparse-begins
 
 pub look-requires : goal.look-requires
-look-requires g c = (Sparse, 131, five_edges, begins _ c.at-state.ensures, five-named, omega arith)
+look-requires g c = (Sparse, 131, five_edges, begins _ c.at-state.ensures, (five-named, omega arith))
 
 pub look-requires-2 : goal.look-requires-2
-look-requires-2 g c = (Sparse, 131, five_edges, begins _ c.at-state.ensures, five-named, omega arith)
+look-requires-2 g c = (Sparse, 131, five_edges, begins _ c.at-state.ensures, (five-named, omega arith))
+
+pub fail-requires : goal.fail-requires
+fail-requires g c = (Sparse, 131, five_edges, begins _ c.at-state.ensures)

@@ -1,0 +1,119 @@
+-- A listing on its way: it has read on, and has given no item yet.
+use Rattle.std.proofs.Common.{◌≡◌, ◌⊎◌, ◌<◌, ℕ, [], IsTrue, ◌↔◌, Bool, false, length, ap, subst, sym, ◌∙◌, inl, inr, arith, Option, Some, None}
+use Rattle.std.proofs.lemmas.Bool.{cases_lt, false≢true}
+use Rattle.ac_automaton.specs.Util.{Counts, Node, Occurrence, Taped}
+use Rattle.ac_automaton.specs.Scans.{IsOver}
+use Rattle.ac_automaton.specs.Prelude.{Advances, Cursor, due_in, in_memory, IsAlive, Lists, ListsOn, MayAdvance, MayList, node, PassesNoMatch, Reached, Scan, ScannerView, ScansTo, ScanText, search_through, work_of}
+use Rattle.ac_automaton.specs.Overlaps.{HasGivenItem, TakesDue}
+use Rattle.ac_automaton.proofs.ListLoop.{HasComeOn, come-on, has-moved}
+use Rattle.ac_automaton.proofs.ReadOn.{scans-on}
+
+-- the listing has come on to here, and has given no item
+pub record HasListedOn (v : ScannerView) (start : Reached) (tape : Taped) (counts : Counts) (reached : Reached)
+    (new_tape : Taped) (new_counts : Counts) : Type 0 where
+  pub bytes : new_tape.bytes ≡ tape.bytes
+  pub on : HasComeOn v.scan tape.bytes v.span start reached
+  pub scans : ScansTo v.scan (in_memory tape.bytes v.span) start.at (work_of tape counts) reached.at
+      (work_of new_tape new_counts)
+
+-- where no item is given nothing is due, and the listing stays
+stays : {s : Scan} {t : ScanText} {reached left : Reached} (found : Option Occurrence) → HasGivenItem s t reached found left
+    → found ≡ None → (due_in s.listed (search_through s t) reached ≡ []) × (left ≡ reached)
+stays None gave none = gave.due
+stays (Some m) gave none = absurd (cc)
+
+-- where an automaton stands once a listing has come to here
+abbrev pub cursor_of : Reached → Cursor
+cursor_of reached = record { state = reached.state; at = reached.at }
+
+module _ {v : ScannerView} {start : Reached} {tape : Taped} {counts : Counts} (may : MayList v tape start)
+    {reached : Reached} {tape_here : Taped} {counts_here : Counts}
+    (on : HasListedOn v start tape counts reached tape_here counts_here) {found : Option Occurrence} {left : Reached}
+    (takes : TakesDue v reached found left) where
+  gave : HasGivenItem v.scan (in_memory tape.bytes v.span) reached found left
+  gave = takes tape.bytes on.on.leaves
+
+  -- what is given is the next item, or None at the end
+  lists-on : (found ≡ None → (reached.at ≡ v.span.end) ⊎ (node v.scan (in_memory tape.bytes v.span) reached.at ≡ None))
+      → ListsOn v start tape counts found left tape_here counts_here
+  lists-on over = record {
+    bytes = on.bytes;
+    moved = has-moved v.scan tape.bytes v.span on.on.leaves start found left may.standard may.inside on.on.as_many gave over;
+    scans = subst (λ (k : ℕ). ScansTo v.scan (in_memory tape.bytes v.span) start.at (work_of tape counts) k
+        (work_of tape_here counts_here)) (sym gave.at) on.scans;
+  }
+
+  pub gives-item : {m : Occurrence} → found ≡ Some m → ListsOn v start tape counts (Some m) left tape_here counts_here
+  gives-item {m} is =
+      subst (λ (r : Option Occurrence). ListsOn v start tape counts r left tape_here counts_here) is
+      (lists-on (λ none. let both = sym is ∙ none in absurd (cc)))
+
+  module _ (none : found ≡ None) where
+    -- where none is given the listing stays
+    stayed : left ≡ reached
+    stayed = (stays found gave none).1
+
+    nothing-due : due_in v.scan.listed (search_through v.scan (in_memory tape.bytes v.span)) reached ≡ []
+    nothing-due = (stays found gave none).0
+
+    -- in a state for the node that it has reached
+    pub stands-still : v.scan.stands left.state (node v.scan (in_memory tape.bytes v.span) reached.at)
+    stands-still = subst (λ (r : Reached). v.scan.stands r.state (node v.scan (in_memory tape.bytes v.span) reached.at)) (sym stayed)
+        on.on.leaves.reaches.there
+
+    module _ {test : Bool}
+        (says : IsTrue test ↔ IsOver v.span.end left.at (node v.scan (in_memory tape.bytes v.span) reached.at)) where
+      -- it has none left where nothing is left to read
+      pub ends-listing : IsTrue test → ListsOn v start tape counts None left tape_here counts_here
+      ends-listing holds =
+          subst (λ (r : Option Occurrence). ListsOn v start tape counts r left tape_here counts_here) none
+          (lists-on (λ nothing. elim (says.0 holds) [
+            | inl end ↦ let within = on.on.leaves.within in inl (omega (arith, end, gave.at, within))
+            | inr dead ↦ inr dead
+          ]))
+
+      -- and else may read on
+      module _ (fails : test ≡ false) where
+        alive : IsAlive v.scan (in_memory tape.bytes v.span) (cursor_of reached)
+        alive = record { is_at = on.on.leaves.reaches; living = λ dead. false≢true (sym fails ∙ says.1 (inr dead)) }
+
+        before-end : left.at < v.span.end
+        before-end = elim (cases_lt left.at v.span.end) [
+          | inl before ↦ before
+          | inr over ↦ absurd (false≢true (sym fails ∙ says.1 (inl over)))
+        ]
+
+        pub may-list-on : MayAdvance v tape_here (cursor_of left)
+        may-list-on =
+            let long = ap (length {A = ℕ}) on.bytes in
+            record {
+              alive = (
+                in_memory tape.bytes v.span,
+                sym on.bytes,
+                subst (λ (r : Reached). IsAlive v.scan (in_memory tape.bytes v.span) (cursor_of r)) (sym stayed) alive,
+              );
+              before_end = before-end;
+              inside = omega (arith, long, may.inside);
+              unread = omega (arith, on.scans.unread, gave.at);
+            }
+
+        -- so it comes to a state whose matches are all due
+        pub lists-next : {there : Cursor} {new_tape : Taped} {new_counts : Counts}
+            → Advances v (cursor_of left) tape_here counts_here there new_tape new_counts
+            → ((u : Node) → v.scan.stands there.state u
+            → Lists v.scan.built v.scan.anchored u (v.scan.listed there.state)) → {next : Reached}
+            → next ≡ record { state = there.state; at = there.at; rest = record { state = there.state; index = 0 } }
+            → HasListedOn v start tape counts next new_tape new_counts
+        lists-next {there} {new_tape} {new_counts} advances lists {next} is =
+            let passed = advances.passes (in_memory tape.bytes v.span) (sym on.bytes)
+            (subst (λ (r : Reached). IsAlive v.scan (in_memory tape.bytes v.span) (cursor_of r)) (sym stayed) alive) in
+            let here = subst (λ (k : ℕ). k < there.at) gave.at advances.moved in
+            let came = come-on v.scan tape.bytes v.span may.standard may.inside on.on.leaves nothing-due
+            (subst (λ (k : ℕ). PassesNoMatch v.scan (in_memory tape.bytes v.span) k (work_of tape_here counts_here) there
+            (work_of new_tape new_counts)) gave.at passed) advances.within here (lists _ passed.is_at.there) in
+            subst (λ (r : Reached). HasListedOn v start tape counts r new_tape new_counts) (sym is) (record {
+              bytes = advances.bytes ∙ on.bytes;
+              on = record { leaves = came.leaves; as_many = came.as_many ∙ on.on.as_many };
+              scans = scans-on on.scans (subst (λ (k : ℕ). ScansTo v.scan (in_memory tape.bytes v.span) k
+                  (work_of tape_here counts_here) there.at (work_of new_tape new_counts)) gave.at passed.scans);
+            })

@@ -1,0 +1,12 @@
+use Rattle.std.proofs.Common.{◌-◌}
+use Rattle.ac_automaton.specs.Prelude.{scan_of}
+use Rattle.ac_automaton.proofs.ReadAhead.{ComesOn}
+use Rattle.ac_automaton.proofs.automaton.scan.Scanner.find_needle.Given as goal
+
+abbrev pub invariant-loop-cursor : goal.invariant-loop-cursor
+invariant-loop-cursor g l =
+    ComesOn (record { scan = scan_of (g.A.Automaton.seen l.self.automaton.now) l.self.anchored; span = l.self.span; front = l.self.front })
+    l.fn.cursor l.fn.tape l.fn.looks l.cursor l.tape l.looks
+
+abbrev pub decreases-loop-cursor : goal.decreases-loop-cursor
+decreases-loop-cursor g l = l.self.span.end - l.cursor.at

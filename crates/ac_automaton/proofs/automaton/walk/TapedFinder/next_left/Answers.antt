@@ -1,0 +1,11 @@
+use Rattle.std.proofs.Common.{sym, ◌∙◌, arith}
+use Rattle.std.proofs.lemmas.Grind.{common_steps}
+use Rattle.ac_automaton.proofs.WalkLoop.{repeated}
+use Rattle.ac_automaton.proofs.automaton.walk.TapedFinder.next_left.Goals as goal
+
+-- a match that repeats lies in the span, so there is a place after it
+pub overflow_add-further : goal.overflow_add-further
+overflow_add-further g c = grind (arith, common_steps, repeated c.args.last c.find-first.ensures.found c.requires.beyond (sym c.repeats.ensures ∙ c.if-not-repeats.false))
+
+pub find-requires-clause-legal : goal.find-requires-clause-legal
+find-requires-clause-legal g c = grind (arith, common_steps, repeated c.args.last c.find-first.ensures.found c.requires.beyond (sym c.repeats.ensures ∙ c.if-not-repeats.false))

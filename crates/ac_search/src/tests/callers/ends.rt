@@ -1,0 +1,55 @@
+//! Callers with loops of their own over `next`, which end by a law, and which ask once more after the end.
+ghost use Rattle.std.specs.Prelude.{◌≡◌, None};
+ghost use Rattle.ac_search.specs.Built.{find_refusal};
+ghost use Rattle.ac_search.specs.Inputs.{input_of};
+
+use crate::laws::{ended_iterators_stay_ended, iterators_end};
+use crate::tests::devices::{ALWAYS, Pieces};
+use crate::tests::same;
+use crate::{AhoCorasick, Input, Match, Source, StreamError, StreamFindIter};
+use std::alloc::Global;
+use std::test::Fail;
+
+/// Returns how many matches a walk has, and what its iterator returns after the end.
+fn walk_past_end(searcher: &AhoCorasick, input: Input<'_>) -> (usize, Option<Match>)
+    requires supported { find_refusal searcher.now.built (input_of input) ≡ None }
+    ensures ended { result.1 ≡ None }
+{
+    iterators_end();
+    ended_iterators_stay_ended();
+    let mut matches = searcher.find_iter(input);
+    let mut count = 0usize;
+    while let Some(_) = matches.next() {
+        count = count.saturating_add(1);
+    }
+    (count, matches.next())
+}
+
+/// Returns how many items a stream gives, and what its iterator returns after the end.
+fn stream_past_end<R: Source + Drop>(
+    mut matches: StreamFindIter<'_, R, Global, Global>,
+) -> (usize, Option<Result<Match, StreamError>>)
+    ensures ended { result.1 ≡ None }
+{
+    iterators_end();
+    ended_iterators_stay_ended();
+    let mut count = 0usize;
+    while let Some(_) = matches.next() {
+        count = count.saturating_add(1);
+    }
+    (count, matches.next())
+}
+
+#[test]
+fn nothing_follows_an_end(rt: HostRuntime) -> Result<(), Fail> {
+    let searcher = AhoCorasick::new(rt.alloc(), &[b"ab"])?;
+    let (matches, after) = walk_past_end(&searcher, Input::new(b"abcab"));
+    same(&rt, (matches, after.is_none()), (2, true));
+    for (good, items) in [(ALWAYS, 2), (3, 2)] {
+        let reader = Pieces::new(b"abcab", 1, good);
+        let stream = searcher.try_stream_find_iter(rt.alloc(), reader)?;
+        let (given, after) = stream_past_end(stream);
+        same(&rt, (given, after.is_none()), (items, true));
+    }
+    Ok(())
+}
