@@ -2,9 +2,10 @@
 use Rattle.std.specs.Prelude.{◌≡◌, ℕ, Bool, List, None, Option, Result, MatchResult, Some, String, string_bytes, ⊤}
 use Rattle.std.specs.Borrow.{Bor, MutBor}
 use Rattle.std.specs.Fn.{Mut}
+use Rattle.std.specs.declared.io.Error.{Error}
 use Rattle.std.specs.declared.vec.Vec.{Vec}
 use Rattle.ac_util.specs.declared.search.Anchored.{Anchored}
-use Rattle.ac_automaton.specs.Util.{AnswersUnless, AnswersWhole, Built, exchanged, exchanged_in_text, InputView, IsStreamRefused, find_refusal, find_result, MakesSteps, MatchError, Occurrence, overlapping_iter_refusal, overlapping_refusal, replace_refusal, replaced, ReplaceError, search_in, start_refusal, StepsLead, stream_refusal, StreamError}
+use Rattle.ac_automaton.specs.Util.{AnswersStream, AnswersUnless, AnswersWhole, Built, FailsToReplace, FailsToReplaceWith, Reading, ReplacesStream, ReplacesStreamWith, Writing, exchanged, exchanged_in_text, InputView, IsStreamRefused, find_refusal, find_result, MakesSteps, MatchError, Occurrence, overlapping_iter_refusal, overlapping_refusal, replace_refusal, replaced, ReplaceError, search_in, start_refusal, StepsLead, stream_refusal, StreamError}
 use Rattle.ac_automaton.specs.declared.automaton.overlap.OverlappingState.{OverlappingState}
 use Rattle.ac_automaton.specs.Automata.{AutomatonView}
 use Rattle.ac_automaton.specs.Iterators.{Walking, initial_walk}
@@ -64,3 +65,33 @@ MakesStepsBy closures holds chosen built haystack closure old new result =
 abbrev pub BeginsStream : {X : Type 0} → Built → (X → Type 0) → Result X StreamError → Type 0
 BeginsStream built Begun result =
     MatchResult result (λ x. (stream_refusal built ≡ None) × Begun x) (IsStreamRefused (stream_refusal built) ⊤)
+
+-- a closure of a type that is called with a match, its slice and a destination of type D, and answers by A
+abbrev pub Calling : Type 0 → Type 0 → Type 0 → Type 1
+Calling F D A = Mut F (Bor Occurrence × (Bor (List ℕ) × (MutBor D × Unit {0}))) (A × (MutBor D × Unit {0}))
+
+-- a replacement by a closure in bytes, and in a text whose matches cut no character
+abbrev pub ExchangesBytes : {F Z : Type 0} → Calling F (Vec ℕ Z) Bool → Built → List ℕ → F → Vec ℕ Z → Vec ℕ Z
+    → Result (Unit {0}) ReplaceError → Type 0
+ExchangesBytes closures = MakesStepsBy closures (λ d. d.items) exchanged
+
+abbrev pub ExchangesText : {F Z : Type 0} → Calling F (String Z) Bool → Built → List ℕ → F → String Z → String Z
+    → Result (Unit {0}) ReplaceError → Type 0
+ExchangesText closures = MakesStepsBy closures (λ d. string_bytes d) exchanged_in_text
+
+-- a reader's and a writer's type, by what they were told; and what is replaced between them
+module _ {R W : Type 0} (reads : R → Reading) (writes : W → Writing) (ends : Bool) (built : Built) where
+  -- the stream was replaced by a list of texts, or that has failed; where it is refused nothing was read or written
+  abbrev pub AnswersStreamTexts : List (List ℕ) → R → R → W → W → Result (Unit {0}) StreamError → Type 0
+  AnswersStreamTexts texts reader new_reader writer new_writer result =
+      AnswersStream (stream_refusal built) ((new_reader ≡ reader) × (new_writer ≡ writer))
+      (ReplacesStream built texts (writes writer) (writes new_writer) ends (reads reader) (reads new_reader))
+      (FailsToReplace built texts (writes writer) (writes new_writer) ends (reads reader) (reads new_reader)) result
+
+  -- the same by a closure
+  abbrev pub AnswersStreamCalls : {F : Type 0} → Calling F W (Result (Unit {0}) Error) → F → R → R → W → W
+      → Result (Unit {0}) StreamError → Type 0
+  AnswersStreamCalls closures closure reader new_reader writer new_writer result =
+      AnswersStream (stream_refusal built) ((new_reader ≡ reader) × (new_writer ≡ writer))
+      (ReplacesStreamWith writes closures built closure writer ends (reads reader) (reads new_reader) new_writer)
+      (FailsToReplaceWith writes closures built closure writer ends (reads reader) (reads new_reader) new_writer) result

@@ -1,7 +1,8 @@
 -- What contracts say of the states of an automaton, by the node that a state stands for.
-use Rattle.std.specs.Prelude.{◌≡◌, ℕ, Bool, List, ◌++◌, map}
+use Rattle.std.specs.Prelude.{◌≡◌, ◌↔◌, ℕ, Bool, List, ◌++◌, IfSome, IsTrue, map, Option}
 use Rattle.ac_util.specs.declared.search.Anchored.{Anchored}
-use Rattle.ac_automaton.specs.Util.{Built, looks_by, matches, No, Node, plain, plain_byte, step, Yes}
+use Rattle.ac_automaton.specs.Util.{Built, Counts, looks_by, matches, more_looks, No, Node, plain, plain_byte, step, Yes}
+use Rattle.ac_automaton.specs.declared.automaton.listing.MatchRest.{MatchRest}
 
 -- the patterns as the nodes know them
 abbrev pub plain_of : Built → List (List ℕ)
@@ -35,6 +36,24 @@ IsState stands s = (u : Node) × stands s u
 -- under some anchoring
 abbrev pub IsAnyState : AutomatonView → ℕ → Type 0
 IsAnyState a s = (anchored : Anchored) × IsState (a.stands anchored) s
+
+-- a test of a state tells whether each node for which it stands is such
+abbrev pub Tells : AutomatonView → ℕ → Bool → (Node → Type 0) → Type 0
+Tells a s result IsSo = (anchored : Anchored) (u : Node) → a.stands anchored s u → IsTrue result ↔ IsSo u
+
+-- a byte leads from one state to another: from each node for which the first stands to one for which the other does
+abbrev pub StepsTo : AutomatonView → Anchored → ℕ → ℕ → ℕ → Type 0
+StepsTo a anchored s byte t = (u : Node) → a.stands anchored s u → a.stands anchored t (step_of a.built anchored u byte)
+
+-- the looks that this takes were counted
+abbrev pub CountsLooks : AutomatonView → Anchored → ℕ → ℕ → Counts → Counts → Type 0
+CountsLooks a anchored s byte counts new_counts = (u : Node) → a.stands anchored s u
+    → new_counts ≡ more_looks (looks_of a.most a.built anchored u byte) counts
+
+-- the rest of a match list after its first match is one of the same searches
+abbrev pub KeepsAnchoring : AutomatonView → MatchRest → Option (ℕ × MatchRest) → Type 0
+KeepsAnchoring a rest taken = (anchored : Anchored) → IsState (a.stands anchored) rest.state
+    → IfSome taken (λ first. IsState (a.stands anchored) first.1.state)
 
 -- the list has the matches that count in an anchored search in front, and is itself a prefix of all matches of
 -- the node

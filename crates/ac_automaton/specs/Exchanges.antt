@@ -1,5 +1,5 @@
 -- What the replacement of a stream has done so far.
-use Rattle.std.specs.Prelude.{◌≡◌, ◌⊎◌, ℕ, ◌≤◌, Bool, List, ◌∷◌, ◌++◌, ⊤, Option, None, Some, Result, Ok, Err, MatchResult, [], length, slice_index_or, take}
+use Rattle.std.specs.Prelude.{◌≡◌, ◌⊎◌, ℕ, ◌<◌, ◌≤◌, Bool, List, ◌∷◌, ◌++◌, ⊤, Option, None, Some, Result, Ok, Err, MatchResult, [], length, slice_index_or, take}
 use Rattle.std.specs.Borrow.{Bor, MutBor}
 use Rattle.std.specs.Fn.{Mut}
 use Rattle.std.specs.declared.io.Error.{Error}
@@ -18,10 +18,26 @@ abbrev pub answer_of_exchange : Result (Unit {0}) StreamError → Answer StreamE
 answer_of_exchange (Ok done) = Continues
 answer_of_exchange (Err e) = Fails e
 
+-- an exchange beside its writer
+abbrev pub beside : {E D : Type 0} → E → D → Replacing E D
+beside exchange writer = record { closure = exchange; destination = writer }
+
+-- bytes were passed on, or that has failed
+abbrev pub Passes : {E D : Type 0} → Passing E D → List ℕ → Replacing E D → Result (Unit {0}) StreamError → Replacing E D → Type 0
+Passes passing bytes s r t = PassesPiece passing bytes s (error_in r) t
+
 -- the text of the match's pattern was passed on, or that has failed
 abbrev pub PassesText : {E D : Type 0} → Passing E D → List (List ℕ) → Occurrence → Replacing E D
     → Result (Unit {0}) StreamError → Replacing E D → Type 0
-PassesText passing texts m s r t = PassesPiece passing (slice_index_or texts m.pattern []) s (error_in r) t
+PassesText passing texts m s r t = Passes passing (slice_index_or texts m.pattern []) s r t
+
+-- an exchange may be called with each match of the patterns of what was built
+abbrev pub AcceptsMatches : {E : Type 0} → (E → Occurrence → Type 0) → Built → E → Type 0
+AcceptsMatches accepts built exchange = (m : Occurrence) → m.pattern < length built.patterns → accepts exchange m
+
+-- it may still be called with each match with which it could be called before
+abbrev pub StillAccepts : {E : Type 0} → (E → Occurrence → Type 0) → E → E → Type 0
+StillAccepts accepts old new = (m : Occurrence) → accepts old m → accepts new m
 
 -- a closure was called with a match and its slice, and its error is the answer's
 abbrev pub CallsBy : {F D : Type 0}
@@ -69,6 +85,10 @@ module _ {E D : Type 0} (passing : Passing E D)
       → (given place : ℕ) × IsSettledIn old.phase old.built old.bytes given place
       × Steps (take place old.bytes) 0 (take given (matches_so_far old)) first (Some e) t
 
+  -- the exchange of what was read has answered
+  abbrev pub ExchangesRead : Streaming → Streaming → Replacing E D → Replacing E D → Result (Unit {0}) StreamError → Type 0
+  ExchangesRead old new s t result = MatchResult result (λ done. HasExchanged old new s t) (λ e. FailsToExchange old s e t)
+
   -- the stream was read to its end, usize counts its bytes, all of its steps were made, and nothing is held back
   abbrev pub ReplacesBy : Bool → Built → Reading → Reading → Replacing E D → Replacing E D → Type 0
   ReplacesBy ends built reader new_reader s t =
@@ -95,3 +115,10 @@ module _ {E D : Type 0} (passing : Passing E D)
       ⊎ ((given place : ℕ) × IsSettled ends built reader new_reader bytes given place
       × Steps (take place bytes) 0 (take given (stream_result built bytes)) s (Some e) t))
       × (length bytes ≤ usize_max)
+
+  -- the replacement of a stream has answered
+  abbrev pub ReplacesOrFails : Bool → Built → Reading → Reading → Replacing E D → Replacing E D
+      → Result (Unit {0}) StreamError → Type 0
+  ReplacesOrFails ends built reader new_reader s t result =
+      MatchResult result (λ done. ReplacesBy ends built reader new_reader s t)
+      (λ e. FailsBy ends built reader new_reader s e t)

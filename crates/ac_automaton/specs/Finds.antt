@@ -1,5 +1,5 @@
 -- What a find answers, and when it has read enough.
-use Rattle.std.specs.Prelude.{◌≡◌, ◌≢◌, ◌⊎◌, ℕ, ◌+◌, ◌-◌, ◌<◌, ◌≤◌, Bool, false, true, List, [], Option, None, Some, IfSome, option_map, slice_get, length, max}
+use Rattle.std.specs.Prelude.{◌≡◌, ◌≢◌, ◌⊎◌, ◌↔◌, IsTrue, ℕ, ◌+◌, ◌-◌, ◌<◌, ◌≤◌, Bool, false, true, List, [], Option, None, Some, IfSome, option_map, slice_get, length, max}
 use Rattle.ac_util.specs.declared.search.Anchored.{Anchored}
 use Rattle.ac_automaton.specs.Util.{InputView, Built, Counts, depth, is_leftmost, MatchKind, may_skip, Node, Occurrence, occurrence, order_of, pattern_of, pick, Search, Span, Standard, Taped, usize_max, Yes}
 use Rattle.ac_automaton.specs.declared.automaton.scan.Cursor.{Cursor}
@@ -120,6 +120,16 @@ pub record IsReady (s : Scan) (t : ScanText) (stops : Bool) (cursor : Cursor) : 
 abbrev pub IsAnswered : Bool → ℕ → ℕ → Node → Option Occurrence → Type 0
 IsAnswered stops end at u last = (end ≤ at) ⊎ ((u ≡ None) ⊎ ((stops ≡ true) × (last ≢ None)))
 
+-- each node for which a scanner's state stands has the answer of a find in the last match found
+abbrev pub HasAnswer : ScannerView → Bool → Cursor → Option Occurrence → Type 0
+HasAnswer v stops cursor last =
+    (u : Node) → v.scan.stands cursor.state u → IsAnswered stops v.span.end cursor.at u last
+
+-- a test tells whether it has
+abbrev pub TellsAnswer : ScannerView → Bool → Cursor → Option Occurrence → Bool → Type 0
+TellsAnswer v stops cursor last result =
+    (u : Node) → v.scan.stands cursor.state u → IsTrue result ↔ IsAnswered stops v.span.end cursor.at u last
+
 -- a find that stops at the first match, or not, may read on from a cursor within its span
 pub record MayFind (v : ScannerView) (stops : Bool) (tape : Taped) (cursor : Cursor) : Type 0 where
   pub leftmost : stops ≡ false → is_leftmost v.scan.built.kind ≡ true
@@ -149,6 +159,10 @@ pub record FindsOn (v : ScannerView) (stops : Bool) (cursor : Cursor) (tape : Ta
       → ScansTo v.scan (in_memory tape.bytes v.span) v.span.start begun cursor.at (work_of tape counts)
       → HasSearched (picking_by v.scan stops) (search_through v.scan (in_memory tape.bytes v.span)) found begun
       (work_of new_tape new_counts)
+
+-- the span from one place to another
+abbrev pub between : ℕ → ℕ → Span
+between start end = record { start = start; end = end }
 
 -- a find may be made in a span of a tape: it ends within the haystack, starts no later than one past its own end, and not
 -- before the tape's place of reading

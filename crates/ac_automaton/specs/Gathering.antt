@@ -1,5 +1,5 @@
 -- Bytes on their way to a writer, of which the last ones may be held back.
-use Rattle.std.specs.Prelude.{◌≡◌, ℕ, List, [], ◌++◌, Option, None, Some}
+use Rattle.std.specs.Prelude.{◌≡◌, ℕ, List, [], ◌++◌, MatchResult, Option, None, Result, Some}
 use Rattle.ac_automaton.specs.Util.{error_of, Replacing, StreamError, WriteError, WritesAll, WritesUntilFailure, Writing}
 use Rattle.ac_automaton.specs.declared.automaton.stream_replace.ByTexts.{ByTexts}
 
@@ -8,6 +8,16 @@ pub record Gathers (old new : Writing) (held bytes still : List ℕ) : Type 0 wh
   pub part : List ℕ
   pub writes : WritesAll old new part
   pub whole : held ++ bytes ≡ part ++ still
+
+-- bytes were gathered after what was held back; or a beginning of both was written, and then a write has failed
+abbrev pub GathersOrFails : Writing → Writing → List ℕ → List ℕ → List ℕ → Result (Unit {0}) WriteError → Type 0
+GathersOrFails old new held bytes still result =
+    MatchResult result (λ done. Gathers old new held bytes still) (WritesUntilFailure old new (held ++ bytes))
+
+-- what was held back was written, and nothing is held back then; or a write has failed
+abbrev pub WritesHeld : Writing → Writing → List ℕ → List ℕ → Result (Unit {0}) WriteError → Type 0
+WritesHeld old new held still result =
+    MatchResult result (λ done. (still ≡ []) × WritesAll old new held) (WritesUntilFailure old new held)
 
 -- what a writer was told, what an exchange holds back, and what the exchange is without that
 pub record Passing (E D : Type 0) : Type 0 where

@@ -1,10 +1,11 @@
 -- What is seen of an iterator over matches.
-use Rattle.std.specs.Prelude.{◌≡◌, ℕ, ◌+◌, ◌-◌, ◌*◌, ◌<◌, ◌≤◌, Bool, false, MatchBool, List, Option, None, Some, IfSome, min}
+use Rattle.std.specs.Prelude.{◌≡◌, ℕ, ◌+◌, ◌-◌, ◌*◌, ◌<◌, ◌≤◌, Bool, false, length, MatchBool, List, Option, None, Some, IfSome, min}
 use Rattle.std.specs.Iterator.{YieldsFirst}
-use Rattle.ac_automaton.specs.Util.{InputView, Built, from, LeftmostFirst, LeftmostLongest, MatchKind, may_skip, next_match, Occurrence, pick, repeats, Search, shortest_len, Span, Standard, walk_after}
+use Rattle.ac_automaton.specs.Util.{InputView, Built, from, input_of, LeftmostFirst, LeftmostLongest, MatchKind, may_skip, next_match, Occurrence, pick, repeats, Search, shortest_len, Span, Standard, walk_after}
+use Rattle.ac_automaton.specs.declared.automaton.walk.TapedFinder.{TapedFinder}
 use Rattle.ac_automaton.specs.Finders.{Finding, Picking, picking_of}
 use Rattle.ac_automaton.specs.Finds.{HasSearched}
-use Rattle.ac_automaton.specs.Progress.{Work, most_looks, nothing_done, search_of}
+use Rattle.ac_automaton.specs.Progress.{Work, most_looks, nothing_done, search_of, work_of}
 
 -- the matches still to come; the finds that it makes; the search that is left, and where the match before it ended, if
 -- there was one; where the whole span began; and what was done so far
@@ -69,6 +70,37 @@ Finds walking new_work =
     × HasFound walking (from walking.left (walking.left.low + 1))
     (pick walking.picking.order (from walking.left (walking.left.low + 1))) work new_work)
     (HasFound walking walking.left (pick walking.picking.order walking.left) walking.work new_work)
+
+module _ {A M : Type 0} (finder : TapedFinder A M) (span : Span) where
+  -- a find may be made in a span by a finder with its tape: the tape has the bytes of the input, and the span lies in them;
+  -- where it goes on with its tape, that hasn't lent a byte of the span
+  pub record MayFindIn : Type 0 where
+    pub whole : finder.tape.bytes ≡ (input_of finder.input).haystack
+    pub inside : span.end ≤ length finder.tape.bytes
+    pub legal : span.start ≤ span.end + 1
+    pub unread : finder.finder.picking.order ≡ Standard → finder.tape.place ≤ span.start
+
+  -- its search of the span
+  abbrev pub search_by : Search
+  search_by = search_of finder.finder.built finder.finder.anchored finder.tape.bytes span.start span.end
+
+  -- the find has answered
+  abbrev pub FindsBy : Option Occurrence → TapedFinder A M → Type 0
+  FindsBy found new_finder = HasSearched finder.finder.picking search_by found
+      (record { place = kept_place finder.finder.picking.order finder.tape.place; counts = finder.looks })
+      (work_of new_finder.tape new_finder.looks)
+
+  -- so have the finds of a walk that has come to the span, after a match that ended at `last`
+  abbrev pub WalksBy : Option ℕ → TapedFinder A M → Type 0
+  WalksBy last new_finder = (start : ℕ)
+      → Finds (walking_of finder.finder finder.tape.bytes span last start (work_of finder.tape finder.looks))
+      (work_of new_finder.tape new_finder.looks)
+
+-- only the tape's place and the counts have changed
+pub record KeepsInput {A M : Type 0} (old new : TapedFinder A M) : Type 0 where
+  pub finder : new.finder ≡ old.finder
+  pub input : new.input ≡ old.input
+  pub bytes : new.tape.bytes ≡ old.tape.bytes
 
 -- what a walk has counted since it was made: for each byte read it has looked at states at least once and at
 -- most `most` times on the whole, or where it is anchored exactly once; under Standard it has read each byte of

@@ -12,7 +12,7 @@ pub use Rattle.ac_automaton.specs.Overlaps.{due_in, given_by, given_in, HasComeT
 pub use Rattle.ac_automaton.specs.Progress.{Grows, HasRead, most_looks, node_at, nothing_done, Reaches, search_of, Work, work_of}
 pub use Rattle.ac_automaton.specs.Readers.{AreNodes, ForNode, HasOwn, IsFailureOf, IsNumbered, IsOwn, leads_on}
 unfoldable pub use Rattle.ac_automaton.specs.Readers.{transition_bytes_of}
-pub use Rattle.ac_automaton.specs.Scans.{Advances, in_memory, IsAlive, IsAt, MayAdvance, node, NoMatchBetween, PassesNoMatch, past, Scan, scan_of, ScannerView, ScansTo, ScanText, search_through, StaysAtStart}
+pub use Rattle.ac_automaton.specs.Scans.{Advances, in_memory, IsAlive, IsAt, MayAdvance, node, NoMatchBetween, PassesNoMatch, past, Scan, scan_of, scanner, ScannerView, ScansTo, ScanText, search_through, StaysAtStart}
 pub use Rattle.ac_automaton.specs.Skipping.{Skips, SkipsTo, SkipsToNeedle}
 unfoldable pub use Rattle.ac_automaton.specs.Sorted.{head_of}
 pub use Rattle.ac_automaton.specs.Sorted.{AreListed, byte_at, compared, compared_by_bytes, HasHead, head_len, is_prefix, IsHead, IsOrder, key_at, Keyed, keyed, keyed_one, numbers, Precedes, Sorted}

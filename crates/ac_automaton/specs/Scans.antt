@@ -1,8 +1,9 @@
 -- What a scan has done: an automaton under an anchoring, the text that it reads, and how far it has come in it.
-use Rattle.std.specs.Prelude.{◌≡◌, ◌≢◌, ◌⊎◌, ℕ, ◌+◌, ◌-◌, ◌*◌, ◌<◌, ◌≤◌, Bool, false, List, [], ◌∷◌, ◌++◌, None, Some, length, max}
+use Rattle.std.specs.Prelude.{◌≡◌, ◌≢◌, ◌⊎◌, ◌↔◌, IsTrue, ℕ, ◌+◌, ◌-◌, ◌*◌, ◌<◌, ◌≤◌, Bool, false, List, [], ◌∷◌, ◌++◌, None, Some, length, max}
 use Rattle.ac_util.specs.declared.search.Anchored.{Anchored}
 use Rattle.ac_automaton.specs.Util.{Built, Counts, credit, may_skip, Node, Search, Span, Taped}
 use Rattle.ac_automaton.specs.declared.automaton.scan.Cursor.{Cursor}
+use Rattle.ac_automaton.specs.declared.automaton.scan.Scanner.{Scanner}
 use Rattle.ac_automaton.specs.Automata.{AutomatonView, matches_of}
 use Rattle.ac_automaton.specs.Progress.{Grows, Reaches, Work, most_looks, node_at, search_of, work_of}
 
@@ -34,6 +35,10 @@ pub record ScannerView : Type 1 where
   pub scan : Scan
   pub span : Span
   pub front : ℕ
+
+-- that of a scanner over an automaton of which this is seen
+abbrev pub scanner : {A M : Type 0} → (A → AutomatonView) → Scanner A M → ScannerView
+scanner seen s = record { scan = scan_of (seen s.automaton.now) s.anchored; span = s.span; front = s.front }
 
 -- what a scan reads: the bytes that were read before the first of its tape, and those of the tape; and where in all of
 -- these the span starts that it searches, and where that ends
@@ -128,6 +133,10 @@ Follows v cursor tape counts state new_tape new_counts =
 -- nothing is left to read up to an end, or nothing more is found
 abbrev pub IsOver : ℕ → ℕ → Node → Type 0
 IsOver end at u = (end ≤ at) ⊎ (u ≡ None)
+
+-- a test tells whether that is so of a scanner
+abbrev pub TellsOver : ScannerView → Cursor → Bool → Type 0
+TellsOver v cursor result = (u : Node) → v.scan.stands cursor.state u → IsTrue result ↔ IsOver v.span.end cursor.at u
 
 -- a scanner has come to the end of its span, or to a state that is dead or has matches
 abbrev pub Stops : ScannerView → Cursor → Type 0

@@ -1,14 +1,15 @@
 //! What an engine has to offer, and the searches that run on any engine.
-ghost use Rattle.std.specs.Prelude.{◌≡◌, ◌≢◌, ◌↔◌, ◌⊎◌, ℕ, ◌<◌, [], length, option_map, slice_get, string_bytes, Some, None, IfSome, IsTrue};
+ghost use Rattle.std.specs.Prelude.{◌≡◌, ◌≢◌, ◌↔◌, ◌⊎◌, ℕ, ◌<◌, [], length, option_map, slice_get, Some, None, IfSome, IsTrue};
 ghost use Rattle.std.specs.Iterator.Runs.{YieldsInOrder};
 ghost use Rattle.ac_util.specs.declared.search.Anchored.{Anchored};
-ghost use Rattle.ac_automaton.specs.Util.{AnswersStream, input_of, bytes_of, exchanged, exchanged_in_text, FailsToReplace, FailsToReplaceWith, IsSkipFor, longest_len, more_looks, Node, pattern_of, ReplacesStream, ReplacesStreamWith, shortest_len, skip_for, skip_of, stream_refusal};
-ghost use Rattle.ac_automaton.specs.Answers.{AnswersBytes, AnswersFind, AnswersListing, AnswersText, AnswersWalk, BeginsBy, BeginsStream, FindsNext, IsPlacedIn, MakesStepsBy};
-ghost use Rattle.ac_automaton.specs.Automata.{AutomatonView, IsAnyState, IsState, Lists, looks_of, step_of};
+ghost use Rattle.ac_automaton.specs.Util.{input_of, bytes_of, longest_len, Node, pattern_of, shortest_len, skip_of};
+ghost use Rattle.ac_automaton.specs.Answers.{AnswersBytes, AnswersFind, AnswersListing, AnswersStreamCalls, AnswersStreamTexts, AnswersText, AnswersWalk, BeginsBy, BeginsStream, ExchangesBytes, ExchangesText, FindsNext, IsPlacedIn};
+ghost use Rattle.ac_automaton.specs.Automata.{AutomatonView, CountsLooks, IsAnyState, IsState, KeepsAnchoring, Lists, StepsTo, Tells};
 ghost use Rattle.ac_automaton.specs.Common.{common_of};
 ghost use Rattle.ac_automaton.specs.Iterators.{GoesOn};
 ghost use Rattle.ac_automaton.specs.Overlaps.{ListsNext, Takes};
 ghost use Rattle.ac_automaton.specs.Streams.{initial_reading};
+ghost use Rattle.ac_automaton.specs.Skipping.{Serves, skip_with};
 
 use ac_util::device::{Sink, Source};
 use ac_util::error::{MatchError, ReplaceError, StreamError};
@@ -82,16 +83,13 @@ pub trait Automaton {
     /// Returns the state to which a byte leads from a state, and counts the looks at states that this takes.
     fn next_state(&self, anchored: Anchored, sid: StateID, byte: u8, looks: &mut Looks) -> StateID
         requires state { IsState ((seen self.now).stands anchored) sid }
-        ensures steps { (u : Node) → (seen self.now).stands anchored sid u
-            → (seen self.now).stands anchored result (step_of (seen self.now).built anchored u byte) }
-        ensures looks { (u : Node) → (seen self.now).stands anchored sid u
-            → looks.new ≡ more_looks (looks_of (seen self.now).most (seen self.now).built anchored u byte) looks.old };
+        ensures steps { StepsTo (seen self.now) anchored sid byte result }
+        ensures looks { CountsLooks (seen self.now) anchored sid byte looks.old looks.new };
 
     /// Returns whether the state is dead: nothing is found from it on.
     fn is_dead(&self, sid: StateID) -> bool
         requires state { IsAnyState (seen self.now) sid }
-        ensures { (anchored : Anchored) (u : Node) → (seen self.now).stands anchored sid u
-            → IsTrue result ↔ (u ≡ None) };
+        ensures { Tells (seen self.now) sid result (λ u. u ≡ None) };
 
     /// Returns whether the state has matches.
     fn is_match(&self, sid: StateID) -> bool
@@ -103,8 +101,7 @@ pub trait Automaton {
     #[inline]
     fn is_match_or_dead(&self, sid: StateID) -> bool
         requires state { IsAnyState (seen self.now) sid }
-        ensures { (anchored : Anchored) (u : Node) → (seen self.now).stands anchored sid u
-            → IsTrue result ↔ ((u ≡ None) ⊎ ((seen self.now).listed sid ≢ [])) }
+        ensures { Tells (seen self.now) sid result (λ u. (u ≡ None) ⊎ ((seen self.now).listed sid ≢ [])) }
     {
         self.is_match(sid) || self.is_dead(sid)
     }
@@ -112,16 +109,15 @@ pub trait Automaton {
     /// Returns whether the state is one in which a search starts.
     fn is_start(&self, sid: StateID) -> bool
         requires state { IsAnyState (seen self.now) sid }
-        ensures { (anchored : Anchored) (u : Node) → (seen self.now).stands anchored sid u
-            → IsTrue result ↔ (u ≡ Some []) };
+        ensures { Tells (seen self.now) sid result (λ u. u ≡ Some []) };
 
     /// Returns whether the state is dead, has matches or is a start. In any other state nothing is found, and nothing
     /// begins or ends.
     #[inline]
     fn is_special(&self, sid: StateID) -> bool
         requires state { IsAnyState (seen self.now) sid }
-        ensures { (anchored : Anchored) (u : Node) → (seen self.now).stands anchored sid u
-            → IsTrue result ↔ ((u ≡ None) ⊎ (u ≡ Some []) ⊎ ((seen self.now).listed sid ≢ [])) }
+        ensures { Tells (seen self.now) sid result
+            (λ u. (u ≡ None) ⊎ (u ≡ Some []) ⊎ ((seen self.now).listed sid ≢ [])) }
     {
         self.is_match_or_dead(sid) || self.is_start(sid)
     }
@@ -143,8 +139,7 @@ pub trait Automaton {
     fn take_match(&self, rest: MatchRest) -> Option<(PatternID, MatchRest)>
         requires state { IsAnyState (seen self.now) rest.state }
         ensures taken { Takes (seen self.now).listed rest result }
-        ensures state { (anchored : Anchored) → IsState ((seen self.now).stands anchored) rest.state
-            → IfSome result (λ first. IsState ((seen self.now).stands anchored) first.1.state) };
+        ensures state { KeepsAnchoring (seen self.now) rest result };
 
     /// Returns what every engine has, whatever its states are.
     fn common(&self) -> &Common<Self::Memory>
@@ -200,9 +195,8 @@ pub trait Automaton {
     #[inline]
     final fn prefilter(&self) -> Option<&Prefilter<Self::Memory>>
         ensures skips { option_map (λ p. skip_of p.now) result
-            ≡ skip_for (seen self.now).wants_prefilter (seen self.now).built.ignores_case (seen self.now).built.patterns }
-        ensures serves { IfSome result
-            (λ p. IsSkipFor (skip_of p.now) (seen self.now).built.ignores_case (seen self.now).built.patterns) }
+            ≡ skip_with (seen self.now).wants_prefilter (seen self.now).built }
+        ensures serves { IfSome result (λ p. Serves (seen self.now).built (skip_of p.now)) }
     {
         self.common().prefilter()
     }
@@ -360,7 +354,7 @@ pub trait Automaton {
         Self: Sized,
         F: FnMut(&Match, &str, &mut String) -> bool,
         requires callable { F.IsAlwaysCallable exchange }
-        ensures { MakesStepsBy F.FnMut string_bytes exchanged_in_text (seen self.now).built haystack.now exchange destination.old destination.new result }
+        ensures { ExchangesText F.FnMut (seen self.now).built haystack.now exchange destination.old destination.new result }
     {
         replace::try_replace_all_with(self, haystack, destination, exchange)
     }
@@ -381,7 +375,7 @@ pub trait Automaton {
         Self: Sized,
         F: FnMut(&Match, &[u8], &mut Vec<u8>) -> bool,
         requires callable { F.IsAlwaysCallable exchange }
-        ensures { MakesStepsBy F.FnMut (λ d. d.items) exchanged (seen self.now).built haystack.now exchange destination.old destination.new result }
+        ensures { ExchangesBytes F.FnMut (seen self.now).built haystack.now exchange destination.old destination.new result }
     {
         replace::try_replace_all_with_bytes(self, haystack, destination, exchange)
     }
@@ -428,11 +422,8 @@ pub trait Automaton {
     where
         Self: Sized,
         requires texts { length texts.now ≡ length (seen self.now).built.patterns }
-        ensures { AnswersStream (stream_refusal (seen self.now).built) ((reader.new ≡ reader.old) × (writer.new ≡ writer.old))
-            (ReplacesStream (seen self.now).built (bytes_of texts.now) (W.told writer.old) (W.told writer.new)
-            R.empty_means_end (R.told reader.old) (R.told reader.new))
-            (FailsToReplace (seen self.now).built (bytes_of texts.now) (W.told writer.old) (W.told writer.new)
-            R.empty_means_end (R.told reader.old) (R.told reader.new)) result }
+        ensures { AnswersStreamTexts R.told W.told R.empty_means_end (seen self.now).built (bytes_of texts.now)
+            reader.old reader.new writer.old writer.new result }
     {
         stream_replace::try_stream_replace_all(self, alloc, reader, writer, texts)
     }
@@ -458,11 +449,8 @@ pub trait Automaton {
         Self: Sized,
         F: FnMut(&Match, &[u8], &mut W) -> io::Result<()>,
         requires callable { F.IsAlwaysCallable closure }
-        ensures { AnswersStream (stream_refusal (seen self.now).built) ((reader.new ≡ reader.old) × (writer.new ≡ writer.old))
-            (ReplacesStreamWith W.told F.FnMut (seen self.now).built closure writer.old R.empty_means_end
-            (R.told reader.old) (R.told reader.new) writer.new)
-            (FailsToReplaceWith W.told F.FnMut (seen self.now).built closure writer.old R.empty_means_end
-            (R.told reader.old) (R.told reader.new) writer.new) result }
+        ensures { AnswersStreamCalls R.told W.told R.empty_means_end (seen self.now).built F.FnMut closure
+            reader.old reader.new writer.old writer.new result }
     {
         stream_replace::try_stream_replace_all_with(self, alloc, reader, writer, closure)
     }

@@ -3,10 +3,10 @@ ghost use Rattle.std.specs.Prelude.{◌≡◌, ◌<◌, ◌↔◌, IsTrue, None}
 ghost use Rattle.ac_automaton.specs.Util.{find_result, input_of, Standard, start_refusal};
 ghost use Rattle.ac_automaton.specs.Answers.{AnswersFind, BeginsBy};
 ghost use Rattle.ac_automaton.specs.Finders.{finding_of};
-ghost use Rattle.ac_automaton.specs.Finds.{FindsIn, MaySearch, input_over};
+ghost use Rattle.ac_automaton.specs.Finds.{FindsIn, MaySearch, between, input_over};
 
 use super::Automaton;
-use super::scan::{Cursor, Scanner, Scans};
+use super::scan::{Cursor, Scanner};
 use super::skip::SkipBudget;
 use ac_util::error::MatchError;
 use ac_util::looks::{Looks, Tape, open};
@@ -39,9 +39,9 @@ pub fn find_core<A: Automaton>(
     looks: &mut Looks,
 ) -> Option<Match>
     requires supported { start_refusal (A.seen automaton.now).built.start_kind anchored ≡ None }
-    requires may { MaySearch (record { start = start; end = end }) tape.old }
+    requires may { MaySearch (between start end) tape.old }
     ensures pick { result ≡ find_result (A.seen automaton.now).built (input_over tape.old.bytes start end anchored earliest) }
-    ensures finds { FindsIn (finding_of (A.seen automaton.now) anchored earliest) (record { start = start; end = end })
+    ensures finds { FindsIn (finding_of (A.seen automaton.now) anchored earliest) (between start end)
         tape.old looks.old result tape.new looks.new }
 {
     let Ok(mut finder) = Finder::new(automaton, anchored, earliest) else {
@@ -200,9 +200,9 @@ impl<'a, A: Automaton> Finder<'a, A> {
 }
 
 impl<'a, A: Automaton> Scanner<'a, A> {
-    ghost use Rattle.ac_automaton.specs.Util.{Node};
     ghost use Rattle.ac_automaton.specs.Automata.{IsState};
-    ghost use Rattle.ac_automaton.specs.Finds.{FindsOn, IsAnswered, MayBegin, MayFind, MayPick, PicksOn};
+    ghost use Rattle.ac_automaton.specs.Finds.{FindsOn, HasAnswer, MayBegin, MayFind, MayPick, PicksOn, TellsAnswer};
+    ghost use Rattle.ac_automaton.specs.Scans.{scanner};
     ghost use Rattle.ac_automaton.specs.Skipping.{SkipsToNeedle};
 
     /// Returns the pick of the span, by reading on from where nothing is picked but what the state there finds.
@@ -214,8 +214,8 @@ impl<'a, A: Automaton> Scanner<'a, A> {
         tape: &mut Tape<'_>,
         looks: &mut Looks,
     ) -> Option<Match>
-        requires { MayFind (⟦<Self as Scans>⟧.scan self.now) stops tape.old cursor.old }
-        ensures { FindsOn (⟦<Self as Scans>⟧.scan self.now) stops cursor.old tape.old looks.old result tape.new looks.new }
+        requires { MayFind (scanner A.seen self.now) stops tape.old cursor.old }
+        ensures { FindsOn (scanner A.seen self.now) stops cursor.old tape.old looks.old result tape.new looks.new }
     {
         let found = self.match_at(cursor);
         self.pick_on(stops, cursor, found, tape, looks)
@@ -232,11 +232,10 @@ impl<'a, A: Automaton> Scanner<'a, A> {
         tape: &mut Tape<'_>,
         looks: &mut Looks,
     ) -> Option<Match>
-        requires { MayPick (⟦<Self as Scans>⟧.scan self.now) stops tape.old cursor.old picked }
-        ensures picks { PicksOn (⟦<Self as Scans>⟧.scan self.now) stops cursor.old tape.old looks.old picked cursor.new tape.new
+        requires { MayPick (scanner A.seen self.now) stops tape.old cursor.old picked }
+        ensures picks { PicksOn (scanner A.seen self.now) stops cursor.old tape.old looks.old picked cursor.new tape.new
             looks.new result }
-        ensures answered { (u : Node) → (⟦<Self as Scans>⟧.scan self.now).scan.stands cursor.new.state u
-            → IsAnswered stops self.now.span.end cursor.new.at u result }
+        ensures answered { HasAnswer (scanner A.seen self.now) stops cursor.new result }
     {
         // A copy, which stays in registers.
         let mut copied = *cursor;
@@ -254,9 +253,8 @@ impl<'a, A: Automaton> Scanner<'a, A> {
     /// first match counts.
     #[inline]
     pub(super) fn is_decided(&self, stops: bool, cursor: &Cursor, last: &Option<Match>) -> bool
-        requires { IsState (⟦<Self as Scans>⟧.scan self.now).scan.stands cursor.now.state }
-        ensures { (u : Node) → (⟦<Self as Scans>⟧.scan self.now).scan.stands cursor.now.state u
-            → IsTrue result ↔ IsAnswered stops self.now.span.end cursor.now.at u last.now }
+        requires { IsState (scanner A.seen self.now).scan.stands cursor.now.state }
+        ensures { TellsAnswer (scanner A.seen self.now) stops cursor.now last.now result }
     {
         self.is_over(cursor) || (stops && last.is_some())
     }
@@ -273,9 +271,9 @@ impl<'a, A: Automaton> Scanner<'a, A> {
         tape: &mut Tape<'_>,
         looks: &mut Looks,
     ) -> Option<Match>
-        requires needle { SkipsToNeedle (⟦<Self as Scans>⟧.scan self.now).scan needle.now }
-        requires begins { MayBegin (⟦<Self as Scans>⟧.scan self.now) stops tape.old cursor.old }
-        ensures { FindsOn (⟦<Self as Scans>⟧.scan self.now) stops cursor.old tape.old looks.old result tape.new looks.new }
+        requires needle { SkipsToNeedle (scanner A.seen self.now).scan needle.now }
+        requires begins { MayBegin (scanner A.seen self.now) stops tape.old cursor.old }
+        ensures { FindsOn (scanner A.seen self.now) stops cursor.old tape.old looks.old result tape.new looks.new }
     {
         while !budget.is_left() || !self.automaton.is_start(cursor.state) {
             self.read_rest(cursor, budget, tape, looks);

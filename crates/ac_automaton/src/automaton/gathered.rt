@@ -1,8 +1,7 @@
 //! Bytes on their way to a writer, gathered so that one write takes many pieces.
-ghost use Rattle.std.specs.Prelude.{◌≡◌, ◌+◌, ◌≤◌, ◌++◌, MatchResult, [], length};
-ghost use Rattle.ac_automaton.specs.Util.{WritesAll, WritesUntilFailure};
+ghost use Rattle.std.specs.Prelude.{◌≡◌, ◌+◌, ◌≤◌, ◌++◌, [], length};
 ghost use Rattle.ac_automaton.specs.declared.automaton.gathered.TheConstants.{ROOM};
-ghost use Rattle.ac_automaton.specs.Gathering.{Gathers};
+ghost use Rattle.ac_automaton.specs.Gathering.{GathersOrFails, WritesHeld};
 
 use ac_util::device::{Sink, WriteError, write_all};
 use std::marker::Model;
@@ -48,9 +47,7 @@ impl Gathered {
     /// # Errors
     /// As `write_all`: of what was held back and the piece a beginning was written then, and not all of it.
     pub(super) fn write<W: Sink>(&mut self, writer: &mut W, piece: &[u8]) -> Result<(), WriteError>
-        ensures { MatchResult result
-            (λ _. Gathers (W.told writer.old) (W.told writer.new) self.old piece.now self.new)
-            (WritesUntilFailure (W.told writer.old) (W.told writer.new) (self.old ++ piece.now)) }
+        ensures { GathersOrFails (W.told writer.old) (W.told writer.new) self.old piece.now self.new result }
     {
         if piece.len() >= ROOM {
             self.write_held(writer)?;
@@ -78,9 +75,7 @@ impl Gathered {
     /// # Errors
     /// As `write_all`.
     pub(super) fn write_held<W: Sink>(&mut self, writer: &mut W) -> Result<(), WriteError>
-        ensures { MatchResult result
-            (λ _. (self.new ≡ []) × WritesAll (W.told writer.old) (W.told writer.new) self.old)
-            (WritesUntilFailure (W.told writer.old) (W.told writer.new) self.old) }
+        ensures { WritesHeld (W.told writer.old) (W.told writer.new) self.old self.new result }
     {
         write_all(writer, &self.buffer[..self.held])?;
         self.held = 0;

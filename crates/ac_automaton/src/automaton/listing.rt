@@ -3,7 +3,7 @@ ghost use Rattle.std.specs.Prelude.{◌≡◌, IfSome};
 ghost use Rattle.ac_automaton.specs.Util.{first_bytes_of};
 
 use super::Automaton;
-use super::scan::{Cursor, Scanner, Scans, is_due};
+use super::scan::{Cursor, Scanner, is_due};
 use super::skip::SkipBudget;
 use ac_util::looks::{Looks, Tape};
 use ac_util::prefilter::{FirstBytes, Prefilter};
@@ -41,6 +41,7 @@ impl Reached {
 
 impl<'a, A: Automaton> Scanner<'a, A> {
     ghost use Rattle.ac_automaton.specs.Overlaps.{HasComeTo, ListsOn, MayList, TakesDue};
+    ghost use Rattle.ac_automaton.specs.Scans.{scanner};
     ghost use Rattle.ac_automaton.specs.Skipping.{SkipsTo};
 
     /// Returns the first bytes to which a listing may skip, in an unanchored search.
@@ -48,7 +49,7 @@ impl<'a, A: Automaton> Scanner<'a, A> {
     /// It can't skip to a needle: where that is found first, the automaton need not have been at its start.
     #[inline]
     pub(super) fn listing_skips_to(&self) -> Option<FirstBytes>
-        ensures { IfSome result (λ first. SkipsTo (⟦<Self as Scans>⟧.scan self.now).scan (first_bytes_of first)) }
+        ensures { IfSome result (λ first. SkipsTo (scanner A.seen self.now).scan (first_bytes_of first)) }
     {
         match (self.anchored, self.automaton.prefilter()) {
             (Anchored::No, Some(prefilter)) => match prefilter {
@@ -62,8 +63,8 @@ impl<'a, A: Automaton> Scanner<'a, A> {
     /// Takes the next match of the current state, or returns None where there is none.
     #[inline]
     fn take_due(&self, reached: &mut Reached) -> Option<Match>
-        requires { HasComeTo (⟦<Self as Scans>⟧.scan self.now) reached.old }
-        ensures { TakesDue (⟦<Self as Scans>⟧.scan self.now) reached.old result reached.new }
+        requires { HasComeTo (scanner A.seen self.now) reached.old }
+        ensures { TakesDue (scanner A.seen self.now) reached.old result reached.new }
     {
         let (pattern, rest) = self.automaton.take_match(reached.rest)?;
         let len = self.automaton.pattern_len(pattern);
@@ -90,9 +91,9 @@ impl<'a, A: Automaton> Scanner<'a, A> {
         tape: &mut Tape<'_>,
         looks: &mut Looks,
     ) -> Option<Match>
-        requires skips { IfSome first (λ f. SkipsTo (⟦<Self as Scans>⟧.scan self.now).scan (first_bytes_of f)) }
-        requires may { MayList (⟦<Self as Scans>⟧.scan self.now) tape.old reached.old }
-        ensures { ListsOn (⟦<Self as Scans>⟧.scan self.now) reached.old tape.old looks.old result reached.new tape.new looks.new }
+        requires skips { IfSome first (λ f. SkipsTo (scanner A.seen self.now).scan (first_bytes_of f)) }
+        requires may { MayList (scanner A.seen self.now) tape.old reached.old }
+        ensures { ListsOn (scanner A.seen self.now) reached.old tape.old looks.old result reached.new tape.new looks.new }
     {
         loop {
             if let Some(found) = self.take_due(reached) {

@@ -1,7 +1,7 @@
 //! Matches exchanged for texts, by a list or by a closure, in bytes and in text.
-ghost use Rattle.std.specs.Prelude.{◌≡◌, length, string_bytes};
-ghost use Rattle.ac_automaton.specs.Answers.{AnswersBytes, AnswersText, MakesStepsBy};
-ghost use Rattle.ac_automaton.specs.Util.{bytes_of, exchanged, exchanged_in_text, is_whole, replaced};
+ghost use Rattle.std.specs.Prelude.{◌≡◌, length};
+ghost use Rattle.ac_automaton.specs.Answers.{AnswersBytes, AnswersText, ExchangesBytes, ExchangesText};
+ghost use Rattle.ac_automaton.specs.Util.{bytes_of, exchanged, is_whole, replaced};
 
 use super::Automaton;
 use super::walk::FindIter;
@@ -66,7 +66,7 @@ where
     A: Automaton,
     F: FnMut(&Match, &[u8], &mut Vec<u8>) -> bool,
     requires callable { F.IsAlwaysCallable exchange }
-    ensures { MakesStepsBy F.FnMut (λ d. d.items) exchanged (A.seen automaton.now).built haystack.now exchange destination.old destination.new result }
+    ensures { ExchangesBytes F.FnMut (A.seen automaton.now).built haystack.now exchange destination.old destination.new result }
 {
     let matches = FindIter::new(automaton, Input::new(haystack))?;
     let mut place = 0;
@@ -92,7 +92,7 @@ where
     A: Automaton,
     F: FnMut(&Match, &str, &mut String) -> bool,
     requires callable { F.IsAlwaysCallable exchange }
-    ensures { MakesStepsBy F.FnMut string_bytes exchanged_in_text (A.seen automaton.now).built text.now exchange destination.old destination.new result }
+    ensures { ExchangesText F.FnMut (A.seen automaton.now).built text.now exchange destination.old destination.new result }
 {
     let matches = FindIter::new(automaton, Input::of_text(text))?;
     let mut place = 0;

@@ -2,12 +2,11 @@
 //!
 //! A search adds to it what it answers, and nothing else: where the automaton stands, what was read and what was
 //! counted is kept here.
-ghost use Rattle.std.specs.Prelude.{◌≡◌, ◌↔◌, IsTrue};
-ghost use Rattle.ac_automaton.specs.Util.{Node};
+ghost use Rattle.std.specs.Prelude.{◌≡◌};
 ghost use Rattle.ac_automaton.specs.Automata.{IsState};
 ghost use Rattle.ac_automaton.specs.Finds.{FindsAt, StandsIn};
 ghost use Rattle.ac_automaton.specs.Overlaps.{is_due};
-ghost use Rattle.ac_automaton.specs.Scans.{Advances, Follows, IsOver, MayAdvance, ScannerView, Stops, scan_of};
+ghost use Rattle.ac_automaton.specs.Scans.{Advances, Follows, MayAdvance, Stops, TellsOver, scanner};
 
 use super::Automaton;
 use ac_util::looks::{Looks, Tape};
@@ -43,15 +42,6 @@ pub(super) struct Scanner<'a, A: Automaton> {
     pub(super) front: usize,
 }
 
-/// What contracts see of a scanner.
-pub(super) trait Scans {
-    ghost scan: { Self → ScannerView };
-}
-
-impl<'a, A: Automaton> Scans for Scanner<'a, A> {
-    ghost scan = { λ s. record { scan = scan_of (A.seen s.automaton.now) s.anchored; span = s.span; front = s.front } };
-}
-
 impl<'a, A: Automaton> Scanner<'a, A> {
     /// Reads the byte at the cursor's place, and returns the state to which it leads.
     #[inline]
@@ -61,8 +51,8 @@ impl<'a, A: Automaton> Scanner<'a, A> {
         tape: &mut Tape<'_>,
         looks: &mut Looks,
     ) -> StateID
-        requires { MayAdvance (⟦<Self as Scans>⟧.scan self.now) tape.old cursor }
-        ensures follows { Follows (⟦<Self as Scans>⟧.scan self.now) cursor tape.old looks.old result tape.new looks.new }
+        requires { MayAdvance (scanner A.seen self.now) tape.old cursor }
+        ensures follows { Follows (scanner A.seen self.now) cursor tape.old looks.old result tape.new looks.new }
         ensures calls { looks.new.calls ≡ looks.old.calls }
     {
         let byte = tape.read(cursor.at, looks);
@@ -73,9 +63,9 @@ impl<'a, A: Automaton> Scanner<'a, A> {
     /// Reads on up to a state that has matches or is dead, or up to the end of the span: by a byte at least.
     #[inline]
     pub(super) fn read_ahead(&self, cursor: &mut Cursor, tape: &mut Tape<'_>, looks: &mut Looks)
-        requires { MayAdvance (⟦<Self as Scans>⟧.scan self.now) tape.old cursor.old }
-        ensures advances { Advances (⟦<Self as Scans>⟧.scan self.now) cursor.old tape.old looks.old cursor.new tape.new looks.new }
-        ensures stops { Stops (⟦<Self as Scans>⟧.scan self.now) cursor.new }
+        requires { MayAdvance (scanner A.seen self.now) tape.old cursor.old }
+        ensures advances { Advances (scanner A.seen self.now) cursor.old tape.old looks.old cursor.new tape.new looks.new }
+        ensures stops { Stops (scanner A.seen self.now) cursor.new }
     {
         let (mut state, mut at) = (cursor.state, cursor.at);
         let end = self.span.end;
@@ -92,9 +82,8 @@ impl<'a, A: Automaton> Scanner<'a, A> {
     /// Returns whether nothing is left to read, or nothing more is found.
     #[inline]
     pub(super) fn is_over(&self, cursor: &Cursor) -> bool
-        requires { IsState (⟦<Self as Scans>⟧.scan self.now).scan.stands cursor.now.state }
-        ensures { (u : Node) → (⟦<Self as Scans>⟧.scan self.now).scan.stands cursor.now.state u
-            → IsTrue result ↔ IsOver self.now.span.end cursor.now.at u }
+        requires { IsState (scanner A.seen self.now).scan.stands cursor.now.state }
+        ensures { TellsOver (scanner A.seen self.now) cursor.now result }
     {
         cursor.at >= self.span.end || self.automaton.is_dead(cursor.state)
     }
@@ -103,8 +92,8 @@ impl<'a, A: Automaton> Scanner<'a, A> {
     /// offsets count the bytes that were read before the tape too.
     #[inline]
     pub(super) fn match_at(&self, cursor: &Cursor) -> Option<Match>
-        requires { StandsIn (⟦<Self as Scans>⟧.scan self.now) cursor.now }
-        ensures { FindsAt (⟦<Self as Scans>⟧.scan self.now) cursor.now result }
+        requires { StandsIn (scanner A.seen self.now) cursor.now }
+        ensures { FindsAt (scanner A.seen self.now) cursor.now result }
     {
         if !self.automaton.is_match(cursor.state) {
             return None;

@@ -4,11 +4,11 @@
 //! again.
 ghost use Rattle.std.specs.Prelude.{◌≤◌, ◌<◌, IfSome};
 ghost use Rattle.ac_util.specs.Prefilters.{first_bytes_of};
-ghost use Rattle.ac_automaton.specs.Scans.{Advances, MayAdvance};
+ghost use Rattle.ac_automaton.specs.Scans.{Advances, MayAdvance, scanner};
 ghost use Rattle.ac_automaton.specs.Skipping.{SkipsTo};
 
 use super::Automaton;
-use super::scan::{Cursor, Scanner, Scans};
+use super::scan::{Cursor, Scanner};
 use ac_util::looks::{Looks, Tape};
 use ac_util::prefilter::FirstBytes;
 use ac_util::search::{Match, Span};
@@ -129,9 +129,9 @@ impl<'a, A: Automaton> Scanner<'a, A> {
         tape: &mut Tape<'_>,
         looks: &mut Looks,
     )
-        requires skips { IfSome first (λ f. SkipsTo (⟦<Self as Scans>⟧.scan self.now).scan (first_bytes_of f)) }
-        requires may { MayAdvance (⟦<Self as Scans>⟧.scan self.now) tape.old cursor.old }
-        ensures { Advances (⟦<Self as Scans>⟧.scan self.now) cursor.old tape.old looks.old cursor.new tape.new looks.new }
+        requires skips { IfSome first (λ f. SkipsTo (scanner A.seen self.now).scan (first_bytes_of f)) }
+        requires may { MayAdvance (scanner A.seen self.now) tape.old cursor.old }
+        ensures { Advances (scanner A.seen self.now) cursor.old tape.old looks.old cursor.new tape.new looks.new }
     {
         match first {
             Some(first) => self.skip_ahead(first, cursor, budget, tape, looks),
@@ -150,9 +150,9 @@ impl<'a, A: Automaton> Scanner<'a, A> {
         tape: &mut Tape<'_>,
         looks: &mut Looks,
     )
-        requires skips { SkipsTo (⟦<Self as Scans>⟧.scan self.now).scan (first_bytes_of first) }
-        requires may { MayAdvance (⟦<Self as Scans>⟧.scan self.now) tape.old cursor.old }
-        ensures { Advances (⟦<Self as Scans>⟧.scan self.now) cursor.old tape.old looks.old cursor.new tape.new looks.new }
+        requires skips { SkipsTo (scanner A.seen self.now).scan (first_bytes_of first) }
+        requires may { MayAdvance (scanner A.seen self.now) tape.old cursor.old }
+        ensures { Advances (scanner A.seen self.now) cursor.old tape.old looks.old cursor.new tape.new looks.new }
     {
         // A copy, which stays in registers.
         let mut copied = *cursor;
@@ -177,9 +177,9 @@ impl<'a, A: Automaton> Scanner<'a, A> {
         tape: &mut Tape<'_>,
         looks: &mut Looks,
     )
-        requires skips { SkipsTo (⟦<Self as Scans>⟧.scan self.now).scan (first_bytes_of first) }
-        requires may { MayAdvance (⟦<Self as Scans>⟧.scan self.now) tape.old cursor.old }
-        ensures { Advances (⟦<Self as Scans>⟧.scan self.now) cursor.old tape.old looks.old cursor.new tape.new looks.new }
+        requires skips { SkipsTo (scanner A.seen self.now).scan (first_bytes_of first) }
+        requires may { MayAdvance (scanner A.seen self.now) tape.old cursor.old }
+        ensures { Advances (scanner A.seen self.now) cursor.old tape.old looks.old cursor.new tape.new looks.new }
     {
         if !budget.is_left() {
             return self.read_rest(cursor, budget, tape, looks);
@@ -212,8 +212,8 @@ impl<'a, A: Automaton> Scanner<'a, A> {
         tape: &mut Tape<'_>,
         looks: &mut Looks,
     )
-        requires { MayAdvance (⟦<Self as Scans>⟧.scan self.now) tape.old cursor.old }
-        ensures { Advances (⟦<Self as Scans>⟧.scan self.now) cursor.old tape.old looks.old cursor.new tape.new looks.new }
+        requires { MayAdvance (scanner A.seen self.now) tape.old cursor.old }
+        ensures { Advances (scanner A.seen self.now) cursor.old tape.old looks.old cursor.new tape.new looks.new }
     {
         let from = cursor.at;
         let scanner = Scanner {

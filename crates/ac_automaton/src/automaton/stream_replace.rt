@@ -1,10 +1,11 @@
 //! Replacement in a stream: its bytes are written as they were read, with each match replaced from a list or by a
 //! closure.
-ghost use Rattle.std.specs.Prelude.{◌≡◌, ℕ, ◌<◌, List, [], MatchResult, None, OnOk, Result, length};
-ghost use Rattle.ac_automaton.specs.Util.{AnswersStream, bytes_of, FailsToReplace, FailsToReplaceWith, Occurrence, ReplacesStream, ReplacesStreamWith, Replacing, stream_refusal, StreamError};
-ghost use Rattle.ac_automaton.specs.Exchanges.{CallsBy, error_in, FailsBy, FailsToExchange, HasExchanged, PassesText, ReplacesBy};
-ghost use Rattle.ac_automaton.specs.Gathering.{by_texts, Passing, PassesPiece};
+ghost use Rattle.std.specs.Prelude.{◌≡◌, ℕ, ◌<◌, List, [], None, OnOk, Result, length};
+ghost use Rattle.ac_automaton.specs.Util.{bytes_of, Occurrence, Replacing, stream_refusal, StreamError};
+ghost use Rattle.ac_automaton.specs.Exchanges.{AcceptsMatches, beside, CallsBy, ExchangesRead, Passes, PassesText, ReplacesOrFails, StillAccepts};
+ghost use Rattle.ac_automaton.specs.Gathering.{by_texts, Passing};
 ghost use Rattle.ac_automaton.specs.Streams.{initial_stream};
+ghost use Rattle.ac_automaton.specs.Answers.{AnswersStreamTexts, AnswersStreamCalls};
 
 use super::Automaton;
 use super::gathered::Gathered;
@@ -24,11 +25,8 @@ pub(super) fn try_stream_replace_all<A: Automaton, Z: Allocator, R: Source, W: S
     texts: &[&[u8]],
 ) -> Result<(), StreamError>
     requires texts { length texts.now ≡ length (A.seen automaton.now).built.patterns }
-    ensures { AnswersStream (stream_refusal (A.seen automaton.now).built) ((reader.new ≡ reader.old) × (writer.new ≡ writer.old))
-        (ReplacesStream (A.seen automaton.now).built (bytes_of texts.now) (W.told writer.old) (W.told writer.new)
-        R.empty_means_end (R.told reader.old) (R.told reader.new))
-        (FailsToReplace (A.seen automaton.now).built (bytes_of texts.now) (W.told writer.old) (W.told writer.new)
-        R.empty_means_end (R.told reader.old) (R.told reader.new)) result }
+    ensures { AnswersStreamTexts R.told W.told R.empty_means_end (A.seen automaton.now).built (bytes_of texts.now)
+        reader.old reader.new writer.old writer.new result }
 {
     let mut finder = StreamFinder::new(automaton, alloc)?;
     let mut exchange = ByTexts::new(texts);
@@ -50,11 +48,8 @@ where
     W: Sink,
     F: FnMut(&Match, &[u8], &mut W) -> io::Result<()>,
     requires callable { F.IsAlwaysCallable closure }
-    ensures { AnswersStream (stream_refusal (A.seen automaton.now).built) ((reader.new ≡ reader.old) × (writer.new ≡ writer.old))
-        (ReplacesStreamWith W.told F.FnMut (A.seen automaton.now).built closure writer.old R.empty_means_end
-        (R.told reader.old) (R.told reader.new) writer.new)
-        (FailsToReplaceWith W.told F.FnMut (A.seen automaton.now).built closure writer.old R.empty_means_end
-        (R.told reader.old) (R.told reader.new) writer.new) result }
+    ensures { AnswersStreamCalls R.told W.told R.empty_means_end (A.seen automaton.now).built F.FnMut closure
+        reader.old reader.new writer.old writer.new result }
 {
     let mut finder = StreamFinder::new(automaton, alloc)?;
     let mut exchange = ByClosure { closure };
@@ -77,9 +72,8 @@ pub(super) trait Exchange<W: Sink> {
     /// # Errors
     /// As `write_all`.
     fn pass(&mut self, bytes: &[u8], writer: &mut W) -> Result<(), StreamError>
-        ensures passes { PassesPiece passing bytes.now (record { closure = self.old; destination = writer.old })
-            (error_in result) (record { closure = self.new; destination = writer.new }) }
-        ensures still { (m : Occurrence) → accepts self.old m → accepts self.new m };
+        ensures passes { Passes passing bytes.now (beside self.old writer.old) result (beside self.new writer.new) }
+        ensures still { StillAccepts accepts self.old self.new };
 
     /// Writes in place of a match.
     ///
@@ -87,19 +81,17 @@ pub(super) trait Exchange<W: Sink> {
     /// As what is wrapped.
     fn exchange(&mut self, found: &Match, slice: &[u8], writer: &mut W) -> Result<(), StreamError>
         requires accepted { accepts self.old found.now }
-        ensures calls { calls found.now slice.now (record { closure = self.old; destination = writer.old }) result
-            (record { closure = self.new; destination = writer.new }) }
-        ensures still { (m : Occurrence) → accepts self.old m → accepts self.new m };
+        ensures calls { calls found.now slice.now (beside self.old writer.old) result (beside self.new writer.new) }
+        ensures still { StillAccepts accepts self.old self.new };
 
     /// Writes what is held back.
     ///
     /// # Errors
     /// As `write_all`.
     fn write_held(&mut self, writer: &mut W) -> Result<(), StreamError>
-        ensures passes { PassesPiece passing [] (record { closure = self.old; destination = writer.old }) (error_in result)
-            (record { closure = self.new; destination = writer.new }) }
+        ensures passes { Passes passing [] (beside self.old writer.old) result (beside self.new writer.new) }
         ensures clear { OnOk result (passing.held self.new ≡ []) }
-        ensures still { (m : Occurrence) → accepts self.old m → accepts self.new m };
+        ensures still { StillAccepts accepts self.old self.new };
 }
 
 /// Writes the text of a match's pattern. Texts and bytes between them are gathered.
@@ -190,13 +182,10 @@ fn exchange_read<A: Automaton, Z: Allocator, W: Sink, E: Exchange<W>>(
     writer: &mut W,
     exchange: &mut E,
 ) -> Result<(), StreamError>
-    requires accepted { (m : Occurrence) → m.pattern < length finder.old.built.patterns → E.accepts exchange.old m }
-    ensures accepted { (m : Occurrence) → E.accepts exchange.old m → E.accepts exchange.new m }
-    ensures exchanged { MatchResult result
-        (λ _. HasExchanged E.passing E.calls finder.old finder.new (record { closure = exchange.old; destination = writer.old })
-        (record { closure = exchange.new; destination = writer.new }))
-        (λ e. FailsToExchange E.passing E.calls finder.old (record { closure = exchange.old; destination = writer.old }) e
-        (record { closure = exchange.new; destination = writer.new })) }
+    requires accepted { AcceptsMatches E.accepts finder.old.built exchange.old }
+    ensures accepted { StillAccepts E.accepts exchange.old exchange.new }
+    ensures exchanged { ExchangesRead E.passing E.calls finder.old finder.new (beside exchange.old writer.old)
+        (beside exchange.new writer.new) result }
 {
     loop {
         let from = finder.kept();
@@ -222,14 +211,9 @@ fn replace_stream<A: Automaton, Z: Allocator, R: Source, W: Sink, E: Exchange<W>
     requires allowed { stream_refusal finder.old.built ≡ None }
     requires begins { finder.old ≡ initial_stream finder.old.built }
     requires clear { E.passing.held exchange.old ≡ [] }
-    requires accepted { (m : Occurrence) → m.pattern < length finder.old.built.patterns → E.accepts exchange.old m }
-    ensures { MatchResult result
-        (λ _. ReplacesBy E.passing E.calls R.empty_means_end finder.old.built (R.told reader.old) (R.told reader.new)
-        (record { closure = exchange.old; destination = writer.old })
-        (record { closure = exchange.new; destination = writer.new }))
-        (λ e. FailsBy E.passing E.calls R.empty_means_end finder.old.built (R.told reader.old) (R.told reader.new)
-        (record { closure = exchange.old; destination = writer.old }) e
-        (record { closure = exchange.new; destination = writer.new })) }
+    requires accepted { AcceptsMatches E.accepts finder.old.built exchange.old }
+    ensures { ReplacesOrFails E.passing E.calls R.empty_means_end finder.old.built (R.told reader.old) (R.told reader.new)
+        (beside exchange.old writer.old) (beside exchange.new writer.new) result }
 {
     while finder.fill(reader)? {
         exchange_read(finder, writer, exchange)?;

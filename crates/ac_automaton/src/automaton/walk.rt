@@ -1,11 +1,9 @@
 //! The matches of a walk, one after another.
-ghost use Rattle.std.specs.Prelude.{◌≡◌, ◌+◌, ◌<◌, ◌≤◌, ℕ, IfSome, length};
+ghost use Rattle.std.specs.Prelude.{◌≡◌, ◌+◌, ◌<◌, ◌≤◌, IfSome};
 ghost use Rattle.std.specs.Iterator.{item_count};
-ghost use Rattle.ac_automaton.specs.Util.{input_of, next_match, repeats, Standard, usize_max};
+ghost use Rattle.ac_automaton.specs.Util.{input_of, next_match, repeats, usize_max};
 ghost use Rattle.ac_automaton.specs.Answers.{AnswersWalk};
-ghost use Rattle.ac_automaton.specs.Finds.{HasSearched};
-ghost use Rattle.ac_automaton.specs.Iterators.{Finds, GoesOn, after, kept_place, walking_of};
-ghost use Rattle.ac_automaton.specs.Progress.{search_of, work_of};
+ghost use Rattle.ac_automaton.specs.Iterators.{FindsBy, GoesOn, KeepsInput, MayFindIn, WalksBy, after, search_by};
 
 use super::Automaton;
 use super::find::Finder;
@@ -102,17 +100,12 @@ impl<'a, 'h, A: Automaton> TapedFinder<'a, 'h, A> {
     /// Returns the next match of a walk in a span, after one that ended at `last`.
     #[inline]
     fn next_left(&mut self, span: Span, last: Option<usize>) -> Option<Match>
-        requires whole { self.old.tape.bytes ≡ (input_of self.old.input).haystack }
-        requires inside { span.end ≤ length self.old.tape.bytes }
+        requires may { MayFindIn self.old span }
         requires small { span.end < usize_max }
-        requires legal { span.start ≤ span.end + 1 }
-        requires unread { self.old.finder.picking.order ≡ Standard → self.old.tape.place ≤ span.start }
         requires beyond { IfSome last (λ e. e ≤ span.start) }
-        ensures next { result ≡ next_match self.old.finder.picking.order
-            (search_of self.old.finder.built self.old.finder.anchored self.old.tape.bytes span.start span.end) last }
-        ensures same { (self.new.finder ≡ self.old.finder) × (self.new.input ≡ self.old.input) × (self.new.tape.bytes ≡ self.old.tape.bytes) }
-        ensures finds { (start : ℕ) → Finds (walking_of self.old.finder self.old.tape.bytes span last start
-            (work_of self.old.tape self.old.looks)) (work_of self.new.tape self.new.looks) }
+        ensures next { result ≡ next_match self.old.finder.picking.order (search_by self.old span) last }
+        ensures same { KeepsInput self.old self.new }
+        ensures finds { WalksBy self.old span last self.new }
     {
         let first = self.find(span);
         if !repeats(&first, last) {
@@ -128,15 +121,9 @@ impl<'a, 'h, A: Automaton> TapedFinder<'a, 'h, A> {
     /// Returns the pick of a span. Where the find before may have read past its match, it opens a new tape.
     #[inline]
     fn find(&mut self, span: Span) -> Option<Match>
-        requires whole { self.old.tape.bytes ≡ (input_of self.old.input).haystack }
-        requires inside { span.end ≤ length self.old.tape.bytes }
-        requires legal { span.start ≤ span.end + 1 }
-        requires unread { self.old.finder.picking.order ≡ Standard → self.old.tape.place ≤ span.start }
-        ensures same { (self.new.finder ≡ self.old.finder) × (self.new.input ≡ self.old.input) × (self.new.tape.bytes ≡ self.old.tape.bytes) }
-        ensures found { HasSearched self.old.finder.picking
-            (search_of self.old.finder.built self.old.finder.anchored self.old.tape.bytes span.start span.end) result
-            (record { place = kept_place self.old.finder.picking.order self.old.tape.place; counts = self.old.looks })
-            (work_of self.new.tape self.new.looks) }
+        requires may { MayFindIn self.old span }
+        ensures same { KeepsInput self.old self.new }
+        ensures found { FindsBy self.old span result self.new }
     {
         if !self.finder.stops_at_match() {
             let (tape, _) = open(&self.input);

@@ -1,11 +1,11 @@
 use Rattle.std.proofs.Common.{◌-◌}
-use Rattle.ac_automaton.specs.Prelude.{scan_of}
+use Rattle.ac_automaton.specs.Prelude.{scanner}
 use Rattle.ac_automaton.proofs.ListSteps.{HasListedOn}
 use Rattle.ac_automaton.proofs.automaton.scan.Scanner.next_item.Given as goal
 
 abbrev pub invariant-loop-found : goal.invariant-loop-found
 invariant-loop-found g l =
-    HasListedOn (record { scan = scan_of (g.A.Automaton.seen l.self.automaton.now) l.self.anchored; span = l.self.span; front = l.self.front })
+    HasListedOn (scanner g.A.Automaton.seen l.self)
     l.fn.reached l.fn.tape l.fn.looks l.reached l.tape l.looks
 
 abbrev pub decreases-loop-found : goal.decreases-loop-found

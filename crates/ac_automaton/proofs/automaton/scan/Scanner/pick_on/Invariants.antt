@@ -1,14 +1,10 @@
 use Rattle.std.proofs.Common.{◌-◌}
-use Rattle.ac_automaton.specs.Prelude.{PicksOn, scan_of}
+use Rattle.ac_automaton.specs.Prelude.{PicksOn, scanner}
 use Rattle.ac_automaton.proofs.automaton.scan.Scanner.pick_on.Given as goal
 
 abbrev pub invariant-loop-here : goal.invariant-loop-here
 invariant-loop-here g l =
-    PicksOn (record {
-      scan = scan_of (g.A.Automaton.seen l.self.automaton.now) l.self.anchored;
-      span = l.self.span;
-      front = l.self.front;
-    }) l.stops l.fn.cursor l.fn.tape l.fn.looks l.fn.picked l.here l.tape l.looks l.last
+    PicksOn (scanner g.A.Automaton.seen l.self) l.stops l.fn.cursor l.fn.tape l.fn.looks l.fn.picked l.here l.tape l.looks l.last
 
 abbrev pub decreases-loop-here : goal.decreases-loop-here
 decreases-loop-here g l = l.self.span.end - l.here.at

@@ -7,5 +7,11 @@ use Rattle.ac_automaton.proofs.automaton.walk.TapedFinder.next_left.Goals as goa
 pub overflow_add-further : goal.overflow_add-further
 overflow_add-further g c = grind (arith, common_steps, repeated c.args.last c.find-first.ensures.found c.requires.beyond (sym c.repeats.ensures ∙ c.if-not-repeats.false))
 
-pub find-requires-clause-legal : goal.find-requires-clause-legal
-find-requires-clause-legal g c = grind (arith, common_steps, repeated c.args.last c.find-first.ensures.found c.requires.beyond (sym c.repeats.ensures ∙ c.if-not-repeats.false))
+-- the second find goes on with the tape of the first
+pub find-requires : goal.find-requires
+find-requires g c = record { may = record {
+  whole = grind (arith, common_steps);
+  inside = grind (arith, common_steps);
+  legal = grind (arith, common_steps, repeated c.args.last c.find-first.ensures.found c.requires.beyond (sym c.repeats.ensures ∙ c.if-not-repeats.false));
+  unread = grind (arith, common_steps, repeated c.args.last c.find-first.ensures.found c.requires.beyond (sym c.repeats.ensures ∙ c.if-not-repeats.false));
+} }
