@@ -5,7 +5,7 @@ use Rattle.std.specs.Str.{IsUtf8}
 use Rattle.std.specs.declared.alloc.AllocError.{AllocError}
 use Rattle.ac_util.specs.declared.search.MatchKind.{MatchKind}
 use Rattle.ac_util.specs.declared.search.MatchKind.TheVariants.{Standard}
-use Rattle.ac_util.specs.Built.{Built, find_result, has_empty, search_in}
+use Rattle.ac_util.specs.Built.{Built, has_empty, search_in}
 use Rattle.ac_util.specs.Classes.{AreClasses, IsLawful, SetsApart, class_at, is_in_patterns}
 use Rattle.ac_util.specs.InputView.{InputView, whole_input}
 use Rattle.ac_util.specs.Inside.{LiesIn}
@@ -16,11 +16,11 @@ use Rattle.ac_util.specs.Pick.{pick}
 use Rattle.ac_util.specs.Replaced.{replaced}
 use Rattle.ac_util.specs.Replacement.{AppendsBeginning, Replacing, ReplacementSteps, WritesText, answer_of}
 use Rattle.ac_util.specs.Sameness.{plain, plain_byte, same_byte}
-use Rattle.ac_util.specs.Search.{Occurs, Search, from, pattern_of}
+use Rattle.ac_util.specs.Search.{Search, from, pattern_of}
 use Rattle.ac_util.specs.Settled.{IsSettledAt, NoneOpen}
 use Rattle.ac_util.specs.Stream.{stream_result}
 use Rattle.ac_util.specs.Texts.{AreTexts, IsBetweenCharacters}
-use Rattle.ac_util.specs.Walk.{next_match, walk, walk_after}
+use Rattle.ac_util.specs.Walk.{next_match, walk_after}
 
 -- a test is true exactly where its fact holds
 abbrev pub Decides : {X Y : Type 0} → (X → Y → Bool) → (X → Y → Type 0) → Type 0
