@@ -20,15 +20,15 @@ use Rattle.ac_util.specs.Search.{Search, from, pattern_of}
 use Rattle.ac_util.specs.Settled.{IsSettledAt, NoneOpen}
 use Rattle.ac_util.specs.Stream.{stream_result}
 use Rattle.ac_util.specs.Texts.{AreTexts, IsBetweenCharacters}
-use Rattle.ac_util.specs.Walk.{next_match, walk_after}
+use Rattle.ac_util.specs.Walk.{next_match, walk, walk_after}
 
 -- a test is true exactly where its fact holds
 abbrev pub Decides : {X Y : Type 0} → (X → Y → Bool) → (X → Y → Type 0) → Type 0
 Decides {X} {Y} test Fact = (x : X) (y : Y) → (test x y ≡ true) ↔ Fact x y
 
--- two strings have one length, and their bytes are the same, one by one
-abbrev pub AreSameByByte : Bool → List ℕ → List ℕ → Type 0
-AreSameByByte ignores_case s t =
+-- two strings are alike: they have one length, and their bytes are the same, one by one
+abbrev pub AreAlike : Bool → List ℕ → List ℕ → Type 0
+AreAlike ignores_case s t =
     (length s ≡ length t)
     × ((k : ℕ) → k < length s → same_byte ignores_case (slice_index s k) (slice_index t k) ≡ true)
 
@@ -45,6 +45,10 @@ abbrev pub IsAlwaysLawful : (Bool → List (List ℕ) → ℕ → ℕ) → Type 
 IsAlwaysLawful class =
     (ignores_case : Bool) (kind : MatchKind) (patterns : List (List ℕ))
     → IsLawful (class ignores_case patterns) kind ignores_case patterns
+
+-- it may by these, as they are read from their list
+abbrev pub IsLawfulAsRead : (Bool → List (List ℕ) → List ℕ) → Type 0
+IsLawfulAsRead classes = IsAlwaysLawful (λ ignores_case patterns. class_at (classes ignores_case patterns))
 
 -- these are classes of all bytes, whatever the patterns, and whether case is ignored or not
 abbrev pub AreAlwaysClasses : (Bool → List (List ℕ) → List ℕ) → Type 0
@@ -115,9 +119,9 @@ module _ (kind : MatchKind) (q : Search) (last : Option ℕ) where
 abbrev pub most_matches : InputView → ℕ
 most_matches input = input.end + 1 - input.start
 
--- those of the matches that end by a place
-abbrev pub ended_by : ℕ → List Occurrence → List Occurrence
-ended_by place ms = filter (λ m. nat_le m.end place) ms
+-- under Standard the walk over the span up to this end is those matches of the whole walk that end by there
+abbrev pub WalkBegins : Search → ℕ → Type 0
+WalkBegins q end = walk Standard (record q { high = end }) ≡ filter (λ m. nat_le m.end end) (walk Standard q)
 
 module _ (built : Built) (bytes more : List ℕ) where
   -- the matches of a stream of which these bytes came are the first ones when more of it comes

@@ -23,9 +23,9 @@ abbrev pub AnswersItems : {X Z : Type 0} → List X → Result (Vec X Z) AllocEr
 AnswersItems items result = IfOk result (λ answer. answer.items ≡ items)
 
 -- these matches were added, unless memory was refused
-abbrev pub AddsMatches : {Z : Type 0} → Vec Occurrence Z → Vec Occurrence Z → List Occurrence → Result (Unit {0}) AllocError
+abbrev pub Adds : {Z : Type 0} → Vec Occurrence Z → Vec Occurrence Z → List Occurrence → Result (Unit {0}) AllocError
     → Type 0
-AddsMatches old new added result = IfOk result (λ _. new.items ≡ old.items ++ added)
+Adds old new added result = IfOk result (λ _. new.items ≡ old.items ++ added)
 
 -- m can be exchanged for a text: it lies within a haystack of so many bytes, and its pattern has one of so many
 -- texts

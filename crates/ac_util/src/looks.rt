@@ -1,5 +1,5 @@
 //! What a search does: the bytes that it reads, and how often it looks at states.
-ghost use Rattle.std.specs.Prelude.{◌≡◌, ℕ, ◌+◌, ◌<◌, ◌≤◌, length, slice_index};
+ghost use Rattle.std.specs.Prelude.{◌≡◌, ◌+◌, ◌<◌, ◌≤◌, length, slice_index};
 ghost use Rattle.ac_util.specs.Counts.{no_counts, one_more_call, one_more_read, more_looks};
 ghost use Rattle.ac_util.specs.Inputs.{input_of};
 ghost use Rattle.ac_util.specs.Prefilters.{IsFirstAmong, IsNeedleMatch, PromisesFor, IsCandidateFor, first_bytes_of, skip_of};

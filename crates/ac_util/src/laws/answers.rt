@@ -7,7 +7,7 @@ ghost use Rattle.ac_util.specs.declared.search.MatchKind.{MatchKind};
 ghost use Rattle.ac_util.specs.declared.search.MatchKind.TheVariants.{Standard};
 ghost use Rattle.ac_util.specs.Built.{Built, find_result, search_in, walk_result};
 ghost use Rattle.ac_util.specs.InputView.{InputView};
-ghost use Rattle.ac_util.specs.Laws.{AllLieIn, AnswerLiesIn, AreSameByByte, CutsNoCharacter, Decides, EarliestIsStandard, GoesOn, IsPastEnd, MatchesStay, SettledStays, StayingIsDecided, StepsKeep, StepsLeaveBeginning, StepsLeaveWhole, WalkEnds, WalkGoesOn, ended_by, its_pattern, most_matches};
+ghost use Rattle.ac_util.specs.Laws.{AllLieIn, AnswerLiesIn, AreAlike, CutsNoCharacter, Decides, EarliestIsStandard, GoesOn, IsPastEnd, MatchesStay, SettledStays, StayingIsDecided, StepsKeep, StepsLeaveBeginning, StepsLeaveWhole, WalkBegins, WalkEnds, WalkGoesOn, its_pattern, most_matches};
 ghost use Rattle.ac_util.specs.Listing.{all, IsBefore, item_at};
 ghost use Rattle.ac_util.specs.Occurrence.{Occurrence};
 ghost use Rattle.ac_util.specs.Pick.{IsPick, order_of, pick};
@@ -29,7 +29,7 @@ pub fn sameness_is_by_letter()
     ensures bytes { (a b : ℕ) → (same_byte false a b ≡ true) ↔ (a ≡ b) }
     ensures letters { (a b : ℕ) → (same_byte true a b ≡ true) ↔ ((a ≡ b) ⊎ AreOneLetter a b) }
     ensures strings { (ignores_case : Bool) (s t : List ℕ)
-        → IsSame ignores_case s t ↔ AreSameByByte ignores_case s t }
+        → IsSame ignores_case s t ↔ AreAlike ignores_case s t }
     ensures counted { (s t : List ℕ) → IsSame false s t ↔ (s ≡ t) }
 {}
 
@@ -118,7 +118,7 @@ pub fn walk_is_short()
 /// Under Standard the walk over a beginning of the span is those matches of the whole walk that end within it.
 pub fn walk_has_beginnings()
     ensures { (q : Search) (end : ℕ) → end ≤ q.high
-        → walk Standard (record q { high = end }) ≡ ended_by end (walk Standard q) }
+        → WalkBegins q end }
 {}
 
 /// Under Standard the matches of a stream stay as more of it comes, and others follow: what was given before a read is right

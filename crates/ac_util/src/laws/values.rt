@@ -15,9 +15,9 @@ ghost use Rattle.ac_util.specs.declared.search.Span.{Span};
 ghost use Rattle.ac_util.specs.declared.search.input.Input.{Input as AnInput};
 ghost use Rattle.ac_util.specs.declared.search.StartKind.{StartKind};
 ghost use Rattle.ac_util.specs.declared.search.StartKind.TheVariants.{Unanchored};
-ghost use Rattle.ac_util.specs.Classes.{AreClasses, alphabet_len, class_at, class_of, classes_of, singletons, stride, stride2};
+ghost use Rattle.ac_util.specs.Classes.{AreClasses, alphabet_len, class_of, classes_of, singletons, stride, stride2};
 ghost use Rattle.ac_util.specs.Inputs.{input_of};
-ghost use Rattle.ac_util.specs.Laws.{AlwaysSetsApart, AreAlwaysClasses, AreBelow, HashesEqually, IsAlwaysLawful, OnlyPatternsLead, match_input};
+ghost use Rattle.ac_util.specs.Laws.{AlwaysSetsApart, AreAlwaysClasses, AreBelow, HashesEqually, IsAlwaysLawful, IsLawfulAsRead, OnlyPatternsLead, match_input};
 ghost use Rattle.ac_util.specs.Occurrence.{Occurrence};
 
 use crate::error::{BuildError, MatchError, ReplaceError};
@@ -134,8 +134,8 @@ pub fn greatest_number_is_stated()
 pub fn classes_are_lawful()
     ensures of_patterns { IsAlwaysLawful class_of }
     ensures singletons { IsAlwaysLawful (λ _ _ b. b) }
-    ensures of_patterns_read { IsAlwaysLawful (λ ignores_case patterns. class_at (classes_of ignores_case patterns)) }
-    ensures singletons_read { IsAlwaysLawful (λ _ _. class_at singletons) }
+    ensures of_patterns_read { IsLawfulAsRead classes_of }
+    ensures singletons_read { IsLawfulAsRead (λ _ _. singletons) }
 {}
 
 /// Each byte of a pattern has a class of its own, and only such a byte leads on from a node.
