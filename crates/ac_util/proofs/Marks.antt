@@ -7,6 +7,7 @@ use Rattle.std.proofs.lemmas.Grind.{common_steps}
 use Rattle.std.proofs.lemmas.List.{append-nil}
 use Rattle.std.proofs.lemmas.List.Elements.{filter-append}
 use Rattle.ac_util.specs.Prelude.{begins_with, BeginWith, first_bytes, first_bytes_of, FirstBytes, FirstOf, is_empty, is_one_of, marked, MOST_BYTES, MOST_PATTERNS, One, plain_byte, same_byte, skip_among, skip_for, Three, Two}
+use Rattle.ac_util.specs.Prefilters.{is_marked}
 use Rattle.ac_util.specs.Prefilters.Skip.{Needle}
 use Rattle.ac_util.proofs.Lists.{IsIn, IsIn-filter, IsIn-range, none-from_nil}
 use Rattle.ac_util.proofs.PlainListing.{range-more}
@@ -31,10 +32,6 @@ begins_with-none ignores_case b (a ∷ p) e = absurd (cc)
 pub marked_more : (marks : List Bool) (j k : ℕ) → k < length marks
     → get_or (set marks k true) j false ≡ (get_or marks j false || j == k)
 marked_more marks j k h = grind (arith, common_steps)
-
--- whether the plain byte of a byte is marked
-abbrev pub is_marked : Bool → List Bool → ℕ → Bool
-is_marked ignores_case marks b = get_or marks (plain_byte ignores_case b) false
 
 -- the numbers below one more that pass are those below, and the one if it passes
 filter-one_more : (p : ℕ → Bool) (n : ℕ)

@@ -103,3 +103,7 @@ HasCause old new WriteZero = (new.failed ≡ old.failed) × (new.idles ≡ old.i
 pub record WritesUntilFailure (old new : Writing) (bytes : List ℕ) (e : WriteError) : Type 0 where
   pub some : WritesSome old new bytes
   pub cause : HasCause old new e
+
+-- the bytes were all written; or a beginning of them was, and then a write has failed or took nothing
+abbrev pub WritesOrFails : Writing → Writing → List ℕ → Result (Unit {0}) WriteError → Type 0
+WritesOrFails old new bytes result = MatchResult result (λ _. WritesAll old new bytes) (WritesUntilFailure old new bytes)

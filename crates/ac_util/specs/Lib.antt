@@ -30,3 +30,4 @@ pub mod Prefilters
 pub mod Built
 pub mod Inside
 pub mod Texts
+pub mod Laws

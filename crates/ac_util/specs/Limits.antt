@@ -1,8 +1,8 @@
 -- How many patterns there may be, and how long each.
-use Rattle.std.specs.Prelude.{ℕ, ◌+◌, ◌-◌, ◌≤◌, nat_lt, List, [], ◌∷◌, Option, None, Some, length, All, if◌then◌else◌}
+use Rattle.std.specs.Prelude.{◌≡◌, ℕ, ◌+◌, ◌-◌, ◌≤◌, nat_lt, List, [], ◌∷◌, Option, None, Some, Result, Err, MatchOption, MatchResult, length, All, if◌then◌else◌}
 use Rattle.ac_util.specs.declared.primitives.TheConstants.{GREATEST}
 use Rattle.ac_util.specs.declared.error.BuildError.{BuildError}
-use Rattle.ac_util.specs.declared.error.BuildError.TheVariants.{PatternIdOverflow, PatternTooLong}
+use Rattle.ac_util.specs.declared.error.BuildError.TheVariants.{Memory, PatternIdOverflow, PatternTooLong}
 
 -- every pattern has a number, and no pattern is too long
 pub record IsWithinLimits (patterns : List (List ℕ)) : Type 0 where
@@ -21,3 +21,12 @@ abbrev pub limit_refusal : List (List ℕ) → Option BuildError
 limit_refusal patterns =
     if nat_lt (GREATEST + 1) (length patterns) then Some (PatternIdOverflow GREATEST (length patterns - 1))
     else too_long_from 0 patterns
+
+-- the answer is why the patterns are refused, if they are; else it is as this says
+abbrev pub IsCheckedFirst : {X : Type 0} → List (List ℕ) → Result X BuildError → Type 0 → Type 0
+IsCheckedFirst patterns result otherwise =
+    MatchOption (limit_refusal patterns) otherwise (λ refusal. result ≡ Err refusal)
+
+-- the patterns were stored, or memory was refused
+abbrev pub AreStored : List (List ℕ) → Result (List (List ℕ)) BuildError → Type 0
+AreStored patterns result = MatchResult result (λ stored. stored ≡ patterns) (λ e. e ≡ Memory)

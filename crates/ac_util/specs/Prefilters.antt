@@ -1,5 +1,5 @@
 -- How a search may skip ahead to where a match can start, and what is known of what it skips.
-use Rattle.std.specs.Prelude.{◌≡◌, ℕ, ◌≤◌, Bool, false, ◌&&◌, nat_le, not, ◌==◌, true, List, [], ◌∷◌, length, filter, slice_index_or, Option, None, Some, if◌then◌else◌}
+use Rattle.std.specs.Prelude.{◌≡◌, ◌⊎◌, ℕ, ◌<◌, ◌≤◌, Bool, false, ◌&&◌, ◌||◌, nat_le, not, ◌==◌, true, List, [], ◌∷◌, length, filter, slice_index_or, Option, None, Some, IfSome, MatchOption, option_map, if◌then◌else◌}
 use Rattle.std.specs.List.{list_any, range_with_len}
 use Rattle.std.specs.Option.{is_some}
 use Rattle.ac_util.specs.declared.prefilter.Candidate.{Candidate}
@@ -13,6 +13,7 @@ use Rattle.ac_util.specs.declared.search.Anchored.TheVariants.{No, Yes}
 use Rattle.ac_util.specs.declared.search.MatchKind.{MatchKind}
 use Rattle.ac_util.specs.declared.search.MatchKind.TheVariants.{Standard}
 use Rattle.memchr.specs.Find.{IsFirst, Passes}
+use Rattle.ac_util.specs.Classes.{is_in}
 use Rattle.ac_util.specs.Node.{is_empty}
 use Rattle.ac_util.specs.Occurrence.{Occurrence}
 use Rattle.ac_util.specs.Pick.{pick}
@@ -88,9 +89,27 @@ abbrev pub byte_count : Skip → ℕ
 byte_count (FirstOf bytes) = length bytes
 byte_count (Needle needle) = 0
 
+-- whether the plain byte of a byte is marked
+abbrev pub is_marked : Bool → List Bool → ℕ → Bool
+is_marked ignores_case marks b = slice_index_or marks (plain_byte ignores_case b) false
+
+-- the marks say of each byte what the test says
+abbrev pub AreMarksOf : Bool → List Bool → (ℕ → Bool) → Type 0
+AreMarksOf ignores_case marks test = (b : ℕ) → is_marked ignores_case marks b ≡ test b
+
+-- the bytes of a pattern were marked too
+abbrev pub AddsMarks : Bool → List Bool → List Bool → List ℕ → Type 0
+AddsMarks ignores_case old new pattern =
+    AreMarksOf ignores_case new (λ b. is_marked ignores_case old b || is_in ignores_case pattern b)
+
 -- the bytes whose plain byte is marked, in ascending order
 abbrev pub marked : Bool → List Bool → List ℕ
-marked ignores_case marks = filter (λ b. slice_index_or marks (plain_byte ignores_case b) false) (range_with_len 0 256)
+marked ignores_case marks = filter (is_marked ignores_case marks) (range_with_len 0 256)
+
+-- a prefilter skips by these bytes; or there is none, since they are none or more than three
+abbrev pub SkipsByFew : List ℕ → Option FirstBytes → Type 0
+SkipsByFew bytes result =
+    MatchOption result ((bytes ≡ []) ⊎ (3 < length bytes)) (λ first. first_bytes_of first ≡ bytes)
 
 -- no pattern is empty, and each begins with one of the bytes
 pub record BeginWith (bytes : List ℕ) (ignores_case : Bool) (patterns : List (List ℕ)) : Type 0 where
@@ -101,6 +120,12 @@ pub record BeginWith (bytes : List ℕ) (ignores_case : Bool) (patterns : List (
 abbrev pub IsSkipFor : Skip → Bool → List (List ℕ) → Type 0
 IsSkipFor (FirstOf bytes) ignores_case patterns = BeginWith bytes ignores_case patterns
 IsSkipFor (Needle needle) ignores_case patterns = (ignores_case ≡ false) × (patterns ≡ needle ∷ [])
+
+-- this is the prefilter for the patterns, and it may skip so; or there is none for them
+abbrev pub IsPrefilterFor : {Z : Type 0} → Bool → List (List ℕ) → Option (Prefilter Z) → Type 0
+IsPrefilterFor ignores_case patterns found =
+    (option_map skip_of found ≡ skip_for true ignores_case patterns)
+    × IfSome found (λ p. IsSkipFor (skip_of p) ignores_case patterns)
 
 -- the unanchored search for patterns in a span of the haystack
 abbrev pub search_over : Bool → List (List ℕ) → List ℕ → ℕ → ℕ → Search
@@ -141,3 +166,9 @@ Promises q Nothing = (m : Occurrence) → ¬ Occurs q m
 Promises q (Found m) = (kind : MatchKind) → pick kind q ≡ Some m
 Promises q (PossibleStart place) =
     (q.low ≤ place) × (place ≤ q.high) × ((m : Occurrence) → Occurs q m → place ≤ m.start)
+
+-- a candidate says so of each search that may skip so
+abbrev pub PromisesFor : Skip → List ℕ → ℕ → ℕ → Candidate → Type 0
+PromisesFor skip haystack low high candidate =
+    (ignores_case : Bool) (patterns : List (List ℕ)) → IsSkipFor skip ignores_case patterns
+    → Promises (search_over ignores_case patterns haystack low high) candidate

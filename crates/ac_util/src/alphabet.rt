@@ -1,8 +1,7 @@
 //! Classes of bytes that an automaton need not distinguish, which make its rows of transitions short.
-ghost use Rattle.std.specs.Prelude.{◌≡◌, ℕ, ◌<◌, ◌≤◌, ◌||◌, slice_index_or, false};
-ghost use Rattle.std.specs.List.{list_any};
+ghost use Rattle.std.specs.Prelude.{◌≡◌, ℕ, ◌<◌, ◌≤◌};
 ghost use Rattle.ac_util.specs.Classes.{alphabet_len, class_at, classes_of, singletons, is_in_patterns, stride, stride2};
-ghost use Rattle.ac_util.specs.Sameness.{plain_byte, same_byte};
+ghost use Rattle.ac_util.specs.Prefilters.{AddsMarks, AreMarksOf};
 
 use crate::patterns::{Patterns, plain_byte};
 use std::alloc::Allocator;
@@ -107,7 +106,7 @@ impl ByteClasses {
 
 /// Marks the plain bytes that stand in some pattern.
 fn marks_of<A: Allocator>(patterns: &Patterns<A>, ignores_case: bool) -> [bool; 256]
-    ensures { (b : ℕ) → slice_index_or result (plain_byte ignores_case b) false ≡ is_in_patterns ignores_case patterns.now b }
+    ensures { AreMarksOf ignores_case result (is_in_patterns ignores_case patterns.now) }
 {
     let mut marks = [false; 256];
     for number in 0..patterns.len() {
@@ -118,8 +117,7 @@ fn marks_of<A: Allocator>(patterns: &Patterns<A>, ignores_case: bool) -> [bool; 
 
 /// Marks the plain bytes of one pattern too.
 fn mark(marks: &mut [bool; 256], pattern: &[u8], ignores_case: bool)
-    ensures { (b : ℕ) → slice_index_or marks.new (plain_byte ignores_case b) false
-        ≡ (slice_index_or marks.old (plain_byte ignores_case b) false || list_any (same_byte ignores_case b) pattern.now) }
+    ensures { AddsMarks ignores_case marks.old marks.new pattern.now }
 {
     for &byte in pattern {
         marks[plain_byte(ignores_case, byte) as usize] = true;

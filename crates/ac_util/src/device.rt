@@ -1,6 +1,6 @@
 //! Readers and writers: where the bytes of a stream come from, and where they go.
-ghost use Rattle.std.specs.Prelude.{Bool, MatchResult};
-ghost use Rattle.ac_util.specs.Device.{Reading, Reads, Writing, Writes, WritesAll, WritesUntilFailure};
+ghost use Rattle.std.specs.Prelude.{Bool};
+ghost use Rattle.ac_util.specs.Device.{Reading, Reads, Writing, Writes, WritesOrFails};
 
 mod adapters;
 mod memory;
@@ -60,9 +60,7 @@ pub enum WriteError {
 /// `Io` where a write failed, and `WriteZero` where one took no byte: a beginning of the bytes was written then, and
 /// not all of them.
 pub fn write_all<W: Sink>(writer: &mut W, bytes: &[u8]) -> Result<(), WriteError>
-    ensures { MatchResult result
-        (λ _. WritesAll (W.told writer.old) (W.told writer.new) bytes.now)
-        (WritesUntilFailure (W.told writer.old) (W.told writer.new) bytes.now) }
+    ensures { WritesOrFails (W.told writer.old) (W.told writer.new) bytes.now result }
 {
     let mut at = 0;
     while at < bytes.len() {

@@ -1,8 +1,8 @@
 //! What a search does: the bytes that it reads, and how often it looks at states.
-ghost use Rattle.std.specs.Prelude.{◌≡◌, ℕ, ◌+◌, ◌<◌, ◌≤◌, Bool, List, length, slice_index};
+ghost use Rattle.std.specs.Prelude.{◌≡◌, ◌+◌, ◌<◌, ◌≤◌, length, slice_index};
 ghost use Rattle.ac_util.specs.Counts.{no_counts, one_more_call, one_more_read, more_looks};
 ghost use Rattle.ac_util.specs.Inputs.{input_of};
-ghost use Rattle.ac_util.specs.Prefilters.{IsFirstAmong, IsNeedleMatch, IsSkipFor, Promises, IsCandidateFor, first_bytes_of, search_over, skip_of};
+ghost use Rattle.ac_util.specs.Prefilters.{IsFirstAmong, IsNeedleMatch, PromisesFor, IsCandidateFor, first_bytes_of, skip_of};
 
 use crate::prefilter::{Candidate, FirstBytes, Needle, Prefilter};
 use crate::search::{Input, Match, Span};
@@ -135,8 +135,7 @@ impl<'h> Tape<'h> {
         requires ordered { at ≤ end }
         requires within { end ≤ length self.now.bytes }
         ensures says { IsCandidateFor (skip_of prefilter.now) self.now.bytes at end result }
-        ensures promises { (ignores_case : Bool) (patterns : List (List ℕ)) → IsSkipFor (skip_of prefilter.now) ignores_case patterns
-            → Promises (search_over ignores_case patterns self.now.bytes at end) result }
+        ensures promises { PromisesFor (skip_of prefilter.now) self.now.bytes at end result }
         ensures counted { looks.new ≡ one_more_call looks.old }
     {
         looks.call();

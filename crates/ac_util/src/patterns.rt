@@ -1,9 +1,7 @@
 //! The patterns of a searcher, which it stores once.
-ghost use Rattle.std.specs.Prelude.{◌≡◌, ◌+◌, ◌<◌, ◌≤◌, length, map, slice_get, Some, Ok, Err};
-ghost use Rattle.std.specs.Prelude.{MatchOption, MatchResult};
-ghost use Rattle.ac_util.specs.declared.error.BuildError.TheVariants.{Memory};
+ghost use Rattle.std.specs.Prelude.{◌≡◌, ◌+◌, ◌<◌, ◌≤◌, length, map, slice_get, Some, Ok};
 ghost use Rattle.ac_util.specs.Borrowed.{bytes_of};
-ghost use Rattle.ac_util.specs.Limits.{limit_refusal};
+ghost use Rattle.ac_util.specs.Limits.{AreStored, IsCheckedFirst};
 ghost use Rattle.ac_util.specs.Sameness.{plain_byte};
 
 use crate::error::BuildError;
@@ -75,9 +73,7 @@ impl<A: Allocator + Clone> Patterns<A> {
     /// `PatternIdOverflow` and `PatternTooLong` exactly where a limit is passed, checked over the whole list in this
     /// order, whether there is memory or not; else `Memory` where a request for memory is refused.
     pub fn new(alloc: A, patterns: &[&[u8]]) -> Result<Patterns<A>, BuildError>
-        ensures { MatchOption (limit_refusal (bytes_of patterns.now))
-            (MatchResult result (λ stored. stored ≡ bytes_of patterns.now) (λ e. e ≡ Memory))
-            (λ refusal. result ≡ Err refusal) }
+        ensures { IsCheckedFirst (bytes_of patterns.now) result (AreStored (bytes_of patterns.now) result) }
     {
         check_limits(patterns)?;
         let mut pieces = Pieces::new(alloc)?;
@@ -113,9 +109,7 @@ pub fn plain_byte(ignores_case: bool, byte: u8) -> u8
 /// # Errors
 /// `PatternIdOverflow` or `PatternTooLong`, whichever limit is passed first.
 pub fn check_limits<P: AsSlice<u8>>(patterns: &[P]) -> Result<(), BuildError>
-    ensures { MatchOption (limit_refusal (map P.items patterns.now))
-        (result ≡ Ok tt)
-        (λ refusal. result ≡ Err refusal) }
+    ensures { IsCheckedFirst (map P.items patterns.now) result (result ≡ Ok tt) }
 {
     if patterns.len() > PatternID::LIMIT {
         return Err(BuildError::PatternIdOverflow {

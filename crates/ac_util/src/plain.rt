@@ -5,6 +5,7 @@ ghost use Rattle.std.specs.Prelude.{◌≡◌, ◌↔◌, ◌+◌, ◌≤◌, �
 ghost use Rattle.ac_util.specs.Borrowed.{bytes_of};
 ghost use Rattle.ac_util.specs.Occurrence.{occurrence};
 ghost use Rattle.ac_util.specs.Pick.{beats, better, pick};
+ghost use Rattle.ac_util.specs.Plain.{search_within};
 ghost use Rattle.ac_util.specs.Sameness.{IsSame};
 ghost use Rattle.ac_util.specs.Search.{Occurs, from};
 
@@ -72,14 +73,7 @@ impl<'a> Query<'a> {
     ) -> Query<'a>
         requires numbers { length patterns.now ≤ GREATEST + 1 }
         requires within { span.end ≤ length haystack.now }
-        ensures { result ≡ record {
-          patterns = bytes_of patterns.now;
-          ignores_case = ignores_case;
-          haystack = haystack.now;
-          anchored = anchored;
-          low = span.start;
-          high = span.end;
-        } }
+        ensures { result ≡ search_within (bytes_of patterns.now) ignores_case haystack.now anchored span }
     {
         Query {
             patterns,

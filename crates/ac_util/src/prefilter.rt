@@ -1,14 +1,13 @@
 //! Prefilters, which skip ahead to where a match may start.
 //!
 //! Fast searches for one to three bytes, or for one needle, are those of `memchr`.
-ghost use Rattle.std.specs.Prelude.{◌≡◌, ℕ, ◌≤◌, ◌<◌, ◌⊎◌, Bool, List, [], false, true, length, IfOk, IfSome, MatchOption, MatchResult, option_map, slice_index_or};
+ghost use Rattle.std.specs.Prelude.{◌≡◌, ◌≤◌, length, IfOk, MatchResult};
 ghost use Rattle.std.specs.List.{list_any};
 ghost use Rattle.memchr.specs.Find.{IsFirstByte};
 ghost use Rattle.ac_util.specs.declared.error.BuildError.TheVariants.{Memory};
 ghost use Rattle.ac_util.specs.InputView.{IsLegal};
 ghost use Rattle.ac_util.specs.Node.{is_empty};
-ghost use Rattle.ac_util.specs.Prefilters.{IsFirstAmong, IsNeedleMatch, IsSkipFor, Promises, IsCandidateFor, begins_with, byte_count, first_bytes_of, is_one_of, marked, search_over, skip_for, skip_of};
-ghost use Rattle.ac_util.specs.Sameness.{plain_byte};
+ghost use Rattle.ac_util.specs.Prefilters.{AreMarksOf, IsFirstAmong, IsNeedleMatch, IsPrefilterFor, IsCandidateFor, PromisesFor, SkipsByFew, begins_with, byte_count, first_bytes_of, is_one_of, marked, skip_of};
 
 use crate::error::BuildError;
 use crate::patterns::{Patterns, plain_byte};
@@ -115,9 +114,7 @@ impl<A: Allocator> Needle<A> {
 impl FirstBytes {
     /// Returns the bytes whose plain byte is marked, if there are one to three of them.
     fn of(marks: &[bool; 256], ignores_case: bool) -> Option<FirstBytes>
-        ensures { MatchOption result
-            ((marked ignores_case marks.now ≡ []) ⊎ (3 < length (marked ignores_case marks.now)))
-            (λ first. first_bytes_of first ≡ marked ignores_case marks.now) }
+        ensures { SkipsByFew (marked ignores_case marks.now) result }
     {
         let mut bytes = [0; MOST_BYTES];
         let mut count = 0;
@@ -204,10 +201,7 @@ impl<A: Allocator> Prefilter<A> {
         patterns: &Patterns<Z>,
         ignores_case: bool,
     ) -> Result<Option<Prefilter<A>>, BuildError>
-        ensures { MatchResult result
-            (λ found. (option_map skip_of found ≡ skip_for true ignores_case patterns.now)
-            × IfSome found (λ p. IsSkipFor (skip_of p) ignores_case patterns.now))
-            (λ e. e ≡ Memory) }
+        ensures { MatchResult result (IsPrefilterFor ignores_case patterns.now) (λ e. e ≡ Memory) }
     {
         if has_empty(patterns) || patterns.len() == 0 {
             return Ok(None);
@@ -246,8 +240,7 @@ impl<A: Allocator> Prefilter<A> {
     pub fn find_in(&self, haystack: &[u8], span: Span) -> Candidate
         requires legal { IsLegal haystack.now span.start span.end }
         ensures says { IsCandidateFor (skip_of self.now) haystack.now span.start span.end result }
-        ensures promises { (ignores_case : Bool) (patterns : List (List ℕ)) → IsSkipFor (skip_of self.now) ignores_case patterns
-            → Promises (search_over ignores_case patterns haystack.now span.start span.end) result }
+        ensures promises { PromisesFor (skip_of self.now) haystack.now span.start span.end result }
     {
         if span.start > span.end {
             return Candidate::None;
@@ -289,8 +282,7 @@ fn has_empty<A: Allocator>(patterns: &Patterns<A>) -> bool
 
 /// Marks the plain bytes with which patterns begin.
 fn first_marks<A: Allocator>(patterns: &Patterns<A>, ignores_case: bool) -> [bool; 256]
-    ensures { (b : ℕ) → slice_index_or result (plain_byte ignores_case b) false
-        ≡ list_any (begins_with ignores_case b) patterns.now }
+    ensures { AreMarksOf ignores_case result (λ b. list_any (begins_with ignores_case b) patterns.now) }
 {
     let mut marks = [false; 256];
     for number in 0..patterns.len() {

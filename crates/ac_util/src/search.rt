@@ -1,5 +1,6 @@
 //! The options of a search, and what it returns: match kinds, anchoring, spans and matches.
 ghost use Rattle.std.specs.Prelude.{◌≡◌, ◌+◌, ◌-◌, ◌<◌, ◌≤◌, ◌↔◌, IsTrue};
+ghost use Rattle.ac_util.specs.Inputs.{HasOffset};
 ghost use Rattle.ac_util.specs.Node.{is_leftmost};
 ghost use Rattle.ac_util.specs.Occurrence.{occurrence};
 ghost use Rattle.ac_util.specs.Sizes.{usize_max};
@@ -100,7 +101,7 @@ impl Span {
     /// Span { start: 3, end: 3 }.contains(3) // false
     /// ```
     pub fn contains(&self, offset: usize) -> bool
-        ensures { IsTrue result ↔ ((self.now.start < self.now.end) × (self.now.start ≤ offset) × (offset ≤ self.now.end)) }
+        ensures { IsTrue result ↔ HasOffset self.now offset }
     {
         !self.is_empty() && self.start <= offset && offset <= self.end
     }

@@ -1,5 +1,5 @@
 //! Of the plain types: how values compare, are hashed and are cloned, and what classes of bytes are.
-ghost use Rattle.std.specs.Prelude.{◌≡◌, ℕ, ◌^◌, ◌<◌, ◌≤◌, ◌++◌, ◌∷◌, [], ◌↔◌, Bool, List, map, true};
+ghost use Rattle.std.specs.Prelude.{◌≡◌, ℕ, ◌^◌, ◌≤◌, ◌++◌, ◌↔◌, Bool, List, true};
 ghost use Rattle.std.specs.Hash as fed;
 ghost use Rattle.std.specs.Ordering.{nat_cmp};
 ghost use Rattle.ac_util.specs.declared.error.BuildError.{BuildError};
@@ -10,13 +10,14 @@ ghost use Rattle.ac_util.specs.declared.primitives.TheConstants.{GREATEST};
 ghost use Rattle.ac_util.specs.declared.primitives.TooLarge.{TooLarge};
 ghost use Rattle.ac_util.specs.declared.search.Anchored.{Anchored};
 ghost use Rattle.ac_util.specs.declared.search.MatchKind.{MatchKind};
+ghost use Rattle.ac_util.specs.declared.search.MatchKind.TheVariants.{Standard};
 ghost use Rattle.ac_util.specs.declared.search.Span.{Span};
 ghost use Rattle.ac_util.specs.declared.search.input.Input.{Input as AnInput};
 ghost use Rattle.ac_util.specs.declared.search.StartKind.{StartKind};
-ghost use Rattle.ac_util.specs.Classes.{AreClasses, IsLawful, SetsApart, alphabet_len, class_at, class_of, classes_of, singletons, is_in_patterns, stride, stride2};
+ghost use Rattle.ac_util.specs.declared.search.StartKind.TheVariants.{Unanchored};
+ghost use Rattle.ac_util.specs.Classes.{AreClasses, alphabet_len, class_of, classes_of, singletons, stride, stride2};
 ghost use Rattle.ac_util.specs.Inputs.{input_of};
-ghost use Rattle.ac_util.specs.Node.{is_node};
-ghost use Rattle.ac_util.specs.Sameness.{plain, plain_byte};
+ghost use Rattle.ac_util.specs.Laws.{AlwaysSetsApart, AreAlwaysClasses, AreBelow, HashesEqually, IsAlwaysLawful, IsLawfulAsRead, OnlyPatternsLead, match_input};
 ghost use Rattle.ac_util.specs.Occurrence.{Occurrence};
 
 use crate::error::{BuildError, MatchError, ReplaceError};
@@ -102,22 +103,16 @@ pub fn values_hash_by_their_fields()
     ensures plain { (n : ℕ) → ⟦<SmallIndex as Hash>⟧.hash_input n ≡ fed.u32 n }
     ensures spans { (s : Span)
         → ⟦<Span as Hash>⟧.hash_input s ≡ fed.usize s.start ++ fed.usize s.end }
-    ensures matches { (m : Occurrence) → ⟦<Match as Hash>⟧.hash_input m
-        ≡ fed.u32 m.pattern ++ fed.usize m.start ++ fed.usize m.end }
+    ensures matches { (m : Occurrence) → ⟦<Match as Hash>⟧.hash_input m ≡ match_input m }
 {}
 
 /// Values that compare as equal hand a hasher the same.
 pub fn equal_values_hash_equally()
-    ensures patterns { (a b : ℕ) → ⟦<PatternID as PartialEq>⟧.eq a b ≡ true
-        → ⟦<PatternID as Hash>⟧.hash_input a ≡ ⟦<PatternID as Hash>⟧.hash_input b }
-    ensures states { (a b : ℕ) → ⟦<StateID as PartialEq>⟧.eq a b ≡ true
-        → ⟦<StateID as Hash>⟧.hash_input a ≡ ⟦<StateID as Hash>⟧.hash_input b }
-    ensures plain { (a b : ℕ) → ⟦<SmallIndex as PartialEq>⟧.eq a b ≡ true
-        → ⟦<SmallIndex as Hash>⟧.hash_input a ≡ ⟦<SmallIndex as Hash>⟧.hash_input b }
-    ensures spans { (a b : Span) → ⟦<Span as PartialEq>⟧.eq a b ≡ true
-        → ⟦<Span as Hash>⟧.hash_input a ≡ ⟦<Span as Hash>⟧.hash_input b }
-    ensures matches { (a b : Occurrence) → ⟦<Match as PartialEq>⟧.eq a b ≡ true
-        → ⟦<Match as Hash>⟧.hash_input a ≡ ⟦<Match as Hash>⟧.hash_input b }
+    ensures patterns { HashesEqually ⟦<PatternID as PartialEq>⟧.eq ⟦<PatternID as Hash>⟧.hash_input }
+    ensures states { HashesEqually ⟦<StateID as PartialEq>⟧.eq ⟦<StateID as Hash>⟧.hash_input }
+    ensures plain { HashesEqually ⟦<SmallIndex as PartialEq>⟧.eq ⟦<SmallIndex as Hash>⟧.hash_input }
+    ensures spans { HashesEqually ⟦<Span as PartialEq>⟧.eq ⟦<Span as Hash>⟧.hash_input }
+    ensures matches { HashesEqually ⟦<Match as PartialEq>⟧.eq ⟦<Match as Hash>⟧.hash_input }
 {}
 
 /// By default a number is 0, the match kind is `Standard`, and unanchored searches alone are served.
@@ -125,9 +120,8 @@ pub fn defaults_are_stated()
     ensures patterns { (n : ℕ) → ⟦<PatternID as Default>⟧.is_default n → n ≡ 0 }
     ensures states { (n : ℕ) → ⟦<StateID as Default>⟧.is_default n → n ≡ 0 }
     ensures plain { (n : ℕ) → ⟦<SmallIndex as Default>⟧.is_default n → n ≡ 0 }
-    ensures kinds { (kind : MatchKind) → ⟦<MatchKind as Default>⟧.is_default kind → kind ≡ MatchKind.Standard }
-    ensures starts { (start : StartKind) → ⟦<StartKind as Default>⟧.is_default start
-        → start ≡ StartKind.Unanchored }
+    ensures kinds { (kind : MatchKind) → ⟦<MatchKind as Default>⟧.is_default kind → kind ≡ Standard }
+    ensures starts { (start : StartKind) → ⟦<StartKind as Default>⟧.is_default start → start ≡ Unanchored }
 {}
 
 /// The greatest number of a pattern or a state is 2,147,483,646.
@@ -138,34 +132,25 @@ pub fn greatest_number_is_stated()
 /// An automaton may step by the classes of its patterns' bytes, or by each byte as a class of its own. The last
 /// two say it of the classes as they are read from their list.
 pub fn classes_are_lawful()
-    ensures of_patterns { (ignores_case : Bool) (kind : MatchKind) (patterns : List (List ℕ))
-        → IsLawful (class_of ignores_case patterns) kind ignores_case patterns }
-    ensures singletons { (ignores_case : Bool) (kind : MatchKind) (patterns : List (List ℕ))
-        → IsLawful (λ b. b) kind ignores_case patterns }
-    ensures of_patterns_read { (ignores_case : Bool) (kind : MatchKind) (patterns : List (List ℕ))
-        → IsLawful (class_at (classes_of ignores_case patterns)) kind ignores_case patterns }
-    ensures singletons_read { (ignores_case : Bool) (kind : MatchKind) (patterns : List (List ℕ))
-        → IsLawful (class_at singletons) kind ignores_case patterns }
+    ensures of_patterns { IsAlwaysLawful class_of }
+    ensures singletons { IsAlwaysLawful (λ _ _ b. b) }
+    ensures of_patterns_read { IsLawfulAsRead classes_of }
+    ensures singletons_read { IsLawfulAsRead (λ _ _. singletons) }
 {}
 
 /// Each byte of a pattern has a class of its own, and only such a byte leads on from a node.
 pub fn classes_set_apart()
-    ensures of_patterns { (ignores_case : Bool) (patterns : List (List ℕ))
-        → SetsApart ignores_case patterns (classes_of ignores_case patterns) }
-    ensures singletons { (ignores_case : Bool) (patterns : List (List ℕ)) → SetsApart ignores_case patterns singletons }
-    ensures nodes { (ignores_case : Bool) (kind : MatchKind) (patterns : List (List ℕ)) (u : List ℕ) (b : ℕ)
-        → is_node kind (map (plain ignores_case) patterns) (u ++ plain_byte ignores_case b ∷ []) ≡ true
-        → is_in_patterns ignores_case patterns b ≡ true }
+    ensures of_patterns { AlwaysSetsApart classes_of }
+    ensures singletons { AlwaysSetsApart (λ _ _. singletons) }
+    ensures nodes { (ignores_case : Bool) (kind : MatchKind) → OnlyPatternsLead ignores_case kind }
 {}
 
 /// A stride has room for each class, and no lesser power of two has.
 #[tactic(auto, using(crate::proofs::LawSets::strides_have_room))]
 pub fn strides_have_room()
-    ensures of_patterns { (ignores_case : Bool) (patterns : List (List ℕ))
-        → AreClasses (classes_of ignores_case patterns) }
+    ensures of_patterns { AreAlwaysClasses classes_of }
     ensures singletons { AreClasses singletons }
-    ensures below { (classes : List ℕ) → AreClasses classes → (b : ℕ) → b < 256
-        → class_at classes b < alphabet_len classes }
+    ensures below { (classes : List ℕ) → AreClasses classes → AreBelow classes (alphabet_len classes) }
     ensures enough { (classes : List ℕ) → AreClasses classes → alphabet_len classes ≤ stride classes }
     ensures least { (classes : List ℕ) (k : ℕ) → alphabet_len classes ≤ 2 ^ k → stride2 classes ≤ k }
 {}

@@ -1,7 +1,7 @@
 //! Matches replaced by texts.
-ghost use Rattle.std.specs.Prelude.{◌≡◌, ◌≤◌, length, All, AllPairs, IfOk};
+ghost use Rattle.std.specs.Prelude.{◌≤◌, length, All, AllPairs};
 ghost use Rattle.ac_util.specs.Borrowed.{bytes_of};
-ghost use Rattle.ac_util.specs.Plain.{IsReplaceable, EndsBy};
+ghost use Rattle.ac_util.specs.Plain.{AnswersItems, IsReplaceable, EndsBy};
 ghost use Rattle.ac_util.specs.Replaced.{replaced};
 ghost use Rattle.ac_util.specs.Walk.{walk};
 
@@ -23,8 +23,7 @@ pub fn replaced(
 ) -> Result<Vec<u8>, AllocError>
     requires each { All (IsReplaceable (length haystack.now) (length texts.now)) matches.now }
     requires apart { AllPairs EndsBy matches.now }
-    ensures { let whole = replaced haystack.now (bytes_of texts.now) matches.now in
-        IfOk result (λ bytes. bytes.items ≡ whole) }
+    ensures { AnswersItems (replaced haystack.now (bytes_of texts.now) matches.now) result }
 {
     let mut bytes = Vec::new(alloc);
     let mut place = 0;
@@ -50,8 +49,7 @@ pub fn replace_walk(
     texts: &[&[u8]],
 ) -> Result<Vec<u8>, AllocError>
     requires { length query.now.patterns ≤ length texts.now }
-    ensures { let whole = replaced query.now.haystack (bytes_of texts.now) (walk kind query.now) in
-        IfOk result (λ bytes. bytes.items ≡ whole) }
+    ensures { AnswersItems (replaced query.now.haystack (bytes_of texts.now) (walk kind query.now)) result }
 {
     let matches = walk(alloc, kind, query)?;
     replaced(alloc, query.haystack, texts, &matches)

@@ -1,6 +1,7 @@
 //! All occurrences of a search, found by trying each offset that its span has room for.
-ghost use Rattle.std.specs.Prelude.{◌≡◌, ◌≤◌, ◌++◌, filter, IfOk};
+ghost use Rattle.std.specs.Prelude.{◌≤◌, filter};
 ghost use Rattle.ac_util.specs.Listing.{all, places_at, places_ending_at};
+ghost use Rattle.ac_util.specs.Plain.{Adds, AnswersItems};
 ghost use Rattle.ac_util.specs.Search.{occurs};
 
 use super::Query;
@@ -12,7 +13,7 @@ use std::alloc::{AllocError, Global};
 /// # Errors
 /// `AllocError` where a request for memory is refused.
 pub fn listing(alloc: Global, query: &Query) -> Result<Vec<Match>, AllocError>
-    ensures { IfOk result (λ ms. ms.items ≡ all query.now) }
+    ensures { AnswersItems (all query.now) result }
 {
     let mut found = Vec::new(alloc);
     for end in query.low..query.high + 1 {
@@ -24,8 +25,7 @@ pub fn listing(alloc: Global, query: &Query) -> Result<Vec<Match>, AllocError>
 /// Adds the occurrences that end at a place, by start and then by pattern number.
 fn add_ending_at(query: &Query, end: usize, found: &mut Vec<Match>) -> Result<(), AllocError>
     requires { end ≤ query.now.high }
-    ensures { let added = filter (occurs query.now) (places_ending_at query.now end) in
-        IfOk result (λ _. found.new.items ≡ found.old.items ++ added) }
+    ensures { Adds found.old found.new (filter (occurs query.now) (places_ending_at query.now end)) result }
 {
     for start in query.low..end + 1 {
         add_at(query, start, end, found)?;
@@ -35,8 +35,7 @@ fn add_ending_at(query: &Query, end: usize, found: &mut Vec<Match>) -> Result<()
 
 /// Adds the occurrences from a start to an end, by pattern number.
 fn add_at(query: &Query, start: usize, end: usize, found: &mut Vec<Match>) -> Result<(), AllocError>
-    ensures { let added = filter (occurs query.now) (places_at query.now end start) in
-        IfOk result (λ _. found.new.items ≡ found.old.items ++ added) }
+    ensures { Adds found.old found.new (filter (occurs query.now) (places_at query.now end start)) result }
 {
     for number in 0..query.patterns.len() {
         if query.occurs(number, start, end) {

@@ -1,5 +1,6 @@
 //! The matches of a walk, each found anew.
-ghost use Rattle.std.specs.Prelude.{◌≡◌, IfOk};
+ghost use Rattle.std.specs.Prelude.{◌≡◌};
+ghost use Rattle.ac_util.specs.Plain.{AnswersItems};
 ghost use Rattle.ac_util.specs.Walk.{next_match, walk};
 
 use super::{Query, find};
@@ -27,7 +28,7 @@ pub fn next_match(kind: MatchKind, query: &Query, last: Option<usize>) -> Option
 /// # Errors
 /// `AllocError` where a request for memory is refused.
 pub fn walk(alloc: Global, kind: MatchKind, query: &Query) -> Result<Vec<Match>, AllocError>
-    ensures { IfOk result (λ ms. ms.items ≡ walk kind query.now) }
+    ensures { AnswersItems (walk kind query.now) result }
 {
     let mut matches = Vec::new(alloc);
     let mut next = next_match(kind, query, None);
