@@ -3,7 +3,7 @@ ghost use Rattle.std.specs.Prelude.{◌≡◌, ◌≢◌, ◌↔◌, ◌⊎◌, 
 ghost use Rattle.std.specs.Iterator.Runs.{YieldsInOrder};
 ghost use Rattle.ac_util.specs.declared.search.Anchored.{Anchored};
 ghost use Rattle.ac_automaton.specs.Util.{input_of, bytes_of, longest_len, Node, pattern_of, shortest_len, skip_of};
-ghost use Rattle.ac_automaton.specs.Answers.{AnswersBytes, AnswersFind, AnswersListing, AnswersStreamCalls, AnswersStreamTexts, AnswersText, AnswersWalk, BeginsBy, BeginsStream, ExchangesBytes, ExchangesText, FindsNext, IsPlacedIn};
+ghost use Rattle.ac_automaton.specs.Answers.{AnswersBytes, AnswersFind, AnswersListing, ExchangesStream, ExchangesStreamBy, AnswersText, AnswersWalk, BeginsBy, BeginsStream, ExchangesBytes, ExchangesText, FindsNext, IsPlacedIn};
 ghost use Rattle.ac_automaton.specs.Automata.{AutomatonView, CountsLooks, IsAnyState, IsState, KeepsAnchoring, Lists, StepsTo, Tells};
 ghost use Rattle.ac_automaton.specs.Common.{common_of};
 ghost use Rattle.ac_automaton.specs.Iterators.{GoesOn};
@@ -422,8 +422,8 @@ pub trait Automaton {
     where
         Self: Sized,
         requires texts { length texts.now ≡ length (seen self.now).built.patterns }
-        ensures { AnswersStreamTexts R.told W.told R.empty_means_end (seen self.now).built (bytes_of texts.now)
-            reader.old reader.new writer.old writer.new result }
+        ensures { ExchangesStream R.empty_means_end R.told W.told (seen self.now).built (bytes_of texts.now)
+            reader.old writer.old reader.new writer.new result }
     {
         stream_replace::try_stream_replace_all(self, alloc, reader, writer, texts)
     }
@@ -449,8 +449,8 @@ pub trait Automaton {
         Self: Sized,
         F: FnMut(&Match, &[u8], &mut W) -> io::Result<()>,
         requires callable { F.IsAlwaysCallable closure }
-        ensures { AnswersStreamCalls R.told W.told R.empty_means_end (seen self.now).built F.FnMut closure
-            reader.old reader.new writer.old writer.new result }
+        ensures { ExchangesStreamBy R.empty_means_end R.told W.told F.FnMut (seen self.now).built closure
+            reader.old writer.old reader.new writer.new result }
     {
         stream_replace::try_stream_replace_all_with(self, alloc, reader, writer, closure)
     }

@@ -1,7 +1,10 @@
 -- What is seen of a searcher and of its engine; then the definitions of the crates below that contracts of this
 -- crate cite, so that a user need not list those crates. Each keeps its name, as `Built` here is `Built` of ac_util; but
 -- the `Classes` of ac_engines are `EngineClasses` here, and the constant `GREATEST` is in `Numbers`.
+pub mod Alike
+pub mod Ending
 pub mod Engines
+pub mod Only
 pub mod Order
 pub mod Places
 pub mod Prelude
@@ -40,7 +43,8 @@ pub use Rattle.ac_util.specs.Limits
 pub use Rattle.ac_util.specs.declared.primitives.TheConstants as Numbers
 pub use Rattle.ac_util.specs.Sizes
 pub use Rattle.ac_util.specs.Plain
--- builds and iterators
+-- builds, answers of calls, and iterators
+pub use Rattle.ac_automaton.specs.Answers
 pub use Rattle.ac_automaton.specs.Builds
 pub use Rattle.ac_automaton.specs.Common
 pub use Rattle.ac_automaton.specs.Iterators

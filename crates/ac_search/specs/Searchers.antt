@@ -1,9 +1,11 @@
 -- What is seen of a searcher: what it was built from, whether to have a prefilter, and the name and the states of
 -- its engine. No answer of a search depends on the last three; an overlapping state is one for these states alone.
-use Rattle.std.specs.Prelude.{◌≡◌, ℕ, nat_le, Bool, false, true, List, length, Option, None, Some, ⊤, ◌&&◌, if◌then◌else◌}
-use Rattle.ac_automaton.specs.Util.{Both, BuildError, Built, StartKind, Unanchored}
+use Rattle.std.specs.Prelude.{◌≡◌, ℕ, nat_le, Bool, false, true, List, length, Option, None, Result, Some, ⊤, ◌&&◌, if◌then◌else◌}
+use Rattle.ac_automaton.specs.Util.{AnswersUnless, Both, BuildError, Built, find_refusal, InputView, MatchError, overlapping_iter_refusal, StartKind, Unanchored}
 use Rattle.ac_util.specs.declared.search.StartKind.TheVariants.{Anchored}
-use Rattle.ac_automaton.specs.Builds.{EngineSettings, IsAllowed, engine_built_by, fits, refusal_or, state_refusal, usual_engine_settings}
+use Rattle.ac_automaton.specs.Builds.{AnswersBuild, EngineSettings, IsAllowed, engine_built_by, fits, refusal_or, state_refusal, usual_engine_settings}
+use Rattle.ac_automaton.specs.Iterators.{Walking, initial_walk}
+use Rattle.ac_automaton.specs.Overlaps.{Overlapping, initial_listing}
 use Rattle.ac_engines.specs.Prelude.{contiguous_refusal, dfa_refusal, IsContiguousFrom, IsDfaFrom}
 use Rattle.ac_search.specs.declared.ahocorasick.choice.AhoCorasickKind.{AhoCorasickKind}
 use Rattle.ac_search.specs.declared.ahocorasick.choice.AhoCorasickKind.TheVariants.{ContiguousNFA, DFA, NoncontiguousNFA}
@@ -107,3 +109,26 @@ pub record IsBuilt (settings : Settings) (patterns : List (List ℕ)) (searcher 
   pub kind : searcher.kind ≡ chosen_engine settings patterns
   pub laid_out : AreLaidOut settings (engine_built_by settings.engine patterns) searcher.states
   pub allowed : IsAllowed (engine_refusal settings patterns) patterns
+
+-- what an iterator over the matches of an input begins with, by a searcher, and one over the listing
+abbrev pub initial_walk_by : Searcher → InputView → Walking
+initial_walk_by searcher input =
+    initial_walk (looks_allowed searcher.kind) searcher.built searcher.wants_prefilter input
+
+abbrev pub initial_listing_by : Searcher → InputView → Overlapping
+initial_listing_by searcher input =
+    initial_listing (looks_allowed searcher.kind) searcher.built searcher.wants_prefilter input
+
+-- it begins with that, or the searcher doesn't support it
+abbrev pub BeginsWalk : Searcher → InputView → Result Walking MatchError → Type 0
+BeginsWalk searcher input result =
+    AnswersUnless (find_refusal searcher.built input) (initial_walk_by searcher input) result
+
+abbrev pub BeginsListing : Searcher → InputView → Result Overlapping MatchError → Type 0
+BeginsListing searcher input result =
+    AnswersUnless (overlapping_iter_refusal searcher.built input) (initial_listing_by searcher input) result
+
+-- a build by these settings has succeeded, or is refused
+abbrev pub BuildsSearcher : Settings → List (List ℕ) → Result Searcher BuildError → Type 0
+BuildsSearcher settings patterns result =
+    AnswersBuild (IsBuilt settings) (engine_refusal settings) patterns result

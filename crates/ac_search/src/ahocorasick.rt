@@ -1,11 +1,8 @@
 //! The searcher, and the choice of its engine.
-ghost use Rattle.std.specs.Prelude.{◌≡◌, ◌↔◌, IsTrue, MatchResult, None, Some, length};
-ghost use Rattle.std.specs.Iterator.Runs.{YieldsInOrder};
-ghost use Rattle.ac_automaton.specs.Util.{AnswersUnless, input_of, bytes_of, find_refusal, find_result, item_at, longest_len, Occurrence, Occurs, overlapping_iter_refusal, overlapping_refusal, place_after, search_in, shortest_len, start_refusal};
-ghost use Rattle.ac_automaton.specs.Prelude.{initial_walk, GoesOn, initial_listing, ListsNext, RefusesBy};
+ghost use Rattle.std.specs.Prelude.{◌≡◌, length};
+ghost use Rattle.ac_automaton.specs.Util.{AnswersUnless, bytes_of, longest_len, shortest_len, start_refusal};
 ghost use Rattle.ac_search.specs.Engines.{Supports, searcher_of};
-ghost use Rattle.ac_search.specs.Places.{GivesItem, HasPlace, rank_in};
-ghost use Rattle.ac_search.specs.Searchers.{IsBuilt, engine_refusal, looks_allowed, usual_settings};
+ghost use Rattle.ac_search.specs.Searchers.{BuildsSearcher, usual_settings};
 
 use ac_automaton::automaton::OverlappingState;
 use ac_util::error::{BuildError, MatchError};
@@ -96,9 +93,7 @@ impl<A: Allocator + Clone> AhoCorasick<A> {
     /// searcher.find(Input::new(b"xxx bar xxx")) // pattern 1, 4..7
     /// ```
     pub fn new(alloc: A, patterns: &[&[u8]]) -> Result<AhoCorasick<A>, BuildError>
-        ensures { MatchResult result
-            (IsBuilt usual_settings (bytes_of patterns.now))
-            (RefusesBy (engine_refusal usual_settings (bytes_of patterns.now)) (bytes_of patterns.now)) }
+        ensures { BuildsSearcher usual_settings (bytes_of patterns.now) result }
     {
         AhoCorasickBuilder::new().build(alloc, patterns)
     }

@@ -1,18 +1,20 @@
 //! Laws that users of a searcher may rely on, each the contract of a function that does nothing. They are about the
 //! definitions that the contracts of the searches are made of: nothing is called, nothing is assumed.
-ghost use Rattle.std.specs.Prelude.{◌≡◌, ◌≢◌, ◌+◌, ◌-◌, ◌<◌, ◌≤◌, ◌↔◌, ℕ, Bool, Err, IfSome, IsTrue, List, None, Option, Result, Some, true, length};
-ghost use Rattle.std.specs.List.{AllByRecursion};
+ghost use Rattle.std.specs.Prelude.{◌≡◌, ◌≢◌, ◌↔◌, Bool, IsTrue, None, length, true};
 ghost use Rattle.std.specs.Str.{IsUtf8};
-ghost use Rattle.ac_automaton.specs.Util.{all, AreTexts, InputView, input_of, Built, exchanged, exchanged_in_text, find_refusal, find_result, has_empty, IsSettledBy, kept_back_len, IsBetweenCharacters, LiesIn, MatchKind, Occurrence, Occurs, overlapping_iter_refusal, overlapping_refusal, replace_refusal, search_in, shortest_len, StartKind, stream_refusal, stream_result, walk_result};
-ghost use Rattle.ac_util.specs.declared.error.StreamError.{StreamError};
-ghost use Rattle.ac_automaton.specs.Iterators.{GoesOn, Walking};
-ghost use Rattle.ac_automaton.specs.Overlaps.{ListsNext, Overlapping};
-ghost use Rattle.ac_automaton.specs.Streams.{GivesStreamItem, StreamReading, items_left};
-ghost use Rattle.ac_search.specs.Order.{StandInOrder};
-ghost use Rattle.ac_engines.specs.declared.nfa.contiguous.format.Format.{Format};
-ghost use Rattle.ac_search.specs.Searchers.{IsBuilt, Searcher, Settings};
+ghost use Rattle.ac_automaton.specs.Util.{AreTexts, InputView, input_of, Built, find_refusal, find_result, has_empty, LiesIn, MatchKind, shortest_len, StartKind, walk_result};
+ghost use Rattle.ac_automaton.specs.Iterators.{GoesOn};
+ghost use Rattle.ac_automaton.specs.Overlaps.{ListsNext};
+ghost use Rattle.ac_automaton.specs.Streams.{GivesStreamItem, items_left};
+ghost use Rattle.ac_search.specs.Alike.{BuildAlike, FindAlike, ListAlike, ReplaceAlike, SettlesAs, StreamAlike};
+ghost use Rattle.ac_search.specs.Ending.{EndsAtError, LeavesLess, StaysEnded};
+ghost use Rattle.ac_search.specs.Only.{CutsNoCharacter, EndsInside, FindsOnly, IsNumberedBelow, ListsOnly, SomethingOccurs, WalksFew, WalksOnly};
+ghost use Rattle.ac_search.specs.Order.{WalksInOrder};
+ghost use Rattle.ac_search.specs.Searchers.{Settings};
+ghost use Rattle.ac_search.specs.StreamsBegun.{starting_by};
 ghost use Rattle.ac_search.specs.Words.{AreWords};
 ghost use Rattle.ac_search.specs.declared.ahocorasick.choice.AhoCorasickKind.{AhoCorasickKind};
+ghost use Rattle.ac_engines.specs.declared.nfa.contiguous.format.Format.{Format};
 
 use crate::ahocorasick::{AhoCorasick, AhoCorasickKind};
 use ac_engines::nfa::contiguous::Format;
@@ -37,18 +39,12 @@ use std::alloc::Allocator;
 /// `listing_ends` where the searcher is a variable of the function. A `count` of the matches needs no more than the
 /// call.
 pub fn answers_lie_inside<A: Allocator>(searcher: &AhoCorasick<A>, input: Input<'_>)
-    ensures find { IfSome (find_result searcher.now.built (input_of input.entry))
-        (LiesIn searcher.now.built (input_of input.entry)) }
-    ensures walk { AllByRecursion (LiesIn searcher.now.built (input_of input.entry))
-        (walk_result searcher.now.built (input_of input.entry)) }
-    ensures ends { AllByRecursion (λ m. m.end ≤ length (input_of input.entry).haystack)
-        (walk_result searcher.now.built (input_of input.entry)) }
-    ensures listing { AllByRecursion (LiesIn searcher.now.built (input_of input.entry))
-        (all (search_in searcher.now.built (input_of input.entry))) }
-    ensures listing_ends { AllByRecursion (λ m. m.end ≤ length (input_of input.entry).haystack)
-        (all (search_in searcher.now.built (input_of input.entry))) }
-    ensures few { length (walk_result searcher.now.built (input_of input.entry))
-        ≤ (input_of input.entry).end + 1 - (input_of input.entry).start }
+    ensures find { FindsOnly LiesIn searcher.now.built (input_of input.entry) }
+    ensures walk { WalksOnly LiesIn searcher.now.built (input_of input.entry) }
+    ensures ends { WalksOnly EndsInside searcher.now.built (input_of input.entry) }
+    ensures listing { ListsOnly LiesIn searcher.now.built (input_of input.entry) }
+    ensures listing_ends { ListsOnly EndsInside searcher.now.built (input_of input.entry) }
+    ensures few { WalksFew searcher.now.built (input_of input.entry) }
 {}
 
 /// A searcher supports a find and a walk over an input that isn't anchored, unless it supports anchored searches alone.
@@ -72,11 +68,9 @@ pub fn answers_have_values<A: Allocator, T>(
     values: &[T],
 )
     requires { length values.now ≡ length searcher.now.built.patterns }
-    ensures find { IfSome (find_result searcher.now.built (input_of input.entry)) (λ m. m.pattern < length values.now) }
-    ensures walk { AllByRecursion (λ m. m.pattern < length values.now)
-        (walk_result searcher.now.built (input_of input.entry)) }
-    ensures listing { AllByRecursion (λ m. m.pattern < length values.now)
-        (all (search_in searcher.now.built (input_of input.entry))) }
+    ensures find { FindsOnly (IsNumberedBelow (length values.now)) searcher.now.built (input_of input.entry) }
+    ensures walk { WalksOnly (IsNumberedBelow (length values.now)) searcher.now.built (input_of input.entry) }
+    ensures listing { ListsOnly (IsNumberedBelow (length values.now)) searcher.now.built (input_of input.entry) }
 {}
 
 /// The matches of a walk stand one after another in the input's span, and so in the haystack.
@@ -84,8 +78,7 @@ pub fn answers_have_values<A: Allocator, T>(
 /// Call this before a loop over the matches that also slices the haystack between them. The loop's invariant is then
 /// `StandInOrder`, from where the match before ended, over the matches still to come.
 pub fn matches_stand_in_order<A: Allocator>(searcher: &AhoCorasick<A>, input: Input<'_>)
-    ensures { StandInOrder (input_of input.entry).start (length (input_of input.entry).haystack)
-        (walk_result searcher.now.built (input_of input.entry)) }
+    ensures { WalksInOrder searcher.now.built (input_of input.entry) }
 {}
 
 /// Patterns of ASCII bytes of which none is empty are texts, as `answers_cut_no_character` requires.
@@ -103,18 +96,14 @@ pub fn words_are_texts<A: Allocator>(searcher: &AhoCorasick<A>)
 pub fn answers_cut_no_character<A: Allocator>(searcher: &AhoCorasick<A>, input: Input<'_>)
     requires patterns { AreTexts searcher.now.built.patterns }
     requires haystack { IsUtf8 (input_of input).haystack }
-    ensures find { IfSome (find_result searcher.now.built (input_of input.entry))
-        (IsBetweenCharacters (input_of input.entry).haystack) }
-    ensures walk { AllByRecursion (IsBetweenCharacters (input_of input.entry).haystack)
-        (walk_result searcher.now.built (input_of input.entry)) }
-    ensures listing { AllByRecursion (IsBetweenCharacters (input_of input.entry).haystack)
-        (all (search_in searcher.now.built (input_of input.entry))) }
+    ensures find { FindsOnly CutsNoCharacter searcher.now.built (input_of input.entry) }
+    ensures walk { WalksOnly CutsNoCharacter searcher.now.built (input_of input.entry) }
+    ensures listing { ListsOnly CutsNoCharacter searcher.now.built (input_of input.entry) }
 {}
 
 /// A find returns a match exactly if something occurs, whatever the match kind and `earliest`.
 pub fn finds_if_something_occurs()
-    ensures { (built : Built) (input : InputView)
-        → ((m : Occurrence) × Occurs (search_in built input) m) ↔ (find_result built input ≢ None) }
+    ensures { (built : Built) (input : InputView) → SomethingOccurs built input ↔ (find_result built input ≢ None) }
 {}
 
 /// The shortest pattern has no bytes exactly if some pattern is empty.
@@ -133,53 +122,36 @@ pub fn engines_agree<A: Allocator, B: Allocator>(one: &AhoCorasick<A>, other: &A
     requires ignores_case { one.now.built.ignores_case ≡ other.now.built.ignores_case }
     requires start_kind { one.now.built.start_kind ≡ other.now.built.start_kind }
     ensures built { one.now.built ≡ other.now.built }
-    ensures find { (input : InputView) → (find_refusal one.now.built input ≡ find_refusal other.now.built input)
-        × (find_result one.now.built input ≡ find_result other.now.built input) }
+    ensures find { FindAlike one.now.built other.now.built }
     ensures walk { (input : InputView) → walk_result one.now.built input ≡ walk_result other.now.built input }
-    ensures listing { (input : InputView) → (overlapping_refusal one.now.built input ≡ overlapping_refusal other.now.built input)
-        × (overlapping_iter_refusal one.now.built input ≡ overlapping_iter_refusal other.now.built input)
-        × (all (search_in one.now.built input) ≡ all (search_in other.now.built input)) }
-    ensures replacement { (haystack : List ℕ) → (replace_refusal one.now.built ≡ replace_refusal other.now.built)
-        × (exchanged one.now.built haystack ≡ exchanged other.now.built haystack)
-        × (exchanged_in_text one.now.built haystack ≡ exchanged_in_text other.now.built haystack) }
-    ensures streams { (bytes : List ℕ) → (stream_refusal one.now.built ≡ stream_refusal other.now.built)
-        × (stream_result one.now.built bytes ≡ stream_result other.now.built bytes)
-        × (kept_back_len one.now.built bytes ≡ kept_back_len other.now.built bytes) }
+    ensures listing { ListAlike one.now.built other.now.built }
+    ensures replacement { ReplaceAlike one.now.built other.now.built }
+    ensures streams { StreamAlike one.now.built other.now.built }
 {}
 
 /// Two builds over the same patterns, whose settings have the same match kind, case setting and start kind, give
 /// searchers about which `engines_agree` speaks, whatever the other settings are.
 pub fn settings_change_no_answer()
-    ensures { (one other : Settings) (patterns : List (List ℕ)) (s t : Searcher) → IsBuilt one patterns s
-        → IsBuilt other patterns t → one.engine.kind ≡ other.engine.kind
-        → one.engine.ignores_case ≡ other.engine.ignores_case
-        → one.start_kind ≡ other.start_kind → s.built ≡ t.built }
+    ensures { (one other : Settings) → BuildAlike one other }
 {}
 
 /// An iterator that has returned `None` keeps returning it: one over a walk, over a listing, or over the matches of a stream,
 /// which does so after an error too. With `walk_is_in_order` this is all that a walk promises of its order.
-///
-/// The variables are values of an iterator before a call of `next`, after it, and after one more.
 pub fn ended_iterators_stay_ended()
-    ensures walk { (w v u : Walking) (again : Option Occurrence) → GoesOn w None v → GoesOn v again u → again ≡ None }
-    ensures listing { (l m n : Overlapping) (again : Option Occurrence)
-        → ListsNext l None m → ListsNext m again n → again ≡ None }
-    ensures stream { (ends : Bool) (s t u : StreamReading) (again : Option (Result Occurrence StreamError))
-        → GivesStreamItem ends s None t → GivesStreamItem ends t again u → again ≡ None }
-    ensures failed { (ends : Bool) (s t u : StreamReading) (e : StreamError) (again : Option (Result Occurrence StreamError))
-        → GivesStreamItem ends s (Some (Err e)) t → GivesStreamItem ends t again u → again ≡ None }
+    ensures walk { StaysEnded GoesOn }
+    ensures listing { StaysEnded ListsNext }
+    ensures stream { (ends : Bool) → StaysEnded (GivesStreamItem ends) }
+    ensures failed { (ends : Bool) → EndsAtError (GivesStreamItem ends) }
 {}
 
 /// Every iterator ends, since each item leaves fewer that may follow: of a walk, of a listing, and of a stream, whatever its
 /// reader gives.
 ///
-/// The variables are values of an iterator before a call of `next` and after it. A loop of one's own over `next` has what is
-/// left as its measure.
+/// A loop of one's own over `next` has what is left as its measure.
 pub fn iterators_end()
-    ensures walk { (w v : Walking) (m : Occurrence) → GoesOn w (Some m) v → length v.rest < length w.rest }
-    ensures listing { (l m : Overlapping) (n : Occurrence) → ListsNext l (Some n) m → length m.rest < length l.rest }
-    ensures stream { (ends : Bool) (s t : StreamReading) (item : Result Occurrence StreamError)
-        → GivesStreamItem ends s (Some item) t → items_left t < items_left s }
+    ensures walk { LeavesLess (λ w. length w.rest) GoesOn }
+    ensures listing { LeavesLess (λ l. length l.rest) ListsNext }
+    ensures stream { (ends : Bool) → LeavesLess items_left (GivesStreamItem ends) }
 {}
 
 /// Whichever starts are supported, a stream is settled up to the same offsets by the same matches.
@@ -187,9 +159,7 @@ pub fn iterators_end()
 /// The search that `AhoCorasick::try_stream_finder` returns is for what its searcher was built from, but its engine may
 /// support more starts. Call this where what that search says of a failed read has to be said of the searcher.
 pub fn streams_settle_alike()
-    ensures { (kind : MatchKind) (built : Built) (start : StartKind) (bytes : List ℕ) (given place : ℕ)
-        → IsSettledBy kind (record built { start_kind = start }) bytes given place
-        → IsSettledBy kind built bytes given place }
+    ensures { (kind : MatchKind) (built : Built) (start : StartKind) → SettlesAs kind (starting_by built start) built }
 {}
 
 /// Two values of `AhoCorasickKind` compare equal exactly if they are the same, and a clone of one is that value.

@@ -5,7 +5,7 @@ ghost use Rattle.ac_automaton.specs.Util.{bytes_of, Occurrence, Replacing, strea
 ghost use Rattle.ac_automaton.specs.Exchanges.{AcceptsMatches, beside, CallsBy, ExchangesRead, Passes, PassesText, ReplacesOrFails, StillAccepts};
 ghost use Rattle.ac_automaton.specs.Gathering.{by_texts, Passing};
 ghost use Rattle.ac_automaton.specs.Streams.{initial_stream};
-ghost use Rattle.ac_automaton.specs.Answers.{AnswersStreamTexts, AnswersStreamCalls};
+ghost use Rattle.ac_automaton.specs.Answers.{ExchangesStream, ExchangesStreamBy};
 
 use super::Automaton;
 use super::gathered::Gathered;
@@ -25,8 +25,8 @@ pub(super) fn try_stream_replace_all<A: Automaton, Z: Allocator, R: Source, W: S
     texts: &[&[u8]],
 ) -> Result<(), StreamError>
     requires texts { length texts.now ≡ length (A.seen automaton.now).built.patterns }
-    ensures { AnswersStreamTexts R.told W.told R.empty_means_end (A.seen automaton.now).built (bytes_of texts.now)
-        reader.old reader.new writer.old writer.new result }
+    ensures { ExchangesStream R.empty_means_end R.told W.told (A.seen automaton.now).built (bytes_of texts.now)
+        reader.old writer.old reader.new writer.new result }
 {
     let mut finder = StreamFinder::new(automaton, alloc)?;
     let mut exchange = ByTexts::new(texts);
@@ -48,8 +48,8 @@ where
     W: Sink,
     F: FnMut(&Match, &[u8], &mut W) -> io::Result<()>,
     requires callable { F.IsAlwaysCallable closure }
-    ensures { AnswersStreamCalls R.told W.told R.empty_means_end (A.seen automaton.now).built F.FnMut closure
-        reader.old reader.new writer.old writer.new result }
+    ensures { ExchangesStreamBy R.empty_means_end R.told W.told F.FnMut (A.seen automaton.now).built closure
+        reader.old writer.old reader.new writer.new result }
 {
     let mut finder = StreamFinder::new(automaton, alloc)?;
     let mut exchange = ByClosure { closure };

@@ -1,11 +1,10 @@
 //! The settings of a searcher, and its build.
-ghost use Rattle.std.specs.Prelude.{◌≡◌, MatchResult, None};
+ghost use Rattle.std.specs.Prelude.{◌≡◌, None};
 ghost use Rattle.ac_util.specs.declared.search.StartKind;
 ghost use Rattle.ac_util.specs.Borrowed.{bytes_of};
-ghost use Rattle.ac_automaton.specs.Builds.{RefusesBy};
 ghost use Rattle.ac_search.specs.Engines.{IsMadeOrRefused};
 ghost use Rattle.ac_search.specs.declared.ahocorasick.choice.AhoCorasickKind.TheVariants.{ContiguousNFA, DFA};
-ghost use Rattle.ac_search.specs.Searchers.{IsBuilt, engine_chosen_from, engine_refusal, usual_settings};
+ghost use Rattle.ac_search.specs.Searchers.{BuildsSearcher, engine_chosen_from, usual_settings};
 
 use super::AhoCorasick;
 use super::choice::{AhoCorasickKind, choose_kind};
@@ -243,9 +242,7 @@ impl AhoCorasickBuilder {
         alloc: A,
         patterns: &[&[u8]],
     ) -> Result<AhoCorasick<A>, BuildError>
-        ensures { MatchResult result
-            (IsBuilt self.now (bytes_of patterns.now))
-            (RefusesBy (engine_refusal self.now (bytes_of patterns.now)) (bytes_of patterns.now)) }
+        ensures { BuildsSearcher self.now (bytes_of patterns.now) result }
     {
         let nfa = self.noncontiguous.build(alloc, patterns)?;
         let kind = self.kind_over(&nfa);

@@ -2,9 +2,11 @@
 ghost use Rattle.std.specs.Prelude.{◌≡◌, ◌↔◌, IsTrue, None};
 ghost use Rattle.std.specs.Iterator.{item_count};
 ghost use Rattle.std.specs.Iterator.Runs.{YieldsInOrder};
-ghost use Rattle.ac_automaton.specs.Util.{AnswersUnless, input_of, find_refusal, find_result, Occurrence, Occurs, search_in};
-ghost use Rattle.ac_automaton.specs.Iterators.{GoesOn, initial_walk};
-ghost use Rattle.ac_search.specs.Searchers.{looks_allowed};
+ghost use Rattle.ac_automaton.specs.Util.{input_of, find_refusal, find_result};
+ghost use Rattle.ac_automaton.specs.Answers.{AnswersFind};
+ghost use Rattle.ac_automaton.specs.Iterators.{GoesOn};
+ghost use Rattle.ac_search.specs.Only.{SomethingOccurs};
+ghost use Rattle.ac_search.specs.Searchers.{BeginsWalk, initial_walk_by};
 
 use super::engine::{Engine, EngineFindIter};
 use super::{AhoCorasick, check_start};
@@ -30,8 +32,7 @@ impl<A: Allocator> AhoCorasick<A> {
     #[inline]
     pub fn is_match(&self, input: Input<'_>) -> bool
         requires supported { find_refusal self.now.built (input_of input) ≡ None }
-        ensures { IsTrue result
-            ↔ ((m : Occurrence) × Occurs (search_in self.now.built (input_of input.entry)) m) }
+        ensures { IsTrue result ↔ SomethingOccurs self.now.built (input_of input.entry) }
     {
         self.find(input.earliest(true)).is_some()
     }
@@ -82,8 +83,7 @@ impl<A: Allocator> AhoCorasick<A> {
     #[inline]
     pub fn find_iter<'a, 'h>(&'a self, input: Input<'h>) -> FindIter<'a, 'h, A>
         requires supported { find_refusal self.now.built (input_of input) ≡ None }
-        ensures begun { result
-            ≡ initial_walk (looks_allowed self.now.kind) self.now.built self.now.wants_prefilter (input_of input.entry) }
+        ensures begun { result ≡ initial_walk_by self.now (input_of input.entry) }
         ensures runs { YieldsInOrder GoesOn (λ w. w.rest) }
     {
         let Ok(matches) = self.try_find_iter(input) else {
@@ -107,8 +107,7 @@ impl<A: Allocator> AhoCorasick<A> {
     /// ```
     #[inline]
     pub fn try_find(&self, input: Input<'_>) -> Result<Option<Match>, MatchError>
-        ensures { AnswersUnless (find_refusal self.now.built (input_of input.entry))
-            (find_result self.now.built (input_of input.entry)) result }
+        ensures { AnswersFind self.now.built (input_of input.entry) result }
     {
         check_start(self.start_kind, input.get_anchored())?;
         match &self.engine {
@@ -128,8 +127,7 @@ impl<A: Allocator> AhoCorasick<A> {
         &'a self,
         input: Input<'h>,
     ) -> Result<FindIter<'a, 'h, A>, MatchError>
-        ensures begun { AnswersUnless (find_refusal self.now.built (input_of input.entry))
-            (initial_walk (looks_allowed self.now.kind) self.now.built self.now.wants_prefilter (input_of input.entry)) result }
+        ensures begun { BeginsWalk self.now (input_of input.entry) result }
         ensures runs { YieldsInOrder GoesOn (λ w. w.rest) }
     {
         check_start(self.start_kind, input.get_anchored())?;

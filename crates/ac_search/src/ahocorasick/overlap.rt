@@ -1,11 +1,11 @@
 //! Overlapping searches.
-ghost use Rattle.std.specs.Prelude.{◌≡◌, MatchResult, None};
+ghost use Rattle.std.specs.Prelude.{◌≡◌, None};
 ghost use Rattle.std.specs.Iterator.{item_count};
 ghost use Rattle.std.specs.Iterator.Runs.{YieldsInOrder};
-ghost use Rattle.ac_automaton.specs.Util.{AnswersUnless, input_of, item_at, overlapping_iter_refusal, overlapping_refusal, place_after, search_in};
-ghost use Rattle.ac_automaton.specs.Overlaps.{ListsNext, initial_listing};
-ghost use Rattle.ac_search.specs.Places.{GivesItem, HasPlace, rank_in};
-ghost use Rattle.ac_search.specs.Searchers.{looks_allowed};
+ghost use Rattle.ac_automaton.specs.Util.{input_of, overlapping_iter_refusal, overlapping_refusal};
+ghost use Rattle.ac_automaton.specs.Overlaps.{ListsNext};
+ghost use Rattle.ac_search.specs.Places.{FindsItem, HasPlace, IsNextPlace, next_item};
+ghost use Rattle.ac_search.specs.Searchers.{BeginsListing, initial_listing_by};
 
 use super::engine::{Engine, EngineFindOverlappingIter};
 use super::{AhoCorasick, check_start};
@@ -44,11 +44,8 @@ impl<A: Allocator> AhoCorasick<A> {
     pub fn find_overlapping(&self, input: Input<'_>, state: &mut OverlappingState)
         requires supported { overlapping_refusal self.now.built (input_of input) ≡ None }
         requires placed { HasPlace self.now (input_of input) state.old }
-        ensures item { state.new.found ≡ item_at (search_in self.now.built (input_of input.entry))
-            (rank_in self.now (input_of input.entry) state.old) }
-        ensures place { rank_in self.now (input_of input.entry) state.new
-            ≡ place_after (search_in self.now.built (input_of input.entry))
-            (rank_in self.now (input_of input.entry) state.old) }
+        ensures item { state.new.found ≡ next_item self.now (input_of input.entry) state.old }
+        ensures place { IsNextPlace self.now (input_of input.entry) state.old state.new }
         ensures placed { HasPlace self.now (input_of input.entry) state.new }
     {
         let Ok(()) = self.try_find_overlapping(input, state) else {
@@ -75,8 +72,7 @@ impl<A: Allocator> AhoCorasick<A> {
         input: Input<'h>,
     ) -> FindOverlappingIter<'a, 'h, A>
         requires supported { overlapping_iter_refusal self.now.built (input_of input) ≡ None }
-        ensures begun { result
-            ≡ initial_listing (looks_allowed self.now.kind) self.now.built self.now.wants_prefilter (input_of input.entry) }
+        ensures begun { result ≡ initial_listing_by self.now (input_of input.entry) }
         ensures runs { YieldsInOrder ListsNext (λ l. l.rest) }
     {
         let Ok(items) = self.try_find_overlapping_iter(input) else {
@@ -100,11 +96,7 @@ impl<A: Allocator> AhoCorasick<A> {
         state: &mut OverlappingState,
     ) -> Result<(), MatchError>
         requires placed { HasPlace self.now (input_of input) state.old }
-        ensures { MatchResult result
-            (λ _. (overlapping_refusal self.now.built (input_of input.entry) ≡ None)
-            × GivesItem self.now (input_of input.entry) state.old state.new)
-            (λ e. (overlapping_refusal self.now.built (input_of input.entry) ≡ Some e)
-            × (state.new ≡ state.old)) }
+        ensures { FindsItem self.now (input_of input.entry) state.old result state.new }
     {
         check_start(self.start_kind, input.get_anchored())?;
         match &self.engine {
@@ -124,9 +116,7 @@ impl<A: Allocator> AhoCorasick<A> {
         &'a self,
         input: Input<'h>,
     ) -> Result<FindOverlappingIter<'a, 'h, A>, MatchError>
-        ensures begun { AnswersUnless (overlapping_iter_refusal self.now.built (input_of input.entry))
-            (initial_listing (looks_allowed self.now.kind) self.now.built self.now.wants_prefilter (input_of input.entry))
-            result }
+        ensures begun { BeginsListing self.now (input_of input.entry) result }
         ensures runs { YieldsInOrder ListsNext (λ l. l.rest) }
     {
         check_start(self.start_kind, input.get_anchored())?;

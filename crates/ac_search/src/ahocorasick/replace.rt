@@ -1,6 +1,7 @@
 //! Replacement of the matches of a haystack in memory.
-ghost use Rattle.std.specs.Prelude.{◌≡◌, Err, IfErr, IfOk, MatchResult, None, Ok, Some, length, string_bytes};
-ghost use Rattle.ac_automaton.specs.Util.{AnswersWhole, bytes_of, exchanged, exchanged_in_text, MakesSteps, replace_refusal, replaced, StepsLead};
+ghost use Rattle.std.specs.Prelude.{◌≡◌, Err, IfErr, IfOk, MatchResult, None, Ok, length};
+ghost use Rattle.ac_automaton.specs.Util.{bytes_of, replace_refusal};
+ghost use Rattle.ac_automaton.specs.Answers.{AnswersBytes, AnswersText, AreReplacedBytes, ExchangesBytes, ExchangesText, IsReplacedText, StepsInBytes, StepsInText};
 
 use super::engine::Engine;
 use super::{AhoCorasick, check_start};
@@ -33,8 +34,7 @@ impl<A: Allocator> AhoCorasick<A> {
     ) -> Result<String<Z>, AllocError>
         requires supported { replace_refusal self.now.built ≡ None }
         requires texts { length texts.now ≡ length self.now.built.patterns }
-        ensures { IfOk result (λ whole. string_bytes whole
-            ≡ replaced haystack.now (bytes_of texts.now) (exchanged_in_text self.now.built haystack.now)) }
+        ensures { IfOk result (IsReplacedText self.now.built haystack.now (bytes_of texts.now)) }
     {
         unrefused(self.try_replace_all(alloc, haystack, texts))
     }
@@ -62,8 +62,7 @@ impl<A: Allocator> AhoCorasick<A> {
     ) -> Result<Vec<u8, Z>, AllocError>
         requires supported { replace_refusal self.now.built ≡ None }
         requires texts { length texts.now ≡ length self.now.built.patterns }
-        ensures { IfOk result (λ whole. whole.items
-            ≡ replaced haystack.now (bytes_of texts.now) (exchanged self.now.built haystack.now)) }
+        ensures { IfOk result (AreReplacedBytes self.now.built haystack.now (bytes_of texts.now)) }
     {
         unrefused(self.try_replace_all_bytes(alloc, haystack, texts))
     }
@@ -97,12 +96,7 @@ impl<A: Allocator> AhoCorasick<A> {
         F: FnMut(&Match, &str, &mut String) -> bool,
         requires supported { replace_refusal self.now.built ≡ None }
         requires callable { F.IsAlwaysCallable exchange }
-        ensures { MatchResult result
-            (λ _. StepsLead F.FnMut (λ d. string_bytes d) haystack.now
-            (exchanged_in_text self.now.built haystack.now) exchange destination.old None destination.new)
-            (λ _. StepsLead F.FnMut (λ d. string_bytes d) haystack.now
-            (exchanged_in_text self.now.built haystack.now) exchange destination.old (Some ReplaceError.Memory)
-            destination.new) }
+        ensures { StepsInText F.FnMut self.now.built haystack.now exchange destination.old destination.new result }
     {
         unrefused(self.try_replace_all_with(haystack, destination, exchange))
     }
@@ -131,11 +125,7 @@ impl<A: Allocator> AhoCorasick<A> {
         F: FnMut(&Match, &[u8], &mut Vec<u8>) -> bool,
         requires supported { replace_refusal self.now.built ≡ None }
         requires callable { F.IsAlwaysCallable exchange }
-        ensures { MatchResult result
-            (λ _. StepsLead F.FnMut (λ d. d.items) haystack.now (exchanged self.now.built haystack.now) exchange
-            destination.old None destination.new)
-            (λ _. StepsLead F.FnMut (λ d. d.items) haystack.now (exchanged self.now.built haystack.now) exchange
-            destination.old (Some ReplaceError.Memory) destination.new) }
+        ensures { StepsInBytes F.FnMut self.now.built haystack.now exchange destination.old destination.new result }
     {
         unrefused(self.try_replace_all_with_bytes(haystack, destination, exchange))
     }
@@ -155,10 +145,7 @@ impl<A: Allocator> AhoCorasick<A> {
         texts: &[&str],
     ) -> Result<String<Z>, ReplaceError>
         requires texts { length texts.now ≡ length self.now.built.patterns }
-        ensures { AnswersWhole (replace_refusal self.now.built)
-            (λ whole. string_bytes whole
-            ≡ replaced haystack.now (bytes_of texts.now) (exchanged_in_text self.now.built haystack.now))
-            result }
+        ensures { AnswersText self.now.built haystack.now (bytes_of texts.now) result }
     {
         check_start(self.start_kind, Anchored::No)?;
         match &self.engine {
@@ -182,9 +169,7 @@ impl<A: Allocator> AhoCorasick<A> {
         texts: &[&[u8]],
     ) -> Result<Vec<u8, Z>, ReplaceError>
         requires texts { length texts.now ≡ length self.now.built.patterns }
-        ensures { AnswersWhole (replace_refusal self.now.built)
-            (λ whole. whole.items
-            ≡ replaced haystack.now (bytes_of texts.now) (exchanged self.now.built haystack.now)) result }
+        ensures { AnswersBytes self.now.built haystack.now (bytes_of texts.now) result }
     {
         check_start(self.start_kind, Anchored::No)?;
         match &self.engine {
@@ -213,10 +198,7 @@ impl<A: Allocator> AhoCorasick<A> {
     where
         F: FnMut(&Match, &str, &mut String) -> bool,
         requires callable { F.IsAlwaysCallable exchange }
-        ensures { MakesSteps (replace_refusal self.now.built)
-            (λ end. StepsLead F.FnMut (λ d. string_bytes d) haystack.now
-            (exchanged_in_text self.now.built haystack.now) exchange destination.old end destination.new)
-            (destination.new ≡ destination.old) result }
+        ensures { ExchangesText F.FnMut self.now.built haystack.now exchange destination.old destination.new result }
     {
         check_start(self.start_kind, Anchored::No)?;
         match &self.engine {
@@ -248,10 +230,7 @@ impl<A: Allocator> AhoCorasick<A> {
     where
         F: FnMut(&Match, &[u8], &mut Vec<u8>) -> bool,
         requires callable { F.IsAlwaysCallable exchange }
-        ensures { MakesSteps (replace_refusal self.now.built)
-            (λ end. StepsLead F.FnMut (λ d. d.items) haystack.now (exchanged self.now.built haystack.now) exchange
-            destination.old end destination.new)
-            (destination.new ≡ destination.old) result }
+        ensures { ExchangesBytes F.FnMut self.now.built haystack.now exchange destination.old destination.new result }
     {
         check_start(self.start_kind, Anchored::No)?;
         match &self.engine {

@@ -1,8 +1,8 @@
 //! Searches of streams, and replacement in them.
-ghost use Rattle.std.specs.Prelude.{◌≡◌, ◌⊎◌, Err, IfErr, IfOk, MatchResult, None, Ok, length, ⊤};
-ghost use Rattle.std.specs.Iterator.{at_most};
-ghost use Rattle.ac_automaton.specs.Util.{AnswersStream, bytes_of, FailsToReplace, FailsToReplaceWith, IsStreamRefused, ReplacesStream, ReplacesStreamWith, stream_refusal};
-ghost use Rattle.ac_automaton.specs.Streams.{GivesStreamItem, GivesRead, ReadsItem, StreamsOn, items_left, kept_len};
+ghost use Rattle.std.specs.Prelude.{◌≡◌, Err, IfErr, IfOk, MatchResult, None, Ok, length};
+ghost use Rattle.ac_automaton.specs.Util.{bytes_of, stream_refusal};
+ghost use Rattle.ac_automaton.specs.Answers.{BeginsStream, ExchangesStream, ExchangesStreamBy};
+ghost use Rattle.ac_automaton.specs.Streams.{GivesRead, StreamsOn, kept_len};
 ghost use Rattle.ac_search.specs.StreamsBegun.{HasBegun, HasBegunOver};
 
 use super::engine::{Engine, EngineStreamFinder};
@@ -62,9 +62,7 @@ impl<A: Allocator> AhoCorasick<A> {
         alloc: Z,
         reader: R,
     ) -> Result<StreamFindIter<'_, R, A, Z>, StreamError>
-        ensures { MatchResult result
-            (λ matches. (stream_refusal self.now.built ≡ None) × HasBegunOver self.now.built (R.told reader) matches)
-            (IsStreamRefused (stream_refusal self.now.built) ⊤) }
+        ensures { BeginsStream self.now.built (HasBegunOver self.now.built (R.told reader)) result }
     {
         let finder = self.try_stream_finder(alloc)?;
         Ok(StreamFindIter { finder, reader })
@@ -99,11 +97,8 @@ impl<A: Allocator> AhoCorasick<A> {
         texts: &[&[u8]],
     ) -> Result<(), StreamError>
         requires texts { length texts.now ≡ length self.now.built.patterns }
-        ensures { AnswersStream (stream_refusal self.now.built) ((reader.new ≡ reader.old) × (writer.new ≡ writer.old))
-            (ReplacesStream self.now.built (bytes_of texts.now) (W.told writer.old) (W.told writer.new)
-            R.empty_means_end (R.told reader.old) (R.told reader.new))
-            (FailsToReplace self.now.built (bytes_of texts.now) (W.told writer.old) (W.told writer.new)
-            R.empty_means_end (R.told reader.old) (R.told reader.new)) result }
+        ensures { ExchangesStream R.empty_means_end R.told W.told self.now.built (bytes_of texts.now)
+            reader.old writer.old reader.new writer.new result }
     {
         check_start(self.start_kind, Anchored::No)?;
         match &self.engine {
@@ -157,11 +152,8 @@ impl<A: Allocator> AhoCorasick<A> {
     where
         F: FnMut(&Match, &[u8], &mut W) -> io::Result<()>,
         requires callable { F.IsAlwaysCallable closure }
-        ensures { AnswersStream (stream_refusal self.now.built) ((reader.new ≡ reader.old) × (writer.new ≡ writer.old))
-            (ReplacesStreamWith W.told F.FnMut self.now.built closure writer.old R.empty_means_end (R.told reader.old)
-            (R.told reader.new) writer.new)
-            (FailsToReplaceWith W.told F.FnMut self.now.built closure writer.old R.empty_means_end (R.told reader.old)
-            (R.told reader.new) writer.new) result }
+        ensures { ExchangesStreamBy R.empty_means_end R.told W.told F.FnMut self.now.built closure
+            reader.old writer.old reader.new writer.new result }
     {
         check_start(self.start_kind, Anchored::No)?;
         match &self.engine {
@@ -186,9 +178,7 @@ impl<A: Allocator> AhoCorasick<A> {
         &self,
         alloc: Z,
     ) -> Result<StreamFinder<'_, A, Z>, StreamError>
-        ensures { MatchResult result
-            (λ finder. (stream_refusal self.now.built ≡ None) × HasBegun self.now.built finder)
-            (IsStreamRefused (stream_refusal self.now.built) ⊤) }
+        ensures { BeginsStream self.now.built (HasBegun self.now.built) result }
     {
         check_start(self.start_kind, Anchored::No)?;
         let finder = match &self.engine {
