@@ -3,19 +3,15 @@ use Rattle.std.proofs.Common.{◌≡◌, ℕ, zero, suc, ◌+◌, ◌-◌, ◌<�
 use Rattle.std.proofs.Math.Seq.{take-add}
 use Rattle.std.proofs.lemmas.List.{append-nil, append_assoc, drop-drop, drop-take, drop_all, take-append-le, take-take, take_all}
 use Rattle.std.proofs.lemmas.Grind.{common_steps}
-use Rattle.ac_automaton.specs.Util.{Built, IsNear, IsSettledBy, Occurrence, Reading, ReadsAll, ReadsSome, Replacing, stream_result, StreamError, Turn, usize_max}
+use Rattle.ac_automaton.specs.Util.{Built, IsNear, IsSettledBy, Occurrence, Reading, ReadsAll, ReadsSome, Replacing, stream_result, StreamError, Turn, usize_max, StartFrom}
 use Rattle.ac_util.proofs.Devices.{fails-on, reads-on, reads-out}
 use Rattle.ac_util.proofs.Spans.{take_drop_take}
-use Rattle.ac_automaton.specs.Prelude.{answer_of_exchange, Ended, error_in, FailsBy, FailsToExchange, FailsToFill, FillsMore, GivesMatch, HasExchanged, HasGivenSettled, HasReplaced, initial_stream, IsSettledIn, matches_so_far, MeetsEnd, Open, Passing, PassesPiece, ReplacesBy, StartFrom, Steps, Streaming}
+use Rattle.ac_automaton.specs.Prelude.{answer_of_exchange, Ended, error_in, FailsBy, FailsToExchange, FailsToFill, FillsMore, GivesMatch, HasExchanged, HasGivenSettled, HasReplaced, initial_stream, IsSettledIn, matches_so_far, MeetsEnd, Open, Passing, PassesPiece, ReplacesBy, Steps, Streaming}
+use Rattle.ac_util.proofs.ReplacedCuts.{part-join}
 use Rattle.ac_automaton.proofs.Gathering.{piece-flushed, piece-join, piece-none}
 use Rattle.ac_automaton.proofs.Places.{take-next}
 
--- a part of a list and then the next are a part
-pub part-join : {X : Type 0} (xs : List X) (a b c : ℕ) → a ≤ b → b ≤ c
-    → slice_range xs a b ++ slice_range xs b c ≡ slice_range xs a c
-part-join xs a b c first second = search (rules, take-add (b - a) (c - b) (drop a xs), drop-drop)
-
--- and a part with all that follows it is what follows its start
+-- a part of a list with all that follows it is what follows its start
 part-rest : {X : Type 0} (xs : List X) (a b : ℕ) → a ≤ b → slice_range xs a b ++ drop b xs ≡ drop a xs
 part-rest xs a b first = grind (arith, common_steps, drop-drop (b - a) a xs)
 

@@ -94,24 +94,12 @@ module _ {F D : Type 0} (told : D → Writing)
 
     pub fails-with : (e : StreamError) → FailsBy through wrapped ends built reader new_reader first e t
         → FailsToReplaceWith told closures built closure old ends reader new_reader t.destination e
-    fails-with e (bytes, inl fails, small) = (bytes, inl (fails.reads, by built.kind fails.settled), small)
+    fails-with e (bytes, inl fails, small) =
+        (bytes, inl (fails.reads, (fails.given, fails.place, fails.settled, fails.near, (t.closure.closure, bare-made))), small)
       where
         bare-made : ReplacementSteps (WritesPiece told) (Calls closures) answer_of_result (take fails.place bytes) 0
             (take fails.given (stream_result built bytes)) (bare first) None (bare t)
         bare-made = bare-steps (take fails.place bytes) 0 (take fails.given (stream_result built bytes)) first t None fails.steps
-
-        by : (kind : MatchKind) → IsSettledBy kind built bytes fails.given fails.place
-            → StepsAreSettled told closures built closure old kind bytes t.destination
-        by Standard all = (
-          t.closure.closure,
-          subst (λ (ms : List Occurrence). ReplacementSteps (WritesPiece told) (Calls closures) answer_of_result
-              (take (settled built bytes) bytes) 0 ms (bare first) None (bare t))
-              (take_all fails.given (stream_result built bytes) (let n = all.0 in omega arith))
-              (subst (λ (k : ℕ). ReplacementSteps (WritesPiece told) (Calls closures) answer_of_result (take k bytes) 0
-              (take fails.given (stream_result built bytes)) (bare first) None (bare t)) all.1 bare-made),
-        )
-        by LeftmostFirst some = (fails.given, fails.place, some, fails.near, (t.closure.closure, bare-made))
-        by LeftmostLongest some = (fails.given, fails.place, some, fails.near, (t.closure.closure, bare-made))
     fails-with e (bytes, inr fails, small) = (
       bytes,
       inr (

@@ -6,86 +6,9 @@ use Rattle.std.proofs.lemmas.Grind.{common_steps}
 use Rattle.ac_automaton.specs.Util.{Built, error_of, FailsToReplace, kept_back_len, IsSettledAt, IsSettledBy, last_end, LeftmostFirst, LeftmostLongest, MatchAnswer, MatchKind, Occurrence, Reading, replaced, replaced_from, ReplacesStream, Replacing, settled, Standard, stream_result, StreamError, without_last, WriteError, WritesUntilFailure, Writing}
 use Rattle.ac_util.proofs.Exchanges.{AreInOrder, exchanged-in_order}
 use Rattle.ac_util.proofs.PiecesLemmas.{slice_range-append}
-use Rattle.ac_automaton.specs.Prelude.{answer_of_exchange, error_in, FailsBy, Passing, PassesPiece, PassesText, ReplacesBy, StartFrom, Steps}
+use Rattle.ac_automaton.specs.Prelude.{answer_of_exchange, error_in, FailsBy, Passing, PassesPiece, PassesText, ReplacesBy, Steps}
 use Rattle.ac_automaton.proofs.Gathering.{piece-begun, piece-failed, piece-join, piece-written}
-use Rattle.ac_automaton.proofs.StreamExchanging.{part-join}
-
--- matches in order, of which the first ones end by a place and the others start no earlier: the haystack as far as there, with
--- the first ones exchanged, and then the rest of it with the others
-replaced-cut : (haystack : List ℕ) (texts : List (List ℕ)) (many place end : ℕ) (ms others : List Occurrence)
-    → AreInOrder end many place ms → StartFrom end others → end ≤ length haystack
-    → replaced_from haystack texts place (ms ++ others)
-    ≡ replaced_from (take end haystack) texts place ms ++ replaced_from haystack texts end others
-replaced-cut haystack texts many place end [] [] order starts within = grind (arith, common_steps, take-append-drop end haystack)
-replaced-cut haystack texts many place end [] (n ∷ others) order starts within =
-    grind (arith, common_steps, part-join haystack place end n.start order starts, drop-take place (end - place) haystack)
-replaced-cut haystack texts many place end (m ∷ ms) others order starts within =
-    grind (
-      arith,
-      common_steps,
-      take-append-drop end haystack,
-      slice_range-append,
-      replaced-cut haystack texts many m.end end ms others order.4 starts within,
-    )
-
--- the first of matches in order are in order
-order-front : (bytes many place : ℕ) (ms others : List Occurrence) → AreInOrder bytes many place (ms ++ others)
-    → AreInOrder bytes many place ms
-order-front bytes many place [] [] order = order
-order-front bytes many place [] (n ∷ others) order = grind (arith, common_steps)
-order-front bytes many place (m ∷ ms) others order = search (rules, order-front bytes many m.end ms others order.4)
-
--- matches in order are in order as far as the last of them ends
-order-within : (bytes many place end : ℕ) (ms : List Occurrence) → AreInOrder bytes many place ms → place ≤ end
-    → last_end ms ≤ end → AreInOrder end many place ms
-order-within bytes many place end [] order from last = from
-order-within bytes many place end (m ∷ []) order from last = (order.0, order.1, last, order.3, last)
-order-within bytes many place end (m ∷ n ∷ ms) order from last =
-    let rest = order-within bytes many m.end end (n ∷ ms) order.4
-    (let first = at-most bytes many m.end (n ∷ ms) order.4 (λ e. absurd (cc)) in omega arith) last in
-    (order.0, order.1, (let a = rest.0 in let b = rest.1 in let c = rest.2 in omega arith), order.3, rest)
-  where
-    at-most : (bytes many place : ℕ) (ns : List Occurrence) → AreInOrder bytes many place ns → ns ≢ []
-        → place ≤ last_end ns
-    at-most bytes many place [] order some = absurd (some refl)
-    at-most bytes many place (o ∷ []) order some = let a = order.0 in let b = order.1 in omega arith
-    at-most bytes many place (o ∷ p ∷ ns) order some =
-        let a = order.0 in let b = order.1 in
-        let l = at-most bytes many o.end (p ∷ ns) order.4 (λ e. absurd (cc)) in omega arith
-
--- so the last of them ends within the haystack
-order-last : (bytes many place : ℕ) (ms : List Occurrence) → AreInOrder bytes many place ms → last_end ms ≤ bytes
-order-last bytes many place [] order = omega arith
-order-last bytes many place (m ∷ []) order = order.2
-order-last bytes many place (m ∷ n ∷ ms) order = order-last bytes many m.end (n ∷ ms) order.4
-
--- matches all of which end by a place
-ends-by : (ms : List Occurrence) (place : ℕ) → All (λ (m : Occurrence). m.end ≤ place) ms → last_end ms ≤ place
-ends-by [] place all = omega arith
-ends-by (m ∷ []) place all = all 0 m (omega arith)
-ends-by (m ∷ n ∷ ms) place all = ends-by (n ∷ ms) place (λ k d within. all (suc k) d (omega arith))
-
--- the first of the matches that settle a stream as far as a place end by there, and the others start no earlier
-record AreApart (built : Built) (bytes : List ℕ) (given place : ℕ) : Type 0 where
-  within : place ≤ length bytes
-  last : last_end (take given (stream_result built bytes)) ≤ place
-  starts : StartFrom place (drop given (stream_result built bytes))
-
-all-apart : (built : Built) (bytes : List ℕ) (given place : ℕ) → given ≡ length (stream_result built bytes)
-    → place ≤ length bytes → last_end (stream_result built bytes) ≤ place → AreApart built bytes given place
-all-apart built bytes given place all within last = grind (arith, common_steps)
-
-some-apart : (built : Built) (bytes : List ℕ) (given place : ℕ) → IsSettledAt built bytes given place
-    → AreApart built bytes given place
-some-apart built bytes given place h = record {
-  within = h.within;
-  last = ends-by (take given (stream_result built bytes)) place h.ended;
-  starts = by (drop given (stream_result built bytes)) h.later;
-}
-  where
-    by : (ms : List Occurrence) → All (λ (m : Occurrence). place ≤ m.start) ms → StartFrom place ms
-    by [] all = tt
-    by (m ∷ ms) all = all 0 m (omega arith)
+use Rattle.ac_util.proofs.ReplacedCuts.{all-apart, apart-by, AreApart, cut-of, last-inside}
 
 -- an exchange by texts, which stay as they are
 module _ {E D : Type 0} (passing : Passing E D) (texts : E → List (List ℕ))
@@ -157,21 +80,6 @@ module _ {E D : Type 0} (passing : Passing E D) (texts : E → List (List ℕ))
     abbrev whole-of : List ℕ → List ℕ
     whole-of bytes = replaced bytes list (stream_result built bytes)
 
-    -- what is settled, and then the rest
-    cut-of : (bytes : List ℕ) (given place : ℕ) → AreApart built bytes given place
-        → whole-of bytes
-        ≡ replaced (take place bytes) list (take given (stream_result built bytes))
-        ++ replaced_from bytes list place (drop given (stream_result built bytes))
-    cut-of bytes given place apart =
-        ap (replaced bytes list) (sym (take-append-drop given (stream_result built bytes)))
-        ∙ replaced-cut bytes list (length built.patterns) 0 place (take given (stream_result built bytes))
-        (drop given (stream_result built bytes))
-        (order-within (length bytes) (length built.patterns) 0 place (take given (stream_result built bytes))
-        (order-front (length bytes) (length built.patterns) 0 (take given (stream_result built bytes))
-        (drop given (stream_result built bytes))
-        (subst (AreInOrder (length bytes) (length built.patterns) 0) (sym (take-append-drop given (stream_result built bytes)))
-        (exchanged-in_order built bytes (length built.patterns) refl))) (omega arith) apart.last) apart.starts apart.within
-
     pub replaces-by : ReplacesBy passing exchanges ends built reader new_reader s t
         → ReplacesStream built list (passing.told s.destination) (passing.told t.destination) ends reader new_reader
     replaces-by (bytes, reads, clear, steps, small) = (
@@ -184,63 +92,24 @@ module _ {E D : Type 0} (passing : Passing E D) (texts : E → List (List ℕ))
       small,
     )
 
-    last-inside : (bytes : List ℕ) → last_end (stream_result built bytes) ≤ length bytes
-    last-inside bytes =
-        order-last (length bytes) (length built.patterns) 0 (stream_result built bytes)
-        (exchanged-in_order built bytes (length built.patterns) refl)
-
-    -- the replaced text of what is settled under Standard is that of all without the bytes held back
-    settled-text : (bytes : List ℕ)
-        → replaced (take (settled built bytes) bytes) list (stream_result built bytes)
-        ≡ without_last (kept_back_len built bytes) (whole-of bytes)
-    settled-text bytes =
-        let last = last-inside bytes in
-        let many = length (stream_result built bytes) in
-        let apart = all-apart built bytes many (settled built bytes) refl (omega arith) (omega arith) in
-        let whole = take_all many (stream_result built bytes) (omega arith) in
-        let cut : whole-of bytes
-        ≡ replaced (take (settled built bytes) bytes) list (stream_result built bytes) ++ drop (settled built bytes) bytes =
-        cut-of bytes many (settled built bytes) apart
-        ∙ ap (λ (ms : List Occurrence). replaced (take (settled built bytes) bytes) list ms
-        ++ replaced_from bytes list (settled built bytes) (drop many (stream_result built bytes))) whole
-        ∙ ap (λ (ms : List Occurrence). replaced (take (settled built bytes) bytes) list (stream_result built bytes)
-        ++ replaced_from bytes list (settled built bytes) ms) (drop_all many (stream_result built bytes) (omega arith)) in
-        let written = replaced (take (settled built bytes) bytes) list (stream_result built bytes) in
-        let size = ap length cut ∙ length-append written (drop (settled built bytes) bytes) in
-        let left = length-drop (settled built bytes) bytes in
-        sym (ap (λ (n : ℕ). take n (whole-of bytes))
-        (let n : length (whole-of bytes) - kept_back_len built bytes ≡ length written = omega arith in n)
-        ∙ ap (take (length written)) cut
-        ∙ take-append_seam written (drop (settled built bytes) bytes))
-
     -- a beginning of the replaced text as far as a place is one of all of it
     begun-text : (bytes : List ℕ) (given place : ℕ) (e : StreamError) → AreApart built bytes given place
         → Steps passing exchanges (take place bytes) 0 (take given (stream_result built bytes)) s (Some e) t
         → (failure : WriteError) × (e ≡ error_of failure) × WritesUntilFailure old new (whole-of bytes) failure
     begun-text bytes given place e apart steps =
         piece-failed passing (whole-of bytes) s t e begins
-        (subst (λ (w : List ℕ). PassesPiece passing w s (Some e) t) (sym (cut-of bytes given place apart))
+        (subst (λ (w : List ℕ). PassesPiece passing w s (Some e) t) (sym (cut-of built list bytes given place apart))
         (piece-begun passing (replaced (take place bytes) list (take given (stream_result built bytes)))
         (replaced_from bytes list place (drop given (stream_result built bytes))) s t e
         (text-steps (take place bytes) 0 (take given (stream_result built bytes)) s t (Some e) list same steps)))
 
-    apart-by : (bytes : List ℕ) (given place : ℕ) (kind : MatchKind) → IsSettledBy kind built bytes given place
-        → AreApart built bytes given place
-    apart-by bytes given place Standard all = grind (arith, common_steps, all-apart, last-inside)
-    apart-by bytes given place LeftmostFirst some = some-apart built bytes given place some
-    apart-by bytes given place LeftmostLongest some = some-apart built bytes given place some
-
     pub fails-by : (e : StreamError) → FailsBy passing exchanges ends built reader new_reader s e t
         → FailsToReplace built list (passing.told s.destination) (passing.told t.destination) ends reader new_reader e
     fails-by e (bytes, inl fails, small) =
-        grind (
-          arith,
-          common_steps,
-          piece-written passing (replaced (take fails.place bytes) list (take fails.given (stream_result built bytes))) s t begins
-              fails.clear
-              (text-steps (take fails.place bytes) 0 (take fails.given (stream_result built bytes)) s t None list same
-              fails.steps),
-          settled-text,
-        )
-    fails-by e (bytes, inr (given, place, inl (some, is), steps), small) = search (rules, apart-by, begun-text)
-    fails-by e (bytes, inr (given, place, inr (all, many, is), steps), small) = search (rules, all-apart, begun-text, last-inside)
+        let written = piece-written passing (replaced (take fails.place bytes) list (take fails.given (stream_result built bytes)))
+        s t begins fails.clear
+        (text-steps (take fails.place bytes) 0 (take fails.given (stream_result built bytes)) s t None list same fails.steps) in
+        (bytes, inl (fails.reads, (fails.given, fails.place, fails.settled, fails.near, written)), small)
+    fails-by e (bytes, inr (given, place, inl (some, is), steps), small) = search (rules, apart-by built, begun-text)
+    fails-by e (bytes, inr (given, place, inr (all, many, is), steps), small) =
+        search (rules, all-apart, begun-text, last-inside built)

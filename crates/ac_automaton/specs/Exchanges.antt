@@ -1,9 +1,9 @@
 -- What the replacement of a stream has done so far.
-use Rattle.std.specs.Prelude.{◌≡◌, ◌⊎◌, ℕ, ◌<◌, ◌≤◌, Bool, List, ◌∷◌, ◌++◌, ⊤, Option, None, Some, Result, Ok, Err, MatchResult, [], length, slice_index_or, take}
+use Rattle.std.specs.Prelude.{◌≡◌, ◌⊎◌, ℕ, ◌<◌, ◌≤◌, Bool, List, ◌∷◌, ◌++◌, Option, None, Some, Result, Ok, Err, MatchResult, [], length, slice_index_or, take}
 use Rattle.std.specs.Borrow.{Bor, MutBor}
 use Rattle.std.specs.Fn.{Mut}
 use Rattle.std.specs.declared.io.Error.{Error}
-use Rattle.ac_automaton.specs.Util.{Answer, Built, Calls, Fails, FailsToRead, Continues, IsNear, IsSettled, IsSettledBy, Occurrence, Reading, ReadsAll, ReplacementSteps, Replacing, stream_result, StreamError, usize_max}
+use Rattle.ac_automaton.specs.Util.{Answer, Built, Calls, Fails, FailsToRead, Continues, IsNear, IsSettled, IsSettledBy, Occurrence, Reading, ReadsAll, ReplacementSteps, Replacing, StartFrom, stream_result, StreamError, usize_max}
 use Rattle.ac_util.specs.declared.error.StreamError.TheVariants.{Io}
 use Rattle.ac_automaton.specs.Gathering.{Passing, PassesPiece}
 use Rattle.ac_automaton.specs.Streams.{IsSettledIn, Streaming, matches_so_far}
@@ -48,11 +48,6 @@ CallsBy closures m slice closure old r left new =
     × Calls closures m slice (record { closure = closure; destination = old }) answer
     (record { closure = left; destination = new })
     × MatchResult answer (λ done. r ≡ Ok done) (λ e. r ≡ Err (Io e))
-
--- the first of the matches starts at the place or later
-abbrev pub StartFrom : ℕ → List Occurrence → Type 0
-StartFrom place [] = ⊤
-StartFrom place (m ∷ ms) = place ≤ m.start
 
 module _ {E D : Type 0} (passing : Passing E D)
     (calls : Occurrence → List ℕ → Replacing E D → Result (Unit {0}) StreamError → Replacing E D → Type 0) where

@@ -2,7 +2,7 @@
 pub use Rattle.ac_automaton.specs.Automata.{AutomatonView, IsAnyState, IsState, Lists, looks_of, matches_of, plain_of, step_of}
 pub use Rattle.ac_automaton.specs.Builds.{AnswersBuild, engine_built_by, EngineSettings, IsAllowed, IsEngineBuilt, IsRefused, IsRefusedExactly, refusal_or, RefusesBy, state_refusal, too_many_states, usual_engine_settings}
 pub use Rattle.ac_automaton.specs.Common.{built_as, common_of, CommonView}
-pub use Rattle.ac_automaton.specs.Exchanges.{answer_of_exchange, CallsBy, error_in, FailsBy, FailsToExchange, HasExchanged, HasReplaced, ReplacesBy, PassesText, StartFrom, Steps}
+pub use Rattle.ac_automaton.specs.Exchanges.{answer_of_exchange, CallsBy, error_in, FailsBy, FailsToExchange, HasExchanged, HasReplaced, ReplacesBy, PassesText, Steps}
 pub use Rattle.ac_automaton.specs.Finders.{Finding, finding_of, Picking}
 pub use Rattle.ac_automaton.specs.Finds.{FindsIn, FindsOn, FitsIn, found_at, HasSearched, IsAnswered, HasPicked, IsDecided, LeadsTo, MayBegin, MayFind, MayPick, MaySearch, picking_by, PicksOn, place_of, ReadsTo, HasReadMatch}
 pub use Rattle.ac_automaton.specs.Gathering.{Gathers, Passing, PassesPiece}

@@ -20,7 +20,7 @@ unfoldable pub use Rattle.ac_util.specs.Pick.{pick}
 pub use Rattle.ac_util.specs.Prefilters.{begins_with, BeginWith, first_bytes_of, is_one_of, IsFirstAmong, IsNeedleMatch, IsSkipFor, match_candidate, may_skip, Promises, search_over, Skip, skip_among, skip_for, skip_of, IsCandidateFor}
 pub use Rattle.ac_util.specs.Prefilters.Skip.{FirstOf}
 pub use Rattle.ac_util.specs.Refusal.{AnswersUnless, empty_refusal, Find, first_refusal, form_refusal, kind_refusal, OverlappingByState, OverlappingIterator, refusal, Replace, start_refusal, Stream}
-pub use Rattle.ac_util.specs.Replaced.{is_whole, replaced, replaced_from, whole_characters}
+pub use Rattle.ac_util.specs.Replaced.{StartFrom, is_whole, replaced, replaced_from, whole_characters}
 pub use Rattle.ac_util.specs.Replacement.{Answer, AppendsAll, answer_of, Calls, Fails, Continues, MatchAnswer, ReplacementSteps, Replacing, Turn}
 pub use Rattle.ac_util.specs.Replacing.{AnswersWhole, MakesSteps, MatchReplaceError, StepsLead}
 pub use Rattle.ac_util.specs.Sameness.{plain, plain_byte}

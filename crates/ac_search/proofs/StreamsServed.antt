@@ -37,11 +37,9 @@ module _ (engine : Built) (start_kind : StartKind) where
 
     -- with a list of texts
     module _ (texts : List (List ℕ)) (writer new_writer : Writing) where
-      text : (kind : MatchKind) (bytes : List ℕ) → TextIsSettled engine texts writer new_writer kind bytes
-          → TextIsSettled searcher texts writer new_writer kind bytes
-      text Standard bytes h = h
-      text LeftmostFirst bytes h = (h.0, h.1, settled-at bytes h.0 h.1 h.2, h.3, h.4)
-      text LeftmostLongest bytes h = (h.0, h.1, settled-at bytes h.0 h.1 h.2, h.3, h.4)
+      text : (bytes : List ℕ) → TextIsSettled engine texts writer new_writer bytes
+          → TextIsSettled searcher texts writer new_writer bytes
+      text bytes h = (h.0, h.1, settled-by engine.kind bytes h.0 h.1 h.2, h.3, h.4)
 
       abbrev Replaces : Built → Result (Unit {0}) StreamError → Type 0
       Replaces built r =
@@ -62,12 +60,9 @@ module _ (engine : Built) (start_kind : StartKind) where
     module _ {F D : Type 0} (told : D → Writing)
         (closures : Mut F (Bor Occurrence × (Bor (List ℕ) × (MutBor D × Unit {0})))
         (Result (Unit {0}) Error × (MutBor D × Unit {0}))) (closure : F) (writer new_writer : D) where
-      steps : (kind : MatchKind) (bytes : List ℕ)
-          → StepsAreSettled told closures engine closure writer kind bytes new_writer
-          → StepsAreSettled told closures searcher closure writer kind bytes new_writer
-      steps Standard bytes h = h
-      steps LeftmostFirst bytes h = (h.0, h.1, settled-at bytes h.0 h.1 h.2, h.3, h.4)
-      steps LeftmostLongest bytes h = (h.0, h.1, settled-at bytes h.0 h.1 h.2, h.3, h.4)
+      steps : (bytes : List ℕ) → StepsAreSettled told closures engine closure writer bytes new_writer
+          → StepsAreSettled told closures searcher closure writer bytes new_writer
+      steps bytes h = (h.0, h.1, settled-by engine.kind bytes h.0 h.1 h.2, h.3, h.4)
 
       abbrev Exchanges : Built → Result (Unit {0}) StreamError → Type 0
       Exchanges built r =

@@ -46,3 +46,4 @@ pub mod PlainReplaced
 pub mod Exchanges
 pub mod Devices
 pub mod LawSets
+pub mod ReplacedCuts

@@ -18,7 +18,8 @@ use Rattle.ac_util.specs.Replacement.{AppendsBeginning, Replacing, ReplacementSt
 use Rattle.ac_util.specs.Sameness.{plain, plain_byte, same_byte}
 use Rattle.ac_util.specs.Search.{Search, from, pattern_of}
 use Rattle.ac_util.specs.Settled.{IsSettledAt, NoneOpen}
-use Rattle.ac_util.specs.Stream.{stream_result}
+use Rattle.ac_util.specs.Stream.{kept_back_len, stream_result, without_last}
+use Rattle.ac_util.specs.StreamReplacing.{IsSettledBy}
 use Rattle.ac_util.specs.Texts.{AreTexts, IsBetweenCharacters}
 use Rattle.ac_util.specs.Walk.{next_match, walk, walk_after}
 
@@ -151,6 +152,14 @@ module _ (built : Built) (bytes : List ℕ) where
   StayingIsDecided =
       (low : ℕ) (m : Occurrence) → is_leftmost built.kind ≡ true → m.end ≤ length bytes → StaysFirst low m
       → NoneOpen built bytes low (m.start + 1)
+
+-- where a stream is settled under Standard, of which these bytes came, the replaced text so far is all of the replaced text but
+-- as many bytes as are held back
+abbrev pub HoldsBack : Built → List ℕ → List (List ℕ) → Type 0
+HoldsBack built bytes texts =
+    (given place : ℕ) → built.kind ≡ Standard → IsSettledBy built.kind built bytes given place
+    → replaced (take place bytes) texts (take given (stream_result built bytes))
+    ≡ without_last (kept_back_len built bytes) (replaced bytes texts (stream_result built bytes))
 
 module _ (haystack : List ℕ) (texts : List (List ℕ)) where
   -- steps that append to a list the text of each of the matches lead it from s to t

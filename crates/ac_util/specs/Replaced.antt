@@ -1,5 +1,5 @@
 -- A haystack in which matches are exchanged for texts.
-use Rattle.std.specs.Prelude.{ℕ, Bool, ◌&&◌, ◌||◌, nat_le, nat_lt, List, [], ◌∷◌, ◌++◌, length, drop, filter, slice_range, slice_index, slice_index_or}
+use Rattle.std.specs.Prelude.{ℕ, ◌≤◌, ⊤, Bool, ◌&&◌, ◌||◌, nat_le, nat_lt, List, [], ◌∷◌, ◌++◌, length, drop, filter, slice_range, slice_index, slice_index_or}
 use Rattle.ac_util.specs.Occurrence.{Occurrence}
 
 -- what stands from a place on: each gap as it is, each match exchanged for what `write` gives for it and its bytes
@@ -31,3 +31,8 @@ is_whole text m = is_char_boundary text m.start && is_char_boundary text m.end
 -- those of the matches of a walk that cut no character; the walk isn't taken again
 abbrev pub whole_characters : List ℕ → List Occurrence → List Occurrence
 whole_characters text ms = filter (is_whole text) ms
+
+-- the first of the matches starts at the place or later
+abbrev pub StartFrom : ℕ → List Occurrence → Type 0
+StartFrom place [] = ⊤
+StartFrom place (m ∷ ms) = place ≤ m.start

@@ -16,7 +16,7 @@ use Rattle.ac_util.specs.Replaced.{replaced}
 use Rattle.ac_util.specs.Replacement.{Answer, Calls, Fails, Continues, Replacing, ReplacementSteps}
 use Rattle.ac_util.specs.Settled.{IsSettledAt}
 use Rattle.ac_util.specs.Sizes.{longest_len, usize_max}
-use Rattle.ac_util.specs.Stream.{error_of, kept_back_len, stream_result, without_last}
+use Rattle.ac_util.specs.Stream.{error_of, kept_back_len, stream_result}
 
 -- one of five things, by why a stream ended
 abbrev pub MatchStreamError : StreamError → (MatchError → Type 0) → Type 0 → Type 0 → Type 0 → Type 0 → Type 0
@@ -94,12 +94,10 @@ module _ {F D : Type 0} (told : D → Writing)
       (bytes : List ℕ) × ReadsAll ends reader new_reader bytes
       × StreamStepsLead bytes (stream_result built bytes) (length bytes) None new × (length bytes ≤ usize_max)
 
-  -- the steps were made as far as the stream is settled, of which these bytes came: under Standard to all but the bytes held
-  -- back, and under a leftmost kind to all but at most as many as the longest pattern has
-  abbrev pub StepsAreSettled : MatchKind → List ℕ → D → Type 0
-  StepsAreSettled Standard bytes new = StreamStepsLead bytes (stream_result built bytes) (settled built bytes) None new
-  StepsAreSettled kind bytes new =
-      (given place : ℕ) × IsSettledAt built bytes given place × IsNear built bytes place
+  -- the steps were made as far as the stream is settled, of which these bytes came
+  abbrev pub StepsAreSettled : List ℕ → D → Type 0
+  StepsAreSettled bytes new =
+      (given place : ℕ) × IsSettledBy built.kind built bytes given place × IsNear built bytes place
       × StreamStepsLead bytes (take given (stream_result built bytes)) place None new
 
   -- a read has failed, or brought more than usize counts, which counts all before it: the steps were made as far as the
@@ -107,7 +105,7 @@ module _ {F D : Type 0} (told : D → Writing)
   abbrev pub FailsToReplaceWith : Bool → Reading → Reading → D → StreamError → Type 0
   FailsToReplaceWith ends reader new_reader new e =
       (bytes : List ℕ)
-      × ((FailsToRead 0 reader new_reader bytes e × StepsAreSettled built.kind bytes new)
+      × ((FailsToRead 0 reader new_reader bytes e × StepsAreSettled bytes new)
       ⊎ ((given place : ℕ) × IsSettled ends built reader new_reader bytes given place
       × StreamStepsLead bytes (take given (stream_result built bytes)) place (Some e) new))
       × (length bytes ≤ usize_max)
@@ -123,12 +121,10 @@ module _ (built : Built) (texts : List (List ℕ)) (old new : Writing) where
       (bytes : List ℕ) × ReadsAll ends reader new_reader bytes × WritesAll old new (stream_replaced bytes)
       × (length bytes ≤ usize_max)
 
-  -- the replaced text was written as far as the stream is settled, of which these bytes came: under Standard but for the bytes
-  -- held back, and under a leftmost kind but for at most as many as the longest pattern has
-  abbrev pub TextIsSettled : MatchKind → List ℕ → Type 0
-  TextIsSettled Standard bytes = WritesAll old new (without_last (kept_back_len built bytes) (stream_replaced bytes))
-  TextIsSettled kind bytes =
-      (given place : ℕ) × IsSettledAt built bytes given place × IsNear built bytes place
+  -- the replaced text was written as far as the stream is settled, of which these bytes came
+  abbrev pub TextIsSettled : List ℕ → Type 0
+  TextIsSettled bytes =
+      (given place : ℕ) × IsSettledBy built.kind built bytes given place × IsNear built bytes place
       × WritesAll old new (replaced (take place bytes) texts (take given (stream_result built bytes)))
 
   -- a read has failed, or brought more than usize counts, which counts all before it: the replaced text was written as far
@@ -137,7 +133,7 @@ module _ (built : Built) (texts : List (List ℕ)) (old new : Writing) where
   abbrev pub FailsToReplace : Bool → Reading → Reading → StreamError → Type 0
   FailsToReplace ends reader new_reader e =
       (bytes : List ℕ)
-      × ((FailsToRead 0 reader new_reader bytes e × TextIsSettled built.kind bytes)
+      × ((FailsToRead 0 reader new_reader bytes e × TextIsSettled bytes)
       ⊎ ((ReadsSome reader new_reader bytes ⊎ ReadsAll ends reader new_reader bytes)
       × ((failure : WriteError) × (e ≡ error_of failure)
       × WritesUntilFailure old new (stream_replaced bytes) failure)))

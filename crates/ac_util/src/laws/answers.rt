@@ -7,7 +7,7 @@ ghost use Rattle.ac_util.specs.declared.search.MatchKind.{MatchKind};
 ghost use Rattle.ac_util.specs.declared.search.MatchKind.TheVariants.{Standard};
 ghost use Rattle.ac_util.specs.Built.{Built, find_result, search_in, walk_result};
 ghost use Rattle.ac_util.specs.InputView.{InputView};
-ghost use Rattle.ac_util.specs.Laws.{AllLieIn, AnswerLiesIn, AreAlike, CutsNoCharacter, Decides, EarliestIsStandard, GoesOn, IsPastEnd, MatchesStay, SettledStays, StayingIsDecided, StepsKeep, StepsLeaveBeginning, StepsLeaveWhole, WalkBegins, WalkEnds, WalkGoesOn, its_pattern, most_matches};
+ghost use Rattle.ac_util.specs.Laws.{AllLieIn, AnswerLiesIn, AreAlike, CutsNoCharacter, Decides, EarliestIsStandard, GoesOn, HoldsBack, IsPastEnd, MatchesStay, SettledStays, StayingIsDecided, StepsKeep, StepsLeaveBeginning, StepsLeaveWhole, WalkBegins, WalkEnds, WalkGoesOn, its_pattern, most_matches};
 ghost use Rattle.ac_util.specs.Listing.{all, IsBefore, item_at};
 ghost use Rattle.ac_util.specs.Occurrence.{Occurrence};
 ghost use Rattle.ac_util.specs.Pick.{IsPick, order_of, pick};
@@ -133,6 +133,12 @@ pub fn stream_goes_on()
 pub fn settled_stays()
     ensures stays { (built : Built) (bytes more : List ℕ) → SettledStays built bytes more }
     ensures decided { (built : Built) (bytes : List ℕ) → StayingIsDecided built bytes }
+{}
+
+/// Under Standard the replaced text of a stream as far as it is settled is all of the replaced text but as many bytes as are
+/// held back.
+pub fn standard_holds_back()
+    ensures { (built : Built) (bytes : List ℕ) (texts : List (List ℕ)) → HoldsBack built bytes texts }
 {}
 
 /// Calls that append the text of each pattern and go on leave the replaced text after what was there, and a
