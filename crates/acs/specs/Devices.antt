@@ -7,6 +7,7 @@ use Rattle.ac_search.specs.declared.Sink.{Ghosts as Sink}
 use Rattle.ac_search.specs.declared.Source.{Ghosts as Source}
 use Rattle.ac_search.specs.Borrowed.{bytes_of}
 use Rattle.ac_search.specs.Built.{Built}
+use Rattle.ac_search.specs.Device.{Reading, Writing}
 use Rattle.ac_search.specs.Searchers.{Searcher}
 use Rattle.acs.specs.declared.fault.Fault.{Fault}
 use Rattle.acs.specs.declared.fault.Fault.TheVariants.{Memory}
@@ -26,8 +27,8 @@ module _ {R W : Type 0} (source : Source R) (sink : Sink W) where
       (sink.told writer) (sink.told new_writer) result
 
   -- the same of a mode that exchanges matches for the texts among these words
-  abbrev pub ReplacesOn : Mode → Searcher → List (Bor (List ℕ)) → R → R → W → W → Result Outcome Fault → Type 0
-  ReplacesOn mode searcher words reader new_reader writer new_writer result =
+  abbrev pub Replaces : Mode → Searcher → List (Bor (List ℕ)) → R → R → W → W → Result Outcome Fault → Type 0
+  Replaces mode searcher words reader new_reader writer new_writer result =
       AnswersOrFails source.empty_means_end mode searcher.built (seconds (bytes_of words)) (source.told reader)
       (source.told new_reader) (sink.told writer) (sink.told new_writer) result
 
@@ -54,9 +55,9 @@ module _ {R W : Type 0} (source : Source R) (sink : Sink W) where
 
 module _ {R W E : Type 0} (source : Source R) (sink : Sink W) (reports : Sink E) where
   -- the run on the words has ended with this status
-  abbrev pub EndsOn : List (List ℕ) → R → R → W → W → E → E → ℕ → Type 0
+  abbrev pub EndsOn : List (Bor (List ℕ)) → R → R → W → W → E → E → ℕ → Type 0
   EndsOn words reader new_reader writer new_writer errors new_errors status =
-      HasEnded source.empty_means_end words (source.told reader) (source.told new_reader) (sink.told writer)
+      HasEnded source.empty_means_end (bytes_of words) (source.told reader) (source.told new_reader) (sink.told writer)
       (sink.told new_writer) (reports.told errors) (reports.told new_errors) status
 
   -- the run on the words among all that an iterator gives has ended, where it didn't fail
@@ -65,11 +66,13 @@ module _ {R W E : Type 0} (source : Source R) (sink : Sink W) (reports : Sink E)
   EndsOnAll steps arguments reader new_reader writer new_writer errors new_errors result =
       IfOk result
       (λ status. (given : List (String Global)) × Drains steps arguments given
-      × EndsOn (words_among given) reader new_reader writer new_writer errors new_errors status)
+      × HasEnded source.empty_means_end (words_among given) (source.told reader) (source.told new_reader)
+      (sink.told writer) (sink.told new_writer) (reports.told errors) (reports.told new_errors) status)
 
-  -- memory was refused before anything was read, written or reported, where it failed
-  abbrev pub FailsAtOnce : R → R → W → W → E → E → Result ℕ Fault → Type 0
-  FailsAtOnce reader new_reader writer new_writer errors new_errors result =
-      IfErr result
-      (λ fault. (fault ≡ Memory) × (source.told new_reader ≡ source.told reader) × (sink.told new_writer ≡ sink.told writer)
-      × (reports.told new_errors ≡ reports.told errors))
+-- where the run on arguments failed, memory was refused before anything was read, written or reported
+abbrev pub NeverRuns : {R W E : Type 0} → (R → Reading) → (W → Writing) → (E → Writing) → R → R → W → W → E → E
+    → Result ℕ Fault → Type 0
+NeverRuns told wrote reported reader new_reader writer new_writer errors new_errors result =
+    IfErr result
+    (λ fault. (fault ≡ Memory) × (told new_reader ≡ told reader) × (wrote new_writer ≡ wrote writer)
+    × (reported new_errors ≡ reported errors))

@@ -2,6 +2,7 @@
 use Rattle.std.specs.Prelude.{◌≡◌, ◌≤◌, ℕ, Bool, List, [], ◌∷◌, ◌++◌, drop, MatchResult, Option, Result}
 use Rattle.std.specs.Io.KnownBytes.{Appends}
 use Rattle.std.specs.Iterator.{YieldsFirst}
+use Rattle.std.specs.declared.vec.Vec.{Vec}
 use Rattle.ac_search.specs.Built.{Built}
 use Rattle.ac_search.specs.Device.{Reading, ReadsAll, Writing, WritesAll}
 use Rattle.ac_search.specs.Occurrence.{Occurrence}
@@ -42,11 +43,11 @@ pub record IsPrinting (all rest : List Occurrence) (old new : Writing) (text : L
   pub outcome_is : outcome ≡ outcome_of done
 
 -- whichever matches come before and after m, its line is printed too; or a write or memory has failed
-abbrev pub PrintsNext : Occurrence → Writing → Writing → List ℕ → List ℕ → Result (Unit {0}) Fault → Type 0
+abbrev pub PrintsNext : {Z : Type 0} → Occurrence → Writing → Writing → Vec ℕ Z → Vec ℕ Z → Result (Unit {0}) Fault → Type 0
 PrintsNext m writer new_writer text new_text result =
     (all later : List Occurrence) → (old : Writing) → (outcome : Outcome)
-    → IsPrinting all (m ∷ later) old writer text outcome
-    → MatchResult result (λ _. IsPrinting all later old new_writer new_text Found) (FailsToPrint old new_writer (lines all))
+    → IsPrinting all (m ∷ later) old writer text.items outcome
+    → MatchResult result (λ _. IsPrinting all later old new_writer new_text.items Found) (FailsToPrint old new_writer (lines all))
 
 -- whichever matches are printed but for the text, it is written; or a write has failed
 abbrev pub PrintsEnd : Writing → Writing → List ℕ → Result (Unit {0}) Fault → Type 0
@@ -68,10 +69,11 @@ pub record HasPrintedRead (v new_v : Streaming) (old new : Writing) (text : List
   pub printing : PrintsSoFar new_v old new [] outcome
 
 -- whatever was written before, the matches that a finder has settled are printed too; or a write or memory has failed
-abbrev pub PrintsRead : Streaming → Streaming → Writing → Writing → List ℕ → List ℕ → Result (Unit {0}) Fault → Type 0
+abbrev pub PrintsRead : {Z : Type 0} → Streaming → Streaming → Writing → Writing → Vec ℕ Z → Vec ℕ Z
+    → Result (Unit {0}) Fault → Type 0
 PrintsRead v new_v writer new_writer text new_text result =
-    (old : Writing) → PrintsSoFar v old writer text Found
-    → MatchResult result (λ _. HasPrintedRead v new_v old new_writer new_text Found)
+    (old : Writing) → PrintsSoFar v old writer text.items Found
+    → MatchResult result (λ _. HasPrintedRead v new_v old new_writer new_text.items Found)
     (FailsToPrint old new_writer (lines (matches_so_far v)))
 
 module _ (ends : Bool) (built : Built) (reader new_reader : Reading) (writer new_writer : Writing) where

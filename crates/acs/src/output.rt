@@ -80,7 +80,7 @@ fn print_line<A: Allocator + Clone, W: Sink>(
     m: &Match,
     writer: &mut W,
 ) -> Result<(), Fault>
-    ensures { PrintsNext m.now (W.told writer.old) (W.told writer.new) text.old.items text.new.items result }
+    ensures { PrintsNext m.now (W.told writer.old) (W.told writer.new) text.old text.new result }
 {
     add_line(text, m)?;
     if text.len() >= FULL {
@@ -133,7 +133,7 @@ fn print_read<A: Allocator + Clone, B: Allocator, Z: Allocator, W: Sink>(
     finder: &mut StreamFinder<'_, B, Z>,
     writer: &mut W,
 ) -> Result<(), Fault>
-    ensures { PrintsRead finder.old finder.new (W.told writer.old) (W.told writer.new) text.old.items text.new.items result }
+    ensures { PrintsRead finder.old finder.new (W.told writer.old) (W.told writer.new) text.old text.new result }
 {
     while let Some(m) = finder.next_read() {
         print_line(text, &m, writer)?;

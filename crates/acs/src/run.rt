@@ -2,7 +2,7 @@
 ghost use Rattle.std.specs.Prelude.{◌≡◌};
 ghost use Rattle.std.specs.Iterator.{IsFinite};
 ghost use Rattle.ac_search.specs.Borrowed.{bytes_of};
-ghost use Rattle.acs.specs.Devices.{EndsOn, EndsOnAll, FailsAtOnce, HasAnsweredOn, RunsOn};
+ghost use Rattle.acs.specs.Devices.{EndsOn, EndsOnAll, HasAnsweredOn, NeverRuns, RunsOn};
 ghost use Rattle.acs.specs.Lines.{status_of};
 ghost use Rattle.acs.specs.Runs.{BuildsFor, HasReported};
 
@@ -80,7 +80,7 @@ pub(crate) fn run_on_arguments<
     requires finite { IsFinite (I.remaining arguments) }
     ensures ended { EndsOnAll R.Source W.Sink E.Sink I.next_gives arguments reader.old reader.new writer.old writer.new
         errors.old errors.new result }
-    ensures refused { FailsAtOnce R.Source W.Sink E.Sink reader.old reader.new writer.old writer.new
+    ensures refused { NeverRuns R.told W.told E.told reader.old reader.new writer.old writer.new
         errors.old errors.new result }
 {
     let arguments: Vec<String, A> = arguments.collect(alloc.clone()?)?;
@@ -99,7 +99,7 @@ fn run_and_report<A: Allocator + Clone, R: Source, W: Sink, E: Sink>(
     writer: &mut W,
     errors: &mut E,
 ) -> u8
-    ensures { EndsOn R.Source W.Sink E.Sink (bytes_of words.now) reader.old reader.new writer.old writer.new
+    ensures { EndsOn R.Source W.Sink E.Sink words.now reader.old reader.new writer.old writer.new
         errors.old errors.new result }
 {
     let outcome = run(alloc, words, reader, writer);
