@@ -24,6 +24,7 @@ pub use Rattle.ac_util.specs.Walk
 pub use Rattle.ac_util.specs.Built
 pub use Rattle.ac_util.specs.Refusal
 pub use Rattle.ac_util.specs.Inside
+pub use Rattle.ac_util.specs.Laws
 -- replacement
 pub use Rattle.ac_util.specs.Replaced
 pub use Rattle.ac_util.specs.Replacement

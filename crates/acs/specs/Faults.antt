@@ -1,5 +1,5 @@
 -- Why the program fails, and what it says then.
-use Rattle.std.specs.Prelude.{◌≡◌, ℕ, List, codes}
+use Rattle.std.specs.Prelude.{◌≡◌, ℕ, List, codes, MatchOption, Result, Ok, Err}
 use Rattle.ac_search.specs.declared.WriteError.{WriteError}
 use Rattle.ac_search.specs.declared.WriteError.TheVariants.{Io as WriteFailed, WriteZero as WroteNothing}
 use Rattle.ac_search.specs.declared.BuildError.{BuildError}
@@ -9,6 +9,7 @@ use Rattle.ac_search.specs.declared.MatchError.TheVariants.{InvalidInputAnchored
 use Rattle.ac_search.specs.declared.StreamError.{StreamError}
 use Rattle.ac_search.specs.declared.StreamError.TheVariants.{Io as DeviceFailed, Match as Refused, Memory as NoBuffer, TooLong as StreamTooLong, WriteZero as TookNothing}
 use Rattle.ac_search.specs.Builds.{RefusesBy}
+use Rattle.ac_search.specs.Limits.{limit_refusal}
 use Rattle.ac_search.specs.Searchers.{Settings, engine_refusal}
 use Rattle.acs.specs.declared.fault.Fault.{Fault}
 use Rattle.acs.specs.declared.fault.Fault.TheVariants.{Usage, Memory, TooManyPatterns, PatternTooLong, TooManyStates, OverlappingKind, StreamKind, StreamEmpty, Io, WriteZero, TooLong}
@@ -59,3 +60,8 @@ write_fault_of WroteNothing = WriteZero
 abbrev pub IsRefusal : Settings → List (List ℕ) → Fault → Type 0
 IsRefusal settings patterns fault =
     (e : BuildError) × (fault ≡ fault_of e) × RefusesBy (engine_refusal settings patterns) patterns e
+
+-- the patterns are refused where they pass a limit, by the fault of the first one
+abbrev pub ChecksLimits : List (List ℕ) → Result (Unit {0}) Fault → Type 0
+ChecksLimits patterns result =
+    MatchOption (limit_refusal patterns) (result ≡ Ok tt) (λ refusal. result ≡ Err (fault_of refusal))

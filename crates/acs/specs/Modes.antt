@@ -1,6 +1,7 @@
 -- What a mode does to the reader and the writer of a run, by a searcher that is built.
 use Rattle.std.specs.Prelude.{◌≡◌, ◌⊎◌, ℕ, ◌+◌, Bool, List, [], MatchResult, Option, None, Some, Result, option_map, take}
 use Rattle.std.specs.Io.KnownBytes.{Consumes}
+use Rattle.std.specs.declared.vec.Vec.{Vec}
 use Rattle.ac_search.specs.declared.MatchError.{MatchError}
 use Rattle.ac_search.specs.declared.StreamError.{StreamError}
 use Rattle.ac_search.specs.declared.MatchKind.{MatchKind}
@@ -17,6 +18,7 @@ use Rattle.acs.specs.declared.fault.Fault.TheVariants.{Io, Memory, WriteZero}
 use Rattle.acs.specs.declared.request.Mode.{Mode}
 use Rattle.acs.specs.declared.request.Mode.TheVariants.{Overlap, Replace, Stream, StreamReplace}
 use Rattle.acs.specs.declared.run.Outcome.{Outcome}
+use Rattle.acs.specs.declared.run.Outcome.TheVariants.{Found}
 use Rattle.acs.specs.Faults.{refusal_fault_of, stream_fault_of}
 use Rattle.acs.specs.Lines.{lines, output_of}
 
@@ -40,7 +42,22 @@ pub record FailsToWrite (old new : Writing) (bytes : List ℕ) (fault : Fault) :
   pub cause : ((fault ≡ Io) × (new.failed ≡ old.failed + 1) × (new.idles ≡ old.idles))
       ⊎ ((fault ≡ WriteZero) × (new.failed ≡ old.failed) × (new.idles ≡ old.idles + 1))
 
--- the same, or memory was refused and each write took something
+-- all that a reader gives was read, or a read has failed, or memory was refused
+abbrev pub ReadsBytes : {Z : Type 0} → Bool → Reading → Reading → Result (Vec ℕ Z) Fault → Type 0
+ReadsBytes ends old new result =
+    MatchResult result (λ bytes. ReadsAll ends old new bytes.items) (FailsToReadAll old new)
+
+-- the bytes were all written, or a beginning of them, and then a write has failed or took nothing
+abbrev pub WritesBytes : Writing → Writing → List ℕ → Result (Unit {0}) Fault → Type 0
+WritesBytes old new bytes result = MatchResult result (λ _. WritesAll old new bytes) (FailsToWrite old new bytes)
+
+-- the same for a text that is whole: it counts as found, though it may be empty
+abbrev pub PrintsWhole : Writing → Writing → List ℕ → Result Outcome Fault → Type 0
+PrintsWhole old new text result =
+    MatchResult result (λ outcome. WritesAll old new text × (outcome ≡ Found)) (FailsToWrite old new text)
+
+-- a beginning of the bytes was written, and then a write has failed or took nothing; or memory was refused and each write
+-- took something
 abbrev pub FailsToPrint : Writing → Writing → List ℕ → Fault → Type 0
 FailsToPrint old new bytes fault =
     FailsToWrite old new bytes fault

@@ -2,7 +2,7 @@
 use Rattle.std.specs.Prelude.{◌≡◌, ◌⊎◌, ℕ, ◌++◌, Bool, List, codes, MatchOption, MatchResult, Result, Ok, Err}
 use Rattle.ac_search.specs.Device.{Reading, Writing, WritesAll}
 use Rattle.ac_search.specs.Builds.{IsAllowed}
-use Rattle.ac_search.specs.Searchers.{engine_refusal}
+use Rattle.ac_search.specs.Searchers.{IsBuilt, Searcher, engine_refusal}
 use Rattle.acs.specs.declared.fault.Fault.{Fault}
 use Rattle.acs.specs.declared.fault.Fault.TheVariants.{Usage}
 use Rattle.acs.specs.declared.request.Request.{Request}
@@ -11,6 +11,11 @@ use Rattle.acs.specs.Faults.{IsRefusal, line_of}
 use Rattle.acs.specs.Lines.{status_of}
 use Rattle.acs.specs.Modes.{Answers, FailsToAnswer, FailsToWrite}
 use Rattle.acs.specs.Requests.{built_for, patterns_in, request_of, settings_of, texts_in, words_after}
+
+-- the searcher that is asked for was built over these patterns, or refused
+abbrev pub BuildsFor : Request → List (List ℕ) → Result Searcher Fault → Type 0
+BuildsFor request patterns result =
+    MatchResult result (IsBuilt (settings_of request) patterns) (IsRefusal (settings_of request) patterns)
 
 -- no limit refuses the searcher for a request with these words
 abbrev pub IsServable : Request → List (List ℕ) → Type 0
@@ -37,15 +42,17 @@ module _ (ends : Bool) (request : Request) (words : List (List ℕ)) (reader new
       × FailsToAnswer ends request.mode (built_for request words) (texts_in request.mode words) reader new_reader
       writer new_writer fault)
 
+  -- it has run, or failed for its cause
+  abbrev pub RunsOrFails : Result Outcome Fault → Type 0
+  RunsOrFails result = MatchResult result HasRun HasFailed
+
 -- the run has answered the words after the program's name: they ask for nothing that there is, and reader and writer
 -- are as they were; or for something, and it has run, or failed for its cause
 abbrev pub HasAnswered : Bool → List (List ℕ) → Reading → Reading → Writing → Writing → Result Outcome Fault → Type 0
 HasAnswered ends words reader new_reader writer new_writer answered =
     MatchOption (request_of words)
     ((answered ≡ Err Usage) × (new_reader ≡ reader) × (new_writer ≡ writer))
-    (λ request. MatchResult answered
-    (HasRun ends request (words_after words) reader new_reader writer new_writer)
-    (HasFailed ends request (words_after words) reader new_reader writer new_writer))
+    (λ request. RunsOrFails ends request (words_after words) reader new_reader writer new_writer answered)
 
 -- what is reported of a fault: its line with a line end
 abbrev pub message_of : Fault → List ℕ

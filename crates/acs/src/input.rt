@@ -1,7 +1,5 @@
 //! All bytes of a reader.
-ghost use Rattle.std.specs.Prelude.{MatchResult};
-ghost use Rattle.ac_search.specs.Device.{ReadsAll};
-ghost use Rattle.acs.specs.Modes.{FailsToReadAll};
+ghost use Rattle.acs.specs.Modes.{ReadsBytes};
 
 use crate::fault::Fault;
 use ac_search::Source;
@@ -18,9 +16,7 @@ pub(crate) fn read_all<A: Allocator + Clone, R: Source>(
     alloc: A,
     reader: &mut R,
 ) -> Result<Vec<u8, A>, Fault>
-    ensures { MatchResult result
-        (λ bytes. ReadsAll R.empty_means_end (R.told reader.old) (R.told reader.new) bytes.items)
-        (FailsToReadAll (R.told reader.old) (R.told reader.new)) }
+    ensures { ReadsBytes R.empty_means_end (R.told reader.old) (R.told reader.new) result }
 {
     let mut bytes = Vec::new(alloc.clone()?);
     let mut piece = Vec::new(alloc);

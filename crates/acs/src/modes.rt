@@ -1,12 +1,12 @@
 //! What each mode reads and writes, by a searcher that is built.
-ghost use Rattle.std.specs.Prelude.{◌≡◌, ◌≢◌, [], MatchResult};
+ghost use Rattle.std.specs.Prelude.{◌≡◌, ◌≢◌, MatchResult};
 ghost use Rattle.ac_search.specs.declared.MatchKind.TheVariants.{Standard};
 ghost use Rattle.ac_search.specs.declared.StartKind.TheVariants.{Unanchored};
 ghost use Rattle.ac_search.specs.Borrowed.{bytes_of};
 ghost use Rattle.acs.specs.declared.fault.Fault.TheVariants.{OverlappingKind};
-ghost use Rattle.acs.specs.declared.request.Mode.{Mode};
-ghost use Rattle.acs.specs.Modes.{AnswersOrFails};
-ghost use Rattle.acs.specs.Requests.{firsts, seconds};
+ghost use Rattle.acs.specs.declared.request.Mode.TheVariants.{Find, Overlap, Replace, Stream, StreamReplace, Walk};
+ghost use Rattle.acs.specs.Devices.{AnswersOn, Replaces};
+ghost use Rattle.acs.specs.Requests.{firsts};
 
 use crate::fault::Fault;
 use crate::input::read_all;
@@ -29,8 +29,7 @@ pub(crate) fn find<A: Allocator + Clone, R: Source, W: Sink>(
     writer: &mut W,
 ) -> Result<Outcome, Fault>
     requires unanchored { searcher.now.built.start_kind ≡ Unanchored }
-    ensures { AnswersOrFails R.empty_means_end Mode.Find searcher.now.built []
-        (R.told reader.old) (R.told reader.new) (W.told writer.old) (W.told writer.new) result }
+    ensures { AnswersOn R.Source W.Sink Find searcher.now reader.old reader.new writer.old writer.new result }
 {
     let haystack = read_all(alloc.clone()?, reader)?;
     print_found(alloc, searcher.find(Input::new(&haystack)), writer)
@@ -47,8 +46,7 @@ pub(crate) fn walk<A: Allocator + Clone, R: Source, W: Sink>(
     writer: &mut W,
 ) -> Result<Outcome, Fault>
     requires unanchored { searcher.now.built.start_kind ≡ Unanchored }
-    ensures { AnswersOrFails R.empty_means_end Mode.Walk searcher.now.built []
-        (R.told reader.old) (R.told reader.new) (W.told writer.old) (W.told writer.new) result }
+    ensures { AnswersOn R.Source W.Sink Walk searcher.now reader.old reader.new writer.old writer.new result }
 {
     let haystack = read_all(alloc.clone()?, reader)?;
     print_all(alloc, searcher.find_iter(Input::new(&haystack)), writer)
@@ -65,8 +63,7 @@ pub(crate) fn overlap<A: Allocator + Clone, R: Source, W: Sink>(
     writer: &mut W,
 ) -> Result<Outcome, Fault>
     requires unanchored { searcher.now.built.start_kind ≡ Unanchored }
-    ensures { AnswersOrFails R.empty_means_end Mode.Overlap searcher.now.built []
-        (R.told reader.old) (R.told reader.new) (W.told writer.old) (W.told writer.new) result }
+    ensures { AnswersOn R.Source W.Sink Overlap searcher.now reader.old reader.new writer.old writer.new result }
 {
     check_overlapping(searcher.match_kind())?;
     let haystack = read_all(alloc.clone()?, reader)?;
@@ -85,8 +82,7 @@ pub(crate) fn stream<A: Allocator + Clone, R: Source, W: Sink>(
     reader: &mut R,
     writer: &mut W,
 ) -> Result<Outcome, Fault>
-    ensures { AnswersOrFails R.empty_means_end Mode.Stream searcher.now.built []
-        (R.told reader.old) (R.told reader.new) (W.told writer.old) (W.told writer.new) result }
+    ensures { AnswersOn R.Source W.Sink Stream searcher.now reader.old reader.new writer.old writer.new result }
 {
     let mut finder = searcher.try_stream_finder(alloc.clone()?)?;
     streams_settle_alike();
@@ -107,8 +103,7 @@ pub(crate) fn replace<A: Allocator + Clone, R: Source, W: Sink>(
 ) -> Result<Outcome, Fault>
     requires unanchored { searcher.now.built.start_kind ≡ Unanchored }
     requires patterns { searcher.now.built.patterns ≡ firsts (bytes_of words.now) }
-    ensures { AnswersOrFails R.empty_means_end Mode.Replace searcher.now.built (seconds (bytes_of words.now))
-        (R.told reader.old) (R.told reader.new) (W.told writer.old) (W.told writer.new) result }
+    ensures { Replaces R.Source W.Sink Replace searcher.now words.now reader.old reader.new writer.old writer.new result }
 {
     let haystack = read_all(alloc.clone()?, reader)?;
     let texts = texts_of(alloc.clone()?, words)?;
@@ -129,8 +124,7 @@ pub(crate) fn replace_stream<A: Allocator + Clone, R: Source, W: Sink>(
     writer: &mut W,
 ) -> Result<Outcome, Fault>
     requires patterns { searcher.now.built.patterns ≡ firsts (bytes_of words.now) }
-    ensures { AnswersOrFails R.empty_means_end Mode.StreamReplace searcher.now.built (seconds (bytes_of words.now))
-        (R.told reader.old) (R.told reader.new) (W.told writer.old) (W.told writer.new) result }
+    ensures { Replaces R.Source W.Sink StreamReplace searcher.now words.now reader.old reader.new writer.old writer.new result }
 {
     let texts = texts_of(alloc.clone()?, words)?;
     searcher.try_stream_replace_all(alloc, reader, writer, &texts)?;

@@ -1,15 +1,12 @@
 //! Lines for matches, written in large pieces, and replaced texts.
-ghost use Rattle.std.specs.Prelude.{◌≡◌, ◌≤◌, ◌+◌, ◌++◌, ◌∷◌, [], List, codes, decimal, drop, length, MatchResult, OnOk, option_to_list};
+ghost use Rattle.std.specs.Prelude.{◌≡◌, ◌≤◌, ◌+◌, ◌++◌, ◌∷◌, codes, decimal, drop, length, OnOk, option_to_list};
 ghost use Rattle.std.specs.Iterator.{IsFinite};
-ghost use Rattle.ac_search.specs.Device.{Writing, WritesAll};
-ghost use Rattle.ac_search.specs.Occurrence.{Occurrence};
-ghost use Rattle.ac_search.specs.Streams.{matches_so_far, initial_stream};
+ghost use Rattle.ac_search.specs.Streams.{initial_stream};
 ghost use Rattle.acs.specs.declared.output.TheConstants.{NUMBER};
-ghost use Rattle.acs.specs.declared.run.Outcome.{Outcome};
-ghost use Rattle.acs.specs.declared.run.Outcome.TheVariants.{Found};
-ghost use Rattle.acs.specs.Lines.{line, lines, outcome_of};
-ghost use Rattle.acs.specs.Modes.{FailsToPrint, FailsToWrite};
-ghost use Rattle.acs.specs.Printed.{FailsToPrintStream, GivesRest, HasPrintedRead, IsPrinting, PrintsSoFar, PrintsStream};
+ghost use Rattle.acs.specs.Devices.{PrintsStreamOn};
+ghost use Rattle.acs.specs.Lines.{line};
+ghost use Rattle.acs.specs.Modes.{PrintsWhole, WritesBytes};
+ghost use Rattle.acs.specs.Printed.{PrintsEnd, PrintsLines, PrintsNext, PrintsRead, PrintsRest};
 
 use crate::fault::Fault;
 use crate::run::Outcome;
@@ -57,9 +54,7 @@ fn add_line<A: Allocator + Clone>(text: &mut Vec<u8, A>, m: &Match) -> Result<()
 /// # Errors
 /// `Io` where a write fails, `WriteZero` where it takes no byte.
 fn write_all<W: Sink>(writer: &mut W, bytes: &[u8]) -> Result<(), Fault>
-    ensures { MatchResult result
-        (λ _. WritesAll (W.told writer.old) (W.told writer.new) bytes.now)
-        (FailsToWrite (W.told writer.old) (W.told writer.new) bytes.now) }
+    ensures { WritesBytes (W.told writer.old) (W.told writer.new) bytes.now result }
 {
     ac_search::write_all(writer, bytes)?;
     Ok(())
@@ -70,9 +65,7 @@ fn write_all<W: Sink>(writer: &mut W, bytes: &[u8]) -> Result<(), Fault>
 /// # Errors
 /// As `write_all`.
 pub(crate) fn write_line<W: Sink>(writer: &mut W, line: &str) -> Result<(), Fault>
-    ensures { MatchResult result
-        (λ _. WritesAll (W.told writer.old) (W.told writer.new) (line.now ++ codes "\n"))
-        (FailsToWrite (W.told writer.old) (W.told writer.new) (line.now ++ codes "\n")) }
+    ensures { WritesBytes (W.told writer.old) (W.told writer.new) (line.now ++ codes "\n") result }
 {
     write_all(writer, line.as_bytes())?;
     write_all(writer, b"\n")
@@ -87,11 +80,7 @@ fn print_line<A: Allocator + Clone, W: Sink>(
     m: &Match,
     writer: &mut W,
 ) -> Result<(), Fault>
-    ensures { (all later : List Occurrence) → (old : Writing) → (outcome : Outcome)
-        → IsPrinting all (m.now ∷ later) old (W.told writer.old) text.old.items outcome
-        → MatchResult result
-        (λ _. IsPrinting all later old (W.told writer.new) text.new.items Found)
-        (FailsToPrint old (W.told writer.new) (lines all)) }
+    ensures { PrintsNext m.now (W.told writer.old) (W.told writer.new) text.old text.new result }
 {
     add_line(text, m)?;
     if text.len() >= FULL {
@@ -106,11 +95,7 @@ fn print_line<A: Allocator + Clone, W: Sink>(
 /// # Errors
 /// As `print_all`.
 fn print_end<W: Sink>(text: &[u8], writer: &mut W) -> Result<(), Fault>
-    ensures { (all : List Occurrence) → (old : Writing) → (outcome : Outcome)
-        → IsPrinting all [] old (W.told writer.old) text.now outcome
-        → MatchResult result
-        (λ _. WritesAll old (W.told writer.new) (lines all) × (outcome ≡ outcome_of all))
-        (FailsToPrint old (W.told writer.new) (lines all)) }
+    ensures { PrintsEnd (W.told writer.old) (W.told writer.new) text.now result }
 {
     write_all(writer, text)
 }
@@ -127,10 +112,7 @@ pub(crate) fn print_all<A: Allocator + Clone, I: Iterator<Item = Match> + Drop, 
 ) -> Result<Outcome, Fault>
     requires can { I.can_next matches }
     requires finite { IsFinite (I.remaining matches) }
-    ensures { (rest : I → List Occurrence) → GivesRest I.next_gives rest → MatchResult result
-        (λ outcome. WritesAll (W.told writer.old) (W.told writer.new) (lines (rest matches))
-        × (outcome ≡ outcome_of (rest matches)))
-        (FailsToPrint (W.told writer.old) (W.told writer.new) (lines (rest matches))) }
+    ensures { PrintsRest I.next_gives matches (W.told writer.old) (W.told writer.new) result }
 {
     let mut text = Vec::new(alloc);
     let mut outcome = Outcome::Nothing;
@@ -151,10 +133,7 @@ fn print_read<A: Allocator + Clone, B: Allocator, Z: Allocator, W: Sink>(
     finder: &mut StreamFinder<'_, B, Z>,
     writer: &mut W,
 ) -> Result<(), Fault>
-    ensures { (old : Writing) → PrintsSoFar finder.old old (W.told writer.old) text.old.items Found
-        → MatchResult result
-        (λ _. HasPrintedRead finder.old finder.new old (W.told writer.new) text.new.items Found)
-        (FailsToPrint old (W.told writer.new) (lines (matches_so_far finder.old))) }
+    ensures { PrintsRead finder.old finder.new (W.told writer.old) (W.told writer.new) text.old text.new result }
 {
     while let Some(m) = finder.next_read() {
         print_line(text, &m, writer)?;
@@ -177,11 +156,7 @@ pub(crate) fn print_stream<A: Allocator + Clone, B: Allocator, Z: Allocator, R: 
     writer: &mut W,
 ) -> Result<Outcome, Fault>
     requires { finder.old ≡ initial_stream finder.old.built }
-    ensures { MatchResult result
-        (PrintsStream R.empty_means_end finder.old.built (R.told reader.old) (R.told reader.new)
-        (W.told writer.old) (W.told writer.new))
-        (FailsToPrintStream R.empty_means_end finder.old.built (R.told reader.old) (R.told reader.new)
-        (W.told writer.old) (W.told writer.new)) }
+    ensures { PrintsStreamOn R.Source W.Sink finder.old.built reader.old reader.new writer.old writer.new result }
 {
     let mut text = Vec::new(alloc);
     let mut outcome = Outcome::Nothing;
@@ -203,10 +178,7 @@ pub(crate) fn print_found<A: Allocator + Clone, W: Sink>(
     found: Option<Match>,
     writer: &mut W,
 ) -> Result<Outcome, Fault>
-    ensures { MatchResult result
-        (λ outcome. WritesAll (W.told writer.old) (W.told writer.new) (lines (option_to_list found))
-        × (outcome ≡ outcome_of (option_to_list found)))
-        (FailsToPrint (W.told writer.old) (W.told writer.new) (lines (option_to_list found))) }
+    ensures { PrintsLines (W.told writer.old) (W.told writer.new) (option_to_list found) result }
 {
     let Some(m) = found else {
         return Ok(Outcome::Nothing);
@@ -222,9 +194,7 @@ pub(crate) fn print_found<A: Allocator + Clone, W: Sink>(
 /// `Io` where a write fails, `WriteZero` where it takes no byte. A beginning of the text was written then, and not
 /// all of it.
 pub(crate) fn print_text<W: Sink>(text: &[u8], writer: &mut W) -> Result<Outcome, Fault>
-    ensures { MatchResult result
-        (λ outcome. WritesAll (W.told writer.old) (W.told writer.new) text.now × (outcome ≡ Found))
-        (FailsToWrite (W.told writer.old) (W.told writer.new) text.now) }
+    ensures { PrintsWhole (W.told writer.old) (W.told writer.new) text.now result }
 {
     write_all(writer, text)?;
     Ok(Outcome::Found)

@@ -1,8 +1,7 @@
 //! What the words after the program's name ask for.
-ghost use Rattle.std.specs.Prelude.{◌≡◌, Err, IfOk, MatchOption, Ok};
+ghost use Rattle.std.specs.Prelude.{◌≡◌, IfOk};
 ghost use Rattle.ac_search.specs.Borrowed.{bytes_of};
-ghost use Rattle.ac_search.specs.Limits.{limit_refusal};
-ghost use Rattle.acs.specs.Faults.{fault_of};
+ghost use Rattle.acs.specs.Faults.{ChecksLimits};
 ghost use Rattle.acs.specs.Requests.{allows_count, engine_of, firsts, kind_of, mode_of, patterns_in, request_of, seconds, side, words_among};
 
 use crate::fault::Fault;
@@ -125,9 +124,7 @@ fn allows_count(mode: Mode, count: usize) -> bool
 /// # Errors
 /// `TooManyPatterns` or `PatternTooLong`, whichever limit is passed first.
 pub(crate) fn check_patterns(mode: Mode, words: &[&str]) -> Result<(), Fault>
-    ensures { MatchOption (limit_refusal (patterns_in mode (bytes_of words.now)))
-        (result ≡ Ok tt)
-        (λ refusal. result ≡ Err (fault_of refusal)) }
+    ensures { ChecksLimits (patterns_in mode (bytes_of words.now)) result }
 {
     match mode {
         Mode::Find | Mode::Walk | Mode::Overlap | Mode::Stream => Ok(check_limits(words)?),
@@ -140,9 +137,7 @@ pub(crate) fn check_patterns(mode: Mode, words: &[&str]) -> Result<(), Fault>
 /// # Errors
 /// As `check_patterns`.
 fn check_firsts(words: &[&str]) -> Result<(), Fault>
-    ensures { MatchOption (limit_refusal (firsts (bytes_of words.now)))
-        (result ≡ Ok tt)
-        (λ refusal. result ≡ Err (fault_of refusal)) }
+    ensures { ChecksLimits (firsts (bytes_of words.now)) result }
 {
     if words.len() / 2 > PatternID::LIMIT {
         return Err(Fault::TooManyPatterns);

@@ -1,15 +1,10 @@
 //! The program over any reader and writer.
-ghost use Rattle.std.specs.Prelude.{◌≡◌, IfErr, IfOk, List, MatchResult, String};
-ghost use Rattle.std.specs.declared.alloc.Global.{Global};
-ghost use Rattle.std.specs.Iterator.{Drains, IsFinite};
+ghost use Rattle.std.specs.Prelude.{◌≡◌};
+ghost use Rattle.std.specs.Iterator.{IsFinite};
 ghost use Rattle.ac_search.specs.Borrowed.{bytes_of};
-ghost use Rattle.ac_search.specs.Searchers.{IsBuilt};
-ghost use Rattle.acs.specs.declared.fault.Fault;
-ghost use Rattle.acs.specs.declared.fault.Fault.TheVariants.{Memory};
+ghost use Rattle.acs.specs.Devices.{EndsOn, EndsOnAll, HasAnsweredOn, NeverRuns, RunsOn};
 ghost use Rattle.acs.specs.Lines.{status_of};
-ghost use Rattle.acs.specs.Faults.{IsRefusal};
-ghost use Rattle.acs.specs.Requests.{settings_of, words_among};
-ghost use Rattle.acs.specs.Runs.{HasAnswered, HasEnded, HasFailed, HasRun, HasReported};
+ghost use Rattle.acs.specs.Runs.{BuildsFor, HasReported};
 
 use crate::fault::Fault;
 use crate::modes::{find, overlap, replace, replace_stream, stream, walk};
@@ -61,8 +56,7 @@ pub fn run<A: Allocator + Clone, R: Source, W: Sink>(
     reader: &mut R,
     writer: &mut W,
 ) -> Result<Outcome, Fault>
-    ensures { HasAnswered R.empty_means_end (bytes_of words.now) (R.told reader.old) (R.told reader.new)
-        (W.told writer.old) (W.told writer.new) result }
+    ensures { HasAnsweredOn R.Source W.Sink words.now reader.old reader.new writer.old writer.new result }
 {
     let Some(request) = request_of(words) else {
         return Err(Fault::Usage);
@@ -84,11 +78,10 @@ pub(crate) fn run_on_arguments<
 >(alloc: A, arguments: I, reader: &mut R, writer: &mut W, errors: &mut E) -> Result<u8, Fault>
     requires can { I.can_next arguments }
     requires finite { IsFinite (I.remaining arguments) }
-    ensures ended { IfOk result (λ status. (given : List (String Global)) × Drains I.next_gives arguments given
-        × HasEnded R.empty_means_end (words_among given) (R.told reader.old) (R.told reader.new)
-        (W.told writer.old) (W.told writer.new) (E.told errors.old) (E.told errors.new) status) }
-    ensures refused { IfErr result (λ fault. (fault ≡ Memory) × (R.told reader.new ≡ R.told reader.old)
-        × (W.told writer.new ≡ W.told writer.old) × (E.told errors.new ≡ E.told errors.old)) }
+    ensures ended { EndsOnAll R.Source W.Sink E.Sink I.next_gives arguments reader.old reader.new writer.old writer.new
+        errors.old errors.new result }
+    ensures refused { NeverRuns R.told W.told E.told reader.old reader.new writer.old writer.new
+        errors.old errors.new result }
 {
     let arguments: Vec<String, A> = arguments.collect(alloc.clone()?)?;
     let words = words_among(alloc.clone()?, &arguments)?;
@@ -106,8 +99,8 @@ fn run_and_report<A: Allocator + Clone, R: Source, W: Sink, E: Sink>(
     writer: &mut W,
     errors: &mut E,
 ) -> u8
-    ensures { HasEnded R.empty_means_end (bytes_of words.now) (R.told reader.old) (R.told reader.new)
-        (W.told writer.old) (W.told writer.new) (E.told errors.old) (E.told errors.new) result }
+    ensures { EndsOn R.Source W.Sink E.Sink words.now reader.old reader.new writer.old writer.new
+        errors.old errors.new result }
 {
     let outcome = run(alloc, words, reader, writer);
     report(&outcome, errors);
@@ -134,11 +127,7 @@ fn search<A: Allocator + Clone, R: Source, W: Sink>(
     reader: &mut R,
     writer: &mut W,
 ) -> Result<Outcome, Fault>
-    ensures { MatchResult result
-        (HasRun R.empty_means_end request (bytes_of words.now)
-        (R.told reader.old) (R.told reader.new) (W.told writer.old) (W.told writer.new))
-        (HasFailed R.empty_means_end request (bytes_of words.now)
-        (R.told reader.old) (R.told reader.new) (W.told writer.old) (W.told writer.new)) }
+    ensures { RunsOn R.Source W.Sink request words.now reader.old reader.new writer.old writer.new result }
 {
     check_patterns(request.mode, words)?;
     let patterns = patterns_of(alloc.clone()?, request.mode, words)?;
@@ -162,9 +151,7 @@ fn searcher_for<A: Allocator + Clone>(
     request: Request,
     patterns: &[&[u8]],
 ) -> Result<AhoCorasick<A>, Fault>
-    ensures { MatchResult result
-        (IsBuilt (settings_of request) (bytes_of patterns.now))
-        (IsRefusal (settings_of request) (bytes_of patterns.now)) }
+    ensures { BuildsFor request (bytes_of patterns.now) result }
 {
     let mut builder = AhoCorasickBuilder::new();
     builder.match_kind(request.kind);
