@@ -75,3 +75,8 @@ AnswersBuild IsBuilt own_refusal patterns result = MatchResult result (IsBuilt p
 abbrev pub AnswersMaking : {X : Type 0} → (X → Type 0) → Option BuildError → Result X BuildError → Type 0
 AnswersMaking IsMade own_refusal result =
     MatchResult result (λ made. IsMade made × (own_refusal ≡ None)) (IsRefusedExactly own_refusal)
+
+-- such a build of a noncontiguous NFA by these settings
+abbrev pub BuildsNoncontiguous : EngineSettings → List (List ℕ) → Result Trie BuildError → Type 0
+BuildsNoncontiguous settings patterns result =
+    AnswersBuild (IsEngineBuilt settings) (state_refusal settings) patterns result

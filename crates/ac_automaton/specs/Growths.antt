@@ -1,6 +1,6 @@
 -- A trie that is being built, breadth first: the states that are complete, and the queued ones, which wait for
 -- their children.
-use Rattle.std.specs.Prelude.{◌≡◌, ◌↔◌, ◌⊎◌, ℕ, ◌+◌, ◌-◌, ◌<◌, ◌≤◌, ◌&&◌, Bool, if◌then◌else◌, List, [], ◌∷◌, ◌++◌, ◌≢◌, nat_eq, true, map, length, take, drop, slice_get, None, Some}
+use Rattle.std.specs.Prelude.{◌≡◌, ◌↔◌, ◌⊎◌, ℕ, ◌+◌, ◌-◌, ◌<◌, ◌≤◌, ◌&&◌, Bool, if◌then◌else◌, List, [], ◌∷◌, ◌++◌, ◌≢◌, nat_eq, true, map, length, take, drop, slice_get, MatchResult, None, Result, Some}
 use Rattle.std.specs.Char.{is_ascii_lowercase, to_ascii_uppercase}
 use Rattle.std.specs.List.{starts_with}
 use Rattle.std.specs.List.Sorted.{IsPermutation, IsSortedByKey}
@@ -9,12 +9,13 @@ use Rattle.ac_automaton.specs.Util.{BuildError, GREATEST, MatchKind, Node, plain
 use Rattle.ac_util.specs.declared.error.BuildError.TheVariants.{Memory}
 use Rattle.ac_automaton.specs.declared.nfa.noncontiguous.growth.Growth.{Growth}
 use Rattle.ac_automaton.specs.declared.nfa.noncontiguous.growth.QueuedState.{QueuedState}
+use Rattle.ac_automaton.specs.declared.nfa.noncontiguous.lists.TrieLists.{TrieLists}
 use Rattle.ac_automaton.specs.declared.nfa.noncontiguous.state.State.{State}
 use Rattle.ac_automaton.specs.declared.nfa.noncontiguous.state.TheConstants.{DEAD, START, ANCHORED_START, FIRST_INNER}
 use Rattle.ac_automaton.specs.declared.nfa.noncontiguous.state.Transition.{Transition}
-use Rattle.ac_automaton.specs.Builds.{too_many_states}
+use Rattle.ac_automaton.specs.Builds.{IsRefused, too_many_states}
 use Rattle.ac_automaton.specs.Sorted.{AreSorted, Keyed, IsOrder, Sorted, byte_at, key_at, numbers}
-use Rattle.ac_automaton.specs.Tries.{TrieView, AreStates, IsTrie, Represents, dead_state, fallback, trie_of}
+use Rattle.ac_automaton.specs.Tries.{TrieView, AreStates, IsTrie, Links, Represents, dead_state, fallback, trie_of}
 
 -- the dead state, and the one that no search reaches
 abbrev pub first_states : List State
@@ -211,3 +212,49 @@ pub record IsWhole (texts : List (List ℕ)) (ignores_case : Bool) (kind : Match
     wants_prefilter = wants_prefilter;
   }) order transitions states) nodes
   pub few : too_many_states kind (map (plain ignores_case) texts) ≡ None
+
+-- the lists of an automaton over these patterns are made, or refused: for want of memory, or for too many states
+abbrev pub BuildsLists : {Z : Type 0} → List (List ℕ) → Bool → MatchKind → Result (TrieLists Z) BuildError → Type 0
+BuildsLists texts ignores_case kind result =
+    MatchResult result
+    (λ lists. IsWhole texts ignores_case kind lists.order.items lists.transitions.items lists.states.items)
+    (IsRefused (too_many_states kind (map (plain ignores_case) texts)))
+
+-- they are made from a trie that begins to grow, whatever its patterns are
+abbrev pub GrowsWhole : {Y Z : Type 0} → Growth Y → Result (TrieLists Z) BuildError → Type 0
+GrowsWhole growth result =
+    (ignores_case : Bool) (texts : List (List ℕ)) → HasRoot ignores_case texts growth
+    → BuildsLists texts ignores_case growth.kind result
+
+-- a growing trie that may branch at a queued state does so, or is refused as its lists are
+abbrev pub BranchesAt : {Z : Type 0} → Growth Z → QueuedState → Result State BuildError → Growth Z → Type 0
+BranchesAt growth queued result new_growth =
+    (patterns : List (List ℕ)) → MayBranch patterns growth queued
+    → MatchResult result (Branches patterns growth new_growth queued) (IsRefused (too_many_states growth.kind patterns))
+
+-- a state is added to its queue, with the transitions to it by a plain byte, or is not
+abbrev pub PushesState : {Z : Type 0} → Growth Z → ℕ → QueuedState → Result (Unit {0}) BuildError → Growth Z → Type 0
+PushesState growth byte queued result new_growth =
+    MatchResult result
+    (λ done. HasPushed growth.sorted.ignores_case byte queued growth.transitions.items growth.queue.items
+    new_growth.transitions.items new_growth.queue.items)
+    (IsNotPushed growth.queue.items)
+
+-- the start waits for its children, of patterns in order
+abbrev pub WaitsAtStart : {Z : Type 0} → Growth Z → QueuedState → Type 0
+WaitsAtStart growth start =
+    (patterns : List (List ℕ)) → IsOrder growth.kind patterns growth.sorted.patterns
+    → Waits growth.kind patterns growth.sorted.patterns [] START start
+
+-- the number stands for the failure target of a queued state's child by a byte
+abbrev pub IsChildFailure : {Z : Type 0} → Growth Z → QueuedState → ℕ → ℕ → ℕ → Type 0
+IsChildFailure growth queued place byte target =
+    (patterns : List (List ℕ)) → HasChildIn patterns growth queued place byte
+    → slice_get (nodes_of growth.sorted.patterns growth.queue.items) target
+    ≡ Some (fallback growth.kind patterns (Some (word growth.sorted.patterns queued ++ byte ∷ [])))
+
+-- it is the output link of the next state, which has this failure target
+abbrev pub IsLinkFrom : {Z : Type 0} → Growth Z → ℕ → ℕ → Type 0
+IsLinkFrom growth fail link =
+    (g : TrieView) (u : List ℕ) → AreStates g growth.states.items
+    → LinkIsDue g (length growth.states.items) u fail → Links g (length growth.states.items) (Some u) link

@@ -51,3 +51,12 @@ abbrev pub IsFailureOf : Trie → ℕ → ℕ → Type 0
 IsFailureOf trie s target =
     (nodes : List Node) (x : ℕ) (u : List ℕ) → AreNodes trie nodes → IsNumbered nodes s (x ∷ u)
     → slice_get nodes target ≡ Some (failure trie.built.kind (plain_of trie.built) (x ∷ u))
+
+-- how many bytes lead on from a node
+abbrev pub own_len_of : Built → Node → ℕ
+own_len_of built u = length (transition_bytes_of built u)
+
+-- the byte stands at the place among those that lead on from the string of a state, and leads to the target
+abbrev pub IsOwnOf : Trie → ℕ → ℕ → ℕ → ℕ → Type 0
+IsOwnOf trie s index byte target =
+    (nodes : List Node) (w : List ℕ) → AreNodes trie nodes → IsNumbered nodes s w → IsOwn trie nodes w index byte target

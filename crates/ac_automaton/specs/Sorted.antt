@@ -1,12 +1,12 @@
 -- The patterns that take part in ascending order of their bytes, so that those with one prefix stand side by
 -- side.
-use Rattle.std.specs.Prelude.{◌≡◌, ◌↔◌, ◌⊎◌, ℕ, zero, suc, ◌+◌, ◌*◌, ◌<◌, Bool, nat_eq, List, [], Option, map, length, slice_get, slice_index_or, All, AllPairs, Contains}
+use Rattle.std.specs.Prelude.{◌≡◌, ◌≢◌, ◌↔◌, ◌⊎◌, ℕ, zero, suc, ◌+◌, ◌-◌, ◌*◌, ◌<◌, ◌≤◌, Bool, false, true, nat_eq, List, [], Option, map, length, slice_get, slice_index_or, All, AllPairs, Contains}
 use Rattle.std.specs.Cmp.Lexicographic.{slice_cmp}
-use Rattle.std.specs.List.{range_with_len, starts_with}
+use Rattle.std.specs.List.{AllWithin, HoldsAt, range_with_len, starts_with}
 use Rattle.std.specs.Ordering.{nat_cmp, ordering_then}
 use Rattle.std.specs.declared.cmp.Ordering.{Ordering}
 use Rattle.std.specs.declared.cmp.Ordering.TheVariants.{Less}
-use Rattle.ac_automaton.specs.Util.{MatchKind, participants, pattern_of, plain}
+use Rattle.ac_automaton.specs.Util.{GREATEST, LeftmostFirst, MatchKind, participants, pattern_of, plain, Standard}
 use Rattle.ac_automaton.specs.declared.nfa.noncontiguous.sorted.SortedPattern.{SortedPattern}
 
 -- a pattern that takes part: its plain bytes, and its number
@@ -90,3 +90,48 @@ pub record IsOrder (kind : MatchKind) (patterns : List (List ℕ)) (sorted : Lis
 pub record AreSorted (kind : MatchKind) (ignores_case : Bool) (texts : List (List ℕ)) (sorted : Sorted) : Type 0 where
   pub fold_is : sorted.ignores_case ≡ ignores_case
   pub order : IsOrder kind (map (plain ignores_case) texts) sorted.patterns
+
+-- sorted patterns become those that take part under LeftmostFirst, where all of them were there
+abbrev pub KeepsParticipants : Sorted → Sorted → Type 0
+KeepsParticipants old new =
+    (ignores_case : Bool) (texts : List (List ℕ)) → AreSorted Standard ignores_case texts old
+    → AreSorted LeftmostFirst ignores_case texts new
+
+-- the same of their list
+abbrev pub ListsParticipants : Bool → List SortedPattern → List SortedPattern → Type 0
+ListsParticipants ignores_case old new =
+    (patterns : List (List ℕ)) → IsOrder Standard patterns (keyed ignores_case old)
+    → IsOrder LeftmostFirst patterns (keyed ignores_case new)
+
+-- from one place up to another the patterns have the same byte at a depth, or none
+abbrev pub ShareByte : List Keyed → ℕ → ℕ → ℕ → Type 0
+ShareByte sorted depth from to =
+    (k : ℕ) → from ≤ k → k < to → byte_at sorted depth k ≡ byte_at sorted depth from
+
+-- those at two places have not
+abbrev pub DifferAt : List Keyed → ℕ → ℕ → ℕ → Type 0
+DifferAt sorted depth j k = byte_at sorted depth j ≢ byte_at sorted depth k
+
+-- no pattern has more than GREATEST bytes
+abbrev pub AreShort : List SortedPattern → Type 0
+AreShort sorted = All (λ p. length p.bytes.now ≤ GREATEST) sorted
+
+-- no number of a pattern is greater than GREATEST
+abbrev pub AreNumbered : List SortedPattern → Type 0
+AreNumbered sorted = All (λ p. p.number ≤ GREATEST) sorted
+
+-- patterns were dropped from the end of a stack, and none of them is a prefix of this one
+abbrev pub DropsNoPrefix : Bool → SortedPattern → List SortedPattern → List SortedPattern → Type 0
+DropsNoPrefix ignores_case pattern old new =
+    AllWithin (λ p. is_prefix ignores_case pattern p ≡ false) old (length new) (length old)
+
+-- the last of a stack is a prefix of this one, and comes earlier in the list
+abbrev pub HasShadow : Bool → SortedPattern → List SortedPattern → Type 0
+HasShadow ignores_case pattern prefixes =
+    (0 < length prefixes)
+    × HoldsAt (λ p. (is_prefix ignores_case pattern p ≡ true) × (p.number < pattern.number)) prefixes (length prefixes - 1)
+
+-- the last of a stack, if there is one, comes no earlier
+abbrev pub EndsNoEarlier : SortedPattern → List SortedPattern → Type 0
+EndsNoEarlier pattern prefixes =
+    0 < length prefixes → HoldsAt (λ p. pattern.number ≤ p.number) prefixes (length prefixes - 1)

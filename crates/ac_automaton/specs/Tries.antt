@@ -4,12 +4,13 @@ use Rattle.std.specs.List.Sorted.{IsStrictlyIncreasing}
 use Rattle.std.proofs.Common.{sym, ◌∙◌, arith}
 use Rattle.std.proofs.lemmas.List.{append-nil}
 use Rattle.std.proofs.lemmas.Option.{slice_get_within}
-use Rattle.ac_automaton.specs.Util.{begins_with_pattern, Both, Built, depth, failure, GREATEST, inner_nodes, is_leftmost, matches, MatchKind, No, Node, plain_byte, state_count, step, Yes}
+use Rattle.ac_automaton.specs.Util.{begins_with_pattern, Both, Built, Counts, depth, failure, GREATEST, inner_nodes, is_leftmost, looks, matches, MatchKind, more_looks, No, Node, plain_byte, state_count, step, Yes}
 use Rattle.ac_util.specs.declared.search.Anchored.{Anchored}
 use Rattle.ac_automaton.specs.declared.automaton.listing.MatchRest.{MatchRest}
 use Rattle.ac_automaton.specs.declared.nfa.noncontiguous.state.State.{State}
 use Rattle.ac_automaton.specs.declared.nfa.noncontiguous.state.TheConstants.{DEAD, FAIL, START, ANCHORED_START, FIRST_INNER}
 use Rattle.ac_automaton.specs.declared.nfa.noncontiguous.state.Transition.{Transition}
+use Rattle.ac_automaton.specs.declared.nfa.noncontiguous.state.TrieSlices.{TrieSlices}
 use Rattle.ac_automaton.specs.Automata.{plain_of, Lists}
 use Rattle.ac_automaton.specs.Common.{CommonView, built_as}
 
@@ -228,3 +229,34 @@ stands-lists trie Yes s u h =
       left_out = [];
       front = sym (h.is_trie.lists s u h.named) ∙ sym (append-nil _);
     }
+
+-- the number is that of a state among those that a search follows
+abbrev pub IsStateAmong : TrieSlices → ℕ → Type 0
+IsStateAmong trie s = (g : TrieView) × (u : Node) × (g.transitions ≡ trie.transitions.now) × HasState g trie.states.now s u
+
+-- this holds of what they mean, and of the node of such a state
+abbrev pub ForState : TrieSlices → ℕ → (TrieView → Node → Type 0) → Type 0
+ForState trie s P =
+    (g : TrieView) (u : Node) → g.transitions ≡ trie.transitions.now → HasState g trie.states.now s u → P g u
+
+-- a byte leads from the state to the next one
+abbrev pub StepsTo : TrieSlices → Anchored → ℕ → ℕ → ℕ → Type 0
+StepsTo trie anchored s byte next =
+    ForState trie s (λ g u. slice_get g.nodes next
+    ≡ Some (step g.kind g.patterns anchored u (plain_byte g.ignores_case byte)))
+
+-- this step takes these further looks
+abbrev pub TakesLooks : TrieSlices → Anchored → ℕ → ℕ → Counts → Counts → Type 0
+TakesLooks trie anchored s byte old new =
+    ForState trie s (λ g u. new
+    ≡ more_looks (looks g.kind g.patterns anchored u (plain_byte g.ignores_case byte)) old)
+
+-- the next one isn't the start of anchored searches
+abbrev pub StaysUnanchored : TrieSlices → ℕ → ℕ → Type 0
+StaysUnanchored trie s next =
+    ForState trie s (λ g u. slice_get g.nodes ANCHORED_START ≡ Some (Some []) → next ≢ ANCHORED_START)
+
+-- what is taken from a rest of the match list of a state
+abbrev pub TakesRest : List State → List ℕ → MatchRest → Option (ℕ × MatchRest) → Type 0
+TakesRest states order rest result =
+    (g : TrieView) (u : Node) → g.order ≡ order → HasState g states rest.state u → TakesFrom g states u rest.index result

@@ -33,7 +33,7 @@ module _ (p : RowInput) where
   pub filled-beside : (narrow : (b : ℕ) → b < 256 → class_at p.classes b < p.stride) (anchored : Anchored) (u : Node)
       (first width : ℕ) (old new : List ℕ)
       → (row_at p anchored u + p.stride ≤ first) ⊎ (first + width ≤ row_at p anchored u)
-      → SameBeside p first width old new → IsFilled p anchored u old → IsFilled p anchored u new
+      → SameBeside first width old new → IsFilled p anchored u old → IsFilled p anchored u new
   filled-beside narrow anchored u first width old new apart same filled = grind (arith, common_steps)
 
   -- entries past the classes stay dead while own transitions are set

@@ -11,8 +11,8 @@ use Rattle.ac_engines.proofs.Filled.{filled-anchored, filled-longer, transition_
 use Rattle.ac_engines.proofs.StateRows.{narrow}
 
 -- what holds beside a part of the table that was changed twice
-pub beside-both : (p : RowInput) (first room : ℕ) (old between new : List ℕ) → SameBeside p first room old between
-    → SameBeside p first room between new → SameBeside p first room old new
+pub beside-both : (p : RowInput) (first room : ℕ) (old between new : List ℕ) → SameBeside first room old between
+    → SameBeside first room between new → SameBeside first room old new
 beside-both p first room old between new one two = λ k outside. two k outside ∙ one k outside
 
 module _ (f : Filling) (nodes : List Node) (size s : ℕ) (w : List ℕ) (h : HasRow f nodes size s w) where
@@ -21,8 +21,8 @@ module _ (f : Filling) (nodes : List Node) (size s : ℕ) (w : List ℕ) (h : Ha
   p = row_input f nodes
 
   -- what was changed within the classes was changed within the row
-  beside-row : (row : ℕ) (old new : List ℕ) → SameBeside p row (alphabet_len f.classes) old new
-      → SameBeside p row f.stride old new
+  beside-row : (row : ℕ) (old new : List ℕ) → SameBeside row (alphabet_len f.classes) old new
+      → SameBeside row f.stride old new
   beside-row row old new same k (inl before) = same k (inl before)
   beside-row row old new same k (inr anchored_shift) = same k (inr (let room = h.may.room in omega arith))
 
@@ -40,7 +40,7 @@ module _ (f : Filling) (nodes : List Node) (size s : ℕ) (w : List ℕ) (h : Ha
   pub start-filled : (default_target : Node) (old led new : List ℕ)
       → ((b : ℕ) → leads_on p.built (Some []) b ≡ false → step_of p.built No (Some []) b ≡ default_target)
       → length led ≡ length old → EndsDead p No (Some []) old
-      → SameBeside p (row_at p No (Some [])) (alphabet_len f.classes) old led
+      → SameBeside (row_at p No (Some [])) (alphabet_len f.classes) old led
       → ((b : ℕ) → b < 256 → entry f.classes led (row_at p No (Some [])) b ≡ row_at p No default_target)
       → HasSet p No [] (transition_bytes_of p.built (Some [])) led new → HasFilled p No [] old new
   start-filled default_target old led new misses long past beside leads set = record {
@@ -105,7 +105,7 @@ module _ (f : Filling) (nodes : List Node) (size s : ℕ) (w : List ℕ) (h : Ha
     filled = filled-longer p w old copied new some earlier copied-entry past-copied set;
   }
     where
-      outside : SameBeside p (row_at p No (Some w)) (alphabet_len f.classes) old copied
+      outside : SameBeside (row_at p No (Some w)) (alphabet_len f.classes) old copied
       outside k (inl before) = below k 0 (omega arith)
       outside k (inr anchored_shift) = above k 0 (omega arith)
 

@@ -20,7 +20,7 @@ module _ (f : Filling) (nodes : List Node) (size s : ℕ) (w : List ℕ) (h : Ha
 
   -- where the rows of this state are filled and nothing else, those of all up to it are
   pub filled-on : (old new : List ℕ) → FilledUpTo f nodes size s old → length new ≡ length old
-      → SameBeside p (slice_index_or f.numbers s 0) (width p) old new
+      → SameBeside (slice_index_or f.numbers s 0) (width p) old new
       → ((anchored : Anchored) → start_refusal f.start_kind anchored ≡ None → IsFilled p anchored (Some w) new)
       → FilledUpTo f nodes size (s + 1) new
   filled-on old new up long beside rows = record {
@@ -84,8 +84,8 @@ module _ (f : Filling) (nodes : List Node) (size s : ℕ) (w : List ℕ) (h : Ha
   may-row anchored old supported up = search (rules, place-row f nodes size s w h, slice_get_within)
 
   -- what was changed in a row was changed in the rows of the state
-  row-beside : (anchored : Anchored) (old new : List ℕ) → SameBeside p (row_at p anchored (Some w)) f.stride old new
-      → SameBeside p (slice_index_or f.numbers s 0) (width p) old new
+  row-beside : (anchored : Anchored) (old new : List ℕ) → SameBeside (row_at p anchored (Some w)) f.stride old new
+      → SameBeside (slice_index_or f.numbers s 0) (width p) old new
   row-beside anchored old new beside k outside = search (rules, place-row f nodes size s w h)
 
   -- with the only row of a state filled

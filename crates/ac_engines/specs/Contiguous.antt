@@ -6,8 +6,9 @@ pub mod Plans
 pub mod Sizes
 pub mod Words
 use Rattle.std.specs.Prelude.{◌≡◌, ◌≢◌, ℕ, ◌<◌, ◌≤◌, ◌↔◌, ◌+◌, ◌-◌, ◌/◌, ◌%◌, ◌==◌, ◌&&◌, nat_lt, if◌then◌else◌, Bool, List, [], ◌∷◌, ◌++◌, drop, length, map, slice_index_or, take, Some, None}
-use Rattle.ac_automaton.specs.Util.{alphabet_len, AreClasses, Both, Built, class_at, GREATEST, IsNode, longest_len, No, Node, plain_byte, SetsApart, Yes}
+use Rattle.ac_automaton.specs.Util.{alphabet_len, AreClasses, Both, Built, class_at, Counts, GREATEST, IsNode, longest_len, more_looks, No, Node, plain_byte, SetsApart, Yes}
 use Rattle.ac_util.specs.declared.search.Anchored.{Anchored}
+use Rattle.ac_automaton.specs.Automata.{looks_of, step_of}
 use Rattle.ac_automaton.specs.Prelude.{built_as, CommonView, matches_of, fallback, transition_bytes_of, plain_of}
 use Rattle.ac_engines.specs.declared.nfa.contiguous.state.Edge.{Edge}
 use Rattle.ac_engines.specs.Contiguous.Formats.{dense_form, no_target, one_match}
@@ -132,3 +133,25 @@ pub record IsContiguousState (p : ContiguousView) (anchored : Anchored) (s : ℕ
   pub is_contiguous : IsContiguous p at
   pub node : IsNode p.built.kind (plain_of p.built) u
   pub number : s ≡ number_at at anchored u
+
+-- the number is that of a state in these words, and the class is that of some byte
+abbrev pub MayStepBy : List ℕ → ℕ → Anchored → ℕ → Type 0
+MayStepBy words class anchored s =
+    (p : ContiguousView) × (b : ℕ) × (u : Node) × (p.words ≡ words) × (b < 256) × (class ≡ class_at p.classes b)
+    × IsContiguousState p anchored s u
+
+-- this holds of each byte of the class and of the node of the state
+abbrev pub ForStep : List ℕ → ℕ → Anchored → ℕ → (ContiguousView → ℕ → Node → Type 0) → Type 0
+ForStep words class anchored s P =
+    (p : ContiguousView) (b : ℕ) (u : Node) → p.words ≡ words → b < 256 → class ≡ class_at p.classes b
+    → IsContiguousState p anchored s u → P p b u
+
+-- the class leads from the state to the next one
+abbrev pub StepsBy : List ℕ → ℕ → Anchored → ℕ → ℕ → Type 0
+StepsBy words class anchored s next =
+    ForStep words class anchored s (λ p b u. IsContiguousState p anchored next (step_of p.built anchored u b))
+
+-- this step takes these further looks
+abbrev pub LooksBy : List ℕ → ℕ → Anchored → ℕ → Counts → Counts → Type 0
+LooksBy words class anchored s old new =
+    ForStep words class anchored s (λ p b u. new ≡ more_looks (looks_of 2 p.built anchored u b) old)

@@ -4,4 +4,5 @@ pub mod Contiguous
 pub mod Dfa
 pub mod Listed
 pub mod Nodes
+pub mod Numbering
 pub mod Prelude

@@ -2,9 +2,8 @@
 ghost use Rattle.std.specs.Prelude.{◌≡◌, ℕ, ◌+◌, ◌<◌, ◌≤◌, IsTrue, List, length, slice_index_or};
 ghost use Rattle.std.proofs.Common.{inl, refl};
 ghost use Rattle.ac_automaton.specs.Util.{bytes_of, more_looks};
-ghost use Rattle.ac_automaton.specs.Builds.{AnswersBuild};
 ghost use Rattle.ac_engines.specs.Dfa.{HasMatchesAmong, IsDfa, IsDfaState, list_at};
-ghost use Rattle.ac_engines.specs.Dfa.Builds.{IsDfaBuilt, dfa_refusal_by, usual_dfa_settings};
+ghost use Rattle.ac_engines.specs.Dfa.Builds.{BuildsDfa, usual_dfa_settings};
 ghost use Rattle.ac_engines.specs.Listed.{dfa-lists};
 
 use ac_automaton::automaton::{Automaton, Common, MatchRest};
@@ -117,7 +116,7 @@ impl<A: Allocator + Clone> DFA<A> {
     /// # Errors
     /// As `Builder::build`.
     pub fn new(alloc: A, patterns: &[&[u8]]) -> Result<DFA<A>, BuildError>
-        ensures { AnswersBuild (IsDfaBuilt usual_dfa_settings) (dfa_refusal_by usual_dfa_settings) (bytes_of patterns.now) result }
+        ensures { BuildsDfa usual_dfa_settings (bytes_of patterns.now) result }
     {
         Builder::new().build(alloc, patterns)
     }

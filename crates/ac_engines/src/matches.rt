@@ -1,8 +1,6 @@
 //! The matches of a trie's states.
-ghost use Rattle.std.specs.Prelude.{◌≡◌, IfOk, List, slice_get, Some};
-ghost use Rattle.ac_automaton.specs.Util.{Node};
-ghost use Rattle.ac_automaton.specs.Prelude.{AreNodes, matches_of};
-ghost use Rattle.ac_engines.specs.Nodes.{HasNode};
+ghost use Rattle.std.specs.Prelude.{Some};
+ghost use Rattle.ac_engines.specs.Nodes.{HasNode, ListsMatches};
 
 use ac_automaton::automaton::{Automaton, MatchRest, is_due};
 use ac_automaton::nfa::noncontiguous::NFA;
@@ -22,8 +20,7 @@ pub(crate) fn list_matches<A: Allocator>(
     matches: &mut Vec<PatternID, A>,
 ) -> Result<(), AllocError>
     requires state { HasNode nfa.now sid }
-    ensures { (nodes : List Node) (u : Node) → AreNodes nfa.now nodes → slice_get nodes sid ≡ Some u
-        → IfOk result (λ _. matches.new.items ≡ matches_of nfa.now.built anchored u) }
+    ensures { ListsMatches nfa.now anchored sid matches.new.items result }
 {
     matches.clear();
     let depth = nfa.depth(sid);

@@ -2,7 +2,7 @@
 ghost use Rattle.std.specs.Prelude.{◌≡◌, ◌≢◌, IfSome, List, None};
 ghost use Rattle.std.proofs.Common.{inr, refl};
 ghost use Rattle.ac_automaton.specs.Util.{bytes_of, Node};
-ghost use Rattle.ac_automaton.specs.Builds.{AnswersBuild, IsEngineBuilt, state_refusal, usual_engine_settings};
+ghost use Rattle.ac_automaton.specs.Builds.{BuildsNoncontiguous, usual_engine_settings};
 ghost use Rattle.ac_automaton.specs.Tries.{IsRoot, IsTrie, IsTrieState, listed_within, stands-lists};
 ghost use Rattle.ac_automaton.specs.declared.nfa.noncontiguous.state.State.{State};
 
@@ -94,7 +94,7 @@ impl<A: Allocator + Clone> NFA<A> {
     /// # Errors
     /// As `Builder::build`.
     pub fn new(alloc: A, patterns: &[&[u8]]) -> Result<NFA<A>, BuildError>
-        ensures { AnswersBuild (IsEngineBuilt usual_engine_settings) (state_refusal usual_engine_settings) (bytes_of patterns.now) result }
+        ensures { BuildsNoncontiguous usual_engine_settings (bytes_of patterns.now) result }
     {
         Builder::new().build(alloc, patterns)
     }

@@ -1,7 +1,7 @@
 -- What a build of a contiguous NFA is asked for, what it answers, and why it may be refused.
 use Rattle.std.specs.Prelude.{◌≡◌, ℕ, nat_lt, Bool, true, List, length, Option, Result, Some, None, if◌then◌else◌}
 use Rattle.ac_automaton.specs.Util.{alphabet_len, BuildError, Built, GREATEST, StateIdOverflow}
-use Rattle.ac_automaton.specs.Builds.{AnswersMaking, EngineSettings, IsAllowed, engine_built_by, refusal_or, state_refusal, usual_engine_settings}
+use Rattle.ac_automaton.specs.Builds.{AnswersBuild, AnswersMaking, EngineSettings, IsAllowed, engine_built_by, refusal_or, state_refusal, usual_engine_settings}
 use Rattle.ac_automaton.specs.Prelude.{Trie}
 use Rattle.ac_engines.specs.Classes.{classes_by}
 use Rattle.ac_engines.specs.Contiguous.{ContiguousView}
@@ -58,3 +58,8 @@ abbrev pub AnswersContiguousFrom : ContiguousSettings → Trie → Result Contig
 AnswersContiguousFrom settings nfa result =
     AnswersMaking (IsContiguousFrom settings.dense_depth settings.byte_classes nfa.built nfa.wants_prefilter)
     (contiguous_refusal settings.dense_depth settings.byte_classes nfa.built) result
+
+-- a build by these settings has succeeded, or is refused
+abbrev pub BuildsContiguous : ContiguousSettings → List (List ℕ) → Result ContiguousView BuildError → Type 0
+BuildsContiguous settings patterns result =
+    AnswersBuild (IsContiguousBuilt settings) (contiguous_refusal_by settings) patterns result

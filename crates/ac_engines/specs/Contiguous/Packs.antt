@@ -2,6 +2,7 @@
 use Rattle.std.specs.Prelude.{◌≡◌, ℕ, ◌+◌, ◌≤◌, Bool, List, [], ◌++◌, drop, IfOk, length, nat_eq, Result, slice_get, Some, if◌then◌else◌}
 use Rattle.ac_util.specs.declared.search.Anchored.{Anchored}
 use Rattle.ac_automaton.specs.Util.{alphabet_len, No, Node, Yes}
+use Rattle.ac_automaton.specs.Prelude.{ForNode}
 use Rattle.ac_automaton.specs.declared.nfa.noncontiguous.state.TheConstants.{ANCHORED_START, START}
 use Rattle.ac_engines.specs.Contiguous.{IsContiguous, packed_at}
 use Rattle.ac_engines.specs.Contiguous.Plans.{HasPlaces, HasWords, MayPack, PackPlan, has_matches, packed_of, places_of, size_at, total}
@@ -68,3 +69,19 @@ PushesWhere f nodes front old new result =
 abbrev pub IsPacked : Packer → List Node → List ℕ → Type 0
 IsPacked f nodes words =
     IsContiguous (packed_of f.plan nodes f.numbers words) (places_of f.plan nodes f.numbers)
+
+-- this holds of what a state spells, where all states have places
+abbrev pub ForPacked : Packer → ℕ → (PackedState → Type 0) → Type 0
+ForPacked f s P = ForNode (AreReady f) s (λ nodes u. P (packed_state f nodes s u))
+
+-- where the words of a state succeed in being pushed, they were
+abbrev pub PushesState : {Z : Type 0} → Packer → ℕ → Buffers Z → Buffers Z → Result (Unit {0}) AllocError → Type 0
+PushesState f s old new result = ForNode (AreReady f) s (λ nodes u. Pushes old new (state_words f nodes s u) result)
+
+-- where those of all states that have matches do, or of the others, they were
+abbrev pub PushesSide : {Z : Type 0} → Packer → Bool → Buffers Z → Buffers Z → Result (Unit {0}) AllocError → Type 0
+PushesSide f front old new result = (nodes : List Node) → AreReady f nodes → PushesWhere f nodes front old new result
+
+-- these are all words
+abbrev pub PacksAll : Packer → List ℕ → Type 0
+PacksAll f words = (nodes : List Node) → AreReady f nodes → IsPacked f nodes words

@@ -5,7 +5,8 @@ use Rattle.ac_automaton.specs.declared.nfa.noncontiguous.state.TheConstants.{ANC
 use Rattle.ac_automaton.specs.Prelude.{AreNodes, matches_of, Trie}
 use Rattle.ac_engines.specs.Dfa.Filling.{first_row_in}
 use Rattle.ac_engines.specs.Contiguous.{ContiguousView, Places}
-use Rattle.ac_engines.specs.Contiguous.Sizes.{node_words, packed_words}
+use Rattle.ac_engines.specs.Contiguous.Sizes.{node_format, node_words, packed_words}
+use Rattle.ac_engines.specs.declared.nfa.contiguous.format.Format.{Format}
 
 -- the sum of a function over the numbers below one
 unfoldable pub total : (ℕ → ℕ) → ℕ → ℕ
@@ -93,3 +94,18 @@ pub record HasWords (q : PackPlan) (s : ℕ) : Type 0 where
   pub node : Node
   pub named : slice_get nodes s ≡ Some node
   pub reached : START ≤ s
+
+-- how many matches a node has, and the form that its state takes
+abbrev pub match_len_of : PackPlan → Node → ℕ
+match_len_of q u = length (matches_of q.trie.built No u)
+
+abbrev pub format_for : PackPlan → Node → Format
+format_for q u = node_format q.trie.built q.dense_depth u
+
+-- up to this place those stand that have matches
+abbrev pub IsFrontEnd : PackPlan → ℕ → Type 0
+IsFrontEnd q place = (nodes : List Node) → MayPack q nodes → place ≡ front_end q nodes
+
+-- these are the places of all states
+abbrev pub ArePlaces : PackPlan → List ℕ → Type 0
+ArePlaces q numbers = (nodes : List Node) → MayPack q nodes → HasPlaces q nodes numbers

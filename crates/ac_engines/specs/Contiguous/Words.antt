@@ -1,5 +1,5 @@
 -- How the states of the contiguous engine are spelled in words of 32 bits.
-use Rattle.std.specs.Prelude.{◌≡◌, ◌≢◌, ℕ, ◌+◌, ◌*◌, ◌/◌, ◌%◌, ◌<◌, ◌≤◌, ◌==◌, List, [], ◌∷◌, ◌++◌, length, map, slice_index_or, All, IfOk, Option, Result, Some, None, if◌then◌else◌, ⊤}
+use Rattle.std.specs.Prelude.{◌≡◌, ◌≢◌, ℕ, ◌+◌, ◌*◌, ◌/◌, ◌%◌, ◌<◌, ◌≤◌, ◌==◌, List, [], ◌∷◌, ◌++◌, length, map, slice_index, slice_index_or, All, IfOk, Option, Result, Some, None, if◌then◌else◌, ⊤}
 use Rattle.std.specs.Borrow.{Bor}
 use Rattle.std.specs.Int.{to_le_bytes, w32}
 use Rattle.std.specs.List.{range_with_len}
@@ -170,3 +170,16 @@ one_head s = one_words s.failure s.edges
 
 abbrev pub sparse_head : PackedState → List ℕ
 sparse_head s = length s.edges ∷ s.failure ∷ class_words (map (λ e. e.class) s.edges) ++ map (λ e. e.target) s.edges
+
+-- the words begin with those of some state
+abbrev pub BeginWithState : List ℕ → Type 0
+BeginWithState words = (format : Format) × (classes : ℕ) × (s : PackedState) × BeginsWith words format classes s
+
+-- with those of a sparse state with so many transitions
+abbrev pub BeginSparse : List ℕ → ℕ → Type 0
+BeginSparse words transitions =
+    (classes : ℕ) × (s : PackedState) × BeginsWith words Sparse classes s × (transitions ≡ length s.edges)
+
+-- a state with a match at the place has this one there
+abbrev pub MatchesAt : ℕ → ℕ → Format → PackedState → Type 0
+MatchesAt index pattern format s = index < length s.matches → pattern ≡ slice_index s.matches index

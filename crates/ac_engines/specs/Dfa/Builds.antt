@@ -1,8 +1,8 @@
 -- What a build of a DFA is asked for, what it answers, and why it may be refused.
-use Rattle.std.specs.Prelude.{◌≡◌, ℕ, ◌-◌, ◌*◌, nat_lt, Bool, true, List, length, Option, Result, Some, None, if◌then◌else◌}
+use Rattle.std.specs.Prelude.{◌≡◌, ℕ, ◌-◌, ◌*◌, nat_lt, Bool, true, List, length, MatchResult, Option, Result, Some, None, if◌then◌else◌}
 use Rattle.ac_automaton.specs.Util.{BuildError, Built, GREATEST, StartKind, state_count, StateIdOverflow, stride, stride2, Unanchored}
 use Rattle.ac_automaton.specs.Prelude.{engine_built_by, EngineSettings, IsAllowed, plain_of, refusal_or, state_refusal, usual_engine_settings}
-use Rattle.ac_automaton.specs.Builds.{AnswersMaking}
+use Rattle.ac_automaton.specs.Builds.{AnswersBuild, AnswersMaking}
 use Rattle.ac_automaton.specs.Prelude.{Trie}
 use Rattle.ac_engines.specs.Classes.{classes_by}
 use Rattle.ac_engines.specs.Dfa.{DfaView}
@@ -61,3 +61,14 @@ abbrev pub AnswersDfaFrom : DfaSettings → Trie → Result DfaView BuildError �
 AnswersDfaFrom settings nfa result =
     AnswersMaking (IsDfaFrom settings.start_kind settings.byte_classes nfa.built nfa.wants_prefilter)
     (dfa_refusal settings.start_kind settings.byte_classes nfa.built) result
+
+-- a build by these settings has succeeded, or is refused
+abbrev pub BuildsDfa : DfaSettings → List (List ℕ) → Result DfaView BuildError → Type 0
+BuildsDfa settings patterns result = AnswersBuild (IsDfaBuilt settings) (dfa_refusal_by settings) patterns result
+
+-- how many entries the table has where there are so many states, or the refusal of its rows
+abbrev pub AnswersLen : StartKind → List ℕ → ℕ → Result ℕ BuildError → Type 0
+AnswersLen start_kind classes states result =
+    MatchResult result
+    (λ len. (len ≡ table_rows start_kind states * stride classes) × (rows_refusal start_kind classes states ≡ None))
+    (λ e. rows_refusal start_kind classes states ≡ Some e)

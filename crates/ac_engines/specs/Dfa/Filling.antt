@@ -1,8 +1,8 @@
 -- Filling the rows of a DFA from a noncontiguous NFA.
-use Rattle.std.specs.Prelude.{◌≡◌, ◌≢◌, ◌⊎◌, ℕ, ◌+◌, ◌*◌, ◌<◌, ◌≤◌, List, [], ◌∷◌, ◌++◌, Contains, bytes_eq, length, slice_get, slice_index_or, if◌then◌else◌, Some, None}
+use Rattle.std.specs.Prelude.{◌≡◌, ◌≢◌, ◌⊎◌, ℕ, ◌+◌, ◌*◌, ◌<◌, ◌≤◌, ◌&&◌, List, [], ◌∷◌, ◌++◌, Contains, bytes_eq, length, slice_get, slice_index_or, if◌then◌else◌, Some, None}
 use Rattle.ac_util.specs.declared.search.Anchored.{Anchored}
-use Rattle.ac_automaton.specs.Util.{alphabet_len, Built, class_at, GREATEST, No, Node, plain_byte, SetsApart, start_refusal, StartKind, Yes}
-use Rattle.ac_automaton.specs.Prelude.{AreNodes, step_of, transition_bytes_of, Trie}
+use Rattle.ac_automaton.specs.Util.{alphabet_len, begins_with_pattern, Built, class_at, GREATEST, is_leftmost, No, Node, plain_byte, SetsApart, start_refusal, StartKind, Yes}
+use Rattle.ac_automaton.specs.Prelude.{AreNodes, plain_of, step_of, transition_bytes_of, Trie}
 use Rattle.ac_engines.specs.Dfa.{anchored_shift, entry, number_of}
 
 -- what a DFA is filled from: what it is built from, the class of each byte, how many entries a row has, which node
@@ -21,6 +21,11 @@ first_row_in (v ∷ vs) [] w = 0
 first_row_in (None ∷ vs) (n ∷ ns) w = first_row_in vs ns w
 first_row_in (Some v ∷ vs) (n ∷ ns) w = if bytes_eq v w then n else first_row_in vs ns w
 
+-- the entries beside a part of the table are the same
+abbrev pub SameBeside : ℕ → ℕ → List ℕ → List ℕ → Type 0
+SameBeside first width old new = (k : ℕ) → (k < first) ⊎ (first + width ≤ k)
+    → slice_index_or new k 0 ≡ slice_index_or old k 0
+
 module _ (p : RowInput) where
   -- where the row of a node begins
   abbrev pub row_at : Anchored → Node → ℕ
@@ -36,11 +41,6 @@ module _ (p : RowInput) where
     pub steps : (b : ℕ) → b < 256
         → entry p.classes entries (row_at anchored u) b ≡ row_at anchored (step_of p.built anchored u b)
     pub past : EndsDead anchored u entries
-
-  -- the entries beside a part of the table are the same
-  abbrev pub SameBeside : ℕ → ℕ → List ℕ → List ℕ → Type 0
-  SameBeside first width old new = (k : ℕ) → (k < first) ⊎ (first + width ≤ k)
-      → slice_index_or new k 0 ≡ slice_index_or old k 0
 
   -- the own transitions of a string by these bytes have been set in its row, and nothing else
   pub record HasSet (anchored : Anchored) (w : List ℕ) (bytes : List ℕ) (old new : List ℕ) : Type 0 where
@@ -156,3 +156,44 @@ abbrev pub FillsState : Filling → ℕ → List ℕ → List ℕ → Type 0
 FillsState f s old new =
     (nodes : List Node) (w : List ℕ) → HasRow f nodes (length old) s w → FilledUpTo f nodes (length old) s old
     → FilledUpTo f nodes (length old) (s + 1) new
+
+-- the number is that of a row of a state
+abbrev pub IsRowNumber : Filling → ℕ → Anchored → ℕ → Type 0
+IsRowNumber f s anchored number =
+    (nodes : List Node) (size : ℕ) (w : List ℕ) → HasRow f nodes size s w → number ≡ row_of f nodes anchored w
+
+-- where a byte leads from the unanchored start that doesn't lead on: back to it, unless under a leftmost kind an empty
+-- pattern has begun the match
+abbrev pub start_target : Built → ℕ → ℕ
+start_target built start = if is_leftmost built.kind && begins_with_pattern (plain_of built) [] then 0 else start
+
+-- a row of some state can be filled
+abbrev pub MayFillSome : Filling → ℕ → Anchored → List ℕ → Type 0
+MayFillSome f s anchored old =
+    (nodes : List Node) × (w : List ℕ) × MayFillRow f nodes (length old) s w anchored old
+
+-- it was
+abbrev pub FillsSome : Filling → ℕ → Anchored → List ℕ → List ℕ → Type 0
+FillsSome f s anchored old new =
+    (nodes : List Node) (w : List ℕ) → MayFillRow f nodes (length old) s w anchored old
+    → HasFilled (row_input f nodes) anchored w old new
+
+-- the unanchored row of a state that isn't a start can be filled
+abbrev pub MayFillInner : Filling → ℕ → List ℕ → Type 0
+MayFillInner f s old =
+    (nodes : List Node) × (w : List ℕ) × (w ≢ []) × MayFillRow f nodes (length old) s w No old
+
+-- it was
+abbrev pub FillsInner : Filling → ℕ → List ℕ → List ℕ → Type 0
+FillsInner f s old new =
+    (nodes : List Node) (w : List ℕ) → w ≢ [] → MayFillRow f nodes (length old) s w No old
+    → HasFilled (row_input f nodes) No w old new
+
+-- the rows of a state can be filled: those of all before it are
+abbrev pub MayFillState : Filling → ℕ → List ℕ → Type 0
+MayFillState f s old =
+    (nodes : List Node) × (w : List ℕ) × HasRow f nodes (length old) s w × FilledUpTo f nodes (length old) s old
+
+-- all rows of a table of this size are filled, where they can be
+abbrev pub FillsAll : Filling → ℕ → List ℕ → Type 0
+FillsAll f size entries = (nodes : List Node) → MayFill f nodes size → AreFilled f nodes size entries

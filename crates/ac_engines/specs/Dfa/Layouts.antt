@@ -1,9 +1,11 @@
 -- Where the rows of a DFA stand, and what they list.
-use Rattle.std.specs.Prelude.{◌≡◌, ◌⊎◌, ℕ, ◌+◌, ◌-◌, ◌*◌, ◌/◌, ◌<◌, ◌≤◌, List, [], ◌∷◌, ◌++◌, length, slice_get, slice_index_or, Some, None}
+use Rattle.std.specs.Prelude.{◌≡◌, ◌⊎◌, ℕ, ◌+◌, ◌-◌, ◌*◌, ◌^◌, ◌/◌, ◌<◌, ◌≤◌, IfOk, List, [], ◌∷◌, ◌++◌, length, Result, slice_get, slice_index_or, Some, None}
 use Rattle.ac_util.specs.declared.search.Anchored.{Anchored}
-use Rattle.ac_automaton.specs.Util.{Both, Built, No, Node, start_refusal, StartKind, Unanchored, Yes}
+use Rattle.ac_automaton.specs.Util.{Both, Built, No, Node, start_refusal, StartKind, state_count, Unanchored, Yes}
 use Rattle.ac_util.specs.declared.search.StartKind.TheVariants.{Anchored as AnchoredAlone}
-use Rattle.ac_automaton.specs.Prelude.{matches_of}
+use Rattle.ac_automaton.specs.Prelude.{AreNodes, ForNode, matches_of, plain_of, Trie}
+use Rattle.ac_engines.specs.declared.dfa.layout.Layout.{Layout}
+use Rattle.ac_engines.specs.declared.dfa.layout.Rows.{Rows}
 use Rattle.ac_engines.specs.Dfa.Filling.{AreLaid}
 use Rattle.ac_engines.specs.Dfa.{anchored_shift}
 
@@ -79,3 +81,25 @@ pub record IsLayout (built : Built) (stride size : ℕ) (nodes : List Node) (num
   pub early : (s : ℕ) → s < first → row_list lists stride s ≡ []
   pub late : (s : ℕ) → end ≤ s → row_list lists stride s ≡ []
   pub starts : 4 * stride ≤ end
+
+-- how many rows a DFA has that is built from this trie
+abbrev pub rows_over : StartKind → Trie → ℕ
+rows_over start_kind trie = table_rows start_kind (state_count trie.built.kind (plain_of trie.built))
+
+-- the layout is one for this trie, with rows of two to the power of stride2 entries
+abbrev pub IsLayoutOver : {Z : Type 0} → Trie → StartKind → ℕ → Layout Z → Type 0
+IsLayoutOver trie start_kind stride2 layout =
+    (nodes : List Node) → AreNodes trie nodes
+    → IsLayout (record trie.built { start_kind = start_kind }) (2 ^ stride2) (rows_over start_kind trie * 2 ^ stride2) nodes
+    layout.numbers.items layout.lists layout.first_match layout.match_end
+
+-- where a state succeeds in being given its rows, it was
+abbrev pub PlacesState : {E Z : Type 0} → Trie → StartKind → ℕ → Rows Z → Result ℕ E → Rows Z → Type 0
+PlacesState trie start_kind s old result new =
+    ForNode (AreNodes trie) s
+    (λ nodes u. IfOk result (λ row. HasPlaced start_kind trie.built u row old.lists old.back new.lists new.back))
+
+-- where the lists of its rows succeed in being added, they were
+abbrev pub AddsLists : {E : Type 0} → Trie → StartKind → ℕ → List (List ℕ) → Result (Unit {0}) E → List (List ℕ) → Type 0
+AddsLists trie start_kind s old result new =
+    ForNode (AreNodes trie) s (λ nodes u. IfOk result (λ done. new ≡ old ++ row_lists start_kind trie.built u))

@@ -1,13 +1,14 @@
 //! Builds of a DFA.
-ghost use Rattle.std.specs.Prelude.{◌≡◌, ◌<◌, ◌≤◌, ◌+◌, ◌-◌, ◌*◌, ◌^◌, IfOk, List, length, MatchResult, None, Some};
+ghost use Rattle.std.specs.Prelude.{◌≡◌, ◌<◌, ◌≤◌, ◌+◌, ◌-◌, ◌*◌, ◌^◌, IfOk, List, length};
 ghost use Rattle.ac_automaton.specs.Util.{bytes_of, GREATEST, Node, StateIdOverflow, state_count, stride};
 ghost use Rattle.ac_automaton.specs.Prelude.{AreNodes, plain_of};
 ghost use Rattle.ac_util.specs.declared.search.StartKind;
-ghost use Rattle.ac_automaton.specs.Builds.{AnswersBuild, fits};
-ghost use Rattle.ac_engines.specs.Dfa.Builds.{AnswersDfaFrom, IsDfaBuilt, dfa_refusal, dfa_refusal_by, rows_refusal, usual_dfa_settings};
-ghost use Rattle.ac_engines.specs.Dfa.Filling.{AreFilled, MayFill};
+ghost use Rattle.ac_automaton.specs.Builds.{fits};
+ghost use Rattle.ac_engines.specs.Dfa.Builds.{AnswersDfaFrom, AnswersLen, BuildsDfa, dfa_refusal, usual_dfa_settings};
+ghost use Rattle.ac_engines.specs.Dfa.Filling.{FillsAll, MayFill};
 ghost use Rattle.ac_engines.specs.Dfa.Layouts.{table_rows};
 ghost use Rattle.ac_engines.specs.Dfa.{start_number};
+ghost use Rattle.ac_engines.specs.Numbering.{AnswersSize};
 
 use super::fill::Filler;
 use super::layout::{Layout, table_rows};
@@ -154,7 +155,7 @@ impl Builder {
         alloc: A,
         patterns: &[&[u8]],
     ) -> Result<DFA<A>, BuildError>
-        ensures { AnswersBuild (IsDfaBuilt self.now) (dfa_refusal_by self.now) (bytes_of patterns.now) result }
+        ensures { BuildsDfa self.now (bytes_of patterns.now) result }
     {
         let nfa = self.noncontiguous.build(alloc, patterns)?;
         let alloc = nfa.allocator().clone()?;
@@ -219,10 +220,7 @@ fn len_for<A: Allocator>(
     start_kind: StartKind,
     classes: &ByteClasses,
 ) -> Result<u64, BuildError>
-    ensures len { let states = state_count nfa.now.built.kind (plain_of nfa.now.built) in MatchResult result
-        (λ len. (len ≡ table_rows start_kind states * stride classes.now)
-        × (rows_refusal start_kind classes.now states ≡ None))
-        (λ e. rows_refusal start_kind classes.now states ≡ Some e) }
+    ensures len { AnswersLen start_kind classes.now (state_count nfa.now.built.kind (plain_of nfa.now.built)) result }
     ensures numbered { (nodes : List Node) × AreNodes nfa.now nodes }
 {
     let rows = table_rows(start_kind, nfa.states_len()) as u64;
@@ -246,10 +244,7 @@ pub fn table_len(rows: u64, stride2: u32) -> Result<u64, BuildError>
     requires some { 1 ≤ rows }
     requires few { rows ≤ table_rows StartKind.Both (GREATEST + 1) }
     requires narrow { stride2 ≤ 8 }
-    ensures { MatchResult result
-        (λ len. (len ≡ rows * 2 ^ stride2) × ((rows - 1) * 2 ^ stride2 ≤ GREATEST))
-        (λ e. (e ≡ StateIdOverflow GREATEST ((rows - 1) * 2 ^ stride2))
-        × (GREATEST < (rows - 1) * 2 ^ stride2)) }
+    ensures { AnswersSize (rows * 2 ^ stride2) ((rows - 1) * 2 ^ stride2) result }
 {
     let stride = 1 << stride2;
     let last = (rows - 1) * stride;
@@ -270,7 +265,7 @@ fn filled_table<A: Allocator>(
 ) -> Result<Vec<StateID, A>, AllocError>
     requires may { (nodes : List Node) × MayFill filler.now nodes len }
     ensures long { IfOk result (λ table. length table.items ≡ len) }
-    ensures filled { IfOk result (λ table. (nodes : List Node) → MayFill filler.now nodes len → AreFilled filler.now nodes len table.items) }
+    ensures filled { IfOk result (λ table. FillsAll filler.now len table.items) }
 {
     let mut table = vec![in alloc; StateID::must(DEAD); len]?;
     filler.fill(&mut table);

@@ -1,10 +1,9 @@
 //! Filling the rows of a DFA.
-ghost use Rattle.std.specs.Prelude.{◌≡◌, ◌≢◌, ◌⊎◌, ◌&&◌, if◌then◌else◌, ℕ, ◌+◌, ◌<◌, ◌≤◌, List, [], length, slice_index_or};
+ghost use Rattle.std.specs.Prelude.{◌≡◌, ◌⊎◌, ◌&&◌, ℕ, ◌+◌, ◌<◌, ◌≤◌, List, [], length, slice_index_or};
 ghost use Rattle.std.specs.List.{CopiedTo, SameBelow, SameFrom};
-ghost use Rattle.ac_automaton.specs.Util.{begins_with_pattern, GREATEST, is_leftmost, Node};
-ghost use Rattle.ac_automaton.specs.Prelude.{plain_of};
+ghost use Rattle.ac_automaton.specs.Util.{GREATEST, is_leftmost, Node};
 ghost use Rattle.ac_util.specs.declared.search.Anchored;
-ghost use Rattle.ac_engines.specs.Dfa.Filling.{AreFilled, FilledUpTo, FillsRow, FillsState, HasFilled, HasRow, MayFill, MayFillRow, SetsOwn, row_input, row_of};
+ghost use Rattle.ac_engines.specs.Dfa.Filling.{FillsAll, FillsInner, FillsRow, FillsSome, FillsState, HasRow, IsRowNumber, MayFill, MayFillInner, MayFillRow, MayFillSome, MayFillState, SameBeside, SetsOwn, start_target};
 ghost use Rattle.ac_engines.specs.Dfa.{anchored_shift};
 
 use ac_automaton::automaton::Automaton;
@@ -56,7 +55,7 @@ impl<'a, A: Allocator> Filler<'a, A> {
     /// Returns the number of a state in the table.
     fn number(&self, sid: StateID, anchored: Anchored) -> StateID
         requires { (nodes : List Node) × (size : ℕ) × (w : List ℕ) × HasRow self.now nodes size sid w }
-        ensures { (nodes : List Node) (size : ℕ) (w : List ℕ) → HasRow self.now nodes size sid w → result ≡ row_of self.now nodes anchored w }
+        ensures { IsRowNumber self.now sid anchored result }
     {
         StateID::must(first_row(self.numbers, sid) + self.anchored_shift(anchored))
     }
@@ -92,8 +91,7 @@ impl<'a, A: Allocator> Filler<'a, A> {
 
     /// Returns where a byte leads from the start that doesn't lead on.
     fn default_target(&self, start: StateID) -> StateID
-        ensures { result ≡ (if is_leftmost self.now.trie.built.kind
-            && begins_with_pattern (plain_of self.now.trie.built) [] then 0 else start) }
+        ensures { result ≡ start_target self.now.trie.built start }
     {
         if self.nfa.match_kind().is_leftmost() && self.nfa.min_pattern_len() == 0 {
             StateID::must(DEAD)
@@ -105,11 +103,8 @@ impl<'a, A: Allocator> Filler<'a, A> {
     /// Fills the unanchored row of a state after the starts: each class leads where it leads from the failure target,
     /// but for those of the state's own transitions.
     fn fill_inner(&self, table: &mut [StateID], sid: StateID)
-        requires { (nodes : List Node) × (w : List ℕ) × (w ≢ [])
-            × MayFillRow self.now nodes (length table.old) sid w Anchored.No table.old }
-        ensures { (nodes : List Node) (w : List ℕ) → w ≢ []
-            → MayFillRow self.now nodes (length table.old) sid w Anchored.No table.old
-            → HasFilled (row_input self.now nodes) Anchored.No w table.old table.new }
+        requires { MayFillInner self.now sid table.old }
+        ensures { FillsInner self.now sid table.old table.new }
     {
         let from = first_row(self.numbers, self.nfa.fail(sid));
         let to = self.number(sid, Anchored::No).as_usize();
@@ -119,11 +114,8 @@ impl<'a, A: Allocator> Filler<'a, A> {
 
     /// Fills one of the rows of a state.
     fn fill_row(&self, table: &mut [StateID], sid: StateID, anchored: Anchored)
-        requires { (nodes : List Node) × (w : List ℕ)
-            × MayFillRow self.now nodes (length table.old) sid w anchored table.old }
-        ensures { (nodes : List Node) (w : List ℕ)
-            → MayFillRow self.now nodes (length table.old) sid w anchored table.old
-            → HasFilled (row_input self.now nodes) anchored w table.old table.new }
+        requires { MayFillSome self.now sid anchored table.old }
+        ensures { FillsSome self.now sid anchored table.old table.new }
     {
         match anchored {
             Anchored::Yes => self.set_own(table, sid, Anchored::Yes),
@@ -134,8 +126,7 @@ impl<'a, A: Allocator> Filler<'a, A> {
 
     /// Fills the rows of a state.
     fn fill_state(&self, table: &mut [StateID], sid: StateID)
-        requires { (nodes : List Node) × (w : List ℕ) × HasRow self.now nodes (length table.old) sid w
-            × FilledUpTo self.now nodes (length table.old) sid table.old }
+        requires { MayFillState self.now sid table.old }
         ensures { FillsState self.now sid table.old table.new }
     {
         match self.start_kind {
@@ -152,7 +143,7 @@ impl<'a, A: Allocator> Filler<'a, A> {
     pub(super) fn fill(&self, table: &mut [StateID])
         requires may { (nodes : List Node) × MayFill self.now nodes (length table.old) }
         requires blank { (k : ℕ) → slice_index_or table.old k 0 ≡ 0 }
-        ensures { (nodes : List Node) → MayFill self.now nodes (length table.old) → AreFilled self.now nodes (length table.old) table.new }
+        ensures { FillsAll self.now (length table.old) table.new }
     {
         self.fill_state(table, StateID::must(START));
         for state in FIRST_INNER..self.nfa.states_len() {
@@ -166,8 +157,7 @@ fn lead_all(table: &mut [StateID], from: StateID, to: StateID, classes: usize)
     requires within { from + classes ≤ length table.old }
     ensures same_length { length table.new ≡ length table.old }
     ensures filled { (k : ℕ) → from ≤ k → k < from + classes → slice_index_or table.new k 0 ≡ to }
-    ensures beside { (k : ℕ) → (k < from) ⊎ (from + classes ≤ k)
-        → slice_index_or table.new k 0 ≡ slice_index_or table.old k 0 }
+    ensures beside { SameBeside from classes table.old table.new }
 {
     for class in 0..classes {
         table[from.as_usize() + class] = to;

@@ -1,10 +1,9 @@
 //! Where the rows of a DFA stand.
-ghost use Rattle.std.specs.Prelude.{◌≡◌, ◌∷◌, [], ◌+◌, ◌-◌, ◌*◌, ◌^◌, ◌≤◌, ◌<◌, IfOk, List, Some, slice_get};
-ghost use Rattle.ac_automaton.specs.Util.{GREATEST, Node, state_count};
+ghost use Rattle.std.specs.Prelude.{◌≡◌, ◌∷◌, [], ◌+◌, ◌-◌, ◌*◌, ◌^◌, ◌≤◌, ◌<◌, IfOk};
+ghost use Rattle.ac_automaton.specs.Util.{GREATEST};
 ghost use Rattle.ac_util.specs.declared.search.StartKind;
 ghost use Rattle.ac_automaton.specs.declared.nfa.noncontiguous.state.TheConstants.{FIRST_INNER, START};
-ghost use Rattle.ac_automaton.specs.Prelude.{AreNodes, plain_of};
-ghost use Rattle.ac_engines.specs.Dfa.Layouts.{HasPlaced, IsLayout, rows_each, table_rows};
+ghost use Rattle.ac_engines.specs.Dfa.Layouts.{IsLayoutOver, PlacesState, rows_each, rows_over, table_rows};
 ghost use Rattle.ac_engines.specs.Nodes.{HasNode};
 
 use super::lists::{add_rows, first_lists};
@@ -39,12 +38,8 @@ impl<A: Allocator + Clone> Layout<A> {
         stride2: u32,
     ) -> Result<Layout<A>, AllocError>
         requires narrow { stride2 ≤ 8 }
-        requires small { (table_rows start_kind (state_count nfa.now.built.kind (plain_of nfa.now.built)) - 1)
-            * 2 ^ stride2 ≤ GREATEST }
-        ensures { IfOk result (λ layout. (nodes : List Node) → AreNodes nfa.now nodes
-            → IsLayout (record nfa.now.built { start_kind = start_kind }) (2 ^ stride2)
-            (table_rows start_kind (state_count nfa.now.built.kind (plain_of nfa.now.built)) * 2 ^ stride2) nodes
-            layout.numbers.items layout.lists layout.first_match layout.match_end) }
+        requires small { (rows_over start_kind nfa.now - 1) * 2 ^ stride2 ≤ GREATEST }
+        ensures { IfOk result (IsLayoutOver nfa.now start_kind stride2) }
     {
         let states = nfa.states_len();
         let mut numbers = first_numbers(alloc.clone()?, stride2)?;
@@ -96,9 +91,7 @@ impl<A: Allocator> Rows<A> {
     ) -> Result<usize, AllocError>
         requires state { HasNode nfa.now sid }
         requires room { rows_each start_kind ≤ self.old.back }
-        ensures { (nodes : List Node) (u : Node) → AreNodes nfa.now nodes → slice_get nodes sid ≡ Some u
-            → IfOk result (λ row. HasPlaced start_kind nfa.now.built u row self.old.lists self.old.back
-            self.new.lists self.new.back) }
+        ensures { PlacesState nfa.now start_kind sid self.old result self.new }
     {
         if !nfa.is_match(sid) {
             self.back -= rows_each(start_kind);

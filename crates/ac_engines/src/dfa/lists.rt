@@ -1,9 +1,7 @@
 //! The match lists of the rows of a DFA, one after another.
-ghost use Rattle.std.specs.Prelude.{◌≡◌, ◌++◌, [], IfOk, List, slice_get, Some};
-ghost use Rattle.ac_automaton.specs.Util.{Node};
-ghost use Rattle.ac_automaton.specs.Prelude.{AreNodes};
+ghost use Rattle.std.specs.Prelude.{◌≡◌, [], IfOk};
 ghost use Rattle.ac_automaton.specs.declared.nfa.noncontiguous.state.TheConstants.{START};
-ghost use Rattle.ac_engines.specs.Dfa.Layouts.{first_lists, row_lists};
+ghost use Rattle.ac_engines.specs.Dfa.Layouts.{AddsLists, first_lists};
 ghost use Rattle.ac_engines.specs.Nodes.{HasNode};
 
 use crate::matches::list_matches;
@@ -51,8 +49,7 @@ pub(super) fn add_rows<A: Allocator>(
     start_kind: StartKind,
 ) -> Result<(), AllocError>
     requires state { HasNode nfa.now sid }
-    ensures { (nodes : List Node) (u : Node) → AreNodes nfa.now nodes → slice_get nodes sid ≡ Some u
-        → IfOk result (λ _. lists.new ≡ lists.old ++ row_lists start_kind nfa.now.built u) }
+    ensures { AddsLists nfa.now start_kind sid lists.old result lists.new }
 {
     if start_kind != StartKind::Anchored {
         list_matches(nfa, sid, Anchored::No, matches)?;

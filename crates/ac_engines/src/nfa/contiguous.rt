@@ -3,9 +3,9 @@ ghost use Rattle.std.specs.Prelude.{◌≡◌, drop};
 ghost use Rattle.std.proofs.Common.{inr, refl};
 ghost use Rattle.ac_util.specs.declared.search.Anchored.{Anchored};
 ghost use Rattle.ac_util.specs.Borrowed.{bytes_of};
-ghost use Rattle.ac_automaton.specs.Prelude.{AnswersBuild, IsState};
+ghost use Rattle.ac_automaton.specs.Prelude.{IsState};
 ghost use Rattle.ac_engines.specs.Contiguous.{IsContiguous, IsContiguousState, Places, match_list_at};
-ghost use Rattle.ac_engines.specs.Contiguous.Builds.{IsContiguousBuilt, contiguous_refusal_by, usual_contiguous_settings};
+ghost use Rattle.ac_engines.specs.Contiguous.Builds.{BuildsContiguous, usual_contiguous_settings};
 ghost use Rattle.ac_engines.specs.Listed.{contiguous-lists};
 
 use ac_automaton::automaton::{Automaton, Common, MatchRest};
@@ -103,7 +103,7 @@ impl<A: Allocator + Clone> NFA<A> {
     /// # Errors
     /// As `Builder::build`.
     pub fn new(alloc: A, patterns: &[&[u8]]) -> Result<NFA<A>, BuildError>
-        ensures { AnswersBuild (IsContiguousBuilt usual_contiguous_settings) (contiguous_refusal_by usual_contiguous_settings) (bytes_of patterns.now) result }
+        ensures { BuildsContiguous usual_contiguous_settings (bytes_of patterns.now) result }
     {
         Builder::new().build(alloc, patterns)
     }

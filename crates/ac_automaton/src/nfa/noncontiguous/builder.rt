@@ -1,7 +1,7 @@
 //! Builds of a noncontiguous NFA.
 ghost use Rattle.std.specs.Prelude.{◌≡◌};
 ghost use Rattle.ac_util.specs.Borrowed.{bytes_of};
-ghost use Rattle.ac_automaton.specs.Builds.{AnswersBuild, IsEngineBuilt, state_refusal, usual_engine_settings};
+ghost use Rattle.ac_automaton.specs.Builds.{BuildsNoncontiguous, usual_engine_settings};
 
 use super::NFA;
 use super::lists::TrieLists;
@@ -125,7 +125,7 @@ impl Builder {
         alloc: A,
         patterns: &[&[u8]],
     ) -> Result<NFA<A>, BuildError>
-        ensures { AnswersBuild (IsEngineBuilt self.now) (state_refusal self.now) (bytes_of patterns.now) result }
+        ensures { BuildsNoncontiguous self.now (bytes_of patterns.now) result }
     {
         let patterns = Patterns::new(alloc, patterns)?;
         let lists = TrieLists::of(&patterns, self.kind, self.ignores_case)?;

@@ -6,12 +6,10 @@
 //! sorted, since those by capitals come before those by small letters. A child's failure target is a step from
 //! that of its parent: along a pattern each byte makes the target at most one byte longer, and each failure link
 //! makes it shorter, so a build follows few of them. It counts none.
-ghost use Rattle.std.specs.Prelude.{◌≡◌, ◌≢◌, ◌++◌, ◌∷◌, [], ℕ, ◌+◌, ◌<◌, ◌≤◌, Bool, List, IfOk, MatchResult, None, Some, length, map, slice_get};
+ghost use Rattle.std.specs.Prelude.{◌≡◌, ◌≢◌, ℕ, ◌+◌, ◌<◌, ◌≤◌, Bool, List, IfOk, None, Some, length};
 ghost use Rattle.ac_automaton.specs.Util.{GREATEST, plain};
-ghost use Rattle.ac_automaton.specs.Builds.{IsRefused, too_many_states};
-ghost use Rattle.ac_automaton.specs.Growths.{Branches, EndsPatterns, HasRoot, HasChildIn, HasPushed, HasSorted, IsNotPushed, IsWhole, LinkIsDue, MayBranch, Waits, nodes_of, source_of, word};
-ghost use Rattle.ac_automaton.specs.Sorted.{IsOrder};
-ghost use Rattle.ac_automaton.specs.Tries.{AreStates, Links, TrieView, fallback};
+ghost use Rattle.ac_automaton.specs.Growths.{BranchesAt, EndsPatterns, GrowsWhole, HasRoot, HasChildIn, HasSorted, IsChildFailure, IsLinkFrom, MayBranch, PushesState, WaitsAtStart, source_of};
+ghost use Rattle.ac_automaton.specs.Tries.{AreStates, TrieView};
 
 use super::lists::TrieLists;
 use super::sorted::SortedPatterns;
@@ -83,11 +81,7 @@ impl<'p, A: Allocator + Clone> Growth<'p, A> {
     /// refused.
     pub(super) fn grow(mut self) -> Result<TrieLists<A>, BuildError>
         requires begun { (ignores_case : Bool) × (texts : List (List ℕ)) × HasRoot ignores_case texts self }
-        ensures { (ignores_case : Bool) (texts : List (List ℕ)) → HasRoot ignores_case texts self.entry
-            → MatchResult result
-            (λ lists. IsWhole texts ignores_case self.entry.kind
-            lists.order.items lists.transitions.items lists.states.items)
-            (IsRefused (too_many_states self.entry.kind (map (plain ignores_case) texts))) }
+        ensures { GrowsWhole self.entry result }
     {
         let start = self.start();
         let start = self.branch(start)?;
@@ -113,10 +107,7 @@ impl<'p, A: Allocator + Clone> Growth<'p, A> {
     /// `StateIdOverflow` where there are too many states, `Memory` where a request for memory is refused.
     fn branch(&mut self, queued: QueuedState) -> Result<State, BuildError>
         requires ready { (patterns : List (List ℕ)) × MayBranch patterns self.old queued }
-        ensures branched { (patterns : List (List ℕ)) → MayBranch patterns self.old queued
-            → MatchResult result
-            (Branches patterns self.old self.new queued)
-            (IsRefused (too_many_states self.old.kind patterns)) }
+        ensures branched { BranchesAt self.old queued result self.new }
         ensures kept { source_of self.new ≡ source_of self.old }
     {
         let (to, depth) = (queued.to as usize, queued.depth as usize);
@@ -157,10 +148,7 @@ impl<'p, A: Allocator + Clone> Growth<'p, A> {
     /// `StateIdOverflow` where no number is left for it, `Memory` where a request for memory is refused.
     fn push(&mut self, byte: u8, queued: QueuedState) -> Result<(), BuildError>
         requires few { FIRST_INNER + length self.old.queue.items ≤ GREATEST + 1 }
-        ensures pushed { MatchResult result
-            (λ _. HasPushed self.old.sorted.ignores_case byte queued self.old.transitions.items self.old.queue.items
-            self.new.transitions.items self.new.queue.items)
-            (IsNotPushed self.old.queue.items) }
+        ensures pushed { PushesState self.old byte queued result self.new }
         ensures kept { source_of self.new ≡ source_of self.old }
     {
         let number = FIRST_INNER + self.queue.len();
@@ -184,8 +172,7 @@ impl<'p, A: Allocator + Clone> Growth<'p, A> {
 impl<'p, A: Allocator> Growth<'p, A> {
     /// Returns the start as it waits for its children.
     fn start(&self) -> QueuedState
-        ensures waits { (patterns : List (List ℕ)) → IsOrder self.now.kind patterns self.now.sorted.patterns
-            → Waits self.now.kind patterns self.now.sorted.patterns [] START result }
+        ensures waits { WaitsAtStart self.now result }
         ensures depth { result.depth ≡ 0 }
     {
         let sorted = &self.sorted;
@@ -220,10 +207,7 @@ impl<'p, A: Allocator> Growth<'p, A> {
     /// Returns the failure target of the child by a byte, whose patterns begin at a place.
     fn child_fail(&self, queued: &QueuedState, place: usize, byte: u8) -> StateID
         requires child { (patterns : List (List ℕ)) × HasChildIn patterns self.now queued.now place byte }
-        ensures fails { (patterns : List (List ℕ)) → HasChildIn patterns self.now queued.now place byte
-            → slice_get (nodes_of self.now.sorted.patterns self.now.queue.items) result
-            ≡ Some (fallback self.now.kind patterns
-            (Some (word self.now.sorted.patterns queued.now ++ byte ∷ []))) }
+        ensures fails { IsChildFailure self.now queued.now place byte result }
         ensures unanchored { result ≢ ANCHORED_START }
     {
         if self.kind.is_leftmost() && self.sorted.byte(place, queued.depth as usize + 1).is_none() {
@@ -244,9 +228,7 @@ impl<'p, A: Allocator> Growth<'p, A> {
     /// output link of the target. A target that isn't complete yet is the start's own, and leads nowhere.
     fn output_link(&self, fail: StateID) -> StateID
         requires { (g : TrieView) × AreStates g self.now.states.items }
-        ensures { (g : TrieView) (u : List ℕ) → AreStates g self.now.states.items
-            → LinkIsDue g (length self.now.states.items) u fail
-            → Links g (length self.now.states.items) (Some u) result }
+        ensures { IsLinkFrom self.now fail result }
     {
         if fail.as_usize() >= self.states.len() {
             return StateID::must(DEAD);

@@ -1,8 +1,6 @@
 //! The lists of a noncontiguous NFA.
-ghost use Rattle.std.specs.Prelude.{◌≡◌, MatchResult, None, map};
-ghost use Rattle.ac_automaton.specs.Util.{plain};
-ghost use Rattle.ac_automaton.specs.Builds.{IsRefused, too_many_states};
-ghost use Rattle.ac_automaton.specs.Growths.{IsWhole};
+ghost use Rattle.std.specs.Prelude.{◌≡◌, None};
+ghost use Rattle.ac_automaton.specs.Growths.{BuildsLists};
 
 use super::growth::Growth;
 use super::state::{State, Transition, TrieSlices};
@@ -32,10 +30,7 @@ impl<A: Allocator + Clone> TrieLists<A> {
         kind: MatchKind,
         ignores_case: bool,
     ) -> Result<TrieLists<A>, BuildError>
-        ensures { MatchResult result
-            (λ lists. IsWhole patterns.now ignores_case kind
-            lists.order.items lists.transitions.items lists.states.items)
-            (IsRefused (too_many_states kind (map (plain ignores_case) patterns.now))) }
+        ensures { BuildsLists patterns.now ignores_case kind result }
     {
         Growth::new(patterns, kind, ignores_case)?.grow()
     }

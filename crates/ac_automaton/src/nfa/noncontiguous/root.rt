@@ -1,8 +1,7 @@
 //! The root table: where an unanchored search goes on from the start, for each byte. Most bytes of a haystack are read
 //! there, and most states fail to there.
-ghost use Rattle.std.specs.Prelude.{◌≡◌, IfOk, IfSome};
-ghost use Rattle.ac_util.specs.Node.{Node};
-ghost use Rattle.ac_automaton.specs.Tries.{HasState, IsRoot, TrieView};
+ghost use Rattle.std.specs.Prelude.{IfOk, IfSome};
+ghost use Rattle.ac_automaton.specs.Tries.{IsRoot, IsStateAmong};
 ghost use Rattle.ac_automaton.specs.declared.nfa.noncontiguous.state.TheConstants.{START};
 
 use super::state::{START, TrieSlices, follow};
@@ -22,8 +21,7 @@ pub(crate) fn root_of<A: Allocator>(
     alloc: A,
     trie: TrieSlices<'_>,
 ) -> Result<Vec<StateID, A>, AllocError>
-    requires start { (g : TrieView) × (u : Node) × (g.transitions ≡ trie.transitions.now)
-        × HasState g trie.states.now START u }
+    requires start { IsStateAmong trie START }
     requires rooted { IfSome trie.root (λ root. IsRoot trie.transitions.now trie.states.now root.now) }
     ensures { IfOk result (λ root. IsRoot trie.entry.transitions.now trie.entry.states.now root.items) }
 {

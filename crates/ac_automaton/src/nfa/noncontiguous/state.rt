@@ -1,9 +1,8 @@
 //! The states of a noncontiguous NFA, and the walks over them.
-ghost use Rattle.std.specs.Prelude.{◌≡◌, ◌≢◌, ◌+◌, ◌-◌, ◌<◌, ◌≤◌, [], IfSome, Some, length, slice_get, slice_index};
+ghost use Rattle.std.specs.Prelude.{◌≡◌, ◌+◌, ◌-◌, ◌<◌, ◌≤◌, IfSome, Some, length, slice_index};
 ghost use Rattle.std.specs.List.Sorted.{IsStrictlyIncreasing};
-ghost use Rattle.ac_automaton.specs.Util.{more_looks, Node, plain_byte, step};
-ghost use Rattle.ac_util.specs.Looks.{looks as looks_of_node};
-ghost use Rattle.ac_automaton.specs.Tries.{HasState, IsRoot, IsTarget, TrieView, TakesFrom, all_matches, transition_bytes, dead_state, transitions_of};
+ghost use Rattle.ac_automaton.specs.Util.{more_looks, Node, step};
+ghost use Rattle.ac_automaton.specs.Tries.{HasState, IsRoot, IsStateAmong, IsTarget, StaysUnanchored, StepsTo, TakesLooks, TakesRest, TrieView, all_matches, transition_bytes, dead_state, transitions_of};
 
 use crate::automaton::MatchRest;
 use ac_util::looks::Looks;
@@ -168,20 +167,11 @@ pub(crate) fn follow(
     byte: u8,
     looks: &mut Looks,
 ) -> StateID
-    requires state { (g : TrieView) × (u : Node) × (g.transitions ≡ trie.transitions.now)
-        × HasState g trie.states.now from u }
+    requires state { IsStateAmong trie from }
     requires rooted { IfSome trie.root (λ root. IsRoot trie.transitions.now trie.states.now root.now) }
-    ensures steps { (g : TrieView) (u : Node) → g.transitions ≡ trie.entry.transitions.now
-        → HasState g trie.entry.states.now from u
-        → slice_get g.nodes result
-        ≡ Some (step g.kind g.patterns anchored u (plain_byte g.ignores_case byte)) }
-    ensures looks { (g : TrieView) (u : Node) → g.transitions ≡ trie.entry.transitions.now
-        → HasState g trie.entry.states.now from u
-        → looks.new
-        ≡ more_looks (looks_of_node g.kind g.patterns anchored u (plain_byte g.ignores_case byte)) looks.old }
-    ensures unanchored { (g : TrieView) (u : Node) → g.transitions ≡ trie.entry.transitions.now
-        → HasState g trie.entry.states.now from u → slice_get g.nodes ANCHORED_START ≡ Some (Some [])
-        → result ≢ ANCHORED_START }
+    ensures steps { StepsTo trie.entry anchored from byte result }
+    ensures looks { TakesLooks trie.entry anchored from byte looks.old looks.new }
+    ensures unanchored { StaysUnanchored trie.entry from result }
 {
     let (states, transitions) = (trie.states, trie.transitions);
     let mut at = from;
@@ -233,8 +223,7 @@ pub(crate) fn take_listed(
     rest: MatchRest,
 ) -> Option<(PatternID, MatchRest)>
     requires state { (g : TrieView) × (u : Node) × (g.order ≡ order.now) × HasState g states.now rest.state u }
-    ensures { (g : TrieView) (u : Node) → g.order ≡ order.now → HasState g states.now rest.state u
-        → TakesFrom g states.now u rest.index result }
+    ensures { TakesRest states.now order.now rest result }
 {
     let mut at = rest.state;
     let mut left = rest.index;

@@ -1,8 +1,8 @@
 //! Builds of a contiguous NFA.
 ghost use Rattle.std.specs.Prelude.{◌≡◌};
 ghost use Rattle.ac_util.specs.Borrowed.{bytes_of};
-ghost use Rattle.ac_automaton.specs.Builds.{AnswersBuild, fits};
-ghost use Rattle.ac_engines.specs.Contiguous.Builds.{AnswersContiguousFrom, IsContiguousBuilt, contiguous_refusal, contiguous_refusal_by, usual_contiguous_settings};
+ghost use Rattle.ac_automaton.specs.Builds.{fits};
+ghost use Rattle.ac_engines.specs.Contiguous.Builds.{AnswersContiguousFrom, BuildsContiguous, contiguous_refusal, usual_contiguous_settings};
 
 use super::NFA;
 use super::format::check_words;
@@ -152,7 +152,7 @@ impl Builder {
         alloc: A,
         patterns: &[&[u8]],
     ) -> Result<NFA<A>, BuildError>
-        ensures { AnswersBuild (IsContiguousBuilt self.now) (contiguous_refusal_by self.now) (bytes_of patterns.now) result }
+        ensures { BuildsContiguous self.now (bytes_of patterns.now) result }
     {
         let nfa = self.noncontiguous.build(alloc, patterns)?;
         let alloc = nfa.allocator().clone()?;

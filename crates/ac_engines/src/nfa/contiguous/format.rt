@@ -1,7 +1,8 @@
 //! The forms in which states are packed, and how many words they take.
-ghost use Rattle.std.specs.Prelude.{◌≡◌, ◌<◌, ◌≤◌, MatchResult};
-ghost use Rattle.ac_automaton.specs.Util.{GREATEST, StateIdOverflow};
+ghost use Rattle.std.specs.Prelude.{◌≡◌, ◌<◌, ◌≤◌};
+ghost use Rattle.ac_automaton.specs.Util.{StateIdOverflow};
 ghost use Rattle.ac_engines.specs.Contiguous.Formats.{format_of, words_of_state};
+ghost use Rattle.ac_engines.specs.Numbering.{AnswersSize};
 
 use ac_util::error::BuildError;
 use ac_util::primitives::StateID;
@@ -79,9 +80,7 @@ pub fn state_words(format: Format, classes: u64, transitions: u64, matches: u64)
 /// # Errors
 /// `StateIdOverflow` exactly where it is greater than the greatest number of a state.
 pub fn check_words(sum: u64) -> Result<u64, BuildError>
-    ensures { MatchResult result
-        (λ words. (words ≡ sum) × (sum ≤ GREATEST))
-        (λ e. (e ≡ StateIdOverflow GREATEST sum) × (GREATEST < sum)) }
+    ensures { AnswersSize sum sum result }
 {
     if sum > StateID::MAX as u64 {
         return Err(BuildError::StateIdOverflow {

@@ -1,9 +1,8 @@
 //! Packing the states of a trie.
 ghost use Rattle.std.specs.Prelude.{◌≡◌, ◌<◌, ◌≤◌, IfOk, List, [], length, slice_index_or};
-ghost use Rattle.ac_automaton.specs.Prelude.{ForNode};
 ghost use Rattle.ac_automaton.specs.Util.{alphabet_len, GREATEST, Node};
 ghost use Rattle.ac_engines.specs.Contiguous.Plans.{all_words};
-ghost use Rattle.ac_engines.specs.Contiguous.Packs.{AreReady, HasPlaceIn, IsPacked, Pushes, PushesWhere, dead_words, packed_state, state_words};
+ghost use Rattle.ac_engines.specs.Contiguous.Packs.{AreReady, ForPacked, HasPlaceIn, PacksAll, Pushes, PushesSide, PushesState, dead_words};
 ghost use Rattle.ac_engines.specs.declared.nfa.contiguous.format.Format;
 
 use super::format::Format;
@@ -56,7 +55,7 @@ impl<'a, A: Allocator> Packer<'a, A> {
     /// `AllocError` where a request for memory is refused.
     fn list_edges(&self, edges: &mut Vec<Edge, A>, sid: StateID) -> Result<(), AllocError>
         requires state { HasPlaceIn self.now sid }
-        ensures { ForNode (AreReady self.now) sid (λ nodes u. IfOk result (λ _. edges.new.items ≡ (packed_state self.now nodes sid u).edges)) }
+        ensures { ForPacked self.now sid (λ s. IfOk result (λ _. edges.new.items ≡ s.edges)) }
     {
         let plan = self.plan;
         let nfa = plan.nfa;
@@ -74,7 +73,7 @@ impl<'a, A: Allocator> Packer<'a, A> {
     /// Returns the place of a state's failure target. The starts have none, which is given as 0.
     fn failure(&self, sid: StateID) -> u32
         requires state { HasPlaceIn self.now sid }
-        ensures { ForNode (AreReady self.now) sid (λ nodes u. result ≡ (packed_state self.now nodes sid u).failure) }
+        ensures { ForPacked self.now sid (λ s. result ≡ s.failure) }
     {
         if sid.as_usize() < FIRST_INNER {
             return 0;
@@ -87,7 +86,7 @@ impl<'a, A: Allocator> Packer<'a, A> {
     /// under a leftmost kind an empty pattern has begun the match, and from the others nowhere.
     fn default_target(&self, sid: StateID) -> u32
         requires state { HasPlaceIn self.now sid }
-        ensures { ForNode (AreReady self.now) sid (λ nodes u. result ≡ (packed_state self.now nodes sid u).default_target) }
+        ensures { ForPacked self.now sid (λ s. result ≡ s.default_target) }
     {
         let plan = self.plan;
         let nfa = plan.nfa;
@@ -107,7 +106,7 @@ impl<'a, A: Allocator> Packer<'a, A> {
     /// `AllocError` where a request for memory is refused.
     fn push(&self, buffers: &mut Buffers<A>, sid: StateID) -> Result<(), AllocError>
         requires state { HasPlaceIn self.now sid }
-        ensures { ForNode (AreReady self.now) sid (λ nodes u. Pushes buffers.old buffers.new (state_words self.now nodes sid u) result) }
+        ensures { PushesState self.now sid buffers.old buffers.new result }
     {
         let plan = self.plan;
         self.list_edges(&mut buffers.edges, sid)?;
@@ -155,7 +154,7 @@ impl<'a, A: Allocator> Packer<'a, A> {
     /// `AllocError` where a request for memory is refused.
     fn push_where(&self, buffers: &mut Buffers<A>, front: bool) -> Result<(), AllocError>
         requires ready { (nodes : List Node) × AreReady self.now nodes }
-        ensures { (nodes : List Node) → AreReady self.now nodes → PushesWhere self.now nodes front buffers.old buffers.new result }
+        ensures { PushesSide self.now front buffers.old buffers.new result }
     {
         let plan = self.plan;
         for state in START..plan.nfa.states_len() {
@@ -177,7 +176,7 @@ impl<'a, A: Allocator + Clone> Packer<'a, A> {
         requires ready { (nodes : List Node) × AreReady self.now nodes }
         requires small { all_words self.now.plan ≤ GREATEST }
         ensures long { IfOk result (λ words. length words.items ≡ all_words self.now.plan) }
-        ensures packed { IfOk result (λ words. (nodes : List Node) → AreReady self.now nodes → IsPacked self.now nodes words.items) }
+        ensures packed { IfOk result (λ words. PacksAll self.now words.items) }
     {
         let mut buffers = Buffers {
             words: Vec::with_capacity(alloc.clone()?, len)?,

@@ -1,10 +1,8 @@
 //! Which form the states of a trie take, and where each is placed.
 ghost use Rattle.std.specs.Prelude.{◌≡◌, ◌+◌, ◌≤◌, ◌∷◌, IfOk, List, [], length};
 ghost use Rattle.ac_automaton.specs.Prelude.{ForNode};
-ghost use Rattle.ac_automaton.specs.Util.{alphabet_len, AreClasses, GREATEST, No, Node, SetsApart};
-ghost use Rattle.ac_automaton.specs.Automata.{matches_of};
-ghost use Rattle.ac_engines.specs.Contiguous.Plans.{HasPlaces, HasWords, MayPack, all_words, front_end, has_matches, size_of};
-ghost use Rattle.ac_engines.specs.Contiguous.Sizes.{node_format};
+ghost use Rattle.ac_automaton.specs.Util.{alphabet_len, AreClasses, GREATEST, Node, SetsApart};
+ghost use Rattle.ac_engines.specs.Contiguous.Plans.{ArePlaces, HasWords, IsFrontEnd, MayPack, all_words, format_for, has_matches, match_len_of, size_of};
 
 use super::format::{Format, format_of, state_words};
 use ac_automaton::automaton::Automaton;
@@ -67,7 +65,7 @@ impl<'a, A: Allocator> Plan<'a, A> {
     /// Returns how many matches a state has.
     fn match_len(&self, sid: StateID) -> usize
         requires state { HasWords self.now sid }
-        ensures value { ForNode (MayPack self.now) sid (λ nodes u. result ≡ length (matches_of self.now.trie.built No u)) }
+        ensures value { ForNode (MayPack self.now) sid (λ nodes u. result ≡ match_len_of self.now u) }
         ensures few { result ≤ GREATEST + 1 }
     {
         if self.nfa.is_match(sid) {
@@ -80,7 +78,7 @@ impl<'a, A: Allocator> Plan<'a, A> {
     /// Returns the form of a state.
     pub(super) fn format(&self, sid: StateID) -> Format
         requires state { HasWords self.now sid }
-        ensures { ForNode (MayPack self.now) sid (λ nodes u. result ≡ node_format self.now.trie.built self.now.dense_depth u) }
+        ensures { ForNode (MayPack self.now) sid (λ nodes u. result ≡ format_for self.now u) }
     {
         if sid.as_usize() < FIRST_INNER {
             return Format::Dense;
@@ -118,7 +116,7 @@ impl<'a, A: Allocator> Plan<'a, A> {
     /// Returns how many words all states take, and the address at which the states that have matches end.
     pub(super) fn sizes(&self) -> Sizes
         requires may { (nodes : List Node) × MayPack self.now nodes }
-        ensures match_end { (nodes : List Node) → MayPack self.now nodes → result.match_end ≡ front_end self.now nodes }
+        ensures match_end { IsFrontEnd self.now result.match_end }
         ensures all { result.all ≡ all_words self.now }
         ensures ordered { result.match_end ≤ result.all }
     {
@@ -145,9 +143,9 @@ impl<'a, A: Allocator> Plan<'a, A> {
     /// `AllocError` where a request for memory is refused.
     pub(super) fn numbers(&self, alloc: A, match_end: u64) -> Result<Vec<StateID, A>, AllocError>
         requires may { (nodes : List Node) × MayPack self.now nodes }
-        requires front { (nodes : List Node) → MayPack self.now nodes → match_end ≡ front_end self.now nodes }
+        requires front { IsFrontEnd self.now match_end }
         requires small { all_words self.now ≤ GREATEST }
-        ensures { IfOk result (λ numbers. (nodes : List Node) → MayPack self.now nodes → HasPlaces self.now nodes numbers.items) }
+        ensures { IfOk result (λ numbers. ArePlaces self.now numbers.items) }
     {
         let mut numbers = first_numbers(alloc, self.nfa.states_len())?;
         let mut front = self.dead_words();

@@ -1,8 +1,8 @@
 //! Reading the words of a state.
-ghost use Rattle.std.specs.Prelude.{◌≡◌, ◌≢◌, ℕ, ◌+◌, ◌<◌, ◌≤◌, [], drop, length, slice_index};
+ghost use Rattle.std.specs.Prelude.{◌≡◌, ◌≢◌, ◌+◌, ◌<◌, ◌≤◌, [], drop, length};
 ghost use Rattle.ac_util.specs.Counts.{more_looks};
 ghost use Rattle.ac_engines.specs.declared.nfa.contiguous.format.Format.{Format};
-ghost use Rattle.ac_engines.specs.Contiguous.Words.{AreMatchWords, AreNamed, BeginsWith, EachState, HasState, IsPlaceIn, LeadsBy, PackedState, SomeState, SparseLeadsBy, StateOf, transitions_of_state};
+ghost use Rattle.ac_engines.specs.Contiguous.Words.{AreMatchWords, AreNamed, BeginSparse, BeginWithState, BeginsWith, EachState, HasState, IsPlaceIn, LeadsBy, MatchesAt, PackedState, SomeState, SparseLeadsBy, StateOf, transitions_of_state};
 
 use super::format::{CLASSES_A_WORD, HEAD};
 use super::transitions::Transitions;
@@ -48,8 +48,7 @@ impl<'a> State<'a> {
     /// Returns the failure target.
     #[inline]
     pub(super) fn fail(self) -> u32
-        requires { (format : Format) × (classes : ℕ) × (s : PackedState)
-            × BeginsWith self.words.now format classes s }
+        requires { BeginWithState self.words.now }
         ensures { EachState self.entry.words.now (λ format classes s. result ≡ s.failure) }
     {
         self.words[1]
@@ -92,8 +91,7 @@ impl<'a> State<'a> {
     /// Returns where a class leads from a state that has so many transitions, four classes in a word.
     #[inline]
     fn sparse_target(self, transitions: usize, class: u8) -> Option<u32>
-        requires { (classes : ℕ) × (s : PackedState) × BeginsWith self.words.now Format.Sparse classes s
-            × (transitions ≡ length s.edges) }
+        requires { BeginSparse self.words.now transitions }
         ensures { SparseLeadsBy self.entry.words.now transitions class result }
     {
         let (classes, targets) = self.words[HEAD..].split_at(transitions.div_ceil(CLASSES_A_WORD));
@@ -154,7 +152,7 @@ impl<'a> State<'a> {
     #[inline]
     pub(super) fn match_pattern(self, classes: usize, index: usize) -> u32
         requires { HasState self.words.now classes (λ s. index < length s.matches) }
-        ensures { StateOf self.entry.words.now classes (λ format s. index < length s.matches → result ≡ slice_index s.matches index) }
+        ensures { StateOf self.entry.words.now classes (MatchesAt index result) }
     {
         let words = self.match_words(classes);
         if words[0] >= ONE_MATCH {

@@ -1,8 +1,5 @@
 //! The step from state to state along failure links.
-ghost use Rattle.std.specs.Prelude.{◌≡◌, ℕ, ◌<◌};
-ghost use Rattle.ac_automaton.specs.Util.{class_at, more_looks, Node};
-ghost use Rattle.ac_automaton.specs.Automata.{looks_of, step_of};
-ghost use Rattle.ac_engines.specs.Contiguous.{ContiguousView, IsContiguousState};
+ghost use Rattle.ac_engines.specs.Contiguous.{LooksBy, MayStepBy, StepsBy};
 
 use super::state::State;
 use ac_automaton::nfa::noncontiguous::DEAD;
@@ -22,12 +19,9 @@ pub(super) fn follow(
     from: StateID,
     looks: &mut Looks,
 ) -> StateID
-    requires state { (p : ContiguousView) × (b : ℕ) × (u : Node) × (p.words ≡ words.now) × (b < 256)
-        × (class ≡ class_at p.classes b) × IsContiguousState p anchored from u }
-    ensures steps { (p : ContiguousView) (b : ℕ) (u : Node) → p.words ≡ words.now → b < 256 → class ≡ class_at p.classes b
-        → IsContiguousState p anchored from u → IsContiguousState p anchored result (step_of p.built anchored u b) }
-    ensures looks { (p : ContiguousView) (b : ℕ) (u : Node) → p.words ≡ words.now → b < 256 → class ≡ class_at p.classes b
-        → IsContiguousState p anchored from u → looks.new ≡ more_looks (looks_of 2 p.built anchored u b) looks.old }
+    requires state { MayStepBy words.now class anchored from }
+    ensures steps { StepsBy words.now class anchored from result }
+    ensures looks { LooksBy words.now class anchored from looks.old looks.new }
 {
     let mut at = from.as_usize();
     loop {
