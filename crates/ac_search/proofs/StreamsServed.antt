@@ -49,7 +49,9 @@ module _ (engine : Built) (start_kind : StartKind) where
       replaced : (r : Result (Unit {0}) StreamError) → Replaces engine r → Replaces searcher r
       replaced (Ok done) h = (refusals ∙ h.0, h.1)
       replaced (Err e) (inl refused) = grind (arith, common_steps)
-      replaced (Err e) (inr fails) = search (rules, refusals, text)
+      replaced (Err e) (inr (allowed, (bytes, inl (reads, settled), small))) =
+          inr (refusals ∙ allowed, (bytes, inl (reads, text bytes settled), small))
+      replaced (Err e) (inr (allowed, (bytes, inr writes, small))) = inr (refusals ∙ allowed, (bytes, inr writes, small))
 
       -- what an automaton built as the engine leaves is what the searcher leaves
       pub replaced-served : {built seen : Built} → built ≡ engine → searcher ≡ seen → (r : Result (Unit {0}) StreamError)

@@ -13,7 +13,7 @@ use Rattle.ac_search.specs.Built.{Built, exchanged, stream_refusal}
 use Rattle.ac_search.specs.Device.{Reading, ReadsAll, Writing, WritesAll, WritesUntilFailure}
 use Rattle.ac_search.specs.Replaced.{replaced}
 use Rattle.ac_search.specs.Stream.{error_of}
-use Rattle.ac_search.specs.StreamReplacing.{FailsToReplace, IsSettledBy, IsStreamRefused, TextIsSettled}
+use Rattle.ac_search.specs.StreamReplacing.{FailsToReplace, IsSettledBy, IsStreamRefused}
 use Rattle.ac_search.specs.Streams.{Streaming}
 use Rattle.ac_search.specs.StreamsBegun.{HasBegun}
 use Rattle.acs.specs.declared.fault.Fault.{Fault}
@@ -54,14 +54,10 @@ module _ (built : Built) (texts : List (List ℕ)) (ends : Bool) (reader new_rea
   -- where streams settle alike, lines ask for no texts, and for no start
   module _ (alike : (kind : MatchKind) (over : Built) (start : StartKind) (bytes : List ℕ) (given place : ℕ)
       → IsSettledBy kind (record over { start_kind = start }) bytes given place → IsSettledBy kind over bytes given place) where
-    lines-settled : (begun : StartKind) (kind : MatchKind) (bytes : List ℕ)
-        → WritesSettled kind Stream (record built { start_kind = begun }) [] bytes writer new_writer
-        → WritesSettled kind Stream built texts bytes writer new_writer
-    lines-settled begun Standard bytes h = h
-    lines-settled begun LeftmostFirst bytes h =
-        (h.0, h.1, alike LeftmostFirst built begun bytes h.0 h.1 h.2, h.3, h.4)
-    lines-settled begun LeftmostLongest bytes h =
-        (h.0, h.1, alike LeftmostLongest built begun bytes h.0 h.1 h.2, h.3, h.4)
+    lines-settled : (begun : StartKind) (bytes : List ℕ)
+        → WritesSettled Stream (record built { start_kind = begun }) [] bytes writer new_writer
+        → WritesSettled Stream built texts bytes writer new_writer
+    lines-settled begun bytes h = (h.0, h.1, alike built.kind built begun bytes h.0 h.1 h.2, h.3, h.4)
 
     -- the lines of a stream were printed, or a read or a write has failed
     pub stream-printed : (begun : Streaming) (r : Result Outcome Fault) → stream_refusal built ≡ None → HasBegun built begun
@@ -70,13 +66,6 @@ module _ (built : Built) (texts : List (List ℕ)) (ends : Bool) (reader new_rea
         → AnswersOrFails ends Stream built texts reader new_reader writer new_writer r
     stream-printed begun (Ok outcome) served is prints = grind (arith, common_steps)
     stream-printed begun (Err fault) served is fails = search (rules, lines-settled)
-
-  -- the replaced text is written as far as the stream is settled
-  settled-written : (kind : MatchKind) (bytes : List ℕ) → TextIsSettled built texts writer new_writer kind bytes
-      → WritesSettled kind StreamReplace built texts bytes writer new_writer
-  settled-written Standard bytes written = written
-  settled-written LeftmostFirst bytes written = written
-  settled-written LeftmostLongest bytes written = written
 
   -- a read or a write has failed while a stream was replaced
   pub replacing-fails : (e : StreamError) (fault : Fault) → fault ≡ stream_fault_of e → stream_refusal built ≡ None
@@ -87,7 +76,7 @@ module _ (built : Built) (texts : List (List ℕ)) (ends : Bool) (reader new_rea
     record {
       bytes = fails.0;
       cause = elim fails.1 [
-        | inl read ↦ inl (e, is, read.0, settled-written built.kind fails.0 read.1)
+        | inl read ↦ inl (e, is, read.0, read.1)
         | inr write ↦ inr (
           write.0,
           write-fails write.1.0 (is ∙ ap stream_fault_of write.1.1) write.1.2,

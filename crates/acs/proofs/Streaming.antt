@@ -86,11 +86,8 @@ module _ {ends : Bool} {built : Built} {v : Streaming} {reader new_reader : Read
 
   -- what is settled is written
   settled-written : (bytes : List ℕ) (place : ℕ) → KeepsGiven v bytes → IsNear built bytes place
-      → (kind : MatchKind) → IsSettledBy kind built bytes v.given place
-      → WritesSettled kind Stream built [] bytes writer new_writer
-  settled-written bytes place keeps near Standard settled = (all-written bytes keeps settled.0).0
-  settled-written bytes place keeps near LeftmostFirst settled = grind (arith, common_steps)
-  settled-written bytes place keeps near LeftmostLongest settled = grind (arith, common_steps)
+      → IsSettledBy built.kind built bytes v.given place → WritesSettled Stream built [] bytes writer new_writer
+  settled-written bytes place keeps near settled = grind (arith, common_steps)
 
   -- a read has failed, or brought more than usize counts
   pub read-stops : {later : Reading} {e : StreamError} {w : Streaming} {fault : Fault}
@@ -108,7 +105,7 @@ module _ {ends : Bool} {built : Built} {v : Streaming} {reader new_reader : Read
           e,
           is,
           fails-after later gives.more read e gives.reads,
-          settled-written bytes w.kept gives.given (subst (λ (b : Built). IsNear b bytes w.kept) h.built_is near) built.kind
+          settled-written bytes w.kept gives.given (subst (λ (b : Built). IsNear b bytes w.kept) h.built_is near)
               (subst (λ (b : Built). IsSettledBy b.kind b bytes v.given w.kept) h.built_is gives.settled),
         );
       }
@@ -148,7 +145,13 @@ module _ {ends : Bool} {built : Built} {v : Streaming} {reader new_reader : Read
     -- a line couldn't be written
     pub print-stops : {new : Writing} {fault : Fault} → FailsToPrint writer new (lines (matches_so_far w)) fault
         → FailsToPrintStream ends built reader later writer new fault
-    print-stops {new} {fault} fails = search (rules, next-built, next-reads, reads-either)
+    print-stops {new} {fault} fails = record {
+      bytes = w.bytes;
+      cause = inr (
+        reads-either ends w.phase reader later w.bytes next-reads,
+        subst (λ (b : Built). FailsToPrint writer new (lines (stream_result b w.bytes)) fault) next-built fails,
+      );
+    }
 
     -- nor could that of the next match
     pub line-stops : {new : Writing} {fault : Fault}

@@ -4,15 +4,12 @@ use Rattle.std.specs.Io.KnownBytes.{Consumes}
 use Rattle.std.specs.declared.vec.Vec.{Vec}
 use Rattle.ac_search.specs.declared.MatchError.{MatchError}
 use Rattle.ac_search.specs.declared.StreamError.{StreamError}
-use Rattle.ac_search.specs.declared.MatchKind.{MatchKind}
-use Rattle.ac_search.specs.declared.MatchKind.TheVariants.{Standard}
 use Rattle.ac_search.specs.InputView.{whole_input}
 use Rattle.ac_search.specs.Built.{Built, overlapping_iter_refusal, stream_refusal}
 use Rattle.ac_search.specs.Device.{Reading, ReadsAll, ReadsSome, Writing, WritesAll, WritesSome}
 use Rattle.ac_search.specs.Replaced.{replaced}
-use Rattle.ac_search.specs.Settled.{IsSettledAt}
-use Rattle.ac_search.specs.Stream.{kept_back_len, stream_result, without_last}
-use Rattle.ac_search.specs.StreamReplacing.{FailsToRead, IsNear}
+use Rattle.ac_search.specs.Stream.{stream_result}
+use Rattle.ac_search.specs.StreamReplacing.{FailsToRead, IsNear, IsSettledBy}
 use Rattle.acs.specs.declared.fault.Fault.{Fault}
 use Rattle.acs.specs.declared.fault.Fault.TheVariants.{Io, Memory, WriteZero}
 use Rattle.acs.specs.declared.request.Mode.{Mode}
@@ -71,25 +68,16 @@ FailsToWriteFor Replace old new bytes fault = FailsToWrite old new bytes fault �
 FailsToWriteFor StreamReplace old new bytes fault = FailsToWrite old new bytes fault
 FailsToWriteFor mode old new bytes fault = FailsToPrint old new bytes fault
 
--- what a mode has written under Standard at a read, when a stream has given these bytes: the lines of all their matches; of
--- their replaced text all but the bytes held back
-abbrev pub settled_text : Mode → Built → List (List ℕ) → List ℕ → List ℕ
-settled_text StreamReplace built texts bytes =
-    without_last (kept_back_len built bytes) (output_of StreamReplace built texts bytes).text
-settled_text mode built texts bytes = (output_of mode built texts bytes).text
-
--- what it writes for so many of the matches, as far as a place
+-- what a mode writes for so many matches of a stream that has given these bytes, as far as a place
 abbrev pub text_as_far : Mode → Built → List (List ℕ) → List ℕ → ℕ → ℕ → List ℕ
 text_as_far StreamReplace built texts bytes given place =
     replaced (take place bytes) texts (take given (stream_result built bytes))
 text_as_far mode built texts bytes given place = lines (take given (stream_result built bytes))
 
--- what is settled at a read was written: under a leftmost kind for the matches that no longer stream changes, and as far as at
--- most as many bytes follow as the longest pattern has
-abbrev pub WritesSettled : MatchKind → Mode → Built → List (List ℕ) → List ℕ → Writing → Writing → Type 0
-WritesSettled Standard mode built texts bytes old new = WritesAll old new (settled_text mode built texts bytes)
-WritesSettled kind mode built texts bytes old new =
-    (given place : ℕ) × IsSettledAt built bytes given place × IsNear built bytes place
+-- what is settled at a read was written
+abbrev pub WritesSettled : Mode → Built → List (List ℕ) → List ℕ → Writing → Writing → Type 0
+WritesSettled mode built texts bytes old new =
+    (given place : ℕ) × IsSettledBy built.kind built bytes given place × IsNear built bytes place
     × WritesAll old new (text_as_far mode built texts bytes given place)
 
 module _ (ends : Bool) (mode : Mode) (built : Built) (texts : List (List ℕ)) (reader new_reader : Reading)
@@ -127,7 +115,7 @@ module _ (ends : Bool) (mode : Mode) (built : Built) (texts : List (List ℕ)) (
   pub record FailsOnStream (fault : Fault) : Type 0 where
     pub bytes : List ℕ
     pub cause : ((e : StreamError) × (fault ≡ stream_fault_of e) × FailsToRead 0 reader new_reader bytes e
-        × WritesSettled built.kind mode built texts bytes writer new_writer)
+        × WritesSettled mode built texts bytes writer new_writer)
         ⊎ ((ReadsSome reader new_reader bytes ⊎ ReadsAll ends reader new_reader bytes)
         × FailsToWriteFor mode writer new_writer (output_of mode built texts bytes).text fault)
 
