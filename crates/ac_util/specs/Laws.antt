@@ -71,17 +71,17 @@ OnlyPatternsLead ignores_case kind =
     → is_node kind (map (plain ignores_case) patterns) (u ++ plain_byte ignores_case b ∷ []) ≡ true
     → is_in_patterns ignores_case patterns b ≡ true
 
--- all items of the listing were given, and its place stays
-abbrev pub IsPastEnd : Search → ℕ → Type 0
-IsPastEnd q place = (length (all q) ≤ place) × (place_after q place ≡ place)
+-- the rank is past the end of the listing, and stays
+abbrev pub IsPastListing : Search → ℕ → Type 0
+IsPastListing q place = (length (all q) ≤ place) × (place_after q place ≡ place)
 
--- the place is one of the listing, and the next one is one further on
-abbrev pub GoesOn : Search → ℕ → Type 0
-GoesOn q place = (place < length (all q)) × (place_after q place ≡ place + 1)
+-- the rank is one of the listing, and the next one is one further on
+abbrev pub IsInListing : Search → ℕ → Type 0
+IsInListing q place = (place < length (all q)) × (place_after q place ≡ place + 1)
 
 -- the pattern of an occurrence
-abbrev pub its_pattern : Search → Occurrence → List ℕ
-its_pattern q m = pattern_of q.patterns m.pattern
+abbrev pub matched_pattern : Search → Occurrence → List ℕ
+matched_pattern q m = pattern_of q.patterns m.pattern
 
 -- what this gives, if anything, lies in the span of the input, where that ends within the haystack
 abbrev pub AnswerLiesIn : (Built → InputView → Option Occurrence) → Type 0

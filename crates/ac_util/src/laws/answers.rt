@@ -7,7 +7,7 @@ ghost use Rattle.ac_util.specs.declared.search.MatchKind.{MatchKind};
 ghost use Rattle.ac_util.specs.declared.search.MatchKind.TheVariants.{Standard};
 ghost use Rattle.ac_util.specs.Built.{Built, find_result, search_in, walk_result};
 ghost use Rattle.ac_util.specs.InputView.{InputView};
-ghost use Rattle.ac_util.specs.Laws.{AllLieIn, AnswerLiesIn, AreAlike, CutsNoCharacter, Decides, EarliestIsStandard, GoesOn, HoldsBack, IsPastEnd, MatchesStay, SettledStays, StayingIsDecided, StepsKeep, StepsLeaveBeginning, StepsLeaveWhole, WalkBegins, WalkEnds, WalkGoesOn, its_pattern, most_matches};
+ghost use Rattle.ac_util.specs.Laws.{AllLieIn, AnswerLiesIn, AreAlike, CutsNoCharacter, Decides, EarliestIsStandard, HoldsBack, IsInListing, IsPastListing, MatchesStay, SettledStays, StayingIsDecided, StepsKeep, StepsLeaveBeginning, StepsLeaveWhole, WalkBegins, WalkEnds, WalkGoesOn, matched_pattern, most_matches};
 ghost use Rattle.ac_util.specs.Listing.{all, IsBefore, item_at};
 ghost use Rattle.ac_util.specs.Occurrence.{Occurrence};
 ghost use Rattle.ac_util.specs.Pick.{IsPick, order_of, pick};
@@ -50,8 +50,8 @@ pub fn listing_is_exact()
 /// and all items were given. Call this in a loop over the ranks of a listing: the number of items that are left is its
 /// measure.
 pub fn listing_goes_on()
-    ensures ends { (q : Search) (place : ℕ) → item_at q place ≡ None → IsPastEnd q place }
-    ensures goes_on { (q : Search) (place : ℕ) (m : Occurrence) → item_at q place ≡ Some m → GoesOn q place }
+    ensures ends { (q : Search) (place : ℕ) → item_at q place ≡ None → IsPastListing q place }
+    ensures goes_on { (q : Search) (place : ℕ) (m : Occurrence) → item_at q place ≡ Some m → IsInListing q place }
 {}
 
 /// Bytes outside the span never count: what occurs in it is what occurs in its bytes alone. In a span without
@@ -59,7 +59,7 @@ pub fn listing_goes_on()
 pub fn only_the_span_counts()
     ensures cut { (q : Search) (m : Occurrence) → q.low ≤ q.high
         → Occurs (cut q) m ↔ Occurs q (outward q.low m) }
-    ensures empty { (q : Search) (m : Occurrence) → q.low ≡ q.high → Occurs q m → its_pattern q m ≡ [] }
+    ensures empty { (q : Search) (m : Occurrence) → q.low ≡ q.high → Occurs q m → matched_pattern q m ≡ [] }
     ensures past_end { (q : Search) (m : Occurrence) → q.high < q.low → ¬ Occurs q m }
 {}
 
