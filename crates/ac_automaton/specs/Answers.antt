@@ -6,7 +6,7 @@ use Rattle.std.specs.declared.io.Error.{Error}
 use Rattle.std.specs.declared.vec.Vec.{Vec}
 use Rattle.ac_util.specs.declared.error.ReplaceError.TheVariants.{Memory}
 use Rattle.ac_util.specs.declared.search.Anchored.{Anchored}
-use Rattle.ac_automaton.specs.Util.{AnswersStream, AnswersUnless, AnswersWhole, Built, exchanged, exchanged_in_text, FailsToReplace, FailsToReplaceWith, InputView, IsStreamRefused, find_refusal, find_result, MakesSteps, MatchError, Occurrence, overlapping_iter_refusal, overlapping_refusal, Reading, replace_refusal, replaced, ReplaceError, ReplacesStream, ReplacesStreamWith, search_in, start_refusal, StepsLead, stream_refusal, StreamError, Writing}
+use Rattle.ac_automaton.specs.Util.{AnswersStream, AnswersUnless, AnswersWhole, Built, FailsToReplace, FailsToReplaceWith, Reading, ReplacesStream, ReplacesStreamWith, Writing, exchanged, exchanged_in_text, InputView, IsStreamRefused, find_refusal, find_result, MakesSteps, MatchError, Occurrence, overlapping_iter_refusal, overlapping_refusal, replace_refusal, replaced, ReplaceError, search_in, start_refusal, StepsLead, stream_refusal, StreamError}
 use Rattle.ac_automaton.specs.declared.automaton.overlap.OverlappingState.{OverlappingState}
 use Rattle.ac_automaton.specs.Automata.{AutomatonView}
 use Rattle.ac_automaton.specs.Iterators.{Walking, initial_walk}
@@ -67,6 +67,36 @@ abbrev pub BeginsStream : {X : Type 0} → Built → (X → Type 0) → Result X
 BeginsStream built Begun result =
     MatchResult result (λ x. (stream_refusal built ≡ None) × Begun x) (IsStreamRefused (stream_refusal built) ⊤)
 
+-- a closure of a type that is called with a match, its slice and a destination of type D, and answers by A
+abbrev pub Calling : Type 0 → Type 0 → Type 0 → Type 1
+Calling F D A = Mut F (Bor Occurrence × (Bor (List ℕ) × (MutBor D × Unit {0}))) (A × (MutBor D × Unit {0}))
+
+-- a replacement by a closure in bytes, and in a text whose matches cut no character
+abbrev pub ExchangesBytes : {F Z : Type 0} → Calling F (Vec ℕ Z) Bool → Built → List ℕ → F → Vec ℕ Z → Vec ℕ Z
+    → Result (Unit {0}) ReplaceError → Type 0
+ExchangesBytes closures = MakesStepsBy closures (λ d. d.items) exchanged
+
+abbrev pub ExchangesText : {F Z : Type 0} → Calling F (String Z) Bool → Built → List ℕ → F → String Z → String Z
+    → Result (Unit {0}) ReplaceError → Type 0
+ExchangesText closures = MakesStepsBy closures (λ d. string_bytes d) exchanged_in_text
+
+-- a reader's and a writer's type, by what they were told; and what is replaced between them
+module _ {R W : Type 0} (reads : R → Reading) (writes : W → Writing) (ends : Bool) (built : Built) where
+  -- the stream was replaced by a list of texts, or that has failed; where it is refused nothing was read or written
+  abbrev pub AnswersStreamTexts : List (List ℕ) → R → R → W → W → Result (Unit {0}) StreamError → Type 0
+  AnswersStreamTexts texts reader new_reader writer new_writer result =
+      AnswersStream (stream_refusal built) ((new_reader ≡ reader) × (new_writer ≡ writer))
+      (ReplacesStream built texts (writes writer) (writes new_writer) ends (reads reader) (reads new_reader))
+      (FailsToReplace built texts (writes writer) (writes new_writer) ends (reads reader) (reads new_reader)) result
+
+  -- the same by a closure
+  abbrev pub AnswersStreamCalls : {F : Type 0} → Calling F W (Result (Unit {0}) Error) → F → R → R → W → W
+      → Result (Unit {0}) StreamError → Type 0
+  AnswersStreamCalls closures closure reader new_reader writer new_writer result =
+      AnswersStream (stream_refusal built) ((new_reader ≡ reader) × (new_writer ≡ writer))
+      (ReplacesStreamWith writes closures built closure writer ends (reads reader) (reads new_reader) new_writer)
+      (FailsToReplaceWith writes closures built closure writer ends (reads reader) (reads new_reader) new_writer) result
+
 -- the whole is the haystack with its matches exchanged for texts, as a text, whose matches cut no character, or in bytes
 abbrev pub IsReplacedText : {Z : Type 0} → Built → List ℕ → List (List ℕ) → String Z → Type 0
 IsReplacedText built haystack texts whole =
@@ -75,50 +105,17 @@ IsReplacedText built haystack texts whole =
 abbrev pub AreReplacedBytes : {Z : Type 0} → Built → List ℕ → List (List ℕ) → Vec ℕ Z → Type 0
 AreReplacedBytes built haystack texts whole = whole.items ≡ replaced haystack texts (exchanged built haystack)
 
--- what `MakesStepsBy` says of a text, and of bytes
-abbrev pub ExchangesText : {F Z : Type 0}
-    → Mut F (Bor Occurrence × (Bor (List ℕ) × (MutBor (String Z) × Unit {0}))) (Bool × (MutBor (String Z) × Unit {0}))
-    → Built → List ℕ → F → String Z → String Z → Result (Unit {0}) ReplaceError → Type 0
-ExchangesText closures built haystack closure old new result =
-    MakesStepsBy closures string_bytes exchanged_in_text built haystack closure old new result
-
-abbrev pub ExchangesBytes : {F Z : Type 0}
-    → Mut F (Bor Occurrence × (Bor (List ℕ) × (MutBor (Vec ℕ Z) × Unit {0}))) (Bool × (MutBor (Vec ℕ Z) × Unit {0}))
-    → Built → List ℕ → F → Vec ℕ Z → Vec ℕ Z → Result (Unit {0}) ReplaceError → Type 0
-ExchangesBytes closures built haystack closure old new result =
-    MakesStepsBy closures (λ d. d.items) exchanged built haystack closure old new result
-
--- where it isn't refused, such a replacement makes all of its steps, or those up to an append that was refused
-abbrev pub StepsInText : {F Z E : Type 0}
-    → Mut F (Bor Occurrence × (Bor (List ℕ) × (MutBor (String Z) × Unit {0}))) (Bool × (MutBor (String Z) × Unit {0}))
-    → Built → List ℕ → F → String Z → String Z → Result (Unit {0}) E → Type 0
+-- a replacement by a closure that nothing refuses makes all of its steps, or those up to an append that was refused
+abbrev pub StepsInText : {F Z E : Type 0} → Calling F (String Z) Bool → Built → List ℕ → F → String Z → String Z
+    → Result (Unit {0}) E → Type 0
 StepsInText closures built haystack closure old new result =
     MatchResult result
     (λ done. StepsLead closures string_bytes haystack (exchanged_in_text built haystack) closure old None new)
     (λ e. StepsLead closures string_bytes haystack (exchanged_in_text built haystack) closure old (Some Memory) new)
 
-abbrev pub StepsInBytes : {F Z E : Type 0}
-    → Mut F (Bor Occurrence × (Bor (List ℕ) × (MutBor (Vec ℕ Z) × Unit {0}))) (Bool × (MutBor (Vec ℕ Z) × Unit {0}))
-    → Built → List ℕ → F → Vec ℕ Z → Vec ℕ Z → Result (Unit {0}) E → Type 0
+abbrev pub StepsInBytes : {F Z E : Type 0} → Calling F (Vec ℕ Z) Bool → Built → List ℕ → F → Vec ℕ Z → Vec ℕ Z
+    → Result (Unit {0}) E → Type 0
 StepsInBytes closures built haystack closure old new result =
     MatchResult result
     (λ done. StepsLead closures (λ d. d.items) haystack (exchanged built haystack) closure old None new)
     (λ e. StepsLead closures (λ d. d.items) haystack (exchanged built haystack) closure old (Some Memory) new)
-
--- the matches of a stream are exchanged for texts; or that is refused, and nothing changes; or it ends early. `read` and
--- `written` give what is seen of the reader and of the writer
-abbrev pub ExchangesStream : {R W : Type 0} → Bool → (R → Reading) → (W → Writing) → Built → List (List ℕ)
-    → R → W → R → W → Result (Unit {0}) StreamError → Type 0
-ExchangesStream ends read written built texts reader writer new_reader new_writer result =
-    AnswersStream (stream_refusal built) ((new_reader ≡ reader) × (new_writer ≡ writer))
-    (ReplacesStream built texts (written writer) (written new_writer) ends (read reader) (read new_reader))
-    (FailsToReplace built texts (written writer) (written new_writer) ends (read reader) (read new_reader)) result
-
--- the same by a closure, which writes what stands for each match
-abbrev pub ExchangesStreamBy : {R W F : Type 0} → Bool → (R → Reading) → (W → Writing)
-    → Mut F (Bor Occurrence × (Bor (List ℕ) × (MutBor W × Unit {0}))) (Result (Unit {0}) Error × (MutBor W × Unit {0}))
-    → Built → F → R → W → R → W → Result (Unit {0}) StreamError → Type 0
-ExchangesStreamBy ends read written closures built closure reader writer new_reader new_writer result =
-    AnswersStream (stream_refusal built) ((new_reader ≡ reader) × (new_writer ≡ writer))
-    (ReplacesStreamWith written closures built closure writer ends (read reader) (read new_reader) new_writer)
-    (FailsToReplaceWith written closures built closure writer ends (read reader) (read new_reader) new_writer) result

@@ -1,7 +1,7 @@
 //! Searches of streams, and replacement in them.
 ghost use Rattle.std.specs.Prelude.{◌≡◌, Err, IfErr, IfOk, MatchResult, None, Ok, length};
 ghost use Rattle.ac_automaton.specs.Util.{bytes_of, stream_refusal};
-ghost use Rattle.ac_automaton.specs.Answers.{BeginsStream, ExchangesStream, ExchangesStreamBy};
+ghost use Rattle.ac_automaton.specs.Answers.{AnswersStreamCalls, AnswersStreamTexts, BeginsStream};
 ghost use Rattle.ac_automaton.specs.Streams.{GivesRead, StreamsOn, kept_len};
 ghost use Rattle.ac_search.specs.StreamsBegun.{HasBegun, HasBegunOver};
 
@@ -97,8 +97,8 @@ impl<A: Allocator> AhoCorasick<A> {
         texts: &[&[u8]],
     ) -> Result<(), StreamError>
         requires texts { length texts.now ≡ length self.now.built.patterns }
-        ensures { ExchangesStream R.empty_means_end R.told W.told self.now.built (bytes_of texts.now)
-            reader.old writer.old reader.new writer.new result }
+        ensures { AnswersStreamTexts R.told W.told R.empty_means_end self.now.built (bytes_of texts.now)
+            reader.old reader.new writer.old writer.new result }
     {
         check_start(self.start_kind, Anchored::No)?;
         match &self.engine {
@@ -152,8 +152,8 @@ impl<A: Allocator> AhoCorasick<A> {
     where
         F: FnMut(&Match, &[u8], &mut W) -> io::Result<()>,
         requires callable { F.IsAlwaysCallable closure }
-        ensures { ExchangesStreamBy R.empty_means_end R.told W.told F.FnMut self.now.built closure
-            reader.old writer.old reader.new writer.new result }
+        ensures { AnswersStreamCalls R.told W.told R.empty_means_end self.now.built F.FnMut closure
+            reader.old reader.new writer.old writer.new result }
     {
         check_start(self.start_kind, Anchored::No)?;
         match &self.engine {
