@@ -240,8 +240,8 @@ ForState trie s P =
     (g : TrieView) (u : Node) → g.transitions ≡ trie.transitions.now → HasState g trie.states.now s u → P g u
 
 -- a byte leads from the state to the next one
-abbrev pub StepsTo : TrieSlices → Anchored → ℕ → ℕ → ℕ → Type 0
-StepsTo trie anchored s byte next =
+abbrev pub FollowsTo : TrieSlices → Anchored → ℕ → ℕ → ℕ → Type 0
+FollowsTo trie anchored s byte next =
     ForState trie s (λ g u. slice_get g.nodes next
     ≡ Some (step g.kind g.patterns anchored u (plain_byte g.ignores_case byte)))
 

@@ -1,7 +1,8 @@
 -- Searchers that give the same answers: what they were built from is called one and other.
 use Rattle.std.specs.Prelude.{◌≡◌, ℕ, List}
-use Rattle.ac_automaton.specs.Util.{all, Built, exchanged, exchanged_in_text, find_refusal, find_result, InputView, IsSettledBy, kept_back_len, MatchKind, overlapping_iter_refusal, overlapping_refusal, replace_refusal, search_in, stream_refusal, stream_result}
+use Rattle.ac_automaton.specs.Util.{all, Built, exchanged, exchanged_in_text, find_refusal, find_result, InputView, IsSettledBy, kept_back_len, MatchKind, overlapping_iter_refusal, overlapping_refusal, replace_refusal, search_in, StartKind, stream_refusal, stream_result}
 use Rattle.ac_search.specs.Searchers.{IsBuilt, Searcher, Settings}
+use Rattle.ac_search.specs.StreamsBegun.{starting_by}
 
 -- every find is refused alike, and returns the same
 abbrev pub FindAlike : Built → Built → Type 0
@@ -29,10 +30,11 @@ StreamAlike one other =
     (bytes : List ℕ) → (stream_refusal one ≡ stream_refusal other) × (stream_result one bytes ≡ stream_result other bytes)
     × (kept_back_len one bytes ≡ kept_back_len other bytes)
 
--- where one is settled, by so many matches, the other is too
-abbrev pub SettlesAs : MatchKind → Built → Built → Type 0
-SettlesAs kind one other =
-    (bytes : List ℕ) (given place : ℕ) → IsSettledBy kind one bytes given place → IsSettledBy kind other bytes given place
+-- as far as a stream is settled where these starts are supported, it is settled by what was built
+abbrev pub SettlesAlike : MatchKind → Built → StartKind → Type 0
+SettlesAlike kind built start =
+    (bytes : List ℕ) (given place : ℕ) → IsSettledBy kind (starting_by built start) bytes given place
+    → IsSettledBy kind built bytes given place
 
 -- builds by these settings over the same patterns, which share the match kind, the case setting and the start kind, give
 -- searchers that answer alike

@@ -5,8 +5,8 @@ use Rattle.std.specs.List.{AllByRecursion}
 use Rattle.ac_automaton.specs.Util.{all, Built, find_result, InputView, IsBetweenCharacters, Occurrence, Occurs, search_in, walk_result}
 
 -- some pattern occurs in the span
-abbrev pub SomethingOccurs : Built → InputView → Type 0
-SomethingOccurs built input = (m : Occurrence) × Occurs (search_in built input) m
+abbrev pub SomeOccurs : Built → InputView → Type 0
+SomeOccurs built input = (m : Occurrence) × Occurs (search_in built input) m
 
 -- each match that a find returns has the property
 abbrev pub FindsOnly : (Built → InputView → Occurrence → Type 0) → Built → InputView → Type 0

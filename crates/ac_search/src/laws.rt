@@ -6,12 +6,11 @@ ghost use Rattle.ac_automaton.specs.Util.{AreTexts, InputView, input_of, Built, 
 ghost use Rattle.ac_automaton.specs.Iterators.{GoesOn};
 ghost use Rattle.ac_automaton.specs.Overlaps.{ListsNext};
 ghost use Rattle.ac_automaton.specs.Streams.{GivesStreamItem, items_left};
-ghost use Rattle.ac_search.specs.Alike.{BuildAlike, FindAlike, ListAlike, ReplaceAlike, SettlesAs, StreamAlike};
+ghost use Rattle.ac_search.specs.Alike.{BuildAlike, FindAlike, ListAlike, ReplaceAlike, SettlesAlike, StreamAlike};
 ghost use Rattle.ac_search.specs.Ending.{EndsAtError, LeavesLess, StaysEnded};
-ghost use Rattle.ac_search.specs.Only.{CutsNoCharacter, EndsInside, FindsOnly, IsNumberedBelow, ListsOnly, SomethingOccurs, WalksFew, WalksOnly};
+ghost use Rattle.ac_search.specs.Only.{CutsNoCharacter, EndsInside, FindsOnly, IsNumberedBelow, ListsOnly, SomeOccurs, WalksFew, WalksOnly};
 ghost use Rattle.ac_search.specs.Order.{WalksInOrder};
 ghost use Rattle.ac_search.specs.Searchers.{Settings};
-ghost use Rattle.ac_search.specs.StreamsBegun.{starting_by};
 ghost use Rattle.ac_search.specs.Words.{AreWords};
 ghost use Rattle.ac_search.specs.declared.ahocorasick.choice.AhoCorasickKind.{AhoCorasickKind};
 ghost use Rattle.ac_engines.specs.declared.nfa.contiguous.format.Format.{Format};
@@ -103,7 +102,7 @@ pub fn answers_cut_no_character<A: Allocator>(searcher: &AhoCorasick<A>, input: 
 
 /// A find returns a match exactly if something occurs, whatever the match kind and `earliest`.
 pub fn finds_if_something_occurs()
-    ensures { (built : Built) (input : InputView) → SomethingOccurs built input ↔ (find_result built input ≢ None) }
+    ensures { (built : Built) (input : InputView) → SomeOccurs built input ↔ (find_result built input ≢ None) }
 {}
 
 /// The shortest pattern has no bytes exactly if some pattern is empty.
@@ -159,7 +158,7 @@ pub fn iterators_end()
 /// The search that `AhoCorasick::try_stream_finder` returns is for what its searcher was built from, but its engine may
 /// support more starts. Call this where what that search says of a failed read has to be said of the searcher.
 pub fn streams_settle_alike()
-    ensures { (kind : MatchKind) (built : Built) (start : StartKind) → SettlesAs kind (starting_by built start) built }
+    ensures { (kind : MatchKind) (built : Built) (start : StartKind) → SettlesAlike kind built start }
 {}
 
 /// Two values of `AhoCorasickKind` compare equal exactly if they are the same, and a clone of one is that value.

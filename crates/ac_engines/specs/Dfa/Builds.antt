@@ -66,9 +66,10 @@ AnswersDfaFrom settings nfa result =
 abbrev pub BuildsDfa : DfaSettings → List (List ℕ) → Result DfaView BuildError → Type 0
 BuildsDfa settings patterns result = AnswersBuild (IsDfaBuilt settings) (dfa_refusal_by settings) patterns result
 
--- how many entries the table has where there are so many states, or the refusal of its rows
-abbrev pub AnswersLen : StartKind → List ℕ → ℕ → Result ℕ BuildError → Type 0
-AnswersLen start_kind classes states result =
+-- how many entries the table of a DFA has that is built from this trie, or the refusal of its rows
+abbrev pub AnswersLen : StartKind → List ℕ → Trie → Result ℕ BuildError → Type 0
+AnswersLen start_kind classes trie result =
+    let states = state_count trie.built.kind (plain_of trie.built) in
     MatchResult result
     (λ len. (len ≡ table_rows start_kind states * stride classes) × (rows_refusal start_kind classes states ≡ None))
     (λ e. rows_refusal start_kind classes states ≡ Some e)

@@ -1,7 +1,7 @@
 //! Builds of a DFA.
 ghost use Rattle.std.specs.Prelude.{◌≡◌, ◌<◌, ◌≤◌, ◌+◌, ◌-◌, ◌*◌, ◌^◌, IfOk, List, length};
-ghost use Rattle.ac_automaton.specs.Util.{bytes_of, GREATEST, Node, StateIdOverflow, state_count, stride};
-ghost use Rattle.ac_automaton.specs.Prelude.{AreNodes, plain_of};
+ghost use Rattle.ac_automaton.specs.Util.{bytes_of, GREATEST, Node, StateIdOverflow, stride};
+ghost use Rattle.ac_automaton.specs.Prelude.{AreNodes};
 ghost use Rattle.ac_util.specs.declared.search.StartKind;
 ghost use Rattle.ac_automaton.specs.Builds.{fits};
 ghost use Rattle.ac_engines.specs.Dfa.Builds.{AnswersDfaFrom, AnswersLen, BuildsDfa, dfa_refusal, usual_dfa_settings};
@@ -220,7 +220,7 @@ fn len_for<A: Allocator>(
     start_kind: StartKind,
     classes: &ByteClasses,
 ) -> Result<u64, BuildError>
-    ensures len { AnswersLen start_kind classes.now (state_count nfa.now.built.kind (plain_of nfa.now.built)) result }
+    ensures len { AnswersLen start_kind classes.now nfa.now result }
     ensures numbered { (nodes : List Node) × AreNodes nfa.now nodes }
 {
     let rows = table_rows(start_kind, nfa.states_len()) as u64;

@@ -5,7 +5,7 @@ ghost use Rattle.std.specs.Iterator.Runs.{YieldsInOrder};
 ghost use Rattle.ac_automaton.specs.Util.{input_of, find_refusal, find_result};
 ghost use Rattle.ac_automaton.specs.Answers.{AnswersFind};
 ghost use Rattle.ac_automaton.specs.Iterators.{GoesOn};
-ghost use Rattle.ac_search.specs.Only.{SomethingOccurs};
+ghost use Rattle.ac_search.specs.Only.{SomeOccurs};
 ghost use Rattle.ac_search.specs.Searchers.{BeginsWalk, initial_walk_by};
 
 use super::engine::{Engine, EngineFindIter};
@@ -32,7 +32,7 @@ impl<A: Allocator> AhoCorasick<A> {
     #[inline]
     pub fn is_match(&self, input: Input<'_>) -> bool
         requires supported { find_refusal self.now.built (input_of input) ≡ None }
-        ensures { IsTrue result ↔ SomethingOccurs self.now.built (input_of input.entry) }
+        ensures { IsTrue result ↔ SomeOccurs self.now.built (input_of input.entry) }
     {
         self.find(input.earliest(true)).is_some()
     }

@@ -2,7 +2,7 @@
 ghost use Rattle.std.specs.Prelude.{◌≡◌, ◌+◌, ◌-◌, ◌<◌, ◌≤◌, IfSome, Some, length, slice_index};
 ghost use Rattle.std.specs.List.Sorted.{IsStrictlyIncreasing};
 ghost use Rattle.ac_automaton.specs.Util.{more_looks, Node, step};
-ghost use Rattle.ac_automaton.specs.Tries.{HasState, IsRoot, IsStateAmong, IsTarget, StaysUnanchored, StepsTo, TakesLooks, TakesRest, TrieView, all_matches, transition_bytes, dead_state, transitions_of};
+ghost use Rattle.ac_automaton.specs.Tries.{HasState, IsRoot, IsStateAmong, IsTarget, StaysUnanchored, FollowsTo, TakesLooks, TakesRest, TrieView, all_matches, transition_bytes, dead_state, transitions_of};
 
 use crate::automaton::MatchRest;
 use ac_util::looks::Looks;
@@ -169,7 +169,7 @@ pub(crate) fn follow(
 ) -> StateID
     requires state { IsStateAmong trie from }
     requires rooted { IfSome trie.root (λ root. IsRoot trie.transitions.now trie.states.now root.now) }
-    ensures steps { StepsTo trie.entry anchored from byte result }
+    ensures steps { FollowsTo trie.entry anchored from byte result }
     ensures looks { TakesLooks trie.entry anchored from byte looks.old looks.new }
     ensures unanchored { StaysUnanchored trie.entry from result }
 {
