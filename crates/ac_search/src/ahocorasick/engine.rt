@@ -15,6 +15,26 @@ use std::alloc::{AllocError, Allocator};
 use std::io;
 use std::rc::Rc;
 
+/// Does the same with a value of each engine's type. With a second name, what that gives is made a value of that enum.
+macro_rules! by_engine {
+    ($kinds:ident, $value:expr, $it:ident => $does:expr) => {
+        match $value {
+            $kinds::Noncontiguous($it) => $does,
+            $kinds::Contiguous($it) => $does,
+            $kinds::Dfa($it) => $does,
+        }
+    };
+    ($kinds:ident, $value:expr, $it:ident => $into:ident, $does:expr) => {
+        match $value {
+            $kinds::Noncontiguous($it) => $into::Noncontiguous($does),
+            $kinds::Contiguous($it) => $into::Contiguous($does),
+            $kinds::Dfa($it) => $into::Dfa($does),
+        }
+    };
+}
+
+pub(super) use by_engine;
+
 /// The engine of a searcher, which its clones share.
 #[derive(Drop)]
 pub(super) enum Engine<A: Allocator> {
@@ -34,11 +54,7 @@ impl<A: Allocator> Engine<A> {
         ensures states { IfOk result (λ engine. states_of engine ≡ states_of self.now) }
         ensures kind { IfOk result (λ engine. name_of engine ≡ name_of self.now) }
     {
-        match self {
-            Engine::Noncontiguous(nfa) => Ok(Engine::Noncontiguous(nfa.clone()?)),
-            Engine::Contiguous(nfa) => Ok(Engine::Contiguous(nfa.clone()?)),
-            Engine::Dfa(dfa) => Ok(Engine::Dfa(dfa.clone()?)),
-        }
+        Ok(by_engine!(Engine, self, engine => Engine, engine.clone()?))
     }
 
     /// Returns the engine's name.
@@ -56,20 +72,12 @@ impl<A: Allocator> Engine<A> {
     pub(super) fn common(&self) -> &Common<A>
         ensures { result.now ≡ common_of (built_of self.now) (wants_prefilter_of self.now) }
     {
-        match self {
-            Engine::Noncontiguous(nfa) => nfa.as_ref().common(),
-            Engine::Contiguous(nfa) => nfa.as_ref().common(),
-            Engine::Dfa(dfa) => dfa.as_ref().common(),
-        }
+        by_engine!(Engine, self, engine => engine.as_ref().common())
     }
 
     /// Returns about how many bytes of memory the engine takes. Nothing is promised about the number.
     pub(super) fn memory_usage(&self) -> usize {
-        match self {
-            Engine::Noncontiguous(nfa) => nfa.as_ref().memory_usage(),
-            Engine::Contiguous(nfa) => nfa.as_ref().memory_usage(),
-            Engine::Dfa(dfa) => dfa.as_ref().memory_usage(),
-        }
+        by_engine!(Engine, self, engine => engine.as_ref().memory_usage())
     }
 }
 
@@ -87,11 +95,7 @@ impl<'a, 'h, A: Allocator> EngineFindIter<'a, 'h, A> {
     pub(super) fn next(&mut self) -> Option<Match>
         ensures { GoesOn (walking_in self.old) result (walking_in self.new) }
     {
-        match self {
-            EngineFindIter::Noncontiguous(matches) => matches.next(),
-            EngineFindIter::Contiguous(matches) => matches.next(),
-            EngineFindIter::Dfa(matches) => matches.next(),
-        }
+        by_engine!(EngineFindIter, self, matches => matches.next())
     }
 }
 
@@ -109,11 +113,7 @@ impl<'a, 'h, A: Allocator> EngineFindOverlappingIter<'a, 'h, A> {
     pub(super) fn next(&mut self) -> Option<Match>
         ensures { ListsNext (listing_in self.old) result (listing_in self.new) }
     {
-        match self {
-            EngineFindOverlappingIter::Noncontiguous(items) => items.next(),
-            EngineFindOverlappingIter::Contiguous(items) => items.next(),
-            EngineFindOverlappingIter::Dfa(items) => items.next(),
-        }
+        by_engine!(EngineFindOverlappingIter, self, items => items.next())
     }
 }
 
@@ -133,44 +133,28 @@ impl<'a, A: Allocator, Z: Allocator> EngineStreamFinder<'a, A, Z> {
     pub(super) fn next<R: Source>(&mut self, reader: &mut R) -> Option<Result<Match, StreamError>>
         ensures { EngineStreamsOn R.empty_means_end R.told self.old result self.new reader.old reader.new }
     {
-        match self {
-            EngineStreamFinder::Noncontiguous(finder) => finder.next(reader),
-            EngineStreamFinder::Contiguous(finder) => finder.next(reader),
-            EngineStreamFinder::Dfa(finder) => finder.next(reader),
-        }
+        by_engine!(EngineStreamFinder, self, finder => finder.next(reader))
     }
 
     /// Returns the next match of the bytes that were read, without reading more of them.
     pub(super) fn next_read(&mut self) -> Option<Match>
         ensures { GivesRead (streaming_in self.old) result (streaming_in self.new) }
     {
-        match self {
-            EngineStreamFinder::Noncontiguous(finder) => finder.next_read(),
-            EngineStreamFinder::Contiguous(finder) => finder.next_read(),
-            EngineStreamFinder::Dfa(finder) => finder.next_read(),
-        }
+        by_engine!(EngineStreamFinder, self, finder => finder.next_read())
     }
 
     /// Returns how many bytes of the stream are kept.
     pub(super) fn kept_len(&self) -> usize
         ensures { result ≡ kept_len (streaming_in self.now) }
     {
-        match self {
-            EngineStreamFinder::Noncontiguous(finder) => finder.kept_len(),
-            EngineStreamFinder::Contiguous(finder) => finder.kept_len(),
-            EngineStreamFinder::Dfa(finder) => finder.kept_len(),
-        }
+        by_engine!(EngineStreamFinder, self, finder => finder.kept_len())
     }
 
     /// Returns how many bytes the buffer has.
     pub(super) fn buffer_len(&self) -> usize
         ensures { result ≡ (streaming_in self.now).buffer }
     {
-        match self {
-            EngineStreamFinder::Noncontiguous(finder) => finder.buffer_len(),
-            EngineStreamFinder::Contiguous(finder) => finder.buffer_len(),
-            EngineStreamFinder::Dfa(finder) => finder.buffer_len(),
-        }
+        by_engine!(EngineStreamFinder, self, finder => finder.buffer_len())
     }
 }
 

@@ -8,7 +8,7 @@ ghost use Rattle.ac_automaton.specs.Iterators.{GoesOn};
 ghost use Rattle.ac_search.specs.Only.{SomeOccurs};
 ghost use Rattle.ac_search.specs.Searchers.{BeginsWalk, initial_walk_by};
 
-use super::engine::{Engine, EngineFindIter};
+use super::engine::{Engine, EngineFindIter, by_engine};
 use super::{AhoCorasick, check_start};
 use ac_automaton::automaton::Automaton;
 use ac_util::error::MatchError;
@@ -110,11 +110,7 @@ impl<A: Allocator> AhoCorasick<A> {
         ensures { AnswersFind self.now.built (input_of input.entry) result }
     {
         check_start(self.start_kind, input.get_anchored())?;
-        match &self.engine {
-            Engine::Noncontiguous(nfa) => nfa.as_ref().try_find(input),
-            Engine::Contiguous(nfa) => nfa.as_ref().try_find(input),
-            Engine::Dfa(dfa) => dfa.as_ref().try_find(input),
-        }
+        by_engine!(Engine, &self.engine, engine => engine.as_ref().try_find(input))
     }
 
     /// Returns what `find_iter` returns, or an error where the searcher doesn't support the search. This ports
@@ -131,15 +127,8 @@ impl<A: Allocator> AhoCorasick<A> {
         ensures runs { YieldsInOrder GoesOn (λ w. w.rest) }
     {
         check_start(self.start_kind, input.get_anchored())?;
-        let matches = match &self.engine {
-            Engine::Noncontiguous(nfa) => {
-                EngineFindIter::Noncontiguous(nfa.as_ref().try_find_iter(input)?)
-            }
-            Engine::Contiguous(nfa) => {
-                EngineFindIter::Contiguous(nfa.as_ref().try_find_iter(input)?)
-            }
-            Engine::Dfa(dfa) => EngineFindIter::Dfa(dfa.as_ref().try_find_iter(input)?),
-        };
+        let matches =
+            by_engine!(Engine, &self.engine, engine => EngineFindIter, engine.as_ref().try_find_iter(input)?);
         Ok(FindIter { matches })
     }
 }

@@ -7,7 +7,7 @@ ghost use Rattle.ac_automaton.specs.Overlaps.{ListsNext};
 ghost use Rattle.ac_search.specs.Places.{FindsItem, HasPlace, IsNextPlace, next_item};
 ghost use Rattle.ac_search.specs.Searchers.{BeginsListing, initial_listing_by};
 
-use super::engine::{Engine, EngineFindOverlappingIter};
+use super::engine::{Engine, EngineFindOverlappingIter, by_engine};
 use super::{AhoCorasick, check_start};
 use ac_automaton::automaton::{Automaton, OverlappingState};
 use ac_util::error::MatchError;
@@ -99,11 +99,7 @@ impl<A: Allocator> AhoCorasick<A> {
         ensures { FindsItem self.now (input_of input.entry) state.old result state.new }
     {
         check_start(self.start_kind, input.get_anchored())?;
-        match &self.engine {
-            Engine::Noncontiguous(nfa) => nfa.as_ref().try_find_overlapping(input, state),
-            Engine::Contiguous(nfa) => nfa.as_ref().try_find_overlapping(input, state),
-            Engine::Dfa(dfa) => dfa.as_ref().try_find_overlapping(input, state),
-        }
+        by_engine!(Engine, &self.engine, engine => engine.as_ref().try_find_overlapping(input, state))
     }
 
     /// Returns what `find_overlapping_iter` returns, or an error where the searcher doesn't support the search. This
@@ -120,20 +116,8 @@ impl<A: Allocator> AhoCorasick<A> {
         ensures runs { YieldsInOrder ListsNext (λ l. l.rest) }
     {
         check_start(self.start_kind, input.get_anchored())?;
-        let items = match &self.engine {
-            Engine::Noncontiguous(nfa) => {
-                let items = nfa.as_ref().try_find_overlapping_iter(input)?;
-                EngineFindOverlappingIter::Noncontiguous(items)
-            }
-            Engine::Contiguous(nfa) => {
-                let items = nfa.as_ref().try_find_overlapping_iter(input)?;
-                EngineFindOverlappingIter::Contiguous(items)
-            }
-            Engine::Dfa(dfa) => {
-                let items = dfa.as_ref().try_find_overlapping_iter(input)?;
-                EngineFindOverlappingIter::Dfa(items)
-            }
-        };
+        let items =
+            by_engine!(Engine, &self.engine, engine => EngineFindOverlappingIter, engine.as_ref().try_find_overlapping_iter(input)?);
         Ok(FindOverlappingIter { items })
     }
 }

@@ -3,7 +3,7 @@ ghost use Rattle.std.specs.Prelude.{◌≡◌, Err, IfErr, IfOk, MatchResult, No
 ghost use Rattle.ac_automaton.specs.Util.{bytes_of, replace_refusal};
 ghost use Rattle.ac_automaton.specs.Answers.{AnswersBytes, AnswersText, AreReplacedBytes, ExchangesBytes, ExchangesText, IsReplacedText, StepsInBytes, StepsInText};
 
-use super::engine::Engine;
+use super::engine::{Engine, by_engine};
 use super::{AhoCorasick, check_start};
 use ac_automaton::automaton::Automaton;
 use ac_util::error::ReplaceError;
@@ -148,11 +148,7 @@ impl<A: Allocator> AhoCorasick<A> {
         ensures { AnswersText self.now.built haystack.now (bytes_of texts.now) result }
     {
         check_start(self.start_kind, Anchored::No)?;
-        match &self.engine {
-            Engine::Noncontiguous(nfa) => nfa.as_ref().try_replace_all(alloc, haystack, texts),
-            Engine::Contiguous(nfa) => nfa.as_ref().try_replace_all(alloc, haystack, texts),
-            Engine::Dfa(dfa) => dfa.as_ref().try_replace_all(alloc, haystack, texts),
-        }
+        by_engine!(Engine, &self.engine, engine => engine.as_ref().try_replace_all(alloc, haystack, texts))
     }
 
     /// Returns what `replace_all_bytes` returns, or an error where the searcher doesn't support unanchored searches.
@@ -172,13 +168,7 @@ impl<A: Allocator> AhoCorasick<A> {
         ensures { AnswersBytes self.now.built haystack.now (bytes_of texts.now) result }
     {
         check_start(self.start_kind, Anchored::No)?;
-        match &self.engine {
-            Engine::Noncontiguous(nfa) => nfa
-                .as_ref()
-                .try_replace_all_bytes(alloc, haystack, texts),
-            Engine::Contiguous(nfa) => nfa.as_ref().try_replace_all_bytes(alloc, haystack, texts),
-            Engine::Dfa(dfa) => dfa.as_ref().try_replace_all_bytes(alloc, haystack, texts),
-        }
+        by_engine!(Engine, &self.engine, engine => engine.as_ref().try_replace_all_bytes(alloc, haystack, texts))
     }
 
     /// Does what `replace_all_with` does, or returns an error where the searcher doesn't support unanchored searches.
@@ -201,17 +191,7 @@ impl<A: Allocator> AhoCorasick<A> {
         ensures { ExchangesText F.FnMut self.now.built haystack.now exchange destination.old destination.new result }
     {
         check_start(self.start_kind, Anchored::No)?;
-        match &self.engine {
-            Engine::Noncontiguous(nfa) => nfa
-                .as_ref()
-                .try_replace_all_with(haystack, destination, exchange),
-            Engine::Contiguous(nfa) => nfa
-                .as_ref()
-                .try_replace_all_with(haystack, destination, exchange),
-            Engine::Dfa(dfa) => dfa
-                .as_ref()
-                .try_replace_all_with(haystack, destination, exchange),
-        }
+        by_engine!(Engine, &self.engine, engine => engine.as_ref().try_replace_all_with(haystack, destination, exchange))
     }
 
     /// Does what `replace_all_with_bytes` does, or returns an error where the searcher doesn't support unanchored
@@ -233,17 +213,7 @@ impl<A: Allocator> AhoCorasick<A> {
         ensures { ExchangesBytes F.FnMut self.now.built haystack.now exchange destination.old destination.new result }
     {
         check_start(self.start_kind, Anchored::No)?;
-        match &self.engine {
-            Engine::Noncontiguous(nfa) => nfa
-                .as_ref()
-                .try_replace_all_with_bytes(haystack, destination, exchange),
-            Engine::Contiguous(nfa) => nfa
-                .as_ref()
-                .try_replace_all_with_bytes(haystack, destination, exchange),
-            Engine::Dfa(dfa) => dfa
-                .as_ref()
-                .try_replace_all_with_bytes(haystack, destination, exchange),
-        }
+        by_engine!(Engine, &self.engine, engine => engine.as_ref().try_replace_all_with_bytes(haystack, destination, exchange))
     }
 }
 

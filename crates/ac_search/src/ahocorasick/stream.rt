@@ -5,7 +5,7 @@ ghost use Rattle.ac_automaton.specs.Answers.{BeginsStream, ExchangesStream, Exch
 ghost use Rattle.ac_automaton.specs.Streams.{GivesRead, StreamsOn, kept_len};
 ghost use Rattle.ac_search.specs.StreamsBegun.{HasBegun, HasBegunOver};
 
-use super::engine::{Engine, EngineStreamFinder};
+use super::engine::{Engine, EngineStreamFinder, by_engine};
 use super::stream_iter::StreamFindIter;
 use super::{AhoCorasick, check_start};
 use ac_automaton::automaton::{self, Automaton};
@@ -72,9 +72,9 @@ impl<A: Allocator> AhoCorasick<A> {
     /// pattern: `texts[2]` replaces pattern 2. This ports `AhoCorasick::try_stream_replace_all`.
     ///
     /// It writes while it reads: before each read all of the replaced text was written except for the bytes that a
-    /// match to come may still need, which are no more than the longest pattern has. The allocator makes two buffers,
-    /// which never grow: one for what is read, and one of 65,536 bytes for what is written; no other memory is taken.
-    /// The writer isn't flushed. There have to be as many texts as patterns.
+    /// match to come may still need, which are no more than the longest pattern has. The allocator makes one buffer for
+    /// what is read, which never grows; no other memory is taken. Between two reads what is written is gathered, up to
+    /// 8,192 bytes. The writer isn't flushed. There have to be as many texts as patterns.
     ///
     /// # Errors
     /// Those of `try_stream_find_iter`: then nothing was read or written. `Io` where a read or a write failed, and
@@ -101,17 +101,7 @@ impl<A: Allocator> AhoCorasick<A> {
             reader.old writer.old reader.new writer.new result }
     {
         check_start(self.start_kind, Anchored::No)?;
-        match &self.engine {
-            Engine::Noncontiguous(nfa) => nfa
-                .as_ref()
-                .try_stream_replace_all(alloc, reader, writer, texts),
-            Engine::Contiguous(nfa) => nfa
-                .as_ref()
-                .try_stream_replace_all(alloc, reader, writer, texts),
-            Engine::Dfa(dfa) => dfa
-                .as_ref()
-                .try_stream_replace_all(alloc, reader, writer, texts),
-        }
+        by_engine!(Engine, &self.engine, engine => engine.as_ref().try_stream_replace_all(alloc, reader, writer, texts))
     }
 
     /// Writes all bytes that a reader gives, with a call of the closure at each match of `find_iter` over them. This
@@ -156,17 +146,7 @@ impl<A: Allocator> AhoCorasick<A> {
             reader.old writer.old reader.new writer.new result }
     {
         check_start(self.start_kind, Anchored::No)?;
-        match &self.engine {
-            Engine::Noncontiguous(nfa) => nfa
-                .as_ref()
-                .try_stream_replace_all_with(alloc, reader, writer, closure),
-            Engine::Contiguous(nfa) => nfa
-                .as_ref()
-                .try_stream_replace_all_with(alloc, reader, writer, closure),
-            Engine::Dfa(dfa) => dfa
-                .as_ref()
-                .try_stream_replace_all_with(alloc, reader, writer, closure),
-        }
+        by_engine!(Engine, &self.engine, engine => engine.as_ref().try_stream_replace_all_with(alloc, reader, writer, closure))
     }
 
     /// Returns a search of a stream from which nothing was read yet, whose reader is handed to each call. The iterator
@@ -181,20 +161,8 @@ impl<A: Allocator> AhoCorasick<A> {
         ensures { BeginsStream self.now.built (HasBegun self.now.built) result }
     {
         check_start(self.start_kind, Anchored::No)?;
-        let finder = match &self.engine {
-            Engine::Noncontiguous(nfa) => {
-                let finder = automaton::StreamFinder::new(nfa.as_ref(), alloc)?;
-                EngineStreamFinder::Noncontiguous(finder)
-            }
-            Engine::Contiguous(nfa) => {
-                let finder = automaton::StreamFinder::new(nfa.as_ref(), alloc)?;
-                EngineStreamFinder::Contiguous(finder)
-            }
-            Engine::Dfa(dfa) => {
-                let finder = automaton::StreamFinder::new(dfa.as_ref(), alloc)?;
-                EngineStreamFinder::Dfa(finder)
-            }
-        };
+        let finder =
+            by_engine!(Engine, &self.engine, engine => EngineStreamFinder, automaton::StreamFinder::new(engine.as_ref(), alloc)?);
         Ok(StreamFinder { finder })
     }
 }

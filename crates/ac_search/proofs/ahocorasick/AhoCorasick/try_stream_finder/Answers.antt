@@ -4,21 +4,21 @@ use Rattle.ac_automaton.specs.Util.{Built, No, start_refusal, stream_refusal}
 use Rattle.ac_automaton.specs.Prelude.{initial_stream}
 use Rattle.ac_search.specs.Prelude.{built_of}
 use Rattle.ac_search.proofs.Served.{stream-served}
-use Rattle.ac_search.proofs.ahocorasick.AhoCorasick.try_stream_finder.Goals.{in-Noncontiguous+in_ok-finder-in-Noncontiguous, in-Contiguous+in_ok-finder-in-Contiguous, in-Dfa+in_ok-finder-in-Dfa}
+use Rattle.ac_search.proofs.ahocorasick.AhoCorasick.try_stream_finder.Goals.{in-Noncontiguous+in_ok-new-in-Noncontiguous, in-Contiguous+in_ok-new-in-Contiguous, in-Dfa+in_ok-new-in-Dfa}
 use Rattle.ac_search.proofs.ahocorasick.AhoCorasick.try_stream_finder.Goals as goal
 
 -- the engine has the start, so it serves streams as its searcher
 pub returns : goal.returns
 returns g c = elim c.match-self.branch [
-  | in-Noncontiguous+in_ok-finder-in-Noncontiguous w ↦ grind (arith, common_steps, stream-served)
-  | in-Contiguous+in_ok-finder-in-Contiguous w ↦
-      let finder = w.in_ok-finder-in-Contiguous.finder in
-      let begun = w.in_ok-finder-in-Contiguous.ensures in
+  | in-Noncontiguous+in_ok-new-in-Noncontiguous w ↦ grind (arith, common_steps, stream-served)
+  | in-Contiguous+in_ok-new-in-Contiguous w ↦
+      let finder = w.in_ok-new-in-Contiguous.field-0 in
+      let begun = w.in_ok-new-in-Contiguous.ensures in
       let same : w.as_ref-in-Contiguous.result.now.built ≡ built_of c.self.inside.engine = grind (arith, common_steps) in
       let free : start_refusal c.self.inside.start_kind No ≡ None = grind (arith, common_steps) in
       let served = stream-served (built_of c.self.inside.engine) c.self.inside.start_kind c.self.invariant free finder
       (subst (λ (b : Built). stream_refusal b ≡ None) same begun.0)
       (subst (λ (b : Built). finder ≡ initial_stream b) same begun.1) in
       grind (arith, common_steps, served)
-  | in-Dfa+in_ok-finder-in-Dfa w ↦ grind (arith, common_steps, stream-served)
+  | in-Dfa+in_ok-new-in-Dfa w ↦ grind (arith, common_steps, stream-served)
 ]

@@ -9,9 +9,11 @@ overflow_add-further g c = grind (arith, common_steps, repeated c.args.last c.fi
 
 -- the second find goes on with the tape of the first
 pub find-requires : goal.find-requires
-find-requires g c = record { may = record {
-  whole = grind (arith, common_steps);
-  inside = grind (arith, common_steps);
-  legal = grind (arith, common_steps, repeated c.args.last c.find-first.ensures.found c.requires.beyond (sym c.repeats.ensures ∙ c.if-not-repeats.false));
-  unread = grind (arith, common_steps, repeated c.args.last c.find-first.ensures.found c.requires.beyond (sym c.repeats.ensures ∙ c.if-not-repeats.false));
-} }
+find-requires g c = record {
+  may = record {
+    whole = grind (arith, common_steps);
+    inside = grind (arith, common_steps);
+    legal = grind (arith, common_steps, repeated c.args.last c.find-first.ensures.found c.requires.beyond (sym c.repeats.ensures ∙ c.if-not-repeats.false));
+    unread = grind (arith, common_steps, repeated c.args.last c.find-first.ensures.found c.requires.beyond (sym c.repeats.ensures ∙ c.if-not-repeats.false));
+  };
+}
