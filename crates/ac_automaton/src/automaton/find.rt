@@ -223,7 +223,8 @@ impl<'a, A: Automaton> Scanner<'a, A> {
 
     /// Returns the pick of what was read so far and of the rest of the span, of which `picked` is that of what was read so
     /// far. It reads on until that can't change, or up to the first match if it stops there.
-    #[inline]
+    // A stream that calls it for each match is slower by an eighth.
+    #[inline(always)]
     pub(super) fn pick_on(
         &self,
         stops: bool,
