@@ -156,11 +156,11 @@ impl<'a, A: Automaton> Finder<'a, A> {
             span,
             front: 0,
         };
-        let mut start = Cursor {
+        let start = Cursor {
             state: self.start,
             at: span.start,
         };
-        scanner.find_on(self.stops, &mut start, tape, looks)
+        scanner.find_on(self.stops, start, tape, looks)
     }
 
     /// Returns what `find` does. It isn't part of `find`, which so stays short where there is no prefilter.
@@ -180,21 +180,22 @@ impl<'a, A: Automaton> Finder<'a, A> {
             span,
             front: 0,
         };
-        let mut here = Cursor {
+        let mut start = Cursor {
             state: self.start,
             at: span.start,
         };
+        let here = &mut start;
         match self.prefilter {
             Some(prefilter) if span.start < span.end => match prefilter {
                 Prefilter::Bytes(first) => {
-                    scanner.skip_ahead(*first, &mut here, &mut self.budget, tape, looks);
-                    scanner.find_on(stops, &mut here, tape, looks)
+                    scanner.skip_ahead(*first, here, &mut self.budget, tape, looks);
+                    scanner.find_on(stops, *here, tape, looks)
                 }
                 Prefilter::Needle(needle) => {
-                    scanner.find_needle(needle, stops, &mut here, &mut self.budget, tape, looks)
+                    scanner.find_needle(needle, stops, here, &mut self.budget, tape, looks)
                 }
             },
-            _ => scanner.find_on(stops, &mut here, tape, looks),
+            _ => scanner.find_on(stops, *here, tape, looks),
         }
     }
 }
@@ -210,15 +211,17 @@ impl<'a, A: Automaton> Scanner<'a, A> {
     fn find_on(
         &self,
         stops: bool,
-        cursor: &mut Cursor,
+        cursor: Cursor,
         tape: &mut Tape<'_>,
         looks: &mut Looks,
     ) -> Option<Match>
-        requires { MayFind (scanner A.seen self.now) stops tape.old cursor.old }
-        ensures { FindsOn (scanner A.seen self.now) stops cursor.old tape.old looks.old result tape.new looks.new }
+        requires { MayFind (scanner A.seen self.now) stops tape.old cursor }
+        ensures { FindsOn (scanner A.seen self.now) stops cursor tape.old looks.old result tape.new looks.new }
     {
-        let found = self.match_at(cursor);
-        self.pick_on(stops, cursor, found, tape, looks)
+        let mut start = cursor;
+        let here = &mut start;
+        let found = self.match_at(here);
+        self.pick_on(stops, here, found, tape, looks)
     }
 
     /// Returns the pick of what was read so far and of the rest of the span, of which `picked` is that of what was read so
@@ -279,7 +282,7 @@ impl<'a, A: Automaton> Scanner<'a, A> {
         while !budget.is_left() || !self.automaton.is_start(cursor.state) {
             self.read_rest(cursor, budget, tape, looks);
             if cursor.at >= self.span.end || self.automaton.is_match_or_dead(cursor.state) {
-                return self.find_on(stops, cursor, tape, looks);
+                return self.find_on(stops, *cursor, tape, looks);
             }
         }
         let from = cursor.at;
