@@ -29,8 +29,8 @@ abbrev pub IsNumberedBelow : ℕ → Built → InputView → Occurrence → Type
 IsNumberedBelow count built input m = m.pattern < count
 
 -- it starts and ends between characters of the haystack
-abbrev pub CutsNoCharacter : Built → InputView → Occurrence → Type 0
-CutsNoCharacter built input m = IsBetweenCharacters input.haystack m
+abbrev pub StandsBetweenCharacters : Built → InputView → Occurrence → Type 0
+StandsBetweenCharacters built input m = IsBetweenCharacters input.haystack m
 
 -- a walk has at most one match more than the span has bytes
 abbrev pub WalksFew : Built → InputView → Type 0

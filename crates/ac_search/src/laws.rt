@@ -8,7 +8,7 @@ ghost use Rattle.ac_automaton.specs.Overlaps.{ListsNext};
 ghost use Rattle.ac_automaton.specs.Streams.{GivesStreamItem, items_left};
 ghost use Rattle.ac_search.specs.Alike.{BuildAlike, FindAlike, ListAlike, ReplaceAlike, SettlesAlike, StreamAlike};
 ghost use Rattle.ac_search.specs.Ending.{EndsAtError, LeavesLess, StaysEnded};
-ghost use Rattle.ac_search.specs.Only.{CutsNoCharacter, EndsInside, FindsOnly, IsNumberedBelow, ListsOnly, SomeOccurs, WalksFew, WalksOnly};
+ghost use Rattle.ac_search.specs.Only.{EndsInside, FindsOnly, IsNumberedBelow, ListsOnly, SomeOccurs, StandsBetweenCharacters, WalksFew, WalksOnly};
 ghost use Rattle.ac_search.specs.Order.{WalksInOrder};
 ghost use Rattle.ac_search.specs.Searchers.{Settings};
 ghost use Rattle.ac_search.specs.Words.{AreWords};
@@ -95,9 +95,9 @@ pub fn words_are_texts<A: Allocator>(searcher: &AhoCorasick<A>)
 pub fn answers_cut_no_character<A: Allocator>(searcher: &AhoCorasick<A>, input: Input<'_>)
     requires patterns { AreTexts searcher.now.built.patterns }
     requires haystack { IsUtf8 (input_of input).haystack }
-    ensures find { FindsOnly CutsNoCharacter searcher.now.built (input_of input.entry) }
-    ensures walk { WalksOnly CutsNoCharacter searcher.now.built (input_of input.entry) }
-    ensures listing { ListsOnly CutsNoCharacter searcher.now.built (input_of input.entry) }
+    ensures find { FindsOnly StandsBetweenCharacters searcher.now.built (input_of input.entry) }
+    ensures walk { WalksOnly StandsBetweenCharacters searcher.now.built (input_of input.entry) }
+    ensures listing { ListsOnly StandsBetweenCharacters searcher.now.built (input_of input.entry) }
 {}
 
 /// A find returns a match exactly if something occurs, whatever the match kind and `earliest`.
