@@ -75,8 +75,8 @@ abbrev pub ForPacked : Packer → ℕ → (PackedState → Type 0) → Type 0
 ForPacked f s P = ForNode (AreReady f) s (λ nodes u. P (packed_state f nodes s u))
 
 -- where the words of a state succeed in being pushed, they were
-abbrev pub PushesState : {Z : Type 0} → Packer → ℕ → Buffers Z → Buffers Z → Result (Unit {0}) AllocError → Type 0
-PushesState f s old new result = ForNode (AreReady f) s (λ nodes u. Pushes old new (state_words f nodes s u) result)
+abbrev pub PushesWordsOf : {Z : Type 0} → Packer → ℕ → Buffers Z → Buffers Z → Result (Unit {0}) AllocError → Type 0
+PushesWordsOf f s old new result = ForNode (AreReady f) s (λ nodes u. Pushes old new (state_words f nodes s u) result)
 
 -- where those of all states that have matches do, or of the others, they were
 abbrev pub PushesSide : {Z : Type 0} → Packer → Bool → Buffers Z → Buffers Z → Result (Unit {0}) AllocError → Type 0

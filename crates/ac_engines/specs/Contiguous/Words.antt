@@ -129,8 +129,8 @@ abbrev pub EachState : List ℕ → (Format → ℕ → PackedState → Type 0) 
 EachState words P = (format : Format) (classes : ℕ) (s : PackedState) → BeginsWith words format classes s → P format classes s
 
 -- the same where it is known how many classes there are
-abbrev pub HasState : List ℕ → ℕ → (PackedState → Type 0) → Type 0
-HasState words classes P = (format : Format) × (s : PackedState) × BeginsWith words format classes s × P s
+abbrev pub SomeStateOf : List ℕ → ℕ → (PackedState → Type 0) → Type 0
+SomeStateOf words classes P = (format : Format) × (s : PackedState) × BeginsWith words format classes s × P s
 
 abbrev pub StateOf : List ℕ → ℕ → (Format → PackedState → Type 0) → Type 0
 StateOf words classes P = (format : Format) (s : PackedState) → BeginsWith words format classes s → P format s

@@ -2,7 +2,7 @@
 ghost use Rattle.std.specs.Prelude.{◌≡◌, ◌<◌, ◌≤◌, IfOk, List, [], length, slice_index_or};
 ghost use Rattle.ac_automaton.specs.Util.{alphabet_len, GREATEST, Node};
 ghost use Rattle.ac_engines.specs.Contiguous.Plans.{all_words};
-ghost use Rattle.ac_engines.specs.Contiguous.Packs.{AreReady, ForPacked, HasPlaceIn, PacksAll, Pushes, PushesSide, PushesState, dead_words};
+ghost use Rattle.ac_engines.specs.Contiguous.Packs.{AreReady, ForPacked, HasPlaceIn, PacksAll, Pushes, PushesSide, PushesWordsOf, dead_words};
 ghost use Rattle.ac_engines.specs.declared.nfa.contiguous.format.Format;
 
 use super::format::Format;
@@ -106,7 +106,7 @@ impl<'a, A: Allocator> Packer<'a, A> {
     /// `AllocError` where a request for memory is refused.
     fn push(&self, buffers: &mut Buffers<A>, sid: StateID) -> Result<(), AllocError>
         requires state { HasPlaceIn self.now sid }
-        ensures { PushesState self.now sid buffers.old buffers.new result }
+        ensures { PushesWordsOf self.now sid buffers.old buffers.new result }
     {
         let plan = self.plan;
         self.list_edges(&mut buffers.edges, sid)?;

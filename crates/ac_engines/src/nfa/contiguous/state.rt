@@ -2,7 +2,7 @@
 ghost use Rattle.std.specs.Prelude.{◌≡◌, ◌≢◌, ◌+◌, ◌<◌, ◌≤◌, [], drop, length};
 ghost use Rattle.ac_util.specs.Counts.{more_looks};
 ghost use Rattle.ac_engines.specs.declared.nfa.contiguous.format.Format.{Format};
-ghost use Rattle.ac_engines.specs.Contiguous.Words.{AreMatchWords, AreNamed, BeginSparse, BeginWithState, BeginsWith, EachState, HasState, IsPlaceIn, LeadsBy, MatchesAt, PackedState, SomeState, SparseLeadsBy, StateOf, transitions_of_state};
+ghost use Rattle.ac_engines.specs.Contiguous.Words.{AreMatchWords, AreNamed, BeginSparse, BeginWithState, BeginsWith, EachState, SomeStateOf, IsPlaceIn, LeadsBy, MatchesAt, PackedState, SomeState, SparseLeadsBy, StateOf, transitions_of_state};
 
 use super::format::{CLASSES_A_WORD, HEAD};
 use super::transitions::Transitions;
@@ -137,7 +137,7 @@ impl<'a> State<'a> {
     /// Returns how many matches the state has. It has to have some.
     #[inline]
     pub(super) fn match_len(self, classes: usize) -> usize
-        requires { HasState self.words.now classes (λ s. s.matches ≢ []) }
+        requires { SomeStateOf self.words.now classes (λ s. s.matches ≢ []) }
         ensures { StateOf self.entry.words.now classes (λ format s. s.matches ≢ [] → result ≡ length s.matches) }
     {
         let first = self.match_words(classes)[0];
@@ -151,7 +151,7 @@ impl<'a> State<'a> {
     /// Returns one of its matches.
     #[inline]
     pub(super) fn match_pattern(self, classes: usize, index: usize) -> u32
-        requires { HasState self.words.now classes (λ s. index < length s.matches) }
+        requires { SomeStateOf self.words.now classes (λ s. index < length s.matches) }
         ensures { StateOf self.entry.words.now classes (MatchesAt index result) }
     {
         let words = self.match_words(classes);
@@ -165,7 +165,7 @@ impl<'a> State<'a> {
     /// Returns the words from those of the state's matches on. It has to have some, so it is dense or sparse.
     #[inline]
     fn match_words(self, classes: usize) -> &'a [u32]
-        requires { HasState self.words.now classes (λ s. s.matches ≢ []) }
+        requires { SomeStateOf self.words.now classes (λ s. s.matches ≢ []) }
         ensures { AreMatchWords self.entry.words.now classes result.now }
     {
         let [form, _, _, _] = self.words[0].to_le_bytes();
